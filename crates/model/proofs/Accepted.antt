@@ -1,0 +1,270 @@
+-- What an accepted call has passed.
+use Prim.Native.Nat.{ℕ, suc, _+_, _*_, _/_, _≤_, _<_}
+use mathlib.Core.Path.{_≡_, refl, sym, _∙_}
+use mathlib.Core.Logic.{_≢_}
+use mathlib.Core.Bool.{Bool, true, false, not, cond, _&&_, _||_}
+use mathlib.Core.List.{List}
+use native.Mathlib.Omega.{arith}
+use lib.ListN.{length, getD}
+use lib.Dec.{eqb, leb, ltb}
+use lib.IntN.{ℤ}
+use Rattle.signed.specs.Sign.{size, isZero, isNegative}
+use Rattle.lists.proofs.Tests.{eqb-no, Same, same, other, same?, leb-le, le-leb, eqb-eq, eqb-ne, both-true, either-true}
+use Rattle.lists.proofs.Sums.{greatest-le}
+use Rattle.model.specs.Mesh.{Mesh, volume, first, second, weight, span, atBoundary, boundary, incoming, outgoing, maxCells, maxFaces, maxVolume, maxWeight, maxSpan, maxConcentration, maxBoundaryFlux}
+use Rattle.model.specs.Step.{StepInput, flux, outside, concentration, adjacent, hi}
+use Rattle.model.specs.Causes.{accepted, fine, _andThen_, each, between, Call, inputOf, workLength, countsWithin, counts, meshTables, volumeGood, endsGood, spacingGood, meshValues, fieldTable, fieldValues, saltGood, fieldVerdict, meshVerdict, stepTables, outsideGood, fluxGood, balanceGood, outflowGood, stepValues, verdict}
+use Rattle.model.proofs.Verdicts.{both-fine, need-fine, need-met, each-fine, fine-each}
+use Rattle.model.proofs.Budget.{Joined}
+use Rattle.model.proofs.Low.{Sound}
+
+-- past cause 1
+pub record Counted (M : Mesh) : Type 0 where
+  pub some : 1 ≤ M .cells
+  pub few-cells : M .cells ≤ maxCells
+  pub few-faces : M .faces ≤ maxFaces
+
+pub counted : (M : Mesh) → counts M ≡ fine → Counted M
+unfolding counts countsWithin
+counted M e =
+    let p = both-fine _ _ e in
+    let c = both-true (leb 1 (M .cells)) (leb (M .cells) maxCells) (need-fine 1 0 _ (p .0)) in
+    record { some = leb-le _ _ (c .0); few-cells = leb-le _ _ (c .1); few-faces = leb-le _ _ (need-fine 1 1 _ (p .1)) }
+
+-- past cause 2
+pub record MeshLent (M : Mesh) : Type 0 where
+  pub volumes-long : M .cells ≤ length (M .volumes)
+  pub firsts-long : M .faces ≤ length (M .firsts)
+  pub seconds-long : M .faces ≤ length (M .seconds)
+  pub weights-long : M .faces ≤ length (M .weights)
+  pub spans-long : M .faces ≤ length (M .spans)
+
+pub mesh-lent : (M : Mesh) → meshTables M ≡ fine → MeshLent M
+unfolding meshTables
+mesh-lent M e =
+    let a = both-fine _ _ e in
+    let b = both-fine _ _ (a .0) in
+    let c = both-fine _ _ (b .0) in
+    let d = both-fine _ _ (c .0) in
+    record {
+      volumes-long = leb-le _ _ (need-fine 2 0 _ (d .0));
+      firsts-long = leb-le _ _ (need-fine 2 1 _ (d .1));
+      seconds-long = leb-le _ _ (need-fine 2 2 _ (c .1));
+      weights-long = leb-le _ _ (need-fine 2 3 _ (b .1));
+      spans-long = leb-le _ _ (need-fine 2 4 _ (a .1));
+    }
+
+pub field-lent : (M : Mesh) (field : List ℕ) → fieldTable M field ≡ fine → M .cells ≤ length field
+unfolding fieldTable
+field-lent M field e = leb-le _ _ (need-fine 2 5 _ e)
+
+pub record CallLent (M : Mesh) (k : Call) : Type 0 where
+  pub fluxes-long : M .faces ≤ length (k .fluxes)
+  pub outsides-long : M .faces ≤ length (k .outsides)
+  pub nexts-long : M .cells ≤ length (k .nexts)
+  pub moveds-long : M .faces ≤ length (k .moveds)
+  pub work-long : workLength M ≤ length (k .work)
+
+pub call-lent : (M : Mesh) (field : List ℕ) (k : Call) → stepTables M field k ≡ fine → CallLent M k
+unfolding stepTables
+call-lent M field k e =
+    let a = both-fine _ _ e in
+    let b = both-fine _ _ (a .0) in
+    let c = both-fine _ _ (b .0) in
+    let d = both-fine _ _ (c .0) in
+    record {
+      fluxes-long = leb-le _ _ (need-fine 2 6 _ (d .0));
+      outsides-long = leb-le _ _ (need-fine 2 7 _ (d .1));
+      nexts-long = leb-le _ _ (need-fine 2 8 _ (c .1));
+      moveds-long = leb-le _ _ (need-fine 2 9 _ (b .1));
+      work-long = leb-le _ _ (need-fine 2 10 _ (a .1));
+    }
+
+-- past causes 3 to 5
+pub record MeshFit (M : Mesh) : Type 0 where
+  pub volume-some : (c : ℕ) → c < M .cells → 1 ≤ volume M c
+  pub volume-most : (c : ℕ) → c < M .cells → volume M c ≤ maxVolume
+  pub first-in : (f : ℕ) → f < M .faces → first M f < M .cells
+  pub second-in : (f : ℕ) → f < M .faces → second M f ≢ boundary → second M f < M .cells
+  pub apart : (f : ℕ) → f < M .faces → first M f ≢ second M f
+  pub weight-most : (f : ℕ) → f < M .faces → weight M f ≤ maxWeight
+  pub span-some : (f : ℕ) → f < M .faces → second M f ≢ boundary → 1 ≤ span M f
+  pub span-most : (f : ℕ) → f < M .faces → span M f ≤ maxSpan
+
+not-true : (b : Bool) → not b ≡ true → b ≡ false
+not-true false e = refl
+not-true true e = let z : _≡_ {A = ℕ} 0 1 = cc in absurd (omega arith)
+
+ends-say : (n l k : ℕ) → (ltb l n && (ltb k n || eqb k boundary) && not (eqb l k)) ≡ true → (l < n) × (k ≢ boundary → k < n) × (l ≢ k)
+ends-say n l k e =
+    let a = both-true (ltb l n && (ltb k n || eqb k boundary)) (not (eqb l k)) e in
+    let b = both-true (ltb l n) (ltb k n || eqb k boundary) (a .0) in
+    (leb-le (suc l) n (b .0), (λ d. leb-le (suc k) n (either-true (ltb k n) (eqb k boundary) (b .1) (eqb-no k boundary d))), eqb-ne l k (not-true (eqb l k) (a .1)))
+
+spacing-says : (k s r : ℕ) → cond (eqb k boundary) (eqb s 0 && eqb r 0) (between 1 maxWeight s && between 1 maxSpan r) ≡ true → (s ≤ maxWeight) × (r ≤ maxSpan) × (k ≢ boundary → 1 ≤ r)
+spacing-says k s r e = go (eqb k boundary) (same? k boundary) e
+  where
+    go : (b : Bool) → Same k boundary b → cond b (eqb s 0 && eqb r 0) (between 1 maxWeight s && between 1 maxSpan r) ≡ true → (s ≤ maxWeight) × (r ≤ maxSpan) × (k ≢ boundary → 1 ≤ r)
+    go true (same d) e = let p = both-true (eqb s 0) (eqb r 0) e in (omega (arith, eqb-eq s 0 (p .0)), omega (arith, eqb-eq r 0 (p .1)), λ n. absurd (n d))
+    go false o e =
+        let p = both-true (between 1 maxWeight s) (between 1 maxSpan r) e in
+        let a = both-true (leb 1 s) (leb s maxWeight) (p .0) in
+        let b = both-true (leb 1 r) (leb r maxSpan) (p .1) in
+        (leb-le _ _ (a .1), leb-le _ _ (b .1), λ n. leb-le _ _ (b .0))
+
+module _ (M : Mesh) (e : meshValues M ≡ fine) where
+  volumes-say : (c : ℕ) → c < M .cells → (1 ≤ volume M c) × (volume M c ≤ maxVolume)
+  unfolding meshValues volumeGood
+  volumes-say c h =
+      let p = both-true (leb 1 (volume M c)) (leb (volume M c) maxVolume) (each-fine 3 (M .cells) (volumeGood M) (both-fine _ _ (both-fine _ _ e .0) .0) c h) in
+      (leb-le _ _ (p .0), leb-le _ _ (p .1))
+
+  joins : (f : ℕ) → f < M .faces → (first M f < M .cells) × (second M f ≢ boundary → second M f < M .cells) × (first M f ≢ second M f)
+  unfolding meshValues endsGood
+  joins f h = ends-say (M .cells) (first M f) (second M f) (each-fine 4 (M .faces) (endsGood M) (both-fine _ _ (both-fine _ _ e .0) .1) f h)
+
+  spaced : (f : ℕ) → f < M .faces → (weight M f ≤ maxWeight) × (span M f ≤ maxSpan) × (second M f ≢ boundary → 1 ≤ span M f)
+  unfolding meshValues spacingGood
+  spaced f h = spacing-says (second M f) (weight M f) (span M f) (each-fine 5 (M .faces) (spacingGood M) (both-fine _ _ e .1) f h)
+
+  pub mesh-fit : MeshFit M
+  mesh-fit = record {
+    volume-some = λ c h. volumes-say c h .0;
+    volume-most = λ c h. volumes-say c h .1;
+    first-in = λ f h. joins f h .0;
+    second-in = λ f h. joins f h .1;
+    apart = λ f h. joins f h .2;
+    weight-most = λ f h. spaced f h .0;
+    span-some = λ f h. spaced f h .2;
+    span-most = λ f h. spaced f h .1;
+  }
+
+-- past cause 6, and back
+pub field-fit : (M : Mesh) (field : List ℕ) → fieldValues M field ≡ fine → (c : ℕ) → c < M .cells → getD field c 0 / volume M c ≤ maxConcentration
+unfolding fieldValues saltGood
+field-fit M field e c h = leb-le _ _ (each-fine 6 (M .cells) (saltGood M field) e c h)
+
+pub field-accepted : (M : Mesh) (field : List ℕ) → M .cells ≤ length field → ((c : ℕ) → c < M .cells → getD field c 0 / volume M c ≤ maxConcentration) → fieldVerdict M field ≡ fine
+unfolding fieldVerdict fieldTable fieldValues saltGood _andThen_
+field-accepted M field long fresh =
+    rw (need-met 2 5 (le-leb (M .cells) (length field) long)) (fine-each 6 (M .cells) (saltGood M field) (λ c h. le-leb (getD field c 0 / volume M c) maxConcentration (fresh c h)))
+
+-- past causes 7 and 8
+pub record WaterFit (S : StepInput) : Type 0 where
+  pub outside-most : (f : ℕ) → f < S .mesh .faces → outside S f ≤ maxConcentration
+  pub flux-most : (f : ℕ) → f < S .mesh .faces → size (flux S f) ≤ cond (atBoundary (S .mesh) f) maxBoundaryFlux (span (S .mesh) f)
+
+outside-says : (o : ℕ) (b : Bool) → leb o (cond b maxConcentration 0) ≡ true → o ≤ maxConcentration
+outside-says o true e = leb-le o maxConcentration e
+outside-says o false e = omega (arith, leb-le o 0 e)
+
+module _ (M : Mesh) (field : List ℕ) (k : Call) where
+  pub water-fit : each 7 (M .faces) (outsideGood M field k) ≡ fine → each 8 (M .faces) (fluxGood M field k) ≡ fine → WaterFit (inputOf M field k)
+  unfolding outsideGood fluxGood
+  water-fit e d = record {
+    outside-most = λ f h. outside-says (outside (inputOf M field k) f) (atBoundary M f && isNegative (flux (inputOf M field k) f)) (each-fine 7 (M .faces) (outsideGood M field k) e f h);
+    flux-most = λ f h. leb-le _ _ (each-fine 8 (M .faces) (fluxGood M field k) d f h);
+  }
+
+  -- past causes 9 and 10
+  pub level : each 9 (M .cells) (balanceGood M field k) ≡ fine → (c : ℕ) → c < M .cells → incoming M (flux (inputOf M field k)) c ≡ outgoing M (flux (inputOf M field k)) c
+  unfolding balanceGood
+  level e c h = eqb-eq _ _ (each-fine 9 (M .cells) (balanceGood M field k) e c h)
+
+  pub courant : each 10 (M .cells) (outflowGood M field k) ≡ fine → (c : ℕ) → c < M .cells → outgoing M (flux (inputOf M field k)) c ≤ volume M c
+  unfolding outflowGood
+  courant e c h = leb-le _ _ (each-fine 10 (M .cells) (outflowGood M field k) e c h)
+
+-- all that acceptance says of what a step works on
+pub record Ready (S : StepInput) : Type 0 where
+  pub counts-fit : Counted (S .mesh)
+  pub lent : MeshLent (S .mesh)
+  pub fit : MeshFit (S .mesh)
+  pub masses-long : S .mesh .cells ≤ length (S .masses)
+  pub fluxes-long : S .mesh .faces ≤ length (S .fluxes)
+  pub outsides-long : S .mesh .faces ≤ length (S .outsides)
+  pub salt-most : (c : ℕ) → c < S .mesh .cells → concentration S c ≤ maxConcentration
+  pub water : WaterFit S
+  pub sound : Sound S
+
+-- the parts of a call that is accepted
+pub record Passed (M : Mesh) (field : List ℕ) (k : Call) : Type 0 where
+  pub counts-fine : counts M ≡ fine
+  pub mesh-tables-fine : meshTables M ≡ fine
+  pub field-table-fine : fieldTable M field ≡ fine
+  pub step-tables-fine : stepTables M field k ≡ fine
+  pub mesh-values-fine : meshValues M ≡ fine
+  pub field-values-fine : fieldValues M field ≡ fine
+  pub step-values-fine : stepValues M field k ≡ fine
+
+module _ (M : Mesh) (field : List ℕ) (k : Call) where
+  pub passed : verdict M field k ≡ fine → Passed M field k
+  unfolding verdict
+  passed e =
+      let a = both-fine _ (stepValues M field k) e in
+      let b = both-fine _ (fieldValues M field) (a .0) in
+      let c = both-fine _ (meshValues M) (b .0) in
+      let d = both-fine _ (stepTables M field k) (c .0) in
+      let g = both-fine _ (fieldTable M field) (d .0) in
+      let h = both-fine _ (meshTables M) (g .0) in
+      record { counts-fine = h .0; mesh-tables-fine = h .1; field-table-fine = g .1; step-tables-fine = d .1; mesh-values-fine = c .1; field-values-fine = b .1; step-values-fine = a .1 }
+
+  pub ready-of : Passed M field k → Ready (inputOf M field k)
+  unfolding stepValues concentration
+  ready-of p =
+      let c = counted M (p .counts-fine) in
+      let m = mesh-fit M (p .mesh-values-fine) in
+      let l = call-lent M field k (p .step-tables-fine) in
+      let t = both-fine _ _ (p .step-values-fine) in
+      let n = both-fine _ _ (t .0) in
+      let w = both-fine _ _ (n .0) in
+      record {
+        counts-fit = c;
+        lent = mesh-lent M (p .mesh-tables-fine);
+        fit = m;
+        masses-long = field-lent M field (p .field-table-fine);
+        fluxes-long = l .fluxes-long;
+        outsides-long = l .outsides-long;
+        salt-most = field-fit M field (p .field-values-fine);
+        water = water-fit M field k (w .0) (w .1);
+        sound = record { joined = record { few = c .few-cells; first-in = m .first-in; second-in = m .second-in }; roomy = m .volume-some; level = level M field k (n .1); courant = courant M field k (t .1) };
+      }
+
+  pub ready : verdict M field k ≡ fine → Ready (inputOf M field k)
+  ready e = ready-of (passed e)
+
+-- the greatest concentration around a cell is within the ceiling
+met-le : (z : ℤ) (k l c o : ℕ) (q : ℕ → ℕ) (B : ℕ) → q c ≤ B → q l ≤ B → o ≤ B → (k ≢ boundary → q k ≤ B)
+    → cond (isZero z) (q c) (cond (eqb l c) (cond (eqb k boundary) (cond (isNegative z) o (q c)) (q k)) (cond (eqb k c) (q l) (q c))) ≤ B
+met-le z k l c o q B hc hl ho hk = go (isZero z) (eqb l c) (eqb k boundary) (same? k boundary) (isNegative z) (eqb k c)
+  where
+    go : (a s r : Bool) → Same k boundary r → (n t : Bool) → cond a (q c) (cond s (cond r (cond n o (q c)) (q k)) (cond t (q l) (q c))) ≤ B
+    go true s r rr n t = hc
+    go false true true rr true t = ho
+    go false true true rr false t = hc
+    go false true false (other d) n t = hk d
+    go false false r rr n true = hl
+    go false false r rr n false = hc
+
+module _ (S : StepInput) (r : Ready S) where
+  open StepInput S using (mesh as M)
+
+  pub adjacent-most : (c f : ℕ) → c < M .cells → f < M .faces → adjacent S c f ≤ maxConcentration
+  unfolding adjacent
+  adjacent-most c f h l = met-le (flux S f) (second M f) (first M f) c (outside S f) (concentration S) maxConcentration
+      (r .salt-most c h) (r .salt-most (first M f) (r .fit .first-in f l)) (r .water .outside-most f l) (λ d. r .salt-most (second M f) (r .fit .second-in f l d))
+
+  pub hi-most : (c : ℕ) → c < M .cells → hi S c ≤ maxConcentration
+  unfolding hi
+  hi-most c h = greatest-le (M .faces) (concentration S c) (adjacent S c) maxConcentration (r .salt-most c h) (λ f l. adjacent-most c f h l)
+
+  -- a flux is small, at the boundary and inside
+  pub flux-few : (f : ℕ) → f < M .faces → size (flux S f) ≤ maxBoundaryFlux
+  flux-few f h = go (atBoundary M f) (r .water .flux-most f h)
+    where
+      go : (b : Bool) → size (flux S f) ≤ cond b maxBoundaryFlux (span M f) → size (flux S f) ≤ maxBoundaryFlux
+      go true l = l
+      go false l = omega (arith, r .fit .span-most f h)
+
+  pub flux-span : (f : ℕ) → f < M .faces → second M f ≢ boundary → size (flux S f) ≤ span M f
+  flux-span f h d = rw (eqb-no (second M f) boundary d) at (r .water .flux-most f h)

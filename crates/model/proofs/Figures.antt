@@ -1,0 +1,135 @@
+-- Document 01, "Figures by hand": the lines marked P, gathered and proved together, and figures that hold the slips off which
+-- those lines leave open.
+use Prim.Native.Nat.{ℕ, suc, _<_}
+use mathlib.Core.Path.{_≡_, refl}
+use mathlib.Core.Bool.{true}
+use mathlib.Core.List.{List, [], _∷_}
+use lib.IntN.{ℤ, pos, negsuc}
+use lib.ListN.{replicate}
+use Rattle.lists.specs.Fold.{sum, least, greatest}
+use Rattle.lists.specs.Table.{table, over}
+use Rattle.signed.specs.Sign.{isNegative}
+use Rattle.model.specs.Mesh.{Mesh, second, boundary, entering, leaving, incoming, outgoing, updated}
+use Rattle.model.specs.Step.{StepInput, flux, outside, mass, inMass, next, moved, concentration, beyond, upwind, downwind, carried, low, upwindWeight, correction, adjacent, lo, hi, maxGain, maxLoss, receiver, giver, limitedBy, limited, portion}
+use Rattle.model.specs.Causes.{Call, inputOf, fine, refused, _andThen_, need, each, countsWithin, counts, meshTables, volumeGood, endsGood, spacingGood, meshValues, fieldTable, saltGood, fieldValues, fieldVerdict, stepTables, outsideGood, fluxGood, balanceGood, outflowGood, stepValues, verdict}
+use Rattle.model.specs.Calls.{stepOnTables, nextTable, afterAll, totalIn, totalOut}
+use Rattle.model.proofs.Accepted.{ready}
+use Rattle.model.proofs.Uniform.{uniform, no-faces}
+
+-- a name for all that a figure computes through: to unfold it is to unfold what its `unfolding` line names
+everything : Unit {0}
+unfolding afterAll totalIn totalOut stepOnTables nextTable inMass over verdict counts countsWithin meshTables fieldTable stepTables meshValues fieldValues saltGood stepValues volumeGood endsGood spacingGood outsideGood fluxGood balanceGood outflowGood need each _andThen_ table sum least greatest entering leaving incoming outgoing updated next moved concentration beyond upwind downwind carried low upwindWeight correction adjacent lo hi maxGain maxLoss receiver giver limitedBy limited portion fieldVerdict
+everything = tt
+
+-- "three cells of V 100; faces 0 to rim, 0 to 1, 1 to 2, 2 to rim; s 128, K 100"
+abbrev pub channel : Mesh
+channel = record { cells = 3; faces = 4; volumes = 100 ∷ 100 ∷ 100 ∷ []; firsts = 0 ∷ 0 ∷ 1 ∷ 2 ∷ []; seconds = boundary ∷ 1 ∷ 2 ∷ boundary ∷ []; weights = 0 ∷ 128 ∷ 128 ∷ 0 ∷ []; spans = 0 ∷ 100 ∷ 100 ∷ 0 ∷ [] }
+
+-- "two steps with U −50, 50, 50, 50 and outside value 1000 at face 0"
+abbrev pub channelStep : List ℕ → StepInput
+channelStep masses = record { mesh = channel; masses = masses; fluxes = negsuc 49 ∷ pos 50 ∷ pos 50 ∷ pos 50 ∷ []; outsides = 1000 ∷ 0 ∷ 0 ∷ 0 ∷ [] }
+
+abbrev channelCall : Call
+channelCall = record { fluxes = negsuc 49 ∷ pos 50 ∷ pos 50 ∷ pos 50 ∷ []; outsides = 1000 ∷ 0 ∷ 0 ∷ 0 ∷ []; nexts = 7 ∷ 7 ∷ 7 ∷ []; moveds = pos 0 ∷ pos 0 ∷ pos 0 ∷ pos 0 ∷ []; work = replicate 16 0 }
+
+-- one face between two cells of V 1 with concentrations a and b
+abbrev pub between : ℕ → ℕ → ℤ → ℕ → ℕ → StepInput
+between a b u s k = record {
+  mesh = record { cells = 2; faces = 1; volumes = 1 ∷ 1 ∷ []; firsts = 0 ∷ []; seconds = 1 ∷ []; weights = s ∷ []; spans = k ∷ [] };
+  masses = a ∷ b ∷ [];
+  fluxes = u ∷ [];
+  outsides = 0 ∷ [];
+}
+
+-- two cells of V 10 and two faces from 0 to 1, s 128, K 10
+abbrev pub pair : Mesh
+pair = record { cells = 2; faces = 2; volumes = 10 ∷ 10 ∷ []; firsts = 0 ∷ 0 ∷ []; seconds = 1 ∷ 1 ∷ []; weights = 128 ∷ 128 ∷ []; spans = 10 ∷ 10 ∷ [] }
+
+-- one cell of volume v, no faces
+abbrev pub lake : ℕ → Mesh
+lake v = record { cells = 1; faces = 0; volumes = v ∷ []; firsts = []; seconds = []; weights = []; spans = [] }
+
+-- one cell of V 100 that the flux u + 1 leaves and enters over the boundary
+abbrev pub strait : Mesh
+strait = record { cells = 1; faces = 2; volumes = 100 ∷ []; firsts = 0 ∷ 0 ∷ []; seconds = boundary ∷ boundary ∷ []; weights = 0 ∷ 0 ∷ []; spans = 0 ∷ 0 ∷ [] }
+
+abbrev pub through : ℕ → Call
+through u = record { fluxes = pos (suc u) ∷ negsuc u ∷ []; outsides = 0 ∷ 0 ∷ []; nexts = 0 ∷ []; moveds = pos 0 ∷ pos 0 ∷ []; work = replicate 6 0 }
+
+-- The lines marked P, in document 01's order.
+pub record Figures : Type 0 where
+  -- "channel step 1: masses 100099, 49901, 0; moved −50000, 49901, 0, 0. The correction 12500 toward cell 0 is cut to 99."
+  pub channel-1 : table 3 (next (channelStep (100000 ∷ 0 ∷ 0 ∷ []))) ≡ 100099 ∷ 49901 ∷ 0 ∷ []
+  pub channel-1-moved : table 4 (moved (channelStep (100000 ∷ 0 ∷ 0 ∷ []))) ≡ negsuc 49999 ∷ pos 49901 ∷ pos 0 ∷ pos 0 ∷ []
+  pub channel-1-correction : correction (channelStep (100000 ∷ 0 ∷ 0 ∷ [])) 1 ≡ negsuc 12499
+  pub channel-1-cut : limited (channelStep (100000 ∷ 0 ∷ 0 ∷ [])) 1 ≡ negsuc 98
+  -- "channel step 2: masses 100099, 81188, 18713."
+  pub channel-2 : table 3 (next (channelStep (100099 ∷ 49901 ∷ 0 ∷ []))) ≡ 100099 ∷ 81188 ∷ 18713 ∷ []
+  -- "V 10 and 10, masses 93 and 15, two faces from 0 to 1 with U 10 and −10, s 128, K 10: masses 13 and 95."
+  pub exchange : table 2 (next (record { mesh = pair; masses = 93 ∷ 15 ∷ []; fluxes = pos 10 ∷ negsuc 9 ∷ []; outsides = 0 ∷ 0 ∷ [] })) ≡ 13 ∷ 95 ∷ []
+  -- "U 1, K 2, s 128, d −3: correction 0."
+  pub correction-none : correction (between 3 0 (pos 1) 128 2) 0 ≡ pos 0
+  -- "U 100, K 100, s 1, d −1000: correction 49609, downwind."
+  pub correction-downwind : correction (between 1000 0 (pos 100) 1 100) 0 ≡ pos 49609
+  -- "all V 7, all m 30, outside 4: no mass changes", for every mesh and every concentration
+  pub unchanged : (M : Mesh) (field : List ℕ) (k : Call) (q : ℕ) → verdict M field k ≡ fine
+      → ((c : ℕ) → c < M .cells → concentration (inputOf M field k) c ≡ q)
+      → ((f : ℕ) → f < M .faces → second M f ≡ boundary → isNegative (flux (inputOf M field k) f) ≡ true → outside (inputOf M field k) f ≡ q)
+      → (c : ℕ) → c < M .cells → next (inputOf M field k) c ≡ mass (inputOf M field k) c
+  -- "V 4,095: m 4,095,004,094 accepted, 4,095,004,095 refused 6."
+  pub fullest : fieldVerdict (lake 4095) (4095004094 ∷ []) ≡ fine
+  pub too-full : fieldVerdict (lake 4095) (4095004095 ∷ []) ≡ refused 6 0
+  -- "outflow 100 from V 100 accepted, 101 refused 10."
+  pub outflow-100 : verdict strait (0 ∷ []) (through 99) ≡ fine
+  pub outflow-101 : verdict strait (0 ∷ []) (through 100) ≡ refused 10 0
+  -- "one cell, no faces: unchanged", for every volume and every mass
+  pub alone : (v m : ℕ) → next (record { mesh = lake v; masses = m ∷ []; fluxes = []; outsides = [] }) 0 ≡ m
+
+pub figures : Figures
+unfolding everything
+figures = record {
+  channel-1 = refl;
+  channel-1-moved = refl;
+  channel-1-correction = refl;
+  channel-1-cut = refl;
+  channel-2 = refl;
+  exchange = refl;
+  correction-none = refl;
+  correction-downwind = refl;
+  unchanged = λ M field k q e alike outside-alike c h. uniform (inputOf M field k) (ready M field k e .sound) q alike outside-alike c h;
+  fullest = refl;
+  too-full = refl;
+  outflow-100 = refl;
+  outflow-101 = refl;
+  alone = λ v m. no-faces (record { mesh = lake v; masses = m ∷ []; fluxes = []; outsides = [] }) refl 0;
+}
+
+-- Not in document 01.
+-- the second cell upwind: U −100, K 100, s 1, so t is 255; the correction runs with the water, toward cell 0
+second-upwind : correction (between 1000 0 (negsuc 99) 1 100) 0 ≡ negsuc 49608
+unfolding everything
+second-upwind = refl
+
+-- a still face does not widen the bounds
+still-face : (lo (between 1000 0 (pos 0) 1 100) 0 ≡ 1000) × (hi (between 1000 0 (pos 0) 1 100) 1 ≡ 0)
+unfolding everything
+still-face = (refl, refl)
+
+-- a negative quotient is rounded toward zero: U 1, K 2, s 128, d 3 gives 384 / 512, d −3 gives −384 / 512
+toward-zero : (correction (between 0 3 (pos 1) 128 2) 0 ≡ pos 0) × (correction (between 3 0 (pos 1) 128 2) 0 ≡ pos 0)
+unfolding everything
+toward-zero = (refl, refl)
+
+-- the channel session as a list of two calls
+session : afterAll channel (stepOnTables channel) (100000 ∷ 0 ∷ 0 ∷ []) (channelCall ∷ channelCall ∷ []) ≡ 100099 ∷ 81188 ∷ 18713 ∷ []
+unfolding everything
+session = refl
+
+session-in : totalIn channel (stepOnTables channel) (100000 ∷ 0 ∷ 0 ∷ []) (channelCall ∷ channelCall ∷ []) ≡ 100000
+unfolding everything
+session-in = refl
+
+-- all V 7, all m 30, outside 4, on the channel
+all-30 : table 3 (next (record { mesh = record { cells = 3; faces = 4; volumes = 7 ∷ 7 ∷ 7 ∷ []; firsts = 0 ∷ 0 ∷ 1 ∷ 2 ∷ []; seconds = boundary ∷ 1 ∷ 2 ∷ boundary ∷ []; weights = 0 ∷ 128 ∷ 128 ∷ 0 ∷ []; spans = 0 ∷ 7 ∷ 7 ∷ 0 ∷ [] }; masses = 30 ∷ 30 ∷ 30 ∷ []; fluxes = negsuc 4 ∷ pos 5 ∷ pos 5 ∷ pos 5 ∷ []; outsides = 4 ∷ 0 ∷ 0 ∷ 0 ∷ [] })) ≡ 30 ∷ 30 ∷ 30 ∷ []
+unfolding everything
+all-30 = refl

@@ -1,0 +1,10 @@
+pub mod Verdicts
+pub mod Budget
+pub mod Low
+pub mod Limit
+pub mod Next
+pub mod Accepted
+pub mod Lists
+pub mod Uniform
+pub mod Sizes
+pub mod Figures

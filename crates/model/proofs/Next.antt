@@ -1,0 +1,136 @@
+-- One step: the next masses keep within the bounds, and the budget of the step.
+use Prim.Native.Nat.{ℕ, suc, _+_, _-_, _*_, _/_, _≤_, _<_}
+use mathlib.Core.Path.{_≡_, refl, _∙_}
+use mathlib.Core.Bool.{Bool, true, false, cond}
+use native.Mathlib.Nat.{le-div-iff-mul-le, div-lt-iff-lt-mul}
+use native.Mathlib.Omega.{arith}
+use lib.Dec.{eqb}
+use lib.IntN.{ℤ, pos, _+ℤ_, +ℤ-idr}
+use Rattle.signed.specs.Sign.{forward, backward}
+use Rattle.model.specs.Mesh.{volume, first, second, atBoundary, entering, leaving, incoming, outgoing, updated, total}
+use Rattle.model.specs.Step.{StepInput, flux, outside, mass, concentration, beyond, upwind, carried, low, lo, hi, correction, maxGain, maxLoss, limited, moved, next, inMass, outMass}
+use Rattle.lists.proofs.Sums.{sum-cong, sum-add}
+use Rattle.signed.proofs.Laws.{moves}
+use Rattle.model.proofs.Budget.{outward, inward, budget}
+use Rattle.model.proofs.Low.{Sound, low-affords, low-is, low-bounds, upwind-forward, upwind-backward}
+use Rattle.model.proofs.Limit.{incoming-limited, outgoing-limited, limited-zero}
+
+-- what two amounts move through a face, their sum moves
+both : (s t : Bool) (x y : ℤ)
+    → (cond s (forward (x +ℤ y)) 0 + cond t (backward (x +ℤ y)) 0) + (cond t (forward x) 0 + cond s (backward x) 0) + (cond t (forward y) 0 + cond s (backward y) 0)
+    ≡ (cond t (forward (x +ℤ y)) 0 + cond s (backward (x +ℤ y)) 0) + (cond s (forward x) 0 + cond t (backward x) 0) + (cond s (forward y) 0 + cond t (backward y) 0)
+both true true x y = omega (arith, moves x y)
+both true false x y = omega (arith, moves x y)
+both false true x y = omega (arith, moves x y)
+both false false x y = omega arith
+
+module _ (S : StepInput) where
+  open StepInput S using (mesh as M)
+
+  through : (c f : ℕ) → entering M (moved S) c f + leaving M (carried S) c f + leaving M (limited S) c f ≡ leaving M (moved S) c f + entering M (carried S) c f + entering M (limited S) c f
+  unfolding entering leaving moved
+  through c f = both (eqb (second M f) c) (eqb (first M f) c) (carried S f) (limited S f)
+
+  pub exchange : (c : ℕ) → incoming M (moved S) c + outgoing M (carried S) c + outgoing M (limited S) c ≡ outgoing M (moved S) c + incoming M (carried S) c + incoming M (limited S) c
+  unfolding incoming outgoing
+  exchange c = omega (
+    arith,
+    sum-add (M .faces) (entering M (moved S) c) (leaving M (carried S) c),
+    sum-add (M .faces) (λ f. entering M (moved S) c f + leaving M (carried S) c f) (leaving M (limited S) c),
+    sum-add (M .faces) (leaving M (moved S) c) (entering M (carried S) c),
+    sum-add (M .faces) (λ f. leaving M (moved S) c f + entering M (carried S) c f) (entering M (limited S) c),
+    sum-cong (M .faces) (λ f. entering M (moved S) c f + leaving M (carried S) c f + leaving M (limited S) c f) (λ f. leaving M (moved S) c f + entering M (carried S) c f + entering M (limited S) c f) (λ f l. through c f),
+  )
+
+module _ (S : StepInput) where
+  open StepInput S using (mesh as M)
+
+  -- what the limited corrections bring into a cell it may gain, and what they take from it it may lose
+  pub gained : (c : ℕ) → incoming M (limited S) c ≤ maxGain S c
+  unfolding limited
+  gained c = incoming-limited M (maxGain S) (maxLoss S) (correction S) c
+
+  pub lost : (c : ℕ) → outgoing M (limited S) c ≤ maxLoss S c
+  unfolding limited
+  lost c = outgoing-limited M (maxGain S) (maxLoss S) (correction S) c
+
+module _ (S : StepInput) (ok : Sound S) where
+  open StepInput S using (mesh as M)
+
+  -- the differences of document 01 are not cut off
+  pub maxGain-is : (c : ℕ) → c < M .cells → maxGain S c + low S c + 1 ≡ volume M c * hi S c + volume M c
+  unfolding maxGain
+  maxGain-is c h = omega (arith, low-bounds S ok c h, ok .roomy c h)
+
+  pub maxLoss-is : (c : ℕ) → c < M .cells → maxLoss S c + volume M c * lo S c ≡ low S c
+  unfolding maxLoss
+  maxLoss-is c h = omega (arith, low-bounds S ok c h)
+
+  -- a cell has the salt that is moved out of it
+  pub affords : (c : ℕ) → c < M .cells → outgoing M (moved S) c ≤ mass S c + incoming M (moved S) c
+  unfolding maxLoss
+  affords c h = omega (arith, exchange S c, low-is S ok c h, lost S c)
+
+  pub next-is : (c : ℕ) → c < M .cells → next S c + outgoing M (limited S) c ≡ low S c + incoming M (limited S) c
+  unfolding next updated
+  next-is c h = omega (arith, exchange S c, low-is S ok c h, affords c h)
+
+  pub next-bounds : (c : ℕ) → c < M .cells → (volume M c * lo S c ≤ next S c) × (next S c ≤ volume M c * hi S c + volume M c - 1)
+  unfolding maxLoss maxGain
+  next-bounds c h = omega (arith, next-is c h, lost S c, gained S c, low-bounds S ok c h)
+
+  pub next-concentration : (c : ℕ) → c < M .cells → (lo S c ≤ next S c / volume M c) × (next S c / volume M c ≤ hi S c)
+  next-concentration c h = (
+    le-div-iff-mul-le (ok .roomy c h) .1 (omega (arith, next-bounds c h)),
+    omega (arith, div-lt-iff-lt-mul {x = next S c} {y = suc (hi S c)} (ok .roomy c h) .1 (omega (arith, ok .roomy c h, next-bounds c h))),
+  )
+
+-- over the boundary goes what the water carries, and no correction
+module _ (S : StepInput) (f : ℕ) (e : atBoundary (S .mesh) f ≡ true) where
+  open StepInput S using (mesh as M)
+
+  boundary-correction : correction S f ≡ pos 0
+  unfolding correction
+  boundary-correction = rw e
+
+  boundary-limited : limited S f ≡ pos 0
+  unfolding limited
+  boundary-limited = limited-zero M (maxGain S) (maxLoss S) (correction S) f boundary-correction
+
+  boundary-moved : moved S f ≡ carried S f
+  unfolding moved
+  boundary-moved = rw boundary-limited (+ℤ-idr (carried S f))
+
+at-boundary-only : (b : Bool) (x y : ℕ) → (b ≡ true → x ≡ y) → cond b x 0 ≡ cond b y 0
+at-boundary-only true x y h = h refl
+at-boundary-only false x y h = refl
+
+-- amounts that are the carried ones at the boundary bring in and take out the step's in- and out-mass
+module _ (S : StepInput) (x : ℕ → ℤ) (same-at-boundary : (f : ℕ) → atBoundary (S .mesh) f ≡ true → x f ≡ carried S f) where
+  open StepInput S using (mesh as M)
+
+  boundary-out : (f : ℕ) → atBoundary M f ≡ true → forward (x f) ≡ forward (flux S f) * concentration S (first M f)
+  unfolding carried upwind
+  boundary-out f e = rw (same-at-boundary f e) (upwind-forward (flux S f) (beyond S f) (concentration S (first M f)))
+
+  boundary-in : (f : ℕ) → atBoundary M f ≡ true → backward (x f) ≡ backward (flux S f) * outside S f
+  unfolding carried upwind beyond
+  boundary-in f e = rw (same-at-boundary f e) (upwind-backward (flux S f) (beyond S f) (concentration S (first M f)) ∙ rw e)
+
+  pub outward-is : outward M x ≡ outMass S
+  unfolding outward outMass
+  outward-is = sum-cong (M .faces) (λ f. cond (atBoundary M f) (forward (x f)) 0) (λ f. cond (atBoundary M f) (forward (flux S f) * concentration S (first M f)) 0)
+      (λ f l. at-boundary-only (atBoundary M f) (forward (x f)) (forward (flux S f) * concentration S (first M f)) (boundary-out f))
+
+  pub inward-is : inward M x ≡ inMass S
+  unfolding inward inMass
+  inward-is = sum-cong (M .faces) (λ f. cond (atBoundary M f) (backward (x f)) 0) (λ f. cond (atBoundary M f) (backward (flux S f) * outside S f) 0)
+      (λ f l. at-boundary-only (atBoundary M f) (backward (x f)) (backward (flux S f) * outside S f) (boundary-in f))
+
+pub step-budget : (S : StepInput) → Sound S → total (S .mesh) (next S) + outMass S ≡ total (S .mesh) (mass S) + inMass S
+unfolding next
+step-budget S ok = omega (arith, budget (S .mesh) (ok .joined) (moved S) (mass S) (affords S ok), outward-is S (moved S) (boundary-moved S), inward-is S (moved S) (boundary-moved S))
+
+pub low-budget : (S : StepInput) → Sound S → total (S .mesh) (low S) + outMass S ≡ total (S .mesh) (mass S) + inMass S
+unfolding low
+low-budget S ok = omega (arith, budget (S .mesh) (ok .joined) (carried S) (mass S) (λ c h. omega (arith, low-affords S ok c h)), outward-is S (carried S) (λ f e. refl), inward-is S (carried S) (λ f e. refl))

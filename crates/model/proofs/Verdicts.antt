@@ -1,0 +1,80 @@
+-- Verdicts: what it means that one is fine, and how a scan finds the lowest place.
+use Prim.Native.Nat.{ℕ, zero, suc, _+_, _≤_, _<_}
+use mathlib.Core.Path.{_≡_, refl, sym, _∙_}
+use mathlib.Core.Bool.{Bool, true, false}
+use native.Mathlib.Numerals.{add-one}
+use native.Mathlib.Omega.{arith}
+use lib.Dec.{eqb}
+use Rattle.lists.proofs.Tests.{Same, same, other, same?}
+use Rattle.model.specs.Causes.{Outcome, accepted, refused, Verdict, fine, _andThen_, need, each}
+
+-- both parts are fine
+pub both-fine : {A : Type 0} {x : A} (v : Verdict) (w : Outcome A) → (v andThen w) ≡ accepted x → (v ≡ fine) × (w ≡ accepted x)
+unfolding _andThen_
+both-fine (accepted x) w e = (refl, e)
+both-fine (refused k i) w e = let z : _≡_ {A = ℕ} 0 1 = cc in absurd (omega arith)
+
+-- how a call's tests go on: past a part that is fine, or out at one that refuses
+pub past : {A : Type 0} {v : Verdict} (w : Outcome A) → v ≡ fine → (v andThen w) ≡ w
+unfolding _andThen_
+past w e = rw e
+
+pub out : {A : Type 0} {v : Verdict} {k i : ℕ} (w : Outcome A) → v ≡ refused k i → (v andThen w) ≡ refused k i
+unfolding _andThen_
+out w e = rw e
+
+pub andThen-assoc : {A : Type 0} (u v : Verdict) (w : Outcome A) → ((u andThen v) andThen w) ≡ (u andThen (v andThen w))
+unfolding _andThen_
+andThen-assoc (accepted x) v w = refl
+andThen-assoc (refused k i) v w = refl
+
+pub need-fine : (k i : ℕ) (b : Bool) → need k i b ≡ fine → b ≡ true
+unfolding need
+need-fine k i true e = refl
+need-fine k i false e = let z : _≡_ {A = ℕ} 0 1 = cc in absurd (omega arith)
+
+pub need-met : (k i : ℕ) {b : Bool} → b ≡ true → need k i b ≡ fine
+unfolding need
+need-met k i e = rw e
+
+pub need-unmet : (k i : ℕ) {b : Bool} → b ≡ false → need k i b ≡ refused k i
+unfolding need
+need-unmet k i e = rw e
+
+pub each-fine : (k n : ℕ) (good : ℕ → Bool) → each k n good ≡ fine → (i : ℕ) → i < n → good i ≡ true
+unfolding each
+each-fine k zero good e i h = absurd (omega arith)
+each-fine k (suc n) good e i h = go (eqb i n) (same? i n) (each-fine k n good (both-fine (each k n good) (need k n (good n)) e .0) i)
+  where
+    go : (b : Bool) → Same i n b → (i < n → good i ≡ true) → good i ≡ true
+    go true (same d) ih = rw d (need-fine k n (good n) (both-fine (each k n good) (need k n (good n)) e .1))
+    go false (other d) ih = ih (omega arith)
+
+pub fine-each : (k n : ℕ) (good : ℕ → Bool) → ((i : ℕ) → i < n → good i ≡ true) → each k n good ≡ fine
+unfolding each need _andThen_
+fine-each k zero good h = refl
+fine-each k (suc n) good h = rw (fine-each k n good (λ i l. h i (omega arith)), h n (omega arith))
+
+-- a scan: nothing looked at yet, one more place that is good, the first that is not, and the end
+pub scan-start : (k : ℕ) (good : ℕ → Bool) → each k 0 good ≡ fine
+unfolding each
+scan-start k good = refl
+
+pub scan-pass : (k : ℕ) (good : ℕ → Bool) (i : ℕ) {b : Bool} → each k i good ≡ fine → b ≡ good i → b ≡ true → each k (i + 1) good ≡ fine
+unfolding each need _andThen_
+scan-pass k good i e q t = rw (add-one i, e, ← q, t)
+
+first-bad : (k n : ℕ) (good : ℕ → Bool) (i : ℕ) → i < n → each k i good ≡ fine → good i ≡ false → each k n good ≡ refused k i
+unfolding each need _andThen_
+first-bad k zero good i h e bad = absurd (omega arith)
+first-bad k (suc n) good i h e bad = go (eqb i n) (same? i n) (λ l. first-bad k n good i l e bad)
+  where
+    go : (b : Bool) → Same i n b → (i < n → each k n good ≡ refused k i) → (each k n good andThen need k n (good n)) ≡ refused k i
+    go true (same d) ih = rw (← d, e, bad)
+    go false (other d) ih = rw (ih (omega arith))
+
+pub scan-hit : (k : ℕ) (good : ℕ → Bool) (n i : ℕ) {b : Bool} → i < n → each k i good ≡ fine → b ≡ good i → b ≡ false → refused k i ≡ each k n good
+scan-hit k good n i h e q t = sym (first-bad k n good i h e (sym q ∙ t))
+
+pub scan-end : (k : ℕ) (good : ℕ → Bool) (n i : ℕ) → i ≤ n → n ≤ i → each k i good ≡ fine → fine ≡ each k n good
+scan-end k good n i l m e = let q : i ≡ n = omega arith in sym (rw q at e)

@@ -1,0 +1,32 @@
+-- "If an answer is an enum, a definition gives this paper's number and values for each of its cases."
+use Prim.Native.Nat.{ℕ}
+use Rattle.model.specs.Causes.{Outcome, accepted, refused, Verdict, fine}
+use Rattle.model.specs.declared.Cause.{Cause}
+use Rattle.model.specs.declared.Cause.the-variants.{Limits, Table, Volume, Ends, Spacing, Concentration, Outside, Flux, Balance, Outflow, Length, Bit, Head}
+use Rattle.model.specs.declared.Refusal.{Refusal}
+use Rattle.model.specs.declared.Answer.{Answer}
+use Rattle.model.specs.declared.Answer.the-variants.{Done, Refused}
+
+-- The column "Number" of "Causes".
+abbrev pub number : Cause → ℕ
+number Limits = 1
+number Table = 2
+number Volume = 3
+number Ends = 4
+number Spacing = 5
+number Concentration = 6
+number Outside = 7
+number Flux = 8
+number Balance = 9
+number Outflow = 10
+number Length = 11
+number Bit = 12
+number Head = 13
+
+-- A refusal, by its number and its place.
+abbrev pub told : {A : Type 0} → Refusal → Outcome A
+told r = refused (number (r .cause)) (r .place)
+
+abbrev pub said : Answer → Verdict
+said Done = fine
+said (Refused r) = told r

@@ -1,0 +1,5 @@
+pub mod Mesh
+pub mod Step
+pub mod Causes
+pub mod Answers
+pub mod Calls

@@ -1,0 +1,72 @@
+// What calls answer, and the numbers that document 01 sets.
+ghost use mathlib.Core.Path.{_≡_};
+ghost use Rattle.model.specs.Answers.{number as numberOf};
+
+// Most cells and faces of a mesh.
+pub const MAX_CELLS: usize = 4095;
+
+pub const MAX_FACES: usize = 8190;
+
+// The mark in the place of a second cell: beyond the face is the boundary (document 01: the rim).
+pub const BOUNDARY: u64 = 4095;
+
+pub const MAX_VOLUME: u64 = 4095;
+
+// Largest weight (document 01: share) and span (document 01: reach).
+pub const MAX_WEIGHT: u64 = 255;
+
+pub const MAX_SPAN: u64 = 4095;
+
+pub const MAX_CONCENTRATION: u64 = 1000000;
+
+// Largest flux through a boundary face.
+pub const MAX_BOUNDARY_FLUX: u64 = 4095;
+
+// Why a call is refused, in the order of document 01's numbers, 1 to 13.
+pub enum Cause {
+    Limits,
+    Table,
+    Volume,
+    Ends,
+    Spacing,
+    Concentration,
+    Outside,
+    Flux,
+    Balance,
+    Outflow,
+    Length,
+    Bit,
+    Head,
+}
+
+pub struct Refusal {
+    pub cause: Cause,
+    pub place: u64,
+}
+
+// The answer of a call that gives nothing but acceptance.
+pub enum Answer {
+    Done,
+    Refused(Refusal),
+}
+
+// Document 01's number of a cause.
+pub fn number(cause: Cause) -> u64
+    ensures { λ r. ⌜ r ≡ numberOf cause ⌝ }
+{
+    match cause {
+        Cause::Limits => 1,
+        Cause::Table => 2,
+        Cause::Volume => 3,
+        Cause::Ends => 4,
+        Cause::Spacing => 5,
+        Cause::Concentration => 6,
+        Cause::Outside => 7,
+        Cause::Flux => 8,
+        Cause::Balance => 9,
+        Cause::Outflow => 10,
+        Cause::Length => 11,
+        Cause::Bit => 12,
+        Cause::Head => 13,
+    }
+}
