@@ -85,22 +85,69 @@ pub record Figures : Type 0 where
   -- "one cell, no faces: unchanged", for every volume and every mass
   pub alone : (v m : ℕ) → next (record { mesh = lake v; masses = m ∷ []; fluxes = []; outsides = [] }) 0 ≡ m
 
-pub figures : Figures
+channel-1-is : table 3 (next (channelStep (100000 ∷ 0 ∷ 0 ∷ []))) ≡ 100099 ∷ 49901 ∷ 0 ∷ []
 unfolding everything
+channel-1-is = refl
+
+channel-1-moved-is : table 4 (moved (channelStep (100000 ∷ 0 ∷ 0 ∷ []))) ≡ negsuc 49999 ∷ pos 49901 ∷ pos 0 ∷ pos 0 ∷ []
+unfolding everything
+channel-1-moved-is = refl
+
+channel-1-correction-is : correction (channelStep (100000 ∷ 0 ∷ 0 ∷ [])) 1 ≡ negsuc 12499
+unfolding everything
+channel-1-correction-is = refl
+
+channel-1-cut-is : limited (channelStep (100000 ∷ 0 ∷ 0 ∷ [])) 1 ≡ negsuc 98
+unfolding everything
+channel-1-cut-is = refl
+
+channel-2-is : table 3 (next (channelStep (100099 ∷ 49901 ∷ 0 ∷ []))) ≡ 100099 ∷ 81188 ∷ 18713 ∷ []
+unfolding everything
+channel-2-is = refl
+
+exchange-is : table 2 (next (record { mesh = pair; masses = 93 ∷ 15 ∷ []; fluxes = pos 10 ∷ negsuc 9 ∷ []; outsides = 0 ∷ 0 ∷ [] })) ≡ 13 ∷ 95 ∷ []
+unfolding everything
+exchange-is = refl
+
+correction-none-is : correction (between 3 0 (pos 1) 128 2) 0 ≡ pos 0
+unfolding everything
+correction-none-is = refl
+
+correction-downwind-is : correction (between 1000 0 (pos 100) 1 100) 0 ≡ pos 49609
+unfolding everything
+correction-downwind-is = refl
+
+fullest-is : fieldVerdict (lake 4095) (4095004094 ∷ []) ≡ fine
+unfolding everything
+fullest-is = refl
+
+too-full-is : fieldVerdict (lake 4095) (4095004095 ∷ []) ≡ refused 6 0
+unfolding everything
+too-full-is = refl
+
+outflow-100-is : verdict strait (0 ∷ []) (through 99) ≡ fine
+unfolding everything
+outflow-100-is = refl
+
+outflow-101-is : verdict strait (0 ∷ []) (through 100) ≡ refused 10 0
+unfolding everything
+outflow-101-is = refl
+
+pub figures : Figures
 figures = record {
-  channel-1 = refl;
-  channel-1-moved = refl;
-  channel-1-correction = refl;
-  channel-1-cut = refl;
-  channel-2 = refl;
-  exchange = refl;
-  correction-none = refl;
-  correction-downwind = refl;
+  channel-1 = channel-1-is;
+  channel-1-moved = channel-1-moved-is;
+  channel-1-correction = channel-1-correction-is;
+  channel-1-cut = channel-1-cut-is;
+  channel-2 = channel-2-is;
+  exchange = exchange-is;
+  correction-none = correction-none-is;
+  correction-downwind = correction-downwind-is;
   unchanged = λ M field k q e alike outside-alike c h. uniform (inputOf M field k) (ready M field k e .sound) q alike outside-alike c h;
-  fullest = refl;
-  too-full = refl;
-  outflow-100 = refl;
-  outflow-101 = refl;
+  fullest = fullest-is;
+  too-full = too-full-is;
+  outflow-100 = outflow-100-is;
+  outflow-101 = outflow-101-is;
   alone = λ v m. no-faces (record { mesh = lake v; masses = m ∷ []; fluxes = []; outsides = [] }) refl 0;
 }
 

@@ -59,6 +59,9 @@ pub record Call : Type 0 where
   pub moveds : List ℤ
   pub work : List ℕ
 
+abbrev pub callOf : List ℤ → List ℕ → List ℕ → List ℤ → List ℕ → Call
+callOf fluxes outsides nexts moveds work = record { fluxes = fluxes; outsides = outsides; nexts = nexts; moveds = moveds; work = work }
+
 abbrev pub workLength : Mesh → ℕ
 workLength M = 4 * M .cells + M .faces
 

@@ -51,6 +51,11 @@ pub record Mesh : Type 0 where
   -- document 01's reaches
   pub spans : List ℕ
 
+-- the mesh of the counts and tables lent to a call, in their order
+abbrev pub meshOf : ℕ → ℕ → List ℕ → List ℕ → List ℕ → List ℕ → List ℕ → Mesh
+meshOf cells faces volumes firsts seconds weights spans =
+    record { cells = cells; faces = faces; volumes = volumes; firsts = firsts; seconds = seconds; weights = weights; spans = spans }
+
 module _ (M : Mesh) where
   abbrev pub volume : ℕ → ℕ
   volume c = getD (M .volumes) c 0
