@@ -1,3 +1,4 @@
 pub mod Fields
 pub mod Puts
+pub mod Layouts
 pub mod Figures
