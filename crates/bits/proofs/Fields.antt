@@ -2,16 +2,20 @@
 use mathlib.Core.Path.{_≡_, refl, sym, ap, _∙_}
 use mathlib.Core.List.{List}
 use Prim.Native.Nat.{ℕ, zero, suc, _+_, _-_, _*_, _/_, _%_, _^_, _≤_, _<_}
-use native.Mathlib.Nat.{pow-suc, pow-zero, mul-assoc, add-zero, mod-lt, add-suc, mod-one, lt-of-lt-of-le}
+use native.Mathlib.Nat.{pow-suc, pow-zero, mul-assoc, add-zero, mod-lt, add-suc, mod-one, zero-div, lt-of-lt-of-le}
 use native.Mathlib.Numerals.{add-one}
 use native.Mathlib.Omega.{arith}
-use lib.ListN.{getD}
+use lib.ListN.{length, getD, List·getD-eq-default}
 use lib.Pow.{pow-mono, mod-pow-add, shr-shr, high}
 use Rattle.bits.specs.Field.{bitAt, bitsAt}
 
 pub bit-lt : (bs : List ℕ) (i : ℕ) → bitAt bs i < 2
 unfolding bitAt
 bit-lt bs i = mod-lt _ (omega arith)
+
+pub bit-past : (bs : List ℕ) (i : ℕ) → 8 * length bs ≤ i → bitAt bs i ≡ 0
+unfolding bitAt
+bit-past bs i l = rw (List·getD-eq-default bs 0 {n = i / 8} (omega arith), zero-div (2 ^ (7 - i % 8)))
 
 pub bits-zero : (bs : List ℕ) (at : ℕ) → bitsAt bs at 0 ≡ 0
 unfolding bitsAt

@@ -19,7 +19,7 @@ use Rattle.bits.specs.Layout.{Field, field, spelled, bitsOf, widthOf, by
 
 -- sizes
 
-length-spelled : (w v : ℕ) → length (spelled w v) ≡ w
+pub length-spelled : (w v : ℕ) → length (spelled w v) ≡ w
 unfolding spelled
 length-spelled zero v = refl
 length-spelled (suc w) v = ap suc (length-spelled w v)
@@ -64,7 +64,7 @@ rows-cong (suc n) g h e = rw (rows-cong n g h (λ i l. e i (omega arith)), e n (
 
 -- bits
 
-bits-append : (a b : List Field) → bitsOf (a ++ b) ≡ bitsOf a ++ bitsOf b
+pub bits-append : (a b : List Field) → bitsOf (a ++ b) ≡ bitsOf a ++ bitsOf b
 unfolding bitsOf
 bits-append [] b = refl
 bits-append (f ∷ a) b = rw (bits-append a b) (sym (append-assoc (spelled (f .width) (f .value)) (bitsOf a) (bitsOf b)))
@@ -86,7 +86,7 @@ unfolding bitsOf
 each-lt [] i = omega arith
 each-lt (f ∷ fs) i = append-lt 2 (spelled (f .width) (f .value)) (bitsOf fs) (spelled-lt (f .width) (f .value)) (each-lt fs) i
 
-spelled-bit : (w v i : ℕ) → i < w → getD (spelled w v) i 0 ≡ v / 2 ^ (w - suc i) % 2
+pub spelled-bit : (w v i : ℕ) → i < w → getD (spelled w v) i 0 ≡ v / 2 ^ (w - suc i) % 2
 unfolding spelled
 spelled-bit zero v i l = absurd (not-suc-le-zero l)
 spelled-bit (suc w) v zero l = let e : w ≡ suc w - suc zero = omega arith in ap (λ (j : ℕ). v / 2 ^ j % 2) e
