@@ -1,9 +1,10 @@
--- Document 01, "Record layouts": its two examples.
+-- Document 01, "Record layouts": its two examples, packed and read.
 use mathlib.Core.Path.{_≡_, refl}
 use mathlib.Core.List.{List, [], _∷_, _++_}
 use Prim.Native.Nat.{ℕ}
 use Rattle.lists.specs.Fold.{sum}
 use Rattle.lists.specs.Table.{table}
+use Rattle.bits.specs.Field.{bitAt, bitsAt}
 use Rattle.bits.specs.Layout.{Field, field, spelled, bitsOf, widthOf, bytesFor, octet, packed, rows}
 
 -- one cell of V 100 and no faces
@@ -15,3 +16,11 @@ one-cell = refl
 pub its-field : packed (field 4 2 ∷ field 12 1 ∷ rows 1 (λ i. field 32 99 ∷ [])) ≡ 0x20 ∷ 0x01 ∷ 0x00 ∷ 0x00 ∷ 0x00 ∷ 0x63 ∷ []
 unfolding packed table octet sum spelled bitsOf widthOf bytesFor rows
 its-field = refl
+
+pub its-volume : bitsAt (0x10 ∷ 0x01 ∷ 0x00 ∷ 0x00 ∷ 0x06 ∷ 0x40 ∷ []) 32 12 ≡ 100
+unfolding bitsAt bitAt
+its-volume = refl
+
+pub its-mass : bitsAt (0x20 ∷ 0x01 ∷ 0x00 ∷ 0x00 ∷ 0x00 ∷ 0x63 ∷ []) 16 32 ≡ 99
+unfolding bitsAt bitAt
+its-mass = refl

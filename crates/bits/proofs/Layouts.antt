@@ -92,7 +92,7 @@ spelled-bit zero v i l = absurd (not-suc-le-zero l)
 spelled-bit (suc w) v zero l = let e : w ≡ suc w - suc zero = omega arith in ap (λ (j : ℕ). v / 2 ^ j % 2) e
 spelled-bit (suc w) v (suc i) l = let e : w - suc i ≡ suc w - suc (suc i) = omega arith in spelled-bit w v i (le-of-suc-le-suc l) ∙ ap (λ (j : ℕ). v / 2 ^ j % 2) e
 
--- bit i of a field that w bits ahead
+-- bit i of a field, after the bits of the fields ahead of it
 pub field-bit : (pre post : List Field) (w v i : ℕ) → i < w → getD (bitsOf (pre ++ field w v ∷ post)) (widthOf pre + i) 0 ≡ v / 2 ^ (w - suc i) % 2
 unfolding bitsOf
 field-bit pre post w v i l =
@@ -102,11 +102,11 @@ field-bit pre post w v i l =
     ∙ spelled-bit w v i l)
 
 -- the number that bits b 0, .., b w make by their weights: a digit more, its size, and its bits
-module _ (b : ℕ → ℕ) (small : (k : ℕ) → b k < 2) where
-  weighed : ℕ → ℕ
-  weighed w = sum (suc w) (λ k. b k * 2 ^ (w - k))
+weighed : (ℕ → ℕ) → ℕ → ℕ
+weighed b w = sum (suc w) (λ k. b k * 2 ^ (w - k))
 
-  weighed-more : (w : ℕ) → weighed (suc w) ≡ 2 * weighed w + b (suc w)
+module _ (b : ℕ → ℕ) (small : (k : ℕ) → b k < 2) where
+  weighed-more : (w : ℕ) → weighed b (suc w) ≡ 2 * weighed b w + b (suc w)
   unfolding weighed sum
   weighed-more w = omega (arith, front, last)
     where
@@ -121,24 +121,24 @@ module _ (b : ℕ → ℕ) (small : (k : ℕ) → b k < 2) where
       last : b (suc w) * 2 ^ (suc w - suc w) ≡ b (suc w)
       last = let e : suc w - suc w ≡ 0 = omega arith in ap (λ (j : ℕ). b (suc w) * 2 ^ j) e ∙ mul-one (b (suc w))
 
-  weighed-lt : (w : ℕ) → weighed w < 2 ^ suc w
+  weighed-lt : (w : ℕ) → weighed b w < 2 ^ suc w
   unfolding weighed sum
   weighed-lt zero = omega (arith, small 0)
   weighed-lt (suc w) = omega (arith, weighed-more w, weighed-lt w, small (suc w), pow-suc 2 (suc w))
 
-  weighed-bit : (w r : ℕ) → r ≤ w → weighed w / 2 ^ (w - r) % 2 ≡ b r
+  weighed-bit : (w r : ℕ) → r ≤ w → weighed b w / 2 ^ (w - r) % 2 ≡ b r
   unfolding weighed sum
   weighed-bit zero r l = let e : r ≡ 0 = omega arith in rw e (omega (arith, small 0))
   weighed-bit (suc w) r l = go (eq-or-lt-of-le l) (weighed-bit w r)
     where
-      go : (r ≡ suc w) ⊎ (r < suc w) → (r ≤ w → weighed w / 2 ^ (w - r) % 2 ≡ b r) → weighed (suc w) / 2 ^ (suc w - r) % 2 ≡ b r
+      go : (r ≡ suc w) ⊎ (r < suc w) → (r ≤ w → weighed b w / 2 ^ (w - r) % 2 ≡ b r) → weighed b (suc w) / 2 ^ (suc w - r) % 2 ≡ b r
       go (inl e) ih =
           let z : suc w - r ≡ 0 = omega arith in
-          ap (λ (j : ℕ). weighed (suc w) / 2 ^ j % 2) z ∙ ap (λ (x : ℕ). x % 2) (div-one (weighed (suc w))) ∙ ap (λ (x : ℕ). x % 2) (weighed-more w) ∙ rw e (omega (arith, small (suc w)))
+          ap (λ (j : ℕ). weighed b (suc w) / 2 ^ j % 2) z ∙ ap (λ (x : ℕ). x % 2) (div-one (weighed b (suc w))) ∙ ap (λ (x : ℕ). x % 2) (weighed-more w) ∙ rw e (omega (arith, small (suc w)))
       go (inr m) ih =
           let e : suc w - r ≡ 1 + (w - r) = omega arith in
-          let half : weighed (suc w) / 2 ^ 1 ≡ weighed w = omega (arith, weighed-more w, small (suc w)) in
-          ap (λ (j : ℕ). weighed (suc w) / 2 ^ j % 2) e ∙ ap (λ (x : ℕ). x % 2) (sym (shr-shr (weighed (suc w)) 1 (w - r))) ∙ ap (λ (x : ℕ). x / 2 ^ (w - r) % 2) half ∙ ih (omega arith)
+          let half : weighed b (suc w) / 2 ^ 1 ≡ weighed b w = omega (arith, weighed-more w, small (suc w)) in
+          ap (λ (j : ℕ). weighed b (suc w) / 2 ^ j % 2) e ∙ ap (λ (x : ℕ). x % 2) (sym (shr-shr (weighed b (suc w)) 1 (w - r))) ∙ ap (λ (x : ℕ). x / 2 ^ (w - r) % 2) half ∙ ih (omega arith)
 
 pub packed-lt : (fs : List Field) (j : ℕ) → getD (packed fs) j 0 < 256
 unfolding packed octet weighed

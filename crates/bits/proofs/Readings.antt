@@ -15,21 +15,21 @@ use Rattle.bits.proofs.Layouts.{length-spelled, spelled-bit, length-bit
 
 -- each field's value is what the bits at its place spell; the first place is `at`
 pub data ReadFrom (bs : List ℕ) : ℕ → List Field → Type 0 where
-  none : {at : ℕ} → ReadFrom bs at []
-  more : {at : ℕ} {f : Field} {fs : List Field} → f .value ≡ bitsAt bs at (f .width) → ReadFrom bs (at + f .width) fs → ReadFrom bs at (f ∷ fs)
+  read-none : {at : ℕ} → ReadFrom bs at []
+  read-more : {at : ℕ} {f : Field} {fs : List Field} → f .value ≡ bitsAt bs at (f .width) → ReadFrom bs (at + f .width) fs → ReadFrom bs at (f ∷ fs)
 
 -- a field read at p, where p is the place that it is due at
-pub more-at : (bs : List ℕ) {at w v : ℕ} {fs : List Field} (p : ℕ) → p ≡ at → v ≡ bitsAt bs p w → ReadFrom bs (at + w) fs → ReadFrom bs at (field w v ∷ fs)
-more-at bs p e d r = more (rw e at d) r
+pub read-more-at : (bs : List ℕ) {at w v : ℕ} {fs : List Field} (p : ℕ) → p ≡ at → v ≡ bitsAt bs p w → ReadFrom bs (at + w) fs → ReadFrom bs at (field w v ∷ fs)
+read-more-at bs p e d r = read-more (rw e at d) r
 
 pub read-append : {bs : List ℕ} {at : ℕ} {a : List Field} (b : List Field) → ReadFrom bs at a → ReadFrom bs (at + widthOf a) b → ReadFrom bs at (a ++ b)
 unfolding widthOf
-read-append b (none {at = at}) q = rw (add-zero at) at q
-read-append b (more {at = at} {f = f} {fs = fs} e r) q = more e (read-append b r (rw (add-assoc at (f .width) (widthOf fs)) q))
+read-append b (read-none {at = at}) q = rw (add-zero at) at q
+read-append b (read-more {at = at} {f = f} {fs = fs} e r) q = read-more e (read-append b r (rw (add-assoc at (f .width) (widthOf fs)) q))
 
 pub read-rows : {bs : List ℕ} {at : ℕ} (n : ℕ) (g : ℕ → List Field) → ((i : ℕ) → i < n → ReadFrom bs (at + widthOf (rows i g)) (g i)) → ReadFrom bs at (rows n g)
 unfolding rows
-read-rows zero g h = none
+read-rows zero g h = read-none
 read-rows (suc n) g h = read-append (g n) (read-rows n g (λ i l. h i (omega arith))) (h n (omega arith))
 
 -- rows of k bits each
@@ -39,8 +39,8 @@ read-rows-of k n g w h = read-rows n g (λ i l. rw (width-rows-of k i g (λ j m.
 -- the fields' bits are the bits there
 pub read-bit : {bs : List ℕ} {at : ℕ} {fs : List Field} → ReadFrom bs at fs → (i : ℕ) → i < widthOf fs → getD (bitsOf fs) i 0 ≡ bitAt bs (at + i)
 unfolding bitsOf widthOf
-read-bit none i l = absurd (omega arith)
-read-bit {bs} (more {at = at} {f = f} {fs = fs} e r) i l = go (decLt i w) (read-bit r (i - f .width))
+read-bit read-none i l = absurd (omega arith)
+read-bit {bs} (read-more {at = at} {f = f} {fs = fs} e r) i l = go (decLt i w) (read-bit r (i - f .width))
   where
     w : ℕ
     w = f .width

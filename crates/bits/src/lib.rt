@@ -79,12 +79,12 @@ pub fn write_bits(dst: &mut [u8], at: usize, width: usize, v: u64)
     requires { do ⌜ (at + width ≤ 8 * length (now dst)) × (at + width < 2 ^ 64) × (width ≤ (← ⟦WIDEST⟧)) × (v < 2 ^ width) ⌝ }
     ensures { λ _. ⌜ Put (now (dst .entry)) at width v (now (dst .exit)) ⌝ }
 {
-    let mut k = 0;
-    while k < width {
-        let p = at + k;
-        let n = least(8 - p % 8, width - k);
-        let rest = v >> (width - k - n);
+    let mut done = 0;
+    while done < width {
+        let p = at + done;
+        let n = least(8 - p % 8, width - done);
+        let rest = v >> (width - done - n);
         put_piece(dst, p, n, rest % pow2(n));
-        k += n;
+        done += n;
     }
 }
