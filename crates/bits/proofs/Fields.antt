@@ -15,7 +15,7 @@ bit-lt bs i = mod-lt _ (omega arith)
 
 pub bit-past : (bs : List ℕ) (i : ℕ) → 8 * length bs ≤ i → bitAt bs i ≡ 0
 unfolding bitAt
-bit-past bs i l = rw (List·getD-eq-default bs 0 {n = i / 8} (omega arith), zero-div (2 ^ (7 - i % 8)))
+bit-past bs i l = rw (List·getD-eq-default bs 0 {n = i / 8} (omega arith), zero-div)
 
 pub bits-zero : (bs : List ℕ) (at : ℕ) → bitsAt bs at 0 ≡ 0
 unfolding bitsAt

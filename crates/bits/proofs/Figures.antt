@@ -1,11 +1,10 @@
 -- Document 01, "Record layouts": its two examples, packed and read.
 use mathlib.Core.Path.{_≡_, refl}
-use mathlib.Core.List.{List, [], _∷_, _++_}
-use Prim.Native.Nat.{ℕ}
+use mathlib.Core.List.{[], _∷_}
 use Rattle.lists.specs.Fold.{sum}
 use Rattle.lists.specs.Table.{table}
 use Rattle.bits.specs.Field.{bitAt, bitsAt}
-use Rattle.bits.specs.Layout.{Field, field, spelled, bitsOf, widthOf, bytesFor, octet, packed, rows}
+use Rattle.bits.specs.Layout.{field, spelled, bitsOf, widthOf, bytesFor, octet, packed, rows}
 
 -- one cell of V 100 and no faces
 pub one-cell : packed (field 4 1 ∷ field 12 1 ∷ field 13 0 ∷ field 3 0 ∷ rows 1 (λ i. field 12 100 ∷ [])) ≡ 0x10 ∷ 0x01 ∷ 0x00 ∷ 0x00 ∷ 0x06 ∷ 0x40 ∷ []

@@ -1,14 +1,14 @@
 -- A writer's states: so many fields are written into the front of a list of bytes, and the rest is as it was.
 use mathlib.Core.Path.{_≡_, refl, sym, ap, _∙_}
 use mathlib.Core.List.{List, [], _∷_, _++_, append-nil}
-use Prim.Native.Nat.{ℕ, zero, suc, _+_, _-_, _*_, _/_, _%_, _^_, _≤_, _<_}
+use Prim.Native.Nat.{ℕ, suc, _+_, _-_, _*_, _/_, _%_, _^_, _≤_, _<_}
 use native.Mathlib.Nat.{zero-div}
 use native.Mathlib.Decide.{decLt}
 use native.Mathlib.Omega.{arith}
-use lib.ListN.{length, getD, drop, length-append, length-drop, List·getD-append, List·getD-eq-default}
+use lib.ListN.{length, getD, drop, length-append, length-drop, List·getD-append}
 use lib.Seq.{getD-append-add, getD-drop, append-snoc}
 use Rattle.lists.specs.Table.{over}
-use Rattle.bits.specs.Field.{bitAt, bitsAt}
+use Rattle.bits.specs.Field.{bitAt}
 use Rattle.bits.specs.Put.{Put}
 use Rattle.bits.specs.Layout.{Field, field, bitsOf, widthOf, bytesFor, packed, rows}
 use Rattle.bits.proofs.Fields.{bits-bit}
