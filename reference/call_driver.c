@@ -82,7 +82,8 @@ static uint8_t *copy_of(const uint8_t *bytes, size_t len)
     uint8_t *copy = malloc(len + 1);
     if (copy == NULL)
         fail("no memory");
-    memcpy(copy, bytes, len);
+    if (len != 0)
+        memcpy(copy, bytes, len);
     return copy;
 }
 
@@ -104,24 +105,27 @@ int main(void)
             copy[i] = copy_of(record[i], len[i]);
         }
         room = lend(len[3]);
-        memset(room, PATTERN, len[3]);
+        if (len[3] != 0)
+            memset(room, PATTERN, len[3]);
 
         number = lagoon_step(record[0], len[0], record[1], len[1],
                              record[2], len[2], room, len[3]);
 
-        for (int i = 0; i < 8; i++)
-            answer[i] = (uint8_t)(number >> (8 * i));
-        if (fwrite(answer, 1, 8, stdout) != 8 || fwrite(room, 1, len[3], stdout) != len[3])
-            fail("cannot write");
         for (int i = 0; i < 3; i++) {
-            if (memcmp(record[i], copy[i], len[i]) != 0)
+            if (len[i] != 0 && memcmp(record[i], copy[i], len[i]) != 0)
                 fail("a record was changed by the call");
             free(copy[i]);
             give_back(record[i], len[i]);
         }
+        for (int i = 0; i < 8; i++)
+            answer[i] = (uint8_t)(number >> (8 * i));
+        /* flushed at once, so that after a crash the case it happened in is known */
+        if (fwrite(answer, 1, 8, stdout) != 8 || fwrite(room, 1, len[3], stdout) != len[3]
+            || fflush(stdout) != 0)
+            fail("cannot write");
         give_back(room, len[3]);
     }
     if (got != 0)
         fail("the head of a case is cut short");
-    return fflush(stdout) == 0 ? 0 : 2;
+    return 0;
 }

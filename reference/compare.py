@@ -225,7 +225,8 @@ class Comparison:
         stream = struct.pack("<IIII", len(mesh), len(field), len(step), room) + mesh + field + step
         Path(f"{base}.bin").write_bytes(stream)
         lines = []
-        for title, answer in (("expected", self.expected_call(case)), ("actual", self.calls([case])[0])):
+        expected, actual = self.expected_call(case), self.calls([case])[0]
+        for title, answer in (("expected", expected), ("actual", actual)):
             if not isinstance(answer, str):
                 cause, place = divmod(answer[0], 1 << 32)
                 answer = f"answer {answer[0]} (cause {cause}, place {place}), room {answer[1].hex(' ')}"
@@ -234,7 +235,10 @@ class Comparison:
         Path(f"{base}.txt").write_text(text + "\n".join(lines) + "\n")
         print(f"  {len(stream)} bytes in {base}.bin, in words in {base}.txt")
         for line in lines:
-            print("  " + line[:300])
+            print("  " + (line if len(line) < 160 or isinstance(actual, str) else line[:150] + " ..."))
+        if not isinstance(actual, str) and expected[1] != actual[1]:
+            at = next(i for i in range(room) if expected[1][i] != actual[1][i])
+            print(f"  first difference at byte {at} of the room")
 
     def report_causes(self):
         """Prints the counts; False where a reachable cause was never reached."""

@@ -574,7 +574,7 @@ def session(seed, number):
         kinds.append("partial step at the end")
     if number % 200 == 3:
         kinds, data = ["empty input"], b""
-    return Session(tuple(kinds), data)
+    return Session(tuple(dict.fromkeys(kinds)), data)
 
 
 def call(seed, number):
@@ -606,7 +606,7 @@ def call(seed, number):
     kinds.append("room " + room)
     lent = {"enough": need, "more": need + rng.randint(1, 20), "short by one": need - 1,
             "short": rng.randrange(need), "none": 0}[room]
-    return Call(tuple(kinds), *records, lent)
+    return Call(tuple(dict.fromkeys(kinds)), *records, lent)
 
 
 def kinds_made(cases):

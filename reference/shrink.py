@@ -81,55 +81,68 @@ def without_cell(parts, cell):
                  parts.masses[:cell] + parts.masses[cell + 1:], steps, parts.tail)
 
 
-def without_face(parts, face):
+def without_cells(parts, start, end):
+    for cell in reversed(range(start, end)):
+        parts = parts and without_cell(parts, cell)
+    return parts
+
+
+def without_faces(parts, start, end):
     if not readable(parts):
         return None
-    steps = [(f[:face] + f[face + 1:], o[:face] + o[face + 1:]) for f, o in parts.steps]
-    return Parts(parts.volumes, parts.faces[:face] + parts.faces[face + 1:], parts.masses, steps, parts.tail)
+    steps = [(f[:start] + f[end:], o[:start] + o[end:]) for f, o in parts.steps]
+    return Parts(parts.volumes, parts.faces[:start] + parts.faces[end:], parts.masses, steps, parts.tail)
 
 
-def with_mass(parts, cell, mass):
-    if mass == parts.masses[cell]:
+def without_still_faces(parts):
+    if not readable(parts):
         return None
-    masses = list(parts.masses)
-    masses[cell] = mass
-    return Parts(parts.volumes, parts.faces, masses, parts.steps, parts.tail)
-
-
-def smaller(parts):
-    """Candidates one change away, the greatest savings first."""
-    if parts.tail:
-        yield Parts(parts.volumes, parts.faces, parts.masses, parts.steps, b"")
-    count = len(parts.steps)
-    for part in (2, 4):
-        if count >= part:
-            for at in range(0, count, count // part):
-                steps = parts.steps[:at] + parts.steps[at + count // part:]
-                yield Parts(parts.volumes, parts.faces, parts.masses, steps, parts.tail)
-    for i in reversed(range(count)):
-        yield Parts(parts.volumes, parts.faces, parts.masses, parts.steps[:i] + parts.steps[i + 1:], parts.tail)
-    for cell in reversed(range(len(parts.volumes))):
-        yield without_cell(parts, cell)
     for face in reversed(range(len(parts.faces))):
-        yield without_face(parts, face)
-    for cell, m in enumerate(parts.masses):
-        for mass in (0, m - m % max(1, parts.volumes[cell])):
-            if mass < m:
-                yield with_mass(parts, cell, mass)
+        if all(fluxes[face] == 0 for fluxes, _ in parts.steps):
+            parts = without_faces(parts, face, face + 1)
+    return parts
+
+
+def without_steps(parts, start, end):
+    return Parts(parts.volumes, parts.faces, parts.masses, parts.steps[:start] + parts.steps[end:], parts.tail)
+
+
+def without_masses(parts, start, end):
+    masses = parts.masses[:start] + [0] * (end - start) + parts.masses[end:]
+    return None if masses == parts.masses else Parts(parts.volumes, parts.faces, masses, parts.steps, parts.tail)
 
 
 def shrink_parts(parts, fails, seconds):
-    """The smallest parts found within the time that still fail."""
+    """The smallest parts found within the time that still fail: runs of steps, cells, faces, masses dropped."""
     end = time.monotonic() + seconds
-    found = True
-    while found and time.monotonic() < end:
-        found = False
-        for candidate in smaller(parts):
-            if time.monotonic() >= end:
-                break
-            if candidate is not None and fails(candidate):
-                parts, found = candidate, True
-                break
+
+    def better(candidate):
+        return candidate is not None and time.monotonic() < end and fails(candidate)
+
+    def sweep(parts, size_of, drop):
+        size = max(1, size_of(parts) // 2)
+        while size:
+            start = size_of(parts) - size
+            while start > -size and time.monotonic() < end:
+                candidate = drop(parts, max(0, start), start + size)
+                if better(candidate):
+                    parts = candidate
+                start -= size
+            size //= 2
+        return parts
+
+    while time.monotonic() < end:
+        before = parts.records()
+        for candidate in (Parts(parts.volumes, parts.faces, parts.masses, parts.steps, b""),
+                          without_still_faces(parts)):
+            if better(candidate):
+                parts = candidate
+        parts = sweep(parts, lambda p: len(p.steps), without_steps)
+        parts = sweep(parts, lambda p: len(p.volumes), without_cells)
+        parts = sweep(parts, lambda p: len(p.faces), without_faces)
+        parts = sweep(parts, lambda p: len(p.masses), without_masses)
+        if parts.records() == before:
+            break
     return parts
 
 
