@@ -8,6 +8,7 @@ from pathlib import Path
 HERE = Path(__file__).resolve().parent
 sys.path.insert(0, str(HERE))
 
+import generate
 import lagoon
 from lagoon import RIM, Mesh
 
@@ -163,6 +164,29 @@ def test_host_call_and_run():
     equal(lagoon.board([1] * 10, [5, 9, 5, 9, 0, 0, 0, 0, 0, 1])[:4],
           [(1, 9, 0), (3, 9, 0), (0, 5, 0), (2, 5, 0)], "board order")
     equal(lagoon.board_on_tables(1, [100], [199]), [(0, 1, 99)] + [(0, 0, 0)] * 7, "unused board entries")
+
+
+def test_conservation_and_bounds():
+    """On generated calls: total follows in-mass and out-mass, and no q leaves its neighbourhood's range."""
+    accepted = 0
+    for number in range(1, 400):
+        case = generate.call(7, number)
+        try:
+            mesh = lagoon.accept_mesh(case.mesh)
+            masses = lagoon.accept_field(case.field, mesh)
+            result = lagoon.accept_step(case.step, mesh, masses)
+        except lagoon.Refusal:
+            continue
+        accepted += 1
+        equal(sum(result.masses), sum(masses) + result.in_mass - result.out_mass, f"total of call {number}")
+        fluxes, outsides = lagoon.read_step(case.step, len(mesh.firsts), mesh.seconds)
+        q = lagoon.concentrations(mesh.volumes, masses)
+        gains, losses = lagoon.bounds(mesh, result.masses, q, fluxes, outsides)
+        equal(min(gains + losses) >= 0, True, f"bounds of call {number}")
+        tables = tables_for(mesh, masses, fluxes, outsides)
+        equal(lagoon.write_mesh(len(mesh.volumes), len(mesh.firsts), tables, 1 << 20), case.mesh, "mesh rewritten")
+        equal(lagoon.write_step(len(mesh.volumes), len(mesh.firsts), tables, 1 << 20), case.step, "step rewritten")
+    equal(accepted > 100, True, "enough accepted calls")
 
 
 if __name__ == "__main__":
