@@ -1,24 +1,26 @@
 -- What the tests of this crate come to, over numbers and verdicts.
 use Prim.Native.Nat.{ℕ, zero, suc, _+_, _*_, _/_, _^_, _≤_, _<_}
 use mathlib.Core.Path.{_≡_, refl, sym, ap, _∙_}
-use mathlib.Core.Bool.{Bool, true, false}
+use mathlib.Core.Bool.{Bool, true, false, cond}
 use mathlib.Core.List.{List}
 use native.Mathlib.Nat.{div-lt-iff-lt-mul, div-mul-le-self, lt-div-mul-add, mul-le-mul, mul-le-mul-right}
 use native.Mathlib.Omega.{arith}
 use borrow.Author.Tests.{lt-ltb, le-ltb}
-use lib.Dec.{leb, ltb}
+use lib.Dec.{eqb, leb, ltb}
 use lib.ListN.{length}
 use Rattle.lists.specs.Fold.{sum}
-use Rattle.lists.proofs.Tests.{Fits, fits, exceeds, fits?}
-use Rattle.model.specs.Mesh.{Mesh, volume, total, maxVolume, maxConcentration}
-use Rattle.model.specs.Causes.{Verdict, fine, _andThen_, each, counts, meshTables, fieldTable, meshValues, fieldValues, meshFieldVerdict}
+use Rattle.lists.proofs.Tests.{Same, same, other, same?, Fits, fits, exceeds, fits?}
+use Rattle.signed.specs.Sign.{size}
+use Rattle.model.specs.Mesh.{Mesh, volume, first, second, span, atBoundary, total, boundary, maxCells, maxFaces, maxVolume, maxConcentration, maxBoundaryFlux}
+use Rattle.model.specs.Step.{flux}
+use Rattle.model.specs.Causes.{Verdict, fine, _andThen_, each, counts, meshTables, fieldTable, meshValues, fieldValues, meshFieldVerdict, Call, inputOf, stepTables, outsideGood, fluxGood, balanceGood, outflowGood, stepValues, verdict}
 use Rattle.model.specs.Calls.{massIn}
 use Rattle.model.specs.Answers.{told, said}
 use Rattle.model.specs.declared.Answer.{Answer}
 use Rattle.model.specs.declared.Answer.the-variants.{Done, Refused}
 use Rattle.model.specs.declared.Refusal.{Refusal}
-use Rattle.model.proofs.Verdicts.{both-fine}
-use Rattle.model.proofs.Accepted.{counted, mesh-lent, field-lent, mesh-fit, field-fit}
+use Rattle.model.proofs.Verdicts.{both-fine, andThen-assoc}
+use Rattle.model.proofs.Accepted.{counted, mesh-lent, field-lent, call-lent, mesh-fit, field-fit, water-fit}
 use Rattle.model.proofs.Sizes.{maxMass, total-most}
 
 -- an answer that refuses, and one that does not
@@ -87,3 +89,55 @@ sum-asks M field e =
             (λ c h. mass-fits (massIn field c) (volume M c) (m .volume-some c h) (m .volume-most c h) (field-fit M field (p .field-fine) c h)),
       ),
     )
+
+-- two parts of a verdict, each by what it comes to
+pub both-are : {u x y v w : Verdict} → u ≡ (x andThen y) → x ≡ v → y ≡ w → u ≡ (v andThen w)
+both-are e p q = e ∙ rw (p, q)
+
+-- what the lengths of a step's tables ask for
+pub few : (M : Mesh) (field : List ℕ) → (counts M andThen meshTables M andThen fieldTable M field) ≡ fine → (M .cells ≤ maxCells) × (M .faces ≤ maxFaces)
+few M field e = let c = counted M (both-fine _ _ (both-fine _ _ e .0) .0) in (c .few-cells, c .few-faces)
+
+module _ (M : Mesh) (field : List ℕ) (k : Call) where
+  regroup : (a f p q r s : Verdict) → (a andThen f andThen (p andThen q andThen r andThen s)) ≡ (a andThen (f andThen (p andThen q)) andThen (r andThen s))
+  regroup a f p q r s = simp andThen-assoc
+
+  -- the causes of a step as the call tests them: those that rest on nothing together
+  pub in-groups : verdict M field k ≡ (counts M andThen meshTables M andThen fieldTable M field andThen stepTables M field k andThen meshValues M
+      andThen (fieldValues M field andThen (each 7 (M .faces) (outsideGood M field k) andThen each 8 (M .faces) (fluxGood M field k)))
+      andThen (each 9 (M .cells) (balanceGood M field k) andThen each 10 (M .cells) (outflowGood M field k)))
+  unfolding verdict stepValues
+  in-groups = regroup (counts M andThen meshTables M andThen fieldTable M field andThen stepTables M field k andThen meshValues M) (fieldValues M field)
+      (each 7 (M .faces) (outsideGood M field k)) (each 8 (M .faces) (fluxGood M field k)) (each 9 (M .cells) (balanceGood M field k)) (each 10 (M .cells) (outflowGood M field k))
+
+  -- what causes 7 and 8 ask for
+  module _ (e : (counts M andThen meshTables M andThen fieldTable M field) ≡ fine) (d : stepTables M field k ≡ fine) where
+    pub water-asks : (M .faces ≤ length (M .seconds)) × (M .faces ≤ length (M .spans)) × (M .faces ≤ length (k .fluxes)) × (M .faces ≤ length (k .outsides))
+    water-asks =
+        let m = mesh-lent M (both-fine _ _ (both-fine _ _ e .0) .1) in
+        let l = call-lent M field k d in
+        (m .seconds-long, m .spans-long, l .fluxes-long, l .outsides-long)
+
+    -- what causes 9 and 10 ask for
+    module _ (m : meshValues M ≡ fine) (v : (fieldValues M field andThen (each 7 (M .faces) (outsideGood M field k) andThen each 8 (M .faces) (fluxGood M field k))) ≡ fine) where
+      second-most : (f : ℕ) → f < M .faces → second M f ≤ boundary
+      second-most f h = go (eqb (second M f) boundary) (same? (second M f) boundary)
+        where
+          go : (b : Bool) → Same (second M f) boundary b → second M f ≤ boundary
+          go true (same q) = omega arith
+          go false (other q) = omega (arith, mesh-fit M m .second-in f h q, few M field e .0)
+
+      flux-small : (f : ℕ) → f < M .faces → size (flux (inputOf M field k) f) ≤ maxBoundaryFlux
+      flux-small f h = go (atBoundary M f) (let w = both-fine _ _ (both-fine _ _ v .1) in water-fit M field k (w .0) (w .1) .flux-most f h)
+        where
+          go : (b : Bool) → size (flux (inputOf M field k) f) ≤ cond b maxBoundaryFlux (span M f) → size (flux (inputOf M field k) f) ≤ maxBoundaryFlux
+          go true l = l
+          go false l = omega (arith, mesh-fit M m .span-most f h)
+
+      pub flows-ask : ((M .cells ≤ maxCells) × (M .faces ≤ maxFaces) × (M .cells ≤ length (M .volumes)) × (M .faces ≤ length (M .firsts)) × (M .faces ≤ length (M .seconds)) × (M .faces ≤ length (k .fluxes)))
+          × ((f : ℕ) → f < M .faces → (first M f ≤ boundary) × (second M f ≤ boundary) × (size (flux (inputOf M field k) f) ≤ maxBoundaryFlux))
+      flows-ask =
+          let l = mesh-lent M (both-fine _ _ (both-fine _ _ e .0) .1) in (
+            (few M field e .0, few M field e .1, l .volumes-long, l .firsts-long, l .seconds-long, call-lent M field k d .fluxes-long),
+            λ f h. (omega (arith, mesh-fit M m .first-in f h, few M field e .0), second-most f h, flux-small f h),
+          )

@@ -3,8 +3,10 @@ use model::Answer;
 use model::Cause;
 use model::Refusal;
 ghost use mathlib.Core.Path.{_≡_};
-ghost use Rattle.model.specs.Mesh.{meshOf};
-ghost use Rattle.model.specs.Causes.{_andThen_, need as needOf, long as longOf, between as betweenOf, counts, meshTables, fieldTable};
+ghost use mathlib.Core.List.{[]};
+ghost use Prim.Native.Nat.{_≤_};
+ghost use Rattle.model.specs.Mesh.{meshOf, maxCells, maxFaces};
+ghost use Rattle.model.specs.Causes.{_andThen_, need as needOf, long as longOf, between as betweenOf, counts, meshTables, fieldTable, callOf, stepTables};
 ghost use Rattle.model.specs.Answers.{said, number};
 
 // Whether x lies in the range.
@@ -80,4 +82,24 @@ pub fn field_lent(
 {
     let a = mesh_lent(cells, faces, volumes, firsts, seconds, weights, spans);
     and_then(a, long(5, cells, masses.len()))
+}
+
+// The tables that a step is lent besides. The counts are within their limits, so that the length of work is a number.
+pub fn step_lent(
+    cells: usize,
+    faces: usize,
+    fluxes: &[i64],
+    outsides: &[u64],
+    next: &[u64],
+    moved: &[i64],
+    work: &[u64],
+) -> Answer
+    requires { ⌜ (cells ≤ maxCells) × (faces ≤ maxFaces) ⌝ }
+    ensures { λ r. ⌜ said r ≡ stepTables (meshOf cells faces [] [] [] [] []) [] (callOf (now (fluxes .entry)) (now (outsides .entry)) (now (next .entry)) (now (moved .entry)) (now (work .entry))) ⌝ }
+{
+    let a = long(6, faces, fluxes.len());
+    let a = and_then(a, long(7, faces, outsides.len()));
+    let a = and_then(a, long(8, cells, next.len()));
+    let a = and_then(a, long(9, faces, moved.len()));
+    and_then(a, long(10, 4 * cells + faces, work.len()))
 }

@@ -1,7 +1,9 @@
 // Causes 1 to 10 of document 01 on lent tables. No table is written.
 mod field;
+mod flows;
 mod lengths;
 mod mesh;
+mod water;
 
 use model::Answer;
 use model::Cause;
@@ -9,7 +11,7 @@ use model::Refusal;
 ghost use mathlib.Core.Path.{_≡_};
 ghost use Rattle.lists.specs.Fold.{sum};
 ghost use Rattle.model.specs.Mesh.{meshOf};
-ghost use Rattle.model.specs.Causes.{accepted, _andThen_, countsWithin, meshVerdict, meshFieldVerdict};
+ghost use Rattle.model.specs.Causes.{accepted, _andThen_, callOf, countsWithin, meshVerdict, meshFieldVerdict, verdict};
 ghost use Rattle.model.specs.Answers.{said};
 ghost use Rattle.model.specs.Calls.{massIn};
 ghost use Rattle.checks.specs.Total.{cellsOnly, totalSaid};
@@ -111,4 +113,53 @@ pub fn total(cells: usize, volumes: &[u64], masses: &[u64]) -> TotalAnswer
         return TotalAnswer::Refused(r);
     }
     TotalAnswer::Total(field::sum_of(cells, masses))
+}
+
+// Causes 1 to 10.
+pub fn check_step(
+    cells: usize,
+    faces: usize,
+    volumes: &[u64],
+    firsts: &[u64],
+    seconds: &[u64],
+    weights: &[u64],
+    spans: &[u64],
+    masses: &[u64],
+    fluxes: &[i64],
+    outsides: &[u64],
+    next: &[u64],
+    moved: &[i64],
+    work: &[u64],
+) -> Answer
+    ensures { λ r. ⌜ said r ≡ verdict (meshOf cells faces (now (volumes .entry)) (now (firsts .entry)) (now (seconds .entry)) (now (weights .entry)) (now (spans .entry))) (now (masses .entry)) (callOf (now (fluxes .entry)) (now (outsides .entry)) (now (next .entry)) (now (moved .entry)) (now (work .entry))) ⌝ }
+{
+    let a = lengths::field_lent(
+        cells,
+        faces,
+        volumes,
+        firsts,
+        seconds,
+        weights,
+        spans,
+        masses,
+    );
+    if let Answer::Refused(r) = a {
+        return Answer::Refused(r);
+    }
+    let b = lengths::step_lent(cells, faces, fluxes, outsides, next, moved, work);
+    if let Answer::Refused(r) = b {
+        return Answer::Refused(r);
+    }
+    let d = mesh::values(cells, faces, volumes, firsts, seconds, weights, spans);
+    if let Answer::Refused(r) = d {
+        return Answer::Refused(r);
+    }
+    let e = lengths::and_then(
+        field::values(cells, volumes, masses),
+        water::values(faces, seconds, spans, fluxes, outsides),
+    );
+    if let Answer::Refused(r) = e {
+        return Answer::Refused(r);
+    }
+    flows::values(cells, faces, volumes, firsts, seconds, fluxes)
 }
