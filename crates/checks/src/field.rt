@@ -46,10 +46,10 @@ pub fn sum_of(cells: usize, masses: &[u64]) -> u64
     ensures { λ r. ⌜ r ≡ sum cells (massIn (now (masses .entry))) ⌝ }
 {
     let mut total = 0;
-    let mut c = 0;
-    while c < cells {
-        total += masses[c];
-        c += 1;
+    let mut cell = 0;
+    while cell < cells {
+        total += masses[cell];
+        cell += 1;
     }
     total
 }

@@ -92,16 +92,8 @@ pub fn check_field(
 pub fn check_cells(cells: usize, volumes: &[u64], masses: &[u64]) -> Answer
     ensures { λ r. ⌜ said r ≡ meshFieldVerdict (cellsOnly cells (now (volumes .entry))) (now (masses .entry)) ⌝ }
 {
-    check_field(
-        cells,
-        0,
-        volumes,
-        &volumes[..0],
-        &volumes[..0],
-        &volumes[..0],
-        &volumes[..0],
-        masses,
-    )
+    let none = &volumes[..0];
+    check_field(cells, 0, volumes, none, none, none, none, masses)
 }
 
 // The sum of a field's masses.

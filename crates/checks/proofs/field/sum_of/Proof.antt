@@ -1,5 +1,5 @@
 use Prim.Native.Nat.{_≤_, _-_}
-use mathlib.Core.Path.{_≡_, sym, _∙_}
+use mathlib.Core.Path.{_≡_, sym}
 use native.Mathlib.Omega.{arith}
 use borrow.Author.Needs.{needs}
 use Rattle.lists.specs.Fold.{sum}
@@ -9,21 +9,21 @@ use Rattle.checks.proofs.field.sum_of.Statement.{statement}
 use Rattle.checks.proofs.field.sum_of.Tie as tie
 
 abbrev Inv-loop : tie.InvT-loop
-Inv-loop cells masses total₀ c₀ total c = (c ≤ cells) × (total ≡ sum c (massIn masses))
+Inv-loop cells masses total₀ cell₀ total cell = (cell ≤ cells) × (total ≡ sum cell (massIn masses))
 
 abbrev μ-loop : tie.MeasureT-loop
-μ-loop cells masses total₀ c₀ total c = cells - c
+μ-loop cells masses total₀ cell₀ total cell = cells - cell
 
 add-total : tie.Need-add-total Inv-loop μ-loop
 add-total c =
     let s = c .before .before .before in
-    omega (arith, sum-term (c .before .before .loop .c) (s .args .cells) (massIn (s .args .masses .now)) (search needs))
+    omega (arith, sum-term (c .before .before .loop .cell) (s .args .cells) (massIn (s .args .masses .now)) (search needs))
 
 loop-again : tie.Need-loop-again Inv-loop μ-loop
-loop-again c = (search needs, omega (arith, sum-more (c .before .before .loop .c) (massIn (c .before .before .before .args .masses .now))))
+loop-again c = (search needs, omega (arith, sum-more (c .before .before .loop .cell) (massIn (c .before .before .before .args .masses .now))))
 
 returns : tie.Need-returns Inv-loop μ-loop
-returns c = let e : c .before .loop .c ≡ c .before .before .args .cells = omega arith in rw (← e) (c .before .loop .inv .1)
+returns c = let e : c .before .loop .cell ≡ c .before .before .args .cells = omega arith in rw (← e) (c .before .loop .inv .1)
 
 pub sum-of-spec : {M : Type 1} → statement M
 sum-of-spec =
