@@ -1,3 +1,4 @@
 pub mod Insertion
 pub mod Entries
 pub mod Order
+pub mod Listed

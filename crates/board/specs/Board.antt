@@ -6,7 +6,11 @@ use mathlib.Core.List.{List, [], _∷_, map}
 use lib.ListN.{getD, take, replicate}
 use lib.Dec.{eqb, ltb}
 use Rattle.lists.specs.Table.{over}
+use Rattle.model.specs.Causes.{Verdict, taken, meshFieldVerdict}
+use Rattle.model.specs.Answers.{said}
+use Rattle.checks.specs.Total.{cellsOnly}
 use Rattle.board.specs.declared.Entry.{Entry}
+use Rattle.board.specs.declared.BoardAnswer.{BoardAnswer}
 
 -- "The board lists 8 cells, or all where there are fewer"
 abbrev pub boardSize : ℕ
@@ -50,7 +54,12 @@ module _ (volumes masses : List ℕ) where
   unfoldable pub boardEntries : ℕ → List Entry
   boardEntries cells = over (map entryAt (listed cells)) (replicate boardSize unused)
 
--- what the board holds of a field that is not refused
-pub record Ranked (cells : ℕ) (volumes masses : List ℕ) (used : ℕ) (entries : List Entry) : Type 0 where
-  pub used-is : used ≡ min boardSize cells
-  pub entries-are : entries ≡ boardEntries volumes masses cells
+  -- "A call tests only what it is lent": causes 1, 2, 3 and 6 of cells, volumes and masses
+  unfoldable pub boardVerdict : ℕ → Verdict
+  boardVerdict cells = meshFieldVerdict (cellsOnly cells volumes) masses
+
+-- what the board answers: the verdict, how many entries are used, and the entries; none after a refusal
+pub record BoardIs (cells : ℕ) (volumes masses : List ℕ) (r : BoardAnswer) : Type 0 where
+  pub verdict-is : said (r .verdict) ≡ boardVerdict volumes masses cells
+  pub used-is : r .used ≡ taken (boardVerdict volumes masses cells) (min boardSize cells) 0
+  pub entries-are : r .entries ≡ taken (boardVerdict volumes masses cells) (boardEntries volumes masses cells) (replicate boardSize unused)

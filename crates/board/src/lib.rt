@@ -1,10 +1,12 @@
 // The board of document 01: the eight cells of highest concentration, by value.
+use checks::check_cells;
+use model::Answer;
 ghost use mathlib.Core.Path.{_≡_};
 ghost use mathlib.Core.Bool.{_||_};
 ghost use Prim.Native.Nat.{ℕ, _+_, _≤_, _<_, min};
-ghost use lib.ListN.{length, getD, take};
+ghost use lib.ListN.{length, getD, take, replicate};
 ghost use Rattle.lists.specs.Table.{over};
-ghost use Rattle.board.specs.Board.{boardSize, entryOf, comesBefore, insert as inserted, Ranked};
+ghost use Rattle.board.specs.Board.{boardSize, entryOf, comesBefore, unused, insert as inserted, boardEntries, BoardIs};
 
 // Most cells that the board lists.
 pub const BOARD_SIZE: usize = 8;
@@ -20,6 +22,28 @@ pub struct Entry {
 pub struct Ranking {
     pub used: usize,
     pub entries: [Entry; BOARD_SIZE],
+}
+
+// Entries after a refusal are 0, and so is their number.
+pub struct BoardAnswer {
+    pub verdict: Answer,
+    pub used: usize,
+    pub entries: [Entry; BOARD_SIZE],
+}
+
+fn empty_ranking() -> Ranking
+    ensures { λ r. ⌜ (r .used ≡ 0) × (r .entries ≡ replicate boardSize unused) ⌝ }
+{
+    let none = Entry {
+        cell: 0,
+        q: 0,
+        rest: 0,
+    };
+    let entries = [none; BOARD_SIZE];
+    Ranking {
+        used: 0,
+        entries: entries,
+    }
 }
 
 // The entry of one cell, by one division.
@@ -91,22 +115,36 @@ pub fn insert(ranking: Ranking, entry: Entry) -> Ranking
 pub fn rank(cells: usize, volumes: &[u64], masses: &[u64]) -> Ranking
     requires { ⌜ (cells ≤ length (now volumes)) × (cells ≤ length (now masses)) ⌝ }
     requires { ⌜ ((c : ℕ) → c < cells → 1 ≤ getD (now volumes) c 0) ⌝ }
-    ensures { λ r. ⌜ Ranked cells (now (volumes .entry)) (now (masses .entry)) (r .used) (r .entries) ⌝ }
+    ensures { λ r. ⌜ (r .used ≡ min boardSize cells) × (r .entries ≡ boardEntries (now (volumes .entry)) (now (masses .entry)) cells) ⌝ }
 {
-    let none = Entry {
-        cell: 0,
-        q: 0,
-        rest: 0,
-    };
-    let entries = [none; BOARD_SIZE];
-    let mut ranking = Ranking {
-        used: 0,
-        entries: entries,
-    };
+    let mut ranking = empty_ranking();
     let mut c = 0;
     while c < cells {
         ranking = insert(ranking, entry_of(c as u64, volumes[c], masses[c]));
         c += 1;
     }
     ranking
+}
+
+// The board of a field: causes 1 (cells), 2 (volumes, masses), 3 and 6, else the highest cells.
+pub fn board(cells: usize, volumes: &[u64], masses: &[u64]) -> BoardAnswer
+    ensures { λ r. ⌜ BoardIs cells (now (volumes .entry)) (now (masses .entry)) r ⌝ }
+{
+    let verdict = check_cells(cells, volumes, masses);
+    if let Answer::Refused(_) = verdict {
+        let empty = empty_ranking();
+        let none = empty.entries;
+        return BoardAnswer {
+            verdict: verdict,
+            used: empty.used,
+            entries: none,
+        };
+    }
+    let ranking = rank(cells, volumes, masses);
+    let entries = ranking.entries;
+    BoardAnswer {
+        verdict: verdict,
+        used: ranking.used,
+        entries: entries,
+    }
 }
