@@ -93,7 +93,7 @@ module _ {A : Type 0} (order : A → A → Bool) where
         whole =
             next ∙ ap (λ r. take i es ++ r) (ahead-swap moving x y (slice (suc i) u es) (sym q ∙ p))
             ∙ rw (add-one i, take-suc-set es i x (omega arith), take-set-lt u es i x l, drop-set-lt (suc i) (take u es) i x (omega arith))
-              (sym (append-snoc (take i es) x (ahead true y (slice (suc i) u es))));
+            (sym (append-snoc (take i es) x (ahead true y (slice (suc i) u es))));
       })
 
       pub passed : b ≡ false → {es′ : List A} {x′ : A} {moving′ : Bool} → es′ ≡ es → x′ ≡ x → moving′ ≡ moving → Carrying es′ moving′ x′ (i + 1)

@@ -176,7 +176,7 @@ module _ (f : ℕ → Entry) (cell-is : (c : ℕ) → f c .cell ≡ c) where
   board-strict = record {
     irreflexive = λ a. not-first (f a) (f a) (λ h. ⊎-elim (λ l. omega arith) (λ l. omega arith) h);
     transitive = λ a b c h k. comes-first (f a) (f c) (⊎-elim
-      (λ l. ⊎-elim (λ m. inl (omega arith)) (λ m. inl (omega arith)) (first-of (f b) (f c) k))
-      (λ l. ⊎-elim (λ m. inl (omega arith)) (λ m. inr (omega arith)) (first-of (f b) (f c) k)) (first-of (f a) (f b) h));
+        (λ l. ⊎-elim (λ m. inl (omega arith)) (λ m. inl (omega arith)) (first-of (f b) (f c) k))
+        (λ l. ⊎-elim (λ m. inl (omega arith)) (λ m. inr (omega arith)) (first-of (f b) (f c) k)) (first-of (f a) (f b) h));
     total = λ a b n h. comes-first (f b) (f a) (other-first a b n h);
   }

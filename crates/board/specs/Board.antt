@@ -55,7 +55,7 @@ module _ (volumes masses : List ℕ) where
   boardEntries cells = over (map entryAt (listed cells)) (replicate boardSize unused)
 
   -- "A call tests only what it is lent": causes 1, 2, 3 and 6 of cells, volumes and masses
-  unfoldable pub boardVerdict : ℕ → Verdict
+  abbrev pub boardVerdict : ℕ → Verdict
   boardVerdict cells = meshFieldVerdict (cellsOnly cells volumes) masses
 
 -- what the board answers: the verdict, how many entries are used, and the entries; none after a refusal

@@ -52,10 +52,11 @@ pub fn entry_of(cell: u64, volume: u64, mass: u64) -> Entry
     ensures { λ r. ⌜ r ≡ entryOf cell volume mass ⌝ }
 {
     let q = mass / volume;
+    let rest = mass - q * volume;
     Entry {
         cell: cell,
         q: q,
-        rest: mass - q * volume,
+        rest: rest,
     }
 }
 

@@ -1,47 +1,21 @@
 use borrow.Author.Needs.{needs}
+use Rattle.checks.proofs.Laws.{passes}
+use Rattle.board.proofs.Listed.{rank-asks, accepted-board, refused-board}
 use Rattle.board.proofs.board.Statement.{statement}
 use Rattle.board.proofs.board.Tie as tie
-use Rattle.board.proofs.board.Reads as reads
-use Rattle.board.proofs.board.Lts as lts
-use Rattle.board.proofs.empty_ranking.Reads as empty-ranking-reads
-use Rattle.board.proofs.rank.Reads as rank-reads
-use Rattle.checks.proofs.check_cells.Reads as check-cells-reads
 
--- src/lib.rt:133:9
-check-cells-requires : tie.Need-check-cells-requires
-check-cells-requires c κs = search needs
-
--- src/lib.rt:135:13
-enum-told : tie.Need-enum-told
-enum-told c = search needs
-
--- src/lib.rt:135:13
-empty-ranking-requires : tie.Need-empty-ranking-requires
-empty-ranking-requires c κs = search needs
-
--- src/lib.rt:137:9
 returns : tie.Need-returns
-returns c = ?
+returns c =
+    refused-board _ _ _ _ (c .before .before .before .before .check-cells .ensures) _ (c .before .before .enum-told .given .1)
+    (c .before .empty-ranking .ensures .0) (c .before .empty-ranking .ensures .1)
 
-enum-told-2 : tie.Need-enum-told-2
-enum-told-2 c = search needs
-
--- src/lib.rt:143:9
 rank-requires : tie.Need-rank-requires
-rank-requires c κs = ?
+rank-requires c κs = rank-asks _ _ _ (passes (c .before .before .check-cells .ensures) (c .enum-told2 .given .1))
 
--- src/lib.rt:130:1
 returns-2 : tie.Need-returns-2
-returns-2 c = ?
+returns-2 c =
+    accepted-board _ _ _ _ (c .before .before .before .before .check-cells .ensures) (c .before .before .enum-told2 .given .1)
+    (c .before .rank .ensures .0) (c .before .rank .ensures .1)
 
 pub board-spec : {M : Type 1} → statement M
-board-spec =
-    tie.close
-    (tie.spec
-    check-cells-requires
-    enum-told
-    empty-ranking-requires
-    returns
-    enum-told-2
-    rank-requires
-    returns-2)
+board-spec = tie.close (tie.spec (search needs) (search needs) (search needs) returns (search needs) rank-requires returns-2)

@@ -30,9 +30,9 @@ loop-again c =
     let p = c .before .before .before .before .loop in
     ⊎-elim
     (λ w. carried-on comesBefore _ _ _ _ (p .entries) (p .i) (p .moving) (p .carried) _ unused (c .before .before .before .loop-test .taken) (omega arith)
-      (p .inv) refl (c .before .displaces .ensures) (w .0 .taken) (w .1) (w .2) (w .3))
+    (p .inv) refl (c .before .displaces .ensures) (w .0 .taken) (w .1) (w .2) (w .3))
     (λ w. passed comesBefore _ _ _ _ (p .entries) (p .i) (p .moving) (p .carried) _ unused (c .before .before .before .loop-test .taken) (omega arith)
-      (p .inv) refl (c .before .displaces .ensures) (w .0 .left) (w .1) (w .2) (w .3))
+    (p .inv) refl (c .before .displaces .ensures) (w .0 .left) (w .1) (w .2) (w .3))
     (c .if1 .came)
 
 returns : tie.Need-returns Inv-loop μ-loop

@@ -28,9 +28,11 @@ insert-requires c κs = omega (arith, c .before .before .before .before .loop .i
 
 loop-again : tie.Need-loop-again Inv-loop μ-loop
 loop-again c =
-    let p = c .before .before .before .before .before .loop in
-    (omega arith, omega (arith, c .insert .ensures .0, p .inv .1),
-      entries-more _ _ (p .c) (p .ranking .entries) (c .insert .result .entries) (p .inv .1) (p .inv .2) (c .before .entry-of .ensures) (c .insert .ensures .1))
+    let p = c .before .before .before .before .before .loop in (
+      omega arith,
+      omega (arith, c .insert .ensures .0, p .inv .1),
+      entries-more _ _ (p .c) (p .ranking .entries) (c .insert .result .entries) (p .inv .1) (p .inv .2) (c .before .entry-of .ensures) (c .insert .ensures .1),
+    )
 
 returns : tie.Need-returns Inv-loop μ-loop
 returns c =
