@@ -1,13 +1,13 @@
 -- The board of document 01's channel session, and of more cells than it lists, two of them equal.
 use Prim.Native.Nat.{ℕ}
 use mathlib.Core.Path.{_≡_, refl}
-use mathlib.Core.List.{List, [], _∷_}
+use mathlib.Core.List.{[], _∷_}
 use Rattle.lists.specs.Table.{over}
-use Rattle.board.specs.Board.{entryOf, unused, comesBefore, insert, inOrder, entryAt, before, listed, boardEntries}
+use Rattle.board.specs.Board.{entryOf, unused, comesBefore, insertInOrder, inOrder, entryAt, before, listed, boardEntries}
 use Rattle.board.specs.declared.Entry.{Entry}
 
 everything : Unit {0}
-unfolding over entryOf comesBefore insert inOrder entryAt before listed boardEntries
+unfolding over entryOf comesBefore insertInOrder inOrder entryAt before listed boardEntries
 everything = tt
 
 abbrev entry : ℕ → ℕ → ℕ → Entry

@@ -8,7 +8,7 @@ use native.Mathlib.Omega.{arith}
 use lib.ListN.{length, getD, take, drop, set, length-append, length-take, length-map, length-set, drop-of-length-le}
 use lib.Seq.{slice, slice-cons, slice-empty, take-nil, take-take, take-suc, take-suc-set, take-set-lt, drop-set-lt, take-all, take-at, take-append-le, append-snoc, set-split, drop-drop, drop-append-add, length-take-le}
 use Rattle.lists.specs.Table.{over}
-use Rattle.board.specs.Board.{insert, inOrder}
+use Rattle.board.specs.Board.{insertInOrder, inOrder}
 
 take-cons : {A : Type 0} (m : ℕ) (y : A) (ys : List A) → take m (y ∷ take m ys) ≡ take m (y ∷ ys)
 take-cons zero y ys = refl
@@ -20,57 +20,57 @@ take-map f (suc m) [] = refl
 take-map f (suc m) (x ∷ xs) = ap (λ t. f x ∷ t) (take-map f m xs)
 
 module _ {A : Type 0} (order : A → A → Bool) where
-  pub length-insert : (x : A) (xs : List A) → length (insert order x xs) ≡ suc (length xs)
-  unfolding insert
+  pub length-insert : (x : A) (xs : List A) → length (insertInOrder order x xs) ≡ suc (length xs)
+  unfolding insertInOrder
   length-insert x [] = refl
   length-insert x (y ∷ ys) = go (order x y) (length-insert x ys)
     where
-      go : (b : Bool) → length (insert order x ys) ≡ suc (length ys) → length (cond b (x ∷ y ∷ ys) (y ∷ insert order x ys)) ≡ suc (suc (length ys))
+      go : (b : Bool) → length (insertInOrder order x ys) ≡ suc (length ys) → length (cond b (x ∷ y ∷ ys) (y ∷ insertInOrder order x ys)) ≡ suc (suc (length ys))
       go true ih = refl
       go false ih = ap suc ih
 
   -- what is not among the first m does not come among them again
-  pub take-insert : (m : ℕ) (x : A) (xs : List A) → take m (insert order x (take m xs)) ≡ take m (insert order x xs)
-  unfolding insert
+  pub take-insert : (m : ℕ) (x : A) (xs : List A) → take m (insertInOrder order x (take m xs)) ≡ take m (insertInOrder order x xs)
+  unfolding insertInOrder
   take-insert zero x xs = refl
   take-insert (suc m) x [] = refl
   take-insert (suc m) x (y ∷ ys) = go (order x y) (take-insert m x ys)
     where
-      go : (b : Bool) → take m (insert order x (take m ys)) ≡ take m (insert order x ys)
-          → take (suc m) (cond b (x ∷ y ∷ take m ys) (y ∷ insert order x (take m ys))) ≡ take (suc m) (cond b (x ∷ y ∷ ys) (y ∷ insert order x ys))
+      go : (b : Bool) → take m (insertInOrder order x (take m ys)) ≡ take m (insertInOrder order x ys)
+          → take (suc m) (cond b (x ∷ y ∷ take m ys) (y ∷ insertInOrder order x (take m ys))) ≡ take (suc m) (cond b (x ∷ y ∷ ys) (y ∷ insertInOrder order x ys))
       go true ih = ap (λ t. x ∷ t) (take-cons m y ys)
       go false ih = ap (λ t. y ∷ t) ih
 
-  pub map-insert : {B : Type 0} (f : B → A) (x : B) (xs : List B) → map f (insert (λ a b. order (f a) (f b)) x xs) ≡ insert order (f x) (map f xs)
-  unfolding insert
+  pub map-insert : {B : Type 0} (f : B → A) (x : B) (xs : List B) → map f (insertInOrder (λ a b. order (f a) (f b)) x xs) ≡ insertInOrder order (f x) (map f xs)
+  unfolding insertInOrder
   map-insert f x [] = refl
   map-insert f x (y ∷ ys) = go (order (f x) (f y)) (map-insert f x ys)
     where
-      go : (b : Bool) → map f (insert (λ a b. order (f a) (f b)) x ys) ≡ insert order (f x) (map f ys)
-          → map f (cond b (x ∷ y ∷ ys) (y ∷ insert (λ a b. order (f a) (f b)) x ys)) ≡ cond b (f x ∷ f y ∷ map f ys) (f y ∷ insert order (f x) (map f ys))
+      go : (b : Bool) → map f (insertInOrder (λ a b. order (f a) (f b)) x ys) ≡ insertInOrder order (f x) (map f ys)
+          → map f (cond b (x ∷ y ∷ ys) (y ∷ insertInOrder (λ a b. order (f a) (f b)) x ys)) ≡ cond b (f x ∷ f y ∷ map f ys) (f y ∷ insertInOrder order (f x) (map f ys))
       go true ih = refl
       go false ih = ap (λ t. f y ∷ t) ih
 
   -- what is still to come where x is carried: x and then ys where entries move up already, else x inserted in ys
   unfoldable pub ahead : Bool → A → List A → List A
-  ahead moving x ys = cond moving (x ∷ ys) (insert order x ys)
+  ahead moving x ys = cond moving (x ∷ ys) (insertInOrder order x ys)
 
   pub ahead-swap : (moving : Bool) (x y : A) (ys : List A) → (moving || order x y) ≡ true → ahead moving x (y ∷ ys) ≡ x ∷ ahead true y ys
-  unfolding ahead insert
+  unfolding ahead insertInOrder
   ahead-swap true x y ys e = refl
   ahead-swap false x y ys e = rw e
 
   pub ahead-keep : (moving : Bool) (x y : A) (ys : List A) → (moving || order x y) ≡ false → ahead moving x (y ∷ ys) ≡ y ∷ ahead moving x ys
-  unfolding ahead insert
+  unfolding ahead insertInOrder
   ahead-keep true x y ys e = absurd (true≢false e)
   ahead-keep false x y ys e = rw e
 
   pub ahead-end : (moving : Bool) (x : A) → ahead moving x [] ≡ x ∷ []
-  unfolding ahead insert
+  unfolding ahead insertInOrder
   ahead-end true x = refl
   ahead-end false x = refl
 
-  -- A loop over the first u of m entries, es₀ at first, that carries x past place i on its way to the list t.
+  -- A loop over the first u of m entries, es₀ at leading, that carries x past place i on its way to the list t.
   module _ (t : List A) (u m : ℕ) (es₀ : List A) where
     pub record Carrying (es : List A) (moving : Bool) (x : A) (i : ℕ) : Type 0 where
       pub within : i ≤ u
@@ -112,7 +112,7 @@ module _ {A : Type 0} (order : A → A → Bool) where
         let e : t ≡ take u es ++ ahead moving x (slice u u es) = rw q at (s .whole) in
         e ∙ ap (λ r. take u es ++ ahead moving x r) (slice-empty u es) ∙ ap (λ r. take u es ++ r) (ahead-end moving x)
 
-  pub at-start : (u m : ℕ) (x : A) (es : List A) → length es ≡ m → Carrying (insert order x (take u es)) u m es es false x 0
+  pub at-start : (u m : ℕ) (x : A) (es : List A) → length es ≡ m → Carrying (insertInOrder order x (take u es)) u m es es false x 0
   unfolding ahead
   at-start u m x es n = record { within = omega arith; long = n; untouched = refl; whole = refl }
 
@@ -152,20 +152,20 @@ length-inOrder order (suc n) = length-insert order n (inOrder order n) ∙ ap su
 
 -- The first m of the cells in an order, by what f says of each, written over zs: none yet, and a cell more.
 module _ {A : Type 0} (order : A → A → Bool) (f : ℕ → A) (m : ℕ) where
-  first : ℕ → List A
-  first n = map f (take m (inOrder (λ a b. order (f a) (f b)) n))
+  leading : ℕ → List A
+  leading n = map f (take m (inOrder (λ a b. order (f a) (f b)) n))
 
-  length-first : (n : ℕ) → length (first n) ≡ min m n
-  unfolding first
-  length-first n =
+  length-leading : (n : ℕ) → length (leading n) ≡ min m n
+  unfolding leading
+  length-leading n =
       let l : List ℕ = inOrder (λ a b. order (f a) (f b)) n in
       length-map (take m l) f ∙ length-take m l ∙ ap (min m) (length-inOrder (λ a b. order (f a) (f b)) n)
 
-  first-more : (n : ℕ) → take m (insert order (f n) (first n)) ≡ first (n + 1)
-  unfolding first inOrder
-  first-more n =
+  leading-more : (n : ℕ) → take m (insertInOrder order (f n) (leading n)) ≡ leading (n + 1)
+  unfolding leading inOrder
+  leading-more n =
       let o : ℕ → ℕ → Bool = λ a b. order (f a) (f b) in
-      ap (take m) (sym (map-insert order f n (take m (inOrder o n)))) ∙ take-map f m (insert o n (take m (inOrder o n)))
+      ap (take m) (sym (map-insert order f n (take m (inOrder o n)))) ∙ take-map f m (insertInOrder o n (take m (inOrder o n)))
       ∙ ap (map f) (take-insert o m n (inOrder o n)) ∙ ap (λ (k : ℕ). map f (take m (inOrder o k))) (sym (add-one n))
 
   pub cells-none : (zs : List A) → zs ≡ over (map f (take m (inOrder (λ a b. order (f a) (f b)) 0))) zs
@@ -173,9 +173,9 @@ module _ {A : Type 0} (order : A → A → Bool) (f : ℕ → A) (m : ℕ) where
   cells-none zs = rw (take-nil {A = ℕ} m)
 
   pub cells-more : (n : ℕ) (zs es es′ : List A) {u : ℕ} → u ≡ min m n → es ≡ over (map f (take m (inOrder (λ a b. order (f a) (f b)) n))) zs
-      → es′ ≡ over (take m (insert order (f n) (take u es))) es → es′ ≡ over (map f (take m (inOrder (λ a b. order (f a) (f b)) (n + 1)))) zs
-  unfolding over first
+      → es′ ≡ over (take m (insertInOrder order (f n) (take u es))) es → es′ ≡ over (map f (take m (inOrder (λ a b. order (f a) (f b)) (n + 1)))) zs
+  unfolding over leading
   cells-more n zs es es′ {u} q e e′ =
-      let w : take u es ≡ first n = rw e (take-at (first n) (drop (length (first n)) zs) u (length-first n ∙ sym q)) in
-      let l : length (first n) ≤ length (first (n + 1)) = omega (arith, length-first n, length-first (n + 1)) in
-      e′ ∙ ap (λ s. over (take m (insert order (f n) s)) es) w ∙ ap (λ s. over s es) (first-more n) ∙ ap (over (first (n + 1))) e ∙ over-over (first (n + 1)) (first n) zs l
+      let w : take u es ≡ leading n = rw e (take-at (leading n) (drop (length (leading n)) zs) u (length-leading n ∙ sym q)) in
+      let l : length (leading n) ≤ length (leading (n + 1)) = omega (arith, length-leading n, length-leading (n + 1)) in
+      e′ ∙ ap (λ s. over (take m (insertInOrder order (f n) s)) es) w ∙ ap (λ s. over s es) (leading-more n) ∙ ap (over (leading (n + 1))) e ∙ over-over (leading (n + 1)) (leading n) zs l

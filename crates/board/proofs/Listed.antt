@@ -1,6 +1,6 @@
 -- What the board lists: how it grows by a cell, and that it is the eight highest.
 use Prim.Native.Nat.{ℕ, zero, suc, _+_, _-_, _≤_, _<_, min}
-use mathlib.Core.Path.{_≡_, refl, sym, ap, _∙_}
+use mathlib.Core.Path.{_≡_, refl, ap, _∙_}
 use mathlib.Core.Logic.{_≢_}
 use mathlib.Core.Bool.{true, false}
 use mathlib.Core.List.{List, [], _∷_, map, List·Memᴰ}
@@ -15,7 +15,7 @@ use Rattle.model.specs.declared.Answer.the-variants.{Done, Refused}
 use Rattle.model.specs.declared.Refusal.{Refusal}
 use Rattle.checks.proofs.Laws.{passes, refuses, field-passed, salt-asks}
 use Rattle.checks.specs.Total.{cellsOnly}
-use Rattle.board.specs.Board.{boardSize, entryOf, unused, comesBefore, insert, entryAt, before, listed, boardEntries, boardVerdict, BoardIs}
+use Rattle.board.specs.Board.{boardSize, entryOf, unused, comesBefore, insertInOrder, entryAt, before, listed, boardEntries, boardVerdict, BoardIs}
 use Rattle.board.specs.declared.Entry.{Entry}
 use Rattle.board.specs.declared.BoardAnswer.{BoardAnswer}
 use Rattle.board.proofs.Insertion.{cells-none, cells-more}
@@ -38,11 +38,11 @@ module _ (volumes masses : List ℕ) where
   entries-none = cells-none comesBefore (entryAt volumes masses) boardSize (replicate boardSize unused)
 
   pub entries-more : (n : ℕ) (es es′ : List Entry) {u : ℕ} {e : Entry} → u ≡ min boardSize n → es ≡ boardEntries volumes masses n → e ≡ entryOf n (getD volumes n 0) (getD masses n 0)
-      → es′ ≡ over (take boardSize (insert comesBefore e (take u es))) es → es′ ≡ boardEntries volumes masses (n + 1)
+      → es′ ≡ over (take boardSize (insertInOrder comesBefore e (take u es))) es → es′ ≡ boardEntries volumes masses (n + 1)
   unfolding boardEntries listed before entryAt
   entries-more n es es′ {u} {e} q d i d′ =
       cells-more comesBefore (entryAt volumes masses) boardSize n (replicate boardSize unused) es es′ q d
-      (d′ ∙ ap (λ (x : Entry). over (take boardSize (insert comesBefore x (take u es))) es) i)
+      (d′ ∙ ap (λ (x : Entry). over (take boardSize (insertInOrder comesBefore x (take u es))) es) i)
 
   -- entry i is that of the i-th cell listed, and 0 where there is none
   pub entry-used : (n i : ℕ) → i < length (listed volumes masses n) → getD (boardEntries volumes masses n) i unused ≡ entryAt volumes masses (getD (listed volumes masses n) i 0)

@@ -2,15 +2,15 @@
 use Prim.Native.Nat.{ℕ, zero, suc, _+_, _≤_, _<_, min}
 use mathlib.Core.Path.{_≡_, refl, sym, ap, _∙_}
 use mathlib.Core.Logic.{_≢_, _⊎_, inl, inr, ⊎-elim}
-use mathlib.Core.Bool.{Bool, true, false, cond, true≢false, _||_, _&&_}
+use mathlib.Core.Bool.{Bool, true, false, cond, true≢false}
 use mathlib.Core.List.{List, [], _∷_, _++_, List·Memᴰ, List·Memᴰ·head, List·Memᴰ·tail, List·Memᴰ·not-nil, List·Memᴰ·cases-cons, List·Memᴰ·append-cases}
 use native.Mathlib.Nat.{not-suc-le-zero, le-of-suc-le-suc, eq-or-lt-of-le}
 use native.Mathlib.Omega.{arith}
-use lib.Dec.{eqb, ltb, leb}
+use lib.Dec.{eqb, leb}
 use lib.ListN.{length, getD, take, drop, length-take, take-append-drop}
 use lib.Seq.{take-all}
 use Rattle.lists.proofs.Tests.{Same, same, other, same?, Fits, fits, exceeds, fits?}
-use Rattle.board.specs.Board.{comesBefore, insert, inOrder}
+use Rattle.board.specs.Board.{comesBefore, insertInOrder, inOrder}
 use Rattle.board.specs.declared.Entry.{Entry}
 use Rattle.board.proofs.Entries.{first-of, comes-first}
 use Rattle.board.proofs.Insertion.{length-inOrder}
@@ -44,21 +44,21 @@ module _ (order : ℕ → ℕ → Bool) where
   Sorted [] = Unit {0}
   Sorted (a ∷ l) = ((d : ℕ) → List·Memᴰ d l → order a d ≡ true) × Sorted l
 
-  mem-insert : {d : ℕ} (c : ℕ) (l : List ℕ) → List·Memᴰ d (insert order c l) → (d ≡ c) ⊎ List·Memᴰ d l
-  unfolding insert
+  mem-insert : {d : ℕ} (c : ℕ) (l : List ℕ) → List·Memᴰ d (insertInOrder order c l) → (d ≡ c) ⊎ List·Memᴰ d l
+  unfolding insertInOrder
   mem-insert c [] h = List·Memᴰ·cases-cons h
   mem-insert {d} c (x ∷ l) h = go (order c x) (mem-insert c l) h
     where
-      go : (b : Bool) → (List·Memᴰ d (insert order c l) → (d ≡ c) ⊎ List·Memᴰ d l) → List·Memᴰ d (cond b (c ∷ x ∷ l) (x ∷ insert order c l)) → (d ≡ c) ⊎ List·Memᴰ d (x ∷ l)
+      go : (b : Bool) → (List·Memᴰ d (insertInOrder order c l) → (d ≡ c) ⊎ List·Memᴰ d l) → List·Memᴰ d (cond b (c ∷ x ∷ l) (x ∷ insertInOrder order c l)) → (d ≡ c) ⊎ List·Memᴰ d (x ∷ l)
       go true ih h = List·Memᴰ·cases-cons h
       go false ih h = ⊎-elim (λ e. inr (List·Memᴰ·head e)) (λ t. ⊎-elim (λ e. inl e) (λ t. inr (List·Memᴰ·tail t)) (ih t)) (List·Memᴰ·cases-cons h)
 
-  insert-mem : {d : ℕ} (c : ℕ) (l : List ℕ) → (d ≡ c) ⊎ List·Memᴰ d l → List·Memᴰ d (insert order c l)
-  unfolding insert
+  insert-mem : {d : ℕ} (c : ℕ) (l : List ℕ) → (d ≡ c) ⊎ List·Memᴰ d l → List·Memᴰ d (insertInOrder order c l)
+  unfolding insertInOrder
   insert-mem c [] h = ⊎-elim (λ e. List·Memᴰ·head e) (λ t. List·Memᴰ·tail t) h
   insert-mem {d} c (x ∷ l) h = go (order c x) (insert-mem c l) h
     where
-      go : (b : Bool) → ((d ≡ c) ⊎ List·Memᴰ d l → List·Memᴰ d (insert order c l)) → (d ≡ c) ⊎ List·Memᴰ d (x ∷ l) → List·Memᴰ d (cond b (c ∷ x ∷ l) (x ∷ insert order c l))
+      go : (b : Bool) → ((d ≡ c) ⊎ List·Memᴰ d l → List·Memᴰ d (insertInOrder order c l)) → (d ≡ c) ⊎ List·Memᴰ d (x ∷ l) → List·Memᴰ d (cond b (c ∷ x ∷ l) (x ∷ insertInOrder order c l))
       go true ih (inl e) = List·Memᴰ·head e
       go true ih (inr t) = List·Memᴰ·tail t
       go false ih (inl e) = List·Memᴰ·tail (ih (inl e))
@@ -105,12 +105,12 @@ module _ (order : ℕ → ℕ → Bool) where
   sorted-split (suc m) (x ∷ l) s {a} {c} h k = ⊎-elim (λ (e : a ≡ x). rw e (s .0 c (drop-mem m l k))) (λ t. sorted-split m l (s .1) t k) (List·Memᴰ·cases-cons h)
 
   module _ (strict : Strict order) where
-    sorted-insert : (c : ℕ) (l : List ℕ) → ((d : ℕ) → List·Memᴰ d l → c ≢ d) → Sorted l → Sorted (insert order c l)
-    unfolding insert
+    sorted-insert : (c : ℕ) (l : List ℕ) → ((d : ℕ) → List·Memᴰ d l → c ≢ d) → Sorted l → Sorted (insertInOrder order c l)
+    unfolding insertInOrder
     sorted-insert c [] n s = ((λ d h. absurd (List·Memᴰ·not-nil h)), tt)
     sorted-insert c (x ∷ l) n s = go (order c x) refl (sorted-insert c l (λ d h. n d (List·Memᴰ·tail h)) (s .1))
       where
-        go : (b : Bool) → order c x ≡ b → Sorted (insert order c l) → Sorted (cond b (c ∷ x ∷ l) (x ∷ insert order c l))
+        go : (b : Bool) → order c x ≡ b → Sorted (insertInOrder order c l) → Sorted (cond b (c ∷ x ∷ l) (x ∷ insertInOrder order c l))
         go true e ih = ((λ d h. ⊎-elim (λ q. before-cell q e) (λ t. strict .transitive c x d e (s .0 d t)) (List·Memᴰ·cases-cons h)), s)
         go false e ih =
             let r : order x c ≡ true = strict .total c x (n x (List·Memᴰ·head refl)) e in

@@ -29,14 +29,14 @@ unfoldable pub comesBefore : Entry → Entry → Bool
 comesBefore a b = ltb (b .q) (a .q) || (eqb (a .q) (b .q) && ltb (a .cell) (b .cell))
 
 -- x put before the first of a list that it comes before, or at its end
-unfoldable pub insert : {A : Type 0} → (A → A → Bool) → A → List A → List A
-insert order x [] = x ∷ []
-insert order x (y ∷ ys) = cond (order x y) (x ∷ y ∷ ys) (y ∷ insert order x ys)
+unfoldable pub insertInOrder : {A : Type 0} → (A → A → Bool) → A → List A → List A
+insertInOrder order x [] = x ∷ []
+insertInOrder order x (y ∷ ys) = cond (order x y) (x ∷ y ∷ ys) (y ∷ insertInOrder order x ys)
 
 -- the cells below n in an order: each inserted among those below it
 unfoldable pub inOrder : (ℕ → ℕ → Bool) → ℕ → List ℕ
 inOrder order zero = []
-inOrder order (suc n) = insert order n (inOrder order n)
+inOrder order (suc n) = insertInOrder order n (inOrder order n)
 
 module _ (volumes masses : List ℕ) where
   unfoldable pub entryAt : ℕ → Entry

@@ -6,7 +6,7 @@ ghost use mathlib.Core.Bool.{_||_};
 ghost use Prim.Native.Nat.{ℕ, _+_, _≤_, _<_, min};
 ghost use lib.ListN.{length, getD, take, replicate};
 ghost use Rattle.lists.specs.Table.{over};
-ghost use Rattle.board.specs.Board.{boardSize, entryOf, comesBefore, unused, insert as inserted, boardEntries, BoardIs};
+ghost use Rattle.board.specs.Board.{boardSize, entryOf, comesBefore, unused, insertInOrder, boardEntries, BoardIs};
 
 // Most cells that the board lists.
 pub const BOARD_SIZE: usize = 8;
@@ -19,9 +19,9 @@ pub struct Entry {
 }
 
 // The first `used` entries stand in the board's order; those after them are 0.
-pub struct Ranking {
-    pub used: usize,
-    pub entries: [Entry; BOARD_SIZE],
+struct Ranking {
+    used: usize,
+    entries: [Entry; BOARD_SIZE],
 }
 
 // Entries after a refusal are 0, and so is their number.
@@ -47,7 +47,7 @@ fn empty_ranking() -> Ranking
 }
 
 // The entry of one cell, by one division.
-pub fn entry_of(cell: u64, volume: u64, mass: u64) -> Entry
+fn entry_of(cell: u64, volume: u64, mass: u64) -> Entry
     requires { ⌜ 1 ≤ volume ⌝ }
     ensures { λ r. ⌜ r ≡ entryOf cell volume mass ⌝ }
 {
@@ -61,7 +61,7 @@ pub fn entry_of(cell: u64, volume: u64, mass: u64) -> Entry
 }
 
 // The board's order.
-pub fn comes_before(a: Entry, b: Entry) -> bool
+fn comes_before(a: Entry, b: Entry) -> bool
     ensures { λ r. ⌜ r ≡ comesBefore a b ⌝ }
 {
     if a.q == b.q {
@@ -70,7 +70,7 @@ pub fn comes_before(a: Entry, b: Entry) -> bool
     b.q < a.q
 }
 
-// Whether a is written in the place of b: it comes before b, or entries move up already.
+// Whether a is written in the place of b: it comes before b, or those from its place on move back by one already.
 fn displaces(moving: bool, a: Entry, b: Entry) -> bool
     ensures { λ r. ⌜ r ≡ (moving || comesBefore a b) ⌝ }
 {
@@ -81,9 +81,9 @@ fn displaces(moving: bool, a: Entry, b: Entry) -> bool
 }
 
 // One entry inserted among those used; the last of eight falls out where a ninth comes in.
-pub fn insert(ranking: Ranking, entry: Entry) -> Ranking
+fn insert(ranking: Ranking, entry: Entry) -> Ranking
     requires { ⌜ ranking .used ≤ boardSize ⌝ }
-    ensures { λ r. ⌜ (r .used ≡ min boardSize (ranking .used + 1)) × (r .entries ≡ over (take boardSize (inserted comesBefore entry (take (ranking .used) (ranking .entries)))) (ranking .entries)) ⌝ }
+    ensures { λ r. ⌜ (r .used ≡ min boardSize (ranking .used + 1)) × (r .entries ≡ over (take boardSize (insertInOrder comesBefore entry (take (ranking .used) (ranking .entries)))) (ranking .entries)) ⌝ }
 {
     let used = ranking.used;
     let mut entries = ranking.entries;
@@ -113,7 +113,7 @@ pub fn insert(ranking: Ranking, entry: Entry) -> Ranking
 }
 
 // The highest of the cells below `cells`, each inserted in turn.
-pub fn rank(cells: usize, volumes: &[u64], masses: &[u64]) -> Ranking
+fn rank(cells: usize, volumes: &[u64], masses: &[u64]) -> Ranking
     requires { ⌜ (cells ≤ length (now volumes)) × (cells ≤ length (now masses)) ⌝ }
     requires { ⌜ ((c : ℕ) → c < cells → 1 ≤ getD (now volumes) c 0) ⌝ }
     ensures { λ r. ⌜ (r .used ≡ min boardSize cells) × (r .entries ≡ boardEntries (now (volumes .entry)) (now (masses .entry)) cells) ⌝ }

@@ -6,7 +6,7 @@ use mathlib.Core.Logic.{⊎-elim}
 use native.Mathlib.Omega.{arith}
 use borrow.Author.Needs.{needs}
 use lib.ListN.{length, take, length-map}
-use Rattle.board.specs.Board.{boardSize, unused, comesBefore, insert}
+use Rattle.board.specs.Board.{boardSize, unused, comesBefore, insertInOrder}
 use Rattle.board.proofs.Insertion.{Carrying, at-start, carried-on, passed, at-end, room-left, no-room}
 use Rattle.board.proofs.insert.Statement.{statement}
 use Rattle.board.proofs.insert.Tie as tie
@@ -17,7 +17,7 @@ length-mapped g l n e = sym (length-map l g) ∙ e
 
 abbrev Inv-loop : tie.InvT-loop
 Inv-loop used entries₀ carried₀ moving₀ i₀ entries carried moving i =
-    Carrying comesBefore (insert comesBefore carried₀ (take used entries₀)) used boardSize entries₀ entries moving carried i
+    Carrying comesBefore (insertInOrder comesBefore carried₀ (take used entries₀)) used boardSize entries₀ entries moving carried i
 
 abbrev μ-loop : tie.MeasureT-loop
 μ-loop used entries₀ carried₀ moving₀ i₀ entries carried moving i = used - i
