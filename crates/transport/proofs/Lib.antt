@@ -1,1 +1,3 @@
 pub mod Corrections
+pub mod Meetings
+pub mod Transfers
