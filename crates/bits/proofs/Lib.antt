@@ -1,0 +1,6 @@
+pub mod Fields
+pub mod Puts
+pub mod Layouts
+pub mod Readings
+pub mod Writings
+pub mod Figures

@@ -1,0 +1,4 @@
+pub mod Field
+pub mod Put
+pub mod Layout
+pub mod Mixed

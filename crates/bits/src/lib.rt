@@ -1,0 +1,90 @@
+ghost use mathlib.Core.Path.{_≡_};
+ghost use Prim.Native.Nat.{ℕ, _≤_, _<_, _+_, _*_, _^_, _/_, _%_, min};
+ghost use lib.ListN.{length};
+ghost use Rattle.bits.specs.Field.{bitAt, bitsAt};
+ghost use Rattle.bits.specs.Put.{Put};
+ghost use Rattle.bits.specs.Mixed.{mixed};
+
+// The widest field: with it no shift and no sum below leaves 64 bits.
+pub const WIDEST: usize = 40;
+
+fn wide(x: u8) -> u64
+    ensures { λ r. ⌜ r ≡ x ⌝ }
+{
+    x as u64
+}
+
+fn least(a: usize, b: usize) -> usize
+    ensures { λ r. ⌜ r ≡ min a b ⌝ }
+{
+    if a < b { a } else { b }
+}
+
+// 2^k.
+fn pow2(k: usize) -> u64
+    requires { ⌜ k < 64 ⌝ }
+    ensures { λ r. ⌜ r ≡ 2 ^ k ⌝ }
+{
+    1u64 << k
+}
+
+// The bit at i, most significant first.
+fn bit(src: &[u8], i: usize) -> u64
+    requires { ⌜ i / 8 < length (now src) ⌝ }
+    ensures { λ r. ⌜ r ≡ bitAt (now (src .entry)) i ⌝ }
+{
+    let x = wide(src[i / 8]);
+    let high = x >> (7 - i % 8);
+    high % 2
+}
+
+// The field of width bits at a bit position, a bit at a time.
+pub fn read_bits(src: &[u8], at: usize, width: usize) -> u64
+    requires { do ⌜ (at + width ≤ 8 * length (now src)) × (at + width < 2 ^ 64) × (width ≤ (← ⟦WIDEST⟧)) ⌝ }
+    ensures { λ r. ⌜ r ≡ bitsAt (now (src .entry)) at width ⌝ }
+{
+    let mut v: u64 = 0;
+    let mut k = 0;
+    while k < width {
+        v = 2 * v + bit(src, at + k);
+        k += 1;
+    }
+    v
+}
+
+// A byte with v in the k bits above its lowest e.
+fn mix(x: u8, e: usize, k: usize, v: u64) -> u8
+    requires { ⌜ (k + e ≤ 8) × (v < 2 ^ k) ⌝ }
+    ensures { λ r. ⌜ r ≡ mixed x e k v ⌝ }
+{
+    let w = wide(x);
+    let top = pow2(k + e);
+    let m = pow2(e);
+    let y = w / top * top + (v * m + w % m);
+    y as u8
+}
+
+// The field of k bits at p, which lies in one byte, written.
+fn put_piece(dst: &mut [u8], p: usize, k: usize, v: u64)
+    requires { ⌜ (p / 8 < length (now dst)) × (p % 8 + k ≤ 8) × (v < 2 ^ k) ⌝ }
+    ensures { λ _. ⌜ Put (now (dst .entry)) p k v (now (dst .exit)) ⌝ }
+{
+    let i = p / 8;
+    let x = dst[i];
+    dst[i] = mix(x, 8 - p % 8 - k, k, v);
+}
+
+// The field of width bits at a bit position, written a byte at a time.
+pub fn write_bits(dst: &mut [u8], at: usize, width: usize, v: u64)
+    requires { do ⌜ (at + width ≤ 8 * length (now dst)) × (at + width < 2 ^ 64) × (width ≤ (← ⟦WIDEST⟧)) × (v < 2 ^ width) ⌝ }
+    ensures { λ _. ⌜ Put (now (dst .entry)) at width v (now (dst .exit)) ⌝ }
+{
+    let mut done = 0;
+    while done < width {
+        let p = at + done;
+        let n = least(8 - p % 8, width - done);
+        let rest = v >> (width - done - n);
+        put_piece(dst, p, n, rest % pow2(n));
+        done += n;
+    }
+}

@@ -1,0 +1,623 @@
+#!/usr/bin/env python3
+"""Sessions for the run and cases for the host's call, from a seed.
+
+session(seed, number) and call(seed, number) give the same case for the same numbers.
+Every case names the kinds of lagoon and of damage that it holds; kinds_made counts them.
+"""
+
+import random
+from collections import Counter, namedtuple
+
+import lagoon
+from lagoon import RIM, TOP
+
+Session = namedtuple("Session", "kinds data")
+Call = namedtuple("Call", "kinds mesh field step room")
+
+
+# ---------------------------------------------------------------- Raw records
+
+class RawMesh:
+    """A mesh record before packing; every part may be broken."""
+
+    def __init__(self, volumes, faces):
+        self.kind, self.cells, self.count, self.zeros, self.padding = 1, len(volumes), len(faces), 0, 0
+        self.volumes, self.faces = list(volumes), [list(face) for face in faces]
+        self.cut, self.tail = None, b""
+
+    def bytes(self):
+        values = [(self.kind, 4), (self.cells, 12), (self.count, 13), (self.zeros, 3)]
+        values += [(V, 12) for V in self.volumes]
+        for first, second, s, K in self.faces:
+            values += [(first, 12), (second, 12), (s, 8), (K, 12)]
+        return finish(values, self)
+
+
+class RawField:
+    def __init__(self, masses):
+        self.kind, self.cells, self.padding = 2, len(masses), 0
+        self.masses = list(masses)
+        self.cut, self.tail = None, b""
+
+    def bytes(self):
+        return finish([(self.kind, 4), (self.cells, 12)] + [(m, 32) for m in self.masses], self)
+
+
+class RawStep:
+    """Signs and sizes stand apart, so that minus 0 can be written; outsides holds one value per face."""
+
+    def __init__(self, rims, fluxes, outsides):
+        self.kind, self.count, self.zeros, self.padding = 3, len(fluxes), 0, 0
+        self.rims = rims
+        self.signs, self.sizes = [int(U < 0) for U in fluxes], [abs(U) for U in fluxes]
+        self.outsides = list(outsides)
+        self.cut, self.tail = None, b""
+
+    def bits(self):
+        return 32 + 13 * len(self.sizes) + 20 * len(self.rims)
+
+    def bytes(self):
+        values = [(self.kind, 4), (self.count, 13), (self.zeros, 15)]
+        for sign, size in zip(self.signs, self.sizes):
+            values += [(sign, 1), (size, 12)]
+        return finish(values + [(self.outsides[face], 20) for face in self.rims], self)
+
+
+def finish(values, raw):
+    bits = sum(width for _, width in values)
+    if bits % 8:
+        values.append((raw.padding, -bits % 8))
+    record = lagoon.pack(values)
+    if raw.cut is not None:
+        record = record[:raw.cut]
+    return record + raw.tail
+
+
+# ---------------------------------------------------------------- Valid lagoons
+
+def layout(rng, cells, most):
+    """The pairs of cells that faces join, RIM as second at the boundary, at most `most` of them."""
+    shapes = ["channel", "ring", "grid", "random", "braid", "star", "sieve"]
+    shape = rng.choice(shapes) if cells > 1 else rng.choice(["pool", "pool", "pool", "still"])
+    pairs = []
+    if shape == "channel":
+        pairs = [(0, RIM)] + [(i, i + 1) for i in range(cells - 1)] + [(cells - 1, RIM)]
+    elif shape == "ring":
+        pairs = [(i, (i + 1) % cells) for i in range(cells)]
+        pairs += [(rng.randrange(cells), RIM) for _ in range(rng.randrange(3))]
+    elif shape == "grid":
+        wide = rng.randint(2, max(2, int(cells ** 0.5) + 1))
+        for i in range(cells):
+            if (i + 1) % wide and i + 1 < cells:
+                pairs.append((i, i + 1))
+            if i + wide < cells:
+                pairs.append((i, i + wide))
+            if (i % wide == 0 or (i + 1) % wide == 0) and rng.random() < 0.5:
+                pairs.append((i, RIM))
+    elif shape == "random":
+        pairs = [(i, rng.randrange(i)) for i in range(1, cells)]
+        for _ in range(rng.randint(0, 2 * cells)):
+            first = rng.randrange(cells)
+            second = rng.choice([rng.randrange(cells), rng.randrange(cells), RIM])
+            if first != second:
+                pairs.append((first, second))
+    elif shape == "braid":
+        for i in range(cells - 1):
+            pairs += [(i, i + 1)] * rng.randint(1, 3)
+        pairs += [(rng.choice([0, cells - 1]), RIM) for _ in range(rng.randint(0, 4))]
+    elif shape == "star":
+        pairs = [(0, i) for i in range(1, cells)] + [(i, RIM) for i in range(cells) if rng.random() < 0.7]
+    elif shape == "sieve":
+        pairs = [(i, RIM) for i in range(cells) for _ in range(2)]
+        pairs += [(i, i + 1) for i in range(cells - 1) if rng.random() < 0.3]
+    elif shape == "pool":
+        pairs = [(0, RIM)] * rng.randint(0, 6)
+    pairs = pairs[:most]
+    while len(pairs) < most and most > 1500 and rng.random() < 0.999:
+        first, second = rng.randrange(cells), rng.randrange(cells)
+        if first != second:
+            pairs.append((first, second))
+    pairs = [(b, a) if b != RIM and rng.random() < 0.5 else (a, b) for a, b in pairs]
+    if rng.random() < 0.5:
+        rng.shuffle(pairs)
+    return shape, pairs
+
+
+def pick_volume(rng, style):
+    return {"one": 1, "most": 4095, "hundred": 100, "small": rng.randint(1, 12), "any": rng.randint(1, 4095),
+            "ends": rng.choice([1, 2, 4094, 4095]), "middle": rng.randint(80, 400)}[style]
+
+
+def pick_concentration(rng, style, cell, cells):
+    return {"front": TOP if cell < cells // 2 else 0, "any": rng.randint(0, TOP), "low": rng.randint(0, 6),
+            "ends": rng.choice([0, 1, TOP - 1, TOP]), "even": 777, "top": TOP, "empty": 0,
+            "spike": rng.choice([0, 0, 0, rng.randint(0, TOP)]),
+            "teeth": TOP // 3 * (cell % 3)}[style]
+
+
+class Lagoon:
+    """A valid mesh with a valid field."""
+
+    def __init__(self, rng, size):
+        cells, most = size
+        self.shape, pairs = layout(rng, cells, most)
+        style = rng.choice(["one", "most", "hundred", "small", "any", "ends", "middle", "middle", "any"])
+        self.volumes = [pick_volume(rng, style) for _ in range(cells)]
+        shares = rng.choice(["half", "any", "ends", "any"])
+        reaches = rng.choice(["one", "most", "ends", "any", "volume", "volume", "volume"])
+        self.faces = []
+        for first, second in pairs:
+            if second == RIM:
+                self.faces.append((first, RIM, 0, 0))
+                continue
+            s = {"half": 128, "any": rng.randint(1, 255), "ends": rng.choice([1, 255])}[shares]
+            near = self.volumes[first]
+            K = {"one": 1, "most": 4095, "ends": rng.choice([1, 4095]), "any": rng.randint(1, 4095),
+                 "volume": min(4095, rng.randint(near, 2 * near))}[reaches]
+            self.faces.append((first, second, s, K))
+        self.rims = [face for face, row in enumerate(self.faces) if row[1] == RIM]
+        self.doors = [[] for _ in range(cells)]         # per cell: face, direction of leaving, cell beyond
+        for face, (first, second, _, _) in enumerate(self.faces):
+            self.doors[first].append((face, 1, second))
+            if second != RIM:
+                self.doors[second].append((face, -1, first))
+        self.salt = rng.choice(["front", "any", "low", "ends", "even", "top", "spike", "teeth", "front",
+                                "any", "empty"])
+        rest = rng.choice(["any", "none", "most"])
+        self.masses = []
+        for cell, V in enumerate(self.volumes):
+            q = pick_concentration(rng, self.salt, cell, cells)
+            self.masses.append(q * V + {"any": rng.randrange(V), "none": 0, "most": V - 1}[rest])
+
+    def walk(self, rng, fluxes, room_at, start_at_rim):
+        """A closed loop, or a path from boundary to boundary, along which the flux may still grow."""
+        path, order = [], {}            # (face, direction), cell entered; cell -> its place in the path
+        used = None
+        if start_at_rim:
+            used = rng.choice(self.rims)
+            if fluxes[used] > 0 or room_at(used) == 0:
+                return None
+            path.append((used, -1, None))
+            cell = self.faces[used][0]
+        else:
+            cell = rng.randrange(len(self.doors))
+        while True:
+            order[cell] = len(path)
+            doors = [door for door in self.doors[cell] if door[0] != used
+                     and fluxes[door[0]] * door[1] >= 0 and room_at(door[0]) > 0
+                     and (start_at_rim or door[2] != RIM)]
+            if not doors:
+                return None
+            face, direction, beyond = rng.choice(doors)
+            path.append((face, direction, cell))
+            if beyond == RIM:
+                return path
+            if beyond in order:
+                return path[order[beyond]:]
+            cell, used = beyond, face
+
+    def flow(self, rng, excess=0):
+        """Balanced fluxes with |U| up to K and outflow up to V + excess."""
+        fluxes, outflow = [0] * len(self.faces), [0] * len(self.volumes)
+
+        def room_at(face):
+            return (self.faces[face][3] or 4095) - abs(fluxes[face])
+
+        if not self.faces:
+            return fluxes
+        style = rng.choice(["full", "full", "any", "any", "unit"])
+        tries = rng.choice([1, 2, 4]) if rng.random() < 0.3 else min(3 * len(self.faces) + 4, 1500)
+        budget = 40_000
+        for _ in range(tries):
+            path = self.walk(rng, fluxes, room_at, bool(self.rims) and rng.random() < 0.6)
+            budget -= 10 + len(path or [])
+            if budget < 0:
+                break
+            if not path:
+                continue
+            most = min([room_at(face) for face, _, _ in path]
+                       + [self.volumes[cell] + excess - outflow[cell] for _, _, cell in path if cell is not None])
+            if most <= 0:
+                continue
+            amount = {"full": most, "any": rng.randint(1, most), "unit": 1}[style]
+            for face, direction, cell in path:
+                fluxes[face] += direction * amount
+                if cell is not None:
+                    outflow[cell] += amount
+        return fluxes
+
+    def outsides(self, rng, fluxes):
+        style = rng.choice(["any", "zero", "top", "near", "ends"])
+        values = [0] * len(fluxes)
+        for face in self.rims:
+            if fluxes[face] < 0:
+                cell = self.faces[face][0]
+                near = min(TOP, max(0, self.masses[cell] // self.volumes[cell] + rng.randint(-3, 3)))
+                values[face] = {"any": rng.randint(0, TOP), "zero": 0, "top": TOP, "near": near,
+                                "ends": rng.choice([0, TOP])}[style]
+        return values
+
+    def raw_mesh(self):
+        return RawMesh(self.volumes, self.faces)
+
+    def raw_field(self):
+        return RawField(self.masses)
+
+    def raw_step(self, rng, excess=0):
+        fluxes = self.flow(rng, excess)
+        return RawStep(self.rims, fluxes, self.outsides(rng, fluxes))
+
+
+def pick_size(rng, large):
+    """Cells and the most faces; a few lagoons stand at the run's limits."""
+    if large:
+        return rng.choice([(1023, 2046), (1023, 1022), (1000, 2046), (700, 1500), (2, 2046), (1023, 0),
+                           (rng.randint(200, 1023), 2046)])
+    cells = rng.choice([1, 2, 3, rng.randint(1, 8), rng.randint(1, 8), rng.randint(4, 20), rng.randint(4, 40)])
+    return cells, 80
+
+
+# ---------------------------------------------------------------- Damage
+# Each function breaks one part and says whether it could. The name is the kind.
+
+def mesh_head_cut(rng, lag, raw):
+    raw.cut = rng.randrange(4)
+
+def mesh_body_cut(rng, lag, raw):
+    raw.cut = rng.randint(4, len(raw.bytes()) - 1)
+
+def mesh_last_byte_cut(rng, lag, raw):
+    raw.cut = len(raw.bytes()) - 1
+
+def mesh_kind(rng, lag, raw):
+    raw.kind = rng.choice([0, 2, 3, rng.randint(4, 15), 9])
+
+def mesh_no_cells(rng, lag, raw):
+    raw.cells = 0
+
+def mesh_cells_beyond(rng, lag, raw):
+    raw.cells = rng.choice([1024, 4095, rng.randint(1024, 4095)])
+
+def mesh_faces_beyond(rng, lag, raw):
+    raw.count = rng.choice([2047, 8190, 8191, rng.randint(2047, 8191)])
+
+def mesh_one_cell_more(rng, lag, raw):
+    raw.cells = 1024
+    raw.volumes += [1] * (1024 - len(raw.volumes))
+
+def mesh_one_face_more(rng, lag, raw):
+    raw.count = 2047
+    raw.faces += [[0, RIM, 0, 0] for _ in range(2047 - len(raw.faces))]
+
+def mesh_both_beyond(rng, lag, raw):
+    mesh_cells_beyond(rng, lag, raw)
+    mesh_faces_beyond(rng, lag, raw)
+
+def mesh_other_counts(rng, lag, raw):
+    raw.cells = max(1, raw.cells + rng.choice([-1, 0, 1]))
+    raw.count = max(0, raw.count + rng.choice([-1, 1]))
+
+def mesh_zero_bit(rng, lag, raw):
+    raw.zeros = rng.randint(1, 7)
+
+def mesh_padding_bit(rng, lag, raw):
+    if (len(raw.volumes) + len(raw.faces)) % 2 == 0:
+        return False
+    raw.padding = rng.randint(1, 15)
+
+def mesh_volume_zero(rng, lag, raw):
+    raw.volumes[rng.randrange(len(raw.volumes))] = 0
+
+def set_face(rng, raw, column, value, rim):
+    faces = [row for row in raw.faces if rim is None or (row[1] == RIM) == rim]
+    if not faces:
+        return False
+    rng.choice(faces)[column] = value
+    return True
+
+def mesh_first_out(rng, lag, raw):
+    cells = len(raw.volumes)
+    return set_face(rng, raw, 0, rng.choice([cells, rng.randint(cells, 4094)]), None)
+
+def mesh_first_mark(rng, lag, raw):
+    return set_face(rng, raw, 0, RIM, rng.choice([None, True, False]))
+
+def mesh_second_out(rng, lag, raw):
+    cells = len(raw.volumes)
+    return set_face(rng, raw, 1, rng.choice([cells, 4094, rng.randint(cells, 4094)]), None)
+
+def mesh_self_loop(rng, lag, raw):
+    if not raw.faces:
+        return False
+    row = rng.choice(raw.faces)
+    row[1] = row[0]
+
+def mesh_share_zero(rng, lag, raw):
+    return set_face(rng, raw, 2, 0, False)
+
+def mesh_reach_zero(rng, lag, raw):
+    return set_face(rng, raw, 3, 0, False)
+
+def mesh_share_at_rim(rng, lag, raw):
+    return set_face(rng, raw, 2, rng.choice([1, 128, 255]), True)
+
+def mesh_reach_at_rim(rng, lag, raw):
+    return set_face(rng, raw, 3, rng.choice([1, 100, 4095]), True)
+
+def mesh_interior_like_rim(rng, lag, raw):
+    rows = [row for row in raw.faces if row[1] != RIM]
+    if not rows:
+        return False
+    rng.choice(rows)[2:] = [0, 0]
+
+def field_missing(rng, lag, raw):
+    raw.cut = 0
+
+def field_head_cut(rng, lag, raw):
+    raw.cut = 1
+
+def field_body_cut(rng, lag, raw):
+    raw.cut = rng.randint(2, len(raw.bytes()) - 1)
+
+def field_kind(rng, lag, raw):
+    raw.kind = rng.choice([0, 1, 3, rng.randint(4, 15)])
+
+def field_count(rng, lag, raw):
+    raw.cells = rng.choice([n for n in (0, raw.cells - 1, raw.cells + 1, 1024, 4095) if n != raw.cells])
+
+def field_salt_above(rng, lag, raw):
+    cell = rng.randrange(len(raw.masses))
+    limit = lag.volumes[cell] * (TOP + 1)
+    raw.masses[cell] = rng.choice([limit, limit, (1 << 32) - 1, rng.randint(limit, (1 << 32) - 1)])
+
+def field_salt_just_within(rng, lag, raw):
+    raw.masses = [V * (TOP + 1) - 1 for V in lag.volumes]
+
+def step_head_cut(rng, lag, raw):
+    raw.cut = rng.randint(1, 3)
+
+def step_body_cut(rng, lag, raw):
+    length = len(raw.bytes())
+    if length == 4:
+        return False
+    raw.cut = rng.choice([4, length - 1, rng.randint(4, length - 1)])
+
+def step_kind(rng, lag, raw):
+    raw.kind = rng.choice([0, 1, 2, rng.randint(4, 15)])
+
+def step_count(rng, lag, raw):
+    count = raw.count
+    raw.count = rng.choice([n for n in (0, count - 1, count + 1, 2047, 8191) if n != count and n >= 0])
+
+def step_zero_bit(rng, lag, raw):
+    raw.zeros = rng.choice([1, 1 << 14, 1 << rng.randrange(15), rng.randint(1, (1 << 15) - 1)])
+
+def step_padding_bit(rng, lag, raw):
+    spare = -raw.bits() % 8
+    if not spare:
+        return False
+    raw.padding = rng.choice([1, 1 << (spare - 1), rng.randint(1, (1 << spare) - 1)])
+
+def step_minus_zero(rng, lag, raw):
+    still = [face for face, size in enumerate(raw.sizes) if size == 0] or list(range(len(raw.sizes)))
+    if not still:
+        return False
+    face = rng.choice(still)
+    raw.signs[face], raw.sizes[face] = 1, 0
+
+def set_outside(rng, raw, wanted, value):
+    faces = [face for face in raw.rims if wanted(raw.signs[face], raw.sizes[face])]
+    if not faces:
+        return False
+    raw.outsides[rng.choice(faces)] = value
+    return True
+
+def step_outside_above(rng, lag, raw):
+    value = rng.choice([TOP + 1, (1 << 20) - 1, rng.randint(TOP + 1, (1 << 20) - 1)])
+    return set_outside(rng, raw, lambda sign, size: sign and size, value)
+
+def step_outside_at_outflow(rng, lag, raw):
+    return set_outside(rng, raw, lambda sign, size: size and not sign, rng.choice([1, TOP, TOP + 1]))
+
+def step_outside_at_still(rng, lag, raw):
+    return set_outside(rng, raw, lambda sign, size: size == 0, rng.choice([1, TOP, (1 << 20) - 1]))
+
+def step_flux_above(rng, lag, raw):
+    faces = [face for face, row in enumerate(lag.faces) if row[1] != RIM and row[3] < 4095]
+    if not faces:
+        return False
+    face = rng.choice(faces)
+    K = lag.faces[face][3]
+    raw.sizes[face] = rng.choice([K + 1, 4095, rng.randint(K + 1, 4095)])
+
+def step_unbalanced(rng, lag, raw):
+    faces = [face for face, row in enumerate(lag.faces) if raw.sizes[face] < (row[3] or 4095)]
+    if not faces:
+        return False
+    face = rng.choice(faces)
+    raw.sizes[face] += 1
+
+def step_unbalanced_sign(rng, lag, raw):
+    faces = [face for face, row in enumerate(lag.faces) if row[1] != RIM and raw.sizes[face]]
+    if not faces:
+        return False
+    raw.signs[rng.choice(faces)] ^= 1
+
+def step_outflow_above(rng, lag, raw):
+    spare = lag.raw_step(rng, rng.choice([1, 1, 5, 4095]))
+    outflow = [0] * len(lag.volumes)
+    for (first, second, _, _), sign, size in zip(lag.faces, spare.signs, spare.sizes):
+        if not sign:
+            outflow[first] += size
+        elif second != RIM:
+            outflow[second] += size
+    if all(o <= V for o, V in zip(outflow, lag.volumes)):
+        return False
+    raw.signs, raw.sizes, raw.outsides = spare.signs, spare.sizes, spare.outsides
+
+def step_noise(rng, lag, raw):
+    for face, row in enumerate(lag.faces):
+        raw.sizes[face] = rng.randint(0, row[3] or 4095)
+        raw.signs[face] = rng.getrandbits(1) if raw.sizes[face] else 0
+        raw.outsides[face] = rng.randint(0, TOP) if row[1] == RIM and raw.signs[face] else 0
+
+
+def damages(prefix):
+    return [function for name, function in sorted(globals().items()) if name.startswith(prefix)]
+
+
+MESH_DAMAGE, FIELD_DAMAGE, STEP_DAMAGE = damages("mesh_"), damages("field_"), damages("step_")
+ALL_DAMAGE = MESH_DAMAGE + FIELD_DAMAGE + STEP_DAMAGE
+SKIPPED = [f for f in STEP_DAMAGE if not f.__name__.endswith("cut") and f not in (step_kind, step_count)]
+
+
+def flip_bits(rng, data):
+    data = bytearray(data)
+    for _ in range(rng.choice([1, 1, 2, 8])):
+        if data:
+            data[rng.randrange(len(data))] ^= 1 << rng.randrange(8)
+    return bytes(data)
+
+
+def spoil(rng, data):
+    """Damage to bytes whatever they mean."""
+    kind = rng.choice(["flip", "flip", "truncate", "insert", "delete", "append", "noise"])
+    at = rng.randint(0, len(data))
+    if kind == "flip":
+        data = flip_bits(rng, data)
+    elif kind == "truncate":
+        data = data[:at]
+    elif kind == "insert":
+        data = data[:at] + rng.randbytes(rng.randint(1, 3)) + data[at:]
+    elif kind == "delete":
+        data = data[:at] + data[at + rng.randint(1, 3):]
+    elif kind == "append":
+        data += rng.randbytes(rng.randint(1, 6))
+    else:
+        data = data[:at] + rng.randbytes(len(data) - at)
+    return "bytes " + kind, data
+
+
+# ---------------------------------------------------------------- Cases
+
+def damaged_parts(rng, damage, size):
+    """A lagoon with its raw records of which `damage` has broken one, or None where it cannot."""
+    lag = Lagoon(rng, size)
+    mesh, field, step = lag.raw_mesh(), lag.raw_field(), lag.raw_step(rng)
+    raw = mesh if damage in MESH_DAMAGE else field if damage in FIELD_DAMAGE else step
+    if damage(rng, lag, raw) is False:
+        return None
+    return lag, mesh, field, step
+
+
+def demand_damage(rng, damage):
+    while True:
+        parts = damaged_parts(rng, damage, pick_size(rng, False))
+        if parts:
+            return parts
+
+
+def more_damage(rng, lag, mesh, field, step, kinds):
+    """Up to two more damages, so that the order of the causes shows."""
+    for _ in range(rng.randint(0, 2)):
+        damage = rng.choice(ALL_DAMAGE)
+        raw = mesh if damage in MESH_DAMAGE else field if damage in FIELD_DAMAGE else step
+        if raw.cut is None and damage(rng, lag, raw) is not False:
+            kinds.append(damage.__name__)
+
+
+def session(seed, number):
+    """Bytes for the run's standard input: half of the sessions are valid, half are damaged."""
+    rng = random.Random(f"session {seed} {number}")
+    mode = number % 4
+    if mode == 2:
+        damage = ALL_DAMAGE[number // 4 % len(ALL_DAMAGE)]
+        lag, mesh, field, step = demand_damage(rng, damage)
+        kinds = [damage.__name__]
+        steps = [lag.raw_step(rng) for _ in range(rng.choice([0, 0, 1, 2]))] + [step]
+        steps += [lag.raw_step(rng) for _ in range(rng.choice([0, 1, 2]))]
+        records = [mesh, field] + steps
+        broken = [i for i, raw in enumerate(records) if raw.cut is not None]
+        if broken and rng.random() < 0.8:
+            records = records[:broken[0] + 1]           # the input ends inside the record
+            kinds.append("input ends in a record")
+        return Session(tuple(kinds), b"".join(raw.bytes() for raw in records))
+    large = number % 40 == 0
+    lag = Lagoon(rng, pick_size(rng, large))
+    kinds = [lag.shape, "salt " + lag.salt] + ["large"] * large
+    mesh, field = lag.raw_mesh(), lag.raw_field()
+    count = rng.choice([1, 2]) if large else rng.choice([0, 1, 2, 3, 3, 5, 8])
+    if number % 500 == 1:
+        count = 300
+        kinds.append("long")
+    steps = []
+    for _ in range(count):
+        if steps and rng.random() < 0.4:
+            steps.append(steps[-1])
+            continue
+        steps.append(lag.raw_step(rng))
+        if rng.random() < 0.15:
+            damage = rng.choice(SKIPPED)
+            if damage(rng, lag, steps[-1]) is not False:
+                kinds.append(damage.__name__)
+    if mode == 3 and not large:
+        step = lag.raw_step(rng)
+        more_damage(rng, lag, mesh, field, step, kinds)
+        steps.insert(rng.randint(0, len(steps)), step)
+    data = mesh.bytes() + field.bytes() + b"".join(step.bytes() for step in steps)
+    if mode == 3 and rng.random() < 0.6:
+        kind, data = spoil(rng, data)
+        kinds.append(kind)
+    elif mode == 1 and rng.random() < 0.1:
+        tail = lag.raw_step(rng).bytes()
+        data += tail[:rng.randrange(len(tail))]
+        kinds.append("partial step at the end")
+    if number % 200 == 3:
+        kinds, data = ["empty input"], b""
+    return Session(tuple(dict.fromkeys(kinds)), data)
+
+
+def call(seed, number):
+    """Mesh, field, step and room for the host's call."""
+    rng = random.Random(f"call {seed} {number}")
+    mode = number % 4
+    if mode == 2:
+        damage = ALL_DAMAGE[number // 4 % len(ALL_DAMAGE)]
+        lag, mesh, field, step = demand_damage(rng, damage)
+        kinds = [damage.__name__]
+    else:
+        large = number % 40 == 0
+        lag = Lagoon(rng, pick_size(rng, large))
+        mesh, field, step = lag.raw_mesh(), lag.raw_field(), lag.raw_step(rng)
+        kinds = [lag.shape, "salt " + lag.salt] + ["large"] * large
+    if mode == 3:
+        more_damage(rng, lag, mesh, field, step, kinds)
+        for raw, name in ((mesh, "mesh"), (field, "field"), (step, "step")):
+            if rng.random() < 0.12:
+                raw.tail = rng.choice([b"\0", rng.randbytes(1), rng.randbytes(4)])
+                kinds.append(name + " with more bytes")
+    records = [mesh.bytes(), field.bytes(), step.bytes()]
+    if mode == 3 and rng.random() < 0.4:
+        which = rng.randrange(3)
+        kind, records[which] = spoil(rng, records[which])
+        kinds.append(("mesh ", "field ", "step ")[which] + kind)
+    need = lagoon.field_length(len(lag.volumes))
+    room = rng.choice(["enough", "enough", "more", "more", "short by one", "short", "none"])
+    kinds.append("room " + room)
+    lent = {"enough": need, "more": need + rng.randint(1, 20), "short by one": need - 1,
+            "short": rng.randrange(need), "none": 0}[room]
+    return Call(tuple(dict.fromkeys(kinds)), *records, lent)
+
+
+def kinds_made(cases):
+    """How often each kind of lagoon and of damage stands in the cases."""
+    return Counter(kind for case in cases for kind in case.kinds)
+
+
+if __name__ == "__main__":
+    import sys
+    many, first_seed = int(sys.argv[1]), int(sys.argv[2]) if len(sys.argv) > 2 else 1
+    for title, make in (("sessions", session), ("calls", call)):
+        print(title)
+        for name, count in sorted(kinds_made(make(first_seed, i) for i in range(many)).items()):
+            print(f"  {count:6} {name}")

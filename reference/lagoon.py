@@ -1,0 +1,459 @@
+#!/usr/bin/env python3
+"""Document 01, lagoon transport in whole numbers, written once more in plain integers.
+
+The functions stand in the order of the document. Nothing here is made fast.
+A refusal is raised as Refusal(cause, place) with the numbers of the table of causes.
+"""
+
+import sys
+from collections import namedtuple
+
+RIM = 4095                  # the mark of the boundary in the place of a second cell
+TOP = 1_000_000             # greatest concentration
+LIBRARY_LIMITS = (4095, 8190)
+RUN_LIMITS = (1023, 2046)
+MESH_HEAD, FIELD_HEAD, STEP_HEAD = 4, 2, 4      # bytes
+
+# Tables lent to a step, by position.
+(VOLUMES, FIRSTS, SECONDS, SHARES, REACHES, MASSES,
+ FLUXES, OUTSIDES, NEXT, MOVED, WORK, RECORD) = range(12)
+
+Mesh = namedtuple("Mesh", "volumes firsts seconds shares reaches")
+Result = namedtuple("Result", "masses moved in_mass out_mass")
+
+
+class Refusal(Exception):
+    """A refusal carries its cause and its place."""
+
+    def __init__(self, cause, place):
+        super().__init__(cause, place)
+        self.cause, self.place = cause, place
+
+
+# ---------------------------------------------------------------- Mesh, water and salt
+
+def concentrations(volumes, masses):
+    """q = m divided by V, rounded down."""
+    return [m // V for V, m in zip(volumes, masses)]
+
+def toward_zero(a, b):
+    """Signed quotients are rounded toward zero (b above 0)."""
+    return a // b if a >= 0 else -(-a // b)
+
+
+# ---------------------------------------------------------------- One step
+
+def move(mesh, masses, moved):
+    """Each face's mass leaves its first cell and enters its second, if that is a cell."""
+    masses = list(masses)
+    for first, second, mass in zip(mesh.firsts, mesh.seconds, moved):
+        masses[first] -= mass
+        if second != RIM:
+            masses[second] += mass
+    return masses
+
+def upwind(mesh, masses, q, fluxes, outsides):
+    """1. Each face carries U times q of the cell the water leaves, or U times the outside value."""
+    carried = []
+    for first, second, U, outside in zip(mesh.firsts, mesh.seconds, fluxes, outsides):
+        if U >= 0:
+            carried.append(U * q[first])
+        elif second == RIM:
+            carried.append(U * outside)
+        else:
+            carried.append(U * q[second])
+    return carried, move(mesh, masses, carried)
+
+def share_upwind(s, U):
+    """t is s if the first cell is upwind, else 256 - s."""
+    return s if U > 0 else 256 - s
+
+def correction(U, d, t, K):
+    """U d (t K - 128 |U|) divided by 256 K."""
+    return toward_zero(U * d * (t * K - 128 * abs(U)), 256 * K)
+
+def corrections(mesh, q, fluxes):
+    """2. The correction of every interior face with U not 0; elsewhere it is 0."""
+    result = []
+    for first, second, s, K, U in zip(mesh.firsts, mesh.seconds, mesh.shares, mesh.reaches, fluxes):
+        if second == RIM or U == 0:
+            result.append(0)
+        else:
+            up, down = (first, second) if U > 0 else (second, first)
+            result.append(correction(U, q[down] - q[up], share_upwind(s, U), K))
+    return result
+
+def bounds(mesh, low, q, fluxes, outsides):
+    """3. What each cell may gain, V hi + V - 1 - m, and lose, m - V lo, with m its low-order mass."""
+    near = [[own] for own in q]
+    for first, second, U, outside in zip(mesh.firsts, mesh.seconds, fluxes, outsides):
+        if second == RIM:
+            if U < 0:
+                near[first].append(outside)
+        elif U != 0:
+            near[first].append(q[second])
+            near[second].append(q[first])
+    gains = [V * max(seen) + V - 1 - m for V, seen, m in zip(mesh.volumes, near, low)]
+    losses = [m - V * min(seen) for V, seen, m in zip(mesh.volumes, near, low)]
+    return gains, losses
+
+def limiter(mesh, corrected, gains, losses):
+    """4. Each correction cut to what its receiver may gain and its giver may lose."""
+    entering, leaving = [0] * len(gains), [0] * len(losses)         # P and N
+    ends = []
+    for first, second, c in zip(mesh.firsts, mesh.seconds, corrected):
+        receiver, giver = (second, first) if c > 0 else (first, second)
+        ends.append((receiver, giver))
+        if c != 0:
+            entering[receiver] += abs(c)
+            leaving[giver] += abs(c)
+    limited = []
+    for c, (receiver, giver) in zip(corrected, ends):
+        if c == 0:
+            limited.append(0)
+            continue
+        a = abs(c)
+        P, G, N, L = entering[receiver], gains[receiver], leaving[giver], losses[giver]
+        size = min(a if P <= G else a * G // P, a if N <= L else a * L // N)
+        limited.append(size if c > 0 else -size)
+    return limited
+
+def finish(mesh, masses, carried, limited):
+    """5. Moved mass is carried mass plus limited correction; next masses follow from it."""
+    moved = [c + a for c, a in zip(carried, limited)]
+    return moved, move(mesh, masses, moved)
+
+def in_mass(mesh, fluxes, outsides):
+    """Over boundary faces with U below 0, the size of U times the outside value."""
+    return sum(-U * o for second, U, o in zip(mesh.seconds, fluxes, outsides) if second == RIM and U < 0)
+
+def out_mass(mesh, q, fluxes):
+    """Over boundary faces with U above 0, U times the cell's q before the step."""
+    return sum(U * q[first] for first, second, U in zip(mesh.firsts, mesh.seconds, fluxes)
+               if second == RIM and U > 0)
+
+def advance(mesh, masses, fluxes, outsides):
+    """One step on values that no cause refuses."""
+    q = concentrations(mesh.volumes, masses)
+    carried, low = upwind(mesh, masses, q, fluxes, outsides)
+    corrected = corrections(mesh, q, fluxes)
+    gains, losses = bounds(mesh, low, q, fluxes, outsides)
+    limited = limiter(mesh, corrected, gains, losses)
+    moved, masses = finish(mesh, masses, carried, limited)
+    return Result(masses, moved, in_mass(mesh, fluxes, outsides), out_mass(mesh, q, fluxes))
+
+def advance_upwind(mesh, masses, fluxes, outsides):
+    """Plain upwind, stages 1 and 5 alone, for studies of accuracy."""
+    q = concentrations(mesh.volumes, masses)
+    carried, _ = upwind(mesh, masses, q, fluxes, outsides)
+    moved, masses = finish(mesh, masses, carried, [0] * len(carried))
+    return Result(masses, moved, in_mass(mesh, fluxes, outsides), out_mass(mesh, q, fluxes))
+
+
+# ---------------------------------------------------------------- Causes
+
+def refuse_first(cause, wrong):
+    """Refuses at the lowest place that is wrong."""
+    for place, bad in enumerate(wrong):
+        if bad:
+            raise Refusal(cause, place)
+
+def judge_counts(cells, faces, limits):
+    """1: cells or faces beyond limits."""
+    if not 1 <= cells <= limits[0]:
+        raise Refusal(1, 0)
+    if not 0 <= faces <= limits[1]:
+        raise Refusal(1, 1)
+
+def judge_lengths(lengths, needs):
+    """2: a lent table too short. Both map positions to entries; no lengths means long enough."""
+    for position in sorted(needs):
+        if lengths is not None and lengths[position] < needs[position]:
+            raise Refusal(2, position)
+
+def judge_mesh(mesh):
+    """3, 4 and 5: V; first and second; s and K."""
+    cells = len(mesh.volumes)
+    refuse_first(3, (not 1 <= V <= 4095 for V in mesh.volumes))
+    refuse_first(4, (not 0 <= first < cells or not (0 <= second < cells or second == RIM) or first == second
+                     for first, second in zip(mesh.firsts, mesh.seconds)))
+    refuse_first(5, ((s != 0 or K != 0) if second == RIM else not (1 <= s <= 255 and 1 <= K <= 4095)
+                     for second, s, K in zip(mesh.seconds, mesh.shares, mesh.reaches)))
+
+def judge_field(mesh, masses):
+    """6: q above 1,000,000."""
+    refuse_first(6, (q > TOP for q in concentrations(mesh.volumes, masses)))
+
+def judge_values(mesh, fluxes, outsides):
+    """7: outside value too great, or not 0 elsewhere than at an inflow. 8: size of U."""
+    refuse_first(7, (not 0 <= o <= TOP if second == RIM and U < 0 else o != 0
+                     for second, U, o in zip(mesh.seconds, fluxes, outsides)))
+    refuse_first(8, (abs(U) > (4095 if second == RIM else K)
+                     for second, K, U in zip(mesh.seconds, mesh.reaches, fluxes)))
+
+def judge_flow(mesh, fluxes):
+    """9: inflow and outflow of a cell differ. 10: outflow above V. Both are sums over all its faces."""
+    inflow, outflow = [0] * len(mesh.volumes), [0] * len(mesh.volumes)
+    for first, second, U in zip(mesh.firsts, mesh.seconds, fluxes):
+        (outflow if U > 0 else inflow)[first] += abs(U)
+        if second != RIM:
+            (inflow if U > 0 else outflow)[second] += abs(U)
+    refuse_first(9, (i != o for i, o in zip(inflow, outflow)))
+    refuse_first(10, (o > V for o, V in zip(outflow, mesh.volumes)))
+
+
+# ---------------------------------------------------------------- Tables lent to a step
+
+def lengths_of(tables):
+    return {position: len(table) for position, table in enumerate(tables)}
+
+def mesh_needs(cells, faces):
+    return {VOLUMES: cells, FIRSTS: faces, SECONDS: faces, SHARES: faces, REACHES: faces}
+
+def counted_mesh(cells, faces, tables):
+    return Mesh(tables[VOLUMES][:cells], *(tables[i][:faces] for i in (FIRSTS, SECONDS, SHARES, REACHES)))
+
+def step_on_tables(cells, faces, tables):
+    """The step on eleven lent lists; fills next masses, moved and work, and gives in-mass and out-mass."""
+    judge_counts(cells, faces, LIBRARY_LIMITS)
+    judge_lengths(lengths_of(tables), {**mesh_needs(cells, faces), MASSES: cells, FLUXES: faces,
+                                       OUTSIDES: faces, NEXT: cells, MOVED: faces,
+                                       WORK: 4 * cells + faces})
+    mesh, masses = counted_mesh(cells, faces, tables), tables[MASSES][:cells]
+    fluxes, outsides = tables[FLUXES][:faces], tables[OUTSIDES][:faces]
+    judge_mesh(mesh)
+    judge_field(mesh, masses)
+    judge_values(mesh, fluxes, outsides)
+    judge_flow(mesh, fluxes)
+    result = advance(mesh, masses, fluxes, outsides)
+    tables[NEXT][:cells] = result.masses
+    tables[MOVED][:faces] = result.moved
+    tables[WORK][:4 * cells + faces] = [0] * (4 * cells + faces)
+    return result.in_mass, result.out_mass
+
+
+# ---------------------------------------------------------------- Record layouts
+
+class Bits:
+    """A record and the bit that reading has come to, most significant bit first."""
+
+    def __init__(self, record):
+        self.bits = "".join(f"{byte:08b}" for byte in record)
+        self.at = 0
+
+    def take(self, width):
+        value = int(self.bits[self.at:self.at + width], 2)
+        self.at += width
+        return value
+
+    def take_zeros(self, width):
+        """12: a zero bit set."""
+        for _ in range(width):
+            if self.take(1) != 0:
+                raise Refusal(12, self.at - 1)
+
+    def take_padding(self):
+        self.take_zeros(len(self.bits) - self.at)
+
+def pack(values):
+    """Values with their widths in bits, then zero bits up to a whole byte."""
+    assert all(0 <= value < 1 << width for value, width in values)
+    bits = "".join(f"{value:0{width}b}" for value, width in values)
+    bits += "0" * (-len(bits) % 8)
+    return bytes(int(bits[at:at + 8], 2) for at in range(0, len(bits), 8))
+
+def whole_bytes(bits):
+    return -(-bits // 8)
+
+def mesh_length(cells, faces):
+    return MESH_HEAD + whole_bytes(12 * cells + 44 * faces)
+
+def field_length(cells):
+    return FIELD_HEAD + 4 * cells
+
+def step_length(faces, seconds):
+    return STEP_HEAD + whole_bytes(13 * faces + 20 * seconds[:faces].count(RIM))
+
+def read_mesh(record, limits=LIBRARY_LIMITS, lengths=None):
+    """Shorter than its head 11, then 13, 1, length 11, 2, 12."""
+    if len(record) < MESH_HEAD:
+        raise Refusal(11, 0)
+    bits = Bits(record)
+    kind, cells, faces = bits.take(4), bits.take(12), bits.take(13)
+    if kind != 1:
+        raise Refusal(13, 0)
+    judge_counts(cells, faces, limits)
+    if len(record) != mesh_length(cells, faces):
+        raise Refusal(11, 0)
+    judge_lengths(lengths, mesh_needs(cells, faces))
+    bits.take_zeros(3)
+    volumes = [bits.take(12) for _ in range(cells)]
+    rows = [(bits.take(12), bits.take(12), bits.take(8), bits.take(12)) for _ in range(faces)]
+    bits.take_padding()
+    return Mesh(volumes, *([row[i] for row in rows] for i in range(4)))
+
+def read_field(record, cells, limits=LIBRARY_LIMITS, lengths=None):
+    """The masses; cells is the expected count."""
+    if len(record) < FIELD_HEAD:
+        raise Refusal(11, 0)
+    bits = Bits(record)
+    if bits.take(4) != 2:
+        raise Refusal(13, 0)
+    if bits.take(12) != cells:
+        raise Refusal(13, 1)
+    judge_counts(cells, 0, limits)
+    if len(record) != field_length(cells):
+        raise Refusal(11, 0)
+    judge_lengths(lengths, {MASSES: cells})
+    return [bits.take(32) for _ in range(cells)]
+
+def read_step(record, faces, seconds, limits=LIBRARY_LIMITS, lengths=None):
+    """Fluxes and outsides; faces is the expected count, and outsides away from the rim read 0."""
+    if len(record) < STEP_HEAD:
+        raise Refusal(11, 0)
+    bits = Bits(record)
+    if bits.take(4) != 3:
+        raise Refusal(13, 0)
+    if bits.take(13) != faces:
+        raise Refusal(13, 1)
+    judge_counts(1, faces, limits)
+    judge_lengths({SECONDS: len(seconds)}, {SECONDS: faces})
+    if len(record) != step_length(faces, seconds):
+        raise Refusal(11, 0)
+    judge_lengths(lengths, {FLUXES: faces, OUTSIDES: faces})
+    bits.take_zeros(15)
+    fluxes = []
+    for _ in range(faces):
+        minus, size = bits.take(1), bits.take(12)
+        if minus and size == 0:
+            raise Refusal(12, bits.at - 13)
+        fluxes.append(-size if minus else size)
+    outsides = [bits.take(20) if second == RIM else 0 for second in seconds[:faces]]
+    bits.take_padding()
+    return fluxes, outsides
+
+def pack_mesh(mesh):
+    values = [(1, 4), (len(mesh.volumes), 12), (len(mesh.firsts), 13), (0, 3)]
+    values += [(V, 12) for V in mesh.volumes]
+    for first, second, s, K in zip(*mesh[1:]):
+        values += [(first, 12), (second, 12), (s, 8), (K, 12)]
+    return pack(values)
+
+def pack_field(masses):
+    return pack([(2, 4), (len(masses), 12)] + [(m, 32) for m in masses])
+
+def pack_step(mesh, fluxes, outsides):
+    values = [(3, 4), (len(fluxes), 13), (0, 15)]
+    for U in fluxes:
+        values += [(1 if U < 0 else 0, 1), (abs(U), 12)]
+    return pack(values + [(o, 20) for second, o in zip(mesh.seconds, outsides) if second == RIM])
+
+def judge_writing(cells, faces, tables, needs, length, room):
+    """A writer refuses by 1 to 8; room is the number of bytes lent, position 11."""
+    judge_counts(cells, faces, LIBRARY_LIMITS)
+    judge_lengths({**lengths_of(tables), RECORD: room},
+                  {**mesh_needs(cells, faces), **needs, RECORD: length})
+    mesh = counted_mesh(cells, faces, tables)
+    judge_mesh(mesh)
+    return mesh
+
+def write_mesh(cells, faces, tables, room):
+    return pack_mesh(judge_writing(cells, faces, tables, {}, mesh_length(cells, faces), room))
+
+def write_field(cells, faces, tables, room):
+    mesh = judge_writing(cells, faces, tables, {MASSES: cells}, field_length(cells), room)
+    judge_field(mesh, tables[MASSES][:cells])
+    return pack_field(tables[MASSES][:cells])
+
+def write_step(cells, faces, tables, room):
+    length = step_length(faces, tables[SECONDS])
+    mesh = judge_writing(cells, faces, tables, {FLUXES: faces, OUTSIDES: faces}, length, room)
+    judge_values(mesh, tables[FLUXES][:faces], tables[OUTSIDES][:faces])
+    return pack_step(mesh, tables[FLUXES][:faces], tables[OUTSIDES][:faces])
+
+
+# ---------------------------------------------------------------- The host's call
+
+def accept_mesh(record):
+    mesh = read_mesh(record, RUN_LIMITS)
+    judge_mesh(mesh)
+    return mesh
+
+def accept_field(record, mesh):
+    masses = read_field(record, len(mesh.volumes), RUN_LIMITS)
+    judge_field(mesh, masses)
+    return masses
+
+def accept_step(record, mesh, masses):
+    fluxes, outsides = read_step(record, len(mesh.firsts), mesh.seconds, RUN_LIMITS)
+    judge_values(mesh, fluxes, outsides)
+    judge_flow(mesh, fluxes)
+    return advance(mesh, masses, fluxes, outsides)
+
+def host_step(mesh_record, field_record, step_record, room):
+    """One 64-bit number and, where it is 0, the next field record; room is the bytes lent for that."""
+    try:
+        mesh = accept_mesh(mesh_record)
+        masses = accept_field(field_record, mesh)
+        result = accept_step(step_record, mesh, masses)
+        judge_lengths({RECORD: room}, {RECORD: field_length(len(masses))})
+    except Refusal as refusal:
+        return 4_294_967_296 * refusal.cause + refusal.place, None
+    return 0, pack_field(result.masses)
+
+
+# ---------------------------------------------------------------- The board and the run
+
+def board(volumes, masses):
+    """Up to 8 cells as (cell, q, rest), highest q first, lower cell number first among equals."""
+    entries = [(cell, m // V, m % V) for cell, (V, m) in enumerate(zip(volumes, masses))]
+    return sorted(entries, key=lambda entry: (-entry[1], entry[0]))[:8]
+
+def board_on_tables(cells, volumes, masses):
+    """The board's eight entries from lent tables, the unused ones 0."""
+    judge_counts(cells, 0, LIBRARY_LIMITS)
+    judge_lengths({VOLUMES: len(volumes), MASSES: len(masses)}, {VOLUMES: cells, MASSES: cells})
+    mesh = Mesh(volumes[:cells], [], [], [], [])
+    judge_mesh(mesh)
+    judge_field(mesh, masses[:cells])
+    used = board(mesh.volumes, masses[:cells])
+    return used + [(0, 0, 0)] * (8 - len(used))
+
+def run(data):
+    """A mesh record, a field record, then step records until no byte is left; gives the text printed."""
+    length = len(data)
+    if length >= MESH_HEAD:
+        head = Bits(data[:MESH_HEAD])
+        head.take(4)
+        length = mesh_length(head.take(12), head.take(13))
+    try:
+        mesh = accept_mesh(data[:length])
+    except Refusal as refusal:
+        return f"M {refusal.cause} {refusal.place}\n"
+    data = data[length:]
+    length = field_length(len(mesh.volumes))
+    try:
+        masses = accept_field(data[:length], mesh)
+    except Refusal as refusal:
+        return f"F {refusal.cause} {refusal.place}\n"
+    data = data[length:]
+    length = step_length(len(mesh.firsts), mesh.seconds)
+    lines = [f"0 0 0 {sum(masses)}"]
+    number = 0
+    while data:
+        number += 1
+        try:
+            result = accept_step(data[:length], mesh, masses)
+            masses = result.masses
+            lines.append(f"{number} {result.in_mass} {result.out_mass} {sum(masses)}")
+        except Refusal as refusal:
+            lines.append(f"{number} R {refusal.cause} {refusal.place}")
+            if refusal.cause in (11, 13):
+                break
+        data = data[length:]
+    lines += [f"B {cell} {q} {rest}" for cell, q, rest in board(mesh.volumes, masses)]
+    return "".join(line + "\n" for line in lines)
+
+
+if __name__ == "__main__":
+    sys.stdout.write(run(sys.stdin.buffer.read()))

@@ -1,0 +1,185 @@
+"""Makes a failing input smaller while it still fails."""
+
+import time
+
+import lagoon
+from lagoon import RIM
+
+
+class Parts:
+    """A mesh with a field and steps, as lists; a step that cannot be read stays as bytes."""
+
+    def __init__(self, volumes, faces, masses, steps, tail):
+        self.volumes, self.faces, self.masses, self.steps, self.tail = volumes, faces, masses, steps, tail
+
+    def mesh(self):
+        return lagoon.Mesh(self.volumes, *([face[i] for face in self.faces] for i in range(4)))
+
+    def records(self):
+        mesh = self.mesh()
+        steps = [step if isinstance(step, bytes) else lagoon.pack_step(mesh, *step) for step in self.steps]
+        return lagoon.pack_mesh(mesh), lagoon.pack_field(self.masses), steps, self.tail
+
+
+def take_apart(mesh_record, field_record, steps_bytes):
+    """Parts of records that can be read, else None."""
+    try:
+        mesh = lagoon.read_mesh(mesh_record)
+        masses = lagoon.read_field(field_record, len(mesh.volumes))
+        length = lagoon.step_length(len(mesh.firsts), mesh.seconds)
+    except lagoon.Refusal:
+        return None
+    steps = []
+    while len(steps_bytes) >= length:
+        record, steps_bytes = steps_bytes[:length], steps_bytes[length:]
+        try:
+            steps.append(lagoon.read_step(record, len(mesh.firsts), mesh.seconds))
+        except lagoon.Refusal:
+            steps.append(record)
+    return Parts(list(mesh.volumes), [list(row) for row in zip(*mesh[1:])], masses, steps, steps_bytes)
+
+
+def split_session(data):
+    """Mesh record, field record and the rest of a session, as far as the heads say."""
+    if len(data) < lagoon.MESH_HEAD:
+        return data, b"", b""
+    head = lagoon.Bits(data[:4])
+    head.take(4)
+    cells, faces = head.take(12), head.take(13)
+    a = lagoon.mesh_length(cells, faces)
+    b = a + lagoon.field_length(cells)
+    return data[:a], data[a:b], data[b:]
+
+
+def readable(parts):
+    return all(not isinstance(step, bytes) for step in parts.steps)
+
+
+def without_cell(parts, cell):
+    """The cell becomes part of the outside: its faces with other cells become boundary faces."""
+    if len(parts.volumes) == 1 or not readable(parts):
+        return None
+    q = parts.masses[cell] // parts.volumes[cell] if parts.volumes[cell] else 0
+    faces, columns = [], []
+    for face, (first, second, s, K) in enumerate(parts.faces):
+        if first == cell and second in (RIM, cell):
+            continue
+        turn = -1 if first == cell else 1
+        if cell in (first, second):
+            row, opened = [second if first == cell else first, RIM, 0, 0], True
+        else:
+            row, opened = [first, second, s, K], False
+        row[:2] = [i - 1 if cell < i < RIM else i for i in row[:2]]
+        faces.append(row)
+        columns.append((face, turn, opened))
+    steps = []
+    for fluxes, outsides in parts.steps:
+        new = [turn * fluxes[face] for face, turn, _ in columns]
+        steps.append((new, [(min(q, lagoon.TOP) if U < 0 else 0) if opened else outsides[face]
+                            for U, (face, _, opened) in zip(new, columns)]))
+    return Parts(parts.volumes[:cell] + parts.volumes[cell + 1:], faces,
+                 parts.masses[:cell] + parts.masses[cell + 1:], steps, parts.tail)
+
+
+def without_cells(parts, start, end):
+    for cell in reversed(range(start, end)):
+        parts = parts and without_cell(parts, cell)
+    return parts
+
+
+def without_faces(parts, start, end):
+    if not readable(parts):
+        return None
+    steps = [(f[:start] + f[end:], o[:start] + o[end:]) for f, o in parts.steps]
+    return Parts(parts.volumes, parts.faces[:start] + parts.faces[end:], parts.masses, steps, parts.tail)
+
+
+def without_still_faces(parts):
+    if not readable(parts):
+        return None
+    for face in reversed(range(len(parts.faces))):
+        if all(fluxes[face] == 0 for fluxes, _ in parts.steps):
+            parts = without_faces(parts, face, face + 1)
+    return parts
+
+
+def without_steps(parts, start, end):
+    return Parts(parts.volumes, parts.faces, parts.masses, parts.steps[:start] + parts.steps[end:], parts.tail)
+
+
+def without_masses(parts, start, end):
+    masses = parts.masses[:start] + [0] * (end - start) + parts.masses[end:]
+    return None if masses == parts.masses else Parts(parts.volumes, parts.faces, masses, parts.steps, parts.tail)
+
+
+def shrink_parts(parts, fails, seconds):
+    """The smallest parts found within the time that still fail: runs of steps, cells, faces, masses dropped."""
+    end = time.monotonic() + seconds
+
+    def better(candidate):
+        return candidate is not None and time.monotonic() < end and fails(candidate)
+
+    def sweep(parts, size_of, drop):
+        size = max(1, size_of(parts) // 2)
+        while size:
+            start = size_of(parts) - size
+            while start > -size and time.monotonic() < end:
+                candidate = drop(parts, max(0, start), start + size)
+                if better(candidate):
+                    parts = candidate
+                start -= size
+            size //= 2
+        return parts
+
+    while time.monotonic() < end:
+        before = parts.records()
+        for candidate in (Parts(parts.volumes, parts.faces, parts.masses, parts.steps, b""),
+                          without_still_faces(parts)):
+            if better(candidate):
+                parts = candidate
+        parts = sweep(parts, lambda p: len(p.steps), without_steps)
+        parts = sweep(parts, lambda p: len(p.volumes), without_cells)
+        parts = sweep(parts, lambda p: len(p.faces), without_faces)
+        parts = sweep(parts, lambda p: len(p.masses), without_masses)
+        if parts.records() == before:
+            break
+    return parts
+
+
+def shrink_bytes(data, fails, seconds):
+    """Drops bytes from the end, then anywhere, while the input still fails."""
+    end = time.monotonic() + seconds
+    size = max(1, len(data) // 2)
+    while size and time.monotonic() < end:
+        at = max(0, len(data) - size)
+        while at >= 0 and data and time.monotonic() < end:
+            candidate = data[:at] + data[at + size:]
+            if len(candidate) < len(data) and fails(candidate):
+                data = candidate
+            at -= size
+        size //= 2
+    return data
+
+
+def session(data, fails, seconds=60):
+    parts = take_apart(*split_session(data))
+    if parts is not None:
+        def join(parts):
+            mesh, field, steps, tail = parts.records()
+            return mesh + field + b"".join(steps) + tail
+        data = min(data, join(shrink_parts(parts, lambda p: fails(join(p)), seconds)), key=len)
+    return shrink_bytes(data, fails, seconds / 4)
+
+
+def call(mesh, field, step, room, fails, seconds=60):
+    """fails takes the four values; the room shrinks with the field."""
+    parts = take_apart(mesh, field, step)
+    if parts is None or len(parts.steps) != 1 or parts.tail:
+        return mesh, field, step, room
+    spare = room - lagoon.field_length(len(parts.volumes))
+
+    def lend(parts):
+        mesh, field, steps, _ = parts.records()
+        return mesh, field, b"".join(steps), max(0, len(field) + spare)
+
+    return lend(shrink_parts(parts, lambda p: len(p.steps) == 1 and fails(*lend(p)), seconds))

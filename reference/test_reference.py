@@ -1,0 +1,196 @@
+#!/usr/bin/env python3
+"""The figures of document 01, checked against the reference. Fails at the first that differs."""
+
+import subprocess
+import sys
+from pathlib import Path
+
+HERE = Path(__file__).resolve().parent
+sys.path.insert(0, str(HERE))
+
+import generate
+import lagoon
+from lagoon import RIM, Mesh
+
+
+def equal(actual, expected, what):
+    if actual != expected:
+        raise AssertionError(f"{what}: expected {expected!r}, got {actual!r}")
+
+
+def refused(cause, place, what, call, *arguments):
+    try:
+        result = call(*arguments)
+    except lagoon.Refusal as refusal:
+        equal((refusal.cause, refusal.place), (cause, place), what)
+    else:
+        raise AssertionError(f"{what}: expected refusal {cause} {place}, got {result!r}")
+
+
+def tables_for(mesh, masses, fluxes, outsides):
+    cells, faces = len(mesh.volumes), len(mesh.firsts)
+    return [list(t) for t in mesh] + [list(masses), list(fluxes), list(outsides),
+                                      [7] * cells, [7] * faces, [7] * (4 * cells + faces)]
+
+
+def step(mesh, masses, fluxes, outsides):
+    """The step on tables: next masses and moved."""
+    tables = tables_for(mesh, masses, fluxes, outsides)
+    lagoon.step_on_tables(len(mesh.volumes), len(mesh.firsts), tables)
+    return tables[lagoon.NEXT], tables[lagoon.MOVED]
+
+
+CHANNEL = Mesh([100] * 3, [0, 0, 1, 2], [RIM, 1, 2, RIM], [0, 128, 128, 0], [0, 100, 100, 0])
+FLOW, OUTSIDE = [-50, 50, 50, 50], [1000, 0, 0, 0]
+CHANNEL_TEXT = """\
+0 0 0 100000
+1 50000 0 150000
+2 50000 0 200000
+B 0 1000 99
+B 1 811 88
+B 2 187 13
+"""
+
+
+def pool(V, faces):
+    """One cell with so many boundary faces."""
+    return Mesh([V], [0] * faces, [RIM] * faces, [0] * faces, [0] * faces)
+
+
+def test_channel():
+    record = lagoon.pack_step(CHANNEL, FLOW, OUTSIDE)
+    session = lagoon.pack_mesh(CHANNEL) + lagoon.pack_field([100000, 0, 0]) + record + record
+    equal(lagoon.run(session), CHANNEL_TEXT, "channel session")
+    printed = subprocess.run([sys.executable, str(HERE / "lagoon.py")], input=session, capture_output=True)
+    equal(printed.stdout.decode(), CHANNEL_TEXT, "channel session on the command line")
+    first, moved = step(CHANNEL, [100000, 0, 0], FLOW, OUTSIDE)
+    equal(first, [100099, 49901, 0], "P channel step 1, masses")
+    equal(moved, [-50000, 49901, 0, 0], "P channel step 1, moved")
+    corrected = lagoon.corrections(CHANNEL, [1000, 0, 0], FLOW)
+    equal(corrected, [0, -12500, 0, 0], "P channel step 1, correction 12500 toward cell 0")
+    carried, low = lagoon.upwind(CHANNEL, [100000, 0, 0], [1000, 0, 0], FLOW, OUTSIDE)
+    limited = lagoon.limiter(CHANNEL, corrected, *lagoon.bounds(CHANNEL, low, [1000, 0, 0], FLOW, OUTSIDE))
+    equal(limited, [0, -99, 0, 0], "P channel step 1, cut to 99")
+    equal(carried, [-50000, 50000, 0, 0], "channel step 1, carried")
+    equal(step(CHANNEL, first, FLOW, OUTSIDE)[0], [100099, 81188, 18713], "P channel step 2")
+    equal(lagoon.advance_upwind(CHANNEL, [100000, 0, 0], FLOW, OUTSIDE).masses, [100000, 50000, 0],
+          "plain upwind, channel step 1")
+
+
+def test_figures_by_hand():
+    pair = Mesh([10, 10], [0, 0], [1, 1], [128, 128], [10, 10])
+    equal(step(pair, [93, 15], [10, -10], [0, 0])[0], [13, 95], "P two opposite faces")
+    equal(lagoon.correction(1, -3, 128, 2), 0, "P U 1, K 2, s 128, d -3")
+    equal(lagoon.correction(100, -1000, 1, 100), 49609, "P U 100, K 100, s 1, d -1000")
+    sevens = Mesh([7] * 3, [0, 0, 1, 2], [RIM, 1, 2, RIM], [0, 128, 9, 0], [0, 7, 20, 0])
+    equal(step(sevens, [30] * 3, [-7, 7, 7, 7], [4, 0, 0, 0])[0], [30] * 3, "P all V 7, all m 30, outside 4")
+    still = pool(4095, 0)
+    equal(step(still, [4_095_004_094], [], [])[0], [4_095_004_094], "P V 4,095, m 4,095,004,094")
+    refused(6, 0, "P V 4,095, m 4,095,004,095", step, still, [4_095_004_095], [], [])
+    through = pool(100, 2)
+    step(through, [5], [-100, 100], [9, 0])
+    refused(10, 0, "P outflow 101 from V 100", step, through, [5], [-101, 101], [9, 0])
+    equal(step(pool(100, 0), [99], [], [])[0], [99], "P one cell, no faces")
+
+
+def test_records():
+    one = pool(100, 0)
+    equal(lagoon.pack_mesh(one).hex(" "), "10 01 00 00 06 40", "mesh of one cell")
+    equal(lagoon.pack_field([99]).hex(" "), "20 01 00 00 00 63", "its field")
+    equal(lagoon.read_mesh(bytes.fromhex("100100000640")), one, "mesh read")
+    equal(lagoon.read_field(bytes.fromhex("200100000063"), 1), [99], "field read")
+    tables = tables_for(CHANNEL, [100000, 0, 0], FLOW, OUTSIDE)
+    equal(lagoon.write_mesh(3, 4, tables, 31), lagoon.pack_mesh(CHANNEL), "mesh written")
+    refused(2, 11, "a byte too few", lagoon.write_mesh, 3, 4, tables, 30)
+    equal(lagoon.read_field(lagoon.write_field(3, 4, tables, 14), 3), [100000, 0, 0], "field written")
+    record = lagoon.write_step(3, 4, tables, 16)
+    equal(record.hex(" "), "30 02 00 00 81 90 0c 80 64 03 20 03 e8 00 00 00", "step written")
+    equal(lagoon.read_step(record, 4, CHANNEL.seconds), (FLOW, OUTSIDE), "step read")
+
+
+def test_order_of_reading():
+    mesh = bytes.fromhex("100100000640")
+    refused(11, 0, "head cut", lagoon.read_mesh, mesh[:3])
+    refused(13, 0, "kind before length", lagoon.read_mesh, b"\x20" + mesh[1:4])
+    refused(1, 0, "no cells", lagoon.read_mesh, b"\x10\0\0\0")
+    refused(1, 1, "8,191 faces", lagoon.read_mesh, b"\x10\x01\xff\xf8")
+    refused(1, 0, "1,024 cells in the run", lagoon.read_mesh, b"\x14\0\0\0", lagoon.RUN_LIMITS)
+    refused(11, 0, "length before zero bits", lagoon.read_mesh, b"\x10\x01\0\x01\x06")
+    refused(11, 0, "too long", lagoon.read_mesh, mesh + b"\0")
+    refused(12, 31, "zero bit of the head", lagoon.read_mesh, b"\x10\x01\0\x01\x06\x41")
+    refused(12, 47, "padding", lagoon.read_mesh, mesh[:5] + b"\x41")
+    refused(13, 1, "count of a field", lagoon.read_field, bytes.fromhex("200100000063"), 2)
+    record = lagoon.pack_step(CHANNEL, FLOW, OUTSIDE)
+    refused(2, 2, "short seconds before length", lagoon.read_step, record[:9], 4, [RIM])
+    refused(12, 32, "minus with size 0", lagoon.read_step, bytes.fromhex("300080008000000000"), 1, [RIM])
+
+
+def test_tables():
+    tables = tables_for(CHANNEL, [100000, 0, 0], FLOW, OUTSIDE)
+    longer = [table + [99] for table in tables]
+    equal(lagoon.step_on_tables(3, 4, longer), (50000, 0), "in-mass and out-mass")
+    equal(longer[8:], [[100099, 49901, 0, 99], [-50000, 49901, 0, 0, 99], [0] * 16 + [99]], "longer tables")
+    for position in range(11):
+        short = [list(table) for table in tables]
+        short[position].pop()
+        before = [list(table) for table in short]
+        refused(2, position, "short table", lagoon.step_on_tables, 3, 4, short)
+        equal(short, before, "tables after a refusal")
+    refused(1, 0, "no cells", lagoon.step_on_tables, 0, 9000, tables)
+    refused(1, 1, "8,191 faces", lagoon.step_on_tables, 1, 8191, tables)
+    refused(9, 0, "unbalanced", step, CHANNEL, [0] * 3, [-50, 49, 50, 50], OUTSIDE)
+    refused(8, 1, "U above K", step, CHANNEL, [0] * 3, [-50, -(1 << 63), 50, 50], OUTSIDE)
+    refused(7, 3, "outside at an outflow", step, CHANNEL, [0] * 3, FLOW, [1000, 0, 0, 1])
+    refused(4, 0, "first is the mark", step, CHANNEL._replace(firsts=[RIM, 0, 1, 2]), [0] * 3, FLOW, OUTSIDE)
+    refused(5, 3, "K at a rim", step, CHANNEL._replace(reaches=[0, 100, 100, 1]), [0] * 3, FLOW, OUTSIDE)
+    refused(3, 2, "V 0", step, CHANNEL._replace(volumes=[1, 1, 0]), [0] * 3, FLOW, OUTSIDE)
+
+
+def test_host_call_and_run():
+    records = (lagoon.pack_mesh(CHANNEL), lagoon.pack_field([100000, 0, 0]),
+               lagoon.pack_step(CHANNEL, FLOW, OUTSIDE))
+    equal(lagoon.host_step(*records, 14), (0, lagoon.pack_field([100099, 49901, 0])), "host's call")
+    equal(lagoon.host_step(*records, 13), (2 * 4_294_967_296 + 11, None), "a byte too few")
+    equal(lagoon.host_step(records[0], records[1], records[2] + b"\0", 0), (11 << 32, None), "step too long")
+    equal(lagoon.run(b""), "M 11 0\n", "empty input")
+    equal(lagoon.run(records[0] + b"\x20"), "F 11 0\n", "field cut")
+    equal(lagoon.run(records[0] + records[1]), "0 0 0 100000\nB 0 1000 0\nB 1 0 0\nB 2 0 0\n", "no steps")
+    unbalanced = lagoon.pack_step(CHANNEL, [-101] + [100] * 3, OUTSIDE)
+    zero_bit = records[2][:2] + b"\x40" + records[2][3:]
+    text = lagoon.run(b"".join(records[:2]) + unbalanced + zero_bit + records[2])
+    equal(text.splitlines()[1:4], ["1 R 9 0", "2 R 12 17", "3 50000 0 150000"], "a refused step is skipped")
+    text = lagoon.run(b"".join(records) + records[2][:15])
+    equal(text.splitlines()[1:3], ["1 50000 0 150000", "2 R 11 0"], "a cut step ends the run")
+    equal(lagoon.board([1] * 10, [5, 9, 5, 9, 0, 0, 0, 0, 0, 1])[:4],
+          [(1, 9, 0), (3, 9, 0), (0, 5, 0), (2, 5, 0)], "board order")
+    equal(lagoon.board_on_tables(1, [100], [199]), [(0, 1, 99)] + [(0, 0, 0)] * 7, "unused board entries")
+
+
+def test_conservation_and_bounds():
+    """On generated calls: total follows in-mass and out-mass, and no q leaves its neighbourhood's range."""
+    accepted = 0
+    for number in range(1, 400):
+        case = generate.call(7, number)
+        try:
+            mesh = lagoon.accept_mesh(case.mesh)
+            masses = lagoon.accept_field(case.field, mesh)
+            result = lagoon.accept_step(case.step, mesh, masses)
+        except lagoon.Refusal:
+            continue
+        accepted += 1
+        equal(sum(result.masses), sum(masses) + result.in_mass - result.out_mass, f"total of call {number}")
+        fluxes, outsides = lagoon.read_step(case.step, len(mesh.firsts), mesh.seconds)
+        q = lagoon.concentrations(mesh.volumes, masses)
+        gains, losses = lagoon.bounds(mesh, result.masses, q, fluxes, outsides)
+        equal(min(gains + losses) >= 0, True, f"bounds of call {number}")
+        tables = tables_for(mesh, masses, fluxes, outsides)
+        equal(lagoon.write_mesh(len(mesh.volumes), len(mesh.firsts), tables, 1 << 20), case.mesh, "mesh rewritten")
+        equal(lagoon.write_step(len(mesh.volumes), len(mesh.firsts), tables, 1 << 20), case.step, "step rewritten")
+    equal(accepted > 100, True, "enough accepted calls")
+
+
+if __name__ == "__main__":
+    tests = [value for name, value in list(globals().items()) if name.startswith("test_")]
+    for test in tests:
+        test()
+    print(f"{len(tests)} groups of figures hold")
