@@ -1,6 +1,6 @@
 -- What the inner passes of a step keep in the table lent as work: four entries per cell, then one per face. Nothing here is
 -- promised to a caller of the step.
-use Prim.Native.Nat.{ℕ, _+_, _-_, _*_, _/_, _%_, _≤_, _<_, min, max}
+use Prim.Native.Nat.{ℕ, _+_, _-_, _*_, _/_, _%_, _^_, _≤_, _<_, min, max}
 use mathlib.Core.Path.{_≡_}
 use mathlib.Core.Logic.{_≢_}
 use mathlib.Core.Bool.{Bool, cond}
@@ -11,8 +11,8 @@ use lib.ListN.{length, getD, set}
 use lib.Signed.{quotZ}
 use Rattle.lists.specs.Fold.{sum, least, greatest}
 use Rattle.signed.specs.Sign.{size, isZero, isNegative, forward, backward, withSign}
-use Rattle.model.specs.Mesh.{Mesh, meshOf, boundary, atBoundary, entering, leaving, first, second}
-use Rattle.model.specs.Step.{StepInput, flux, outside, mass, concentration, carried, correction, adjacent}
+use Rattle.model.specs.Mesh.{Mesh, meshOf, boundary, maxConcentration, maxBoundaryFlux, maxWeight, maxSpan, atBoundary, entering, leaving, first, second}
+use Rattle.model.specs.Step.{StepInput, flux, outside, mass, concentration, carried, correction, adjacent, inMass, outMass}
 
 -- what a step works on, from the tables lent to a pass
 abbrev pub inputFrom : ℕ → ℕ → List ℕ → List ℕ → List ℕ → List ℕ → List ℕ → List ℕ → List ℤ → List ℕ → StepInput
@@ -70,13 +70,11 @@ pub record EndsIn (n l k : ℕ) : Type 0 where
 -- The states of the passes.
 
 -- 1, after the cells below i: next masses are the masses, entries 0 to 2 of a cell its concentration
-pub record Opened (S : StepInput) (i : ℕ) (next work : List ℕ) : Type 0 where
-  pub next-long : length next ≡ S .mesh .cells
-  pub next-at : (c : ℕ) → c < i → getD next c 0 ≡ mass S c
-  pub work-long : length work ≡ 4 * S .mesh .cells + S .mesh .faces
-  pub q-at : (c : ℕ) → c < i → getD work (4 * c) 0 ≡ concentration S c
-  pub lo-at : (c : ℕ) → c < i → getD work (4 * c + 1) 0 ≡ concentration S c
-  pub hi-at : (c : ℕ) → c < i → getD work (4 * c + 2) 0 ≡ concentration S c
+pub record Opened (volumes masses : List ℕ) (i : ℕ) (next work : List ℕ) : Type 0 where
+  pub next-at : (c : ℕ) → c < i → getD next c 0 ≡ getD masses c 0
+  pub q-at : (c : ℕ) → c < i → getD work (4 * c) 0 ≡ getD masses c 0 / getD volumes c 0
+  pub lo-at : (c : ℕ) → c < i → getD work (4 * c + 1) 0 ≡ getD masses c 0 / getD volumes c 0
+  pub hi-at : (c : ℕ) → c < i → getD work (4 * c + 2) 0 ≡ getD masses c 0 / getD volumes c 0
 
 -- masses that start as m, after the amounts x have passed through the faces below f
 pub record Flowing (M : Mesh) (x : ℕ → ℤ) (m : ℕ → ℕ) (f : ℕ) (next : List ℕ) : Type 0 where
@@ -95,8 +93,36 @@ pub record Swept (S : StepInput) (f : ℕ) (next : List ℕ) (moved : List ℤ) 
   pub code-at : (g : ℕ) → g < f → getD work (4 * S .mesh .cells + g) 0 ≡ coded (correction S g)
 
 -- the in-mass and the out-mass of the faces below f
-unfoldable pub inMassTo : StepInput → ℕ → ℕ
+abbrev pub inMassTo : StepInput → ℕ → ℕ
 inMassTo S f = sum f (λ g. cond (atBoundary (S .mesh) g) (backward (flux S g) * outside S g) 0)
 
-unfoldable pub outMassTo : StepInput → ℕ → ℕ
+abbrev pub outMassTo : StepInput → ℕ → ℕ
 outMassTo S f = sum f (λ g. cond (atBoundary (S .mesh) g) (forward (flux S g) * concentration S (first (S .mesh) g)) 0)
+
+-- one face of pass 2, with the concentrations a of its first cell and b beyond it
+pub record FaceAsks (f first second size weight span a b cells : ℕ) (z : ℤ) (next : List ℕ) (moved : List ℤ) (work : List ℕ) : Type 0 where
+  pub ends : EndsIn cells first second
+  pub next-long : length next ≡ cells
+  pub in-moved : f < length moved
+  pub in-work : 4 * cells + f < length work
+  pub first-most : a ≤ maxConcentration
+  pub beyond-most : b ≤ maxConcentration
+  pub size-most : size ≤ maxBoundaryFlux
+  pub within-span : second ≢ boundary → size ≤ span
+  pub weight-most : weight ≤ maxWeight
+  pub span-some : second ≢ boundary → 1 ≤ span
+  pub span-most : span ≤ maxSpan
+  pub afford : (c : ℕ) → c < cells → takes first second z c ≤ getD next c 0
+  pub room : (c : ℕ) → c < cells → getD next c 0 + brings first second z c < 2 ^ 64
+
+pub record FaceDone (f first second weight span a b cells r : ℕ) (u z : ℤ) (next next' : List ℕ) (moved moved' : List ℤ) (work work' : List ℕ) : Type 0 where
+  pub amount : r ≡ size z
+  pub flowed : Transferred next first second z next'
+  pub carries : moved' ≡ set moved f z
+  pub worked : work' ≡ set (metAcross work first second u a b) (4 * cells + f) (cond (eqb second boundary) 0 (coded (correctionOf u a b weight span)))
+
+-- after the second pass
+pub record SweepDone (S : StepInput) (entered gone : ℕ) (next : List ℕ) (moved : List ℤ) (work : List ℕ) : Type 0 where
+  pub swept : Swept S (S .mesh .faces) next moved work
+  pub entered-is : entered ≡ inMass S
+  pub gone-is : gone ≡ outMass S
