@@ -4,3 +4,6 @@ pub mod Transfers
 pub mod Openings
 pub mod Flows
 pub mod Sweeps
+pub mod Settlings
+pub mod Weighings
+pub mod Limitings

@@ -6,13 +6,13 @@ use mathlib.Core.Logic.{_≢_}
 use mathlib.Core.Bool.{Bool, cond}
 use mathlib.Core.List.{List, []}
 use lib.Dec.{eqb}
-use lib.IntN.{ℤ, pos, _-ℤ_, _*ℤ_}
+use lib.IntN.{ℤ, pos, _+ℤ_, _-ℤ_, _*ℤ_}
 use lib.ListN.{length, getD, set}
 use lib.Signed.{quotZ}
 use Rattle.lists.specs.Fold.{sum, least, greatest}
 use Rattle.signed.specs.Sign.{size, isZero, isNegative, forward, backward, withSign}
-use Rattle.model.specs.Mesh.{Mesh, meshOf, boundary, maxConcentration, maxBoundaryFlux, maxWeight, maxSpan, atBoundary, entering, leaving, first, second}
-use Rattle.model.specs.Step.{StepInput, flux, outside, mass, concentration, carried, correction, adjacent, inMass, outMass}
+use Rattle.model.specs.Mesh.{Mesh, meshOf, boundary, maxFaces, maxVolume, maxConcentration, maxBoundaryFlux, maxWeight, maxSpan, atBoundary, entering, leaving, incoming, outgoing, first, second}
+use Rattle.model.specs.Step.{StepInput, portion, limitedBy, flux, outside, mass, concentration, carried, correction, adjacent, inMass, outMass}
 
 -- what a step works on, from the tables lent to a pass
 abbrev pub inputFrom : ℕ → ℕ → List ℕ → List ℕ → List ℕ → List ℕ → List ℕ → List ℕ → List ℤ → List ℕ → StepInput
@@ -126,3 +126,111 @@ pub record SweepDone (S : StepInput) (entered gone : ℕ) (next : List ℕ) (mov
   pub swept : Swept S (S .mesh .faces) next moved work
   pub entered-is : entered ≡ inMass S
   pub gone-is : gone ≡ outMass S
+
+-- 3, after the cells below i: their entries are 0, what they may lose, what they may gain, and 0
+unfoldable pub settledCell : List ℕ → ℕ → ℕ → ℕ → List ℕ
+settledCell w c volume low =
+    set (set (set (set w (4 * c) 0) (4 * c + 1) (low - volume * getD w (4 * c + 1) 0)) (4 * c + 2) (volume * getD w (4 * c + 2) 0 + volume - 1 - low)) (4 * c + 3) 0
+
+pub record CellAsks (volume low least most : ℕ) : Type 0 where
+  pub volume-some : 1 ≤ volume
+  pub volume-most : volume ≤ maxVolume
+  pub most-small : most ≤ maxConcentration
+  pub above : volume * least ≤ low
+  pub below : low ≤ volume * most + volume - 1
+
+pub record Settled (volumes next w : List ℕ) (i : ℕ) (work : List ℕ) : Type 0 where
+  pub same-length : length work ≡ length w
+  pub p-at : (c : ℕ) → c < i → getD work (4 * c) 0 ≡ 0
+  pub loss-at : (c : ℕ) → c < i → getD work (4 * c + 1) 0 ≡ getD next c 0 - getD volumes c 0 * getD w (4 * c + 1) 0
+  pub gain-at : (c : ℕ) → c < i → getD work (4 * c + 2) 0 ≡ getD volumes c 0 * getD w (4 * c + 2) 0 + getD volumes c 0 - 1 - getD next c 0
+  pub n-at : (c : ℕ) → c < i → getD work (4 * c + 3) 0 ≡ 0
+  pub kept : (j : ℕ) → 4 * i ≤ j → getD work j 0 ≡ getD w j 0
+
+-- the cell that a correction in one number enters, and the one that it leaves
+abbrev pub enters : ℕ → ℕ → ℕ → ℕ
+enters code l k = cond (eqb (code % 2) 1) l k
+
+abbrev pub leaves : ℕ → ℕ → ℕ → ℕ
+leaves code l k = cond (eqb (code % 2) 1) k l
+
+-- the corrections that work w holds in its faces' entries
+abbrev pub corrections : ℕ → List ℕ → ℕ → ℤ
+corrections cells w f = decoded (getD w (4 * cells + f) 0)
+
+-- one entry raised by n
+abbrev pub raised : List ℕ → ℕ → ℕ → List ℕ
+raised w i n = set w i (getD w i 0 + n)
+
+-- a face's correction counted where it enters and where it leaves
+unfoldable pub weighedFace : List ℕ → ℕ → ℕ → ℕ → List ℕ
+weighedFace w l k code = cond (eqb (code / 2) 0) w (raised (raised w (4 * enters code l k) (code / 2)) (4 * leaves code l k + 3) (code / 2))
+
+-- 4, after the faces below f: entry 0 of a cell has gained what enters it, entry 3 what leaves it
+pub record Weighed (M : Mesh) (x : ℕ → ℤ) (w : List ℕ) (f : ℕ) (work : List ℕ) : Type 0 where
+  pub same-length : length work ≡ length w
+  pub p-at : (c : ℕ) → c < M .cells → getD work (4 * c) 0 ≡ getD w (4 * c) 0 + sum f (entering M x c)
+  pub loss-at : (c : ℕ) → c < M .cells → getD work (4 * c + 1) 0 ≡ getD w (4 * c + 1) 0
+  pub gain-at : (c : ℕ) → c < M .cells → getD work (4 * c + 2) 0 ≡ getD w (4 * c + 2) 0
+  pub n-at : (c : ℕ) → c < M .cells → getD work (4 * c + 3) 0 ≡ getD w (4 * c + 3) 0 + sum f (leaving M x c)
+  pub face-at : (g : ℕ) → getD work (4 * M .cells + g) 0 ≡ getD w (4 * M .cells + g) 0
+
+pub record WeighAsks (M : Mesh) (x : ℕ → ℤ) (w : List ℕ) : Type 0 where
+  pub few-cells : M .cells ≤ boundary
+  pub few-faces : M .faces ≤ maxFaces
+  pub firsts-long : M .faces ≤ length (M .firsts)
+  pub seconds-long : M .faces ≤ length (M .seconds)
+  pub work-long : length w ≡ 4 * M .cells + M .faces
+  pub ends : (f : ℕ) → f < M .faces → EndsIn (M .cells) (first M f) (second M f)
+  pub boundary-none : (f : ℕ) → f < M .faces → second M f ≡ boundary → size (x f) ≡ 0
+  pub size-most : (f : ℕ) → f < M .faces → size (x f) ≤ 4095000000
+  pub started : (c : ℕ) → c < M .cells → (getD w (4 * c) 0 ≡ 0) × (getD w (4 * c + 3) 0 ≡ 0)
+
+-- the size that a correction in one number is cut to
+abbrev pub cutOf : List ℕ → ℕ → ℕ → ℕ → ℕ
+cutOf w code r g = min (portion (code / 2) (getD w (4 * r + 2) 0) (getD w (4 * r) 0)) (portion (code / 2) (getD w (4 * g + 1) 0) (getD w (4 * g + 3) 0))
+
+-- the limited correction of a face from l to k
+unfoldable pub limitedOf : List ℕ → ℕ → ℕ → ℕ → ℤ
+limitedOf w code l k = cond (eqb (code / 2) 0) (pos 0) (withSign (eqb (code % 2) 1) (cutOf w code (enters code l k) (leaves code l k)))
+
+pub record CutAsks (f l k code : ℕ) (next : List ℕ) (moved : List ℤ) (work : List ℕ) : Type 0 where
+  pub ends : EndsIn (length next) l k
+  pub inside : code / 2 ≢ 0 → (4 * l + 3 < length work) × (4 * k + 3 < length work) × (l < 4095) × (k < 4095)
+  pub size-most : code / 2 ≤ 4095000000
+  pub gain-fits : code / 2 ≢ 0 → getD work (4 * enters code l k + 2) 0 ≤ 4095004094
+  pub loss-fits : code / 2 ≢ 0 → getD work (4 * leaves code l k + 1) 0 ≤ 4095004094
+  pub in-moved : f < length moved
+  pub moved-most : size (getD moved f (pos 0)) ≤ 4095000000
+  pub afford : (c : ℕ) → c < length next → takes l k (limitedOf work code l k) c ≤ getD next c 0
+  pub room : (c : ℕ) → c < length next → getD next c 0 + brings l k (limitedOf work code l k) c < 2 ^ 64
+
+pub record CutDone (f l k code : ℕ) (work next next' : List ℕ) (moved moved' : List ℤ) : Type 0 where
+  pub flowed : Transferred next l k (limitedOf work code l k) next'
+  pub moved-long : length moved' ≡ length moved
+  pub moved-at : (g : ℕ) → getD moved' g (pos 0) ≡ cond (eqb f g) (getD moved f (pos 0) +ℤ limitedOf work code l k) (getD moved g (pos 0))
+
+-- 5, what the limiter rests on, and what it leaves
+pub record LimitAsks (M : Mesh) (gain loss : ℕ → ℕ) (x : ℕ → ℤ) (next : List ℕ) (moved : List ℤ) (work : List ℕ) : Type 0 where
+  pub few-cells : M .cells ≤ boundary
+  pub few-faces : M .faces ≤ maxFaces
+  pub firsts-long : M .faces ≤ length (M .firsts)
+  pub seconds-long : M .faces ≤ length (M .seconds)
+  pub work-long : length work ≡ 4 * M .cells + M .faces
+  pub next-long : length next ≡ M .cells
+  pub moved-long : length moved ≡ M .faces
+  pub ends : (f : ℕ) → f < M .faces → EndsIn (M .cells) (first M f) (second M f)
+  pub boundary-none : (f : ℕ) → f < M .faces → second M f ≡ boundary → size (x f) ≡ 0
+  pub size-most : (f : ℕ) → f < M .faces → size (x f) ≤ 4095000000
+  pub p-is : (c : ℕ) → c < M .cells → getD work (4 * c) 0 ≡ incoming M x c
+  pub n-is : (c : ℕ) → c < M .cells → getD work (4 * c + 3) 0 ≡ outgoing M x c
+  pub gain-most : (c : ℕ) → c < M .cells → gain c ≤ 4095004094
+  pub loss-most : (c : ℕ) → c < M .cells → loss c ≤ getD next c 0
+  pub next-most : (c : ℕ) → c < M .cells → getD next c 0 ≤ 4095004094
+  pub moved-most : (f : ℕ) → f < M .faces → size (getD moved f (pos 0)) ≤ 4095000000
+
+pub record Limited (M : Mesh) (gain loss : ℕ → ℕ) (x : ℕ → ℤ) (next₀ : List ℕ) (moved₀ : List ℤ) (f : ℕ) (next : List ℕ) (moved : List ℤ) : Type 0 where
+  pub flowing : Flowing M (limitedBy M gain loss x) (λ c. getD next₀ c 0) f next
+  pub moved-long : length moved ≡ length moved₀
+  pub moved-at : (g : ℕ) → g < f → getD moved g (pos 0) ≡ getD moved₀ g (pos 0) +ℤ limitedBy M gain loss x g
+  pub moved-rest : (g : ℕ) → f ≤ g → getD moved g (pos 0) ≡ getD moved₀ g (pos 0)
