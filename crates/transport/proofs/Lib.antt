@@ -7,3 +7,5 @@ pub mod Sweeps
 pub mod Settlings
 pub mod Weighings
 pub mod Limitings
+pub mod Advances
+pub mod Promises

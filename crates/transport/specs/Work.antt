@@ -10,9 +10,10 @@ use lib.IntN.{ℤ, pos, _+ℤ_, _-ℤ_, _*ℤ_}
 use lib.ListN.{length, getD, set}
 use lib.Signed.{quotZ}
 use Rattle.lists.specs.Fold.{sum, least, greatest}
+use Rattle.lists.specs.Table.{table, over}
 use Rattle.signed.specs.Sign.{size, isZero, isNegative, forward, backward, withSign}
 use Rattle.model.specs.Mesh.{Mesh, meshOf, boundary, maxFaces, maxVolume, maxConcentration, maxBoundaryFlux, maxWeight, maxSpan, atBoundary, entering, leaving, incoming, outgoing, first, second}
-use Rattle.model.specs.Step.{StepInput, portion, limitedBy, flux, outside, mass, concentration, carried, correction, adjacent, inMass, outMass}
+use Rattle.model.specs.Step.{StepInput, portion, limitedBy, flux, outside, mass, concentration, carried, correction, adjacent, inMass, outMass, next, moved}
 
 -- what a step works on, from the tables lent to a pass
 abbrev pub inputFrom : ℕ → ℕ → List ℕ → List ℕ → List ℕ → List ℕ → List ℕ → List ℕ → List ℤ → List ℕ → StepInput
@@ -234,3 +235,19 @@ pub record Limited (M : Mesh) (gain loss : ℕ → ℕ) (x : ℕ → ℤ) (next�
   pub moved-long : length moved ≡ length moved₀
   pub moved-at : (g : ℕ) → g < f → getD moved g (pos 0) ≡ getD moved₀ g (pos 0) +ℤ limitedBy M gain loss x g
   pub moved-rest : (g : ℕ) → f ≤ g → getD moved g (pos 0) ≡ getD moved₀ g (pos 0)
+
+-- after all passes, on tables as long as the counts
+pub record Advanced (S : StepInput) (entered gone : ℕ) (next₁ : List ℕ) (moved₁ : List ℤ) (work₁ : List ℕ) : Type 0 where
+  pub entered-is : entered ≡ inMass S
+  pub gone-is : gone ≡ outMass S
+  pub next-is : next₁ ≡ table (S .mesh .cells) (next S)
+  pub moved-is : moved₁ ≡ table (S .mesh .faces) (moved S)
+  pub work-is : work₁ ≡ table (4 * S .mesh .cells + S .mesh .faces) (λ i. 0)
+
+-- the same, on longer tables
+pub record AdvancedOver (S : StepInput) (entered gone : ℕ) (next₀ next₁ : List ℕ) (moved₀ moved₁ : List ℤ) (work₀ work₁ : List ℕ) : Type 0 where
+  pub entered-is : entered ≡ inMass S
+  pub gone-is : gone ≡ outMass S
+  pub next-is : next₁ ≡ over (table (S .mesh .cells) (next S)) next₀
+  pub moved-is : moved₁ ≡ over (table (S .mesh .faces) (moved S)) moved₀
+  pub work-is : work₁ ≡ over (table (4 * S .mesh .cells + S .mesh .faces) (λ i. 0)) work₀

@@ -1,4 +1,6 @@
+use model::Answer;
 use model::BOUNDARY;
+use model::Refusal;
 ghost use mathlib.Core.Path.{_≡_};
 ghost use mathlib.Core.Bool.{cond};
 ghost use mathlib.Core.Logic.{_≢_};
@@ -7,7 +9,10 @@ ghost use lib.Dec.{eqb, leb, ltb};
 ghost use lib.ListN.{length, getD, set};
 ghost use Rattle.signed.specs.Sign.{size as sizeOf, withSign};
 ghost use Rattle.model.specs.Step.{portion as portionOf};
-ghost use Rattle.transport.specs.Work.{coded, gap, correctionOf, widened, metAcross, brings, takes, Transferred, EndsIn, Opened, FaceAsks, FaceDone, inputFrom, Swept, SweepDone, settledCell, CellAsks, Settled, enters, leaves, weighedFace, WeighAsks, Weighed, endsOf, corrections, CutAsks, CutDone, LimitAsks, Limited};
+ghost use Rattle.transport.specs.Work.{coded, gap, correctionOf, widened, metAcross, brings, takes, Transferred, EndsIn, Opened, FaceAsks, FaceDone, inputFrom, Swept, SweepDone, settledCell, CellAsks, Settled, enters, leaves, weighedFace, WeighAsks, Weighed, endsOf, corrections, CutAsks, CutDone, LimitAsks, Limited, Advanced, AdvancedOver};
+ghost use Rattle.transport.specs.Promise.{StepPromise};
+ghost use Rattle.model.specs.Mesh.{meshOf};
+ghost use Rattle.model.specs.Causes.{callOf};
 ghost use Rattle.lists.specs.Table.{table};
 ghost use Rattle.model.proofs.Accepted.{Ready};
 
@@ -291,7 +296,19 @@ fn sweep(
         let a = work[4 * (first as usize)];
         let b = beyond(work, second, outsides[f]);
         let amount = sweep_face(
-            f, first, second, negative, size, weights[f], spans[f], a, b, cells, next, moved, work,
+            f,
+            first,
+            second,
+            negative,
+            size,
+            weights[f],
+            spans[f],
+            a,
+            b,
+            cells,
+            next,
+            moved,
+            work,
         );
         in_mass += entered(second, negative, amount);
         out_mass += gone(second, negative, amount);
@@ -431,4 +448,144 @@ fn clear(work: &mut [u64])
         work[i] = 0;
         i += 1;
     }
+}
+
+// All five passes, on tables as long as the counts.
+fn advance_whole(
+    cells: usize,
+    faces: usize,
+    volumes: &[u64],
+    firsts: &[u64],
+    seconds: &[u64],
+    weights: &[u64],
+    spans: &[u64],
+    masses: &[u64],
+    fluxes: &[i64],
+    outsides: &[u64],
+    next: &mut [u64],
+    moved: &mut [i64],
+    work: &mut [u64],
+) -> Crossing
+    requires { ⌜ Ready (inputFrom cells faces (now volumes) (now firsts) (now seconds) (now weights) (now spans) (now masses) (now fluxes) (now outsides)) ⌝ }
+    requires { ⌜ (length (now next) ≡ cells) × (length (now moved) ≡ faces) × (length (now work) ≡ 4 * cells + faces) ⌝ }
+    ensures { λ r. ⌜ Advanced (inputFrom cells faces (now (volumes .entry)) (now (firsts .entry)) (now (seconds .entry)) (now (weights .entry)) (now (spans .entry)) (now (masses .entry)) (now (fluxes .entry)) (now (outsides .entry))) (r .entered) (r .gone) (now (next .exit)) (now (moved .exit)) (now (work .exit)) ⌝ }
+{
+    open_cells(cells, volumes, masses, next, work);
+    let crossing = sweep(
+        cells,
+        faces,
+        volumes,
+        firsts,
+        seconds,
+        weights,
+        spans,
+        masses,
+        fluxes,
+        outsides,
+        next,
+        moved,
+        work,
+    );
+    settle(cells, volumes, next, work);
+    weigh(cells, faces, firsts, seconds, work);
+    limit(cells, faces, firsts, seconds, next, moved, work);
+    clear(work);
+    crossing
+}
+
+// The same on the first entries of longer tables.
+fn advance(
+    cells: usize,
+    faces: usize,
+    volumes: &[u64],
+    firsts: &[u64],
+    seconds: &[u64],
+    weights: &[u64],
+    spans: &[u64],
+    masses: &[u64],
+    fluxes: &[i64],
+    outsides: &[u64],
+    next: &mut [u64],
+    moved: &mut [i64],
+    work: &mut [u64],
+) -> Crossing
+    requires { ⌜ Ready (inputFrom cells faces (now volumes) (now firsts) (now seconds) (now weights) (now spans) (now masses) (now fluxes) (now outsides)) ⌝ }
+    requires { ⌜ (cells ≤ length (now next)) × (faces ≤ length (now moved)) × (4 * cells + faces ≤ length (now work)) ⌝ }
+    ensures { λ r. ⌜ AdvancedOver (inputFrom cells faces (now (volumes .entry)) (now (firsts .entry)) (now (seconds .entry)) (now (weights .entry)) (now (spans .entry)) (now (masses .entry)) (now (fluxes .entry)) (now (outsides .entry))) (r .entered) (r .gone) (now (next .entry)) (now (next .exit)) (now (moved .entry)) (now (moved .exit)) (now (work .entry)) (now (work .exit)) ⌝ }
+{
+    advance_whole(
+        cells,
+        faces,
+        volumes,
+        firsts,
+        seconds,
+        weights,
+        spans,
+        masses,
+        fluxes,
+        outsides,
+        &mut next[..cells],
+        &mut moved[..faces],
+        &mut work[..4 * cells + faces],
+    )
+}
+
+// What a step answers.
+pub enum StepAnswer {
+    Stepped(Crossing),
+    Refused(Refusal),
+}
+
+// One step on lent tables, tested by causes 1 to 10 before any table is written.
+pub fn step(
+    cells: usize,
+    faces: usize,
+    volumes: &[u64],
+    firsts: &[u64],
+    seconds: &[u64],
+    weights: &[u64],
+    spans: &[u64],
+    masses: &[u64],
+    fluxes: &[i64],
+    outsides: &[u64],
+    next: &mut [u64],
+    moved: &mut [i64],
+    work: &mut [u64],
+) -> StepAnswer
+    ensures { λ r. ⌜ StepPromise (meshOf cells faces (now (volumes .entry)) (now (firsts .entry)) (now (seconds .entry)) (now (weights .entry)) (now (spans .entry))) (now (masses .entry)) (callOf (now (fluxes .entry)) (now (outsides .entry)) (now (next .entry)) (now (moved .entry)) (now (work .entry))) r (now (next .exit)) (now (moved .exit)) (now (work .exit)) ⌝ }
+{
+    let verdict = checks::check_step(
+        cells,
+        faces,
+        volumes,
+        firsts,
+        seconds,
+        weights,
+        spans,
+        masses,
+        fluxes,
+        outsides,
+        next,
+        moved,
+        work,
+    );
+    if let Answer::Refused(refusal) = verdict {
+        return StepAnswer::Refused(refusal);
+    }
+    let crossing = advance(
+        cells,
+        faces,
+        volumes,
+        firsts,
+        seconds,
+        weights,
+        spans,
+        masses,
+        fluxes,
+        outsides,
+        next,
+        moved,
+        work,
+    );
+    StepAnswer::Stepped(crossing)
 }

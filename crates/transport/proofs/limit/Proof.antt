@@ -37,9 +37,11 @@ loop-again : tie.Need-loop-again Inv-loop μ-loop
 loop-again c =
     let w = c .before .before .before .before .before .before .before .before .before in
     let s = c .before .before .before .before .before .before .before .before .before .before .before .before .before .before .before in
-    let l = w .before .loop in
-    (omega (arith, w .loop-test .taken), limited-turn (mesh s) (λ c. getD (s .args .work .now) (4 * c + 2) 0) (λ c. getD (s .args .work .now) (4 * c + 1) 0) (corrections (s .args .cells) (s .args .work .now)) (s .args .next .now) (s .args .moved .now) (s .args .work .now) (s .pre)
-    (λ c. refl) (λ c. refl) (l .f) (w .loop-test .taken) (l .next) (l .moved) (l .inv .1) refl _ _ (c .before .before .before .limit-face .ensures))
+    let l = w .before .loop in (
+      omega (arith, w .loop-test .taken),
+      limited-turn (mesh s) (λ c. getD (s .args .work .now) (4 * c + 2) 0) (λ c. getD (s .args .work .now) (4 * c + 1) 0) (corrections (s .args .cells) (s .args .work .now)) (s .args .next .now) (s .args .moved .now) (s .args .work .now) (s .pre)
+          (λ c. refl) (λ c. refl) (l .f) (w .loop-test .taken) (l .next) (l .moved) (l .inv .1) refl _ _ (c .before .before .before .limit-face .ensures),
+    )
 
 returns : tie.Need-returns Inv-loop μ-loop
 returns c = let e : c .before .loop .f ≡ c .before .before .before .before .before .before .args .faces = omega (arith, c .before .loop .inv .0, c .loop-test .left) in rw e at (c .before .loop .inv .1)

@@ -23,10 +23,15 @@ cut-requires c κs =
     let d = c .before .before .if1 .left in
     let p = s .pre .inside d in
     let b = eqb (s .args .code % 2) 1 in
-    rw (c .before .end-of .ensures, c .end-of2 .ensures)
-    ((end-in 4095 (s .args .first) (s .args .second) b (p .2) (p .3), end-in 4095 (s .args .second) (s .args .first) b (p .3) (p .2),
-    end-room (length (s .args .work .now)) (s .args .first) (s .args .second) b (p .0) (p .1), end-room (length (s .args .work .now)) (s .args .second) (s .args .first) b (p .1) (p .0)),
-    (omega (arith, mul-le-mul (s .pre .size-most) (s .pre .gain-fits d)), omega (arith, mul-le-mul (s .pre .size-most) (s .pre .loss-fits d))))
+    rw (c .before .end-of .ensures, c .end-of2 .ensures) (
+      (
+        end-in 4095 (s .args .first) (s .args .second) b (p .2) (p .3),
+        end-in 4095 (s .args .second) (s .args .first) b (p .3) (p .2),
+        end-room (length (s .args .work .now)) (s .args .first) (s .args .second) b (p .0) (p .1),
+        end-room (length (s .args .work .now)) (s .args .second) (s .args .first) b (p .1) (p .0),
+      ),
+      (omega (arith, mul-le-mul (s .pre .size-most) (s .pre .gain-fits d)), omega (arith, mul-le-mul (s .pre .size-most) (s .pre .loss-fits d))),
+    )
 
 -- the amount is what the limiter says, and no more than the correction
 amount-is : (c : tie.After-cut) → let s = c .before .before .before .before .before .before in c .cut .result ≡ cutOf (s .args .work .now) (s .args .code) (enters (s .args .code) (s .args .first) (s .args .second)) (leaves (s .args .code) (s .args .first) (s .args .second))

@@ -30,9 +30,10 @@ weigh-face-requires c κs =
     let w = c .before .before .before .before in
     let s = c .before .before .before .before .before .before .before .before .before in
     let l = w .before .loop in
-    let M = endsOf (s .args .cells) (s .args .faces) (s .args .firsts .now) (s .args .seconds .now) in
-    (weigh-asks-ends M (corrections (s .args .cells) (s .args .work .now)) (s .args .work .now) (s .pre) (l .f) (w .loop-test .taken) (l .work) (l .inv .1) (code-is w),
-    weigh-asks-room M (corrections (s .args .cells) (s .args .work .now)) (s .args .work .now) (s .pre) (l .f) (w .loop-test .taken) (l .work) (l .inv .1) (code-is w))
+    let M = endsOf (s .args .cells) (s .args .faces) (s .args .firsts .now) (s .args .seconds .now) in (
+      weigh-asks-ends M (corrections (s .args .cells) (s .args .work .now)) (s .args .work .now) (s .pre) (l .f) (w .loop-test .taken) (l .work) (l .inv .1) (code-is w),
+      weigh-asks-room M (corrections (s .args .cells) (s .args .work .now)) (s .args .work .now) (s .pre) (l .f) (w .loop-test .taken) (l .work) (l .inv .1) (code-is w),
+    )
 
 loop-again : tie.Need-loop-again Inv-loop μ-loop
 loop-again c =
