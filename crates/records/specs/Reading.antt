@@ -131,19 +131,28 @@ fieldNeeds cells bs = fieldHeadVerdict cells bs andThen accepted (fieldLength ce
 unfoldable pub stepNeeds : ℕ → List ℕ → List ℕ → Outcome ℕ
 stepNeeds faces seconds bs = stepHeadVerdict faces seconds bs andThen accepted (stepLength faces seconds)
 
--- ".. length 11, 2, 12": the outcomes of reading into tables of so many entries.
-unfoldable pub meshRead : ℕ → ℕ → List ℕ → ℕ → ℕ → ℕ → ℕ → ℕ → Outcome Counts
-meshRead mostCells mostFaces bs volumes firsts seconds weights spans =
-    meshHeadVerdict mostCells mostFaces bs andThen hasLength bs (meshLength (cellsIn bs) (facesIn bs))
+-- ".. length 11, 2, 12": what a record whose head is fine is refused for, read into tables of so many entries.
+unfoldable pub meshBodyVerdict : List ℕ → ℕ → ℕ → ℕ → ℕ → ℕ → Verdict
+meshBodyVerdict bs volumes firsts seconds weights spans = hasLength bs (meshLength (cellsIn bs) (facesIn bs))
     andThen long 0 (cellsIn bs) volumes andThen long 1 (facesIn bs) firsts andThen long 2 (facesIn bs) seconds
     andThen long 3 (facesIn bs) weights andThen long 4 (facesIn bs) spans
-    andThen each 12 (8 * length bs) (meshBitGood bs) andThen accepted (countsIn bs)
+    andThen each 12 (8 * length bs) (meshBitGood bs)
 
-unfoldable pub fieldRead : ℕ → List ℕ → ℕ → Verdict
-fieldRead cells bs masses = fieldHeadVerdict cells bs andThen hasLength bs (fieldLength cells) andThen long 5 cells masses
+unfoldable pub fieldBodyVerdict : ℕ → List ℕ → ℕ → Verdict
+fieldBodyVerdict cells bs masses = hasLength bs (fieldLength cells) andThen long 5 cells masses
 
-unfoldable pub stepRead : ℕ → List ℕ → List ℕ → ℕ → ℕ → Verdict
-stepRead faces seconds bs fluxes outsides =
-    stepHeadVerdict faces seconds bs andThen hasLength bs (stepLength faces seconds)
+unfoldable pub stepBodyVerdict : ℕ → List ℕ → List ℕ → ℕ → ℕ → Verdict
+stepBodyVerdict faces seconds bs fluxes outsides = hasLength bs (stepLength faces seconds)
     andThen long 6 faces fluxes andThen long 7 faces outsides
     andThen each 12 (8 * length bs) (stepBitGood bs faces seconds)
+
+-- What each reading comes to.
+unfoldable pub meshRead : ℕ → ℕ → List ℕ → ℕ → ℕ → ℕ → ℕ → ℕ → Outcome Counts
+meshRead mostCells mostFaces bs volumes firsts seconds weights spans =
+    meshHeadVerdict mostCells mostFaces bs andThen meshBodyVerdict bs volumes firsts seconds weights spans andThen accepted (countsIn bs)
+
+unfoldable pub fieldRead : ℕ → List ℕ → ℕ → Verdict
+fieldRead cells bs masses = fieldHeadVerdict cells bs andThen fieldBodyVerdict cells bs masses
+
+unfoldable pub stepRead : ℕ → List ℕ → List ℕ → ℕ → ℕ → Verdict
+stepRead faces seconds bs fluxes outsides = stepHeadVerdict faces seconds bs andThen stepBodyVerdict faces seconds bs fluxes outsides
