@@ -1,35 +1,21 @@
+use mathlib.Core.Path.{sym}
 use borrow.Author.Needs.{needs}
+use Rattle.model.proofs.Verdicts.{past, out}
+use Rattle.records.specs.Reading.{fieldNeeds}
+use Rattle.records.proofs.HeadLaws.{refuses, passes, field-head-says}
 use Rattle.records.proofs.field_length.Statement.{statement}
 use Rattle.records.proofs.field_length.Tie as tie
-use Rattle.records.proofs.field_length.Reads as reads
-use Rattle.records.proofs.field_length.Lts as lts
-use Rattle.records.proofs.heads.field.Reads as field-reads
-use Rattle.records.proofs.lengths.field_length.Reads as field-length-reads
 
--- src/lib.rt:54:9
-field-requires : tie.Need-field-requires
-field-requires c κs = search needs
-
--- src/lib.rt:55:28
-enum-known-a : tie.Need-enum-known-a
-enum-known-a c = search needs
-
--- src/lib.rt:56:9
 returns : tie.Need-returns
-returns c = ?
+unfolding fieldNeeds
+returns c = sym (out _ (refuses (c .before .before .before .field .ensures) (c .before .a .given .1)))
 
-enum-told : tie.Need-enum-told
-enum-told c = search needs
-
--- src/lib.rt:58:25
 field-length-requires : tie.Need-field-length-requires
-field-length-requires c κs = ?
+field-length-requires c κs = field-head-says _ _ (passes (c .before .before .field .ensures) (c .enum-told .given .1)) .few-cells
 
--- src/lib.rt:51:1
 returns-2 : tie.Need-returns-2
-returns-2 c = ?
+unfolding fieldNeeds
+returns-2 c = rw (c .field-length .ensures) (sym (past _ (passes (c .before .before .before .field .ensures) (c .before .enum-told .given .1))))
 
 pub field-length-spec : {M : Type 1} → statement M
-field-length-spec =
-    tie.close
-    (tie.spec field-requires enum-known-a returns enum-told field-length-requires returns-2)
+field-length-spec = tie.close (tie.spec (search needs) (search needs) returns (search needs) field-length-requires returns-2)

@@ -1,53 +1,33 @@
+use mathlib.Core.Path.{sym}
+use native.Mathlib.Omega.{arith}
 use borrow.Author.Needs.{needs}
+use Rattle.model.proofs.Verdicts.{past, out}
+use Rattle.records.specs.Reading.{meshNeeds}
+use Rattle.records.proofs.HeadLaws.{refuses, passes, mesh-head-says}
 use Rattle.records.proofs.mesh_length.Statement.{statement}
 use Rattle.records.proofs.mesh_length.Tie as tie
-use Rattle.records.proofs.mesh_length.Reads as reads
-use Rattle.records.proofs.mesh_length.Lts as lts
-use Rattle.records.proofs.heads.cells.Reads as cells-reads
-use Rattle.records.proofs.heads.faces.Reads as faces-reads
-use Rattle.records.proofs.heads.mesh.Reads as mesh-reads
-use Rattle.records.proofs.lengths.mesh_length.Reads as mesh-length-reads
 
--- src/lib.rt:41:9
-mesh-requires : tie.Need-mesh-requires
-mesh-requires c κs = search needs
-
--- src/lib.rt:42:28
-enum-known-a : tie.Need-enum-known-a
-enum-known-a c = search needs
-
--- src/lib.rt:43:9
 returns : tie.Need-returns
-returns c = ?
+unfolding meshNeeds
+returns c = sym (out _ (refuses (c .before .before .before .mesh .ensures) (c .before .a .given .1)))
 
-enum-told : tie.Need-enum-told
-enum-told c = search needs
-
--- src/lib.rt:45:9
 cells-requires : tie.Need-cells-requires
-cells-requires c κs = ?
+cells-requires c κs = let h = mesh-head-says _ _ _ (passes (c .before .before .mesh .ensures) (c .enum-told .given .1)) in omega arith
 
--- src/lib.rt:46:9
 faces-requires : tie.Need-faces-requires
-faces-requires c κs = ?
+faces-requires c κs = let h = mesh-head-says _ _ _ (passes (c .before .before .before .mesh .ensures) (c .before .enum-told .given .1)) in h .long
 
--- src/lib.rt:47:25
 mesh-length-requires : tie.Need-mesh-length-requires
-mesh-length-requires c κs = ?
+mesh-length-requires c κs =
+    let k = c .before .before in
+    let h = mesh-head-says _ _ _ (passes (k .before .before .mesh .ensures) (k .enum-told .given .1)) in
+    omega arith
 
--- src/lib.rt:38:1
 returns-2 : tie.Need-returns-2
-returns-2 c = ?
+unfolding meshNeeds
+returns-2 c =
+    let k = c .before .before .before in
+    rw (c .mesh-length .ensures, c .before .faces .ensures, c .before .before .cells .ensures) (sym (past _ (passes (k .before .before .mesh .ensures) (k .enum-told .given .1))))
 
 pub mesh-length-spec : {M : Type 1} → statement M
-mesh-length-spec =
-    tie.close
-    (tie.spec
-    mesh-requires
-    enum-known-a
-    returns
-    enum-told
-    cells-requires
-    faces-requires
-    mesh-length-requires
-    returns-2)
+mesh-length-spec = tie.close (tie.spec (search needs) (search needs) returns (search needs) cells-requires faces-requires mesh-length-requires returns-2)

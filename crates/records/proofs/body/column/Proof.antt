@@ -1,79 +1,38 @@
+use Prim.Native.Nat.{_≤_, _-_, _+_, _*_}
+use mathlib.Core.Path.{_≡_, refl, ap, _∙_}
+use native.Mathlib.Omega.{arith}
+use borrow.Author.Needs.{needs}
+use lib.ListN.{length, length-set}
+use Rattle.lists.specs.Table.{table, over}
+use Rattle.lists.proofs.Tables.{over-start, over-step, over-done}
+use Rattle.bits.specs.Field.{bitsAt}
 use Rattle.records.proofs.body.column.Statement.{statement}
 use Rattle.records.proofs.body.column.Tie as tie
-use Rattle.records.proofs.body.column.Reads as reads
-use Rattle.records.proofs.body.column.Lts as lts
-use Rattle.records.proofs.body.Body.new.Reads as new-reads
-use Rattle.records.proofs.body.Body.take.Reads as take-reads
 
 abbrev Inv-loop : tie.InvT-loop
-Inv-loop body first stride width out₀ i₀ out i = ?
+Inv-loop body first stride width out₀ i₀ out i = (length out ≡ length out₀) × (i ≤ length out₀) × (out ≡ over (table i (λ k. bitsAt body (first + k * stride) width)) out₀)
 
 abbrev μ-loop : tie.MeasureT-loop
-μ-loop body first stride width out₀ i₀ out i = ?
+μ-loop body first stride width out₀ i₀ out i = length out₀ - i
 
--- src/body.rt:73:5
-loop-holds : tie.Need-loop-holds Inv-loop μ-loop
-loop-holds c = ?
-
--- src/body.rt:74:37
 mul-new : tie.Need-mul-new Inv-loop μ-loop
-mul-new c = ?
+mul-new c = let s = c .before .before .before .before in let r = s .pre .1 (c .before .loop .i) (search needs) in omega arith
 
--- src/body.rt:74:29
 add-new : tie.Need-add-new Inv-loop μ-loop
-add-new c = ?
+add-new c = let s = c .before .before .before .before in let r = s .pre .1 (c .before .loop .i) (search needs) in omega arith
 
--- src/body.rt:74:19
-new-requires : tie.Need-new-requires Inv-loop μ-loop
-new-requires c κs = ?
-
--- src/body.rt:74:13
 take-requires : tie.Need-take-requires Inv-loop μ-loop
-take-requires c κs = ?
+take-requires c κs = let s = c .before .before .before .before .before in let r = s .pre .1 (c .before .before .loop .i) (search needs) in omega arith
 
--- src/body.rt:75:9
-mul-out : tie.Need-mul-out Inv-loop μ-loop
-mul-out c = ?
-
--- src/body.rt:75:9
-slice-write-out : tie.Need-slice-write-out Inv-loop μ-loop
-slice-write-out c = ?
-
--- src/body.rt:76:9
-add-i : tie.Need-add-i Inv-loop μ-loop
-add-i c = ?
-
--- src/body.rt:73:5
-loop-less : tie.Need-loop-less Inv-loop μ-loop
-loop-less c = ?
-
--- src/body.rt:73:5
 loop-again : tie.Need-loop-again Inv-loop μ-loop
-loop-again c = ?
-
--- src/body.rt:67:1
-same-length : tie.Need-same-length Inv-loop μ-loop
-same-length c = ?
-
--- src/body.rt:67:1
-returns : tie.Need-returns Inv-loop μ-loop
-returns c = ?
+loop-again c =
+    let l = c .before .before .before .loop in
+    let s = c .before .before .before .before .before .before in
+    (simp length-set (l .inv .0), search needs,
+      over-step _ _ _ (search needs) (l .inv .2) (c .take .ensures .0 ∙ ap (λ p. bitsAt (s .args .body .now) p (s .args .width)) (c .before .new .ensures)))
 
 pub column-spec : {M : Type 1} → statement M
 column-spec =
     tie.close
-    (tie.spec
-    Inv-loop
-    μ-loop
-    loop-holds
-    mul-new
-    add-new
-    new-requires
-    take-requires
-    mul-out
-    slice-write-out
-    add-i
-    loop-less
-    loop-again
-    same-length
-    returns)
+    (tie.spec Inv-loop μ-loop (λ c. (refl, search needs, over-start _ _)) mul-new add-new (search needs) take-requires (search needs) (search needs) (search needs) (search needs) loop-again
+    (λ c. c .before .loop .inv .0) (λ c. over-done _ _ _ (search needs) (search needs) (c .before .loop .inv .2)))

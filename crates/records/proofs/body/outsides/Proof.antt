@@ -1,85 +1,50 @@
+use Prim.Native.Nat.{_≤_, _-_, _+_, _*_}
+use mathlib.Core.Path.{_≡_, refl, ap, _∙_}
+use mathlib.Core.Bool.{cond}
+use native.Mathlib.Omega.{arith}
+use borrow.Author.Needs.{needs}
+use lib.ListN.{length, length-set}
+use Rattle.lists.specs.Table.{table, over}
+use Rattle.lists.proofs.Tables.{over-start, over-step, over-done}
+use Rattle.bits.specs.Field.{bitsAt}
+use Rattle.records.specs.Layouts.{outsideBits, isBoundary, boundaryFaces}
+use Rattle.records.proofs.HeadLaws.{boundary-none, boundary-part, outside-next}
+use Rattle.records.proofs.BodyLaws.{outside-taken}
 use Rattle.records.proofs.body.outsides.Statement.{statement}
 use Rattle.records.proofs.body.outsides.Tie as tie
-use Rattle.records.proofs.body.outsides.Reads as reads
-use Rattle.records.proofs.body.outsides.Lts as lts
-use Rattle.records.proofs.body.Body.new.Reads as new-reads
-use Rattle.records.proofs.body.outside.Reads as outside-reads
-use Rattle.records.proofs.lengths.is_boundary.Reads as is-boundary-reads
 
 abbrev Inv-loop : tie.InvT-loop
-Inv-loop body first seconds out₀ here₀ f₀ out here f = ?
+Inv-loop body first seconds out₀ here₀ f₀ out here f =
+    (length out ≡ length out₀) × (f ≤ length out₀) × (here .at ≡ first + boundaryFaces seconds f * outsideBits)
+    × (out ≡ over (table f (λ k. cond (isBoundary seconds k) (bitsAt body (first + boundaryFaces seconds k * outsideBits) outsideBits) 0)) out₀)
 
 abbrev μ-loop : tie.MeasureT-loop
-μ-loop body first seconds out₀ here₀ f₀ out here f = ?
+μ-loop body first seconds out₀ here₀ f₀ out here f = length out₀ - f
 
--- src/body.rt:113:9
-new-requires : tie.Need-new-requires Inv-loop μ-loop
-new-requires c κs = ?
-
--- src/body.rt:115:5
 loop-holds : tie.Need-loop-holds Inv-loop μ-loop
-loop-holds c = ?
+loop-holds c =
+    let s = c .before .before .before .before in
+    (refl, search needs, omega (arith, c .new .ensures, boundary-none (s .args .seconds .now)), over-start _ _)
 
--- src/body.rt:116:60
-mul-is-boundary : tie.Need-mul-is-boundary Inv-loop μ-loop
-mul-is-boundary c = ?
-
--- src/body.rt:116:60
-shared-slice-read-is-boundary : tie.Need-shared-slice-read-is-boundary Inv-loop μ-loop
-shared-slice-read-is-boundary c = ?
-
--- src/body.rt:116:39
-is-boundary-requires : tie.Need-is-boundary-requires Inv-loop μ-loop
-is-boundary-requires c κs = ?
-
--- src/body.rt:116:13
 outside-requires : tie.Need-outside-requires Inv-loop μ-loop
-outside-requires c κs = ?
+outside-requires c κs =
+    let l = c .before .before .before .loop in
+    let s = c .before .before .before .before .before .before .before .before in
+    let n = outside-next (s .args .seconds .now) (l .f) in
+    let p = boundary-part (s .args .seconds .now) (l .f + 1) (length (s .args .out .now)) (search needs) in
+    rw (c .is-boundary .ensures) (omega arith)
 
--- src/body.rt:117:9
-mul-out : tie.Need-mul-out Inv-loop μ-loop
-mul-out c = ?
-
--- src/body.rt:117:9
-slice-write-out : tie.Need-slice-write-out Inv-loop μ-loop
-slice-write-out c = ?
-
--- src/body.rt:119:9
-add-f : tie.Need-add-f Inv-loop μ-loop
-add-f c = ?
-
--- src/body.rt:115:5
-loop-less : tie.Need-loop-less Inv-loop μ-loop
-loop-less c = ?
-
--- src/body.rt:115:5
 loop-again : tie.Need-loop-again Inv-loop μ-loop
-loop-again c = ?
-
--- src/body.rt:109:1
-same-length : tie.Need-same-length Inv-loop μ-loop
-same-length c = ?
-
--- src/body.rt:109:1
-returns : tie.Need-returns Inv-loop μ-loop
-returns c = ?
+loop-again c =
+    let o = c .before in
+    let l = o .before .before .before .before .loop in
+    let s = o .before .before .before .before .before .before .before .before .before in
+    (simp length-set (l .inv .0), search needs,
+      rw (o .outside .ensures .1, o .before .is-boundary .ensures) (omega (arith, outside-next (s .args .seconds .now) (l .f), l .inv .2)),
+      over-step _ _ _ (search needs) (l .inv .3) (outside-taken _ (o .outside .ensures .0) (o .before .is-boundary .ensures) (l .inv .2)))
 
 pub outsides-spec : {M : Type 1} → statement M
 outsides-spec =
     tie.close
-    (tie.spec
-    Inv-loop
-    μ-loop
-    new-requires
-    loop-holds
-    mul-is-boundary
-    shared-slice-read-is-boundary
-    is-boundary-requires
-    outside-requires
-    mul-out
-    slice-write-out
-    add-f
-    loop-less
-    loop-again
-    same-length
-    returns)
+    (tie.spec Inv-loop μ-loop (search needs) loop-holds (search needs) (search needs) (search needs) outside-requires (search needs) (search needs) (search needs) (search needs) loop-again
+    (λ c. c .before .loop .inv .0) (λ c. over-done _ _ _ (search needs) (search needs) (c .before .loop .inv .3)))

@@ -1,70 +1,36 @@
+use mathlib.Core.Path.{sym}
+use native.Mathlib.Omega.{arith}
 use borrow.Author.Needs.{needs}
+use Rattle.model.specs.Causes.{_andThen_}
+use Rattle.model.proofs.Verdicts.{out}
+use Rattle.bits.specs.Layout.{bytesFor}
+use Rattle.records.specs.Reading.{meshHeadVerdict}
+use Rattle.records.proofs.HeadLaws.{refuses, passes, head-holds}
 use Rattle.records.proofs.heads.mesh.Statement.{statement}
 use Rattle.records.proofs.heads.mesh.Tie as tie
-use Rattle.records.proofs.heads.mesh.Reads as reads
-use Rattle.records.proofs.heads.mesh.Lts as lts
-use Rattle.records.proofs.heads.and_then.Reads as and-then-reads
-use Rattle.records.proofs.heads.cells.Reads as cells-reads
-use Rattle.records.proofs.heads.counts_within.Reads as counts-within-reads
-use Rattle.records.proofs.heads.faces.Reads as faces-reads
-use Rattle.records.proofs.heads.kind.Reads as kind-reads
-use Rattle.records.proofs.heads.need.Reads as need-reads
 
--- src/heads.rt:111:9
-need-requires : tie.Need-need-requires
-need-requires c κs = search needs
-
--- src/heads.rt:112:28
-enum-known-a : tie.Need-enum-known-a
-enum-known-a c = search needs
-
--- src/heads.rt:113:9
 returns : tie.Need-returns
-returns c = ?
+unfolding meshHeadVerdict bytesFor
+returns c = sym (out _ (out _ (refuses (c .before .before .before .need .ensures) (c .before .a .given .1))))
 
-enum-told : tie.Need-enum-told
-enum-told c = search needs
-
--- src/heads.rt:115:34
 kind-requires : tie.Need-kind-requires
-kind-requires c κs = ?
+kind-requires c κs = head-holds 4 (omega arith) (c .before .before .need .ensures) (c .enum-told .given .1)
 
--- src/heads.rt:115:9
-need-requires-2 : tie.Need-need-requires-2
-need-requires-2 c κs = search needs
-
--- src/heads.rt:116:55
 cells-requires : tie.Need-cells-requires
-cells-requires c κs = ?
+cells-requires c κs = let k = c .before .before in head-holds 4 (omega arith) (k .before .before .need .ensures) (k .enum-told .given .1)
 
--- src/heads.rt:116:69
 faces-requires : tie.Need-faces-requires
-faces-requires c κs = ?
+faces-requires c κs = let k = c .before .before .before in head-holds 4 (omega arith) (k .before .before .need .ensures) (k .enum-told .given .1)
 
--- src/heads.rt:116:17
-counts-within-requires : tie.Need-counts-within-requires
-counts-within-requires c κs = search needs
-
--- src/heads.rt:116:5
-and-then-requires : tie.Need-and-then-requires
-and-then-requires c κs = search needs
-
--- src/heads.rt:108:1
 returns-2 : tie.Need-returns-2
-returns-2 c = ?
+unfolding meshHeadVerdict bytesFor _andThen_
+returns-2 c =
+    let l = c .before .before .before .before in
+    let k = l .before .before in
+    rw (c .and-then .ensures, c .before .counts-within .ensures, c .before .before .faces .ensures, c .before .before .before .cells .ensures, l .need2 .ensures, l .before .kind .ensures,
+      passes (k .before .before .need .ensures) (k .enum-told .given .1))
 
 pub mesh-spec : {M : Type 1} → statement M
 mesh-spec =
     tie.close
-    (tie.spec
-    need-requires
-    enum-known-a
-    returns
-    enum-told
-    kind-requires
-    need-requires-2
-    cells-requires
-    faces-requires
-    counts-within-requires
-    and-then-requires
-    returns-2)
+    (tie.spec (search needs) (search needs) returns (search needs) kind-requires (search needs) cells-requires faces-requires (search needs) (search needs) returns-2)

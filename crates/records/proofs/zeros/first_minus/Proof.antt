@@ -1,68 +1,35 @@
+use Prim.Native.Nat.{ℕ, _≤_, _<_, _-_, _+_, _*_}
+use mathlib.Core.Path.{_≡_, sym, _∙_}
+use mathlib.Core.Bool.{false}
+use native.Mathlib.Omega.{arith}
+use borrow.Author.Needs.{needs}
+use borrow.Author.Count.{below-more}
+use Rattle.records.specs.Layouts.{stepHeadBits, fluxBits}
+use Rattle.records.specs.Reading.{minusZero}
+use Rattle.records.proofs.ZeroLaws.{minus-at}
 use Rattle.records.proofs.zeros.first_minus.Statement.{statement}
 use Rattle.records.proofs.zeros.first_minus.Tie as tie
-use Rattle.records.proofs.zeros.first_minus.Reads as reads
-use Rattle.records.proofs.zeros.first_minus.Lts as lts
-use Rattle.records.proofs.zeros.minus_zero.Reads as minus-zero-reads
 
 abbrev Inv-loop : tie.InvT-loop
-Inv-loop bytes faces f₀ f = ?
+Inv-loop bytes faces f₀ f = (f ≤ faces) × ((k : ℕ) → k < f → minusZero bytes faces (stepHeadBits + k * fluxBits) ≡ false)
 
 abbrev μ-loop : tie.MeasureT-loop
-μ-loop bytes faces f₀ f = ?
+μ-loop bytes faces f₀ f = faces - f
 
--- src/zeros.rt:57:5
-loop-holds : tie.Need-loop-holds Inv-loop μ-loop
-loop-holds c = ?
-
--- src/zeros.rt:58:30
-mul-minus-zero : tie.Need-mul-minus-zero Inv-loop μ-loop
-mul-minus-zero c = ?
-
--- src/zeros.rt:58:53
-mul-minus-zero-2 : tie.Need-mul-minus-zero-2 Inv-loop μ-loop
-mul-minus-zero-2 c = ?
-
--- src/zeros.rt:58:30
-add-minus-zero : tie.Need-add-minus-zero Inv-loop μ-loop
-add-minus-zero c = ?
-
--- src/zeros.rt:58:12
-minus-zero-requires : tie.Need-minus-zero-requires Inv-loop μ-loop
-minus-zero-requires c κs = ?
-
--- src/zeros.rt:59:13
 returns : tie.Need-returns Inv-loop μ-loop
-returns c = ?
+returns c =
+    let l = c .before .before .before .loop in
+    record { end = l .inv .0; plain = l .inv .1; minus = λ m. minus-at _ _ _ m ∙ sym (c .before .minus-zero .ensures) ∙ c .if1 .taken }
 
--- src/zeros.rt:61:9
-add-f : tie.Need-add-f Inv-loop μ-loop
-add-f c = ?
-
--- src/zeros.rt:57:5
-loop-less : tie.Need-loop-less Inv-loop μ-loop
-loop-less c = ?
-
--- src/zeros.rt:57:5
 loop-again : tie.Need-loop-again Inv-loop μ-loop
-loop-again c = ?
+loop-again c =
+    let l = c .before .before .before .loop in
+    (search needs, below-more _ _ (l .inv .1) (minus-at _ _ _ (search needs) ∙ sym (c .before .minus-zero .ensures) ∙ c .if1 .left))
 
--- src/zeros.rt:52:1
 returns-2 : tie.Need-returns-2 Inv-loop μ-loop
-returns-2 c = ?
+returns-2 c = let l = c .before .loop in record { end = l .inv .0; plain = l .inv .1; minus = λ m. absurd (omega arith) }
 
 pub first-minus-spec : {M : Type 1} → statement M
 first-minus-spec =
     tie.close
-    (tie.spec
-    Inv-loop
-    μ-loop
-    loop-holds
-    mul-minus-zero
-    mul-minus-zero-2
-    add-minus-zero
-    minus-zero-requires
-    returns
-    add-f
-    loop-less
-    loop-again
-    returns-2)
+    (tie.spec Inv-loop μ-loop (λ c. (search needs, λ k l. absurd (omega arith))) (search needs) (search needs) (search needs) (search needs) returns (search needs) (search needs) loop-again returns-2)

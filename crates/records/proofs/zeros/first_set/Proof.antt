@@ -1,53 +1,38 @@
+use Prim.Native.Nat.{ℕ, _≤_, _<_, _-_}
+use mathlib.Core.Path.{_≡_, sym, _∙_}
+use native.Mathlib.Omega.{arith}
+use borrow.Author.Needs.{needs}
+use Rattle.bits.specs.Field.{bitAt}
+use Rattle.records.proofs.ZeroLaws.{one-bit, clear-more}
 use Rattle.records.proofs.zeros.first_set.Statement.{statement}
 use Rattle.records.proofs.zeros.first_set.Tie as tie
-use Rattle.records.proofs.zeros.first_set.Reads as reads
-use Rattle.records.proofs.zeros.first_set.Lts as lts
-use Rattle.bits.proofs.read_bits.Reads as read-bits-reads
 
 abbrev Inv-loop : tie.InvT-loop
-Inv-loop bytes from to i₀ i = ?
+Inv-loop bytes from to i₀ i = (from ≤ i) × (i ≤ to) × ((k : ℕ) → from ≤ k → k < i → bitAt bytes k ≡ 0)
 
 abbrev μ-loop : tie.MeasureT-loop
-μ-loop bytes from to i₀ i = ?
+μ-loop bytes from to i₀ i = to - i
 
--- src/zeros.rt:29:5
-loop-holds : tie.Need-loop-holds Inv-loop μ-loop
-loop-holds c = ?
-
--- src/zeros.rt:30:12
-read-bits-requires : tie.Need-read-bits-requires Inv-loop μ-loop
-read-bits-requires c κs = ?
-
--- src/zeros.rt:31:13
 returns : tie.Need-returns Inv-loop μ-loop
-returns c = ?
+returns c =
+    let l = c .before .before .before .loop in
+    record {
+      start = l .inv .0;
+      end = l .inv .1;
+      clear = l .inv .2;
+      set = λ _. sym (one-bit _ _) ∙ sym (c .before .read-bits .ensures) ∙ c .if1 .taken;
+    }
 
--- src/zeros.rt:33:9
-add-i : tie.Need-add-i Inv-loop μ-loop
-add-i c = ?
-
--- src/zeros.rt:29:5
-loop-less : tie.Need-loop-less Inv-loop μ-loop
-loop-less c = ?
-
--- src/zeros.rt:29:5
 loop-again : tie.Need-loop-again Inv-loop μ-loop
-loop-again c = ?
+loop-again c =
+    let l = c .before .before .before .loop in
+    (search needs, search needs, clear-more _ _ _ (l .inv .2) (c .before .read-bits .ensures) (c .if1 .left))
 
--- src/zeros.rt:24:1
 returns-2 : tie.Need-returns-2 Inv-loop μ-loop
-returns-2 c = ?
+returns-2 c =
+    let l = c .before .loop in
+    record { start = l .inv .0; end = l .inv .1; clear = l .inv .2; set = λ m. absurd (omega arith) }
 
 pub first-set-spec : {M : Type 1} → statement M
 first-set-spec =
-    tie.close
-    (tie.spec
-    Inv-loop
-    μ-loop
-    loop-holds
-    read-bits-requires
-    returns
-    add-i
-    loop-less
-    loop-again
-    returns-2)
+    tie.close (tie.spec Inv-loop μ-loop (λ c. (search needs, search needs, λ k l m. absurd (omega arith))) (search needs) returns (search needs) (search needs) loop-again returns-2)
