@@ -11,15 +11,15 @@ use Rattle.lists.specs.Fold.{sum}
 use Rattle.lists.proofs.Sums.{sum-zero, sum-more, sum-part, sum-bound}
 use Rattle.lists.proofs.Tests.{leb-le, eqb-eq, both-true}
 use Rattle.model.specs.Mesh.{boundary, maxCells, maxFaces}
-use Rattle.model.specs.Causes.{Outcome, Verdict, fine, _andThen_, need, between, countsWithin}
+use Rattle.model.specs.Causes.{Outcome, Verdict, fine, _andThen_, need, long, between, countsWithin}
 use Rattle.model.specs.Answers.{told, said}
 use Rattle.model.specs.declared.Answer.{Answer}
 use Rattle.model.specs.declared.Answer.the-variants.{Done, Refused}
 use Rattle.model.specs.declared.Refusal.{Refusal}
 use Rattle.model.proofs.Verdicts.{both-fine, need-fine}
 use Rattle.bits.specs.Layout.{bytesFor}
-use Rattle.records.specs.Layouts.{outsideBits, isBoundary, boundaryFaces}
-use Rattle.records.specs.Reading.{cellsIn, facesIn, stepFacesIn, meshHeadVerdict, fieldHeadVerdict, stepHeadVerdict}
+use Rattle.records.specs.Layouts.{outsideBits, isBoundary, boundaryFaces, meshBits, fieldBits, stepBits, meshLength, fieldLength, stepLength}
+use Rattle.records.specs.Reading.{cellsIn, facesIn, stepFacesIn, hasLength, meshHeadVerdict, fieldHeadVerdict, stepHeadVerdict, fieldBodyVerdict}
 
 -- an answer that refuses, and one that does not
 pub refuses : {v : Verdict} {a : Answer} {r : Refusal} → said a ≡ v → a ≡ Refused r → v ≡ told r
@@ -120,3 +120,64 @@ outside-next s f = omega (arith, boundary-more s f, outside-width (isBoundary s 
 pub boundary-part : (s : List ℕ) (m n : ℕ) → m ≤ n → boundaryFaces s m ≤ boundaryFaces s n
 unfolding boundaryFaces
 boundary-part s m n l = sum-part m n (λ k. cond (isBoundary s k) 1 0) l
+
+-- whole bytes hold the bits, and 7 more at most
+pub bytes-hold : (n : ℕ) → n ≤ 8 * bytesFor n
+unfolding bytesFor
+bytes-hold n = omega arith
+
+pub bytes-most : (n : ℕ) → 8 * bytesFor n ≤ n + 7
+unfolding bytesFor
+bytes-most n = omega arith
+
+-- what a record that passed its length and its tables says
+pub record MeshTablesSay (bs : List ℕ) (volumes firsts seconds weights spans : ℕ) : Type 0 where
+  pub same-length : length bs ≡ bytesFor (meshBits (cellsIn bs) (facesIn bs))
+  pub volumes-long : cellsIn bs ≤ volumes
+  pub firsts-long : facesIn bs ≤ firsts
+  pub seconds-long : facesIn bs ≤ seconds
+  pub weights-long : facesIn bs ≤ weights
+  pub spans-long : facesIn bs ≤ spans
+
+pub mesh-tables-say : (bs : List ℕ) (volumes firsts seconds weights spans : ℕ)
+    → (hasLength bs (meshLength (cellsIn bs) (facesIn bs)) andThen long 0 (cellsIn bs) volumes andThen long 1 (facesIn bs) firsts
+    andThen long 2 (facesIn bs) seconds andThen long 3 (facesIn bs) weights andThen long 4 (facesIn bs) spans) ≡ fine
+    → MeshTablesSay bs volumes firsts seconds weights spans
+unfolding meshLength
+mesh-tables-say bs volumes firsts seconds weights spans e =
+    let a = both-fine _ _ e in
+    let b = both-fine _ _ (a .0) in
+    let c = both-fine _ _ (b .0) in
+    let d = both-fine _ _ (c .0) in
+    let g = both-fine _ _ (d .0) in
+    record {
+      same-length = eqb-eq _ _ (need-fine 11 0 _ (g .0));
+      volumes-long = leb-le _ _ (need-fine 2 0 _ (g .1));
+      firsts-long = leb-le _ _ (need-fine 2 1 _ (d .1));
+      seconds-long = leb-le _ _ (need-fine 2 2 _ (c .1));
+      weights-long = leb-le _ _ (need-fine 2 3 _ (b .1));
+      spans-long = leb-le _ _ (need-fine 2 4 _ (a .1));
+    }
+
+pub record FieldTablesSay (cells : ℕ) (bs : List ℕ) (masses : ℕ) : Type 0 where
+  pub same-length : length bs ≡ bytesFor (fieldBits cells)
+  pub masses-long : cells ≤ masses
+
+pub field-tables-say : (cells : ℕ) (bs : List ℕ) (masses : ℕ) → fieldBodyVerdict cells bs masses ≡ fine → FieldTablesSay cells bs masses
+unfolding fieldBodyVerdict fieldLength
+field-tables-say cells bs masses e =
+    let a = both-fine _ _ e in
+    record { same-length = eqb-eq _ _ (need-fine 11 0 _ (a .0)); masses-long = leb-le _ _ (need-fine 2 5 _ (a .1)) }
+
+pub record StepTablesSay (faces : ℕ) (seconds bs : List ℕ) (fluxes outsides : ℕ) : Type 0 where
+  pub same-length : length bs ≡ bytesFor (stepBits faces seconds)
+  pub fluxes-long : faces ≤ fluxes
+  pub outsides-long : faces ≤ outsides
+
+pub step-tables-say : (faces : ℕ) (seconds bs : List ℕ) (fluxes outsides : ℕ)
+    → (hasLength bs (stepLength faces seconds) andThen long 6 faces fluxes andThen long 7 faces outsides) ≡ fine → StepTablesSay faces seconds bs fluxes outsides
+unfolding stepLength
+step-tables-say faces seconds bs fluxes outsides e =
+    let a = both-fine _ _ e in
+    let b = both-fine _ _ (a .0) in
+    record { same-length = eqb-eq _ _ (need-fine 11 0 _ (b .0)); fluxes-long = leb-le _ _ (need-fine 2 6 _ (b .1)); outsides-long = leb-le _ _ (need-fine 2 7 _ (a .1)) }

@@ -175,3 +175,21 @@ module _ (bs : List ℕ) (faces e : ℕ) (l : stepHeadBits + faces * fluxBits �
         tail-clear = λ i m q. both i (r .tail-clear i m q) (past-signs i (inr (omega arith)));
         tail-set = λ i m q. zero i (r .tail-set i m q);
       }
+
+  -- up to the first minus of size 0 the fields are good, and at its sign they are not
+  pub fluxes-good : {r : ℕ} → FirstMinus bs faces r → (j : ℕ) → stepHeadBits ≤ j → j < stepHeadBits + r * fluxBits → (zeroBitGood bs stepZeroBits stepHeadBits e j && not (minusZero bs faces j)) ≡ true
+  fluxes-good {r} m j h k = both j (bit-used bs stepZeroBits stepHeadBits e j (inr h) (omega (arith, m .end))) (no-minus bs faces r (m .plain) j (inl k))
+
+  pub sign-bad : {r : ℕ} → FirstMinus bs faces r → r < faces → (zeroBitGood bs stepZeroBits stepHeadBits e (stepHeadBits + r * fluxBits) && not (minusZero bs faces (stepHeadBits + r * fluxBits))) ≡ false
+  sign-bad {r} m k = rw (m .minus k) (off (zeroBitGood bs stepZeroBits stepHeadBits e (stepHeadBits + r * fluxBits)))
+    where
+      off : (b : Bool) → (b && false) ≡ false
+      off true = refl
+      off false = refl
+
+  pub all-good : {r : ℕ} → FirstMinus bs faces r → faces ≤ r → (j : ℕ) → stepHeadBits ≤ j → j < e → (zeroBitGood bs stepZeroBits stepHeadBits e j && not (minusZero bs faces j)) ≡ true
+  all-good {r} m k j h n = both j (bit-used bs stepZeroBits stepHeadBits e j (inr h) n) (no-minus bs faces r (m .plain) j (either (decLt j (stepHeadBits + faces * fluxBits))))
+    where
+      either : Dec (j < stepHeadBits + faces * fluxBits) → (j < stepHeadBits + r * fluxBits) ⊎ (stepHeadBits + faces * fluxBits ≤ j)
+      either (yes q) = inl (omega arith)
+      either (no f) = inr (omega arith)

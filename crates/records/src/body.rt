@@ -8,7 +8,8 @@ ghost use lib.Dec.{eqb};
 ghost use Rattle.lists.specs.Table.{table};
 ghost use Rattle.signed.specs.Sign.{withSign};
 ghost use Rattle.bits.specs.Field.{bitsAt};
-ghost use Rattle.records.specs.Layouts.{signBits, sizeBits, outsideBits, fluxBits, isBoundary, boundaryFaces};
+ghost use Rattle.records.specs.Bodies.{MeshRoom, MeshBody, StepRoom, StepBody};
+ghost use Rattle.records.specs.Layouts.{massBits, signBits, sizeBits, outsideBits, fluxBits, isBoundary, boundaryFaces};
 
 // A place in a body, in bits from the body's first.
 pub struct Body {
@@ -118,4 +119,45 @@ pub fn outsides(body: &[u8], first: usize, seconds: &[u64], out: &mut [u64])
         here = got.next;
         f += 1;
     }
+}
+
+// The body of a mesh, into tables of just its counts.
+pub fn mesh(
+    body: &[u8],
+    volumes: &mut [u64],
+    firsts: &mut [u64],
+    seconds: &mut [u64],
+    weights: &mut [u64],
+    spans: &mut [u64],
+)
+    requires { ⌜ MeshRoom (now body) (length (now volumes)) (length (now firsts)) (length (now seconds)) (length (now weights)) (length (now spans)) ⌝ }
+    ensures { λ _. ⌜ MeshBody (now (body .entry)) (length (now (volumes .entry))) (length (now (firsts .entry))) (now (volumes .exit)) (now (firsts .exit)) (now (seconds .exit)) (now (weights .exit)) (now (spans .exit)) ⌝ }
+{
+    let faces = volumes.len() * Body::VOLUME;
+    let second = faces + Body::END;
+    let weight = second + Body::END;
+    let span = weight + Body::WEIGHT;
+    column(body, 0, Body::VOLUME, Body::VOLUME, volumes);
+    column(body, faces, Body::FACE, Body::END, firsts);
+    column(body, second, Body::FACE, Body::END, seconds);
+    column(body, weight, Body::FACE, Body::WEIGHT, weights);
+    column(body, span, Body::FACE, Body::SPAN, spans);
+}
+
+// The body of a field.
+pub fn field(body: &[u8], masses: &mut [u64])
+    requires { ⌜ (8 * length (now body) < 2 ^ 64) × (length (now masses) * massBits ≤ 8 * length (now body)) ⌝ }
+    ensures { λ _. ⌜ now (masses .exit) ≡ table (length (now (masses .entry))) (λ i. bitsAt (now (body .entry)) (0 + i * massBits) massBits) ⌝ }
+{
+    column(body, 0, Body::MASS, Body::MASS, masses);
+}
+
+// The body of a step: the fluxes of all faces, then the outside values.
+pub fn step(body: &[u8], seconds: &[u64], out_fluxes: &mut [i64], out_outsides: &mut [u64])
+    requires { ⌜ StepRoom (now body) (now seconds) (length (now «out_fluxes»)) (length (now «out_outsides»)) ⌝ }
+    ensures { λ _. ⌜ StepBody (now (body .entry)) (length (now («out_fluxes» .entry))) (now (seconds .entry)) (now («out_fluxes» .exit)) (now («out_outsides» .exit)) ⌝ }
+{
+    let first = out_fluxes.len() * Body::FLUX;
+    fluxes(body, out_fluxes);
+    outsides(body, first, seconds, out_outsides);
 }

@@ -2,6 +2,8 @@
 mod body;
 mod heads;
 mod lengths;
+mod tables;
+mod verdicts;
 mod zeros;
 
 use model::Answer;
@@ -67,4 +69,80 @@ pub fn step_length(faces: usize, seconds: &[u64], bytes: &[u8]) -> LengthAnswer
         return LengthAnswer::Refused(r);
     }
     LengthAnswer::Needs(lengths::step_length(faces, seconds))
+}
+
+// A mesh record read into tables of at least its counts. No limit is above document 01's, whatever the caller sets.
+pub fn read_mesh(
+    most_cells: usize,
+    most_faces: usize,
+    bytes: &[u8],
+    volumes: &mut [u64],
+    firsts: &mut [u64],
+    seconds: &mut [u64],
+    weights: &mut [u64],
+    spans: &mut [u64],
+) -> MeshAnswer
+    ensures { λ r. ⌜ MeshReading (meshRead «most_cells» «most_faces» (now (bytes .entry)) (length (now (volumes .entry))) (length (now (firsts .entry))) (length (now (seconds .entry))) (length (now (weights .entry))) (length (now (spans .entry)))) (now (bytes .entry)) (now (volumes .entry)) (now (firsts .entry)) (now (seconds .entry)) (now (weights .entry)) (now (spans .entry)) r (now (volumes .exit)) (now (firsts .exit)) (now (seconds .exit)) (now (weights .exit)) (now (spans .exit)) ⌝ }
+{
+    let a = heads::mesh(most_cells, most_faces, bytes);
+    if let Answer::Refused(r) = a {
+        return MeshAnswer::Refused(r);
+    }
+    let cells = heads::cells(bytes);
+    let faces = heads::faces(bytes);
+    let b = verdicts::mesh(
+        bytes,
+        cells,
+        faces,
+        volumes.len(),
+        firsts.len(),
+        seconds.len(),
+        weights.len(),
+        spans.len(),
+    );
+    if let Answer::Refused(r) = b {
+        return MeshAnswer::Refused(r);
+    }
+    tables::mesh(
+        cells, faces, bytes, volumes, firsts, seconds, weights, spans,
+    );
+    MeshAnswer::Read(Counts { cells, faces })
+}
+
+// The record of a field on so many cells.
+pub fn read_field(cells: usize, bytes: &[u8], masses: &mut [u64]) -> Answer
+    ensures { λ r. ⌜ FieldReading (fieldRead cells (now (bytes .entry)) (length (now (masses .entry)))) cells (now (bytes .entry)) (now (masses .entry)) r (now (masses .exit)) ⌝ }
+{
+    let a = heads::field(cells, bytes);
+    if let Answer::Refused(r) = a {
+        return Answer::Refused(r);
+    }
+    let b = verdicts::field(cells, bytes, masses.len());
+    if let Answer::Refused(r) = b {
+        return Answer::Refused(r);
+    }
+    tables::field(cells, bytes, masses);
+    Answer::Done
+}
+
+// The record of a step through these faces. Of the mesh only the seconds are looked at, for the boundary.
+pub fn read_step(
+    faces: usize,
+    seconds: &[u64],
+    bytes: &[u8],
+    fluxes: &mut [i64],
+    outsides: &mut [u64],
+) -> Answer
+    ensures { λ r. ⌜ StepReading (stepRead faces (now (seconds .entry)) (now (bytes .entry)) (length (now (fluxes .entry))) (length (now (outsides .entry)))) faces (now (seconds .entry)) (now (bytes .entry)) (now (fluxes .entry)) (now (outsides .entry)) r (now (fluxes .exit)) (now (outsides .exit)) ⌝ }
+{
+    let a = heads::step(faces, seconds, bytes);
+    if let Answer::Refused(r) = a {
+        return Answer::Refused(r);
+    }
+    let b = verdicts::step(faces, seconds, bytes, fluxes.len(), outsides.len());
+    if let Answer::Refused(r) = b {
+        return Answer::Refused(r);
+    }
+    tables::step(faces, seconds, bytes, fluxes, outsides);
+    Answer::Done
 }

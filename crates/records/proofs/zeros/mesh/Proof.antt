@@ -1,62 +1,30 @@
+use mathlib.Core.Path.{_∙_}
+use mathlib.Core.Logic.{inr}
+use native.Mathlib.Omega.{arith}
 use borrow.Author.Needs.{needs}
+use Rattle.records.proofs.ZeroLaws.{zeros-ruled, bit-used, head-hit, tail-hit, no-hit}
 use Rattle.records.proofs.zeros.mesh.Statement.{statement}
 use Rattle.records.proofs.zeros.mesh.Tie as tie
-use Rattle.records.proofs.zeros.mesh.Reads as reads
-use Rattle.records.proofs.zeros.mesh.Lts as lts
-use Rattle.records.proofs.zeros.first_set.Reads as first-set-reads
-use Rattle.records.proofs.zeros.refused.Reads as refused-reads
 
--- src/zeros.rt:77:16
-mul-head : tie.Need-mul-head
-mul-head c = search needs
-
--- src/zeros.rt:78:30
-sub-first-set : tie.Need-sub-first-set
-sub-first-set c = search needs
-
--- src/zeros.rt:78:9
-first-set-requires : tie.Need-first-set-requires
-first-set-requires c κs = search needs
-
--- src/zeros.rt:80:9
-refused-requires : tie.Need-refused-requires
-refused-requires c κs = search needs
-
--- src/zeros.rt:80:9
 returns : tie.Need-returns
-returns c = ?
+returns c =
+    let s = c .before .before .before .before in
+    c .refused .ensures ∙ head-hit (zeros-ruled _ _ _ _ (s .pre .1)) _ (omega arith) (c .before .before .first-set .ensures) (c .before .if1 .taken)
 
--- src/zeros.rt:82:15
-mul-all : tie.Need-mul-all
-mul-all c = search needs
-
--- src/zeros.rt:83:9
-first-set-requires-2 : tie.Need-first-set-requires-2
-first-set-requires-2 c κs = search needs
-
--- src/zeros.rt:85:9
-refused-requires-2 : tie.Need-refused-requires-2
-refused-requires-2 c κs = search needs
-
--- src/zeros.rt:85:9
 returns-2 : tie.Need-returns-2
-returns-2 c = ?
+returns-2 c =
+    let t = c .before .before in
+    let s = t .before .before .before .before in
+    c .refused2 .ensures
+    ∙ tail-hit (zeros-ruled _ _ _ _ (s .pre .1)) _ (t .before .before .first-set .ensures) (t .before .if1 .left) (λ j h l. bit-used _ _ _ _ j (inr h) l) (t .first-set2 .ensures) (c .before .if2 .taken)
 
--- src/zeros.rt:73:1
 returns-3 : tie.Need-returns-3
-returns-3 c = ?
+returns-3 c =
+    let t = c .before in
+    let s = t .before .before .before .before in
+    no-hit (zeros-ruled _ _ _ _ (s .pre .1)) _ (t .before .before .first-set .ensures) (t .before .if1 .left) (λ j h l. bit-used _ _ _ _ j (inr h) l) (t .first-set2 .ensures) (c .if2 .left)
 
 pub mesh-spec : {M : Type 1} → statement M
 mesh-spec =
     tie.close
-    (tie.spec
-    mul-head
-    sub-first-set
-    first-set-requires
-    refused-requires
-    returns
-    mul-all
-    first-set-requires-2
-    refused-requires-2
-    returns-2
-    returns-3)
+    (tie.spec (search needs) (search needs) (search needs) (search needs) returns (search needs) (search needs) (search needs) returns-2 returns-3)

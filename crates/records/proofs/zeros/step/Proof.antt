@@ -1,88 +1,42 @@
+use mathlib.Core.Path.{_∙_}
+use native.Mathlib.Omega.{arith}
 use borrow.Author.Needs.{needs}
+use Rattle.records.proofs.ZeroLaws.{step-ruled, fluxes-good, all-good, sign-bad, head-hit, middle-hit, tail-hit, no-hit}
 use Rattle.records.proofs.zeros.step.Statement.{statement}
 use Rattle.records.proofs.zeros.step.Tie as tie
-use Rattle.records.proofs.zeros.step.Reads as reads
-use Rattle.records.proofs.zeros.step.Lts as lts
-use Rattle.records.proofs.zeros.first_minus.Reads as first-minus-reads
-use Rattle.records.proofs.zeros.first_set.Reads as first-set-reads
-use Rattle.records.proofs.zeros.refused.Reads as refused-reads
 
--- src/zeros.rt:94:16
-mul-head : tie.Need-mul-head
-mul-head c = search needs
-
--- src/zeros.rt:95:30
-sub-first-set : tie.Need-sub-first-set
-sub-first-set c = search needs
-
--- src/zeros.rt:95:9
-first-set-requires : tie.Need-first-set-requires
-first-set-requires c κs = search needs
-
--- src/zeros.rt:97:9
-refused-requires : tie.Need-refused-requires
-refused-requires c κs = search needs
-
--- src/zeros.rt:97:9
 returns : tie.Need-returns
-returns c = ?
+returns c =
+    let s = c .before .before .before .before in
+    c .refused .ensures ∙ head-hit (step-ruled _ _ _ (s .pre .1)) _ (omega arith) (c .before .before .first-set .ensures) (c .before .if1 .taken)
 
--- src/zeros.rt:99:9
-first-minus-requires : tie.Need-first-minus-requires
-first-minus-requires c κs = search needs
-
--- src/zeros.rt:101:31
-mul-refused : tie.Need-mul-refused
-mul-refused c = search needs
-
--- src/zeros.rt:101:24
-add-refused : tie.Need-add-refused
-add-refused c = search needs
-
--- src/zeros.rt:101:9
-refused-requires-2 : tie.Need-refused-requires-2
-refused-requires-2 c κs = search needs
-
--- src/zeros.rt:101:9
 returns-2 : tie.Need-returns-2
-returns-2 c = ?
+returns-2 c =
+    let m = c .before .before in
+    let s = m .before .before .before .before in
+    c .refused2 .ensures
+    ∙ middle-hit (step-ruled _ _ _ (s .pre .1)) _ (m .before .before .first-set .ensures) (m .before .if1 .left) (omega arith)
+    (fluxes-good _ _ _ (s .pre .1) (m .first-minus .ensures)) (sign-bad _ _ _ (s .pre .1) (m .first-minus .ensures) (c .before .if2 .taken))
 
--- src/zeros.rt:103:15
-mul-all : tie.Need-mul-all
-mul-all c = search needs
-
--- src/zeros.rt:104:9
-first-set-requires-2 : tie.Need-first-set-requires-2
-first-set-requires-2 c κs = search needs
-
--- src/zeros.rt:106:9
-refused-requires-3 : tie.Need-refused-requires-3
-refused-requires-3 c κs = search needs
-
--- src/zeros.rt:106:9
 returns-3 : tie.Need-returns-3
-returns-3 c = ?
+returns-3 c =
+    let t = c .before .before in
+    let m = t .before .before in
+    let s = m .before .before .before .before in
+    c .refused3 .ensures
+    ∙ tail-hit (step-ruled _ _ _ (s .pre .1)) _ (m .before .before .first-set .ensures) (m .before .if1 .left) (all-good _ _ _ (s .pre .1) (m .first-minus .ensures) (t .before .if2 .left))
+    (t .first-set2 .ensures) (c .before .if3 .taken)
 
--- src/zeros.rt:90:1
 returns-4 : tie.Need-returns-4
-returns-4 c = ?
+returns-4 c =
+    let t = c .before in
+    let m = t .before .before in
+    let s = m .before .before .before .before in
+    no-hit (step-ruled _ _ _ (s .pre .1)) _ (m .before .before .first-set .ensures) (m .before .if1 .left) (all-good _ _ _ (s .pre .1) (m .first-minus .ensures) (t .before .if2 .left))
+    (t .first-set2 .ensures) (c .if3 .left)
 
 pub step-spec : {M : Type 1} → statement M
 step-spec =
     tie.close
-    (tie.spec
-    mul-head
-    sub-first-set
-    first-set-requires
-    refused-requires
-    returns
-    first-minus-requires
-    mul-refused
-    add-refused
-    refused-requires-2
-    returns-2
-    mul-all
-    first-set-requires-2
-    refused-requires-3
-    returns-3
-    returns-4)
+    (tie.spec (search needs) (search needs) (search needs) (search needs) returns (search needs) (search needs) (search needs) (search needs) returns-2 (search needs) (search needs) (search needs)
+    returns-3 returns-4)
