@@ -2,7 +2,7 @@
 use Prim.Native.Nat.{ℕ, suc, _+_, _-_, _*_, _/_, _%_, _≤_, _<_}
 use mathlib.Core.Path.{_≡_, refl, sym, ap, _∙_}
 use mathlib.Core.Logic.{_⊎_, inl, inr, _≢_}
-use mathlib.Core.Bool.{Bool, true, false, not, _&&_, _||_}
+use mathlib.Core.Bool.{Bool, true, false, not, _&&_, _||_, true≢false}
 use mathlib.Core.List.{List}
 use native.Mathlib.Omega.{arith}
 use native.Mathlib.Decide.{decLt}
@@ -115,6 +115,11 @@ module _ (bs : List ℕ) (z h e : ℕ) where
       all : (b : Bool) → not (true && (b || true)) ≡ false
       all true = refl
       all false = refl
+
+  -- and back: a zero bit that is good is clear
+  pub good-clear : (i : ℕ) → zeroBitGood bs z h e i ≡ true → ((h - z ≤ i) × (i < h)) ⊎ (e ≤ i) → bitAt bs i ≡ 0
+  good-clear i g (inl p) = not-one bs i (λ q. true≢false (sym g ∙ bit-in-head i (p .0) (p .1) q))
+  good-clear i g (inr l) = not-one bs i (λ q. true≢false (sym g ∙ bit-in-tail i l q))
 
   pub zeros-ruled : h ≤ e → Ruled bs z h e (zeroBitGood bs z h e)
   zeros-ruled m = record {
