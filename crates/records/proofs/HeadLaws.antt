@@ -1,0 +1,189 @@
+-- What a head that is fine says, and how an answer and its verdict go together.
+use Prim.Native.Nat.{ℕ, _+_, _*_, _≤_, _<_, min}
+use mathlib.Core.Path.{_≡_, refl, sym, ap, _∙_}
+use mathlib.Core.Bool.{Bool, true, false, cond}
+use mathlib.Core.List.{List}
+use native.Mathlib.Nat.{le-trans}
+use native.Mathlib.Omega.{arith}
+use lib.ListN.{length, getD}
+use lib.Dec.{eqb, leb}
+use Rattle.lists.specs.Fold.{sum}
+use Rattle.lists.proofs.Sums.{sum-zero, sum-more, sum-part, sum-bound}
+use Rattle.lists.proofs.Tests.{leb-le, eqb-eq, both-true}
+use Rattle.model.specs.Mesh.{boundary, maxCells, maxFaces}
+use Rattle.model.specs.Causes.{Outcome, Verdict, fine, _andThen_, need, long, between, countsWithin}
+use Rattle.model.specs.Answers.{told, said}
+use Rattle.model.specs.declared.Answer.{Answer}
+use Rattle.model.specs.declared.Answer.the-variants.{Done, Refused}
+use Rattle.model.specs.declared.Refusal.{Refusal}
+use Rattle.model.proofs.Verdicts.{both-fine, need-fine}
+use Rattle.bits.specs.Layout.{bytesFor}
+use Rattle.records.specs.Layouts.{meshKind, fieldKind, stepKind, outsideBits, isBoundary, boundaryFaces, meshBits, fieldBits, stepBits, meshLength, fieldLength, stepLength}
+use Rattle.records.specs.Reading.{kindIn, cellsIn, facesIn, stepFacesIn, hasLength, meshHeadVerdict, fieldHeadVerdict, stepHeadVerdict, fieldBodyVerdict}
+
+-- an answer that refuses, and one that does not
+pub refuses : {v : Verdict} {a : Answer} {r : Refusal} → said a ≡ v → a ≡ Refused r → v ≡ told r
+refuses e q = sym e ∙ ap said q
+
+pub passes : {v : Verdict} {a : Answer} → said a ≡ v → a ≡ Done → v ≡ fine
+passes e q = sym e ∙ ap said q
+
+-- a record that is as long as its head
+pub head-holds : {a : Answer} {j m : ℕ} (n : ℕ) → j ≤ n → said a ≡ need 11 0 (leb n m) → a ≡ Done → j ≤ m
+head-holds {m = m} n l e q = le-trans l (leb-le n m (need-fine 11 0 _ (passes e q)))
+
+pub record MeshHeadSays (bs : List ℕ) : Type 0 where
+  pub long : 4 ≤ length bs
+  pub kind : kindIn bs ≡ meshKind
+  pub some-cells : 1 ≤ cellsIn bs
+  pub few-cells : cellsIn bs ≤ maxCells
+  pub few-faces : facesIn bs ≤ maxFaces
+
+pub mesh-head-says : (mostCells mostFaces : ℕ) (bs : List ℕ) → meshHeadVerdict mostCells mostFaces bs ≡ fine → MeshHeadSays bs
+unfolding meshHeadVerdict countsWithin bytesFor
+mesh-head-says mostCells mostFaces bs e =
+    let a = both-fine _ _ e in
+    let b = both-fine _ _ (a .0) in
+    let c = both-fine _ _ (a .1) in
+    let d = both-true (leb 1 (cellsIn bs)) (leb (cellsIn bs) (min mostCells maxCells)) (need-fine 1 0 _ (c .0)) in
+    record {
+      long = leb-le _ _ (need-fine 11 0 _ (b .0));
+      kind = eqb-eq _ _ (need-fine 13 0 _ (b .1));
+      some-cells = leb-le _ _ (d .0);
+      few-cells = omega (arith, leb-le (cellsIn bs) (min mostCells maxCells) (d .1));
+      few-faces = omega (arith, leb-le (facesIn bs) (min mostFaces maxFaces) (need-fine 1 1 _ (c .1)));
+    }
+
+pub record FieldHeadSays (cells : ℕ) (bs : List ℕ) : Type 0 where
+  pub long : 2 ≤ length bs
+  pub kind : kindIn bs ≡ fieldKind
+  pub same-count : cellsIn bs ≡ cells
+  pub some-cells : 1 ≤ cells
+  pub few-cells : cells ≤ maxCells
+
+pub field-head-says : (cells : ℕ) (bs : List ℕ) → fieldHeadVerdict cells bs ≡ fine → FieldHeadSays cells bs
+unfolding fieldHeadVerdict bytesFor
+field-head-says cells bs e =
+    let a = both-fine _ _ e in
+    let b = both-fine _ _ (a .0) in
+    let c = both-fine _ _ (b .0) in
+    let d = both-true (leb 1 cells) (leb cells maxCells) (need-fine 1 0 _ (a .1)) in
+    record {
+      long = leb-le _ _ (need-fine 11 0 _ (c .0));
+      kind = eqb-eq _ _ (need-fine 13 0 _ (c .1));
+      same-count = eqb-eq _ _ (need-fine 13 1 _ (b .1));
+      some-cells = leb-le _ _ (d .0);
+      few-cells = leb-le _ _ (d .1);
+    }
+
+pub record StepHeadSays (faces : ℕ) (seconds bs : List ℕ) : Type 0 where
+  pub long : 4 ≤ length bs
+  pub kind : kindIn bs ≡ stepKind
+  pub same-count : stepFacesIn bs ≡ faces
+  pub few-faces : faces ≤ maxFaces
+  pub lent : faces ≤ length seconds
+
+pub step-head-says : (faces : ℕ) (seconds bs : List ℕ) → stepHeadVerdict faces seconds bs ≡ fine → StepHeadSays faces seconds bs
+unfolding stepHeadVerdict bytesFor
+step-head-says faces seconds bs e =
+    let a = both-fine _ _ e in
+    let b = both-fine _ _ (a .0) in
+    let c = both-fine _ _ (b .0) in
+    let d = both-fine _ _ (c .0) in
+    record {
+      long = leb-le _ _ (need-fine 11 0 _ (d .0));
+      kind = eqb-eq _ _ (need-fine 13 0 _ (d .1));
+      same-count = eqb-eq _ _ (need-fine 13 1 _ (c .1));
+      few-faces = leb-le _ _ (need-fine 1 1 _ (b .1));
+      lent = leb-le _ _ (need-fine 2 2 _ (a .1));
+    }
+
+-- faces at the boundary, counted one after another
+pub boundary-none : (s : List ℕ) → boundaryFaces s 0 ≡ 0
+unfolding boundaryFaces
+boundary-none s = sum-zero _
+
+pub boundary-more : (s : List ℕ) (f : ℕ) → boundaryFaces s (f + 1) ≡ boundaryFaces s f + cond (isBoundary s f) 1 0
+unfolding boundaryFaces
+boundary-more s f = sum-more f (λ k. cond (isBoundary s k) 1 0)
+
+one-most : (b : Bool) → cond b 1 0 ≤ 1
+one-most true = omega arith
+one-most false = omega arith
+
+pub boundary-le : (s : List ℕ) (n : ℕ) → boundaryFaces s n ≤ n
+unfolding boundaryFaces
+boundary-le s n = omega (arith, sum-bound n 1 (λ k. cond (isBoundary s k) 1 0) (λ k l. one-most (isBoundary s k)))
+
+-- the place of the next outside value, and room for this one
+outside-width : (b : Bool) (w : ℕ) → cond b w 0 ≡ cond b 1 0 * w
+outside-width true w = omega arith
+outside-width false w = omega arith
+
+pub outside-next : (s : List ℕ) (f : ℕ) → boundaryFaces s f * outsideBits + cond (isBoundary s f) outsideBits 0 ≡ boundaryFaces s (f + 1) * outsideBits
+outside-next s f = omega (arith, boundary-more s f, outside-width (isBoundary s f) outsideBits)
+
+pub boundary-part : (s : List ℕ) (m n : ℕ) → m ≤ n → boundaryFaces s m ≤ boundaryFaces s n
+unfolding boundaryFaces
+boundary-part s m n l = sum-part m n (λ k. cond (isBoundary s k) 1 0) l
+
+-- whole bytes hold the bits, and 7 more at most
+pub bytes-hold : (n : ℕ) → n ≤ 8 * bytesFor n
+unfolding bytesFor
+bytes-hold n = omega arith
+
+pub bytes-most : (n : ℕ) → 8 * bytesFor n ≤ n + 7
+unfolding bytesFor
+bytes-most n = omega arith
+
+-- what a record that passed its length and its tables says
+pub record MeshTablesSay (bs : List ℕ) (volumes firsts seconds weights spans : ℕ) : Type 0 where
+  pub same-length : length bs ≡ bytesFor (meshBits (cellsIn bs) (facesIn bs))
+  pub volumes-long : cellsIn bs ≤ volumes
+  pub firsts-long : facesIn bs ≤ firsts
+  pub seconds-long : facesIn bs ≤ seconds
+  pub weights-long : facesIn bs ≤ weights
+  pub spans-long : facesIn bs ≤ spans
+
+pub mesh-tables-say : (bs : List ℕ) (volumes firsts seconds weights spans : ℕ)
+    → (hasLength bs (meshLength (cellsIn bs) (facesIn bs)) andThen long 0 (cellsIn bs) volumes andThen long 1 (facesIn bs) firsts
+    andThen long 2 (facesIn bs) seconds andThen long 3 (facesIn bs) weights andThen long 4 (facesIn bs) spans) ≡ fine
+    → MeshTablesSay bs volumes firsts seconds weights spans
+unfolding meshLength
+mesh-tables-say bs volumes firsts seconds weights spans e =
+    let a = both-fine _ _ e in
+    let b = both-fine _ _ (a .0) in
+    let c = both-fine _ _ (b .0) in
+    let d = both-fine _ _ (c .0) in
+    let g = both-fine _ _ (d .0) in
+    record {
+      same-length = eqb-eq _ _ (need-fine 11 0 _ (g .0));
+      volumes-long = leb-le _ _ (need-fine 2 0 _ (g .1));
+      firsts-long = leb-le _ _ (need-fine 2 1 _ (d .1));
+      seconds-long = leb-le _ _ (need-fine 2 2 _ (c .1));
+      weights-long = leb-le _ _ (need-fine 2 3 _ (b .1));
+      spans-long = leb-le _ _ (need-fine 2 4 _ (a .1));
+    }
+
+pub record FieldTablesSay (cells : ℕ) (bs : List ℕ) (masses : ℕ) : Type 0 where
+  pub same-length : length bs ≡ bytesFor (fieldBits cells)
+  pub masses-long : cells ≤ masses
+
+pub field-tables-say : (cells : ℕ) (bs : List ℕ) (masses : ℕ) → fieldBodyVerdict cells bs masses ≡ fine → FieldTablesSay cells bs masses
+unfolding fieldBodyVerdict fieldLength
+field-tables-say cells bs masses e =
+    let a = both-fine _ _ e in
+    record { same-length = eqb-eq _ _ (need-fine 11 0 _ (a .0)); masses-long = leb-le _ _ (need-fine 2 5 _ (a .1)) }
+
+pub record StepTablesSay (faces : ℕ) (seconds bs : List ℕ) (fluxes outsides : ℕ) : Type 0 where
+  pub same-length : length bs ≡ bytesFor (stepBits faces seconds)
+  pub fluxes-long : faces ≤ fluxes
+  pub outsides-long : faces ≤ outsides
+
+pub step-tables-say : (faces : ℕ) (seconds bs : List ℕ) (fluxes outsides : ℕ)
+    → (hasLength bs (stepLength faces seconds) andThen long 6 faces fluxes andThen long 7 faces outsides) ≡ fine → StepTablesSay faces seconds bs fluxes outsides
+unfolding stepLength
+step-tables-say faces seconds bs fluxes outsides e =
+    let a = both-fine _ _ e in
+    let b = both-fine _ _ (a .0) in
+    record { same-length = eqb-eq _ _ (need-fine 11 0 _ (b .0)); fluxes-long = leb-le _ _ (need-fine 2 6 _ (b .1)); outsides-long = leb-le _ _ (need-fine 2 7 _ (a .1)) }

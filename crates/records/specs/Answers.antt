@@ -1,0 +1,49 @@
+-- "If an answer is an enum, a definition gives this paper's number and values for each of its cases." And what each reading leaves.
+use Prim.Native.Nat.{ℕ}
+use mathlib.Core.Path.{_≡_}
+use mathlib.Core.List.{List}
+use lib.IntN.{ℤ}
+use Rattle.lists.specs.Table.{over}
+use Rattle.model.specs.Causes.{Outcome, accepted, Verdict, taken}
+use Rattle.model.specs.Answers.{told, said}
+use Rattle.model.specs.declared.Answer.{Answer}
+use Rattle.records.specs.declared.Counts.{Counts}
+use Rattle.records.specs.declared.MeshAnswer.{MeshAnswer}
+use Rattle.records.specs.declared.MeshAnswer.the-variants as mesh
+use Rattle.records.specs.declared.LengthAnswer.{LengthAnswer}
+use Rattle.records.specs.declared.LengthAnswer.the-variants as needs
+use Rattle.records.specs.declared.WriteAnswer.{WriteAnswer}
+use Rattle.records.specs.declared.WriteAnswer.the-variants as write
+use Rattle.records.specs.Reading.{volumesIn, firstsIn, secondsIn, weightsIn, spansIn, massesIn, fluxesIn, outsidesIn}
+
+abbrev pub meshSaid : MeshAnswer → Outcome Counts
+meshSaid (mesh.Read n) = accepted n
+meshSaid (mesh.Refused r) = told r
+
+abbrev pub lengthSaid : LengthAnswer → Outcome ℕ
+lengthSaid (needs.Needs n) = accepted n
+lengthSaid (needs.Refused r) = told r
+
+-- "Writing gives the length"
+abbrev pub writeSaid : WriteAnswer → Outcome ℕ
+writeSaid (write.Written n) = accepted n
+writeSaid (write.Refused r) = told r
+
+-- A reading that comes to o: its answer, and each table afterwards. "It fills the counted entries and no others"; a refused reading
+-- fills nothing.
+pub record MeshReading (o : Outcome Counts) (bs volumes firsts seconds weights spans : List ℕ) (r : MeshAnswer) (volumes′ firsts′ seconds′ weights′ spans′ : List ℕ) : Type 0 where
+  pub answer : meshSaid r ≡ o
+  pub volumes-read : volumes′ ≡ taken o (over (volumesIn bs) volumes) volumes
+  pub firsts-read : firsts′ ≡ taken o (over (firstsIn bs) firsts) firsts
+  pub seconds-read : seconds′ ≡ taken o (over (secondsIn bs) seconds) seconds
+  pub weights-read : weights′ ≡ taken o (over (weightsIn bs) weights) weights
+  pub spans-read : spans′ ≡ taken o (over (spansIn bs) spans) spans
+
+pub record FieldReading (o : Verdict) (cells : ℕ) (bs masses : List ℕ) (r : Answer) (masses′ : List ℕ) : Type 0 where
+  pub answer : said r ≡ o
+  pub masses-read : masses′ ≡ taken o (over (massesIn bs cells) masses) masses
+
+pub record StepReading (o : Verdict) (faces : ℕ) (seconds bs : List ℕ) (fluxes : List ℤ) (outsides : List ℕ) (r : Answer) (fluxes′ : List ℤ) (outsides′ : List ℕ) : Type 0 where
+  pub answer : said r ≡ o
+  pub fluxes-read : fluxes′ ≡ taken o (over (fluxesIn bs faces) fluxes) fluxes
+  pub outsides-read : outsides′ ≡ taken o (over (outsidesIn bs faces seconds) outsides) outsides

@@ -1,0 +1,5 @@
+pub mod Layouts
+pub mod Reading
+pub mod Answers
+pub mod Scans
+pub mod Bodies

@@ -1,0 +1,86 @@
+// What a record whose head is fine is refused for: causes 11, 2 and 12.
+use crate::heads;
+use crate::lengths;
+use crate::zeros;
+use model::Answer;
+use model::Cause;
+ghost use mathlib.Core.Path.{_≡_};
+ghost use Prim.Native.Nat.{_≤_};
+ghost use lib.ListN.{length};
+ghost use Rattle.model.specs.Mesh.{maxCells, maxFaces};
+ghost use Rattle.model.specs.Causes.{long as longOf, need as needOf, _andThen_};
+ghost use Rattle.model.specs.Answers.{said};
+ghost use Rattle.records.specs.Layouts.{meshLength};
+ghost use Rattle.records.specs.Reading.{cellsIn, facesIn, hasLength, meshBodyVerdict, fieldBodyVerdict, stepBodyVerdict};
+
+// Whether a table has as many entries as wanted.
+fn long(position: u64, wanted: usize, has: usize) -> Answer
+    ensures { λ r. ⌜ said r ≡ longOf position wanted has ⌝ }
+{
+    heads::need(Cause::Table, position, wanted <= has)
+}
+
+// The same after other tests.
+fn then_long(a: Answer, position: u64, wanted: usize, has: usize) -> Answer
+    ensures { λ r. ⌜ said r ≡ (said a andThen longOf position wanted has) ⌝ }
+{
+    heads::and_then(a, long(position, wanted, has))
+}
+
+pub fn mesh(
+    bytes: &[u8],
+    cells: usize,
+    faces: usize,
+    volumes: usize,
+    firsts: usize,
+    seconds: usize,
+    weights: usize,
+    spans: usize,
+) -> Answer
+    requires { ⌜ (cells ≡ cellsIn (now bytes)) × (faces ≡ facesIn (now bytes)) × (cells ≤ maxCells) × (faces ≤ maxFaces) ⌝ }
+    ensures { λ r. ⌜ said r ≡ meshBodyVerdict (now (bytes .entry)) volumes firsts seconds weights spans ⌝ }
+{
+    let end = lengths::mesh_bits(cells, faces);
+    let a = heads::need(Cause::Length, 0, bytes.len() == lengths::bytes_for(end));
+    let b = then_long(a, 0, cells, volumes);
+    let d = then_long(b, 1, faces, firsts);
+    let e = then_long(d, 2, faces, seconds);
+    let f = then_long(e, 3, faces, weights);
+    let g = then_long(f, 4, faces, spans);
+    if let Answer::Refused(r) = g {
+        return Answer::Refused(r);
+    }
+    zeros::mesh(bytes, end)
+}
+
+pub fn field(cells: usize, bytes: &[u8], masses: usize) -> Answer
+    requires { ⌜ cells ≤ maxCells ⌝ }
+    ensures { λ r. ⌜ said r ≡ fieldBodyVerdict cells (now (bytes .entry)) masses ⌝ }
+{
+    let a = heads::need(
+        Cause::Length,
+        0,
+        bytes.len() == lengths::field_length(cells),
+    );
+    then_long(a, 5, cells, masses)
+}
+
+pub fn step(
+    faces: usize,
+    seconds: &[u64],
+    bytes: &[u8],
+    fluxes: usize,
+    outsides: usize,
+) -> Answer
+    requires { ⌜ (faces ≤ maxFaces) × (faces ≤ length (now seconds)) ⌝ }
+    ensures { λ r. ⌜ said r ≡ stepBodyVerdict faces (now (seconds .entry)) (now (bytes .entry)) fluxes outsides ⌝ }
+{
+    let end = lengths::step_bits(faces, seconds);
+    let a = heads::need(Cause::Length, 0, bytes.len() == lengths::bytes_for(end));
+    let b = then_long(a, 6, faces, fluxes);
+    let d = then_long(b, 7, faces, outsides);
+    if let Answer::Refused(r) = d {
+        return Answer::Refused(r);
+    }
+    zeros::step(bytes, faces, end)
+}
