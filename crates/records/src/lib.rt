@@ -104,7 +104,14 @@ pub fn read_mesh(
         return MeshAnswer::Refused(r);
     }
     tables::mesh(
-        cells, faces, bytes, volumes, firsts, seconds, weights, spans,
+        cells,
+        faces,
+        bytes,
+        volumes,
+        firsts,
+        seconds,
+        weights,
+        spans,
     );
     MeshAnswer::Read(Counts { cells, faces })
 }
