@@ -2,6 +2,7 @@
 mod body;
 mod heads;
 mod lengths;
+pub mod reader;
 mod tables;
 mod verdicts;
 mod zeros;
