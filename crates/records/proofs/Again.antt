@@ -7,25 +7,23 @@ use mathlib.Core.List.{List, [], _∷_, _++_}
 use native.Mathlib.Nat.{zero-add}
 use native.Mathlib.Omega.{arith}
 use lib.Dec.{eqb}
-use lib.IntN.{ℤ, pos, negsuc}
+use lib.IntN.{ℤ, pos}
 use lib.ListN.{length, getD}
 use Rattle.lists.specs.Table.{table}
 use Rattle.lists.proofs.Tables.{getD-table}
 use Rattle.lists.proofs.Tests.{both-true}
 use Rattle.signed.specs.Sign.{size, isNegative, withSign}
 use Rattle.signed.proofs.Laws.{size-withSign}
-use Rattle.model.specs.Mesh.{Mesh, volume, first, second, weight, span}
-use Rattle.model.specs.Causes.{Outcome, accepted, fine, each}
+use Rattle.model.specs.Causes.{accepted, fine}
 use Rattle.model.proofs.Verdicts.{both-fine, each-fine}
 use Rattle.bits.specs.Field.{bitAt, bitsAt}
 use Rattle.bits.proofs.Fields.{bits-lt}
 use Rattle.bits.specs.Layout.{Field, field, widthOf, bytesFor, packed, rows}
-use Rattle.bits.proofs.Layouts.{width-append, width-rows-of}
-use Rattle.bits.proofs.Readings.{ReadFrom, read-none, read-more, read-more-at, read-append, read-rows, read-rows-of, pack-read}
-use Rattle.records.specs.Layouts.{volumeBits, endBits, weightBits, spanBits, massBits, signBits, sizeBits, outsideBits, meshHeadBits, fieldHeadBits, stepHeadBits, faceBits, fluxBits, kindBits, meshKind, fieldKind, stepKind, meshZeroBits, stepZeroBits, meshHead, cellRow, faceRow, meshFields, fieldHead, massRow, fieldFields, isBoundary, stepHead, fluxRow, outsideRow, stepFields, meshRecord, fieldRecord, stepRecord, boundaryFaces, meshBits, fieldBits, stepBits}
-use Rattle.records.specs.Reading.{cellsIn, facesIn, stepFacesIn, countsIn, meshIn, facePlace, volumesIn, firstsIn, secondsIn, weightsIn, spansIn, massesIn, fluxPlace, minusIn, sizeIn, outsidePlace, fluxesIn, outsidesIn, minusZero, zeroBitGood, meshBitGood, stepBitGood, meshHeadVerdict, meshBodyVerdict, meshRead, fieldHeadVerdict, fieldBodyVerdict, fieldRead, stepHeadVerdict, stepBodyVerdict, stepRead}
+use Rattle.bits.proofs.Readings.{ReadFrom, read-none, read-more, read-append, read-rows, read-rows-of, pack-read}
+use Rattle.records.specs.Layouts.{volumeBits, endBits, weightBits, spanBits, massBits, signBits, sizeBits, outsideBits, meshHeadBits, fieldHeadBits, stepHeadBits, faceBits, fluxBits, kindBits, meshKind, fieldKind, stepKind, meshZeroBits, stepZeroBits, meshHead, cellRow, faceRow, meshFields, massRow, fieldFields, isBoundary, stepHead, fluxRow, outsideRow, stepFields, meshRecord, fieldRecord, stepRecord, meshBits, stepBits}
+use Rattle.records.specs.Reading.{cellsIn, facesIn, stepFacesIn, meshIn, facePlace, volumesIn, firstsIn, secondsIn, weightsIn, spansIn, massesIn, fluxPlace, minusIn, sizeIn, outsidePlace, fluxesIn, outsidesIn, minusZero, zeroBitGood, meshBitGood, stepBitGood, meshBodyVerdict, meshRead, fieldRead, stepBodyVerdict, stepRead}
 use Rattle.records.specs.declared.Counts.{Counts}
-use Rattle.records.proofs.HeadLaws.{MeshHeadSays, mesh-head-says, MeshTablesSay, mesh-tables-say, FieldHeadSays, field-head-says, FieldTablesSay, field-tables-say, StepHeadSays, step-head-says, StepTablesSay, step-tables-say, bytes-hold}
+use Rattle.records.proofs.HeadLaws.{mesh-head-says, mesh-tables-say, field-head-says, field-tables-say, step-head-says, step-tables-say, bytes-hold}
 use Rattle.records.proofs.ZeroLaws.{good-clear, minus-at}
 use Rattle.records.proofs.Packed.{front-width, mesh-width, field-width, fluxes-width, step-width, outside-rows}
 

@@ -1,17 +1,16 @@
 -- What a head that is fine says, and how an answer and its verdict go together.
-use Prim.Native.Nat.{ℕ, _+_, _*_, _≤_, _<_, min}
-use mathlib.Core.Path.{_≡_, refl, sym, ap, _∙_}
+use Prim.Native.Nat.{ℕ, _+_, _*_, _≤_, min}
+use mathlib.Core.Path.{_≡_, sym, ap, _∙_}
 use mathlib.Core.Bool.{Bool, true, false, cond}
 use mathlib.Core.List.{List}
 use native.Mathlib.Nat.{le-trans}
 use native.Mathlib.Omega.{arith}
-use lib.ListN.{length, getD}
-use lib.Dec.{eqb, leb}
-use Rattle.lists.specs.Fold.{sum}
+use lib.ListN.{length}
+use lib.Dec.{leb}
 use Rattle.lists.proofs.Sums.{sum-zero, sum-more, sum-part, sum-bound}
 use Rattle.lists.proofs.Tests.{leb-le, eqb-eq, both-true}
 use Rattle.model.specs.Mesh.{boundary, maxCells, maxFaces}
-use Rattle.model.specs.Causes.{Outcome, Verdict, fine, _andThen_, need, long, between, countsWithin}
+use Rattle.model.specs.Causes.{Verdict, fine, _andThen_, need, long, countsWithin}
 use Rattle.model.specs.Answers.{told, said}
 use Rattle.model.specs.declared.Answer.{Answer}
 use Rattle.model.specs.declared.Answer.the-variants.{Done, Refused}

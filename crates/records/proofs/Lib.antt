@@ -4,4 +4,5 @@ pub mod ZeroLaws
 pub mod ReadLaws
 pub mod Packed
 pub mod Again
+pub mod WidthLaws
 pub mod RoundTrip

@@ -1,32 +1,31 @@
 -- Reading undoes packing: what the three records spell at the places where reading looks, by the one law of layouts (`read-packed`).
 use Prim.Native.Nat.{ℕ, zero, suc, _+_, _-_, _*_, _/_, _%_, _^_, _≤_, _<_, min}
 use mathlib.Core.Path.{_≡_, refl, sym, ap, _∙_}
-use mathlib.Core.Logic.{_⊎_, inl, inr}
+use mathlib.Core.Logic.{inl, inr}
 use mathlib.Core.Bool.{Bool, true, false, cond, not, _&&_}
 use mathlib.Core.List.{List, [], _∷_, _++_}
 use native.Mathlib.Nat.{zero-div, add-zero}
 use native.Mathlib.Numerals.{add-one}
 use native.Mathlib.Decide.{decLt}
 use native.Mathlib.Omega.{arith}
-use lib.Dec.{eqb, leb}
+use lib.Dec.{eqb}
 use lib.IntN.{ℤ, pos, negsuc}
 use lib.ListN.{length, getD}
 use Rattle.lists.specs.Table.{table}
 use Rattle.lists.proofs.Tables.{table-cong}
 use Rattle.lists.proofs.Tests.{eqb-yes, eqb-no, le-leb}
-use Rattle.signed.specs.Sign.{size, isNegative, withSign}
+use Rattle.signed.specs.Sign.{size, isNegative}
 use Rattle.signed.proofs.Laws.{withSign-of}
 use Rattle.model.specs.Mesh.{Mesh, volume, first, second, weight, span, maxCells, maxFaces}
-use Rattle.model.specs.Causes.{Outcome, accepted, fine, _andThen_, each, countsWithin, between, need}
+use Rattle.model.specs.Causes.{accepted, fine, countsWithin}
 use Rattle.model.proofs.Verdicts.{need-met, fine-each, past}
 use Rattle.bits.specs.Field.{bitAt, bitsAt}
 use Rattle.bits.specs.Layout.{Field, field, widthOf, bytesFor, packed, rows}
 use Rattle.bits.proofs.Fields.{bits-bit}
 use Rattle.bits.proofs.Layouts.{length-packed, packed-pad, width-append, width-rows-of, Stands, stands-here, stands-later, stands-left, stands-right, stands-row, stands-row-of, read-packed}
 use Rattle.records.specs.Layouts.{volumeBits, endBits, weightBits, spanBits, massBits, signBits, sizeBits, outsideBits, meshHeadBits, fieldHeadBits, stepHeadBits, faceBits, fluxBits, meshZeroBits, stepZeroBits, meshKind, fieldKind, stepKind, meshHead, cellRow, faceRow, meshFields, fieldHead, massRow, fieldFields, isBoundary, stepHead, fluxRow, outsideRow, stepFields, meshRecord, fieldRecord, stepRecord, boundaryFaces, meshBits, fieldBits, stepBits, meshLength, fieldLength, stepLength}
-use Rattle.records.specs.Reading.{kindIn, cellsIn, facesIn, countsIn, stepFacesIn, facePlace, volumesIn, firstsIn, secondsIn, weightsIn, spansIn, massesIn, fluxPlace, outsidePlace, fluxesIn, outsidesIn, minusZero, zeroBitGood, meshBitGood, stepBitGood, meshHeadVerdict, meshBodyVerdict, meshRead, fieldHeadVerdict, fieldBodyVerdict, fieldRead, stepHeadVerdict, stepBodyVerdict, stepRead}
-use Rattle.records.specs.declared.Counts.{Counts}
-use Rattle.records.proofs.HeadLaws.{bytes-hold, boundary-none, boundary-more}
+use Rattle.records.specs.Reading.{kindIn, cellsIn, facesIn, countsIn, stepFacesIn, facePlace, volumesIn, firstsIn, secondsIn, weightsIn, spansIn, massesIn, outsidePlace, fluxesIn, outsidesIn, minusZero, zeroBitGood, meshBitGood, stepBitGood, meshHeadVerdict, meshBodyVerdict, meshRead, fieldHeadVerdict, fieldBodyVerdict, fieldRead, stepHeadVerdict, stepBodyVerdict, stepRead}
+use Rattle.records.proofs.HeadLaws.{boundary-none, boundary-more}
 use Rattle.records.proofs.ZeroLaws.{bit-clear, bit-used, minus-at, no-minus}
 use Rattle.records.proofs.ReadLaws.{both-past}
 

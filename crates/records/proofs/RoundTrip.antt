@@ -4,48 +4,22 @@
 -- into any tables that are long enough, and what is read are the counted entries.
 --
 -- Writing undoes reading: what reading accepts is the record of what was read, byte for byte. (`bytes` says that the list is one of bytes.)
-use Prim.Native.Nat.{ℕ, _+_, _*_, _/_, _^_, _≤_, _<_, min}
-use mathlib.Core.Path.{_≡_, refl, sym, ap, _∙_}
-use mathlib.Core.Logic.{_≢_}
-use mathlib.Core.Bool.{Bool, true, false, cond, _&&_}
+use Prim.Native.Nat.{ℕ, _≤_, _<_, min}
+use mathlib.Core.Path.{_≡_, ap, _∙_}
 use mathlib.Core.List.{List}
-use native.Mathlib.Nat.{div-lt-iff-lt-mul, mul-le-mul, le-trans}
 use native.Mathlib.Omega.{arith}
-use lib.Dec.{eqb, leb}
-use lib.IntN.{ℤ, pos}
+use lib.IntN.{pos}
 use lib.ListN.{length, getD}
 use Rattle.lists.specs.Table.{table}
-use Rattle.lists.proofs.Tests.{Same, same, other, same?, leb-le}
-use Rattle.signed.specs.Sign.{size, isNegative}
-use Rattle.model.specs.Mesh.{Mesh, volume, first, second, weight, span, atBoundary, boundary, maxCells, maxFaces, maxVolume, maxSpan, maxConcentration, maxBoundaryFlux}
-use Rattle.model.specs.Step.{flux, outside}
-use Rattle.model.specs.Causes.{Outcome, accepted, fine, each, Call, inputOf, counts, countsWithin, meshValues, fieldValues, outsideGood, fluxGood}
-use Rattle.model.proofs.Accepted.{MeshFit, mesh-fit, field-fit, WaterFit, water-fit, Counted, counted}
-use Rattle.model.proofs.Verdicts.{each-fine}
-use Rattle.records.specs.Layouts.{meshRecord, fieldRecord, stepRecord, meshBits, isBoundary}
+use Rattle.model.specs.Mesh.{Mesh, volume, first, second, weight, span, maxCells, maxFaces}
+use Rattle.model.specs.Causes.{accepted, fine, each, Call, counts, countsWithin, meshValues, fieldValues, outsideGood, fluxGood}
+use Rattle.model.proofs.Accepted.{counted}
+use Rattle.records.specs.Layouts.{meshRecord, fieldRecord, stepRecord}
 use Rattle.records.specs.Reading.{meshIn, countsIn, volumesIn, firstsIn, secondsIn, weightsIn, spansIn, massesIn, fluxesIn, outsidesIn, meshRead, fieldRead, stepRead}
 use Rattle.records.specs.declared.Counts.{Counts}
-use Rattle.records.proofs.Packed.{MeshSpelled, mesh-reads, mesh-kind, mesh-cells, mesh-faces, mesh-record-length, mesh-bits-good, volumes-back, firsts-back, seconds-back, weights-back, spans-back, field-reads, field-kind, field-cells, field-record-length, masses-back, step-reads, step-kind, step-faces, step-record-length, step-bits-good, fluxes-back, outsides-back}
+use Rattle.records.proofs.Packed.{mesh-reads, mesh-kind, mesh-cells, mesh-faces, mesh-record-length, mesh-bits-good, volumes-back, firsts-back, seconds-back, weights-back, spans-back, field-reads, field-kind, field-cells, field-record-length, masses-back, step-reads, step-kind, step-faces, step-record-length, step-bits-good, fluxes-back, outsides-back}
+use Rattle.records.proofs.WidthLaws.{spelled, masses-fit, sizes-fit, outsides-fit, none-inside}
 use Rattle.records.proofs.Again.{mesh-again, field-again, step-again}
-
--- values that pass 3 to 8 fit their widths
-spelled : (M : Mesh) → counts M ≡ fine → meshValues M ≡ fine → MeshSpelled M
-spelled M c e =
-    let n = counted M c in
-    let m = mesh-fit M e in
-    record {
-      cells-fit = omega (arith, n .few-cells);
-      faces-fit = omega (arith, n .few-faces);
-      volume-fits = λ i l. omega (arith, m .volume-most i l);
-      first-fits = λ f l. omega (arith, m .first-in f l, n .few-cells);
-      second-fits = λ f l. seconds f l (same? (second M f) boundary);
-      weight-fits = λ f l. omega (arith, m .weight-most f l);
-      span-fits = λ f l. omega (arith, m .span-most f l);
-    }
-  where
-    seconds : (f : ℕ) → f < M .faces → {b : Bool} → Same (second M f) boundary b → second M f < 4096
-    seconds f l (same q) = omega arith
-    seconds f l (other d) = omega (arith, mesh-fit M e .second-in f l d, counted M c .few-cells)
 
 -- Reading undoes writing: a mesh.
 module _ (M : Mesh) (within : counts M ≡ fine) (passes : meshValues M ≡ fine) where
@@ -76,60 +50,44 @@ module _ (M : Mesh) (within : counts M ≡ fine) (passes : meshValues M ≡ fine
   spans-read-back = spans-back M (spelled M within passes)
 
 -- A field on it.
-mass-fits : (m v : ℕ) → 1 ≤ v → v ≤ maxVolume → m / v ≤ maxConcentration → m < 4294967296
-mass-fits m v some most h = omega (arith, div-lt-iff-lt-mul {k = v} {x = m} {y = maxConcentration + 1} some .0 (omega arith))
-
 module _ (M : Mesh) (within : counts M ≡ fine) (passes : meshValues M ≡ fine) (field : List ℕ) (salt : fieldValues M field ≡ fine) where
-  pub masses-fit : (c : ℕ) → c < M .cells → getD field c 0 < 4294967296
-  masses-fit c l = let m = mesh-fit M passes in mass-fits (getD field c 0) (volume M c) (m .volume-some c l) (m .volume-most c l) (field-fit M field salt c l)
-
   pub field-read-back : (masses : ℕ) → M .cells ≤ masses → fieldRead (M .cells) (fieldRecord (M .cells) field) masses ≡ fine
   field-read-back masses l =
       let n = counted M within in
       let few : M .cells < 4096 = omega arith in
-      field-reads (fieldRecord (M .cells) field) (M .cells) masses (field-kind (M .cells) field few masses-fit) (field-cells (M .cells) field few masses-fit) (n .some) (n .few-cells)
-      (field-record-length (M .cells) field few masses-fit) l
+      let m = masses-fit M passes field salt in
+      field-reads (fieldRecord (M .cells) field) (M .cells) masses (field-kind (M .cells) field few m) (field-cells (M .cells) field few m) (n .some) (n .few-cells)
+      (field-record-length (M .cells) field few m) l
 
   pub masses-read-back : massesIn (fieldRecord (M .cells) field) (M .cells) ≡ table (M .cells) (λ c. getD field c 0)
-  masses-read-back = let n = counted M within in masses-back (M .cells) field (omega arith) masses-fit
+  masses-read-back = let n = counted M within in masses-back (M .cells) field (omega arith) (masses-fit M passes field salt)
 
 -- A step through its faces.
 module _ (M : Mesh) (within : counts M ≡ fine) (passes : meshValues M ≡ fine) (field : List ℕ) (k : Call)
     (outsides-pass : each 7 (M .faces) (outsideGood M field k) ≡ fine) (fluxes-pass : each 8 (M .faces) (fluxGood M field k) ≡ fine) where
-  sizes-fit : (f : ℕ) → f < M .faces → size (getD (k .fluxes) f (pos 0)) < 4096
-  sizes-fit f l = go (atBoundary M f) (water-fit M field k outsides-pass fluxes-pass .flux-most f l)
-    where
-      go : (b : Bool) → size (getD (k .fluxes) f (pos 0)) ≤ cond b maxBoundaryFlux (span M f) → size (getD (k .fluxes) f (pos 0)) < 4096
-      go true h = omega arith
-      go false h = omega (arith, mesh-fit M passes .span-most f l)
-
-  outsides-fit : (f : ℕ) → f < M .faces → getD (k .outsides) f 0 < 1048576
-  outsides-fit f l = omega (arith, water-fit M field k outsides-pass fluxes-pass .outside-most f l)
-
-  -- away from the boundary the outside value is 0
-  none-inside : (f : ℕ) → f < M .faces → isBoundary (M .seconds) f ≡ false → getD (k .outsides) f 0 ≡ 0
-  unfolding outsideGood
-  none-inside f l e =
-      let g : getD (k .outsides) f 0 ≤ cond (atBoundary M f && isNegative (getD (k .fluxes) f (pos 0))) maxConcentration 0 = leb-le _ _ (each-fine 7 (M .faces) (outsideGood M field k) outsides-pass f l) in
-      let h : getD (k .outsides) f 0 ≤ 0 = rw e at g in
-      omega arith
-
   pub step-read-back : (fluxes outsides : ℕ) → M .faces ≤ length (M .seconds) → M .faces ≤ fluxes → M .faces ≤ outsides
       → stepRead (M .faces) (M .seconds) (stepRecord (M .faces) (M .seconds) (k .fluxes) (k .outsides)) fluxes outsides ≡ fine
   step-read-back fluxes outsides ls lu lx =
       let n = counted M within in
       let few : M .faces < 8192 = omega arith in
+      let u = sizes-fit M passes field k outsides-pass fluxes-pass in
+      let x = outsides-fit M passes field k outsides-pass fluxes-pass in
       step-reads (stepRecord (M .faces) (M .seconds) (k .fluxes) (k .outsides)) (M .faces) (M .seconds) fluxes outsides
-      (step-kind (M .faces) (M .seconds) (k .fluxes) (k .outsides) few sizes-fit outsides-fit) (step-faces (M .faces) (M .seconds) (k .fluxes) (k .outsides) few sizes-fit outsides-fit) (n .few-faces) ls
-      (step-record-length (M .faces) (M .seconds) (k .fluxes) (k .outsides) few sizes-fit outsides-fit) lu lx (step-bits-good (M .faces) (M .seconds) (k .fluxes) (k .outsides) few sizes-fit outsides-fit)
+      (step-kind (M .faces) (M .seconds) (k .fluxes) (k .outsides) few u x) (step-faces (M .faces) (M .seconds) (k .fluxes) (k .outsides) few u x) (n .few-faces) ls
+      (step-record-length (M .faces) (M .seconds) (k .fluxes) (k .outsides) few u x) lu lx (step-bits-good (M .faces) (M .seconds) (k .fluxes) (k .outsides) few u x)
 
   pub fluxes-read-back : fluxesIn (stepRecord (M .faces) (M .seconds) (k .fluxes) (k .outsides)) (M .faces) ≡ table (M .faces) (λ f. getD (k .fluxes) f (pos 0))
-  fluxes-read-back = let n = counted M within in fluxes-back (M .faces) (M .seconds) (k .fluxes) (k .outsides) (omega arith) sizes-fit outsides-fit
+  fluxes-read-back =
+      let n = counted M within in
+      fluxes-back (M .faces) (M .seconds) (k .fluxes) (k .outsides) (omega arith) (sizes-fit M passes field k outsides-pass fluxes-pass) (outsides-fit M passes field k outsides-pass fluxes-pass)
 
   pub outsides-read-back : outsidesIn (stepRecord (M .faces) (M .seconds) (k .fluxes) (k .outsides)) (M .faces) (M .seconds) ≡ table (M .faces) (λ f. getD (k .outsides) f 0)
-  outsides-read-back = let n = counted M within in outsides-back (M .faces) (M .seconds) (k .fluxes) (k .outsides) (omega arith) sizes-fit outsides-fit none-inside
+  outsides-read-back =
+      let n = counted M within in
+      outsides-back (M .faces) (M .seconds) (k .fluxes) (k .outsides) (omega arith) (sizes-fit M passes field k outsides-pass fluxes-pass) (outsides-fit M passes field k outsides-pass fluxes-pass)
+      (none-inside M passes field k outsides-pass fluxes-pass)
 
--- Writing undoes reading. Nothing need be asked of the values: what a writer may refuse (1 to 8) was not looked at by reading.
+-- Writing undoes reading. Nothing is asked of the values here: they fit their fields, from which they were read. A writer asks 3 to 8.
 module _ (bs : List ℕ) (bytes : (j : ℕ) → getD bs j 0 < 256) where
   pub mesh-written-back : {n : Counts} (mostCells mostFaces volumes firsts seconds weights spans : ℕ) → meshRead mostCells mostFaces bs volumes firsts seconds weights spans ≡ accepted n → meshRecord (meshIn bs) ≡ bs
   mesh-written-back mostCells mostFaces volumes firsts seconds weights spans e = mesh-again bs bytes mostCells mostFaces volumes firsts seconds weights spans e

@@ -1,7 +1,7 @@
 -- Cause 12: only the bits that can break the rule need be looked at.
 use Prim.Native.Nat.{ℕ, suc, _+_, _-_, _*_, _/_, _%_, _≤_, _<_}
-use mathlib.Core.Path.{_≡_, refl, sym, ap, _∙_}
-use mathlib.Core.Logic.{_⊎_, inl, inr, _≢_}
+use mathlib.Core.Path.{_≡_, refl, sym, _∙_}
+use mathlib.Core.Logic.{_⊎_, inl, inr}
 use mathlib.Core.Bool.{Bool, true, false, not, _&&_, _||_, true≢false}
 use mathlib.Core.List.{List}
 use native.Mathlib.Omega.{arith}
@@ -9,8 +9,8 @@ use native.Mathlib.Decide.{decLt}
 use native.Mathlib.Nat.{add-zero}
 use borrow.Author.Tests.{lt-ltb, le-ltb}
 use lib.Dec.{eqb, leb, ltb}
-use Rattle.lists.proofs.Tests.{Same, same, other, same?, Fits, fits, exceeds, fits?, le-leb, lt-leb}
-use Rattle.model.specs.Causes.{Outcome, refused, fine, each}
+use Rattle.lists.proofs.Tests.{Same, same, other, same?, Fits, fits, fits?, le-leb, lt-leb}
+use Rattle.model.specs.Causes.{refused, fine, each}
 use Rattle.model.proofs.Verdicts.{fine-each, scan-hit}
 use Rattle.bits.specs.Field.{bitAt, bitsAt}
 use Rattle.bits.proofs.Fields.{bit-lt}

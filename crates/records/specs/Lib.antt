@@ -3,3 +3,4 @@ pub mod Reading
 pub mod Answers
 pub mod Scans
 pub mod Bodies
+pub mod Numbers

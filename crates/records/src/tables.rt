@@ -8,7 +8,7 @@ ghost use lib.ListN.{length};
 ghost use Rattle.lists.specs.Table.{over};
 ghost use Rattle.model.specs.Mesh.{maxCells, maxFaces};
 ghost use Rattle.model.specs.Causes.{fine};
-ghost use Rattle.records.specs.Reading.{massesIn, fluxesIn, outsidesIn, fieldBodyVerdict, stepBodyVerdict};
+ghost use Rattle.records.specs.Reading.{massesIn, fieldBodyVerdict, stepBodyVerdict};
 ghost use Rattle.records.specs.Bodies.{MeshTested, MeshFilled, StepFilled};
 
 pub fn mesh(
@@ -41,13 +41,7 @@ pub fn field(cells: usize, bytes: &[u8], masses: &mut [u64])
     body::field(&bytes[heads::FIELD_HEAD..], &mut masses[..cells]);
 }
 
-pub fn step(
-    faces: usize,
-    seconds: &[u64],
-    bytes: &[u8],
-    fluxes: &mut [i64],
-    outsides: &mut [u64],
-)
+pub fn step(faces: usize, seconds: &[u64], bytes: &[u8], fluxes: &mut [i64], outsides: &mut [u64])
     requires { ⌜ (faces ≤ maxFaces) × (faces ≤ length (now seconds)) × (stepBodyVerdict faces (now seconds) (now bytes) (length (now fluxes)) (length (now outsides)) ≡ fine) ⌝ }
     ensures { λ _. ⌜ StepFilled faces (now (seconds .entry)) (now (bytes .entry)) (now (fluxes .entry)) (now (outsides .entry)) (now (fluxes .exit)) (now (outsides .exit)) ⌝ }
 {

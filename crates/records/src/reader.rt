@@ -1,0 +1,55 @@
+// A reader holds the record and the bit that it has come to. The borrow checker covers no function over such a struct: its few functions
+// are proved by hand, and leave the work to `number_at`, which takes a plain slice.
+use crate::lengths;
+ghost use mathlib.Core.Path.{_≡_};
+ghost use Rattle.records.specs.Numbers.{numberAt};
+
+// No record of document 01 has as many bits; up to here no sum of a bit and a width wraps.
+pub const FURTHEST: usize = 4294967296;
+
+pub enum Spelled {
+    Number(u64),
+    Past,
+}
+
+pub struct Reader<'a> {
+    pub bytes: &'a [u8],
+    pub bit: usize,
+}
+
+// The number that a field of these bytes spells, where it lies within them.
+pub fn number_at(bytes: &[u8], bit: usize, width: usize) -> Spelled
+    ensures { λ r. ⌜ r ≡ numberAt (now (bytes .entry)) bit width ⌝ }
+{
+    if bits::WIDEST < width {
+        return Spelled::Past;
+    }
+    if FURTHEST < bit {
+        return Spelled::Past;
+    }
+    if bytes.len() < lengths::bytes_for(bit + width) {
+        return Spelled::Past;
+    }
+    Spelled::Number(bits::read_bits(bytes, bit, width))
+}
+
+pub fn new<'a>(bytes: &'a [u8]) -> Reader<'a>
+    ensures { λ r. ⌜ (r .bytes ≡ bytes .entry) × (r .bit ≡ 0) ⌝ }
+{
+    Reader { bytes, bit: 0 }
+}
+
+pub fn moved<'a>(r: Reader<'a>, bit: usize) -> Reader<'a>
+    ensures { λ q. ⌜ (q .bytes ≡ r .entry .bytes) × (q .bit ≡ bit) ⌝ }
+{
+    Reader {
+        bytes: r.bytes,
+        bit,
+    }
+}
+
+pub fn number<'a>(r: Reader<'a>, width: usize) -> Spelled
+    ensures { λ n. ⌜ n ≡ numberAt (now (r .entry .bytes)) (r .entry .bit) width ⌝ }
+{
+    number_at(r.bytes, r.bit, width)
+}
