@@ -14,6 +14,7 @@ use Rattle.lists.specs.Table.{table, over}
 use Rattle.signed.specs.Sign.{size, isZero, isNegative, forward, backward, withSign}
 use Rattle.model.specs.Mesh.{Mesh, meshOf, boundary, maxFaces, maxVolume, maxConcentration, maxBoundaryFlux, maxWeight, maxSpan, atBoundary, entering, leaving, incoming, outgoing, first, second}
 use Rattle.model.specs.Step.{StepInput, portion, limitedBy, flux, outside, mass, concentration, carried, correction, adjacent, inMass, outMass, next, moved}
+use Rattle.model.proofs.Sizes.{maxCarried, maxMass}
 
 -- what a step works on, from the tables lent to a pass
 abbrev pub inputFrom : ℕ → ℕ → List ℕ → List ℕ → List ℕ → List ℕ → List ℕ → List ℕ → List ℤ → List ℕ → StepInput
@@ -184,7 +185,7 @@ pub record WeighAsks (M : Mesh) (x : ℕ → ℤ) (w : List ℕ) : Type 0 where
   pub work-long : length w ≡ 4 * M .cells + M .faces
   pub ends : (f : ℕ) → f < M .faces → EndsIn (M .cells) (first M f) (second M f)
   pub boundary-none : (f : ℕ) → f < M .faces → second M f ≡ boundary → size (x f) ≡ 0
-  pub size-most : (f : ℕ) → f < M .faces → size (x f) ≤ 4095000000
+  pub size-most : (f : ℕ) → f < M .faces → size (x f) ≤ maxCarried
   pub started : (c : ℕ) → c < M .cells → (getD w (4 * c) 0 ≡ 0) × (getD w (4 * c + 3) 0 ≡ 0)
 
 -- the size that a correction in one number is cut to
@@ -197,12 +198,12 @@ limitedOf w code l k = cond (eqb (code / 2) 0) (pos 0) (withSign (eqb (code % 2)
 
 pub record CutAsks (f l k code : ℕ) (next : List ℕ) (moved : List ℤ) (work : List ℕ) : Type 0 where
   pub ends : EndsIn (length next) l k
-  pub inside : code / 2 ≢ 0 → (4 * l + 3 < length work) × (4 * k + 3 < length work) × (l < 4095) × (k < 4095)
-  pub size-most : code / 2 ≤ 4095000000
-  pub gain-fits : code / 2 ≢ 0 → getD work (4 * enters code l k + 2) 0 ≤ 4095004094
-  pub loss-fits : code / 2 ≢ 0 → getD work (4 * leaves code l k + 1) 0 ≤ 4095004094
+  pub inside : code / 2 ≢ 0 → (4 * l + 3 < length work) × (4 * k + 3 < length work) × (l < boundary) × (k < boundary)
+  pub size-most : code / 2 ≤ maxCarried
+  pub gain-fits : code / 2 ≢ 0 → getD work (4 * enters code l k + 2) 0 ≤ maxMass
+  pub loss-fits : code / 2 ≢ 0 → getD work (4 * leaves code l k + 1) 0 ≤ maxMass
   pub in-moved : f < length moved
-  pub moved-most : size (getD moved f (pos 0)) ≤ 4095000000
+  pub moved-most : size (getD moved f (pos 0)) ≤ maxCarried
   pub afford : (c : ℕ) → c < length next → takes l k (limitedOf work code l k) c ≤ getD next c 0
   pub room : (c : ℕ) → c < length next → getD next c 0 + brings l k (limitedOf work code l k) c < 2 ^ 64
 
@@ -222,13 +223,13 @@ pub record LimitAsks (M : Mesh) (gain loss : ℕ → ℕ) (x : ℕ → ℤ) (nex
   pub moved-long : length moved ≡ M .faces
   pub ends : (f : ℕ) → f < M .faces → EndsIn (M .cells) (first M f) (second M f)
   pub boundary-none : (f : ℕ) → f < M .faces → second M f ≡ boundary → size (x f) ≡ 0
-  pub size-most : (f : ℕ) → f < M .faces → size (x f) ≤ 4095000000
+  pub size-most : (f : ℕ) → f < M .faces → size (x f) ≤ maxCarried
   pub p-is : (c : ℕ) → c < M .cells → getD work (4 * c) 0 ≡ incoming M x c
   pub n-is : (c : ℕ) → c < M .cells → getD work (4 * c + 3) 0 ≡ outgoing M x c
-  pub gain-most : (c : ℕ) → c < M .cells → gain c ≤ 4095004094
+  pub gain-most : (c : ℕ) → c < M .cells → gain c ≤ maxMass
   pub loss-most : (c : ℕ) → c < M .cells → loss c ≤ getD next c 0
-  pub next-most : (c : ℕ) → c < M .cells → getD next c 0 ≤ 4095004094
-  pub moved-most : (f : ℕ) → f < M .faces → size (getD moved f (pos 0)) ≤ 4095000000
+  pub next-most : (c : ℕ) → c < M .cells → getD next c 0 ≤ maxMass
+  pub moved-most : (f : ℕ) → f < M .faces → size (getD moved f (pos 0)) ≤ maxCarried
 
 pub record Limited (M : Mesh) (gain loss : ℕ → ℕ) (x : ℕ → ℤ) (next₀ : List ℕ) (moved₀ : List ℤ) (f : ℕ) (next : List ℕ) (moved : List ℤ) : Type 0 where
   pub flowing : Flowing M (limitedBy M gain loss x) (λ c. getD next₀ c 0) f next

@@ -5,6 +5,7 @@ ghost use mathlib.Core.Logic.{_≢_};
 ghost use Prim.Native.Nat.{ℕ, _≤_, _<_, _+_, _-_, _*_, _/_, _^_, min, max};
 ghost use lib.ListN.{length, getD, set};
 ghost use Rattle.signed.specs.Sign.{withSign};
+ghost use Rattle.model.specs.Mesh.{boundary, maxCells};
 ghost use Rattle.transport.specs.Work.{widened, metAcross, brings, takes, Transferred, EndsIn};
 
 pub fn least_of(a: u64, b: u64) -> u64
@@ -21,7 +22,7 @@ pub fn greatest_of(a: u64, b: u64) -> u64
 
 // Cell c meets the concentration q: its least and greatest are widened.
 pub fn meet(work: &mut [u64], c: usize, q: u64)
-    requires { ⌜ (4 * c + 3 < length (now work)) × (c < 4095) ⌝ }
+    requires { ⌜ (4 * c + 3 < length (now work)) × (c < maxCells) ⌝ }
     ensures { λ _. ⌜ now (work .exit) ≡ widened (now (work .entry)) c q ⌝ }
 {
     let lo = least_of(work[4 * c + 1], q);
@@ -31,8 +32,16 @@ pub fn meet(work: &mut [u64], c: usize, q: u64)
 }
 
 // Both cells of a face meet across it; a is the concentration of the first, b the one beyond the face.
-pub fn meet_across(work: &mut [u64], first: u64, second: u64, negative: bool, size: u64, a: u64, b: u64)
-    requires { ⌜ (4 * first + 3 < length (now work)) × (first < 4095) × (second ≢ 4095 → (4 * second + 3 < length (now work)) × (second < 4095)) ⌝ }
+pub fn meet_across(
+    work: &mut [u64],
+    first: u64,
+    second: u64,
+    negative: bool,
+    size: u64,
+    a: u64,
+    b: u64,
+)
+    requires { ⌜ (4 * first + 3 < length (now work)) × (first < maxCells) × (second ≢ boundary → (4 * second + 3 < length (now work)) × (second < maxCells)) ⌝ }
     ensures { λ _. ⌜ now (work .exit) ≡ metAcross (now (work .entry)) first second (withSign negative size) a b ⌝ }
 {
     if size == 0 {

@@ -7,12 +7,13 @@ ghost use mathlib.Core.Logic.{_≢_};
 ghost use Prim.Native.Nat.{ℕ, _≤_, _<_, _+_, _-_, _*_, _/_, _%_, _^_, min};
 ghost use lib.ListN.{length, getD};
 ghost use Rattle.model.specs.Step.{portion as portionOf};
+ghost use Rattle.model.specs.Mesh.{maxCells};
 ghost use Rattle.transport.specs.Work.{settledCell, CellAsks, Settled, enters, leaves, weighedFace, WeighAsks, Weighed, endsOf, corrections, CutAsks, CutDone, LimitAsks, Limited};
 ghost use Rattle.lists.specs.Table.{table};
 
 // What a cell may lose and gain, from its bounds and its low-order mass; the sums of corrections start at 0.
 pub fn settle_cell(work: &mut [u64], c: usize, volume: u64, low: u64)
-    requires { ⌜ (4 * c + 3 < length (now work)) × (c < 4095) × CellAsks volume low (getD (now work) (4 * c + 1) 0) (getD (now work) (4 * c + 2) 0) ⌝ }
+    requires { ⌜ (4 * c + 3 < length (now work)) × (c < maxCells) × CellAsks volume low (getD (now work) (4 * c + 1) 0) (getD (now work) (4 * c + 2) 0) ⌝ }
     ensures { λ _. ⌜ now (work .exit) ≡ settledCell (now (work .entry)) c volume low ⌝ }
 {
     let loss = low - volume * work[4 * c + 1];
@@ -25,7 +26,7 @@ pub fn settle_cell(work: &mut [u64], c: usize, volume: u64, low: u64)
 
 // Third pass: what each cell may lose and gain.
 pub fn settle(cells: usize, volumes: &[u64], next: &[u64], work: &mut [u64])
-    requires { ⌜ (cells ≤ 4095) × (cells ≤ length (now volumes)) × (cells ≤ length (now next)) × (4 * cells ≤ length (now work)) ⌝ }
+    requires { ⌜ (cells ≤ maxCells) × (cells ≤ length (now volumes)) × (cells ≤ length (now next)) × (4 * cells ≤ length (now work)) ⌝ }
     requires { ⌜ ((c : ℕ) → c < cells → CellAsks (getD (now volumes) c 0) (getD (now next) c 0) (getD (now work) (4 * c + 1) 0) (getD (now work) (4 * c + 2) 0)) ⌝ }
     ensures { λ _. ⌜ Settled (now (volumes .entry)) (now (next .entry)) (now (work .entry)) cells (now (work .exit)) ⌝ }
 {
@@ -45,7 +46,7 @@ pub fn end_of(code: u64, first: u64, second: u64) -> u64
 
 // A face's correction counted where it enters and where it leaves.
 pub fn weigh_face(work: &mut [u64], first: u64, second: u64, code: u64)
-    requires { ⌜ (code / 2 ≢ 0 → (4 * first + 3 < length (now work)) × (4 * second + 3 < length (now work)) × (first < 4095) × (second < 4095)) ⌝ }
+    requires { ⌜ (code / 2 ≢ 0 → (4 * first + 3 < length (now work)) × (4 * second + 3 < length (now work)) × (first < maxCells) × (second < maxCells)) ⌝ }
     requires { ⌜ (code / 2 ≢ 0 → (getD (now work) (4 * enters code first second) 0 + code / 2 < 2 ^ 64) × (getD (now work) (4 * leaves code first second + 3) 0 + code / 2 < 2 ^ 64)) ⌝ }
     ensures { λ _. ⌜ now (work .exit) ≡ weighedFace (now (work .entry)) first second code ⌝ }
 {
@@ -85,7 +86,7 @@ pub fn portion(a: u64, g: u64, p: u64) -> u64
 
 // The size that the limiter cuts a correction to: what the receiver may gain, and what the giver may lose.
 pub fn cut(work: &[u64], size: u64, receiver: usize, giver: usize) -> u64
-    requires { ⌜ (receiver < 4095) × (giver < 4095) × (4 * receiver + 3 < length (now work)) × (4 * giver + 3 < length (now work)) ⌝ }
+    requires { ⌜ (receiver < maxCells) × (giver < maxCells) × (4 * receiver + 3 < length (now work)) × (4 * giver + 3 < length (now work)) ⌝ }
     requires { ⌜ (size * getD (now work) (4 * receiver + 2) 0 < 2 ^ 64) × (size * getD (now work) (4 * giver + 1) 0 < 2 ^ 64) ⌝ }
     ensures { λ r. ⌜ r ≡ min (portionOf size (getD (now (work .entry)) (4 * receiver + 2) 0) (getD (now (work .entry)) (4 * receiver) 0)) (portionOf size (getD (now (work .entry)) (4 * giver + 1) 0) (getD (now (work .entry)) (4 * giver + 3) 0)) ⌝ }
 {
