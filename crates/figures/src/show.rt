@@ -22,19 +22,19 @@ pub fn numbers(title: &[u8], xs: &[u64]) {
     }
 }
 
-fn signed_number(negative: bool, size: u64) {
+fn amount(z: i64) {
     word(b" ");
-    if negative {
+    if signed::is_negative(z) {
         word(b"-");
     }
-    io::print_decimal(1, size);
+    io::print_decimal(1, signed::size(z));
 }
 
 pub fn amounts(title: &[u8], xs: &[i64]) {
     word(title);
     let mut i = 0;
     while i < xs.len() {
-        signed_number(signed::is_negative(xs[i]), signed::size(xs[i]));
+        amount(xs[i]);
         i += 1;
     }
 }
