@@ -1,6 +1,5 @@
 // The meshes and fields of the cases. The channel has three cells of volume 100 and four faces.
 use crate::show;
-ghost use Prim.Native.Nat.{_≤_};
 
 // A number that no table of the channel has.
 const NO_TABLE: u64 = 99;
@@ -286,43 +285,34 @@ pub fn judged(name: &[u8], volume: u64, mass: u64) {
     show::word(b"\n");
 }
 
-// One entry less where the table is the short one.
-fn less(whole: usize, short: bool) -> usize
-    requires { ⌜ 1 ≤ whole ⌝ }
-    ensures { λ r. ⌜ r ≤ whole ⌝ }
-{
-    if short { whole - 1 } else { whole }
-}
-
-// The channel with the table at this position short by one entry.
-pub fn short(position: u64) {
-    let volumes = [100u64, 100, 100];
-    let firsts = [0u64, 0, 1, 2];
-    let seconds = [4095u64, 1, 2, 4095];
-    let weights = [0u64, 128, 128, 0];
-    let spans = [0u64, 100, 100, 0];
-    let masses = [100000u64, 0, 0];
-    let fluxes = [-50i64, 50, 50, 50];
-    let outsides = [1000u64, 0, 0, 0];
-    let mut next = [7u64; 3];
-    let mut moved = [-7i64; 4];
-    let mut work = [7u64; 16];
-    show::word(b"short");
-    show::number(position);
+// Tables of falling lengths, each long enough for the counts that the next one is too short for.
+pub fn graded(name: &[u8], cells: usize, faces: usize) {
+    let volumes = [100u64; 4];
+    let firsts = [0u64; 9];
+    let seconds = [4095u64; 8];
+    let weights = [0u64; 7];
+    let spans = [0u64; 6];
+    let masses = [0u64; 3];
+    let fluxes = [0i64; 5];
+    let outsides = [0u64; 4];
+    let mut next = [7u64; 2];
+    let mut moved = [-7i64; 3];
+    let mut work = [7u64; 10];
+    show::word(name);
     show::step(
-        3,
-        4,
-        &volumes[..less(3, position == 0)],
-        &firsts[..less(4, position == 1)],
-        &seconds[..less(4, position == 2)],
-        &weights[..less(4, position == 3)],
-        &spans[..less(4, position == 4)],
-        &masses[..less(3, position == 5)],
-        &fluxes[..less(4, position == 6)],
-        &outsides[..less(4, position == 7)],
-        &mut next[..less(3, position == 8)],
-        &mut moved[..less(4, position == 9)],
-        &mut work[..less(16, position == 10)],
+        cells,
+        faces,
+        &volumes,
+        &firsts,
+        &seconds,
+        &weights,
+        &spans,
+        &masses,
+        &fluxes,
+        &outsides,
+        &mut next,
+        &mut moved,
+        &mut work,
     );
     show::word(b"\n");
 }

@@ -38,20 +38,20 @@ fn limits() {
     cases::counted(b"both", 4096, 8191);
 }
 
-// Cause 2: each table short by one entry; then none.
+// Cause 2: each table short by one entry; the last counts fit all tables.
 fn tables() {
-    cases::short(0);
-    cases::short(1);
-    cases::short(2);
-    cases::short(3);
-    cases::short(4);
-    cases::short(5);
-    cases::short(6);
-    cases::short(7);
-    cases::short(8);
-    cases::short(9);
-    cases::short(10);
-    cases::short(11);
+    cases::graded(b"volumes short", 5, 10);
+    cases::graded(b"firsts short", 4, 10);
+    cases::graded(b"seconds short", 4, 9);
+    cases::graded(b"weights short", 4, 8);
+    cases::graded(b"spans short", 4, 7);
+    cases::graded(b"masses short", 4, 6);
+    cases::graded(b"fluxes short", 3, 6);
+    cases::graded(b"outsides short", 3, 5);
+    cases::graded(b"next masses short", 3, 4);
+    cases::graded(b"moved short", 2, 4);
+    cases::graded(b"work short", 2, 3);
+    cases::graded(b"work just long enough", 2, 2);
     cases::longer(b"longer, accepted", 100);
     cases::longer(b"longer, refused", 49);
 }
