@@ -36,7 +36,7 @@ static void step(size_t cells, size_t faces, const uint64_t *restrict volume, co
                  uint64_t *restrict after, int64_t *restrict through, struct cell *restrict cell,
                  int64_t *restrict correction, uint64_t *restrict in_mass, uint64_t *restrict out_mass) {
   for (size_t c = 0; c < cells; c++) {
-    uint64_t q = mass[c] / volume[c];
+    uint64_t q = (uint32_t)mass[c] / (uint32_t)volume[c]; /* masses fit 32 bits, which divide faster */
     cell[c].q_or_p = cell[c].lo_or_l = cell[c].hi_or_g = q;
     after[c] = mass[c];
   }

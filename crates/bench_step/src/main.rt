@@ -4,9 +4,16 @@ mod text;
 
 use model::MAX_CELLS;
 use model::MAX_FACES;
+use std::num::wrapping_add_u64;
+use transport::StepAnswer;
 ghost use mathlib.Core.Path.{_≡_};
 ghost use Prim.Native.Nat.{_≤_, _<_, _*_};
 ghost use Rattle.model.specs.Mesh.{maxCells, maxFaces};
+
+const WORK: usize = 4 * MAX_CELLS + MAX_FACES;
+
+// Pairs of steps in a round.
+const PAIRS: u64 = 8;
 
 fn copy(cells: usize, from: &[u64; MAX_CELLS], to: &mut [u64; MAX_CELLS])
     requires { ⌜ cells ≤ maxCells ⌝ }
@@ -16,6 +23,92 @@ fn copy(cells: usize, from: &[u64; MAX_CELLS], to: &mut [u64; MAX_CELLS])
         to[c] = from[c];
         c += 1;
     }
+}
+
+// What crossed the boundary in all steps, and how many steps were refused.
+struct Sums {
+    entered: u64,
+    gone: u64,
+    refused: u64,
+}
+
+fn with(sums: Sums, answer: StepAnswer) -> Sums {
+    match answer {
+        StepAnswer::Stepped(crossing) => Sums {
+            entered: wrapping_add_u64(sums.entered, crossing.entered),
+            gone: wrapping_add_u64(sums.gone, crossing.gone),
+            refused: sums.refused,
+        },
+        StepAnswer::Refused(_) => Sums {
+            entered: sums.entered,
+            gone: sums.gone,
+            refused: wrapping_add_u64(sums.refused, 1),
+        },
+    }
+}
+
+// Two steps, from the masses to the next masses and back.
+fn pair(
+    cells: usize,
+    faces: usize,
+    volumes: &[u64; MAX_CELLS],
+    firsts: &[u64; MAX_FACES],
+    seconds: &[u64; MAX_FACES],
+    weights: &[u64; MAX_FACES],
+    spans: &[u64; MAX_FACES],
+    masses: &mut [u64; MAX_CELLS],
+    fluxes: &[i64; MAX_FACES],
+    outsides: &[u64; MAX_FACES],
+    next: &mut [u64; MAX_CELLS],
+    moved: &mut [i64; MAX_FACES],
+    work: &mut [u64; WORK],
+    sums: Sums,
+) -> Sums {
+    let there = transport::step(
+        cells, faces, volumes, firsts, seconds, weights, spans, masses, fluxes, outsides, next, moved, work,
+    );
+    let back = transport::step(
+        cells, faces, volumes, firsts, seconds, weights, spans, next, fluxes, outsides, masses, moved, work,
+    );
+    with(with(sums, there), back)
+}
+
+// The pairs of some rounds. Each round starts from the first field, so that its fronts stay.
+fn repeat(
+    cells: usize,
+    faces: usize,
+    pairs: u64,
+    volumes: &[u64; MAX_CELLS],
+    firsts: &[u64; MAX_FACES],
+    seconds: &[u64; MAX_FACES],
+    weights: &[u64; MAX_FACES],
+    spans: &[u64; MAX_FACES],
+    field: &[u64; MAX_CELLS],
+    masses: &mut [u64; MAX_CELLS],
+    fluxes: &[i64; MAX_FACES],
+    outsides: &[u64; MAX_FACES],
+    next: &mut [u64; MAX_CELLS],
+    moved: &mut [i64; MAX_FACES],
+    work: &mut [u64; WORK],
+) -> Sums
+    requires { ⌜ cells ≤ maxCells ⌝ }
+{
+    let mut sums = Sums {
+        entered: 0,
+        gone: 0,
+        refused: 0,
+    };
+    let mut i = 0;
+    while i < pairs {
+        if i % PAIRS == 0 {
+            copy(cells, field, masses);
+        }
+        sums = pair(
+            cells, faces, volumes, firsts, seconds, weights, spans, masses, fluxes, outsides, next, moved, work, sums,
+        );
+        i += 1;
+    }
+    sums
 }
 
 // The lagoon made, stepped and reported.
@@ -35,21 +128,41 @@ fn run_on(
     outsides: &mut [u64; MAX_FACES],
     next: &mut [u64; MAX_CELLS],
     moved: &mut [i64; MAX_FACES],
-    work: &mut [u64; 24570],
+    work: &mut [u64; WORK],
 )
-    requires { ⌜ (cells ≤ maxCells) × (1 ≤ width) × (width ≤ maxCells) ⌝ }
+    requires { ⌜ (cells ≤ maxCells) × (1 ≤ width) × (width ≤ maxCells) × (rounds < 1000000000000) ⌝ }
 {
     grid::make_cells(cells, width, volumes, field);
     grid::make_faces(
         2 * cells, width, height, firsts, seconds, weights, spans, fluxes, outsides,
     );
-    copy(cells, field, masses);
-    text::print(text::total(cells, masses), 0, 0, text::digest(cells, 2 * cells, masses, moved));
+    let sums = repeat(
+        cells,
+        2 * cells,
+        PAIRS * rounds,
+        volumes,
+        firsts,
+        seconds,
+        weights,
+        spans,
+        field,
+        masses,
+        fluxes,
+        outsides,
+        next,
+        moved,
+        work,
+    );
+    if sums.refused == 0 {
+        let total = text::total(cells, masses);
+        let digest = text::digest(cells, 2 * cells, masses, moved);
+        text::print(total, sums.entered, sums.gone, digest);
+    }
 }
 
 // The tables are arrays of this function.
 fn run(cells: usize, width: u64, height: u64, rounds: u64)
-    requires { ⌜ (cells ≤ maxCells) × (1 ≤ width) × (width ≤ maxCells) ⌝ }
+    requires { ⌜ (cells ≤ maxCells) × (1 ≤ width) × (width ≤ maxCells) × (rounds < 1000000000000) ⌝ }
 {
     let mut volumes = [0u64; MAX_CELLS];
     let mut firsts = [0u64; MAX_FACES];
@@ -62,7 +175,7 @@ fn run(cells: usize, width: u64, height: u64, rounds: u64)
     let mut outsides = [0u64; MAX_FACES];
     let mut next = [0u64; MAX_CELLS];
     let mut moved = [0i64; MAX_FACES];
-    let mut work = [0u64; 24570];
+    let mut work = [0u64; WORK];
     run_on(
         cells,
         width,
