@@ -1,10 +1,10 @@
 #!/usr/bin/env bash
 # make bench: the engine against the yardstick on the same lagoon, at full size and at an eighth of it.
-# Fails where what they print differs, and judges no time. REPEATS=N (default 5), ROUNDS=N at full size (default 80).
+# Fails where what they print differs, and judges no time. REPEATS=N (default 15), ROUNDS=N at full size (default 30).
 set -eu
 cd "$(dirname "$0")/.."
-repeats=${REPEATS:-5}
-rounds=${ROUNDS:-80}
+repeats=${REPEATS:-15}
+rounds=${ROUNDS:-30}
 steps=16 # in a round
 yardstick=target/bench/yardstick
 engine=target/bin/bench_step

@@ -115,7 +115,11 @@ fn second(f: u64, width: u64, open: bool) -> u64
     if open {
         return BOUNDARY;
     }
-    if is_east(f) { first(f) + 1 } else { first(f) + width }
+    if is_east(f) {
+        first(f) + 1
+    } else {
+        first(f) + width
+    }
 }
 
 fn weight(f: u64, open: bool) -> u64

@@ -65,10 +65,34 @@ fn pair(
     sums: Sums,
 ) -> Sums {
     let there = transport::step(
-        cells, faces, volumes, firsts, seconds, weights, spans, masses, fluxes, outsides, next, moved, work,
+        cells,
+        faces,
+        volumes,
+        firsts,
+        seconds,
+        weights,
+        spans,
+        masses,
+        fluxes,
+        outsides,
+        next,
+        moved,
+        work,
     );
     let back = transport::step(
-        cells, faces, volumes, firsts, seconds, weights, spans, next, fluxes, outsides, masses, moved, work,
+        cells,
+        faces,
+        volumes,
+        firsts,
+        seconds,
+        weights,
+        spans,
+        next,
+        fluxes,
+        outsides,
+        masses,
+        moved,
+        work,
     );
     with(with(sums, there), back)
 }
@@ -104,7 +128,20 @@ fn repeat(
             copy(cells, field, masses);
         }
         sums = pair(
-            cells, faces, volumes, firsts, seconds, weights, spans, masses, fluxes, outsides, next, moved, work, sums,
+            cells,
+            faces,
+            volumes,
+            firsts,
+            seconds,
+            weights,
+            spans,
+            masses,
+            fluxes,
+            outsides,
+            next,
+            moved,
+            work,
+            sums,
         );
         i += 1;
     }
@@ -134,7 +171,15 @@ fn run_on(
 {
     grid::make_cells(cells, width, volumes, field);
     grid::make_faces(
-        2 * cells, width, height, firsts, seconds, weights, spans, fluxes, outsides,
+        2 * cells,
+        width,
+        height,
+        firsts,
+        seconds,
+        weights,
+        spans,
+        fluxes,
+        outsides,
     );
     let sums = repeat(
         cells,
@@ -154,9 +199,7 @@ fn run_on(
         work,
     );
     if sums.refused == 0 {
-        let total = text::total(cells, masses);
-        let digest = text::digest(cells, 2 * cells, masses, moved);
-        text::print(total, sums.entered, sums.gone, digest);
+        text::report(cells, sums.entered, sums.gone, masses, moved);
     }
 }
 

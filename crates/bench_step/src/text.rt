@@ -6,6 +6,7 @@ ghost use Prim.Native.Nat.{_≤_, _<_};
 ghost use Rattle.model.specs.Mesh.{maxCells, maxFaces};
 
 const PRIME: u64 = 1000000007;
+
 const BASE: u64 = 1000003;
 
 fn digit(b: u8) -> u64
@@ -42,7 +43,7 @@ pub fn argument(i: usize) -> u64
 }
 
 // The sum of the masses; that of a field within the limits does not wrap.
-pub fn total(cells: usize, masses: &[u64; MAX_CELLS]) -> u64
+fn total(cells: usize, masses: &[u64; MAX_CELLS]) -> u64
     requires { ⌜ cells ≤ maxCells ⌝ }
 {
     let mut sum: u64 = 0;
@@ -77,11 +78,15 @@ fn digest_masses(cells: usize, masses: &[u64; MAX_CELLS]) -> u64
 // A signed number as one without sign.
 fn coded(x: i64) -> u64 {
     let size = 2 * (signed::size(x) % PRIME);
-    if signed::is_negative(x) { size + 1 } else { size }
+    if signed::is_negative(x) {
+        size + 1
+    } else {
+        size
+    }
 }
 
 // The digest of the masses, and then of what moved.
-pub fn digest(cells: usize, faces: usize, masses: &[u64; MAX_CELLS], moved: &[i64; MAX_FACES]) -> u64
+fn digest(cells: usize, faces: usize, masses: &[u64; MAX_CELLS], moved: &[i64; MAX_FACES]) -> u64
     requires { ⌜ (cells ≤ maxCells) × (faces ≤ maxFaces) ⌝ }
 {
     let mut digest = digest_masses(cells, masses);
@@ -99,9 +104,18 @@ fn print_end(x: u64, end: u8) {
     io::write_all(STDOUT_FILENO, &text);
 }
 
-pub fn print(total: u64, entered: u64, gone: u64, digest: u64) {
-    print_end(total, b' ');
+// Total, in-mass, out-mass and digest.
+pub fn report(
+    cells: usize,
+    entered: u64,
+    gone: u64,
+    masses: &[u64; MAX_CELLS],
+    moved: &[i64; MAX_FACES],
+)
+    requires { ⌜ cells ≤ maxCells ⌝ }
+{
+    print_end(total(cells, masses), b' ');
     print_end(entered, b' ');
     print_end(gone, b' ');
-    print_end(digest, b'\n');
+    print_end(digest(cells, 2 * cells, masses, moved), b'\n');
 }
