@@ -1,0 +1,80 @@
+#!/usr/bin/env python3
+"""busy.py WIDTH HEIGHT: the bench's lagoon through the reference, with all its tests.
+
+Prints the line that yardstick and bench_step print for one round, and on standard error how busy each stage is.
+"""
+
+import sys
+from pathlib import Path
+
+sys.path.insert(0, str(Path(__file__).resolve().parent.parent / "reference"))
+
+import lagoon
+
+STEPS, PRIME, BASE = 16, 1_000_000_007, 1_000_003
+
+
+def wave(k):
+    return min(k % 24, 24 - k % 24)
+
+def stream(x, y):
+    return 5 * wave(x) * wave(y) + 37 * x * y % 11
+
+def make(width, height):
+    """The tables in document 01's order up to the outsides."""
+    volumes, masses = [], []
+    firsts, seconds, weights, spans, fluxes, outsides = [], [], [], [], [], []
+    for c in range(width * height):
+        y, x = divmod(c, width)
+        V = 150 + 29 * c % 256
+        q = 900000 + 7919 * c % 100000 if (x // 6 + y // 6) % 2 == 0 else 4973 * c % 100000
+        volumes.append(V)
+        masses.append(V * q + 31 * c % 150)
+        sides = [(x + 1 == width, c + 1, stream(x + 1, y + 1) - stream(x + 1, y)),
+                 (y + 1 == height, c + width, stream(x, y + 1) - stream(x + 1, y + 1))]
+        for side, (is_open, beyond, U) in enumerate(sides):
+            f = 2 * c + side
+            firsts.append(c)
+            seconds.append(lagoon.RIM if is_open else beyond)
+            weights.append(0 if is_open else 64 + 53 * f % 128)
+            spans.append(0 if is_open else 80 + 23 * f % 256)
+            fluxes.append(U)
+            outsides.append(f % 5 * 250000 if is_open and U < 0 else 0)
+    return [volumes, firsts, seconds, weights, spans, masses, fluxes, outsides]
+
+def mixed(digest, x):
+    return (digest * BASE + x % PRIME) % PRIME
+
+def how_busy(tables):
+    """Of one step: faces with water, boundary inflows and outflows, corrections, those cut, those cut to nothing."""
+    mesh, masses, fluxes, outsides = lagoon.Mesh(*tables[:5]), *tables[5:8]
+    q = lagoon.concentrations(mesh.volumes, masses)
+    _, low = lagoon.upwind(mesh, masses, q, fluxes, outsides)
+    wanted = lagoon.corrections(mesh, q, fluxes)
+    limited = lagoon.limiter(mesh, wanted, *lagoon.bounds(mesh, low, q, fluxes, outsides))
+    rims = [U for U, second in zip(fluxes, mesh.seconds) if second == lagoon.RIM]
+    return {"faces": len(fluxes), "water": sum(U != 0 for U in fluxes),
+            "in": sum(U < 0 for U in rims), "out": sum(U > 0 for U in rims),
+            "corrections": sum(a != 0 for a in wanted), "back": sum(a < 0 for a in wanted),
+            "cut": sum(a != b for a, b in zip(wanted, limited)),
+            "cut to 0": sum(a != 0 and b == 0 for a, b in zip(wanted, limited))}
+
+def main():
+    width, height = int(sys.argv[1]), int(sys.argv[2])
+    tables = make(width, height)
+    cells, faces = width * height, 2 * width * height
+    entered = gone = 0
+    for step in range(STEPS):
+        if step in (0, 1, STEPS // 2, STEPS - 1):
+            print(f"step {step}:", how_busy(tables), file=sys.stderr)
+        lent = tables + [[0] * cells, [0] * faces, [0] * (4 * cells + faces)]
+        crossed = lagoon.step_on_tables(cells, faces, lent)
+        entered, gone = entered + crossed[0], gone + crossed[1]
+        tables[5], moved = lent[8], lent[9]
+    digest = 1
+    for x in tables[5] + [2 * abs(x) + (x < 0) for x in moved]:
+        digest = mixed(digest, x)
+    print(sum(tables[5]), entered, gone, digest)
+
+
+main()

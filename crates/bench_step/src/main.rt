@@ -1,0 +1,261 @@
+// The lagoon of bench/yardstick.c, stepped by the engine. Arguments and the printed line are the yardstick's.
+mod grid;
+mod text;
+
+use model::MAX_CELLS;
+use model::MAX_FACES;
+use std::num::wrapping_add_u64;
+use transport::StepAnswer;
+ghost use mathlib.Core.Path.{_≡_};
+ghost use Prim.Native.Nat.{_≤_, _<_, _*_};
+ghost use Rattle.model.specs.Mesh.{maxCells, maxFaces};
+
+const WORK: usize = 4 * MAX_CELLS + MAX_FACES;
+
+// Pairs of steps in a round.
+const PAIRS: u64 = 8;
+
+fn copy(cells: usize, from: &[u64; MAX_CELLS], to: &mut [u64; MAX_CELLS])
+    requires { ⌜ cells ≤ maxCells ⌝ }
+{
+    let mut c = 0;
+    while c < cells {
+        to[c] = from[c];
+        c += 1;
+    }
+}
+
+// What crossed the boundary in all steps, and how many steps were refused.
+struct Sums {
+    entered: u64,
+    gone: u64,
+    refused: u64,
+}
+
+fn with(sums: Sums, answer: StepAnswer) -> Sums {
+    match answer {
+        StepAnswer::Stepped(crossing) => Sums {
+            entered: wrapping_add_u64(sums.entered, crossing.entered),
+            gone: wrapping_add_u64(sums.gone, crossing.gone),
+            refused: sums.refused,
+        },
+        StepAnswer::Refused(_) => Sums {
+            entered: sums.entered,
+            gone: sums.gone,
+            refused: wrapping_add_u64(sums.refused, 1),
+        },
+    }
+}
+
+// Two steps, from the masses to the next masses and back.
+fn pair(
+    cells: usize,
+    faces: usize,
+    volumes: &[u64; MAX_CELLS],
+    firsts: &[u64; MAX_FACES],
+    seconds: &[u64; MAX_FACES],
+    weights: &[u64; MAX_FACES],
+    spans: &[u64; MAX_FACES],
+    masses: &mut [u64; MAX_CELLS],
+    fluxes: &[i64; MAX_FACES],
+    outsides: &[u64; MAX_FACES],
+    next: &mut [u64; MAX_CELLS],
+    moved: &mut [i64; MAX_FACES],
+    work: &mut [u64; WORK],
+    sums: Sums,
+) -> Sums {
+    let there = transport::step(
+        cells,
+        faces,
+        volumes,
+        firsts,
+        seconds,
+        weights,
+        spans,
+        masses,
+        fluxes,
+        outsides,
+        next,
+        moved,
+        work,
+    );
+    let back = transport::step(
+        cells,
+        faces,
+        volumes,
+        firsts,
+        seconds,
+        weights,
+        spans,
+        next,
+        fluxes,
+        outsides,
+        masses,
+        moved,
+        work,
+    );
+    with(with(sums, there), back)
+}
+
+// The pairs of some rounds. Each round starts from the first field, so that its fronts stay.
+fn repeat(
+    cells: usize,
+    faces: usize,
+    pairs: u64,
+    volumes: &[u64; MAX_CELLS],
+    firsts: &[u64; MAX_FACES],
+    seconds: &[u64; MAX_FACES],
+    weights: &[u64; MAX_FACES],
+    spans: &[u64; MAX_FACES],
+    field: &[u64; MAX_CELLS],
+    masses: &mut [u64; MAX_CELLS],
+    fluxes: &[i64; MAX_FACES],
+    outsides: &[u64; MAX_FACES],
+    next: &mut [u64; MAX_CELLS],
+    moved: &mut [i64; MAX_FACES],
+    work: &mut [u64; WORK],
+) -> Sums
+    requires { ⌜ cells ≤ maxCells ⌝ }
+{
+    let mut sums = Sums {
+        entered: 0,
+        gone: 0,
+        refused: 0,
+    };
+    let mut i = 0;
+    while i < pairs {
+        if i % PAIRS == 0 {
+            copy(cells, field, masses);
+        }
+        sums = pair(
+            cells,
+            faces,
+            volumes,
+            firsts,
+            seconds,
+            weights,
+            spans,
+            masses,
+            fluxes,
+            outsides,
+            next,
+            moved,
+            work,
+            sums,
+        );
+        i += 1;
+    }
+    sums
+}
+
+// The lagoon made, stepped and reported.
+fn run_on(
+    cells: usize,
+    width: u64,
+    height: u64,
+    rounds: u64,
+    volumes: &mut [u64; MAX_CELLS],
+    firsts: &mut [u64; MAX_FACES],
+    seconds: &mut [u64; MAX_FACES],
+    weights: &mut [u64; MAX_FACES],
+    spans: &mut [u64; MAX_FACES],
+    field: &mut [u64; MAX_CELLS],
+    masses: &mut [u64; MAX_CELLS],
+    fluxes: &mut [i64; MAX_FACES],
+    outsides: &mut [u64; MAX_FACES],
+    next: &mut [u64; MAX_CELLS],
+    moved: &mut [i64; MAX_FACES],
+    work: &mut [u64; WORK],
+)
+    requires { ⌜ (cells ≤ maxCells) × (1 ≤ width) × (width ≤ maxCells) × (rounds < 1000000000000) ⌝ }
+{
+    grid::make_cells(cells, width, volumes, field);
+    grid::make_faces(
+        2 * cells,
+        width,
+        height,
+        firsts,
+        seconds,
+        weights,
+        spans,
+        fluxes,
+        outsides,
+    );
+    let sums = repeat(
+        cells,
+        2 * cells,
+        PAIRS * rounds,
+        volumes,
+        firsts,
+        seconds,
+        weights,
+        spans,
+        field,
+        masses,
+        fluxes,
+        outsides,
+        next,
+        moved,
+        work,
+    );
+    if sums.refused == 0 {
+        text::report(cells, sums.entered, sums.gone, masses, moved);
+    }
+}
+
+// The tables are arrays of this function.
+fn run(cells: usize, width: u64, height: u64, rounds: u64)
+    requires { ⌜ (cells ≤ maxCells) × (1 ≤ width) × (width ≤ maxCells) × (rounds < 1000000000000) ⌝ }
+{
+    let mut volumes = [0u64; MAX_CELLS];
+    let mut firsts = [0u64; MAX_FACES];
+    let mut seconds = [0u64; MAX_FACES];
+    let mut weights = [0u64; MAX_FACES];
+    let mut spans = [0u64; MAX_FACES];
+    let mut field = [0u64; MAX_CELLS];
+    let mut masses = [0u64; MAX_CELLS];
+    let mut fluxes = [0i64; MAX_FACES];
+    let mut outsides = [0u64; MAX_FACES];
+    let mut next = [0u64; MAX_CELLS];
+    let mut moved = [0i64; MAX_FACES];
+    let mut work = [0u64; WORK];
+    run_on(
+        cells,
+        width,
+        height,
+        rounds,
+        &mut volumes,
+        &mut firsts,
+        &mut seconds,
+        &mut weights,
+        &mut spans,
+        &mut field,
+        &mut masses,
+        &mut fluxes,
+        &mut outsides,
+        &mut next,
+        &mut moved,
+        &mut work,
+    );
+}
+
+// WIDTH, HEIGHT and ROUNDS; a grid beyond the limits prints nothing.
+fn main() {
+    let width = text::argument(1);
+    let height = text::argument(2);
+    let rounds = text::argument(3);
+    if width < 1 {
+        return;
+    }
+    if width > 4095 {
+        return;
+    }
+    if height > 4095 {
+        return;
+    }
+    let cells = grid::times(width, height);
+    if cells > 4095 {
+        return;
+    }
+    run(cells as usize, width, height, rounds);
+}
