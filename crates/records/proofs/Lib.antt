@@ -1,3 +1,4 @@
 pub mod HeadLaws
 pub mod BodyLaws
 pub mod ZeroLaws
+pub mod ReadLaws

@@ -1,66 +1,40 @@
+use mathlib.Core.Path.{_≡_}
 use borrow.Author.Needs.{needs}
+use Rattle.model.proofs.Verdicts.{out}
+use Rattle.records.specs.Reading.{fieldRead}
+use Rattle.records.proofs.HeadLaws.{refuses, passes, field-head-says}
+use Rattle.records.proofs.ReadLaws.{second-out, both-past, field-refused, field-accepted}
 use Rattle.records.proofs.read_field.Statement.{statement}
 use Rattle.records.proofs.read_field.Tie as tie
-use Rattle.records.proofs.read_field.Reads as reads
-use Rattle.records.proofs.read_field.Lts as lts
-use Rattle.records.proofs.heads.field.Reads as heads-field-reads
-use Rattle.records.proofs.tables.field.Reads as tables-field-reads
-use Rattle.records.proofs.verdicts.field.Reads as verdicts-field-reads
 
--- src/lib.rt:116:9
-field-requires : tie.Need-field-requires
-field-requires c κs = search needs
-
--- src/lib.rt:117:28
-enum-known-a : tie.Need-enum-known-a
-enum-known-a c = search needs
-
--- src/lib.rt:118:9
 returns : tie.Need-returns
-returns c = ?
+unfolding fieldRead
+returns c = field-refused (out _ (refuses (c .before .before .before .field .ensures) (c .before .a .given .1)))
 
-enum-told : tie.Need-enum-told
-enum-told c = search needs
-
--- src/lib.rt:120:9
 field-requires-2 : tie.Need-field-requires-2
-field-requires-2 c κs = ?
+field-requires-2 c κs = field-head-says _ _ (passes (c .before .before .field .ensures) (c .enum-told .given .1)) .few-cells
 
--- src/lib.rt:121:28
-enum-known-b : tie.Need-enum-known-b
-enum-known-b c = search needs
-
--- src/lib.rt:122:9
 returns-2 : tie.Need-returns-2
-returns-2 c = ?
+unfolding fieldRead
+returns-2 c =
+    let h = c .before .before .before .before in
+    field-refused (second-out (passes (h .before .before .field .ensures) (h .enum-told .given .1)) (refuses (c .before .before .before .field2 .ensures) (c .before .b .given .1)))
 
-enum-told-2 : tie.Need-enum-told-2
-enum-told-2 c = search needs
-
--- src/lib.rt:124:5
 field-requires-3 : tie.Need-field-requires-3
-field-requires-3 c κs = ?
+field-requires-3 c κs =
+    let b = c .before in
+    let h = b .before .before .before in
+    (field-head-says _ _ (passes (h .before .before .field .ensures) (h .enum-told .given .1)) .few-cells, passes (b .before .before .field2 .ensures) (b .enum-told2 .given .1))
 
--- src/lib.rt:113:1
-same-length : tie.Need-same-length
-same-length c = search needs
-
--- src/lib.rt:113:1
 returns-3 : tie.Need-returns-3
-returns-3 c = ?
+unfolding fieldRead
+returns-3 c =
+    let t = c .before .before in
+    let b = t .before .before in
+    let h = b .before .before .before in
+    field-accepted (both-past (passes (h .before .before .field .ensures) (h .enum-told .given .1)) (passes (b .before .before .field2 .ensures) (b .enum-told2 .given .1))) (t .field3 .ensures)
 
 pub read-field-spec : {M : Type 1} → statement M
 read-field-spec =
     tie.close
-    (tie.spec
-    field-requires
-    enum-known-a
-    returns
-    enum-told
-    field-requires-2
-    enum-known-b
-    returns-2
-    enum-told-2
-    field-requires-3
-    same-length
-    returns-3)
+    (tie.spec (search needs) (search needs) returns (search needs) field-requires-2 (search needs) returns-2 (search needs) field-requires-3 (search needs) returns-3)

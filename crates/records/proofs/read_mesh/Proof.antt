@@ -1,98 +1,61 @@
+use mathlib.Core.Path.{_≡_, _∙_}
+use native.Mathlib.Omega.{arith}
 use borrow.Author.Needs.{needs}
+use Rattle.model.proofs.Verdicts.{out, past}
+use Rattle.records.specs.Reading.{meshRead}
+use Rattle.records.proofs.HeadLaws.{refuses, passes, mesh-head-says}
+use Rattle.records.proofs.ReadLaws.{second-out, both-past, mesh-refused, mesh-accepted}
 use Rattle.records.proofs.read_mesh.Statement.{statement}
 use Rattle.records.proofs.read_mesh.Tie as tie
-use Rattle.records.proofs.read_mesh.Reads as reads
-use Rattle.records.proofs.read_mesh.Lts as lts
-use Rattle.records.proofs.heads.cells.Reads as cells-reads
-use Rattle.records.proofs.heads.faces.Reads as faces-reads
-use Rattle.records.proofs.heads.mesh.Reads as heads-mesh-reads
-use Rattle.records.proofs.tables.mesh.Reads as tables-mesh-reads
-use Rattle.records.proofs.verdicts.mesh.Reads as verdicts-mesh-reads
 
--- src/lib.rt:87:9
-mesh-requires : tie.Need-mesh-requires
-mesh-requires c κs = search needs
-
--- src/lib.rt:88:28
-enum-known-a : tie.Need-enum-known-a
-enum-known-a c = search needs
-
--- src/lib.rt:89:9
 returns : tie.Need-returns
-returns c = ?
+unfolding meshRead
+returns c = mesh-refused (out _ (out _ (refuses (c .before .before .before .mesh .ensures) (c .before .a .given .1))))
 
-enum-told : tie.Need-enum-told
-enum-told c = search needs
-
--- src/lib.rt:91:9
 cells-requires : tie.Need-cells-requires
-cells-requires c κs = ?
+cells-requires c κs = let h = mesh-head-says _ _ _ (passes (c .before .before .mesh .ensures) (c .enum-told .given .1)) in omega arith
 
--- src/lib.rt:92:9
 faces-requires : tie.Need-faces-requires
-faces-requires c κs = ?
+faces-requires c κs = let h = c .before in mesh-head-says _ _ _ (passes (h .before .before .mesh .ensures) (h .enum-told .given .1)) .long
 
--- src/lib.rt:93:9
 mesh-requires-2 : tie.Need-mesh-requires-2
-mesh-requires-2 c κs = ?
+mesh-requires-2 c κs =
+    let h = c .before .before in
+    let k = mesh-head-says _ _ _ (passes (h .before .before .mesh .ensures) (h .enum-told .given .1)) in
+    (c .before .cells .ensures, c .faces .ensures, rw (c .before .cells .ensures) (k .few-cells), rw (c .faces .ensures) (k .few-faces))
 
--- src/lib.rt:103:28
-enum-known-b : tie.Need-enum-known-b
-enum-known-b c = search needs
-
--- src/lib.rt:104:9
 returns-2 : tie.Need-returns-2
-returns-2 c = ?
+unfolding meshRead
+returns-2 c =
+    let h = c .before .before .before .before .before .before in
+    mesh-refused (out _ (second-out (passes (h .before .before .mesh .ensures) (h .enum-told .given .1)) (refuses (c .before .before .before .mesh2 .ensures) (c .before .b .given .1))))
 
-enum-told-2 : tie.Need-enum-told-2
-enum-told-2 c = search needs
-
--- src/lib.rt:106:5
 mesh-requires-3 : tie.Need-mesh-requires-3
-mesh-requires-3 c κs = ?
+mesh-requires-3 c κs =
+    let b = c .before .before .before .before .before in
+    let n = b .before .before .before in
+    let h = n .before .before in
+    let k = mesh-head-says _ _ _ (passes (h .before .before .mesh .ensures) (h .enum-told .given .1)) in
+    record {
+      cells-are = n .before .cells .ensures;
+      faces-are = n .faces .ensures;
+      few-cells = rw (n .before .cells .ensures) (k .few-cells);
+      few-faces = rw (n .faces .ensures) (k .few-faces);
+      passed = passes (b .before .before .mesh2 .ensures) (b .enum-told2 .given .1);
+    }
 
--- src/lib.rt:75:1
-same-length : tie.Need-same-length
-same-length c = search needs
-
--- src/lib.rt:75:1
-same-length-2 : tie.Need-same-length-2
-same-length-2 c = search needs
-
--- src/lib.rt:75:1
-same-length-3 : tie.Need-same-length-3
-same-length-3 c = search needs
-
--- src/lib.rt:75:1
-same-length-4 : tie.Need-same-length-4
-same-length-4 c = search needs
-
--- src/lib.rt:75:1
-same-length-5 : tie.Need-same-length-5
-same-length-5 c = search needs
-
--- src/lib.rt:75:1
 returns-3 : tie.Need-returns-3
-returns-3 c = ?
+unfolding meshRead
+returns-3 c =
+    let t = c .before .before .before .before .before .before .before .before .before .before in
+    let b = t .before .before .before .before .before .before in
+    let n = b .before .before .before in
+    let h = n .before .before in
+    rw (n .faces .ensures, n .before .cells .ensures)
+    (mesh-accepted (past _ (both-past (passes (h .before .before .mesh .ensures) (h .enum-told .given .1)) (passes (b .before .before .mesh2 .ensures) (b .enum-told2 .given .1)))) (t .mesh3 .ensures))
 
 pub read-mesh-spec : {M : Type 1} → statement M
 read-mesh-spec =
     tie.close
-    (tie.spec
-    mesh-requires
-    enum-known-a
-    returns
-    enum-told
-    cells-requires
-    faces-requires
-    mesh-requires-2
-    enum-known-b
-    returns-2
-    enum-told-2
-    mesh-requires-3
-    same-length
-    same-length-2
-    same-length-3
-    same-length-4
-    same-length-5
-    returns-3)
+    (tie.spec (search needs) (search needs) returns (search needs) cells-requires faces-requires mesh-requires-2 (search needs) returns-2 (search needs) mesh-requires-3
+    (search needs) (search needs) (search needs) (search needs) (search needs) returns-3)

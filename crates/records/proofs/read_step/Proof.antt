@@ -1,71 +1,41 @@
+use mathlib.Core.Path.{_≡_}
 use borrow.Author.Needs.{needs}
+use Rattle.model.proofs.Verdicts.{out}
+use Rattle.records.specs.Reading.{stepRead}
+use Rattle.records.proofs.HeadLaws.{refuses, passes, step-head-says}
+use Rattle.records.proofs.ReadLaws.{second-out, both-past, step-refused, step-accepted}
 use Rattle.records.proofs.read_step.Statement.{statement}
 use Rattle.records.proofs.read_step.Tie as tie
-use Rattle.records.proofs.read_step.Reads as reads
-use Rattle.records.proofs.read_step.Lts as lts
-use Rattle.records.proofs.heads.step.Reads as heads-step-reads
-use Rattle.records.proofs.tables.step.Reads as tables-step-reads
-use Rattle.records.proofs.verdicts.step.Reads as verdicts-step-reads
 
--- src/lib.rt:138:9
-step-requires : tie.Need-step-requires
-step-requires c κs = search needs
-
--- src/lib.rt:139:28
-enum-known-a : tie.Need-enum-known-a
-enum-known-a c = search needs
-
--- src/lib.rt:140:9
 returns : tie.Need-returns
-returns c = ?
+unfolding stepRead
+returns c = step-refused (out _ (refuses (c .before .before .before .step .ensures) (c .before .a .given .1)))
 
-enum-told : tie.Need-enum-told
-enum-told c = search needs
-
--- src/lib.rt:142:9
 step-requires-2 : tie.Need-step-requires-2
-step-requires-2 c κs = ?
+step-requires-2 c κs = let h = step-head-says _ _ _ (passes (c .before .before .step .ensures) (c .enum-told .given .1)) in (h .few-faces, h .lent)
 
--- src/lib.rt:143:28
-enum-known-b : tie.Need-enum-known-b
-enum-known-b c = search needs
-
--- src/lib.rt:144:9
 returns-2 : tie.Need-returns-2
-returns-2 c = ?
+unfolding stepRead
+returns-2 c =
+    let h = c .before .before .before .before in
+    step-refused (second-out (passes (h .before .before .step .ensures) (h .enum-told .given .1)) (refuses (c .before .before .before .step2 .ensures) (c .before .b .given .1)))
 
-enum-told-2 : tie.Need-enum-told-2
-enum-told-2 c = search needs
-
--- src/lib.rt:146:5
 step-requires-3 : tie.Need-step-requires-3
-step-requires-3 c κs = ?
+step-requires-3 c κs =
+    let b = c .before .before in
+    let h = b .before .before .before in
+    let k = step-head-says _ _ _ (passes (h .before .before .step .ensures) (h .enum-told .given .1)) in
+    (k .few-faces, k .lent, passes (b .before .before .step2 .ensures) (b .enum-told2 .given .1))
 
--- src/lib.rt:129:1
-same-length : tie.Need-same-length
-same-length c = search needs
-
--- src/lib.rt:129:1
-same-length-2 : tie.Need-same-length-2
-same-length-2 c = search needs
-
--- src/lib.rt:129:1
 returns-3 : tie.Need-returns-3
-returns-3 c = ?
+unfolding stepRead
+returns-3 c =
+    let t = c .before .before .before in
+    let b = t .before .before .before in
+    let h = b .before .before .before in
+    step-accepted (both-past (passes (h .before .before .step .ensures) (h .enum-told .given .1)) (passes (b .before .before .step2 .ensures) (b .enum-told2 .given .1))) (t .step3 .ensures)
 
 pub read-step-spec : {M : Type 1} → statement M
 read-step-spec =
     tie.close
-    (tie.spec
-    step-requires
-    enum-known-a
-    returns
-    enum-told
-    step-requires-2
-    enum-known-b
-    returns-2
-    enum-told-2
-    step-requires-3
-    same-length
-    same-length-2
-    returns-3)
+    (tie.spec (search needs) (search needs) returns (search needs) step-requires-2 (search needs) returns-2 (search needs) step-requires-3 (search needs) (search needs) returns-3)
