@@ -167,8 +167,8 @@ module _ (faces : ℕ) (seconds bs : List ℕ) (u : List ℤ) (o : List ℕ) (fe
       let n = length (take faces u) in
       record {
         fluxes-full = part-filled (pos 0) u u′ (λ f. withSign (eqb (bitsAt rest (f * fluxBits) signBits) 1) (bitsAt rest (f * fluxBits + signBits) sizeBits)) (λ f. withSign (minusIn bs f) (sizeIn bs f)) fluxes-lent refl (b .fluxes-are)
-          (λ f. rw (bits-rest 4 bs (f * fluxBits) signBits {place = fluxPlace bs f} (omega arith), bits-rest 4 bs (f * fluxBits + signBits) sizeBits {place = fluxPlace bs f + signBits} (omega arith)));
+            (λ f. rw (bits-rest 4 bs (f * fluxBits) signBits {place = fluxPlace bs f} (omega arith), bits-rest 4 bs (f * fluxBits + signBits) sizeBits {place = fluxPlace bs f + signBits} (omega arith)));
         outsides-full = part-filled 0 o o′ (λ f. cond (isBoundary seconds f) (bitsAt rest (n * fluxBits + boundaryFaces seconds f * outsideBits) outsideBits) 0)
-          (λ f. cond (isBoundary seconds f) (bitsAt bs (outsidePlace bs faces seconds f) outsideBits) 0) fluxes-lent refl (b .outsides-are)
-          (λ f. ap (λ (x : ℕ). cond (isBoundary seconds f) x 0) (bits-rest 4 bs (n * fluxBits + boundaryFaces seconds f * outsideBits) outsideBits {place = outsidePlace bs faces seconds f} (omega (arith, fluxes-lent))));
+            (λ f. cond (isBoundary seconds f) (bitsAt bs (outsidePlace bs faces seconds f) outsideBits) 0) fluxes-lent refl (b .outsides-are)
+            (λ f. ap (λ (x : ℕ). cond (isBoundary seconds f) x 0) (bits-rest 4 bs (n * fluxBits + boundaryFaces seconds f * outsideBits) outsideBits {place = outsidePlace bs faces seconds f} (omega (arith, fluxes-lent))));
       }

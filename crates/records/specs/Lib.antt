@@ -3,3 +3,5 @@ pub mod Reading
 pub mod Answers
 pub mod Scans
 pub mod Bodies
+pub mod Writing
+pub mod Putting

@@ -71,7 +71,10 @@ pub fn counts_within(most_cells: usize, most_faces: usize, cells: usize, faces: 
 {
     let few_cells = between(1, least(most_cells, model::MAX_CELLS), cells);
     let few_faces = faces <= least(most_faces, model::MAX_FACES);
-    and_then(need(Cause::Limits, 0, few_cells), need(Cause::Limits, 1, few_faces))
+    and_then(
+        need(Cause::Limits, 0, few_cells),
+        need(Cause::Limits, 1, few_faces),
+    )
 }
 
 fn kind(bytes: &[u8]) -> u64
@@ -113,7 +116,10 @@ pub fn mesh(most_cells: usize, most_faces: usize, bytes: &[u8]) -> Answer
         return Answer::Refused(r);
     }
     let b = need(Cause::Head, 0, kind(bytes) == MESH_KIND);
-    and_then(b, counts_within(most_cells, most_faces, cells(bytes), faces(bytes)))
+    and_then(
+        b,
+        counts_within(most_cells, most_faces, cells(bytes), faces(bytes)),
+    )
 }
 
 pub fn field(expected: usize, bytes: &[u8]) -> Answer

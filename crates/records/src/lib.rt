@@ -2,6 +2,7 @@
 mod body;
 mod heads;
 mod lengths;
+mod put;
 mod tables;
 mod verdicts;
 mod zeros;
@@ -104,7 +105,14 @@ pub fn read_mesh(
         return MeshAnswer::Refused(r);
     }
     tables::mesh(
-        cells, faces, bytes, volumes, firsts, seconds, weights, spans,
+        cells,
+        faces,
+        bytes,
+        volumes,
+        firsts,
+        seconds,
+        weights,
+        spans,
     );
     MeshAnswer::Read(Counts { cells, faces })
 }

@@ -65,13 +65,7 @@ pub fn field(cells: usize, bytes: &[u8], masses: usize) -> Answer
     then_long(a, 5, cells, masses)
 }
 
-pub fn step(
-    faces: usize,
-    seconds: &[u64],
-    bytes: &[u8],
-    fluxes: usize,
-    outsides: usize,
-) -> Answer
+pub fn step(faces: usize, seconds: &[u64], bytes: &[u8], fluxes: usize, outsides: usize) -> Answer
     requires { ⌜ (faces ≤ maxFaces) × (faces ≤ length (now seconds)) ⌝ }
     ensures { λ r. ⌜ said r ≡ stepBodyVerdict faces (now (seconds .entry)) (now (bytes .entry)) fluxes outsides ⌝ }
 {

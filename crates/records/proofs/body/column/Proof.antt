@@ -27,9 +27,11 @@ take-requires c κs = let s = c .before .before .before .before .before in let r
 loop-again : tie.Need-loop-again Inv-loop μ-loop
 loop-again c =
     let l = c .before .before .before .loop in
-    let s = c .before .before .before .before .before .before in
-    (simp length-set (l .inv .0), search needs,
-      over-step _ _ _ (search needs) (l .inv .2) (c .take .ensures .0 ∙ ap (λ p. bitsAt (s .args .body .now) p (s .args .width)) (c .before .new .ensures)))
+    let s = c .before .before .before .before .before .before in (
+      simp length-set (l .inv .0),
+      search needs,
+      over-step _ _ _ (search needs) (l .inv .2) (c .take .ensures .0 ∙ ap (λ p. bitsAt (s .args .body .now) p (s .args .width)) (c .before .new .ensures)),
+    )
 
 pub column-spec : {M : Type 1} → statement M
 column-spec =

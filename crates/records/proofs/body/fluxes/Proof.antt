@@ -41,9 +41,11 @@ loop-again : tie.Need-loop-again Inv-loop μ-loop
 loop-again c =
     let k = c .before .before .before .before in
     let l = k .before .before .before .before .loop in
-    let put = c .before .put .ensures in
-    (rw put (simp length-set (l .inv .0)), search needs,
-      put ∙ over-step _ _ _ (search needs) (l .inv .2) (flux-taken _ (k .before .take .ensures .0) (k .take2 .ensures .0) (k .before .before .new .ensures) (k .before .take .ensures .1)))
+    let put = c .before .put .ensures in (
+      rw put (simp length-set (l .inv .0)),
+      search needs,
+      put ∙ over-step _ _ _ (search needs) (l .inv .2) (flux-taken _ (k .before .take .ensures .0) (k .take2 .ensures .0) (k .before .before .new .ensures) (k .before .take .ensures .1)),
+    )
 
 pub fluxes-spec : {M : Type 1} → statement M
 fluxes-spec =

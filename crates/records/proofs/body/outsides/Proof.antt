@@ -38,10 +38,12 @@ loop-again : tie.Need-loop-again Inv-loop μ-loop
 loop-again c =
     let o = c .before in
     let l = o .before .before .before .before .loop in
-    let s = o .before .before .before .before .before .before .before .before .before in
-    (simp length-set (l .inv .0), search needs,
+    let s = o .before .before .before .before .before .before .before .before .before in (
+      simp length-set (l .inv .0),
+      search needs,
       rw (o .outside .ensures .1, o .before .is-boundary .ensures) (omega (arith, outside-next (s .args .seconds .now) (l .f), l .inv .2)),
-      over-step _ _ _ (search needs) (l .inv .3) (outside-taken _ (o .outside .ensures .0) (o .before .is-boundary .ensures) (l .inv .2)))
+      over-step _ _ _ (search needs) (l .inv .3) (outside-taken _ (o .outside .ensures .0) (o .before .is-boundary .ensures) (l .inv .2)),
+    )
 
 pub outsides-spec : {M : Type 1} → statement M
 outsides-spec =

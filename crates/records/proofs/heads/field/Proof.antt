@@ -25,8 +25,17 @@ returns-2 c =
     let l = c .before .before .before in
     let m = l .before .before .before in
     let k = m .before in
-    rw (c .and-then2 .ensures, c .before .need4 .ensures, c .before .before .between .ensures, l .and-then .ensures, l .before .need3 .ensures, l .before .before .cells .ensures, m .need2 .ensures, k .kind .ensures,
-      passes (k .before .before .before .need .ensures) (k .before .enum-told .given .1))
+    rw (
+      c .and-then2 .ensures,
+      c .before .need4 .ensures,
+      c .before .before .between .ensures,
+      l .and-then .ensures,
+      l .before .need3 .ensures,
+      l .before .before .cells .ensures,
+      m .need2 .ensures,
+      k .kind .ensures,
+      passes (k .before .before .before .need .ensures) (k .before .enum-told .given .1),
+    )
 
 pub field-spec : {M : Type 1} → statement M
 field-spec =

@@ -27,8 +27,15 @@ unfolding meshHeadVerdict bytesFor _andThen_
 returns-2 c =
     let l = c .before .before .before .before in
     let k = l .before .before in
-    rw (c .and-then .ensures, c .before .counts-within .ensures, c .before .before .faces .ensures, c .before .before .before .cells .ensures, l .need2 .ensures, l .before .kind .ensures,
-      passes (k .before .before .need .ensures) (k .enum-told .given .1))
+    rw (
+      c .and-then .ensures,
+      c .before .counts-within .ensures,
+      c .before .before .faces .ensures,
+      c .before .before .before .cells .ensures,
+      l .need2 .ensures,
+      l .before .kind .ensures,
+      passes (k .before .before .need .ensures) (k .enum-told .given .1),
+    )
 
 pub mesh-spec : {M : Type 1} → statement M
 mesh-spec =

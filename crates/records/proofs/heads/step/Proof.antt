@@ -25,8 +25,18 @@ returns-2 c =
     let l = c .before .before .before .before in
     let m = l .before .before .before in
     let k = m .before in
-    rw (c .and-then3 .ensures, c .before .need5 .ensures, c .before .before .and-then2 .ensures, c .before .before .before .need4 .ensures, l .and-then .ensures, l .before .need3 .ensures,
-      l .before .before .step-faces .ensures, m .need2 .ensures, k .kind .ensures, passes (k .before .before .before .need .ensures) (k .before .enum-told .given .1))
+    rw (
+      c .and-then3 .ensures,
+      c .before .need5 .ensures,
+      c .before .before .and-then2 .ensures,
+      c .before .before .before .need4 .ensures,
+      l .and-then .ensures,
+      l .before .need3 .ensures,
+      l .before .before .step-faces .ensures,
+      m .need2 .ensures,
+      k .kind .ensures,
+      passes (k .before .before .before .need .ensures) (k .before .enum-told .given .1),
+    )
 
 pub step-spec : {M : Type 1} → statement M
 step-spec =

@@ -19,8 +19,18 @@ lent c =
     let d = c .before .before .before in
     let n = d .before .before in
     let s = n .before .before .before .before in
-    rw (c .then-long5 .ensures, c .before .then-long4 .ensures, c .before .before .then-long3 .ensures, d .then-long2 .ensures, d .before .then-long .ensures, n .need .ensures,
-      n .before .bytes-for .ensures, n .before .before .mesh-bits .ensures, s .pre .0, s .pre .1)
+    rw (
+      c .then-long5 .ensures,
+      c .before .then-long4 .ensures,
+      c .before .before .then-long3 .ensures,
+      d .then-long2 .ensures,
+      d .before .then-long .ensures,
+      n .need .ensures,
+      n .before .bytes-for .ensures,
+      n .before .before .mesh-bits .ensures,
+      s .pre .0,
+      s .pre .1,
+    )
 
 returns : tie.Need-returns
 unfolding meshBodyVerdict
