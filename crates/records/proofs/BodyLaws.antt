@@ -5,7 +5,7 @@ use mathlib.Core.Bool.{Bool, cond}
 use mathlib.Core.List.{List, _++_}
 use native.Mathlib.Nat.{add-assoc}
 use native.Mathlib.Omega.{arith}
-use lib.ListN.{length, getD, take, drop, length-drop}
+use lib.ListN.{length, take, drop, length-drop}
 use lib.Seq.{getD-drop, take-all, length-take-le}
 use lib.Dec.{eqb}
 use lib.IntN.{ℤ, pos}
@@ -13,14 +13,13 @@ use Rattle.lists.specs.Table.{table, over}
 use Rattle.lists.proofs.Tables.{table-cong, over-part}
 use Rattle.signed.specs.Sign.{withSign}
 use Rattle.model.specs.Mesh.{maxCells, maxFaces}
-use Rattle.model.specs.Causes.{fine, _andThen_, each}
+use Rattle.model.specs.Causes.{fine}
 use Rattle.model.proofs.Verdicts.{both-fine}
 use Rattle.bits.specs.Field.{bitAt, bitsAt}
-use Rattle.bits.specs.Layout.{bytesFor}
-use Rattle.records.specs.Layouts.{volumeBits, endBits, weightBits, spanBits, massBits, signBits, sizeBits, outsideBits, meshHeadBits, fieldHeadBits, stepHeadBits, faceBits, fluxBits, isBoundary, boundaryFaces, meshBits, fieldBits, stepBits}
+use Rattle.records.specs.Layouts.{volumeBits, endBits, weightBits, spanBits, massBits, signBits, sizeBits, outsideBits, meshHeadBits, fieldHeadBits, faceBits, fluxBits, isBoundary, boundaryFaces, meshBits, fieldBits, stepBits}
 use Rattle.records.specs.Reading.{cellsIn, facesIn, facePlace, volumesIn, firstsIn, secondsIn, weightsIn, spansIn, massesIn, fluxPlace, minusIn, sizeIn, outsidePlace, fluxesIn, outsidesIn, meshBodyVerdict, fieldBodyVerdict, stepBodyVerdict}
 use Rattle.records.specs.Bodies.{MeshRoom, MeshBody, MeshTested, MeshFilled, StepRoom, StepBody, StepFilled}
-use Rattle.records.proofs.HeadLaws.{bytes-hold, bytes-most, boundary-le, MeshTablesSay, mesh-tables-say, FieldTablesSay, field-tables-say, StepTablesSay, step-tables-say}
+use Rattle.records.proofs.HeadLaws.{bytes-hold, bytes-most, boundary-le, MeshTablesSay, mesh-tables-say, field-tables-say, StepTablesSay, step-tables-say}
 
 bit-drop : (n : ℕ) (bs : List ℕ) (i : ℕ) → bitAt (drop n bs) i ≡ bitAt bs (8 * n + i)
 unfolding bitAt
@@ -68,30 +67,38 @@ column-filled : (h : ℕ) (bs ys zs : List ℕ) (first stride w : ℕ) (place : 
 column-filled h bs ys zs first stride w place q r e at =
     part-filled 0 ys zs (λ i. bitsAt (take (length bs - h) (drop h bs)) (first + i * stride) w) (λ i. bitsAt bs (place i) w) q r e (λ i. bits-rest h bs (first + i * stride) w (at i))
 
--- a mesh
+-- a mesh: what its tables may lend, and what they hold when it comes back
+pub record MeshLends (cells faces : ℕ) (bs v f s w k : List ℕ) : Type 0 where
+  pub head-long : 4 ≤ length bs
+  pub volumes-fit : cells ≤ length v
+  pub firsts-fit : faces ≤ length f
+  pub seconds-fit : faces ≤ length s
+  pub weights-fit : faces ≤ length w
+  pub spans-fit : faces ≤ length k
+  pub room : MeshRoom (take (length bs - 4) (drop 4 bs)) (length (take cells v)) (length (take faces f)) (length (take faces s)) (length (take faces w)) (length (take faces k))
+  pub filled : {v′ f′ s′ w′ k′ : List ℕ} → MeshBody (take (length bs - 4) (drop 4 bs)) (length (take cells v)) (length (take faces f)) v′ f′ s′ w′ k′
+      → MeshFilled bs v f s w k (v′ ++ drop cells v) (f′ ++ drop faces f) (s′ ++ drop faces s) (w′ ++ drop faces w) (k′ ++ drop faces k)
+
 module _ (cells faces : ℕ) (bs v f s w k : List ℕ) (tested : MeshTested cells faces bs (length v) (length f) (length s) (length w) (length k)) where
-  pub mesh-tables : MeshTablesSay bs (length v) (length f) (length s) (length w) (length k)
+  tables-say : MeshTablesSay bs (length v) (length f) (length s) (length w) (length k)
   unfolding meshBodyVerdict
-  mesh-tables = mesh-tables-say _ _ _ _ _ _ (both-fine _ _ (tested .passed) .0)
+  tables-say = mesh-tables-say _ _ _ _ _ _ (both-fine _ _ (tested .passed) .0)
 
-  pub mesh-head-long : 4 ≤ length bs
-  mesh-head-long = omega (arith, mesh-tables .same-length, bytes-hold (meshBits (cellsIn bs) (facesIn bs)))
+  cells-fit : cells ≤ length v
+  cells-fit = omega (arith, tables-say .volumes-long, tested .cells-are)
 
-  pub cells-fit : cells ≤ length v
-  cells-fit = omega (arith, mesh-tables .volumes-long, tested .cells-are)
-
-  pub faces-fit : {n : ℕ} → facesIn bs ≤ n → faces ≤ n
+  faces-fit : {n : ℕ} → facesIn bs ≤ n → faces ≤ n
   faces-fit l = omega (arith, tested .faces-are)
 
-  pub cells-lent : length (take cells v) ≡ cells
+  cells-lent : length (take cells v) ≡ cells
   cells-lent = length-take-le cells v cells-fit
 
-  pub faces-lent : (xs : List ℕ) → facesIn bs ≤ length xs → length (take faces xs) ≡ faces
+  faces-lent : (xs : List ℕ) → facesIn bs ≤ length xs → length (take faces xs) ≡ faces
   faces-lent xs l = length-take-le faces xs (faces-fit l)
 
-  pub mesh-room : MeshRoom (take (length bs - 4) (drop 4 bs)) (length (take cells v)) (length (take faces f)) (length (take faces s)) (length (take faces w)) (length (take faces k))
+  mesh-room : MeshRoom (take (length bs - 4) (drop 4 bs)) (length (take cells v)) (length (take faces f)) (length (take faces s)) (length (take faces w)) (length (take faces k))
   mesh-room =
-      let t = mesh-tables in
+      let t = tables-say in
       let end = meshBits (cellsIn bs) (facesIn bs) in
       record {
         small = omega (arith, rest-length 4 bs, tested, t .same-length, bytes-most end);
@@ -101,12 +108,12 @@ module _ (cells faces : ℕ) (bs v f s w k : List ℕ) (tested : MeshTested cell
         spans-as-firsts = faces-lent k (t .spans-long) ∙ sym (faces-lent f (t .firsts-long));
       }
 
-  pub mesh-filled : (v′ f′ s′ w′ k′ : List ℕ) → MeshBody (take (length bs - 4) (drop 4 bs)) (length (take cells v)) (length (take faces f)) v′ f′ s′ w′ k′
+  mesh-filled : {v′ f′ s′ w′ k′ : List ℕ} → MeshBody (take (length bs - 4) (drop 4 bs)) (length (take cells v)) (length (take faces f)) v′ f′ s′ w′ k′
       → MeshFilled bs v f s w k (v′ ++ drop cells v) (f′ ++ drop faces f) (s′ ++ drop faces s) (w′ ++ drop faces w) (k′ ++ drop faces k)
   unfolding volumesIn firstsIn secondsIn weightsIn spansIn
-  mesh-filled v′ f′ s′ w′ k′ b =
+  mesh-filled {v′} {f′} {s′} {w′} {k′} b =
       let c : length (take cells v) ≡ cellsIn bs = cells-lent ∙ tested .cells-are in
-      let n : length (take faces f) ≡ facesIn bs = faces-lent f (mesh-tables .firsts-long) ∙ tested .faces-are in
+      let n : length (take faces f) ≡ facesIn bs = faces-lent f (tables-say .firsts-long) ∙ tested .faces-are in
       record {
         volumes-full = column-filled 4 bs v v′ 0 volumeBits volumeBits (λ i. meshHeadBits + i * volumeBits) c (tested .cells-are) (b .volumes-are) (λ i. omega arith);
         firsts-full = column-filled 4 bs f f′ (length (take cells v) * volumeBits) faceBits endBits (λ i. facePlace bs i) n (tested .faces-are) (b .firsts-are) (λ i. omega arith);
@@ -115,43 +122,62 @@ module _ (cells faces : ℕ) (bs v f s w k : List ℕ) (tested : MeshTested cell
         spans-full = column-filled 4 bs k k′ (length (take cells v) * volumeBits + endBits + endBits + weightBits) faceBits spanBits (λ i. facePlace bs i + endBits + endBits + weightBits) n (tested .faces-are) (b .spans-are) (λ i. omega arith);
       }
 
+  pub mesh-lends : MeshLends cells faces bs v f s w k
+  mesh-lends =
+      let t = tables-say in
+      record {
+        head-long = omega (arith, t .same-length, bytes-hold (meshBits (cellsIn bs) (facesIn bs)));
+        volumes-fit = cells-fit;
+        firsts-fit = faces-fit (t .firsts-long);
+        seconds-fit = faces-fit (t .seconds-long);
+        weights-fit = faces-fit (t .weights-long);
+        spans-fit = faces-fit (t .spans-long);
+        room = mesh-room;
+        filled = mesh-filled;
+      }
+
 -- a field
-module _ (cells : ℕ) (bs m : List ℕ) (few : cells ≤ maxCells) (passed : fieldBodyVerdict cells bs (length m) ≡ fine) where
-  pub field-tables : FieldTablesSay cells bs (length m)
-  field-tables = field-tables-say _ _ _ passed
+pub record FieldLends (cells : ℕ) (bs m : List ℕ) : Type 0 where
+  pub head-long : 2 ≤ length bs
+  pub masses-fit : cells ≤ length m
+  pub room : (8 * length (take (length bs - 2) (drop 2 bs)) < 18446744073709551616) × (length (take cells m) * massBits ≤ 8 * length (take (length bs - 2) (drop 2 bs)))
+  pub filled : {m′ : List ℕ} → m′ ≡ table (length (take cells m)) (λ i. bitsAt (take (length bs - 2) (drop 2 bs)) (0 + i * massBits) massBits) → m′ ++ drop cells m ≡ over (massesIn bs cells) m
 
-  pub field-head-long : 2 ≤ length bs
-  field-head-long = omega (arith, field-tables .same-length, bytes-hold (fieldBits cells))
-
-  pub masses-lent : length (take cells m) ≡ cells
-  masses-lent = length-take-le cells m (field-tables .masses-long)
-
-  pub field-room : (8 * length (take (length bs - 2) (drop 2 bs)) < 18446744073709551616) × (length (take cells m) * massBits ≤ 8 * length (take (length bs - 2) (drop 2 bs)))
-  field-room =
-      (omega (arith, rest-length 2 bs, field-tables .same-length, bytes-most (fieldBits cells)), omega (arith, rest-length 2 bs, masses-lent, field-tables .same-length, bytes-hold (fieldBits cells)))
-
-  pub field-filled : (m′ : List ℕ) → m′ ≡ table (length (take cells m)) (λ i. bitsAt (take (length bs - 2) (drop 2 bs)) (0 + i * massBits) massBits) → m′ ++ drop cells m ≡ over (massesIn bs cells) m
-  unfolding massesIn
-  field-filled m′ e = column-filled 2 bs m m′ 0 massBits massBits (λ i. fieldHeadBits + i * massBits) masses-lent refl e (λ i. omega arith)
+pub field-lends : (cells : ℕ) (bs m : List ℕ) → cells ≤ maxCells → fieldBodyVerdict cells bs (length m) ≡ fine → FieldLends cells bs m
+unfolding massesIn
+field-lends cells bs m few passed =
+    let t = field-tables-say cells bs (length m) passed in
+    let end = fieldBits cells in
+    let lent = length-take-le cells m (t .masses-long) in
+    record {
+      head-long = omega (arith, t .same-length, bytes-hold end);
+      masses-fit = t .masses-long;
+      room = (omega (arith, rest-length 2 bs, t .same-length, bytes-most end), omega (arith, rest-length 2 bs, lent, t .same-length, bytes-hold end));
+      filled = λ e. column-filled 2 bs m _ 0 massBits massBits (λ i. fieldHeadBits + i * massBits) lent refl e (λ i. omega arith);
+    }
 
 -- a step
+pub record StepLends (faces : ℕ) (seconds bs : List ℕ) (u : List ℤ) (o : List ℕ) : Type 0 where
+  pub head-long : 4 ≤ length bs
+  pub fluxes-fit : faces ≤ length u
+  pub outsides-fit : faces ≤ length o
+  pub room : StepRoom (take (length bs - 4) (drop 4 bs)) seconds (length (take faces u)) (length (take faces o))
+  pub filled : {u′ : List ℤ} {o′ : List ℕ} → StepBody (take (length bs - 4) (drop 4 bs)) (length (take faces u)) seconds u′ o′ → StepFilled faces seconds bs u o (u′ ++ drop faces u) (o′ ++ drop faces o)
+
 module _ (faces : ℕ) (seconds bs : List ℕ) (u : List ℤ) (o : List ℕ) (few : faces ≤ maxFaces) (lent : faces ≤ length seconds) (passed : stepBodyVerdict faces seconds bs (length u) (length o) ≡ fine) where
-  pub step-tables : StepTablesSay faces seconds bs (length u) (length o)
+  says : StepTablesSay faces seconds bs (length u) (length o)
   unfolding stepBodyVerdict
-  step-tables = step-tables-say _ _ _ _ _ (both-fine _ _ passed .0)
+  says = step-tables-say _ _ _ _ _ (both-fine _ _ passed .0)
 
-  pub step-head-long : 4 ≤ length bs
-  step-head-long = omega (arith, step-tables .same-length, bytes-hold (stepBits faces seconds))
+  fluxes-lent : length (take faces u) ≡ faces
+  fluxes-lent = length-take-le faces u (says .fluxes-long)
 
-  pub fluxes-lent : length (take faces u) ≡ faces
-  fluxes-lent = length-take-le faces u (step-tables .fluxes-long)
+  outsides-lent : length (take faces o) ≡ faces
+  outsides-lent = length-take-le faces o (says .outsides-long)
 
-  pub outsides-lent : length (take faces o) ≡ faces
-  outsides-lent = length-take-le faces o (step-tables .outsides-long)
-
-  pub step-room : StepRoom (take (length bs - 4) (drop 4 bs)) seconds (length (take faces u)) (length (take faces o))
+  step-room : StepRoom (take (length bs - 4) (drop 4 bs)) seconds (length (take faces u)) (length (take faces o))
   step-room =
-      let t = step-tables in
+      let t = says in
       let end = stepBits faces seconds in
       record {
         small = omega (arith, rest-length 4 bs, t .same-length, bytes-most end, boundary-le seconds faces);
@@ -160,9 +186,9 @@ module _ (faces : ℕ) (seconds bs : List ℕ) (u : List ℤ) (o : List ℕ) (fe
         holds = rw fluxes-lent (omega (arith, rest-length 4 bs, t .same-length, bytes-hold end));
       }
 
-  pub step-filled : (u′ : List ℤ) (o′ : List ℕ) → StepBody (take (length bs - 4) (drop 4 bs)) (length (take faces u)) seconds u′ o′ → StepFilled faces seconds bs u o (u′ ++ drop faces u) (o′ ++ drop faces o)
+  step-filled : {u′ : List ℤ} {o′ : List ℕ} → StepBody (take (length bs - 4) (drop 4 bs)) (length (take faces u)) seconds u′ o′ → StepFilled faces seconds bs u o (u′ ++ drop faces u) (o′ ++ drop faces o)
   unfolding fluxesIn outsidesIn
-  step-filled u′ o′ b =
+  step-filled {u′} {o′} b =
       let rest = take (length bs - 4) (drop 4 bs) in
       let n = length (take faces u) in
       record {
@@ -172,3 +198,12 @@ module _ (faces : ℕ) (seconds bs : List ℕ) (u : List ℤ) (o : List ℕ) (fe
             (λ f. cond (isBoundary seconds f) (bitsAt bs (outsidePlace bs faces seconds f) outsideBits) 0) fluxes-lent refl (b .outsides-are)
             (λ f. ap (λ (x : ℕ). cond (isBoundary seconds f) x 0) (bits-rest 4 bs (n * fluxBits + boundaryFaces seconds f * outsideBits) outsideBits {place = outsidePlace bs faces seconds f} (omega (arith, fluxes-lent))));
       }
+
+  pub step-lends : StepLends faces seconds bs u o
+  step-lends = record {
+    head-long = omega (arith, says .same-length, bytes-hold (stepBits faces seconds));
+    fluxes-fit = says .fluxes-long;
+    outsides-fit = says .outsides-long;
+    room = step-room;
+    filled = step-filled;
+  }

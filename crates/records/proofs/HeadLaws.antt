@@ -1,25 +1,24 @@
 -- What a head that is fine says, and how an answer and its verdict go together.
-use Prim.Native.Nat.{ℕ, _+_, _*_, _≤_, _<_, min}
-use mathlib.Core.Path.{_≡_, refl, sym, ap, _∙_}
+use Prim.Native.Nat.{ℕ, _+_, _*_, _≤_, min}
+use mathlib.Core.Path.{_≡_, sym, ap, _∙_}
 use mathlib.Core.Bool.{Bool, true, false, cond}
 use mathlib.Core.List.{List}
 use native.Mathlib.Nat.{le-trans}
 use native.Mathlib.Omega.{arith}
-use lib.ListN.{length, getD}
-use lib.Dec.{eqb, leb}
-use Rattle.lists.specs.Fold.{sum}
+use lib.ListN.{length}
+use lib.Dec.{leb}
 use Rattle.lists.proofs.Sums.{sum-zero, sum-more, sum-part, sum-bound}
 use Rattle.lists.proofs.Tests.{leb-le, eqb-eq, both-true}
 use Rattle.model.specs.Mesh.{boundary, maxCells, maxFaces}
-use Rattle.model.specs.Causes.{Outcome, Verdict, fine, _andThen_, need, long, between, countsWithin}
+use Rattle.model.specs.Causes.{Verdict, fine, _andThen_, need, long, countsWithin}
 use Rattle.model.specs.Answers.{told, said}
 use Rattle.model.specs.declared.Answer.{Answer}
 use Rattle.model.specs.declared.Answer.the-variants.{Done, Refused}
 use Rattle.model.specs.declared.Refusal.{Refusal}
 use Rattle.model.proofs.Verdicts.{both-fine, need-fine}
 use Rattle.bits.specs.Layout.{bytesFor}
-use Rattle.records.specs.Layouts.{outsideBits, isBoundary, boundaryFaces, meshBits, fieldBits, stepBits, meshLength, fieldLength, stepLength}
-use Rattle.records.specs.Reading.{cellsIn, facesIn, stepFacesIn, hasLength, meshHeadVerdict, fieldHeadVerdict, stepHeadVerdict, fieldBodyVerdict}
+use Rattle.records.specs.Layouts.{meshKind, fieldKind, stepKind, outsideBits, isBoundary, boundaryFaces, meshBits, fieldBits, stepBits, meshLength, fieldLength, stepLength}
+use Rattle.records.specs.Reading.{kindIn, cellsIn, facesIn, stepFacesIn, hasLength, meshHeadVerdict, fieldHeadVerdict, stepHeadVerdict, fieldBodyVerdict}
 
 -- an answer that refuses, and one that does not
 pub refuses : {v : Verdict} {a : Answer} {r : Refusal} → said a ≡ v → a ≡ Refused r → v ≡ told r
@@ -34,6 +33,7 @@ head-holds {m = m} n l e q = le-trans l (leb-le n m (need-fine 11 0 _ (passes e 
 
 pub record MeshHeadSays (bs : List ℕ) : Type 0 where
   pub long : 4 ≤ length bs
+  pub kind : kindIn bs ≡ meshKind
   pub some-cells : 1 ≤ cellsIn bs
   pub few-cells : cellsIn bs ≤ maxCells
   pub few-faces : facesIn bs ≤ maxFaces
@@ -47,6 +47,7 @@ mesh-head-says mostCells mostFaces bs e =
     let d = both-true (leb 1 (cellsIn bs)) (leb (cellsIn bs) (min mostCells maxCells)) (need-fine 1 0 _ (c .0)) in
     record {
       long = leb-le _ _ (need-fine 11 0 _ (b .0));
+      kind = eqb-eq _ _ (need-fine 13 0 _ (b .1));
       some-cells = leb-le _ _ (d .0);
       few-cells = omega (arith, leb-le (cellsIn bs) (min mostCells maxCells) (d .1));
       few-faces = omega (arith, leb-le (facesIn bs) (min mostFaces maxFaces) (need-fine 1 1 _ (c .1)));
@@ -54,6 +55,7 @@ mesh-head-says mostCells mostFaces bs e =
 
 pub record FieldHeadSays (cells : ℕ) (bs : List ℕ) : Type 0 where
   pub long : 2 ≤ length bs
+  pub kind : kindIn bs ≡ fieldKind
   pub same-count : cellsIn bs ≡ cells
   pub some-cells : 1 ≤ cells
   pub few-cells : cells ≤ maxCells
@@ -67,6 +69,7 @@ field-head-says cells bs e =
     let d = both-true (leb 1 cells) (leb cells maxCells) (need-fine 1 0 _ (a .1)) in
     record {
       long = leb-le _ _ (need-fine 11 0 _ (c .0));
+      kind = eqb-eq _ _ (need-fine 13 0 _ (c .1));
       same-count = eqb-eq _ _ (need-fine 13 1 _ (b .1));
       some-cells = leb-le _ _ (d .0);
       few-cells = leb-le _ _ (d .1);
@@ -74,6 +77,7 @@ field-head-says cells bs e =
 
 pub record StepHeadSays (faces : ℕ) (seconds bs : List ℕ) : Type 0 where
   pub long : 4 ≤ length bs
+  pub kind : kindIn bs ≡ stepKind
   pub same-count : stepFacesIn bs ≡ faces
   pub few-faces : faces ≤ maxFaces
   pub lent : faces ≤ length seconds
@@ -87,6 +91,7 @@ step-head-says faces seconds bs e =
     let d = both-fine _ _ (c .0) in
     record {
       long = leb-le _ _ (need-fine 11 0 _ (d .0));
+      kind = eqb-eq _ _ (need-fine 13 0 _ (d .1));
       same-count = eqb-eq _ _ (need-fine 13 1 _ (c .1));
       few-faces = leb-le _ _ (need-fine 1 1 _ (b .1));
       lent = leb-le _ _ (need-fine 2 2 _ (a .1));

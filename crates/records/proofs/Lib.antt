@@ -2,4 +2,9 @@ pub mod HeadLaws
 pub mod BodyLaws
 pub mod ZeroLaws
 pub mod ReadLaws
+pub mod Packed
+pub mod Again
+pub mod WidthLaws
+pub mod RoundTrip
 pub mod PutLaws
+pub mod WriteLaws

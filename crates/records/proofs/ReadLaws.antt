@@ -1,16 +1,16 @@
 -- What a reading comes to where it is refused, at its head or after it, and where it is accepted.
 use Prim.Native.Nat.{ℕ}
-use mathlib.Core.Path.{_≡_, refl, sym, ap, _∙_}
+use mathlib.Core.Path.{_≡_, sym, _∙_}
 use mathlib.Core.List.{List}
 use lib.IntN.{ℤ}
 use Rattle.lists.specs.Table.{over}
-use Rattle.model.specs.Causes.{Outcome, accepted, refused, Verdict, fine, _andThen_, taken}
-use Rattle.model.specs.Answers.{told, said}
+use Rattle.model.specs.Causes.{Outcome, accepted, refused, Verdict, fine, _andThen_}
+use Rattle.model.specs.Answers.{told}
 use Rattle.model.specs.declared.Answer.the-variants as call
 use Rattle.model.specs.declared.Refusal.{Refusal}
-use Rattle.model.proofs.Verdicts.{past, out}
-use Rattle.records.specs.Reading.{countsIn, meshHeadVerdict, meshBodyVerdict, meshRead, fieldHeadVerdict, fieldBodyVerdict, fieldRead, stepHeadVerdict, stepBodyVerdict, stepRead, massesIn}
-use Rattle.records.specs.Answers.{meshSaid, MeshReading, FieldReading, StepReading}
+use Rattle.model.proofs.Verdicts.{past}
+use Rattle.records.specs.Reading.{massesIn}
+use Rattle.records.specs.Answers.{MeshReading, FieldReading, StepReading}
 use Rattle.records.specs.Bodies.{MeshFilled, StepFilled}
 use Rattle.records.specs.declared.Counts.{Counts}
 use Rattle.records.specs.declared.MeshAnswer.the-variants as mesh

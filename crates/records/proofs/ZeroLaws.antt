@@ -1,16 +1,16 @@
 -- Cause 12: only the bits that can break the rule need be looked at.
 use Prim.Native.Nat.{ℕ, suc, _+_, _-_, _*_, _/_, _%_, _≤_, _<_}
-use mathlib.Core.Path.{_≡_, refl, sym, ap, _∙_}
-use mathlib.Core.Logic.{_⊎_, inl, inr, _≢_}
-use mathlib.Core.Bool.{Bool, true, false, not, _&&_, _||_}
+use mathlib.Core.Path.{_≡_, refl, sym, _∙_}
+use mathlib.Core.Logic.{_⊎_, inl, inr}
+use mathlib.Core.Bool.{Bool, true, false, not, _&&_, _||_, true≢false}
 use mathlib.Core.List.{List}
 use native.Mathlib.Omega.{arith}
 use native.Mathlib.Decide.{decLt}
 use native.Mathlib.Nat.{add-zero}
 use borrow.Author.Tests.{lt-ltb, le-ltb}
 use lib.Dec.{eqb, leb, ltb}
-use Rattle.lists.proofs.Tests.{Same, same, other, same?, Fits, fits, exceeds, fits?, le-leb, lt-leb}
-use Rattle.model.specs.Causes.{Outcome, refused, fine, each}
+use Rattle.lists.proofs.Tests.{Same, same, other, same?, Fits, fits, fits?, le-leb, lt-leb}
+use Rattle.model.specs.Causes.{refused, fine, each}
 use Rattle.model.proofs.Verdicts.{fine-each, scan-hit}
 use Rattle.bits.specs.Field.{bitAt, bitsAt}
 use Rattle.bits.proofs.Fields.{bit-lt}
@@ -115,6 +115,11 @@ module _ (bs : List ℕ) (z h e : ℕ) where
       all : (b : Bool) → not (true && (b || true)) ≡ false
       all true = refl
       all false = refl
+
+  -- and back: a zero bit that is good is clear
+  pub good-clear : (i : ℕ) → zeroBitGood bs z h e i ≡ true → ((h - z ≤ i) × (i < h)) ⊎ (e ≤ i) → bitAt bs i ≡ 0
+  good-clear i g (inl p) = not-one bs i (λ q. true≢false (sym g ∙ bit-in-head i (p .0) (p .1) q))
+  good-clear i g (inr l) = not-one bs i (λ q. true≢false (sym g ∙ bit-in-tail i l q))
 
   pub zeros-ruled : h ≤ e → Ruled bs z h e (zeroBitGood bs z h e)
   zeros-ruled m = record {

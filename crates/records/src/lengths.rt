@@ -8,7 +8,7 @@ ghost use lib.ListN.{length};
 ghost use lib.Dec.{eqb};
 ghost use Rattle.model.specs.Mesh.{boundary, maxCells, maxFaces};
 ghost use Rattle.bits.specs.Layout.{bytesFor};
-ghost use Rattle.records.specs.Layouts.{boundaryFaces, meshBits, fieldBits, stepBits, meshLength, fieldLength, stepLength};
+ghost use Rattle.records.specs.Layouts.{boundaryFaces, meshBits, stepBits, meshLength, fieldLength, stepLength};
 
 // Whole bytes for so many bits.
 pub fn bytes_for(n: usize) -> usize

@@ -8,7 +8,7 @@ ghost use lib.ListN.{length};
 ghost use Rattle.lists.specs.Table.{over};
 ghost use Rattle.model.specs.Mesh.{maxCells, maxFaces};
 ghost use Rattle.model.specs.Causes.{fine};
-ghost use Rattle.records.specs.Reading.{massesIn, fluxesIn, outsidesIn, fieldBodyVerdict, stepBodyVerdict};
+ghost use Rattle.records.specs.Reading.{massesIn, fieldBodyVerdict, stepBodyVerdict};
 ghost use Rattle.records.specs.Bodies.{MeshTested, MeshFilled, StepFilled};
 
 pub fn mesh(

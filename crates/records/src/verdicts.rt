@@ -8,10 +8,9 @@ ghost use mathlib.Core.Path.{_≡_};
 ghost use Prim.Native.Nat.{_≤_};
 ghost use lib.ListN.{length};
 ghost use Rattle.model.specs.Mesh.{maxCells, maxFaces};
-ghost use Rattle.model.specs.Causes.{long as longOf, need as needOf, _andThen_};
+ghost use Rattle.model.specs.Causes.{long as longOf, _andThen_};
 ghost use Rattle.model.specs.Answers.{said};
-ghost use Rattle.records.specs.Layouts.{meshLength};
-ghost use Rattle.records.specs.Reading.{cellsIn, facesIn, hasLength, meshBodyVerdict, fieldBodyVerdict, stepBodyVerdict};
+ghost use Rattle.records.specs.Reading.{cellsIn, facesIn, meshBodyVerdict, fieldBodyVerdict, stepBodyVerdict};
 
 // Whether a table has as many entries as wanted.
 fn long(position: u64, wanted: usize, has: usize) -> Answer

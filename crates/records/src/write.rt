@@ -7,12 +7,13 @@ use checks::lengths::and_then;
 use checks::lengths::long;
 use model::Answer;
 ghost use mathlib.Core.Path.{_≡_};
+ghost use Prim.Native.Nat.{_≤_};
 ghost use lib.ListN.{length};
-ghost use Rattle.lists.specs.Table.{over};
 ghost use Rattle.model.specs.Mesh.{meshOf};
-ghost use Rattle.model.specs.Causes.{fine};
 ghost use Rattle.model.specs.Answers.{said};
-ghost use Rattle.records.specs.Layouts.{meshRecord, fieldRecord, stepRecord, meshLength, fieldLength, stepLength};
+ghost use Rattle.model.proofs.Accepted.{MeshLent};
+ghost use Rattle.records.specs.Layouts.{meshFields, fieldFields, stepFields, meshRecord, fieldRecord, stepRecord, meshLength, fieldLength, stepLength};
+ghost use Rattle.records.specs.Putting.{Whole, Wrote};
 ghost use Rattle.records.specs.Writing.{meshWriteVerdict, fieldWriteVerdict, stepWriteVerdict, MeshWriting, FieldWriting, StepWriting};
 
 // The position of the record's bytes among the tables of cause 2.
@@ -53,8 +54,8 @@ fn put_mesh(
     spans: &[u64],
     bytes: &mut [u8],
 ) -> usize
-    requires { ⌜ meshWriteVerdict (meshOf cells faces (now volumes) (now firsts) (now seconds) (now weights) (now spans)) (length (now bytes)) ≡ fine ⌝ }
-    ensures { λ r. ⌜ (r ≡ meshLength cells faces) × (now (bytes .exit) ≡ over (meshRecord (meshOf cells faces (now (volumes .entry)) (now (firsts .entry)) (now (seconds .entry)) (now (weights .entry)) (now (spans .entry)))) (now (bytes .entry))) ⌝ }
+    requires { ⌜ MeshLent (meshOf cells faces (now volumes) (now firsts) (now seconds) (now weights) (now spans)) × Whole (now bytes) (meshFields (meshOf cells faces (now volumes) (now firsts) (now seconds) (now weights) (now spans))) ⌝ }
+    ensures { λ r. ⌜ Wrote (now (bytes .entry)) (meshRecord (meshOf cells faces (now (volumes .entry)) (now (firsts .entry)) (now (seconds .entry)) (now (weights .entry)) (now (spans .entry)))) (meshLength cells faces) (now (bytes .exit)) r ⌝ }
 {
     let a = put::mesh_head(bytes, cells, faces);
     let b = put::column(bytes, a, Body::VOLUME, cells, volumes);
@@ -139,20 +140,10 @@ fn field_refused(
     checks::field::values(cells, volumes, masses)
 }
 
-// A field, of a mesh and masses that passed.
-fn put_field(
-    cells: usize,
-    faces: usize,
-    volumes: &[u64],
-    firsts: &[u64],
-    seconds: &[u64],
-    weights: &[u64],
-    spans: &[u64],
-    masses: &[u64],
-    bytes: &mut [u8],
-) -> usize
-    requires { ⌜ fieldWriteVerdict (meshOf cells faces (now volumes) (now firsts) (now seconds) (now weights) (now spans)) (now masses) (length (now bytes)) ≡ fine ⌝ }
-    ensures { λ r. ⌜ (r ≡ fieldLength cells) × (now (bytes .exit) ≡ over (fieldRecord cells (now (masses .entry))) (now (bytes .entry))) ⌝ }
+// A field that passed.
+fn put_field(cells: usize, masses: &[u64], bytes: &mut [u8]) -> usize
+    requires { ⌜ (cells ≤ length (now masses)) × Whole (now bytes) (fieldFields cells (now masses)) ⌝ }
+    ensures { λ r. ⌜ Wrote (now (bytes .entry)) (fieldRecord cells (now (masses .entry))) (fieldLength cells) (now (bytes .exit)) r ⌝ }
 {
     let a = put::field_head(bytes, cells);
     let b = put::column(bytes, a, Body::MASS, cells, masses);
@@ -187,17 +178,7 @@ pub fn write_field(
     if let Answer::Refused(r) = a {
         return WriteAnswer::Refused(r);
     }
-    let length = put_field(
-        cells,
-        faces,
-        volumes,
-        firsts,
-        seconds,
-        weights,
-        spans,
-        masses,
-        bytes,
-    );
+    let length = put_field(cells, masses, bytes);
     WriteAnswer::Written(length as u64)
 }
 
@@ -235,21 +216,16 @@ fn step_refused(
     )
 }
 
-// A step, of a mesh and water that passed.
+// A step that passed.
 fn put_step(
-    cells: usize,
     faces: usize,
-    volumes: &[u64],
-    firsts: &[u64],
     seconds: &[u64],
-    weights: &[u64],
-    spans: &[u64],
     fluxes: &[i64],
     outsides: &[u64],
     bytes: &mut [u8],
 ) -> usize
-    requires { ⌜ stepWriteVerdict (meshOf cells faces (now volumes) (now firsts) (now seconds) (now weights) (now spans)) (now fluxes) (now outsides) (length (now bytes)) ≡ fine ⌝ }
-    ensures { λ r. ⌜ (r ≡ stepLength faces (now (seconds .entry))) × (now (bytes .exit) ≡ over (stepRecord faces (now (seconds .entry)) (now (fluxes .entry)) (now (outsides .entry))) (now (bytes .entry))) ⌝ }
+    requires { ⌜ (faces ≤ length (now seconds)) × (faces ≤ length (now fluxes)) × (faces ≤ length (now outsides)) × Whole (now bytes) (stepFields faces (now seconds) (now fluxes) (now outsides)) ⌝ }
+    ensures { λ r. ⌜ Wrote (now (bytes .entry)) (stepRecord faces (now (seconds .entry)) (now (fluxes .entry)) (now (outsides .entry))) (stepLength faces (now (seconds .entry))) (now (bytes .exit)) r ⌝ }
 {
     let a = put::step_head(bytes, faces);
     let b = put::fluxes(bytes, a, faces, fluxes);
@@ -287,17 +263,6 @@ pub fn write_step(
     if let Answer::Refused(r) = a {
         return WriteAnswer::Refused(r);
     }
-    let length = put_step(
-        cells,
-        faces,
-        volumes,
-        firsts,
-        seconds,
-        weights,
-        spans,
-        fluxes,
-        outsides,
-        bytes,
-    );
+    let length = put_step(faces, seconds, fluxes, outsides, bytes);
     WriteAnswer::Written(length as u64)
 }

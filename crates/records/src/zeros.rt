@@ -101,9 +101,9 @@ pub fn step(bytes: &[u8], faces: usize, end: usize) -> Answer
         return refused(head + m * Body::FLUX);
     }
     let all = 8 * bytes.len();
-    let b = first_set(bytes, end, all);
-    if b < all {
-        return refused(b);
+    let pad = first_set(bytes, end, all);
+    if pad < all {
+        return refused(pad);
     }
     Answer::Done
 }

@@ -1,4 +1,3 @@
-use mathlib.Core.Path.{_≡_}
 use borrow.Author.Needs.{needs}
 use Rattle.model.proofs.Verdicts.{out}
 use Rattle.records.specs.Reading.{fieldRead}

@@ -1,7 +1,6 @@
-use mathlib.Core.Path.{_≡_, refl, sym}
+use mathlib.Core.Path.{refl, sym}
 use native.Mathlib.Nat.{add-zero}
 use native.Mathlib.Omega.{arith}
-use borrow.Author.Needs.{needs}
 use Rattle.records.proofs.body.outside.Statement.{statement}
 use Rattle.records.proofs.body.outside.Tie as tie
 

@@ -1,44 +1,30 @@
+use native.Mathlib.Omega.{arith}
 use borrow.Author.Needs.{needs}
+use Rattle.records.proofs.PutLaws.{laid-append}
+use Rattle.records.proofs.WriteLaws.{pad-room, step-head-room, fluxes-room, outsides-room, step-written}
 use Rattle.records.proofs.write.put_step.Statement.{statement}
 use Rattle.records.proofs.write.put_step.Tie as tie
-use Rattle.records.proofs.write.put_step.Reads as reads
-use Rattle.records.proofs.write.put_step.Lts as lts
-use Rattle.records.proofs.put.fluxes.Reads as fluxes-reads
-use Rattle.records.proofs.put.outsides.Reads as outsides-reads
-use Rattle.records.proofs.put.pad.Reads as pad-reads
-use Rattle.records.proofs.put.step_head.Reads as step-head-reads
 
--- src/write.rt:236:9
 step-head-requires : tie.Need-step-head-requires
-step-head-requires c κs = ?
+step-head-requires c κs = let s = c .before .before .before .before in step-head-room (s .args .faces) (s .args .seconds .now) (s .args .fluxes .now) (s .args .outsides .now) (s .pre .3)
 
--- src/write.rt:237:9
 fluxes-requires : tie.Need-fluxes-requires
-fluxes-requires c κs = ?
+fluxes-requires c κs = let s = c .before .before .before .before .before .before .before .before in (s .pre .1, fluxes-room (s .args .faces) (s .args .seconds .now) (s .args .fluxes .now) (s .args .outsides .now) (s .pre .3) (c .before .before .before .step-head .ensures))
 
--- src/write.rt:238:9
 outsides-requires : tie.Need-outsides-requires
-outsides-requires c κs = ?
+outsides-requires c κs =
+    let s = c .before .before .before .before .before .before .before .before .before .before .before .before in
+    (s .pre .0, s .pre .2, outsides-room (s .args .faces) (s .args .seconds .now) (s .args .fluxes .now) (s .args .outsides .now) (s .pre .3) (c .before .before .before .before .before .before .before .step-head .ensures) (c .before .before .before .fluxes .ensures))
 
--- src/write.rt:239:5
 pad-requires : tie.Need-pad-requires
-pad-requires c κs = ?
+pad-requires c κs = pad-room (c .before .before .before .before .before .before .before .before .before .before .before .before .before .before .before .before .pre .3) (laid-append (laid-append (c .before .before .before .before .before .before .before .before .before .before .before .step-head .ensures) (c .before .before .before .before .before .before .before .fluxes .ensures)) (c .before .before .before .outsides .ensures))
 
--- src/write.rt:221:1
-same-length : tie.Need-same-length
-same-length c = search needs
-
--- src/write.rt:221:1
 returns : tie.Need-returns
-returns c = ?
+returns c =
+    let s = c .before .before .before .before .before .before .before .before .before .before .before .before .before .before .before .before .before .before .before in
+    step-written (s .args .faces) (s .args .seconds .now) (s .args .fluxes .now) (s .args .outsides .now) (s .pre .3)
+    (laid-append (laid-append (c .before .before .before .before .before .before .before .before .before .before .before .before .before .before .step-head .ensures) (c .before .before .before .before .before .before .before .before .before .before .fluxes .ensures)) (c .before .before .before .before .before .before .outsides .ensures)) (c .before .before .pad .ensures)
+    (λ j. omega (arith, c .before .before .before .before .before .before .before .before .before .before .before .before .before .before .before .before .slice-known .given j)) (λ j. omega (arith, c .slice-known5 .given j))
 
 pub put-step-spec : {M : Type 1} → statement M
-put-step-spec =
-    tie.close
-    (tie.spec
-    step-head-requires
-    fluxes-requires
-    outsides-requires
-    pad-requires
-    same-length
-    returns)
+put-step-spec = tie.close (tie.spec step-head-requires fluxes-requires outsides-requires pad-requires (search needs) returns)

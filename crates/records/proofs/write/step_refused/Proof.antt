@@ -1,99 +1,64 @@
+use mathlib.Core.Path.{sym, _∙_}
 use borrow.Author.Needs.{needs}
+use Rattle.model.specs.Causes.{outsideGood, fluxGood}
+use Rattle.model.proofs.Verdicts.{both-fine, past, out}
+use Rattle.model.proofs.Accepted.{counted}
+use Rattle.checks.proofs.Laws.{both-are, mesh-long}
+use Rattle.records.proofs.HeadLaws.{refuses, passes}
+use Rattle.records.proofs.WriteLaws.{bytes-said, water-long, step-groups}
 use Rattle.records.proofs.write.step_refused.Statement.{statement}
 use Rattle.records.proofs.write.step_refused.Tie as tie
-use Rattle.records.proofs.write.step_refused.Reads as reads
-use Rattle.records.proofs.write.step_refused.Lts as lts
-use Rattle.checks.proofs.lengths.and_then.Reads as and-then-reads
-use Rattle.checks.proofs.lengths.long.Reads as long-reads
-use Rattle.checks.proofs.lengths.mesh_lent.Reads as mesh-lent-reads
-use Rattle.checks.proofs.mesh.values.Reads as mesh-values-reads
-use Rattle.checks.proofs.water.values.Reads as water-values-reads
-use Rattle.records.proofs.lengths.step_length.Reads as step-length-reads
 
--- src/write.rt:204:9
-mesh-lent-requires : tie.Need-mesh-lent-requires
-mesh-lent-requires c κs = search needs
-
--- src/write.rt:205:28
-enum-known-a : tie.Need-enum-known-a
-enum-known-a c = search needs
-
--- src/write.rt:206:9
 returns : tie.Need-returns
-returns c = ?
+returns c = sym (step-groups _ _ _ (c .before .before .before .before .before .before .before .before .before .before .args .room) ∙ out _ (out _ (refuses (c .before .before .before .mesh-lent .ensures) (c .before .a .given .1))))
 
-enum-told : tie.Need-enum-told
-enum-told c = search needs
-
--- src/write.rt:209:9
-long-requires : tie.Need-long-requires
-long-requires c κs = search needs
-
--- src/write.rt:210:9
-long-requires-2 : tie.Need-long-requires-2
-long-requires-2 c κs = search needs
-
--- src/write.rt:208:9
-and-then-requires : tie.Need-and-then-requires
-and-then-requires c κs = search needs
-
--- src/write.rt:212:44
 step-length-requires : tie.Need-step-length-requires
-step-length-requires c κs = ?
+step-length-requires c κs =
+    let lent = passes (c .before .before .before .before .before .mesh-lent .ensures) (c .before .before .before .enum-told .given .1) in
+    (counted _ (both-fine _ _ lent .0) .few-faces, mesh-long _ lent .2)
 
--- src/write.rt:212:25
-long-requires-3 : tie.Need-long-requires-3
-long-requires-3 c κs = search needs
-
--- src/write.rt:212:9
-and-then-requires-2 : tie.Need-and-then-requires-2
-and-then-requires-2 c κs = search needs
-
--- src/write.rt:213:28
-enum-known-b : tie.Need-enum-known-b
-enum-known-b c = search needs
-
--- src/write.rt:214:9
 returns-2 : tie.Need-returns-2
-returns-2 c = ?
+returns-2 c =
+    let both = c .before .before .before in
+    let long = both .before in
+    let pair = long .before .before in
+    let told = pair .before .before .before in
+    let bytes = bytes-said (c .before .before .before .before .before .before .before .before .before .before .before .before .before .before .before .before .before .before .args .room) (long .long3 .ensures) (long .before .step-length .ensures) in
+    let tables = both-are (both .and-then2 .ensures) (both-are (pair .and-then .ensures) (pair .before .before .long .ensures) (pair .before .long2 .ensures)) bytes in
+    let lent = passes (told .before .before .mesh-lent .ensures) (told .enum-told .given .1) in
+    sym (step-groups _ _ _ (c .before .before .before .before .before .before .before .before .before .before .before .before .before .before .before .before .before .before .args .room) ∙ out _ (past _ lent ∙ refuses tables (c .before .b .given .1)))
 
-enum-told-2 : tie.Need-enum-told-2
-enum-told-2 c = search needs
-
--- src/write.rt:216:9
 values-requires : tie.Need-values-requires
-values-requires c κs = ?
+values-requires c κs = mesh-long _ (passes (c .before .before .before .before .before .before .before .before .before .before .mesh-lent .ensures) (c .before .before .before .before .before .before .before .before .enum-told .given .1))
 
--- src/write.rt:217:17
 values-requires-2 : tie.Need-values-requires-2
-values-requires-2 c κs = ?
+values-requires-2 c κs =
+    let both = c .before .before .before in
+    let long = both .before in
+    let pair = long .before .before in
+    let told = pair .before .before .before in
+    let bytes = bytes-said (c .before .before .before .before .before .before .before .before .before .before .before .before .before .before .before .before .before .before .args .room) (long .long3 .ensures) (long .before .step-length .ensures) in
+    let tables = both-are (both .and-then2 .ensures) (both-are (pair .and-then .ensures) (pair .before .before .long .ensures) (pair .before .long2 .ensures)) bytes in
+    let lent = passes (told .before .before .mesh-lent .ensures) (told .enum-told .given .1) in
+    let mesh = mesh-long _ lent in
+    let water = water-long _ _ _ _ (passes tables (c .before .enum-told2 .given .1)) in
+    (mesh .2, mesh .4, water .0, water .1)
 
--- src/write.rt:217:5
-and-then-requires-3 : tie.Need-and-then-requires-3
-and-then-requires-3 c κs = search needs
-
--- src/write.rt:190:1
 returns-3 : tie.Need-returns-3
-returns-3 c = ?
+unfolding outsideGood fluxGood
+returns-3 c =
+    let both = c .before .before .before .before .before in
+    let long = both .before in
+    let pair = long .before .before in
+    let told = pair .before .before .before in
+    let bytes = bytes-said (c .before .before .before .before .before .before .before .before .before .before .before .before .before .before .before .before .before .before .before .before .args .room) (long .long3 .ensures) (long .before .step-length .ensures) in
+    let tables = both-are (both .and-then2 .ensures) (both-are (pair .and-then .ensures) (pair .before .before .long .ensures) (pair .before .long2 .ensures)) bytes in
+    let lent = passes (told .before .before .mesh-lent .ensures) (told .enum-told .given .1) in
+    both-are (c .and-then3 .ensures) (c .before .before .values .ensures) (c .before .values2 .ensures)
+    ∙ sym (step-groups _ _ _ (c .before .before .before .before .before .before .before .before .before .before .before .before .before .before .before .before .before .before .before .before .args .room) ∙ past _ (past _ lent ∙ passes tables (c .before .before .before .enum-told2 .given .1)))
 
 pub step-refused-spec : {M : Type 1} → statement M
 step-refused-spec =
     tie.close
-    (tie.spec
-    mesh-lent-requires
-    enum-known-a
-    returns
-    enum-told
-    long-requires
-    long-requires-2
-    and-then-requires
-    step-length-requires
-    long-requires-3
-    and-then-requires-2
-    enum-known-b
-    returns-2
-    enum-told-2
-    values-requires
-    values-requires-2
-    and-then-requires-3
-    returns-3)
+    (tie.spec (search needs) (search needs) returns (search needs) (search needs) (search needs) (search needs) step-length-requires (search needs) (search needs) (search needs)
+    returns-2 (search needs) values-requires values-requires-2 (search needs) returns-3)

@@ -1,46 +1,17 @@
 use borrow.Author.Needs.{needs}
+use Rattle.records.proofs.HeadLaws.{refuses, passes}
+use Rattle.records.proofs.WriteLaws.{writing-refused, writing-accepted, mesh-whole}
 use Rattle.records.proofs.write.write_mesh.Statement.{statement}
 use Rattle.records.proofs.write.write_mesh.Tie as tie
-use Rattle.records.proofs.write.write_mesh.Reads as reads
-use Rattle.records.proofs.write.write_mesh.Lts as lts
-use Rattle.records.proofs.write.mesh_refused.Reads as mesh-refused-reads
-use Rattle.records.proofs.write.put_mesh.Reads as put-mesh-reads
 
--- src/write.rt:75:9
-mesh-refused-requires : tie.Need-mesh-refused-requires
-mesh-refused-requires c κs = search needs
-
--- src/write.rt:85:28
-enum-known-a : tie.Need-enum-known-a
-enum-known-a c = search needs
-
--- src/write.rt:86:9
 returns : tie.Need-returns
-returns c = ?
+returns c = writing-refused (refuses (c .before .before .before .mesh-refused .ensures) (c .before .a .given .1))
 
-enum-told : tie.Need-enum-told
-enum-told c = search needs
-
--- src/write.rt:88:9
 put-mesh-requires : tie.Need-put-mesh-requires
-put-mesh-requires c κs = ?
+put-mesh-requires c κs = mesh-whole _ (passes (c .before .before .before .mesh-refused .ensures) (c .before .enum-told .given .1))
 
--- src/write.rt:63:1
-same-length : tie.Need-same-length
-same-length c = search needs
-
--- src/write.rt:63:1
 returns-2 : tie.Need-returns-2
-returns-2 c = ?
+returns-2 c = writing-accepted (passes (c .before .before .before .before .before .before .mesh-refused .ensures) (c .before .before .before .before .enum-told .given .1)) (c .before .before .put-mesh .ensures)
 
 pub write-mesh-spec : {M : Type 1} → statement M
-write-mesh-spec =
-    tie.close
-    (tie.spec
-    mesh-refused-requires
-    enum-known-a
-    returns
-    enum-told
-    put-mesh-requires
-    same-length
-    returns-2)
+write-mesh-spec = tie.close (tie.spec (search needs) (search needs) returns (search needs) put-mesh-requires (search needs) returns-2)

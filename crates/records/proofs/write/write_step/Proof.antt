@@ -1,46 +1,17 @@
 use borrow.Author.Needs.{needs}
+use Rattle.records.proofs.HeadLaws.{refuses, passes}
+use Rattle.records.proofs.WriteLaws.{writing-refused, writing-accepted, step-whole}
 use Rattle.records.proofs.write.write_step.Statement.{statement}
 use Rattle.records.proofs.write.write_step.Tie as tie
-use Rattle.records.proofs.write.write_step.Reads as reads
-use Rattle.records.proofs.write.write_step.Lts as lts
-use Rattle.records.proofs.write.put_step.Reads as put-step-reads
-use Rattle.records.proofs.write.step_refused.Reads as step-refused-reads
 
--- src/write.rt:257:9
-step-refused-requires : tie.Need-step-refused-requires
-step-refused-requires c κs = search needs
-
--- src/write.rt:269:28
-enum-known-a : tie.Need-enum-known-a
-enum-known-a c = search needs
-
--- src/write.rt:270:9
 returns : tie.Need-returns
-returns c = ?
+returns c = writing-refused (refuses (c .before .before .before .step-refused .ensures) (c .before .a .given .1))
 
-enum-told : tie.Need-enum-told
-enum-told c = search needs
-
--- src/write.rt:272:9
 put-step-requires : tie.Need-put-step-requires
-put-step-requires c κs = ?
+put-step-requires c κs = step-whole _ _ _ (passes (c .before .before .before .step-refused .ensures) (c .before .enum-told .given .1))
 
--- src/write.rt:243:1
-same-length : tie.Need-same-length
-same-length c = search needs
-
--- src/write.rt:243:1
 returns-2 : tie.Need-returns-2
-returns-2 c = ?
+returns-2 c = writing-accepted (passes (c .before .before .before .before .before .before .step-refused .ensures) (c .before .before .before .before .enum-told .given .1)) (c .before .before .put-step .ensures)
 
 pub write-step-spec : {M : Type 1} → statement M
-write-step-spec =
-    tie.close
-    (tie.spec
-    step-refused-requires
-    enum-known-a
-    returns
-    enum-told
-    put-step-requires
-    same-length
-    returns-2)
+write-step-spec = tie.close (tie.spec (search needs) (search needs) returns (search needs) put-step-requires (search needs) returns-2)

@@ -1,8 +1,5 @@
-use mathlib.Core.Path.{sym, ap, _∙_}
-use mathlib.Core.Bool.{_&&_}
 use borrow.Author.Needs.{needs}
 use borrow.Author.Tests.{eq-eqb, ne-eqb}
-use lib.Dec.{eqb}
 use Rattle.records.proofs.zeros.minus_zero.Statement.{statement}
 use Rattle.records.proofs.zeros.minus_zero.Tie as tie
 
