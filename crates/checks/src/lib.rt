@@ -1,9 +1,9 @@
 // Causes 1 to 10 of document 01 on lent tables. No table is written.
-mod field;
+pub mod field;
 mod flows;
-mod lengths;
-mod mesh;
-mod water;
+pub mod lengths;
+pub mod mesh;
+pub mod water;
 
 use model::Answer;
 use model::Cause;

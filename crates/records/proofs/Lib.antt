@@ -6,3 +6,5 @@ pub mod Packed
 pub mod Again
 pub mod WidthLaws
 pub mod RoundTrip
+pub mod PutLaws
+pub mod WriteLaws

@@ -4,3 +4,5 @@ pub mod Answers
 pub mod Scans
 pub mod Bodies
 pub mod Numbers
+pub mod Writing
+pub mod Putting

@@ -3,10 +3,15 @@ mod body;
 mod heads;
 mod lengths;
 pub mod reader;
+mod put;
 mod tables;
 mod verdicts;
+mod write;
 mod zeros;
 
+pub use crate::write::write_field;
+pub use crate::write::write_mesh;
+pub use crate::write::write_step;
 use model::Answer;
 use model::Refusal;
 ghost use mathlib.Core.Path.{_≡_};

@@ -1,0 +1,268 @@
+// The three records written. What is refused is refused before the first byte is touched.
+use crate::WriteAnswer;
+use crate::body::Body;
+use crate::lengths;
+use crate::put;
+use checks::lengths::and_then;
+use checks::lengths::long;
+use model::Answer;
+ghost use mathlib.Core.Path.{_≡_};
+ghost use Prim.Native.Nat.{_≤_};
+ghost use lib.ListN.{length};
+ghost use Rattle.model.specs.Mesh.{meshOf};
+ghost use Rattle.model.specs.Answers.{said};
+ghost use Rattle.model.proofs.Accepted.{MeshLent};
+ghost use Rattle.records.specs.Layouts.{meshFields, fieldFields, stepFields, meshRecord, fieldRecord, stepRecord, meshLength, fieldLength, stepLength};
+ghost use Rattle.records.specs.Putting.{Whole, Wrote};
+ghost use Rattle.records.specs.Writing.{meshWriteVerdict, fieldWriteVerdict, stepWriteVerdict, MeshWriting, FieldWriting, StepWriting};
+
+// The position of the record's bytes among the tables of cause 2.
+const RECORD_BYTES: u64 = 11;
+
+// What writing a mesh into so many bytes is refused for.
+fn mesh_refused(
+    cells: usize,
+    faces: usize,
+    volumes: &[u64],
+    firsts: &[u64],
+    seconds: &[u64],
+    weights: &[u64],
+    spans: &[u64],
+    room: usize,
+) -> Answer
+    ensures { λ r. ⌜ said r ≡ meshWriteVerdict (meshOf cells faces (now (volumes .entry)) (now (firsts .entry)) (now (seconds .entry)) (now (weights .entry)) (now (spans .entry))) room ⌝ }
+{
+    let a = checks::lengths::mesh_lent(cells, faces, volumes, firsts, seconds, weights, spans);
+    if let Answer::Refused(r) = a {
+        return Answer::Refused(r);
+    }
+    let b = long(RECORD_BYTES, lengths::mesh_length(cells, faces), room);
+    and_then(
+        b,
+        checks::mesh::values(cells, faces, volumes, firsts, seconds, weights, spans),
+    )
+}
+
+// A mesh that passed, put into the bytes, and how many it takes.
+fn put_mesh(
+    cells: usize,
+    faces: usize,
+    volumes: &[u64],
+    firsts: &[u64],
+    seconds: &[u64],
+    weights: &[u64],
+    spans: &[u64],
+    bytes: &mut [u8],
+) -> usize
+    requires { ⌜ MeshLent (meshOf cells faces (now volumes) (now firsts) (now seconds) (now weights) (now spans)) × Whole (now bytes) (meshFields (meshOf cells faces (now volumes) (now firsts) (now seconds) (now weights) (now spans))) ⌝ }
+    ensures { λ r. ⌜ Wrote (now (bytes .entry)) (meshRecord (meshOf cells faces (now (volumes .entry)) (now (firsts .entry)) (now (seconds .entry)) (now (weights .entry)) (now (spans .entry)))) (meshLength cells faces) (now (bytes .exit)) r ⌝ }
+{
+    let a = put::mesh_head(bytes, cells, faces);
+    let b = put::column(bytes, a, Body::VOLUME, cells, volumes);
+    let d = put::faces(bytes, b, faces, firsts, seconds, weights, spans);
+    put::pad(bytes, d)
+}
+
+// The record of a mesh.
+pub fn write_mesh(
+    cells: usize,
+    faces: usize,
+    volumes: &[u64],
+    firsts: &[u64],
+    seconds: &[u64],
+    weights: &[u64],
+    spans: &[u64],
+    bytes: &mut [u8],
+) -> WriteAnswer
+    ensures { λ r. ⌜ MeshWriting (meshOf cells faces (now (volumes .entry)) (now (firsts .entry)) (now (seconds .entry)) (now (weights .entry)) (now (spans .entry))) (now (bytes .entry)) r (now (bytes .exit)) ⌝ }
+{
+    let a = mesh_refused(
+        cells,
+        faces,
+        volumes,
+        firsts,
+        seconds,
+        weights,
+        spans,
+        bytes.len(),
+    );
+    if let Answer::Refused(r) = a {
+        return WriteAnswer::Refused(r);
+    }
+    let length = put_mesh(
+        cells,
+        faces,
+        volumes,
+        firsts,
+        seconds,
+        weights,
+        spans,
+        bytes,
+    );
+    WriteAnswer::Written(length as u64)
+}
+
+// What writing a field into so many bytes is refused for.
+fn field_refused(
+    cells: usize,
+    faces: usize,
+    volumes: &[u64],
+    firsts: &[u64],
+    seconds: &[u64],
+    weights: &[u64],
+    spans: &[u64],
+    masses: &[u64],
+    room: usize,
+) -> Answer
+    ensures { λ r. ⌜ said r ≡ fieldWriteVerdict (meshOf cells faces (now (volumes .entry)) (now (firsts .entry)) (now (seconds .entry)) (now (weights .entry)) (now (spans .entry))) (now (masses .entry)) room ⌝ }
+{
+    let a = checks::lengths::field_lent(
+        cells,
+        faces,
+        volumes,
+        firsts,
+        seconds,
+        weights,
+        spans,
+        masses,
+    );
+    if let Answer::Refused(r) = a {
+        return Answer::Refused(r);
+    }
+    let b = long(RECORD_BYTES, lengths::field_length(cells), room);
+    let b = and_then(
+        b,
+        checks::mesh::values(cells, faces, volumes, firsts, seconds, weights, spans),
+    );
+    if let Answer::Refused(r) = b {
+        return Answer::Refused(r);
+    }
+    checks::field::values(cells, volumes, masses)
+}
+
+// A field that passed.
+fn put_field(cells: usize, masses: &[u64], bytes: &mut [u8]) -> usize
+    requires { ⌜ (cells ≤ length (now masses)) × Whole (now bytes) (fieldFields cells (now masses)) ⌝ }
+    ensures { λ r. ⌜ Wrote (now (bytes .entry)) (fieldRecord cells (now (masses .entry))) (fieldLength cells) (now (bytes .exit)) r ⌝ }
+{
+    let a = put::field_head(bytes, cells);
+    let b = put::column(bytes, a, Body::MASS, cells, masses);
+    put::pad(bytes, b)
+}
+
+// The record of a field. The mesh is lent for the causes alone.
+pub fn write_field(
+    cells: usize,
+    faces: usize,
+    volumes: &[u64],
+    firsts: &[u64],
+    seconds: &[u64],
+    weights: &[u64],
+    spans: &[u64],
+    masses: &[u64],
+    bytes: &mut [u8],
+) -> WriteAnswer
+    ensures { λ r. ⌜ FieldWriting (meshOf cells faces (now (volumes .entry)) (now (firsts .entry)) (now (seconds .entry)) (now (weights .entry)) (now (spans .entry))) (now (masses .entry)) (now (bytes .entry)) r (now (bytes .exit)) ⌝ }
+{
+    let a = field_refused(
+        cells,
+        faces,
+        volumes,
+        firsts,
+        seconds,
+        weights,
+        spans,
+        masses,
+        bytes.len(),
+    );
+    if let Answer::Refused(r) = a {
+        return WriteAnswer::Refused(r);
+    }
+    let length = put_field(cells, masses, bytes);
+    WriteAnswer::Written(length as u64)
+}
+
+// What writing a step into so many bytes is refused for. Its length rests on the seconds as they stand.
+fn step_refused(
+    cells: usize,
+    faces: usize,
+    volumes: &[u64],
+    firsts: &[u64],
+    seconds: &[u64],
+    weights: &[u64],
+    spans: &[u64],
+    fluxes: &[i64],
+    outsides: &[u64],
+    room: usize,
+) -> Answer
+    ensures { λ r. ⌜ said r ≡ stepWriteVerdict (meshOf cells faces (now (volumes .entry)) (now (firsts .entry)) (now (seconds .entry)) (now (weights .entry)) (now (spans .entry))) (now (fluxes .entry)) (now (outsides .entry)) room ⌝ }
+{
+    let a = checks::lengths::mesh_lent(cells, faces, volumes, firsts, seconds, weights, spans);
+    if let Answer::Refused(r) = a {
+        return Answer::Refused(r);
+    }
+    let b = and_then(long(6, faces, fluxes.len()), long(7, faces, outsides.len()));
+    let b = and_then(
+        b,
+        long(RECORD_BYTES, lengths::step_length(faces, seconds), room),
+    );
+    if let Answer::Refused(r) = b {
+        return Answer::Refused(r);
+    }
+    let d = checks::mesh::values(cells, faces, volumes, firsts, seconds, weights, spans);
+    and_then(
+        d,
+        checks::water::values(faces, seconds, spans, fluxes, outsides),
+    )
+}
+
+// A step that passed.
+fn put_step(
+    faces: usize,
+    seconds: &[u64],
+    fluxes: &[i64],
+    outsides: &[u64],
+    bytes: &mut [u8],
+) -> usize
+    requires { ⌜ (faces ≤ length (now seconds)) × (faces ≤ length (now fluxes)) × (faces ≤ length (now outsides)) × Whole (now bytes) (stepFields faces (now seconds) (now fluxes) (now outsides)) ⌝ }
+    ensures { λ r. ⌜ Wrote (now (bytes .entry)) (stepRecord faces (now (seconds .entry)) (now (fluxes .entry)) (now (outsides .entry))) (stepLength faces (now (seconds .entry))) (now (bytes .exit)) r ⌝ }
+{
+    let a = put::step_head(bytes, faces);
+    let b = put::fluxes(bytes, a, faces, fluxes);
+    let d = put::outsides(bytes, b, faces, seconds, outsides);
+    put::pad(bytes, d)
+}
+
+// The record of a step.
+pub fn write_step(
+    cells: usize,
+    faces: usize,
+    volumes: &[u64],
+    firsts: &[u64],
+    seconds: &[u64],
+    weights: &[u64],
+    spans: &[u64],
+    fluxes: &[i64],
+    outsides: &[u64],
+    bytes: &mut [u8],
+) -> WriteAnswer
+    ensures { λ r. ⌜ StepWriting (meshOf cells faces (now (volumes .entry)) (now (firsts .entry)) (now (seconds .entry)) (now (weights .entry)) (now (spans .entry))) (now (fluxes .entry)) (now (outsides .entry)) (now (bytes .entry)) r (now (bytes .exit)) ⌝ }
+{
+    let a = step_refused(
+        cells,
+        faces,
+        volumes,
+        firsts,
+        seconds,
+        weights,
+        spans,
+        fluxes,
+        outsides,
+        bytes.len(),
+    );
+    if let Answer::Refused(r) = a {
+        return WriteAnswer::Refused(r);
+    }
+    let length = put_step(faces, seconds, fluxes, outsides, bytes);
+    WriteAnswer::Written(length as u64)
+}
