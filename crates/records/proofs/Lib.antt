@@ -6,3 +6,4 @@ pub mod Packed
 pub mod Again
 pub mod WidthLaws
 pub mod RoundTrip
+pub mod Figures
