@@ -1,11 +1,11 @@
 -- Laws by which the other crates reason about signed amounts in natural numbers.
 use Prim.Native.Nat.{ℕ, zero, suc, _+_, _-_, _*_, _/_, _≤_, _<_}
 use mathlib.Core.Path.{_≡_, refl, sym, ap, _∙_}
-use mathlib.Core.Bool.{Bool, true, false, cond, true≢false}
-use native.Mathlib.Nat.{zero-mul, not-suc-le-zero}
+use mathlib.Core.Bool.{Bool, true, false, not, cond, true≢false}
+use native.Mathlib.Nat.{zero-mul, mul-zero, zero-div, not-suc-le-zero}
 use native.Mathlib.Omega.{arith}
 use lib.Dec.{ltb}
-use borrow.Author.Tests.{ltb-true, ltb-false}
+use borrow.Author.Tests.{ltb-true, ltb-false, le-ltb}
 use lib.IntN.{ℤ, pos, negsuc, negℤ, subℕ, _+ℤ_, _-ℤ_, _*ℤ_}
 use lib.Signed.{quotZ}
 use Rattle.signed.specs.Sign.{isNegative, isZero, size, forward, backward, withSign}
@@ -163,3 +163,31 @@ diff-self (suc a) = sub-self (suc a)
 pub size-zero : (z : ℤ) → size z ≡ 0 → z ≡ pos 0
 size-zero (pos n) e = ap pos e
 size-zero (negsuc n) e = absurd (omega arith)
+
+-- products, quotients and differences by sign and size
+pub mul-withSign : (p q : Bool) (m n : ℕ) → withSign p m *ℤ withSign q n ≡ withSign (cond p (not q) q) (m * n)
+mul-withSign false false m n = refl
+mul-withSign false true m zero = ap pos (mul-zero m) ∙ sym (ap (λ (k : ℕ). negℤ (pos k)) (mul-zero m))
+mul-withSign false true m (suc n) = refl
+mul-withSign true false zero n = ap pos (zero-mul n) ∙ sym (ap (λ (k : ℕ). negℤ (pos k)) (zero-mul n))
+mul-withSign true false (suc m) n = refl
+mul-withSign true true zero zero = refl
+mul-withSign true true zero (suc n) = ap (λ (k : ℕ). negℤ (pos k)) (zero-mul (suc n)) ∙ sym (ap pos (zero-mul (suc n)))
+mul-withSign true true (suc m) zero = ap (λ (k : ℕ). negℤ (pos k)) (mul-zero (suc m)) ∙ sym (ap pos (mul-zero (suc m)))
+mul-withSign true true (suc m) (suc n) = refl
+
+pub quot-withSign : (p : Bool) (m n : ℕ) → quotZ (withSign p m) (pos n) ≡ withSign p (m / n)
+quot-withSign false m n = refl
+quot-withSign true zero n = ap pos (zero-div n) ∙ sym (ap (λ (k : ℕ). negℤ (pos k)) (zero-div n))
+quot-withSign true (suc m) n = refl
+
+sub-withSign : (a b : ℕ) → subℕ a b ≡ withSign (ltb a b) ((a - b) + (b - a))
+sub-withSign a b = go (ltb a b) refl
+  where
+    go : (t : Bool) → ltb a b ≡ t → cond t (negsuc (b - suc a)) (pos (a - b)) ≡ withSign t ((a - b) + (b - a))
+    go true e = let q : (a - b) + (b - a) ≡ suc (b - suc a) = omega (arith, ltb-true a b e) in rw q
+    go false e = ap pos (omega (arith, ltb-false a b e))
+
+pub diff-withSign : (a b : ℕ) → pos a -ℤ pos b ≡ withSign (ltb a b) ((a - b) + (b - a))
+diff-withSign a zero = rw (le-ltb a 0 (omega arith)) (ap pos (omega arith))
+diff-withSign a (suc b) = sub-withSign a (suc b)

@@ -1,0 +1,115 @@
+-- What the board lists: how it grows by a cell, and that it is the eight highest.
+use Prim.Native.Nat.{ℕ, zero, suc, _+_, _-_, _≤_, _<_, min}
+use mathlib.Core.Path.{_≡_, refl, ap, _∙_}
+use mathlib.Core.Logic.{_≢_}
+use mathlib.Core.Bool.{true, false}
+use mathlib.Core.List.{List, [], _∷_, map, List·Memᴰ}
+use native.Mathlib.Omega.{arith}
+use native.Mathlib.Nat.{not-suc-le-zero, le-of-suc-le-suc}
+use lib.ListN.{length, getD, take, drop, replicate, length-map, List·getD-append}
+use lib.Seq.{getD-append-add, getD-drop}
+use Rattle.lists.specs.Table.{over}
+use Rattle.model.specs.Causes.{fine}
+use Rattle.model.specs.Answers.{said}
+use Rattle.model.specs.declared.Answer.the-variants.{Done, Refused}
+use Rattle.model.specs.declared.Refusal.{Refusal}
+use Rattle.checks.proofs.Laws.{passes, refuses, field-passed, salt-asks}
+use Rattle.checks.specs.Total.{cellsOnly}
+use Rattle.board.specs.Board.{boardSize, entryOf, unused, comesBefore, insertInOrder, entryAt, before, listed, boardEntries, boardVerdict, BoardIs}
+use Rattle.board.specs.declared.Entry.{Entry}
+use Rattle.board.specs.declared.BoardAnswer.{BoardAnswer}
+use Rattle.board.proofs.Insertion.{cells-none, cells-more}
+use Rattle.board.proofs.Order.{Strict, board-strict, first-count, first-below, first-ordered, first-distinct, left-out-after, left-out-not-before, few-all}
+
+getD-mapped : {B : Type 0} (f : ℕ → B) (l : List ℕ) (i : ℕ) (d : B) → i < length l → getD (map f l) i d ≡ f (getD l i 0)
+getD-mapped f [] i d h = absurd (not-suc-le-zero h)
+getD-mapped f (x ∷ l) zero d h = refl
+getD-mapped f (x ∷ l) (suc i) d h = getD-mapped f l i d (le-of-suc-le-suc h)
+
+getD-blank : {B : Type 0} (n i : ℕ) {d : B} → getD (replicate n d) i d ≡ d
+getD-blank zero i = refl
+getD-blank (suc n) zero = refl
+getD-blank (suc n) (suc i) = getD-blank n i
+
+module _ (volumes masses : List ℕ) where
+  -- no cell yet, and one more
+  pub entries-none : replicate boardSize unused ≡ boardEntries volumes masses 0
+  unfolding boardEntries listed before
+  entries-none = cells-none comesBefore (entryAt volumes masses) boardSize (replicate boardSize unused)
+
+  pub entries-more : (n : ℕ) (es es′ : List Entry) {u : ℕ} {e : Entry} → u ≡ min boardSize n → es ≡ boardEntries volumes masses n → e ≡ entryOf n (getD volumes n 0) (getD masses n 0)
+      → es′ ≡ over (take boardSize (insertInOrder comesBefore e (take u es))) es → es′ ≡ boardEntries volumes masses (n + 1)
+  unfolding boardEntries listed before entryAt
+  entries-more n es es′ {u} {e} q d i d′ =
+      cells-more comesBefore (entryAt volumes masses) boardSize n (replicate boardSize unused) es es′ q d
+      (d′ ∙ ap (λ (x : Entry). over (take boardSize (insertInOrder comesBefore x (take u es))) es) i)
+
+  -- entry i is that of the i-th cell listed, and 0 where there is none
+  pub entry-used : (n i : ℕ) → i < length (listed volumes masses n) → getD (boardEntries volumes masses n) i unused ≡ entryAt volumes masses (getD (listed volumes masses n) i 0)
+  unfolding boardEntries over
+  entry-used n i h =
+      let l = listed volumes masses n in
+      let f = entryAt volumes masses in
+      let k : i < length (map f l) = omega (arith, length-map l f) in
+      List·getD-append (map f l) (drop (length (map f l)) (replicate boardSize unused)) unused i k ∙ getD-mapped f l i unused h
+
+  pub entry-unused : (n i : ℕ) → length (listed volumes masses n) ≤ i → getD (boardEntries volumes masses n) i unused ≡ unused
+  unfolding boardEntries over
+  entry-unused n i h =
+      let l = map (entryAt volumes masses) (listed volumes masses n) in
+      let e : length l ≡ length (listed volumes masses n) = length-map (listed volumes masses n) (entryAt volumes masses) in
+      let j : ℕ = i - length l in
+      let q : length l + j ≡ i = omega arith in
+      rw (← q, getD-append-add l (drop (length l) (replicate boardSize unused)) j unused, getD-drop (length l) (replicate boardSize unused) j unused)
+      (getD-blank boardSize (length l + j))
+
+  -- The laws of the listed cells, for any number of cells.
+  before-strict : Strict (before volumes masses)
+  unfolding before entryAt entryOf
+  before-strict = board-strict (entryAt volumes masses) (λ c. refl)
+
+  module _ (n : ℕ) where
+    -- eight cells, or all where there are fewer
+    pub listed-count : length (listed volumes masses n) ≡ min boardSize n
+    unfolding listed
+    listed-count = first-count (before volumes masses) before-strict boardSize n
+
+    pub listed-below : {c : ℕ} → List·Memᴰ c (listed volumes masses n) → c < n
+    unfolding listed
+    listed-below = first-below (before volumes masses) before-strict boardSize n
+
+    -- each comes before those listed after it
+    pub listed-ordered : (i j : ℕ) → i < j → j < length (listed volumes masses n) → before volumes masses (getD (listed volumes masses n) i 0) (getD (listed volumes masses n) j 0) ≡ true
+    unfolding listed
+    listed-ordered = first-ordered (before volumes masses) before-strict boardSize n
+
+    pub listed-distinct : (i j : ℕ) → i < j → j < length (listed volumes masses n) → getD (listed volumes masses n) i 0 ≢ getD (listed volumes masses n) j 0
+    unfolding listed
+    listed-distinct = first-distinct (before volumes masses) before-strict boardSize n
+
+    -- no unlisted cell comes before a listed one: it comes after each
+    pub unlisted-after : {c d : ℕ} → c < n → (List·Memᴰ c (listed volumes masses n) → ⊥) → List·Memᴰ d (listed volumes masses n) → before volumes masses d c ≡ true
+    unfolding listed
+    unlisted-after = left-out-after (before volumes masses) before-strict boardSize n
+
+    pub unlisted-not-before : {c d : ℕ} → c < n → (List·Memᴰ c (listed volumes masses n) → ⊥) → List·Memᴰ d (listed volumes masses n) → before volumes masses c d ≡ false
+    unfolding listed
+    unlisted-not-before = left-out-not-before (before volumes masses) before-strict boardSize n
+
+    pub few-listed : n ≤ boardSize → {c : ℕ} → c < n → List·Memᴰ c (listed volumes masses n)
+    unfolding listed
+    few-listed = few-all (before volumes masses) before-strict boardSize n
+
+  -- what the board answers, accepted and refused
+  pub rank-asks : (n : ℕ) → boardVerdict volumes masses n ≡ fine → ((n ≤ length volumes) × (n ≤ length masses)) × ((c : ℕ) → c < n → 1 ≤ getD volumes c 0)
+  rank-asks n e =
+      let p = field-passed e in
+      let a = salt-asks (cellsOnly n volumes) masses (p .lent-fine) (p .mesh-fine) in
+      (a .0, λ c h. a .1 c h .0)
+
+  module _ (n : ℕ) (r : BoardAnswer) (v : said (r .verdict) ≡ boardVerdict volumes masses n) where
+    pub accepted-board : r .verdict ≡ Done → r .used ≡ min boardSize n → r .entries ≡ boardEntries volumes masses n → BoardIs n volumes masses r
+    accepted-board d u e = let f = passes v d in record { verdict-is = v; used-is = rw f u; entries-are = rw f e }
+
+    pub refused-board : (k : Refusal) → r .verdict ≡ Refused k → r .used ≡ 0 → r .entries ≡ replicate boardSize unused → BoardIs n volumes masses r
+    refused-board k d u e = let f = refuses v d in record { verdict-is = v; used-is = rw f u; entries-are = rw f e }

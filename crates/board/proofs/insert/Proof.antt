@@ -1,0 +1,54 @@
+-- The loop carries one entry past those used: the entry itself until its place is found, then the one that it displaces.
+use Prim.Native.Nat.{ℕ, _-_}
+use mathlib.Core.Path.{_≡_, refl, sym, _∙_}
+use mathlib.Core.List.{List, map}
+use mathlib.Core.Logic.{⊎-elim}
+use native.Mathlib.Omega.{arith}
+use borrow.Author.Needs.{needs}
+use lib.ListN.{length, take, length-map}
+use Rattle.board.specs.Board.{boardSize, unused, comesBefore, insertInOrder}
+use Rattle.board.proofs.Insertion.{Carrying, at-start, carried-on, passed, at-end, room-left, no-room}
+use Rattle.board.proofs.insert.Statement.{statement}
+use Rattle.board.proofs.insert.Tie as tie
+
+-- an array in a struct has its length as a mapped list
+length-mapped : {X Y : Type 0} (g : X → Y) (l : List X) (n : ℕ) → length (map g l) ≡ n → length l ≡ n
+length-mapped g l n e = sym (length-map l g) ∙ e
+
+abbrev Inv-loop : tie.InvT-loop
+Inv-loop used entries₀ carried₀ moving₀ i₀ entries carried moving i =
+    Carrying comesBefore (insertInOrder comesBefore carried₀ (take used entries₀)) used boardSize entries₀ entries moving carried i
+
+abbrev μ-loop : tie.MeasureT-loop
+μ-loop used entries₀ carried₀ moving₀ i₀ entries carried moving i = used - i
+
+loop-holds : tie.Need-loop-holds Inv-loop μ-loop
+loop-holds c = at-start comesBefore _ _ _ _ (search (needs, length-mapped))
+
+loop-again : tie.Need-loop-again Inv-loop μ-loop
+loop-again c =
+    let p = c .before .before .before .before .loop in
+    ⊎-elim
+    (λ w. carried-on comesBefore _ _ _ _ (p .entries) (p .i) (p .moving) (p .carried) _ unused (c .before .before .before .loop-test .taken) (omega arith)
+    (p .inv) refl (c .before .displaces .ensures) (w .0 .taken) (w .1) (w .2) (w .3))
+    (λ w. passed comesBefore _ _ _ _ (p .entries) (p .i) (p .moving) (p .carried) _ unused (c .before .before .before .loop-test .taken) (omega arith)
+    (p .inv) refl (c .before .displaces .ensures) (w .0 .left) (w .1) (w .2) (w .3))
+    (c .if1 .came)
+
+returns : tie.Need-returns Inv-loop μ-loop
+returns c =
+    let p = c .before .before .loop in
+    let used = c .before .before .before .before .args .ranking .used in
+    (omega arith, room-left boardSize used _ _ _ _ (p .inv .long) (p .inv .untouched) (at-end comesBefore _ _ _ _ _ _ _ _ (c .before .loop-test .left) (p .inv)) (omega arith))
+
+returns-2 : tie.Need-returns-2 Inv-loop μ-loop
+returns-2 c =
+    let p = c .before .before .loop in
+    let used = c .before .before .before .before .args .ranking .used in
+    (omega arith, no-room boardSize used _ _ _ _ (p .inv .long) (p .inv .untouched) (at-end comesBefore _ _ _ _ _ _ _ _ (c .before .loop-test .left) (p .inv)) (omega arith) (omega arith))
+
+pub insert-spec : {M : Type 1} → statement M
+insert-spec =
+    tie.close
+    (tie.spec Inv-loop μ-loop loop-holds (search needs) (search needs) (search needs) (search needs) (search needs) (search needs) (search needs) loop-again
+    (search needs) (search needs) (search needs) returns returns-2)

@@ -1,0 +1,65 @@
+-- Document 01, "The board and the run": the cells that the board lists.
+use Prim.Native.Nat.{ℕ, zero, suc, _-_, _*_, _/_, min}
+use mathlib.Core.Path.{_≡_}
+use mathlib.Core.Bool.{Bool, cond, _&&_, _||_}
+use mathlib.Core.List.{List, [], _∷_, map}
+use lib.ListN.{getD, take, replicate}
+use lib.Dec.{eqb, ltb}
+use Rattle.lists.specs.Table.{over}
+use Rattle.model.specs.Causes.{Verdict, taken, meshFieldVerdict}
+use Rattle.model.specs.Answers.{said}
+use Rattle.checks.specs.Total.{cellsOnly}
+use Rattle.board.specs.declared.Entry.{Entry}
+use Rattle.board.specs.declared.BoardAnswer.{BoardAnswer}
+
+-- "The board lists 8 cells, or all where there are fewer"
+abbrev pub boardSize : ℕ
+boardSize = 8
+
+-- "Each entry has cell, q and the rest", with q = m divided by V, rounded down, and the rest m − qV
+unfoldable pub entryOf : ℕ → ℕ → ℕ → Entry
+entryOf cell volume mass = record { cell = cell; q = mass / volume; rest = mass - mass / volume * volume }
+
+-- "unused entries are 0"
+abbrev pub unused : Entry
+unused = record { cell = 0; q = 0; rest = 0 }
+
+-- "highest q first, lower cell number first among equals"
+unfoldable pub comesBefore : Entry → Entry → Bool
+comesBefore a b = ltb (b .q) (a .q) || (eqb (a .q) (b .q) && ltb (a .cell) (b .cell))
+
+-- x put before the first of a list that it comes before, or at its end
+unfoldable pub insertInOrder : {A : Type 0} → (A → A → Bool) → A → List A → List A
+insertInOrder order x [] = x ∷ []
+insertInOrder order x (y ∷ ys) = cond (order x y) (x ∷ y ∷ ys) (y ∷ insertInOrder order x ys)
+
+-- the cells below n in an order: each inserted among those below it
+unfoldable pub inOrder : (ℕ → ℕ → Bool) → ℕ → List ℕ
+inOrder order zero = []
+inOrder order (suc n) = insertInOrder order n (inOrder order n)
+
+module _ (volumes masses : List ℕ) where
+  unfoldable pub entryAt : ℕ → Entry
+  entryAt c = entryOf c (getD volumes c 0) (getD masses c 0)
+
+  -- cell a comes before cell b
+  unfoldable pub before : ℕ → ℕ → Bool
+  before a b = comesBefore (entryAt a) (entryAt b)
+
+  -- the first eight of all cells, or all of them where there are fewer
+  unfoldable pub listed : ℕ → List ℕ
+  listed cells = take boardSize (inOrder before cells)
+
+  -- their entries, written over eight unused ones
+  unfoldable pub boardEntries : ℕ → List Entry
+  boardEntries cells = over (map entryAt (listed cells)) (replicate boardSize unused)
+
+  -- "A call tests only what it is lent": causes 1, 2, 3 and 6 of cells, volumes and masses
+  abbrev pub boardVerdict : ℕ → Verdict
+  boardVerdict cells = meshFieldVerdict (cellsOnly cells volumes) masses
+
+-- what the board answers: the verdict, how many entries are used, and the entries; none after a refusal
+pub record BoardIs (cells : ℕ) (volumes masses : List ℕ) (r : BoardAnswer) : Type 0 where
+  pub verdict-is : said (r .verdict) ≡ boardVerdict volumes masses cells
+  pub used-is : r .used ≡ taken (boardVerdict volumes masses cells) (min boardSize cells) 0
+  pub entries-are : r .entries ≡ taken (boardVerdict volumes masses cells) (boardEntries volumes masses cells) (replicate boardSize unused)

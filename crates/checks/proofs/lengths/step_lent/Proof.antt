@@ -1,0 +1,24 @@
+use borrow.Author.Needs.{needs}
+use Rattle.model.specs.Causes.{stepTables}
+use Rattle.checks.proofs.lengths.step_lent.Statement.{statement}
+use Rattle.checks.proofs.lengths.step_lent.Tie as tie
+
+returns : tie.Need-returns
+unfolding stepTables
+returns c =
+    rw (
+      c .and-then4 .ensures,
+      c .before .long5 .ensures,
+      c .before .before .and-then3 .ensures,
+      c .before .before .before .long4 .ensures,
+      c .before .before .before .before .and-then2 .ensures,
+      c .before .before .before .before .before .long3 .ensures,
+      c .before .before .before .before .before .before .and-then .ensures,
+      c .before .before .before .before .before .before .before .long2 .ensures,
+      c .before .before .before .before .before .before .before .before .long .ensures,
+    )
+
+pub step-lent-spec : {M : Type 1} → statement M
+step-lent-spec =
+    tie.close
+    (tie.spec (search needs) (search needs) (search needs) (search needs) (search needs) (search needs) (search needs) (search needs) (search needs) (search needs) (search needs) returns)

@@ -1,0 +1,105 @@
+// Causes 1 and 2: the counts, and the lengths of the tables.
+use model::Answer;
+use model::Cause;
+use model::Refusal;
+ghost use mathlib.Core.Path.{_≡_};
+ghost use mathlib.Core.List.{[]};
+ghost use Prim.Native.Nat.{_≤_};
+ghost use Rattle.model.specs.Mesh.{meshOf, maxCells, maxFaces};
+ghost use Rattle.model.specs.Causes.{_andThen_, need as needOf, long as longOf, between as betweenOf, counts, meshTables, fieldTable, callOf, stepTables};
+ghost use Rattle.model.specs.Answers.{said, number};
+
+// Whether x lies in the range.
+pub fn between(low: u64, high: u64, x: u64) -> bool
+    ensures { λ r. ⌜ r ≡ betweenOf low high x ⌝ }
+{
+    if x < low {
+        return false;
+    }
+    x <= high
+}
+
+// A refusal where the test fails.
+pub fn need(cause: Cause, place: u64, good: bool) -> Answer
+    ensures { λ r. ⌜ said r ≡ needOf (number cause) place good ⌝ }
+{
+    if good {
+        return Answer::Done;
+    }
+    Answer::Refused(Refusal { cause, place })
+}
+
+// The first of two that refuses.
+pub fn and_then(a: Answer, b: Answer) -> Answer
+    ensures { λ r. ⌜ said r ≡ (said a andThen said b) ⌝ }
+{
+    if let Answer::Refused(r) = a {
+        return Answer::Refused(r);
+    }
+    b
+}
+
+// Whether a table has as many entries as wanted.
+pub fn long(position: u64, wanted: usize, has: usize) -> Answer
+    ensures { λ r. ⌜ said r ≡ longOf position wanted has ⌝ }
+{
+    need(Cause::Table, position, wanted <= has)
+}
+
+// The counts and the mesh tables.
+pub fn mesh_lent(
+    cells: usize,
+    faces: usize,
+    volumes: &[u64],
+    firsts: &[u64],
+    seconds: &[u64],
+    weights: &[u64],
+    spans: &[u64],
+) -> Answer
+    ensures { λ r. ⌜ said r ≡ (counts (meshOf cells faces (now (volumes .entry)) (now (firsts .entry)) (now (seconds .entry)) (now (weights .entry)) (now (spans .entry))) andThen meshTables (meshOf cells faces (now (volumes .entry)) (now (firsts .entry)) (now (seconds .entry)) (now (weights .entry)) (now (spans .entry)))) ⌝ }
+{
+    let a = crate::counts_within(model::MAX_CELLS, model::MAX_FACES, cells, faces);
+    let b = long(0, cells, volumes.len());
+    let b = and_then(b, long(1, faces, firsts.len()));
+    let b = and_then(b, long(2, faces, seconds.len()));
+    let b = and_then(b, long(3, faces, weights.len()));
+    let b = and_then(b, long(4, faces, spans.len()));
+    and_then(a, b)
+}
+
+// The same with a field.
+pub fn field_lent(
+    cells: usize,
+    faces: usize,
+    volumes: &[u64],
+    firsts: &[u64],
+    seconds: &[u64],
+    weights: &[u64],
+    spans: &[u64],
+    masses: &[u64],
+) -> Answer
+    ensures { λ r. ⌜ said r ≡ (counts (meshOf cells faces (now (volumes .entry)) (now (firsts .entry)) (now (seconds .entry)) (now (weights .entry)) (now (spans .entry))) andThen meshTables (meshOf cells faces (now (volumes .entry)) (now (firsts .entry)) (now (seconds .entry)) (now (weights .entry)) (now (spans .entry))) andThen fieldTable (meshOf cells faces (now (volumes .entry)) (now (firsts .entry)) (now (seconds .entry)) (now (weights .entry)) (now (spans .entry))) (now (masses .entry))) ⌝ }
+{
+    let a = mesh_lent(cells, faces, volumes, firsts, seconds, weights, spans);
+    and_then(a, long(5, cells, masses.len()))
+}
+
+// The tables that a step is lent besides. The counts are within their limits, so that the length of work is a number.
+pub fn step_lent(
+    cells: usize,
+    faces: usize,
+    fluxes: &[i64],
+    outsides: &[u64],
+    next: &[u64],
+    moved: &[i64],
+    work: &[u64],
+) -> Answer
+    requires { ⌜ (cells ≤ maxCells) × (faces ≤ maxFaces) ⌝ }
+    ensures { λ r. ⌜ said r ≡ stepTables (meshOf cells faces [] [] [] [] []) [] (callOf (now (fluxes .entry)) (now (outsides .entry)) (now (next .entry)) (now (moved .entry)) (now (work .entry))) ⌝ }
+{
+    let a = long(6, faces, fluxes.len());
+    let a = and_then(a, long(7, faces, outsides.len()));
+    let a = and_then(a, long(8, cells, next.len()));
+    let a = and_then(a, long(9, faces, moved.len()));
+    and_then(a, long(10, 4 * cells + faces, work.len()))
+}

@@ -1,0 +1,157 @@
+// Causes 1 to 10 of document 01 on lent tables. No table is written.
+mod field;
+mod flows;
+mod lengths;
+mod mesh;
+mod water;
+
+use model::Answer;
+use model::Cause;
+use model::Refusal;
+ghost use mathlib.Core.Path.{_≡_};
+ghost use Rattle.lists.specs.Fold.{sum};
+ghost use Rattle.model.specs.Mesh.{meshOf};
+ghost use Rattle.model.specs.Causes.{accepted, _andThen_, callOf, countsWithin, meshVerdict, meshFieldVerdict, verdict};
+ghost use Rattle.model.specs.Answers.{said};
+ghost use Rattle.model.specs.Calls.{massIn};
+ghost use Rattle.checks.specs.Total.{cellsOnly, totalSaid};
+
+// The total of a field, or why there is none.
+pub enum TotalAnswer {
+    Total(u64),
+    Refused(Refusal),
+}
+
+// Cause 1, with limits that the caller sets: the run program's are lower than the mesh's own.
+pub fn counts_within(most_cells: usize, most_faces: usize, cells: usize, faces: usize) -> Answer
+    ensures { λ r. ⌜ said r ≡ countsWithin «most_cells» «most_faces» cells faces ⌝ }
+{
+    lengths::and_then(
+        lengths::need(
+            Cause::Limits,
+            0,
+            lengths::between(1, most_cells as u64, cells as u64),
+        ),
+        lengths::need(Cause::Limits, 1, faces <= most_faces),
+    )
+}
+
+// Causes 1 to 5.
+pub fn check_mesh(
+    cells: usize,
+    faces: usize,
+    volumes: &[u64],
+    firsts: &[u64],
+    seconds: &[u64],
+    weights: &[u64],
+    spans: &[u64],
+) -> Answer
+    ensures { λ r. ⌜ said r ≡ meshVerdict (meshOf cells faces (now (volumes .entry)) (now (firsts .entry)) (now (seconds .entry)) (now (weights .entry)) (now (spans .entry))) ⌝ }
+{
+    let a = lengths::mesh_lent(cells, faces, volumes, firsts, seconds, weights, spans);
+    if let Answer::Refused(r) = a {
+        return Answer::Refused(r);
+    }
+    mesh::values(cells, faces, volumes, firsts, seconds, weights, spans)
+}
+
+// Causes 1 to 6.
+pub fn check_field(
+    cells: usize,
+    faces: usize,
+    volumes: &[u64],
+    firsts: &[u64],
+    seconds: &[u64],
+    weights: &[u64],
+    spans: &[u64],
+    masses: &[u64],
+) -> Answer
+    ensures { λ r. ⌜ said r ≡ meshFieldVerdict (meshOf cells faces (now (volumes .entry)) (now (firsts .entry)) (now (seconds .entry)) (now (weights .entry)) (now (spans .entry))) (now (masses .entry)) ⌝ }
+{
+    let a = lengths::field_lent(
+        cells,
+        faces,
+        volumes,
+        firsts,
+        seconds,
+        weights,
+        spans,
+        masses,
+    );
+    if let Answer::Refused(r) = a {
+        return Answer::Refused(r);
+    }
+    let b = mesh::values(cells, faces, volumes, firsts, seconds, weights, spans);
+    if let Answer::Refused(r) = b {
+        return Answer::Refused(r);
+    }
+    field::values(cells, volumes, masses)
+}
+
+// The causes of a call that is lent cells alone: those of a mesh without faces.
+pub fn check_cells(cells: usize, volumes: &[u64], masses: &[u64]) -> Answer
+    ensures { λ r. ⌜ said r ≡ meshFieldVerdict (cellsOnly cells (now (volumes .entry))) (now (masses .entry)) ⌝ }
+{
+    let none = &volumes[..0];
+    check_field(cells, 0, volumes, none, none, none, none, masses)
+}
+
+// The sum of a field's masses.
+pub fn total(cells: usize, volumes: &[u64], masses: &[u64]) -> TotalAnswer
+    ensures { λ r. ⌜ totalSaid r ≡ (meshFieldVerdict (cellsOnly cells (now (volumes .entry))) (now (masses .entry)) andThen accepted (sum cells (massIn (now (masses .entry))))) ⌝ }
+{
+    let a = check_cells(cells, volumes, masses);
+    if let Answer::Refused(r) = a {
+        return TotalAnswer::Refused(r);
+    }
+    TotalAnswer::Total(field::sum_of(cells, masses))
+}
+
+// Causes 1 to 10.
+pub fn check_step(
+    cells: usize,
+    faces: usize,
+    volumes: &[u64],
+    firsts: &[u64],
+    seconds: &[u64],
+    weights: &[u64],
+    spans: &[u64],
+    masses: &[u64],
+    fluxes: &[i64],
+    outsides: &[u64],
+    next: &[u64],
+    moved: &[i64],
+    work: &[u64],
+) -> Answer
+    ensures { λ r. ⌜ said r ≡ verdict (meshOf cells faces (now (volumes .entry)) (now (firsts .entry)) (now (seconds .entry)) (now (weights .entry)) (now (spans .entry))) (now (masses .entry)) (callOf (now (fluxes .entry)) (now (outsides .entry)) (now (next .entry)) (now (moved .entry)) (now (work .entry))) ⌝ }
+{
+    let a = lengths::field_lent(
+        cells,
+        faces,
+        volumes,
+        firsts,
+        seconds,
+        weights,
+        spans,
+        masses,
+    );
+    if let Answer::Refused(r) = a {
+        return Answer::Refused(r);
+    }
+    let b = lengths::step_lent(cells, faces, fluxes, outsides, next, moved, work);
+    if let Answer::Refused(r) = b {
+        return Answer::Refused(r);
+    }
+    let d = mesh::values(cells, faces, volumes, firsts, seconds, weights, spans);
+    if let Answer::Refused(r) = d {
+        return Answer::Refused(r);
+    }
+    let e = lengths::and_then(
+        field::values(cells, volumes, masses),
+        water::values(faces, seconds, spans, fluxes, outsides),
+    );
+    if let Answer::Refused(r) = e {
+        return Answer::Refused(r);
+    }
+    flows::values(cells, faces, volumes, firsts, seconds, fluxes)
+}

@@ -1,0 +1,119 @@
+// Causes 3 to 5: the values of the mesh tables.
+use crate::lengths::and_then;
+use crate::lengths::between;
+use model::Answer;
+use model::Cause;
+use model::Refusal;
+ghost use mathlib.Core.Path.{_≡_};
+ghost use mathlib.Core.Bool.{cond, not, _&&_, _||_};
+ghost use mathlib.Core.List.{[]};
+ghost use Prim.Native.Nat.{_≤_};
+ghost use lib.Dec.{eqb, ltb};
+ghost use lib.ListN.{length};
+ghost use Rattle.model.specs.Mesh.{meshOf, maxWeight, maxSpan, boundary};
+ghost use Rattle.model.specs.Causes.{each, between as betweenOf, volumeGood, endsGood, spacingGood, meshValues};
+ghost use Rattle.model.specs.Answers.{said};
+
+// Cause 3.
+pub fn volumes_good(cells: usize, volumes: &[u64]) -> Answer
+    requires { ⌜ cells ≤ length (now volumes) ⌝ }
+    ensures { λ r. ⌜ said r ≡ each 3 cells (volumeGood (meshOf cells 0 (now (volumes .entry)) [] [] [] [])) ⌝ }
+{
+    let mut c = 0;
+    while c < cells {
+        if !between(1, model::MAX_VOLUME, volumes[c]) {
+            return Answer::Refused(Refusal {
+                cause: Cause::Volume,
+                place: c as u64,
+            });
+        }
+        c += 1;
+    }
+    Answer::Done
+}
+
+// One face's ends: the first a cell, the second a cell or the boundary, and not the same.
+pub fn ends_fit(cells: u64, first: u64, second: u64) -> bool
+    ensures { λ r. ⌜ r ≡ (ltb first cells && (ltb second cells || eqb second boundary) && not (eqb first second)) ⌝ }
+{
+    if cells <= first {
+        return false;
+    }
+    if first == second {
+        return false;
+    }
+    if second < cells {
+        return true;
+    }
+    second == model::BOUNDARY
+}
+
+// Cause 4.
+pub fn ends_good(cells: usize, faces: usize, firsts: &[u64], seconds: &[u64]) -> Answer
+    requires { ⌜ (faces ≤ length (now firsts)) × (faces ≤ length (now seconds)) ⌝ }
+    ensures { λ r. ⌜ said r ≡ each 4 faces (endsGood (meshOf cells faces [] (now (firsts .entry)) (now (seconds .entry)) [] [])) ⌝ }
+{
+    let mut f = 0;
+    while f < faces {
+        if !ends_fit(cells as u64, firsts[f], seconds[f]) {
+            return Answer::Refused(Refusal {
+                cause: Cause::Ends,
+                place: f as u64,
+            });
+        }
+        f += 1;
+    }
+    Answer::Done
+}
+
+// One face's weight and span: both 0 at the boundary, both in their ranges inside.
+pub fn spacing_fits(second: u64, weight: u64, span: u64) -> bool
+    ensures { λ r. ⌜ r ≡ cond (eqb second boundary) (eqb weight 0 && eqb span 0) (betweenOf 1 maxWeight weight && betweenOf 1 maxSpan span) ⌝ }
+{
+    if second == model::BOUNDARY {
+        if weight == 0 {
+            return span == 0;
+        }
+        return false;
+    }
+    if between(1, model::MAX_WEIGHT, weight) {
+        return between(1, model::MAX_SPAN, span);
+    }
+    false
+}
+
+// Cause 5.
+pub fn spacing_good(faces: usize, seconds: &[u64], weights: &[u64], spans: &[u64]) -> Answer
+    requires { ⌜ (faces ≤ length (now seconds)) × (faces ≤ length (now weights)) × (faces ≤ length (now spans)) ⌝ }
+    ensures { λ r. ⌜ said r ≡ each 5 faces (spacingGood (meshOf 0 faces [] [] (now (seconds .entry)) (now (weights .entry)) (now (spans .entry)))) ⌝ }
+{
+    let mut f = 0;
+    while f < faces {
+        if !spacing_fits(seconds[f], weights[f], spans[f]) {
+            return Answer::Refused(Refusal {
+                cause: Cause::Spacing,
+                place: f as u64,
+            });
+        }
+        f += 1;
+    }
+    Answer::Done
+}
+
+// Causes 3 to 5 in their order.
+pub fn values(
+    cells: usize,
+    faces: usize,
+    volumes: &[u64],
+    firsts: &[u64],
+    seconds: &[u64],
+    weights: &[u64],
+    spans: &[u64],
+) -> Answer
+    requires { ⌜ (cells ≤ length (now volumes)) × (faces ≤ length (now firsts)) × (faces ≤ length (now seconds)) × (faces ≤ length (now weights)) × (faces ≤ length (now spans)) ⌝ }
+    ensures { λ r. ⌜ said r ≡ meshValues (meshOf cells faces (now (volumes .entry)) (now (firsts .entry)) (now (seconds .entry)) (now (weights .entry)) (now (spans .entry))) ⌝ }
+{
+    let a = volumes_good(cells, volumes);
+    let a = and_then(a, ends_good(cells, faces, firsts, seconds));
+    and_then(a, spacing_good(faces, seconds, weights, spans))
+}

@@ -1,0 +1,11 @@
+pub mod Corrections
+pub mod Meetings
+pub mod Transfers
+pub mod Openings
+pub mod Flows
+pub mod Sweeps
+pub mod Settlings
+pub mod Weighings
+pub mod Limitings
+pub mod Advances
+pub mod Promises
