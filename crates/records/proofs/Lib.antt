@@ -8,3 +8,4 @@ pub mod WidthLaws
 pub mod RoundTrip
 pub mod PutLaws
 pub mod WriteLaws
+pub mod Figures

@@ -2,8 +2,8 @@
 mod body;
 mod heads;
 mod lengths;
-pub mod reader;
 mod put;
+pub mod reader;
 mod tables;
 mod verdicts;
 mod write;
