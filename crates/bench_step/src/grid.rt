@@ -2,13 +2,14 @@
 use model::BOUNDARY;
 use model::MAX_CELLS;
 use model::MAX_FACES;
-ghost use Prim.Native.Nat.{_≤_, _<_, _*_, _+_};
-ghost use Rattle.model.specs.Mesh.{maxCells, maxFaces};
+ghost use Prim.Native.Nat.{_≤_, _<_};
+ghost use Rattle.model.specs.Mesh.{maxCells, maxFaces, maxConcentration};
+ghost use Rattle.bench_step.specs.Bounds.{maxFactor, maxProduct, maxStream};
 
 // Factors up to a million: the one product of two variables.
 pub fn times(a: u64, b: u64) -> u64
-    requires { ⌜ (a ≤ 1000000) × (b ≤ 1000000) ⌝ }
-    ensures { λ r. ⌜ r ≤ 1000000000000 ⌝ }
+    requires { ⌜ (a ≤ maxFactor) × (b ≤ maxFactor) ⌝ }
+    ensures { λ r. ⌜ r ≤ maxProduct ⌝ }
 {
     a * b
 }
@@ -38,7 +39,7 @@ fn wave(k: u64) -> u64
 // The stream function at a corner of the grid: gyres of 12 cells, and a ripple. It is 0 on the shores.
 fn stream(x: u64, y: u64) -> u64
     requires { ⌜ (x ≤ maxCells) × (y ≤ maxCells) ⌝ }
-    ensures { λ r. ⌜ r ≤ 10000000000000 ⌝ }
+    ensures { λ r. ⌜ r ≤ maxStream ⌝ }
 {
     5 * times(wave(x), wave(y)) + times(37 * x, y) % 11
 }
@@ -53,7 +54,7 @@ fn volume(c: u64) -> u64
 // Squares of 6 cells, salt and fresh in turn.
 fn concentration(c: u64, x: u64, y: u64) -> u64
     requires { ⌜ (c < maxCells) × (x < maxCells) × (y < maxCells) ⌝ }
-    ensures { λ r. ⌜ r ≤ 1000000 ⌝ }
+    ensures { λ r. ⌜ r ≤ maxConcentration ⌝ }
 {
     if (x / 6 + y / 6) % 2 == 0 {
         900000 + 7919 * c % 100000
@@ -137,7 +138,7 @@ fn span(f: u64, open: bool) -> u64
 // The stream function at the ends of a face: its flux is the one ahead less the one behind.
 fn ahead(f: u64, width: u64) -> u64
     requires { ⌜ (f < maxFaces) × (1 ≤ width) ⌝ }
-    ensures { λ r. ⌜ r ≤ 10000000000000 ⌝ }
+    ensures { λ r. ⌜ r ≤ maxStream ⌝ }
 {
     let c = first(f);
     if is_east(f) {
@@ -148,7 +149,7 @@ fn ahead(f: u64, width: u64) -> u64
 
 fn behind(f: u64, width: u64) -> u64
     requires { ⌜ (f < maxFaces) × (1 ≤ width) ⌝ }
-    ensures { λ r. ⌜ r ≤ 10000000000000 ⌝ }
+    ensures { λ r. ⌜ r ≤ maxStream ⌝ }
 {
     let c = first(f);
     if is_east(f) {
@@ -159,8 +160,8 @@ fn behind(f: u64, width: u64) -> u64
 
 // The way between two numbers.
 fn gap(a: u64, b: u64) -> u64
-    requires { ⌜ (a ≤ 10000000000000) × (b ≤ 10000000000000) ⌝ }
-    ensures { λ r. ⌜ r ≤ 10000000000000 ⌝ }
+    requires { ⌜ (a ≤ maxStream) × (b ≤ maxStream) ⌝ }
+    ensures { λ r. ⌜ r ≤ maxStream ⌝ }
 {
     if a < b { b - a } else { a - b }
 }

@@ -6,9 +6,12 @@ use model::MAX_CELLS;
 use model::MAX_FACES;
 use std::num::wrapping_add_u64;
 use transport::StepAnswer;
-ghost use mathlib.Core.Path.{_≡_};
-ghost use Prim.Native.Nat.{_≤_, _<_, _*_};
-ghost use Rattle.model.specs.Mesh.{maxCells, maxFaces};
+ghost use Prim.Native.Nat.{_≤_};
+ghost use Rattle.model.specs.Mesh.{maxCells};
+ghost use Rattle.bench_step.specs.Bounds.{maxArgument};
+
+// Most cells on a side of the grid.
+const SIDE: u64 = MAX_CELLS as u64;
 
 const WORK: usize = 4 * MAX_CELLS + MAX_FACES;
 
@@ -167,7 +170,7 @@ fn run_on(
     moved: &mut [i64; MAX_FACES],
     work: &mut [u64; WORK],
 )
-    requires { ⌜ (cells ≤ maxCells) × (1 ≤ width) × (width ≤ maxCells) × (rounds < 1000000000000) ⌝ }
+    requires { ⌜ (cells ≤ maxCells) × (1 ≤ width) × (width ≤ maxCells) × (rounds ≤ maxArgument) ⌝ }
 {
     grid::make_cells(cells, width, volumes, field);
     grid::make_faces(
@@ -205,7 +208,7 @@ fn run_on(
 
 // The tables are arrays of this function.
 fn run(cells: usize, width: u64, height: u64, rounds: u64)
-    requires { ⌜ (cells ≤ maxCells) × (1 ≤ width) × (width ≤ maxCells) × (rounds < 1000000000000) ⌝ }
+    requires { ⌜ (cells ≤ maxCells) × (1 ≤ width) × (width ≤ maxCells) × (rounds ≤ maxArgument) ⌝ }
 {
     let mut volumes = [0u64; MAX_CELLS];
     let mut firsts = [0u64; MAX_FACES];
@@ -247,14 +250,14 @@ fn main() {
     if width < 1 {
         return;
     }
-    if width > 4095 {
+    if width > SIDE {
         return;
     }
-    if height > 4095 {
+    if height > SIDE {
         return;
     }
     let cells = grid::times(width, height);
-    if cells > 4095 {
+    if cells > SIDE {
         return;
     }
     run(cells as usize, width, height, rounds);

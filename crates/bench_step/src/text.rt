@@ -4,6 +4,10 @@ use model::MAX_CELLS;
 use model::MAX_FACES;
 ghost use Prim.Native.Nat.{_≤_, _<_};
 ghost use Rattle.model.specs.Mesh.{maxCells, maxFaces};
+ghost use Rattle.bench_step.specs.Bounds.{maxArgument, prime};
+
+// Arguments are below this.
+const CEILING: u64 = 1000000000000;
 
 const PRIME: u64 = 1000000007;
 
@@ -23,19 +27,19 @@ fn digit(b: u8) -> u64
 
 // Decimal digits as a number, of which the last twelve count.
 fn number(text: &[u8]) -> u64
-    ensures { λ r. ⌜ r < 1000000000000 ⌝ }
+    ensures { λ r. ⌜ r ≤ maxArgument ⌝ }
 {
     let mut x: u64 = 0;
     let mut i = 0;
     while i < text.len() {
-        x = (10 * x + digit(text[i])) % 1000000000000;
+        x = (10 * x + digit(text[i])) % CEILING;
         i += 1;
     }
     x
 }
 
 pub fn argument(i: usize) -> u64
-    ensures { λ r. ⌜ r < 1000000000000 ⌝ }
+    ensures { λ r. ⌜ r ≤ maxArgument ⌝ }
 {
     let mut text = [0u8; 12];
     let n = os::arg(i, &mut text);
@@ -56,15 +60,15 @@ fn total(cells: usize, masses: &[u64; MAX_CELLS]) -> u64
 }
 
 fn mixed(digest: u64, x: u64) -> u64
-    requires { ⌜ digest < 1000000007 ⌝ }
-    ensures { λ r. ⌜ r < 1000000007 ⌝ }
+    requires { ⌜ digest < prime ⌝ }
+    ensures { λ r. ⌜ r < prime ⌝ }
 {
     (digest * BASE + x % PRIME) % PRIME
 }
 
 fn digest_masses(cells: usize, masses: &[u64; MAX_CELLS]) -> u64
     requires { ⌜ cells ≤ maxCells ⌝ }
-    ensures { λ r. ⌜ r < 1000000007 ⌝ }
+    ensures { λ r. ⌜ r < prime ⌝ }
 {
     let mut digest: u64 = 1;
     let mut c = 0;

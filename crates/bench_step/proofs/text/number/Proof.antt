@@ -1,12 +1,13 @@
 -- What is read stays below the ceiling.
-use Prim.Native.Nat.{_≤_, _<_, _-_}
+use Prim.Native.Nat.{_≤_, _-_}
 use lib.ListN.{length}
 use borrow.Author.Needs.{needs}
+use Rattle.bench_step.specs.Bounds.{maxArgument}
 use Rattle.bench_step.proofs.text.number.Statement.{statement}
 use Rattle.bench_step.proofs.text.number.Tie as tie
 
 abbrev Inv-loop : tie.InvT-loop
-Inv-loop text x₀ i₀ x i = (i ≤ length text) × (x < 1000000000000)
+Inv-loop text x₀ i₀ x i = (i ≤ length text) × (x ≤ maxArgument)
 
 abbrev μ-loop : tie.MeasureT-loop
 μ-loop text x₀ i₀ x i = length text - i

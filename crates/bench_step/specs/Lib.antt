@@ -1,0 +1,2 @@
+-- Definitions that the contracts of bench_step cite.
+pub mod Bounds
