@@ -1,6 +1,6 @@
 -- Fields put one after another: there is room for each where there is room for all, and together they are laid.
-use Prim.Native.Nat.{ℕ, zero, suc, _+_, _-_, _*_, _^_, _≤_, _<_}
-use mathlib.Core.Path.{_≡_, refl, sym, ap, _∙_}
+use Prim.Native.Nat.{ℕ, zero, suc, _+_, _-_, _*_, _≤_, _<_}
+use mathlib.Core.Path.{_≡_, refl, _∙_}
 use mathlib.Core.List.{List, [], _∷_, _++_}
 use native.Mathlib.Decide.{decLt}
 use native.Mathlib.Omega.{arith}
@@ -40,10 +40,7 @@ fit-row (suc n) g i l h = go (decLt i n) (fit-row n g i)
   where
     go : Dec (i < n) → (i < n → AllFit (rows n g) → AllFit (g i)) → AllFit (g i)
     go (yes m) again = again m (fit-left (rows n g) (g n) h)
-    go (no m) again = let e : n ≡ i = omega arith in ap-fit e (fit-right (rows n g) (g n) h)
-      where
-        ap-fit : n ≡ i → AllFit (g n) → AllFit (g i)
-        ap-fit e t = rw e at t
+    go (no m) again = let e : n ≡ i = omega arith in rw e at (fit-right (rows n g) (g n) h)
 
 -- a list is as long as before
 

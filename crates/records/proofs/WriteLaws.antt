@@ -1,25 +1,23 @@
 -- What a writing that is accepted has passed, that its record fits its bytes, and what the writer answers.
 use Prim.Native.Nat.{ℕ, _+_, _-_, _*_, _^_, _≤_, _<_}
-use mathlib.Core.Path.{_≡_, refl, sym, ap, _∙_}
+use mathlib.Core.Path.{_≡_, ap, _∙_}
 use mathlib.Core.Bool.{Bool, true, false, cond}
 use mathlib.Core.List.{List, [], _∷_, _++_}
 use native.Mathlib.Omega.{arith}
 use lib.ListN.{length, getD}
 use lib.IntN.{ℤ, pos}
-use Rattle.lists.specs.Table.{over}
 use Rattle.lists.proofs.Tests.{leb-le}
-use Rattle.signed.specs.Sign.{size, isNegative}
-use Rattle.model.specs.Mesh.{Mesh, maxCells, maxFaces}
-use Rattle.model.specs.Causes.{Verdict, fine, _andThen_, each, long, counts, meshTables, meshValues, fieldTable, fieldValues, outsideGood, fluxGood}
-use Rattle.model.specs.Answers.{told, said}
-use Rattle.model.specs.declared.Answer.{Answer}
+use Rattle.signed.specs.Sign.{isNegative}
+use Rattle.model.specs.Mesh.{Mesh, maxFaces}
+use Rattle.model.specs.Causes.{Verdict, fine, _andThen_, each, long, counts, meshTables, meshValues, outsideGood, fluxGood}
+use Rattle.model.specs.Answers.{told}
 use Rattle.model.specs.declared.Refusal.{Refusal}
-use Rattle.model.proofs.Verdicts.{both-fine, need-fine, past, out, andThen-assoc}
+use Rattle.model.proofs.Verdicts.{both-fine, need-fine, past, andThen-assoc}
 use Rattle.model.proofs.Accepted.{MeshLent, counted, mesh-lent, field-lent}
 use Rattle.bits.specs.Put.{Put}
 use Rattle.bits.specs.Layout.{Field, field, widthOf, bytesFor, packed, rows}
 use Rattle.records.specs.declared.WriteAnswer.the-variants as write
-use Rattle.records.specs.Layouts.{signBits, outsideBits, meshHead, cellRow, faceRow, meshFields, fieldHead, massRow, fieldFields, stepHead, fluxRow, outsideRow, stepFields, isBoundary, meshBits, fieldBits, stepBits, meshRecord, fieldRecord, stepRecord, meshLength, fieldLength, stepLength}
+use Rattle.records.specs.Layouts.{signBits, outsideBits, meshHead, cellRow, faceRow, meshFields, fieldHead, massRow, fieldFields, stepHead, fluxRow, outsideRow, stepFields, isBoundary, meshRecord, fieldRecord, stepRecord, meshLength, fieldLength, stepLength}
 use Rattle.records.specs.Writing.{bytesLong, waterOf, meshWriteVerdict, fieldWriteVerdict, stepWriteVerdict, Writing}
 use Rattle.records.specs.Putting.{AllFit, Room, Laid, Whole, Wrote}
 use Rattle.records.proofs.HeadLaws.{bytes-hold, boundary-le}

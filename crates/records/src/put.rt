@@ -159,6 +159,7 @@ pub fn pad(bytes: &mut [u8], at: usize) -> usize
     ensures { λ r. ⌜ (r ≡ bytesFor at) × Put (now (bytes .entry)) at (8 * bytesFor at - at) 0 (now (bytes .exit)) ⌝ }
 {
     let length = lengths::bytes_for(at);
-    bits::write_bits(bytes, at, 8 * length - at, 0);
+    let end = 8 * length;
+    bits::write_bits(bytes, at, end - at, 0);
     length
 }

@@ -32,15 +32,13 @@ fn mesh_refused(
 ) -> Answer
     ensures { λ r. ⌜ said r ≡ meshWriteVerdict (meshOf cells faces (now (volumes .entry)) (now (firsts .entry)) (now (seconds .entry)) (now (weights .entry)) (now (spans .entry))) room ⌝ }
 {
-    let a = checks::lengths::mesh_lent(cells, faces, volumes, firsts, seconds, weights, spans);
-    if let Answer::Refused(r) = a {
+    let lent = checks::lengths::mesh_lent(cells, faces, volumes, firsts, seconds, weights, spans);
+    if let Answer::Refused(r) = lent {
         return Answer::Refused(r);
     }
-    let b = long(RECORD_BYTES, lengths::mesh_length(cells, faces), room);
-    and_then(
-        b,
-        checks::mesh::values(cells, faces, volumes, firsts, seconds, weights, spans),
-    )
+    let space = long(RECORD_BYTES, lengths::mesh_length(cells, faces), room);
+    let values = checks::mesh::values(cells, faces, volumes, firsts, seconds, weights, spans);
+    and_then(space, values)
 }
 
 // A mesh that passed, put into the bytes, and how many it takes.
@@ -116,7 +114,7 @@ fn field_refused(
 ) -> Answer
     ensures { λ r. ⌜ said r ≡ fieldWriteVerdict (meshOf cells faces (now (volumes .entry)) (now (firsts .entry)) (now (seconds .entry)) (now (weights .entry)) (now (spans .entry))) (now (masses .entry)) room ⌝ }
 {
-    let a = checks::lengths::field_lent(
+    let lent = checks::lengths::field_lent(
         cells,
         faces,
         volumes,
@@ -126,15 +124,13 @@ fn field_refused(
         spans,
         masses,
     );
-    if let Answer::Refused(r) = a {
+    if let Answer::Refused(r) = lent {
         return Answer::Refused(r);
     }
-    let b = long(RECORD_BYTES, lengths::field_length(cells), room);
-    let b = and_then(
-        b,
-        checks::mesh::values(cells, faces, volumes, firsts, seconds, weights, spans),
-    );
-    if let Answer::Refused(r) = b {
+    let space = long(RECORD_BYTES, lengths::field_length(cells), room);
+    let values = checks::mesh::values(cells, faces, volumes, firsts, seconds, weights, spans);
+    let fit = and_then(space, values);
+    if let Answer::Refused(r) = fit {
         return Answer::Refused(r);
     }
     checks::field::values(cells, volumes, masses)
@@ -197,23 +193,19 @@ fn step_refused(
 ) -> Answer
     ensures { λ r. ⌜ said r ≡ stepWriteVerdict (meshOf cells faces (now (volumes .entry)) (now (firsts .entry)) (now (seconds .entry)) (now (weights .entry)) (now (spans .entry))) (now (fluxes .entry)) (now (outsides .entry)) room ⌝ }
 {
-    let a = checks::lengths::mesh_lent(cells, faces, volumes, firsts, seconds, weights, spans);
-    if let Answer::Refused(r) = a {
+    let lent = checks::lengths::mesh_lent(cells, faces, volumes, firsts, seconds, weights, spans);
+    if let Answer::Refused(r) = lent {
         return Answer::Refused(r);
     }
-    let b = and_then(long(6, faces, fluxes.len()), long(7, faces, outsides.len()));
-    let b = and_then(
-        b,
-        long(RECORD_BYTES, lengths::step_length(faces, seconds), room),
-    );
-    if let Answer::Refused(r) = b {
+    let water = and_then(long(6, faces, fluxes.len()), long(7, faces, outsides.len()));
+    let space = long(RECORD_BYTES, lengths::step_length(faces, seconds), room);
+    let tables = and_then(water, space);
+    if let Answer::Refused(r) = tables {
         return Answer::Refused(r);
     }
-    let d = checks::mesh::values(cells, faces, volumes, firsts, seconds, weights, spans);
-    and_then(
-        d,
-        checks::water::values(faces, seconds, spans, fluxes, outsides),
-    )
+    let mesh = checks::mesh::values(cells, faces, volumes, firsts, seconds, weights, spans);
+    let values = checks::water::values(faces, seconds, spans, fluxes, outsides);
+    and_then(mesh, values)
 }
 
 // A step that passed.

@@ -1,9 +1,6 @@
-use mathlib.Core.Path.{_≡_}
-use Prim.Native.Nat.{_-_}
 use native.Mathlib.Omega.{arith}
 use borrow.Author.Needs.{needs}
 use Rattle.bits.specs.Layout.{widthOf}
-use Rattle.records.specs.Layouts.{meshHeadBits, meshZeroBits}
 use Rattle.records.proofs.PutLaws.{room-first, room-rest, laid-cons, zeros-room, zeros-laid}
 use Rattle.records.proofs.put.mesh_head.Statement.{statement}
 use Rattle.records.proofs.put.mesh_head.Tie as tie

@@ -5,8 +5,8 @@ use Rattle.records.proofs.HeadLaws.{bytes-hold, bytes-most}
 use Rattle.records.proofs.put.pad.Statement.{statement}
 use Rattle.records.proofs.put.pad.Tie as tie
 
-mul-write-bits : tie.Need-mul-write-bits
-mul-write-bits c = let s = c .before .before .before in rw (c .before .bytes-for .ensures) (omega (arith, bytes-most (s .args .at), s .pre .1))
+mul-end : tie.Need-mul-end
+mul-end c = let s = c .before .before in rw (c .bytes-for .ensures) (omega (arith, bytes-most (s .args .at), s .pre .1))
 
 sub-write-bits : tie.Need-sub-write-bits
 sub-write-bits c = let s = c .before .before .before in rw (c .before .bytes-for .ensures) (omega (arith, bytes-hold (s .args .at)))
@@ -25,4 +25,4 @@ returns c =
     (e, rw e at (c .before .before .write-bits .ensures))
 
 pub pad-spec : {M : Type 1} → statement M
-pad-spec = tie.close (tie.spec (search needs) mul-write-bits sub-write-bits write-bits-requires (search needs) returns)
+pad-spec = tie.close (tie.spec (search needs) mul-end sub-write-bits write-bits-requires (search needs) returns)

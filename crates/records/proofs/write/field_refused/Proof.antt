@@ -11,7 +11,7 @@ use Rattle.records.proofs.write.field_refused.Tie as tie
 
 returns : tie.Need-returns
 unfolding fieldWriteVerdict
-returns c = sym (out _ (out _ (out _ (refuses (c .before .before .before .field-lent .ensures) (c .before .a .given .1)))))
+returns c = sym (out _ (out _ (out _ (refuses (c .before .before .before .field-lent .ensures) (c .before .lent .given .1)))))
 
 field-length-requires : tie.Need-field-length-requires
 field-length-requires c κs = few _ _ (passes (c .before .before .field-lent .ensures) (c .enum-told .given .1)) .0
@@ -26,7 +26,7 @@ returns-2 c =
     let told = long .before .before in
     let bytes = bytes-said (c .before .before .before .before .before .before .before .before .before .before .before .before .before .before .before .before .args .room) (long .long .ensures) (long .before .field-length .ensures) in
     let lent = passes (told .before .before .field-lent .ensures) (told .enum-told .given .1) in
-    sym (out _ (past-first _ _ lent ∙ refuses (both-are (c .before .before .before .and-then .ensures) bytes (c .before .before .before .before .values .ensures)) (c .before .b .given .1)))
+    sym (out _ (past-first _ _ lent ∙ refuses (both-are (c .before .before .before .and-then .ensures) bytes (c .before .before .before .before .values .ensures)) (c .before .fit .given .1)))
 
 values-requires-2 : tie.Need-values-requires-2
 values-requires-2 c κs =

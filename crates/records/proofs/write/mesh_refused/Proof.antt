@@ -11,7 +11,7 @@ use Rattle.records.proofs.write.mesh_refused.Tie as tie
 
 returns : tie.Need-returns
 unfolding meshWriteVerdict
-returns c = sym (out _ (out _ (refuses (c .before .before .before .mesh-lent .ensures) (c .before .a .given .1))))
+returns c = sym (out _ (out _ (refuses (c .before .before .before .mesh-lent .ensures) (c .before .lent .given .1))))
 
 mesh-length-requires : tie.Need-mesh-length-requires
 mesh-length-requires c κs =

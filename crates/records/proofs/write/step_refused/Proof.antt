@@ -10,7 +10,7 @@ use Rattle.records.proofs.write.step_refused.Statement.{statement}
 use Rattle.records.proofs.write.step_refused.Tie as tie
 
 returns : tie.Need-returns
-returns c = sym (step-groups _ _ _ (c .before .before .before .before .before .before .before .before .before .before .args .room) ∙ out _ (out _ (refuses (c .before .before .before .mesh-lent .ensures) (c .before .a .given .1))))
+returns c = sym (step-groups _ _ _ (c .before .before .before .before .before .before .before .before .before .before .args .room) ∙ out _ (out _ (refuses (c .before .before .before .mesh-lent .ensures) (c .before .lent .given .1))))
 
 step-length-requires : tie.Need-step-length-requires
 step-length-requires c κs =
@@ -26,7 +26,7 @@ returns-2 c =
     let bytes = bytes-said (c .before .before .before .before .before .before .before .before .before .before .before .before .before .before .before .before .before .before .args .room) (long .long3 .ensures) (long .before .step-length .ensures) in
     let tables = both-are (both .and-then2 .ensures) (both-are (pair .and-then .ensures) (pair .before .before .long .ensures) (pair .before .long2 .ensures)) bytes in
     let lent = passes (told .before .before .mesh-lent .ensures) (told .enum-told .given .1) in
-    sym (step-groups _ _ _ (c .before .before .before .before .before .before .before .before .before .before .before .before .before .before .before .before .before .before .args .room) ∙ out _ (past _ lent ∙ refuses tables (c .before .b .given .1)))
+    sym (step-groups _ _ _ (c .before .before .before .before .before .before .before .before .before .before .before .before .before .before .before .before .before .before .args .room) ∙ out _ (past _ lent ∙ refuses tables (c .before .tables .given .1)))
 
 values-requires : tie.Need-values-requires
 values-requires c κs = mesh-long _ (passes (c .before .before .before .before .before .before .before .before .before .before .mesh-lent .ensures) (c .before .before .before .before .before .before .before .before .enum-told .given .1))
