@@ -1,0 +1,3 @@
+pub mod Counted
+pub mod OnRecords
+pub mod Demand3
