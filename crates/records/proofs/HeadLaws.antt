@@ -1,6 +1,6 @@
 -- What a head that is fine says, and how an answer and its verdict go together.
 use Prim.Native.Nat.{ℕ, _+_, _*_, _≤_, min}
-use mathlib.Core.Path.{_≡_, sym, ap, _∙_}
+use mathlib.Core.Path.{_≡_}
 use mathlib.Core.Bool.{Bool, true, false, cond}
 use mathlib.Core.List.{List}
 use native.Mathlib.Nat.{le-trans}
@@ -9,23 +9,16 @@ use lib.ListN.{length}
 use lib.Dec.{leb}
 use Rattle.lists.proofs.Sums.{sum-zero, sum-more, sum-part, sum-bound}
 use Rattle.lists.proofs.Tests.{leb-le, eqb-eq, both-true}
-use Rattle.model.specs.Mesh.{boundary, maxCells, maxFaces}
-use Rattle.model.specs.Causes.{Verdict, fine, _andThen_, need, long, countsWithin}
-use Rattle.model.specs.Answers.{told, said}
+use Rattle.model.specs.Mesh.{maxCells, maxFaces}
+use Rattle.model.specs.Causes.{fine, _andThen_, need, long, countsWithin}
+use Rattle.model.specs.Answers.{said}
 use Rattle.model.specs.declared.Answer.{Answer}
-use Rattle.model.specs.declared.Answer.the-variants.{Done, Refused}
-use Rattle.model.specs.declared.Refusal.{Refusal}
+use Rattle.model.specs.declared.Answer.the-variants.{Done}
 use Rattle.model.proofs.Verdicts.{both-fine, need-fine}
+use Rattle.checks.proofs.Laws.{passes}
 use Rattle.bits.specs.Layout.{bytesFor}
 use Rattle.records.specs.Layouts.{meshKind, fieldKind, stepKind, outsideBits, isBoundary, boundaryFaces, meshBits, fieldBits, stepBits, meshLength, fieldLength, stepLength}
 use Rattle.records.specs.Reading.{kindIn, cellsIn, facesIn, stepFacesIn, hasLength, meshHeadVerdict, fieldHeadVerdict, stepHeadVerdict, fieldBodyVerdict}
-
--- an answer that refuses, and one that does not
-pub refuses : {v : Verdict} {a : Answer} {r : Refusal} → said a ≡ v → a ≡ Refused r → v ≡ told r
-refuses e q = sym e ∙ ap said q
-
-pub passes : {v : Verdict} {a : Answer} → said a ≡ v → a ≡ Done → v ≡ fine
-passes e q = sym e ∙ ap said q
 
 -- a record that is as long as its head
 pub head-holds : {a : Answer} {j m : ℕ} (n : ℕ) → j ≤ n → said a ≡ need 11 0 (leb n m) → a ≡ Done → j ≤ m

@@ -1,13 +1,14 @@
 // What is tested before a body is read: causes 11, 13, 1 and 2.
+use checks::lengths::and_then;
+use checks::lengths::need;
 use model::Answer;
 use model::Cause;
-use model::Refusal;
 ghost use mathlib.Core.Path.{_≡_};
 ghost use Prim.Native.Nat.{_≤_, min};
 ghost use lib.ListN.{length};
 ghost use Rattle.model.specs.Mesh.{maxCells, maxFaces};
-ghost use Rattle.model.specs.Causes.{_andThen_, need as needOf, countsWithin, between as betweenOf};
-ghost use Rattle.model.specs.Answers.{said, number};
+ghost use Rattle.model.specs.Causes.{countsWithin, between as betweenOf};
+ghost use Rattle.model.specs.Answers.{said};
 ghost use Rattle.records.specs.Reading.{kindIn, cellsIn, facesIn, stepFacesIn, meshHeadVerdict, fieldHeadVerdict, stepHeadVerdict};
 
 // The widths of a head's fields.
@@ -29,26 +30,6 @@ pub const MESH_KIND: u64 = 1;
 pub const FIELD_KIND: u64 = 2;
 
 pub const STEP_KIND: u64 = 3;
-
-// A refusal where the test fails.
-pub fn need(cause: Cause, place: u64, good: bool) -> Answer
-    ensures { λ r. ⌜ said r ≡ needOf (number cause) place good ⌝ }
-{
-    if good {
-        return Answer::Done;
-    }
-    Answer::Refused(Refusal { cause, place })
-}
-
-// The first of two that refuses.
-pub fn and_then(a: Answer, b: Answer) -> Answer
-    ensures { λ r. ⌜ said r ≡ (said a andThen said b) ⌝ }
-{
-    if let Answer::Refused(r) = a {
-        return Answer::Refused(r);
-    }
-    b
-}
 
 fn least(a: usize, b: usize) -> usize
     ensures { λ r. ⌜ r ≡ min a b ⌝ }

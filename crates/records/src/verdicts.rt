@@ -1,7 +1,9 @@
 // What a record whose head is fine is refused for: causes 11, 2 and 12.
-use crate::heads;
 use crate::lengths;
 use crate::zeros;
+use checks::lengths::and_then;
+use checks::lengths::long;
+use checks::lengths::need;
 use model::Answer;
 use model::Cause;
 ghost use mathlib.Core.Path.{_≡_};
@@ -12,18 +14,11 @@ ghost use Rattle.model.specs.Causes.{long as longOf, _andThen_};
 ghost use Rattle.model.specs.Answers.{said};
 ghost use Rattle.records.specs.Reading.{cellsIn, facesIn, meshBodyVerdict, fieldBodyVerdict, stepBodyVerdict};
 
-// Whether a table has as many entries as wanted.
-fn long(position: u64, wanted: usize, has: usize) -> Answer
-    ensures { λ r. ⌜ said r ≡ longOf position wanted has ⌝ }
-{
-    heads::need(Cause::Table, position, wanted <= has)
-}
-
-// The same after other tests.
+// After other tests, whether a table has as many entries as wanted.
 fn then_long(a: Answer, position: u64, wanted: usize, has: usize) -> Answer
     ensures { λ r. ⌜ said r ≡ (said a andThen longOf position wanted has) ⌝ }
 {
-    heads::and_then(a, long(position, wanted, has))
+    and_then(a, long(position, wanted, has))
 }
 
 pub fn mesh(
@@ -40,7 +35,7 @@ pub fn mesh(
     ensures { λ r. ⌜ said r ≡ meshBodyVerdict (now (bytes .entry)) volumes firsts seconds weights spans ⌝ }
 {
     let end = lengths::mesh_bits(cells, faces);
-    let a = heads::need(Cause::Length, 0, bytes.len() == lengths::bytes_for(end));
+    let a = need(Cause::Length, 0, bytes.len() == lengths::bytes_for(end));
     let b = then_long(a, 0, cells, volumes);
     let d = then_long(b, 1, faces, firsts);
     let e = then_long(d, 2, faces, seconds);
@@ -56,7 +51,7 @@ pub fn field(cells: usize, bytes: &[u8], masses: usize) -> Answer
     requires { ⌜ cells ≤ maxCells ⌝ }
     ensures { λ r. ⌜ said r ≡ fieldBodyVerdict cells (now (bytes .entry)) masses ⌝ }
 {
-    let a = heads::need(
+    let a = need(
         Cause::Length,
         0,
         bytes.len() == lengths::field_length(cells),
@@ -69,7 +64,7 @@ pub fn step(faces: usize, seconds: &[u64], bytes: &[u8], fluxes: usize, outsides
     ensures { λ r. ⌜ said r ≡ stepBodyVerdict faces (now (seconds .entry)) (now (bytes .entry)) fluxes outsides ⌝ }
 {
     let end = lengths::step_bits(faces, seconds);
-    let a = heads::need(Cause::Length, 0, bytes.len() == lengths::bytes_for(end));
+    let a = need(Cause::Length, 0, bytes.len() == lengths::bytes_for(end));
     let b = then_long(a, 6, faces, fluxes);
     let d = then_long(b, 7, faces, outsides);
     if let Answer::Refused(r) = d {

@@ -1,6 +1,7 @@
 // Cause 12: zero bits that are set, and a minus with size 0. Only the bits that can break the rule are looked at, in the order of their places.
 use crate::body::Body;
 use crate::heads;
+use checks::lengths::need;
 use model::Answer;
 use model::Cause;
 ghost use mathlib.Core.Path.{_≡_};
@@ -66,7 +67,7 @@ fn first_minus(bytes: &[u8], faces: usize) -> usize
 fn refused(place: usize) -> Answer
     ensures { λ r. ⌜ said r ≡ refusedAs 12 place ⌝ }
 {
-    heads::need(Cause::Bit, place as u64, false)
+    need(Cause::Bit, place as u64, false)
 }
 
 // The fields end at `end`.

@@ -1,7 +1,8 @@
 use borrow.Author.Needs.{needs}
 use Rattle.model.proofs.Verdicts.{out}
 use Rattle.records.specs.Reading.{fieldRead}
-use Rattle.records.proofs.HeadLaws.{refuses, passes, field-head-says}
+use Rattle.checks.proofs.Laws.{refuses, passes}
+use Rattle.records.proofs.HeadLaws.{field-head-says}
 use Rattle.records.proofs.ReadLaws.{second-out, both-past, field-refused, field-accepted}
 use Rattle.records.proofs.read_field.Statement.{statement}
 use Rattle.records.proofs.read_field.Tie as tie

@@ -5,7 +5,8 @@ use Rattle.model.specs.Causes.{_andThen_}
 use Rattle.model.proofs.Verdicts.{out}
 use Rattle.bits.specs.Layout.{bytesFor}
 use Rattle.records.specs.Reading.{stepHeadVerdict}
-use Rattle.records.proofs.HeadLaws.{refuses, passes, head-holds}
+use Rattle.checks.proofs.Laws.{refuses, passes}
+use Rattle.records.proofs.HeadLaws.{head-holds}
 use Rattle.records.proofs.heads.step.Statement.{statement}
 use Rattle.records.proofs.heads.step.Tie as tie
 

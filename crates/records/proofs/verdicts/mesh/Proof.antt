@@ -6,7 +6,8 @@ use Rattle.model.specs.Answers.{said}
 use Rattle.model.proofs.Verdicts.{past, out}
 use Rattle.records.specs.Layouts.{meshBits, meshLength}
 use Rattle.records.specs.Reading.{cellsIn, facesIn, hasLength, meshBodyVerdict, meshBitGood}
-use Rattle.records.proofs.HeadLaws.{refuses, passes, mesh-tables-say, bytes-hold, bytes-most}
+use Rattle.checks.proofs.Laws.{refuses, passes}
+use Rattle.records.proofs.HeadLaws.{mesh-tables-say, bytes-hold, bytes-most}
 use Rattle.records.proofs.verdicts.mesh.Statement.{statement}
 use Rattle.records.proofs.verdicts.mesh.Tie as tie
 

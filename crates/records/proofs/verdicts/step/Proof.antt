@@ -6,7 +6,8 @@ use Rattle.model.specs.Answers.{said}
 use Rattle.model.proofs.Verdicts.{past, out}
 use Rattle.records.specs.Layouts.{stepBits, stepLength}
 use Rattle.records.specs.Reading.{hasLength, stepBodyVerdict, stepBitGood}
-use Rattle.records.proofs.HeadLaws.{refuses, passes, step-tables-say, boundary-le, bytes-hold, bytes-most}
+use Rattle.checks.proofs.Laws.{refuses, passes}
+use Rattle.records.proofs.HeadLaws.{step-tables-say, boundary-le, bytes-hold, bytes-most}
 use Rattle.records.proofs.verdicts.step.Statement.{statement}
 use Rattle.records.proofs.verdicts.step.Tie as tie
 

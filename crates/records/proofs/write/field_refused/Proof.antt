@@ -2,9 +2,8 @@ use mathlib.Core.Path.{sym, _∙_}
 use borrow.Author.Needs.{needs}
 use Rattle.model.specs.Causes.{fieldValues, saltGood}
 use Rattle.model.proofs.Verdicts.{both-fine, past, out}
-use Rattle.checks.proofs.Laws.{both-are, few, mesh-long, salt-asks}
+use Rattle.checks.proofs.Laws.{both-are, few, mesh-long, salt-asks, refuses, passes}
 use Rattle.records.specs.Writing.{fieldWriteVerdict}
-use Rattle.records.proofs.HeadLaws.{refuses, passes}
 use Rattle.records.proofs.WriteLaws.{bytes-said, past-first}
 use Rattle.records.proofs.write.field_refused.Statement.{statement}
 use Rattle.records.proofs.write.field_refused.Tie as tie

@@ -2,9 +2,8 @@ use mathlib.Core.Path.{sym, _∙_}
 use borrow.Author.Needs.{needs}
 use Rattle.model.proofs.Verdicts.{both-fine, out}
 use Rattle.model.proofs.Accepted.{counted}
-use Rattle.checks.proofs.Laws.{both-are, mesh-long}
+use Rattle.checks.proofs.Laws.{both-are, mesh-long, refuses, passes}
 use Rattle.records.specs.Writing.{meshWriteVerdict}
-use Rattle.records.proofs.HeadLaws.{refuses, passes}
 use Rattle.records.proofs.WriteLaws.{bytes-said, past-first}
 use Rattle.records.proofs.write.mesh_refused.Statement.{statement}
 use Rattle.records.proofs.write.mesh_refused.Tie as tie
