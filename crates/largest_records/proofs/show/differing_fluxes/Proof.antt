@@ -1,0 +1,16 @@
+use Prim.Native.Nat.{_≤_, _-_}
+use lib.ListN.{length}
+use borrow.Author.Needs.{needs}
+use Rattle.largest_records.proofs.show.differing_fluxes.Statement.{statement}
+use Rattle.largest_records.proofs.show.differing_fluxes.Tie as tie
+
+abbrev Inv-loop : tie.InvT-loop
+Inv-loop title xs ys count₀ i₀ count i = (i ≤ length xs) × (i ≤ length ys) × (count ≤ i)
+
+abbrev μ-loop : tie.MeasureT-loop
+μ-loop title xs ys count₀ i₀ count i = length xs - i
+
+pub differing-fluxes-spec : {M : Type 1} → statement M
+differing-fluxes-spec =
+    tie.close
+    (tie.spec Inv-loop μ-loop (search needs) (search needs) (search needs) (search needs) (search needs) (search needs) (search needs) (search needs) (search needs) (search needs) (search needs) (search needs))

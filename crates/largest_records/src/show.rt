@@ -1,0 +1,105 @@
+// What is printed of a record that is too long to print whole.
+use libc::STDOUT_FILENO;
+use model::Answer;
+use model::Refusal;
+use records::MeshAnswer;
+use records::WriteAnswer;
+
+// A prime, so that each byte and its place count in a digest.
+const DIGEST: u64 = 4294967291;
+
+pub fn word(text: &[u8]) {
+    io::write_all(STDOUT_FILENO, text);
+}
+
+fn number(n: u64) {
+    word(b" ");
+    io::print_decimal(STDOUT_FILENO, n);
+}
+
+fn refused(refusal: Refusal) {
+    word(b" refused");
+    let cause = refusal.cause;
+    number(model::number(cause));
+    number(refusal.place);
+}
+
+pub fn mesh(said: MeshAnswer) {
+    match said {
+        MeshAnswer::Read(counts) => {
+            word(b" read");
+            number(counts.cells as u64);
+            number(counts.faces as u64);
+        }
+        MeshAnswer::Refused(refusal) => {
+            refused(refusal);
+        }
+    }
+}
+
+pub fn verdict(said: Answer) {
+    match said {
+        Answer::Done => {
+            word(b" read");
+        }
+        Answer::Refused(refusal) => {
+            refused(refusal);
+        }
+    }
+}
+
+fn mixed(sum: u64, byte: u8) -> u64 {
+    ((sum % DIGEST) * 256 + byte as u64) % DIGEST
+}
+
+// The bytes of a record in one number.
+pub fn digest(bytes: &[u8]) {
+    let mut sum: u64 = 0;
+    let mut i = 0;
+    while i < bytes.len() {
+        sum = mixed(sum, bytes[i]);
+        i += 1;
+    }
+    word(b", digest");
+    number(sum);
+    word(b";");
+}
+
+pub fn written(said: WriteAnswer) {
+    match said {
+        WriteAnswer::Written(length) => {
+            word(b" written");
+            number(length);
+        }
+        WriteAnswer::Refused(refusal) => {
+            refused(refusal);
+        }
+    }
+}
+
+// How many entries of two tables differ.
+pub fn differing(title: &[u8], xs: &[u64], ys: &[u64]) {
+    let mut count: u64 = 0;
+    let mut i = 0;
+    while i < xs.len() && i < ys.len() {
+        if xs[i] != ys[i] {
+            count += 1;
+        }
+        i += 1;
+    }
+    word(title);
+    number(count);
+}
+
+pub fn differing_fluxes(title: &[u8], xs: &[i64], ys: &[i64]) {
+    let mut count: u64 = 0;
+    let mut i = 0;
+    while i < xs.len() && i < ys.len() {
+        if xs[i] != ys[i] {
+            count += 1;
+        }
+        i += 1;
+    }
+    word(title);
+    number(count);
+}
