@@ -7,6 +7,8 @@
 import re
 import subprocess
 import sys
+import tempfile
+import xml.etree.ElementTree as xml
 from pathlib import Path
 
 HERE = Path(__file__).resolve().parent
@@ -17,6 +19,7 @@ import generate
 import lagoon
 import records
 
+SVG = "{http://www.w3.org/2000/svg}"
 CHANNEL = (ROOT / "examples" / "channel.txt").read_text()
 GENERATED = 300
 
@@ -151,8 +154,80 @@ def test_hexadecimal():
           "half a byte")
 
 
+# ---------------------------------------------------------------- The picture
+
+def drawn(panel):
+    """The values of each line of a panel, worked out again from its points and the labels of its axis."""
+    labels = sorted((int(text.text.replace(",", "")), float(text.get("y")) - 4) for text in panel.iter(f"{SVG}text")
+                    if text.get("text-anchor") == "end")
+    (low, low_y), (high, high_y) = labels[0], labels[-1]
+    lines = {}
+    for group in panel.iter(f"{SVG}g"):
+        if group.get("class") == "line":
+            heights = [float(point.split(",")[1]) for point in group.find(f"{SVG}polyline").get("points").split()]
+            lines[group.find(f"{SVG}title").text] = [low + (y - low_y) * (high - low) / (high_y - low_y) for y in heights]
+    return lines
+
+
+def near(actual, expected, within, what):
+    equal(len(actual), len(expected), f"{what}, number of points")
+    for got, wanted in zip(actual, expected):
+        equal(abs(got - wanted) <= within, True, f"{what}: {got:.1f} near {wanted}")
+
+
+def test_picture_of_the_channel():
+    data, _ = records.pack(CHANNEL)
+    status, out, said = command("plot.py", data=data)
+    equal((status, said), (0, ""), "the channel drawn")
+    cells, budget = (drawn(panel) for panel in xml.fromstring(out).iter(f"{SVG}g") if panel.get("class") == "panel")
+    equal(list(cells), ["cell 0", "cell 1", "cell 2"], "cells drawn")
+    near(cells["cell 0"], [1000, 1000, 1000], 1, "cell 0")
+    near(cells["cell 1"], [0, 499, 811], 1, "cell 1")
+    near(cells["cell 2"], [0, 0, 187], 1, "cell 2")
+    near(budget["total"], [100000, 150000, 200000], 100, "total")
+    near(budget["in, summed"], [0, 50000, 100000], 100, "in-mass")
+    near(budget["out, summed"], [0, 0, 0], 100, "out-mass")
+
+
+def test_picture_of_the_tide():
+    """The stored picture is that of its session: 49 steps, of which the 25th is refused."""
+    data, _ = records.pack((ROOT / "examples" / "tide.txt").read_text())
+    status, out, _ = command("plot.py", "--cells", "0-7", "--title", "A lagoon between sea and river: two tides", data=data)
+    equal((status, out), (0, (ROOT / "docs" / "tide.svg").read_bytes()), "docs/tide.svg, made by tools/plot.py with these options")
+    cells, budget = (panel for panel in xml.fromstring(out).iter(f"{SVG}g") if panel.get("class") == "panel")
+    equal([len(values) for values in drawn(cells).values()], [50] * 8, "points of the cells")
+    equal(drawn(budget)["total"][24:26], [drawn(budget)["total"][24]] * 2, "the total before and after the refused step")
+    equal([path.find(f"{SVG}title").text for path in budget.iter(f"{SVG}path")], ["step 25 refused", "refused step"], "crosses")
+    status, out, _ = command("plot.py", "--every", "20", data=data)
+    panel = next(panel for panel in xml.fromstring(out).iter(f"{SVG}g") if panel.get("class") == "panel")
+    equal([len(values) for values in drawn(panel).values()], [4] * 8, "points of every 20th step and the last")
+
+
+def test_picture_beside_the_run():
+    """--run compares the run program's lines; a program that prints otherwise is said."""
+    data, _ = records.pack(CHANNEL)
+    with tempfile.TemporaryDirectory() as folder:
+        program = Path(folder) / "run"
+        for printed, status in ((lagoon.run(data), 0), (lagoon.run(data).replace("150000", "150001"), 1), ("", 1)):
+            program.write_text(f"#!/bin/sh\ncat > {folder}/session\ncat <<'END'\n{printed}END\n")
+            program.chmod(0o755)
+            found, _, said = command("plot.py", "--run", str(program), data=data)
+            equal(found, status, f"beside a program that prints {printed[:40]!r}: {said}")
+
+
+def test_no_picture():
+    data, _ = records.pack(CHANNEL)
+    for arguments, given, words in (([], data[:20], "plot.py: the mesh is refused: cause 11, place 0"),
+                                    ([], data[:31] + b"\x10" + data[32:], "plot.py: the field is refused: cause 13, place 0"),
+                                    (["--cells", "3"], data, "plot.py: --cells: the mesh has cells 0 to 2"),
+                                    (["--cells", "0,x"], data, "plot.py: --cells: 'x' is neither")):
+        status, out, said = command("plot.py", *arguments, data=given)
+        equal((status, out, said.startswith(words)), (1, b"", True), said)
+
+
 def test_help():
-    for arguments in (["records.py", "--help"], ["records.py", "pack", "--help"], ["records.py", "unpack", "--help"]):
+    for arguments in (["records.py", "--help"], ["records.py", "pack", "--help"], ["records.py", "unpack", "--help"],
+                      ["plot.py", "--help"]):
         status, out, _ = command(*arguments)
         equal((status, b"examples:" in out), (0, True), f"help of {arguments}")
 
