@@ -2,6 +2,7 @@
 """What pages cite is there: every file, every name that is cited from a file, every quoted line.
 
     python3 tests/cites.py docs/PROMISES.md docs/CALLS.md
+    python3 tests/cites.py --landed docs/PROMISES.md        takes the mark † off what has come
 
 A path in backticks has to exist, from the top folder or from crates/. Names in backticks after it, as in
 `model/specs/Step.antt`: `lo`, `hi` and `moved`, have to be defined in that file. A block whose fence names a file, as in
@@ -19,6 +20,7 @@ SPAN = re.compile(r"([^`]*)`([^`]+)`( ?†)?")
 JOINED = re.compile(r": |, | and |, and ")
 PATH = re.compile(r"[\w.-]+(/[\w.-]+)*/[\w.-]+(\.\w+)?/?|[\w-]+\.(txt|md)")
 FENCE = re.compile(r"```\w+ (\S*/\S*)( †)?")
+MARKED = re.compile(r"(`([^`\n]+)`|^```\w+ (\S*/\S*)) ?†", re.MULTILINE)
 DEFINED = {
     ".antt": r"^\s*(unfoldable |abbrev )?(pub )?(record |data )?{}(?=[ :({{]|$)",
     ".rt": r"\b(fn|struct|enum|const|mod)\s+{}\b",
@@ -101,10 +103,19 @@ def page_faults(page):
     return faults, count
 
 
+def landed(page):
+    """The page without the mark where what it marks is there."""
+    page.write_text(MARKED.sub(lambda mark: mark[1] if found(mark[2] or mark[3]) else mark[0], page.read_text()))
+
+
 def main():
     if len(sys.argv) < 2 or "--help" in sys.argv:
         print(__doc__)
         return 0 if "--help" in sys.argv else 2
+    if sys.argv[1] == "--landed":
+        for page in map(Path, sys.argv[2:]):
+            landed(page)
+        return 0
     faults, count = [], 0
     for page in map(Path, sys.argv[1:]):
         more, cited = page_faults(page)

@@ -94,6 +94,22 @@ def compare_with_run(data, what):
     equal(found[:len(layout)], layout, f"{what}, what is wrong")
     if not printed.startswith(("M", "F")):
         equal(len(found), len(layout), f"{what}, how many records are wrong")
+        compare_values(data, what)
+
+
+def compare_values(data, what):
+    """The values of the mesh, the field and a first good step are those that the reference reads."""
+    (volumes, faces), at = records.read_mesh(data)
+    mesh = lagoon.read_mesh(data[:at])
+    equal((volumes, [tuple(face) for face in faces]), (mesh.volumes, list(zip(*mesh[1:]))), f"{what}, mesh")
+    masses, length = records.read_field(data[at:], len(volumes))
+    equal(masses, lagoon.read_field(data[at:at + length], len(volumes)), f"{what}, field")
+    try:
+        fluxes, outsides = lagoon.read_step(data[at + length:][:lagoon.step_length(len(faces), mesh.seconds)], len(faces), mesh.seconds)
+    except lagoon.Refusal:
+        return
+    step, _ = records.read_step(data[at + length:], faces)
+    equal([(-flux.size if flux.minus else flux.size, flux.outside or 0) for flux in step], list(zip(fluxes, outsides)), f"{what}, step")
 
 
 def test_damage_is_said():

@@ -313,7 +313,9 @@ class Line:
 
 
 def listed(words):
-    return " or ".join(f"'{word}'" for word in words)
+    """'a', 'b' or 'c'"""
+    quoted = [f"'{word}'" for word in words]
+    return " or ".join([", ".join(quoted[:-1])] * (len(quoted) > 1) + quoted[-1:])
 
 
 def most(width):
@@ -366,14 +368,15 @@ class Packer:
             self.records.append(step_record(self.values) * self.times)
 
     def take(self, line):
-        items = {None: (), "mesh": ("cell", "face"), "field": ("cell",), "step": ("face",), "bytes": ()}[self.section]
+        items = {"mesh": {"cell": self.mesh_cell, "face": self.mesh_face}, "field": {"cell": self.field_cell},
+                 "step": {"face": self.step_face}}.get(self.section, {})
         keyword = line.keyword(*items, "mesh", "field", "step", "bytes")
         if keyword == "bytes":
             self.begin(line, keyword)
             self.has_field = self.has_field or self.volumes is not None
             self.bytes_line(line)
         elif keyword in items:
-            getattr(self, f"{self.section}_{keyword}")(line)
+            items[keyword](line)
         else:
             self.begin(line, keyword)
         line.over()
