@@ -1,0 +1,18 @@
+#!/usr/bin/env bash
+# Every figure of docs/ARITHMETIC.md is the one that tools/worked.py works out; and that test does find a wrong one.
+set -eu
+cd "$(dirname "$0")/.."
+page=docs/ARITHMETIC.md
+python3 tools/worked.py --check "$page"
+
+made=$(mktemp -d)
+trap 'rm -r "$made"' EXIT
+found() { # SED-EXPRESSION: the page changed by it has to be refused
+  sed "$1" "$page" > "$made/page.md"
+  if cmp -s "$page" "$made/page.md"; then echo "$1 changes nothing"; exit 1; fi
+  if python3 tools/worked.py --check "$made/page.md" > "$made/said" 2>&1; then echo "$1 is not found"; exit 1; fi
+}
+found 's/= 81188/= 81189/'
+found 's/−6262, 12800 left over/−6263, 12800 left over/'
+found 's/s and K are 0/s and K are 77/'
+found '/worked: step-2/d'
