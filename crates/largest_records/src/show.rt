@@ -4,6 +4,7 @@ use model::Answer;
 use model::Refusal;
 use records::MeshAnswer;
 use records::WriteAnswer;
+ghost use Prim.Native.Nat.{_≤_};
 
 // A prime, so that each byte and its place count in a digest.
 const DIGEST: u64 = 4294967291;
@@ -77,27 +78,51 @@ pub fn written(said: WriteAnswer) {
     }
 }
 
-// How many entries of two tables differ.
+// 1 where the entries at a place differ, or one is missing.
+fn differ(xs: &[u64], ys: &[u64], i: usize) -> u64
+    ensures { λ r. ⌜ r ≤ 1 ⌝ }
+{
+    if i < xs.len() {
+        if i < ys.len() {
+            if xs[i] == ys[i] {
+                return 0;
+            }
+        }
+    }
+    1
+}
+
+// How many entries of a table differ from those of another.
 pub fn differing(title: &[u8], xs: &[u64], ys: &[u64]) {
     let mut count: u64 = 0;
     let mut i = 0;
-    while i < xs.len() && i < ys.len() {
-        if xs[i] != ys[i] {
-            count += 1;
-        }
+    while i < xs.len() {
+        count += differ(xs, ys, i);
         i += 1;
     }
     word(title);
     number(count);
 }
 
+// 1 where the entries at a place differ, or one is missing.
+fn fluxes_differ(xs: &[i64], ys: &[i64], i: usize) -> u64
+    ensures { λ r. ⌜ r ≤ 1 ⌝ }
+{
+    if i < xs.len() {
+        if i < ys.len() {
+            if xs[i] == ys[i] {
+                return 0;
+            }
+        }
+    }
+    1
+}
+
 pub fn differing_fluxes(title: &[u8], xs: &[i64], ys: &[i64]) {
     let mut count: u64 = 0;
     let mut i = 0;
-    while i < xs.len() && i < ys.len() {
-        if xs[i] != ys[i] {
-            count += 1;
-        }
+    while i < xs.len() {
+        count += fluxes_differ(xs, ys, i);
         i += 1;
     }
     word(title);

@@ -5,7 +5,7 @@ use Rattle.largest_records.proofs.show.differing_fluxes.Statement.{stat
 use Rattle.largest_records.proofs.show.differing_fluxes.Tie as tie
 
 abbrev Inv-loop : tie.InvT-loop
-Inv-loop title xs ys count₀ i₀ count i = (i ≤ length xs) × (i ≤ length ys) × (count ≤ i)
+Inv-loop title xs ys count₀ i₀ count i = (i ≤ length xs) × (count ≤ i)
 
 abbrev μ-loop : tie.MeasureT-loop
 μ-loop title xs ys count₀ i₀ count i = length xs - i
@@ -13,4 +13,4 @@ abbrev μ-loop : tie.MeasureT-loop
 pub differing-fluxes-spec : {M : Type 1} → statement M
 differing-fluxes-spec =
     tie.close
-    (tie.spec Inv-loop μ-loop (search needs) (search needs) (search needs) (search needs) (search needs) (search needs) (search needs) (search needs) (search needs) (search needs) (search needs) (search needs))
+    (tie.spec Inv-loop μ-loop (search needs) (search needs) (search needs) (search needs) (search needs) (search needs) (search needs) (search needs) (search needs))
