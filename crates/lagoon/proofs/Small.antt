@@ -1,5 +1,5 @@
--- The number of every refusal that the host's call can come to fits into 64 bits: causes are 1 to 13, and places are counted in tables
--- within the limits, or in the bits of a record whose length has been tested.
+-- Every refusal that the host's call can come to has a cause of 1 to 13 and a place below 2 ^ 32: places are counted in tables within the
+-- limits, or in the bits of a record whose length has been tested. So its number fits into 64 bits, and a host can take it apart.
 use Prim.Native.Nat.{ℕ, zero, suc, _+_, _*_, _^_, _≤_, _<_}
 use mathlib.Core.Path.{_≡_, refl}
 use mathlib.Core.Bool.{Bool, true, false}
@@ -17,8 +17,15 @@ use Rattle.records.specs.Reading.{cellsIn, facesIn, meshHeadVerdict, meshBodyVe
 use Rattle.records.proofs.HeadLaws.{boundary-le}
 use Rattle.lagoon.specs.Host.{runCells, runFaces, causeStep, numberOf, meshTested, fieldTested, stepTested, hostVerdict}
 
+abbrev pub Parts : ℕ → ℕ → Type 0
+Parts cause place = (1 ≤ cause) × (cause ≤ 13) × (place < causeStep)
+
+abbrev SmallParts : Verdict → Type 0
+SmallParts (accepted _) = Unit {0}
+SmallParts (refused cause place) = Parts cause place
+
 record Small (v : Verdict) : Type 0 where
-  fits : numberOf v < 2 ^ 64
+  parts : SmallParts v
 
 small-then : (v w : Verdict) → Small v → (v ≡ fine → Small w) → Small (v andThen w)
 unfolding _andThen_
@@ -28,15 +35,19 @@ small-then (refused k i) w s f = s
 small-and : {v w : Verdict} → Small v → Small w → Small (v andThen w)
 small-and {v = v} {w = w} s t = small-then v w s (λ e. t)
 
-small-need : (k i : ℕ) (b : Bool) → causeStep * k + i < 2 ^ 64 → Small (need k i b)
+small-need : (k i : ℕ) (b : Bool) → Parts k i → Small (need k i b)
 unfolding need
-small-need k i true h = record { fits = omega arith }
-small-need k i false h = record { fits = h }
+small-need k i true h = record { parts = tt }
+small-need k i false h = record { parts = h }
 
-small-each : (k n : ℕ) (good : ℕ → Bool) → causeStep * k + n < 2 ^ 64 → Small (each k n good)
+small-each : (k n : ℕ) (good : ℕ → Bool) → Parts k n → Small (each k n good)
 unfolding each
-small-each k zero good h = record { fits = omega arith }
-small-each k (suc n) good h = small-and (small-each k n good (omega arith)) (small-need k n (good n) (omega arith))
+small-each k zero good h = record { parts = tt }
+small-each k (suc n) good h = small-and (small-each k n good (omega (arith, h))) (small-need k n (good n) (omega (arith, h)))
+
+small-number : (v : Verdict) → SmallParts v → numberOf v < 2 ^ 64
+small-number (accepted t) s = omega arith
+small-number (refused k i) s = omega (arith, s)
 
 few-cells : (mesh : List ℕ) → cellsIn mesh < 4096
 few-cells mesh = bits-lt mesh kindBits cellsBits
@@ -90,6 +101,13 @@ module _ (mesh field step : List ℕ) where
       (small-and (small-and (small-and (small-and (small-and (small-need 11 0 _ (omega arith)) (small-need 13 0 _ (omega arith))) (small-need 13 1 _ (omega arith))) (small-need 1 1 _ (omega arith))) (small-need 2 2 _ (omega arith))) step-body)
       (small-and (small-and (small-and (small-each 7 _ _ (omega (arith, few-faces mesh))) (small-each 8 _ _ (omega (arith, few-faces mesh)))) (small-each 9 _ _ (omega (arith, few-cells mesh)))) (small-each 10 _ _ (omega (arith, few-cells mesh))))
 
-  pub number-fits : (room : ℕ) → numberOf (hostVerdict mesh field step room) < 2 ^ 64
+  host-small : (room : ℕ) → Small (hostVerdict mesh field step room)
   unfolding hostVerdict
-  number-fits room = (small-and (small-and (small-and mesh-small field-small) step-small) (small-need 2 11 _ (omega arith))) .fits
+  host-small room = small-and (small-and (small-and mesh-small field-small) step-small) (small-need 2 11 _ (omega arith))
+
+  pub number-fits : (room : ℕ) → numberOf (hostVerdict mesh field step room) < 2 ^ 64
+  number-fits room = small-number (hostVerdict mesh field step room) (host-small room .parts)
+
+  -- a number that is not 0 has one cause and one place
+  pub taken-apart : (room cause place : ℕ) → hostVerdict mesh field step room ≡ refused cause place → Parts cause place
+  taken-apart room cause place e = rw e at (host-small room .parts)
