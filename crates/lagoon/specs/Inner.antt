@@ -7,12 +7,12 @@ use lib.ListN.{length}
 use Rattle.lists.specs.Table.{table, over}
 use Rattle.model.specs.Mesh.{Mesh}
 use Rattle.model.specs.Step.{next}
-use Rattle.model.specs.Causes.{Verdict, fine, _andThen_, taken, long, inputOf, meshVerdict, meshValues, fieldVerdict, fieldValues, stepValues}
+use Rattle.model.specs.Causes.{Verdict, fine, _andThen_, taken, workLength, inputOf, meshVerdict, meshValues, fieldVerdict, fieldValues, stepValues}
 use Rattle.model.specs.Answers.{said}
 use Rattle.model.specs.declared.Answer.{Answer}
 use Rattle.records.specs.Layouts.{fieldRecord, fieldLength}
 use Rattle.records.specs.Reading.{massesIn, fluxesIn, outsidesIn, fieldRead, stepRead}
-use Rattle.records.specs.Writing.{waterOf}
+use Rattle.records.specs.Writing.{waterOf, bytesLong}
 use Rattle.lagoon.specs.Host.{runCells, runFaces, hostVerdict, hostBytes}
 
 -- the bytes after a call that comes to v and, where it is accepted, leaves the masses m
@@ -24,51 +24,87 @@ pub record Comes (v : Verdict) (cells : ℕ) (m bytes : List ℕ) (r : Answer) (
   pub answer : said r ≡ v
   pub bytes-after : bytes′ ≡ bytesAfter v cells m bytes
 
--- from the step on: fluxes and outside values are read
-abbrev pub onWater : Mesh → List ℕ → List ℤ → List ℕ → ℕ → Verdict
-onWater M masses fluxes outsides room = stepValues M masses (waterOf fluxes outsides) andThen long 11 (fieldLength (M .cells)) room
+module _ (M : Mesh) where
+  -- from the step on: fluxes and outside values are read
+  abbrev pub onWater : List ℕ → List ℤ → List ℕ → ℕ → Verdict
+  onWater masses fluxes outsides room = stepValues M masses (waterOf fluxes outsides) andThen bytesLong (fieldLength (M .cells)) room
 
-abbrev pub nextOf : Mesh → List ℕ → List ℤ → List ℕ → List ℕ
-nextOf M masses fluxes outsides = table (M .cells) (next (inputOf M masses (waterOf fluxes outsides)))
+  abbrev pub nextOf : List ℕ → List ℤ → List ℕ → List ℕ
+  nextOf masses fluxes outsides = table (M .cells) (next (inputOf M masses (waterOf fluxes outsides)))
 
--- from the step record on
-abbrev pub onStep : Mesh → List ℕ → List ℕ → ℕ → Verdict
-onStep M masses step room = stepRead (M .faces) (M .seconds) step runFaces runFaces andThen onWater M masses (fluxesIn step (M .faces)) (outsidesIn step (M .faces) (M .seconds)) room
+  abbrev pub WaterComes : List ℕ → List ℤ → List ℕ → List ℕ → Answer → List ℕ → Type 0
+  WaterComes masses fluxes outsides bytes = Comes (onWater masses fluxes outsides (length bytes)) (M .cells) (nextOf masses fluxes outsides) bytes
 
--- from the field record on
-abbrev pub onField : Mesh → List ℕ → List ℕ → ℕ → Verdict
-onField M field step room = fieldRead (M .cells) field runCells andThen (fieldValues M (massesIn field (M .cells)) andThen onStep M (massesIn field (M .cells)) step room)
+  -- from the step record on
+  abbrev pub onStep : List ℕ → List ℕ → ℕ → Verdict
+  onStep masses step room = stepRead (M .faces) (M .seconds) step runFaces runFaces andThen onWater masses (fluxesIn step (M .faces)) (outsidesIn step (M .faces) (M .seconds)) room
 
--- from the values of the mesh on
-abbrev pub onMesh : Mesh → List ℕ → List ℕ → ℕ → Verdict
-onMesh M field step room = meshValues M andThen onField M field step room
+  abbrev pub nextBy : List ℕ → List ℕ → List ℕ
+  nextBy masses step = nextOf masses (fluxesIn step (M .faces)) (outsidesIn step (M .faces) (M .seconds))
+
+  abbrev pub StepComes : List ℕ → List ℕ → List ℕ → Answer → List ℕ → Type 0
+  StepComes masses step bytes = Comes (onStep masses step (length bytes)) (M .cells) (nextBy masses step) bytes
+
+  -- from the field record on
+  abbrev pub onField : List ℕ → List ℕ → ℕ → Verdict
+  onField field step room = fieldRead (M .cells) field runCells andThen (fieldValues M (massesIn field (M .cells)) andThen onStep (massesIn field (M .cells)) step room)
+
+  abbrev pub FieldComes : List ℕ → List ℕ → List ℕ → Answer → List ℕ → Type 0
+  FieldComes field step bytes = Comes (onField field step (length bytes)) (M .cells) (nextBy (massesIn field (M .cells)) step) bytes
+
+  -- from the values of the mesh on
+  abbrev pub onMesh : List ℕ → List ℕ → ℕ → Verdict
+  onMesh field step room = meshValues M andThen onField field step room
+
+  abbrev pub MeshComes : List ℕ → List ℕ → List ℕ → Answer → List ℕ → Type 0
+  MeshComes field step bytes = Comes (onMesh field step (length bytes)) (M .cells) (nextBy (massesIn field (M .cells)) step) bytes
+
+-- all of it
+pub record HostComes (mesh field step bytes : List ℕ) (r : Answer) (bytes′ : List ℕ) : Type 0 where
+  pub answer : said r ≡ hostVerdict mesh field step (length bytes)
+  pub bytes-after : bytes′ ≡ hostBytes mesh field step bytes
 
 -- tables as long as the run's limits, lent for what is read and worked out
-pub record WaterScratch (fluxes : List ℤ) (outsides nexts : List ℕ) (moveds : List ℤ) (work : List ℕ) : Type 0 where
-  pub fluxes-long : length fluxes ≡ 2046
-  pub outsides-long : length outsides ≡ 2046
-  pub nexts-long : length nexts ≡ 1023
-  pub moveds-long : length moveds ≡ 2046
-  pub work-long : length work ≡ 6138
+pub record MeshScratch (volumes firsts seconds weights spans : List ℕ) : Type 0 where
+  pub volumes-long : length volumes ≡ runCells
+  pub firsts-long : length firsts ≡ runFaces
+  pub seconds-long : length seconds ≡ runFaces
+  pub weights-long : length weights ≡ runFaces
+  pub spans-long : length spans ≡ runFaces
 
--- a mesh that is accepted and within the run's limits
-pub record MeshFine (M : Mesh) : Type 0 where
-  pub accepted : meshVerdict M ≡ fine
-  pub few-cells : M .cells ≤ 1023
-  pub few-faces : M .faces ≤ 2046
+pub record WaterScratch (fluxes : List ℤ) (outsides nexts : List ℕ) (moveds : List ℤ) (work : List ℕ) : Type 0 where
+  pub fluxes-long : length fluxes ≡ runFaces
+  pub outsides-long : length outsides ≡ runFaces
+  pub nexts-long : length nexts ≡ runCells
+  pub moveds-long : length moveds ≡ runFaces
+  pub work-long : length work ≡ 4 * runCells + runFaces
+
+-- their parts that are lent to a step, as long as the counts
+pub record StepLent (M : Mesh) (fluxes : List ℤ) (outsides nexts : List ℕ) (moveds : List ℤ) (work : List ℕ) : Type 0 where
+  pub fluxes-long : length fluxes ≡ M .faces
+  pub outsides-long : length outsides ≡ M .faces
+  pub nexts-long : length nexts ≡ M .cells
+  pub moveds-long : length moveds ≡ M .faces
+  pub work-long : length work ≡ workLength M
 
 -- a mesh whose record is read: its counts are within the run's limits, and its tables as long as they
 pub record MeshRead (M : Mesh) : Type 0 where
   pub some-cells : 1 ≤ M .cells
-  pub few-cells : M .cells ≤ 1023
-  pub few-faces : M .faces ≤ 2046
+  pub few-cells : M .cells ≤ runCells
+  pub few-faces : M .faces ≤ runFaces
   pub volumes-long : length (M .volumes) ≡ M .cells
   pub firsts-long : length (M .firsts) ≡ M .faces
   pub seconds-long : length (M .seconds) ≡ M .faces
   pub weights-long : length (M .weights) ≡ M .faces
   pub spans-long : length (M .spans) ≡ M .faces
 
--- all of it
-pub record HostComes (mesh field step bytes : List ℕ) (r : Answer) (bytes′ : List ℕ) : Type 0 where
-  pub answer : said r ≡ hostVerdict mesh field step (length bytes)
-  pub bytes-after : bytes′ ≡ hostBytes mesh field step bytes
+-- a mesh that is accepted and within the run's limits
+pub record MeshFine (M : Mesh) : Type 0 where
+  pub accepted : meshVerdict M ≡ fine
+  pub few-cells : M .cells ≤ runCells
+  pub few-faces : M .faces ≤ runFaces
+
+-- and a field on it that is accepted
+pub record FieldFine (M : Mesh) (masses : List ℕ) : Type 0 where
+  pub mesh-fine : MeshFine M
+  pub accepted : fieldVerdict M masses ≡ fine

@@ -4,7 +4,10 @@ use Rattle.lagoon.proofs.on_arrays.Statement.{statement}
 use Rattle.lagoon.proofs.on_arrays.Tie as tie
 
 on-records-requires : tie.Need-on-records-requires
-on-records-requires c κs = ((refl, refl, refl, refl, refl, refl), record { fluxes-long = refl; outsides-long = refl; nexts-long = refl; moveds-long = refl; work-long = refl })
+on-records-requires c κs = (
+  (record { volumes-long = refl; firsts-long = refl; seconds-long = refl; weights-long = refl; spans-long = refl }, refl),
+  record { fluxes-long = refl; outsides-long = refl; nexts-long = refl; moveds-long = refl; work-long = refl },
+)
 
 pub on-arrays-spec : {M : Type 1} → statement M
 on-arrays-spec =

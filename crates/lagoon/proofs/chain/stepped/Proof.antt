@@ -1,10 +1,8 @@
-use mathlib.Core.Path.{_≡_, refl, sym, ap, _∙_}
-use native.Mathlib.Omega.{arith}
 use borrow.Author.Needs.{needs}
 use Rattle.model.specs.Mesh.{Mesh, meshOf}
 use Rattle.lagoon.proofs.Calls.{step-refused, step-written, step-no-room}
-use Rattle.lagoon.proofs.stepped.Statement.{statement}
-use Rattle.lagoon.proofs.stepped.Tie as tie
+use Rattle.lagoon.proofs.chain.stepped.Statement.{statement}
+use Rattle.lagoon.proofs.chain.stepped.Tie as tie
 
 abbrev mesh : tie.Start → Mesh
 mesh s = meshOf (s .args .cells) (s .args .faces) (s .args .volumes .now) (s .args .firsts .now) (s .args .seconds .now) (s .args .weights .now) (s .args .spans .now)

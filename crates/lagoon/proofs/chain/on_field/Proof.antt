@@ -1,11 +1,10 @@
-use mathlib.Core.Path.{_≡_, refl, sym, ap, _∙_}
-use native.Mathlib.Omega.{arith}
+use mathlib.Core.Path.{sym}
 use borrow.Author.Needs.{needs}
 use lib.Seq.{length-take-le}
 use Rattle.model.specs.Mesh.{Mesh, meshOf}
 use Rattle.lagoon.proofs.Calls.{field-unread, field-read, salt-refused, salt-accepted, field-done}
-use Rattle.lagoon.proofs.on_field.Statement.{statement}
-use Rattle.lagoon.proofs.on_field.Tie as tie
+use Rattle.lagoon.proofs.chain.on_field.Statement.{statement}
+use Rattle.lagoon.proofs.chain.on_field.Tie as tie
 
 abbrev mesh : tie.Start → Mesh
 mesh s = meshOf (s .args .cells) (s .args .faces) (s .args .volumes .now) (s .args .firsts .now) (s .args .seconds .now) (s .args .weights .now) (s .args .spans .now)
@@ -35,7 +34,7 @@ on-step-requires : tie.Need-on-step-requires
 on-step-requires c κs =
     let s = c .before .before .before .before .before .before .before .before .before .before .before .before .before .before .before .before .before .before .before .before .before .before .before .before .before .before .before .before in
     let f = field-read (mesh s) (s .args .field .now) (s .args .masses .now) (s .pre .0 .1) (s .pre .0 .0 .few-cells) _ _ (c .before .before .before .before .before .before .before .before .before .before .before .before .before .before .read-field .ensures) (c .before .before .before .before .before .before .before .before .before .before .enum-told .given .1) in
-    ((s .pre .0 .0, salt-accepted (mesh s) (s .args .field .now) (s .args .step .now) (s .args .bytes .now) (s .pre .0 .0 .accepted) (f .passed) _ (f .part) _ (c .before .before .before .before .before .before .before .before .check-field .ensures) (c .before .before .before .before .before .before .enum-told2 .given .1)), s .pre .1)
+    (record { mesh-fine = s .pre .0 .0; accepted = salt-accepted (mesh s) (s .args .field .now) (s .args .step .now) (s .args .bytes .now) (s .pre .0 .0 .accepted) (f .passed) _ (f .part) _ (c .before .before .before .before .before .before .before .before .check-field .ensures) (c .before .before .before .before .before .before .enum-told2 .given .1) }, s .pre .1)
 
 returns-3 : tie.Need-returns-3
 returns-3 c =

@@ -1,0 +1,28 @@
+#!/usr/bin/env bash
+# The host's call from C: the example prints document 01's channel session, and the call agrees with the reference program.
+set -euo pipefail
+cd "$(dirname "$0")/.."
+out=target/host
+strict="-std=c11 -Wall -Wextra -Werror -pedantic -O2 -g"
+mkdir -p "$out"
+rt staticlib lagoon
+lib=target/staticlib/liblagoon.a
+
+gcc $strict -Iinclude examples/host.c "$lib" -o "$out/host"
+"$out/host" | diff examples/host.out -
+
+# within the stack that include/lagoon.h names, in KiB
+(ulimit -s 320; "$out/host") | diff examples/host.out -
+
+# the example under the sanitizers, and the library, which is built without them, under valgrind where it is there
+gcc $strict -fsanitize=address,undefined -fno-sanitize-recover=all -Iinclude examples/host.c "$lib" -o "$out/host_checked"
+"$out/host_checked" | diff examples/host.out -
+if command -v valgrind >/dev/null; then
+  valgrind -q --error-exitcode=1 "$out/host" | diff examples/host.out -
+else
+  echo "no valgrind here: only the guard pages below watch the library's own accesses"
+fi
+
+# every cause, beside the reference; each buffer ends at a page that may not be touched
+gcc $strict -DGUARD_PAGES reference/call_driver.c "$lib" -o "$out/call_driver"
+python3 reference/compare.py --call "$out/call_driver" --sessions 1000 --seed 1
