@@ -10,7 +10,7 @@ use Rattle.lists.specs.Table.{table, over}
 use Rattle.lists.proofs.Tables.{length-table, length-over}
 use Rattle.lists.proofs.Tests.{leb-le}
 use Rattle.model.proofs.Verdicts.{both-fine, need-fine}
-use Rattle.model.specs.Mesh.{Mesh, meshOf}
+use Rattle.model.specs.Mesh.{Mesh, meshOf, runCells, runFaces}
 use Rattle.model.specs.Causes.{Outcome, accepted, refused, Verdict, fine, _andThen_, taken, callOf, countsWithin, meshVerdict, fieldValues, fieldVerdict, meshFieldVerdict, verdict}
 use Rattle.model.specs.Answers.{number, told, said}
 use Rattle.model.specs.Calls.{nextTable, stepAnswer}
@@ -29,7 +29,7 @@ use Rattle.records.specs.declared.MeshAnswer.the-variants as mesh-answer
 use Rattle.records.specs.declared.Counts.{Counts}
 use Rattle.records.specs.declared.WriteAnswer.{WriteAnswer}
 use Rattle.records.specs.declared.WriteAnswer.the-variants as write
-use Rattle.lagoon.specs.Host.{runCells, runFaces, meshTested, fieldTested, stepTested, hostVerdict, hostBytes}
+use Rattle.lagoon.specs.Host.{meshTested, fieldTested, stepTested, hostVerdict, hostBytes}
 use Rattle.lagoon.specs.Inner.{Comes, onWater, nextOf, WaterComes, onStep, nextBy, StepComes, onField, FieldComes, onMesh, MeshComes, HostComes, MeshScratch, WaterScratch, StepLent, MeshRead, MeshFine, FieldFine}
 use Rattle.lagoon.proofs.Stages.{comes-out, comes-past, refused-of, accepted-of, part-read, water-refused, nexts-are, written, no-room, values-left, salt-left}
 

@@ -1,14 +1,13 @@
 // The host's call from its last stage back to its first. Each function has the tables of its stage and hands the rest on.
-use crate::RUN_CELLS;
-use crate::RUN_FACES;
 use model::Answer;
+use model::RUN_CELLS;
+use model::RUN_FACES;
 use records::MeshAnswer;
 use records::WriteAnswer;
 use transport::StepAnswer;
 ghost use mathlib.Core.Path.{_≡_};
 ghost use lib.ListN.{length};
-ghost use Rattle.model.specs.Mesh.{meshOf};
-ghost use Rattle.lagoon.specs.Host.{runCells};
+ghost use Rattle.model.specs.Mesh.{meshOf, runCells};
 ghost use Rattle.lagoon.specs.Inner.{WaterComes, StepComes, FieldComes, MeshComes, HostComes, MeshScratch, WaterScratch, StepLent, MeshRead, MeshFine, FieldFine};
 
 // The step on tables as long as the counts, and its next masses written.

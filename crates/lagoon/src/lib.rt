@@ -2,17 +2,15 @@
 mod chain;
 
 use model::Answer;
+use model::RUN_CELLS;
+use model::RUN_FACES;
 ghost use mathlib.Core.Path.{_≡_};
 ghost use Prim.Native.Nat.{_<_, _^_};
 ghost use Rattle.model.specs.Answers.{said};
 ghost use Rattle.lagoon.specs.Host.{numberOf, HostPromise};
 ghost use Rattle.lagoon.specs.Inner.{HostComes};
 
-// The run's limits.
-pub const RUN_CELLS: usize = 1023;
-
-pub const RUN_FACES: usize = 2046;
-
+// Entries of a step's work: four for each cell and one for each face.
 const RUN_WORK: usize = 4 * RUN_CELLS + RUN_FACES;
 
 // What one more in the cause adds to the number of a refusal.

@@ -88,6 +88,11 @@ pub greatest-more : (n s : ℕ) (f : ℕ → ℕ) → greatest (n + 1) s f ≡ m
 unfolding greatest
 greatest-more n s f = rw (add-one n)
 
+pub least-cong : (n s t : ℕ) (f g : ℕ → ℕ) → s ≡ t → ((i : ℕ) → i < n → f i ≡ g i) → least n s f ≡ least n t g
+unfolding least
+least-cong zero s t f g e h = e
+least-cong (suc n) s t f g e h = rw (least-cong n s t f g e (λ i l. h i (omega arith)), h n (omega arith))
+
 pub least-start : (n s : ℕ) (f : ℕ → ℕ) → least n s f ≤ s
 unfolding least
 least-start zero s f = omega arith
@@ -106,6 +111,11 @@ pub least-same : (n s : ℕ) (f : ℕ → ℕ) → ((i : ℕ) → i < n → f i 
 unfolding least
 least-same zero s f h = refl
 least-same (suc n) s f h = rw (least-same n s f (λ i l. h i (omega arith)), h n (omega arith)) (omega arith)
+
+pub greatest-cong : (n s t : ℕ) (f g : ℕ → ℕ) → s ≡ t → ((i : ℕ) → i < n → f i ≡ g i) → greatest n s f ≡ greatest n t g
+unfolding greatest
+greatest-cong zero s t f g e h = e
+greatest-cong (suc n) s t f g e h = rw (greatest-cong n s t f g e (λ i l. h i (omega arith)), h n (omega arith))
 
 pub greatest-start : (n s : ℕ) (f : ℕ → ℕ) → s ≤ greatest n s f
 unfolding greatest

@@ -15,6 +15,13 @@ maxCells = 4095
 abbrev pub maxFaces : ℕ
 maxFaces = 8190
 
+-- The run program "takes up to 1,023 cells and 2,046 faces"; the host's call is "within the run program's limits"
+abbrev pub runCells : ℕ
+runCells = 1023
+
+abbrev pub runFaces : ℕ
+runFaces = 2046
+
 -- "A cell has a volume V, 1 to 4,095."
 abbrev pub maxVolume : ℕ
 maxVolume = 4095

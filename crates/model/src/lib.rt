@@ -7,6 +7,11 @@ pub const MAX_CELLS: usize = 4095;
 
 pub const MAX_FACES: usize = 8190;
 
+// Most cells and faces that the run and the host's call take.
+pub const RUN_CELLS: usize = 1023;
+
+pub const RUN_FACES: usize = 2046;
+
 // The mark in the place of a second cell: beyond the face is the boundary (document 01: the rim).
 pub const BOUNDARY: u64 = 4095;
 

@@ -1,5 +1,5 @@
 -- Entries past the counts mean nothing: a step on tables cut to their counts has the same neighbourhoods and the same in- and out-mass.
-use Prim.Native.Nat.{ℕ, zero, suc, _/_, _≤_, _<_}
+use Prim.Native.Nat.{ℕ, _/_, _≤_, _<_}
 use mathlib.Core.Path.{_≡_, refl}
 use mathlib.Core.Logic.{_≢_}
 use mathlib.Core.Bool.{Bool, true, false, cond}
@@ -8,10 +8,9 @@ use native.Mathlib.Omega.{arith}
 use lib.Dec.{eqb}
 use lib.IntN.{ℤ}
 use lib.ListN.{length}
-use Rattle.lists.specs.Fold.{least, greatest}
 use Rattle.lists.specs.Table.{table}
 use Rattle.lists.proofs.Tests.{Same, other, same?}
-use Rattle.lists.proofs.Sums.{sum-cong}
+use Rattle.lists.proofs.Sums.{sum-cong, least-cong, greatest-cong}
 use Rattle.lists.proofs.Tables.{getD-table}
 use Rattle.signed.specs.Sign.{isZero, isNegative}
 use Rattle.model.specs.Mesh.{Mesh, meshOf, volume, first, second, weight, span, boundary, total}
@@ -21,16 +20,6 @@ use Rattle.model.specs.Calls.{massIn, Bounded, Left}
 use Rattle.model.proofs.Verdicts.{both-fine}
 use Rattle.model.proofs.Accepted.{MeshFit, field-fit, field-accepted}
 use Rattle.model.proofs.Lists.{Fair}
-
-least-cong : (n s t : ℕ) (f g : ℕ → ℕ) → s ≡ t → ((i : ℕ) → i < n → f i ≡ g i) → least n s f ≡ least n t g
-unfolding least
-least-cong zero s t f g e h = e
-least-cong (suc n) s t f g e h = rw (least-cong n s t f g e (λ i l. h i (omega arith)), h n (omega arith))
-
-greatest-cong : (n s t : ℕ) (f g : ℕ → ℕ) → s ≡ t → ((i : ℕ) → i < n → f i ≡ g i) → greatest n s f ≡ greatest n t g
-unfolding greatest
-greatest-cong zero s t f g e h = e
-greatest-cong (suc n) s t f g e h = rw (greatest-cong n s t f g e (λ i l. h i (omega arith)), h n (omega arith))
 
 -- what a cell meets at a face rests on few concentrations
 meets : (z : ℤ) (k l c o : ℕ) (p q : ℕ → ℕ) → p c ≡ q c → p l ≡ q l → (k ≢ boundary → p k ≡ q k)
