@@ -10,6 +10,7 @@ use session::Line;
 use session::RECORD;
 use session::RUN_CELLS;
 use session::RUN_FACES;
+use session::StepTaken;
 ghost use Prim.Native.Nat.{_≤_};
 ghost use lib.ListN.{length};
 ghost use Rattle.io.specs.Counts.{Counts};
@@ -26,6 +27,14 @@ fn print(line: Line) -> bool
 fn print_refusal(letter: u8, refusal: Refusal) {
     let cause = refusal.cause;
     print(session::refusal_line(letter, model::number(cause), refusal.place));
+}
+
+// The line of a step. A refused one is skipped, unless it ends the run. Answers whether another may follow.
+fn print_step(step: u64, taken: StepTaken) -> bool {
+    let StepTaken::Stepped(printed) = taken else {
+        return print(session::taken_line(step, taken)) && session::goes_on(taken);
+    };
+    print(session::step_line(step, printed.entered, printed.gone, printed.total))
 }
 
 // Reads one step, takes it and prints its line. Answers whether another may follow.
@@ -68,7 +77,7 @@ fn step_once(
         moved,
         work,
     );
-    print(session::taken_line(step, taken)) && session::goes_on(taken)
+    print_step(step, taken)
 }
 
 // The steps, one after another. A proved loop has to end and nothing says that the input does, so the step number stops it: at a
@@ -92,10 +101,9 @@ fn steps(
     requires { ⌜ 4 ≤ length (now buffer) ⌝ }
 {
     let mut step: u64 = 0;
-    let mut more = true;
-    while more && step < u64::MAX {
+    while step < u64::MAX {
         step += 1;
-        more = step_once(
+        let more = step_once(
             step,
             cells,
             faces,
@@ -112,6 +120,9 @@ fn steps(
             moved,
             work,
         );
+        if !more {
+            return;
+        }
     }
 }
 

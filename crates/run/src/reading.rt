@@ -1,10 +1,10 @@
 // Records read from standard input: a head, and then as many bytes as it asks for.
 use libc::STDIN_FILENO;
+use records::LengthAnswer;
 use session::RUN_CELLS;
 use session::RUN_FACES;
-ghost use mathlib.Core.Path.{_≡_};
-ghost use Prim.Native.Nat.{_≤_, _+_};
-ghost use lib.ListN.{length, take};
+ghost use Prim.Native.Nat.{_≤_};
+ghost use lib.ListN.{length};
 ghost use Rattle.io.specs.Counts.{Counts};
 
 // Bytes of the heads.
@@ -17,10 +17,19 @@ const STEP_HEAD: usize = 4;
 // Bytes read into buffer[from..to]. Answers where they end.
 fn bytes(buffer: &mut [u8], from: usize, to: usize) -> usize
     requires { ⌜ (from ≤ to) × (to ≤ length (now buffer)) ⌝ }
-    ensures { λ r. ⌜ (from ≤ r) × (r ≤ to) ⌝ }
+    ensures { λ r. ⌜ Counts r (now (buffer .exit)) ⌝ }
 {
     let more = io::read_full(STDIN_FILENO, &mut buffer[from..to]);
     from + more
+}
+
+// What is left of a record of which `got` bytes have come. Answers how many have come then.
+fn rest(answer: LengthAnswer, got: usize, buffer: &mut [u8]) -> usize
+    requires { ⌜ got ≤ length (now buffer) ⌝ }
+    ensures { λ r. ⌜ Counts r (now (buffer .exit)) ⌝ }
+{
+    let more = session::rest(answer, got, buffer.len());
+    bytes(buffer, got, got + more)
 }
 
 pub fn mesh(buffer: &mut [u8]) -> usize
@@ -29,8 +38,7 @@ pub fn mesh(buffer: &mut [u8]) -> usize
 {
     let got = bytes(buffer, 0, MESH_HEAD);
     let answer = records::mesh_length(RUN_CELLS, RUN_FACES, &buffer[..got]);
-    let rest = session::rest(answer, got, buffer.len());
-    bytes(buffer, got, got + rest)
+    rest(answer, got, buffer)
 }
 
 pub fn field(cells: usize, buffer: &mut [u8]) -> usize
@@ -39,8 +47,7 @@ pub fn field(cells: usize, buffer: &mut [u8]) -> usize
 {
     let got = bytes(buffer, 0, FIELD_HEAD);
     let answer = records::field_length(cells, &buffer[..got]);
-    let rest = session::rest(answer, got, buffer.len());
-    bytes(buffer, got, got + rest)
+    rest(answer, got, buffer)
 }
 
 pub fn step(faces: usize, seconds: &[u64], buffer: &mut [u8]) -> usize
@@ -49,6 +56,5 @@ pub fn step(faces: usize, seconds: &[u64], buffer: &mut [u8]) -> usize
 {
     let got = bytes(buffer, 0, STEP_HEAD);
     let answer = records::step_length(faces, seconds, &buffer[..got]);
-    let rest = session::rest(answer, got, buffer.len());
-    bytes(buffer, got, got + rest)
+    rest(answer, got, buffer)
 }
