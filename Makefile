@@ -1,13 +1,11 @@
-.PHONY: run test bench
+.PHONY: run test
 
 # the channel session of document 01
 run:
-	@echo "There is no run program yet: it comes with the crate run." >&2; exit 1
+	@mkdir -p target
+	@rt check run > target/run.log 2>&1 || { tail -n 40 target/run.log >&2; exit 1; }
+	@target/bin/run < tests/sessions/channel.in
 
 # the gate: tests, proofs, must-fail edits, programs
 test:
 	.ci/run
-
-# a step's time against plain C, and its growth with the lagoon
-bench:
-	bench/run.sh

@@ -1,0 +1,44 @@
+-- Document 01, "The board and the run": when a run ends, how much of a record is still to be read, and what a step prints.
+use Prim.Native.Nat.{ℕ, _-_, min}
+use mathlib.Core.Bool.{Bool, true, not, _||_}
+use mathlib.Core.List.{List}
+use mathlib.Core.Path.{_≡_}
+use lib.Dec.{eqb}
+use lib.ListN.{take}
+use Rattle.io.specs.Counts.{Counts}
+use Rattle.model.specs.Causes.{Outcome, accepted, refused}
+use Rattle.model.specs.Answers.{number, told}
+use Rattle.model.specs.declared.Cause.{Cause}
+use Rattle.session.specs.declared.Line.{Line}
+use Rattle.session.specs.declared.StepTaken.{StepTaken}
+use Rattle.session.specs.declared.StepTaken.the-variants.{Stepped, Refused}
+use Rattle.session.specs.declared.Printed.{Printed}
+use Rattle.session.specs.Lines.{stepLine, refusedStepLine}
+
+-- A line by value: its first bytes are the text.
+abbrev pub Holds : Line → List ℕ → Type 0
+Holds line text = Counts (line .used) (line .bytes) × (take (line .used) (line .bytes) ≡ text)
+
+-- "A record that is refused ends the run only by 11 or 13"
+abbrev pub endsRun : Cause → Bool
+endsRun c = eqb (number c) 11 || eqb (number c) 13
+
+-- Of a record whose head asks for so many bytes, those not yet read, as far as the room goes. A refused head asks for no more.
+abbrev pub stillNeeded : Outcome ℕ → ℕ → ℕ → ℕ
+stillNeeded (accepted n) got room = min n room - got
+stillNeeded (refused _ _) got room = 0
+
+-- "a definition gives this paper's number and values for each of its cases"
+abbrev pub takenSaid : StepTaken → Outcome Printed
+takenSaid (Stepped p) = accepted p
+takenSaid (Refused r) = told r
+
+-- "for each step: step number, in-mass, out-mass, total; or step number, `R`, number, place"
+abbrev pub lineOf : ℕ → StepTaken → List ℕ
+lineOf step (Stepped p) = stepLine step (p .entered) (p .gone) (p .total)
+lineOf step (Refused r) = refusedStepLine step (number (r .cause)) (r .place)
+
+-- Whether another step may follow.
+abbrev pub goesOn : StepTaken → Bool
+goesOn (Stepped p) = true
+goesOn (Refused r) = not (endsRun (r .cause))

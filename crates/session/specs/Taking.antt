@@ -1,0 +1,88 @@
+-- Document 01, "The board and the run": what becomes of each record that the run takes.
+use Prim.Native.Nat.{ℕ}
+use mathlib.Core.Path.{_≡_}
+use mathlib.Core.List.{List}
+use lib.ListN.{length}
+use lib.IntN.{ℤ}
+use Rattle.lists.specs.Table.{table, over}
+use Rattle.model.specs.Mesh.{Mesh, total}
+use Rattle.model.specs.Step.{next, inMass, outMass}
+use Rattle.model.specs.Causes.{Outcome, accepted, Verdict, _andThen_, taken, Call, callOf, inputOf, meshValues, meshFieldVerdict, verdict}
+use Rattle.model.specs.Calls.{massIn, nextTable, movedTable, workTable}
+use Rattle.checks.specs.Total.{cellsOnly, totalSaid}
+use Rattle.checks.specs.declared.TotalAnswer.{TotalAnswer}
+use Rattle.records.specs.Reading.{volumesIn, firstsIn, secondsIn, weightsIn, spansIn, countsIn, meshIn, massesIn, fluxesIn, outsidesIn, meshHeadVerdict, meshBodyVerdict, meshRead, fieldRead, stepRead}
+use Rattle.records.specs.Answers.{meshSaid}
+use Rattle.records.specs.declared.Counts.{Counts}
+use Rattle.records.specs.declared.MeshAnswer.{MeshAnswer}
+use Rattle.session.specs.Session.{takenSaid}
+use Rattle.session.specs.declared.Printed.{Printed}
+use Rattle.session.specs.declared.StepTaken.{StepTaken}
+
+-- "It takes up to 1,023 cells and 2,046 faces, and a larger mesh is its cause 1."
+abbrev pub runCells : ℕ
+runCells = 1023
+
+abbrev pub runFaces : ℕ
+runFaces = 2046
+
+-- A mesh is read within the run's limits, then judged by 3 to 5. A reading that is accepted fills its tables.
+unfoldable pub meshTaken : List ℕ → ℕ → ℕ → ℕ → ℕ → ℕ → Outcome Counts
+meshTaken bs volumes firsts seconds weights spans = meshHeadVerdict runCells runFaces bs andThen meshBodyVerdict bs volumes firsts seconds weights spans
+    andThen meshValues (meshIn bs) andThen accepted (countsIn bs)
+
+abbrev pub meshReadIn : List ℕ → List ℕ → List ℕ → List ℕ → List ℕ → List ℕ → Outcome Counts
+meshReadIn bs volumes firsts seconds weights spans = meshRead runCells runFaces bs (length volumes) (length firsts) (length seconds) (length weights) (length spans)
+
+pub record MeshTaking (bs volumes firsts seconds weights spans : List ℕ) (r : MeshAnswer) (volumes′ firsts′ seconds′ weights′ spans′ : List ℕ) : Type 0 where
+  pub answer : meshSaid r ≡ meshTaken bs (length volumes) (length firsts) (length seconds) (length weights) (length spans)
+  pub volumes-read : volumes′ ≡ taken (meshReadIn bs volumes firsts seconds weights spans) (over (volumesIn bs) volumes) volumes
+  pub firsts-read : firsts′ ≡ taken (meshReadIn bs volumes firsts seconds weights spans) (over (firstsIn bs) firsts) firsts
+  pub seconds-read : seconds′ ≡ taken (meshReadIn bs volumes firsts seconds weights spans) (over (secondsIn bs) seconds) seconds
+  pub weights-read : weights′ ≡ taken (meshReadIn bs volumes firsts seconds weights spans) (over (weightsIn bs) weights) weights
+  pub spans-read : spans′ ≡ taken (meshReadIn bs volumes firsts seconds weights spans) (over (spansIn bs) spans) spans
+
+-- A field is read, then judged with the volumes of its cells, and summed: step 0 prints its total.
+unfoldable pub fieldTaken : ℕ → List ℕ → List ℕ → ℕ → Outcome ℕ
+fieldTaken cells volumes bs masses = fieldRead cells bs masses andThen meshFieldVerdict (cellsOnly cells volumes) (massesIn bs cells)
+    andThen accepted (total (cellsOnly cells volumes) (massIn (massesIn bs cells)))
+
+pub record FieldTaking (cells : ℕ) (volumes bs masses : List ℕ) (r : TotalAnswer) (masses′ : List ℕ) : Type 0 where
+  pub answer : totalSaid r ≡ fieldTaken cells volumes bs (length masses)
+  pub masses-read : masses′ ≡ taken (fieldRead cells bs (length masses)) (over (massesIn bs cells) masses) masses
+
+-- A step on lent tables: "in-mass, out-mass, total", the total being that of the field it leaves.
+module _ (M : Mesh) (masses : List ℕ) (k : Call) where
+  abbrev pub printedOf : Printed
+  printedOf = record { entered = inMass (inputOf M masses k); gone = outMass (inputOf M masses k); total = total M (next (inputOf M masses k)) }
+
+  unfoldable pub stepTo : Outcome Printed
+  stepTo = verdict M masses k andThen accepted printedOf
+
+  -- "after an accepted step the field is its next masses, after a refused one the masses lent to it"
+  unfoldable pub massesAfter : List ℕ
+  massesAfter = taken (verdict M masses k) (over (table (M .cells) (next (inputOf M masses k))) masses) masses
+
+pub record Stepping (M : Mesh) (masses : List ℕ) (k : Call) (r : StepTaken) (masses′ nexts′ : List ℕ) (moveds′ : List ℤ) (work′ : List ℕ) : Type 0 where
+  pub answer : takenSaid r ≡ stepTo M masses k
+  pub masses-after : masses′ ≡ massesAfter M masses k
+  pub next-masses : nexts′ ≡ nextTable M k masses
+  pub moved-masses : moveds′ ≡ movedTable M k masses
+  pub work-after : work′ ≡ workTable M k masses
+
+-- The step of a record: it is read, and its fluxes and outside values make the call.
+abbrev pub stepReadIn : Mesh → List ℕ → Call → Verdict
+stepReadIn M bs k = stepRead (M .faces) (M .seconds) bs (length (k .fluxes)) (length (k .outsides))
+
+abbrev pub callIn : Mesh → List ℕ → Call → Call
+callIn M bs k = callOf (fluxesIn bs (M .faces)) (outsidesIn bs (M .faces) (M .seconds)) (k .nexts) (k .moveds) (k .work)
+
+-- The answer, the field and the other lent tables afterwards. A refusal leaves the field and the step's results as they were.
+pub record StepTaking (M : Mesh) (masses bs : List ℕ) (k : Call) (r : StepTaken) (masses′ : List ℕ) (k′ : Call) : Type 0 where
+  pub answer : takenSaid r ≡ (stepReadIn M bs k andThen stepTo M masses (callIn M bs k))
+  pub masses-after : masses′ ≡ taken (stepReadIn M bs k) (massesAfter M masses (callIn M bs k)) masses
+  pub fluxes-read : k′ .fluxes ≡ taken (stepReadIn M bs k) (over (fluxesIn bs (M .faces)) (k .fluxes)) (k .fluxes)
+  pub outsides-read : k′ .outsides ≡ taken (stepReadIn M bs k) (over (outsidesIn bs (M .faces) (M .seconds)) (k .outsides)) (k .outsides)
+  pub next-masses : k′ .nexts ≡ taken (stepReadIn M bs k) (nextTable M (callIn M bs k) masses) (k .nexts)
+  pub moved-masses : k′ .moveds ≡ taken (stepReadIn M bs k) (movedTable M (callIn M bs k) masses) (k .moveds)
+  pub work-after : k′ .work ≡ taken (stepReadIn M bs k) (workTable M (callIn M bs k) masses) (k .work)

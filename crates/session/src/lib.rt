@@ -1,0 +1,113 @@
+// What the run program decides and prints, apart from its reading and writing.
+mod lines;
+mod taking;
+
+pub use lines::LINE;
+pub use lines::board_line;
+pub use lines::refusal_line;
+pub use lines::step_line;
+use model::Cause;
+use model::Refusal;
+use records::LengthAnswer;
+pub use taking::take_field;
+pub use taking::take_mesh;
+pub use taking::take_step;
+ghost use mathlib.Core.Path.{_≡_};
+ghost use mathlib.Core.Bool.{not};
+ghost use Prim.Native.Nat.{_+_, _≤_, min};
+ghost use Rattle.records.specs.Answers.{lengthSaid};
+ghost use Rattle.session.specs.Session.{Holds, endsRun, stillNeeded, lineOf, goesOn};
+
+// Most cells and faces of a run.
+pub const RUN_CELLS: usize = 1023;
+
+pub const RUN_FACES: usize = 2046;
+
+// Bytes of the longest record within these: a mesh of all cells and faces.
+pub const RECORD: usize = 12792;
+
+// Entries of a step's work: four for each cell and one for each face.
+pub const WORK: usize = 4 * RUN_CELLS + RUN_FACES;
+
+// A line of at most LINE bytes, of which the first `used` count.
+pub struct Line {
+    pub bytes: [u8; LINE],
+    pub used: usize,
+}
+
+// What is printed of an accepted step.
+pub struct Printed {
+    pub entered: u64,
+    pub gone: u64,
+    pub total: u64,
+}
+
+// What a step record comes to.
+pub enum StepTaken {
+    Stepped(Printed),
+    Refused(Refusal),
+}
+
+// Document 01's numbers of the causes that end a run.
+const WRONG_LENGTH: u64 = 11;
+
+const WRONG_HEAD: u64 = 13;
+
+// Whether a refusal of a step ends the run.
+pub fn ends(cause: Cause) -> bool
+    ensures { λ r. ⌜ r ≡ endsRun cause ⌝ }
+{
+    let number = model::number(cause);
+    if number == WRONG_LENGTH {
+        return true;
+    }
+    number == WRONG_HEAD
+}
+
+// Whether another step may follow.
+pub fn goes_on(taken: StepTaken) -> bool
+    ensures { λ r. ⌜ r ≡ goesOn taken ⌝ }
+{
+    match taken {
+        StepTaken::Stepped(_) => true,
+        StepTaken::Refused(refusal) => {
+            let cause = refusal.cause;
+            !ends(cause)
+        }
+    }
+}
+
+// The line of a step.
+pub fn taken_line(step: u64, taken: StepTaken) -> Line
+    ensures { λ r. ⌜ Holds r (lineOf step taken) ⌝ }
+{
+    match taken {
+        StepTaken::Stepped(printed) => {
+            lines::step_line(step, printed.entered, printed.gone, printed.total)
+        }
+        StepTaken::Refused(refusal) => {
+            let cause = refusal.cause;
+            lines::refused_step_line(step, model::number(cause), refusal.place)
+        }
+    }
+}
+
+fn least(a: usize, b: usize) -> usize
+    ensures { λ r. ⌜ r ≡ min a b ⌝ }
+{
+    if a < b { a } else { b }
+}
+
+// How many bytes of a record are still to be read, of which so many have come.
+pub fn rest(answer: LengthAnswer, got: usize, room: usize) -> usize
+    ensures { λ r. ⌜ (r ≡ stillNeeded (lengthSaid answer) got room) × (got ≤ room → got + r ≤ room) ⌝ }
+{
+    let LengthAnswer::Needs(needed) = answer else {
+        return 0;
+    };
+    let end = least(needed, room);
+    if end < got {
+        return 0;
+    }
+    end - got
+}

@@ -1,0 +1,144 @@
+#!/usr/bin/env python3
+"""Writes the sessions of the run program: tests/sessions/NAME.in (input) and NAME.out (what it must print).
+
+    python3 tests/make_sessions.py            writes all of them
+    python3 tests/make_sessions.py largest    writes the input of the largest mesh, as bytes, to standard output
+    python3 tests/make_sessions.py long       writes that of a long list of steps, of whose output the last four lines are stored
+
+The expected output is the reference's, and for the channel what document 01 prints.
+"""
+
+import sys
+from pathlib import Path
+
+HERE = Path(__file__).resolve().parent
+sys.path.insert(0, str(HERE.parent / "reference"))
+
+import lagoon
+from lagoon import Mesh, pack_field, pack_mesh, pack_step
+
+SESSIONS = HERE / "sessions"
+RIM = 4095
+
+CHANNEL_PRINTED = """0 0 0 100000
+1 50000 0 150000
+2 50000 0 200000
+B 0 1000 99
+B 1 811 88
+B 2 187 13
+"""
+
+
+def changed(record, at, bits, value):
+    """The record with so many bits from bit `at` on made the value."""
+    whole = int.from_bytes(record, "big")
+    shift = 8 * len(record) - at - bits
+    mask = ((1 << bits) - 1) << shift
+    return (whole & ~mask | value << shift).to_bytes(len(record), "big")
+
+
+CHANNEL = Mesh([100] * 3, [0, 0, 1, 2], [RIM, 1, 2, RIM], [0, 128, 128, 0], [0, 100, 100, 0])
+MESH = pack_mesh(CHANNEL)
+FIELD = pack_field([100000, 0, 0])
+
+
+def step(fluxes=(-50, 50, 50, 50), outsides=(1000, 0, 0, 0)):
+    return pack_step(CHANNEL, list(fluxes), list(outsides))
+
+
+def mesh_with(**columns):
+    """The channel with some columns otherwise."""
+    parts = dict(volumes=CHANNEL.volumes, firsts=CHANNEL.firsts, seconds=CHANNEL.seconds,
+                 shares=CHANNEL.shares, reaches=CHANNEL.reaches) | columns
+    return pack_mesh(Mesh(*parts.values()))
+
+
+def sessions():
+    """The name and the input of each stored session."""
+    good = step()
+    start = MESH + FIELD
+    yield "channel", start + good + good
+    yield "nothing", b""
+    yield "one_cell", bytes.fromhex("100100000640200100000063")
+    yield "one_cell_steps", bytes.fromhex("100100000640200100000063") + bytes.fromhex("30000000") * 3
+    yield "no_steps", start
+
+    # the mesh
+    yield "mesh_head_short", MESH[:3]
+    yield "mesh_short", MESH[:-1]
+    yield "mesh_kind", changed(MESH, 0, 4, 2) + FIELD
+    yield "mesh_no_cells", changed(MESH, 4, 12, 0) + FIELD
+    yield "mesh_cells", changed(MESH, 4, 12, 1024) + FIELD
+    yield "mesh_faces", changed(MESH, 16, 13, 2047) + FIELD
+    yield "mesh_head_bit", changed(MESH, 30, 1, 1) + FIELD
+    yield "mesh_padding", changed(MESH, 8 * len(MESH) - 1, 1, 1) + FIELD
+    yield "mesh_volume", mesh_with(volumes=[100, 0, 100]) + FIELD
+    yield "mesh_first", mesh_with(firsts=[0, 3, 1, 2]) + FIELD
+    yield "mesh_same_ends", mesh_with(seconds=[RIM, 1, 1, RIM]) + FIELD
+    yield "mesh_share", mesh_with(shares=[0, 0, 128, 0]) + FIELD
+    yield "mesh_rim_reach", mesh_with(reaches=[0, 100, 100, 1]) + FIELD
+
+    # the field
+    yield "field_missing", MESH
+    yield "field_head_short", MESH + FIELD[:1]
+    yield "field_short", MESH + FIELD[:-1]
+    yield "field_kind", MESH + changed(FIELD, 0, 4, 3)
+    yield "field_count", MESH + changed(FIELD, 4, 12, 4)
+    yield "field_salt", MESH + pack_field([100000, 100000099, 100000100])
+
+    # steps that are skipped, each between two good ones
+    def between(bad):
+        return start + good + bad + good
+
+    yield "step_bit", between(changed(good, 17, 1, 1))
+    yield "step_padding", between(changed(good, 8 * len(good) - 1, 1, 1))
+    yield "step_minus_zero", between(changed(good, 32, 13, 1 << 12))
+    yield "step_outside", between(step(outsides=(1000001, 0, 0, 0)))
+    yield "step_outside_at_outflow", between(step(outsides=(1000, 0, 0, 7)))
+    yield "step_flux", between(step(fluxes=(-101, 101, 101, 101)))
+    yield "step_balance", between(step(fluxes=(-50, 50, 49, 50)))
+    yield "step_outflow", pack_mesh(Mesh([100, 101, 100], CHANNEL.firsts, CHANNEL.seconds, CHANNEL.shares, [0, 200, 200, 0])) \
+        + FIELD + step(fluxes=(-101, 101, 101, 101)) + step(fluxes=(-100, 100, 100, 100))
+
+    # steps that end the run
+    yield "step_head_short", start + good + good[:3]
+    yield "step_short", start + good + good[:-1]
+    yield "step_kind", start + good + changed(good, 0, 4, 2) + good
+    yield "step_count", start + good + changed(good, 4, 13, 5) + good
+
+
+def largest():
+    """A ring of 1,023 cells in two layers of faces, 2,046 in all, with three steps around it."""
+    cells, faces = 1023, 2046
+    firsts = [f % cells for f in range(faces)]
+    seconds = [(f + 1) % cells for f in range(faces)]
+    mesh = Mesh([4095] * cells, firsts, seconds, [1 + f % 255 for f in range(faces)], [4095] * faces)
+    masses = [4095 * (c * 977 % 1000001) + c for c in range(cells)]
+    data = pack_mesh(mesh) + pack_field(masses)
+    for upper, lower in ((2000, 2095), (-4000, -95), (3000, -2000)):
+        data += pack_step(mesh, [upper] * cells + [lower] * cells, [0] * faces)
+    return data
+
+
+def long():
+    """The channel with 100,000 steps."""
+    return MESH + FIELD + step() * 100_000
+
+
+def main():
+    made = {"largest": largest, "long": long}
+    if len(sys.argv) == 2 and sys.argv[1] in made:
+        sys.stdout.buffer.write(made[sys.argv[1]]())
+        return
+    SESSIONS.mkdir(exist_ok=True)
+    for name, data in sessions():
+        printed = CHANNEL_PRINTED if name == "channel" else lagoon.run(data)
+        assert printed == lagoon.run(data), name
+        (SESSIONS / f"{name}.in").write_bytes(data)
+        (SESSIONS / f"{name}.out").write_text(printed)
+    (SESSIONS / "largest.out").write_text(lagoon.run(largest()))
+    (SESSIONS / "long_end.out").write_text("".join(lagoon.run(long()).splitlines(keepends=True)[-4:]))
+
+
+if __name__ == "__main__":
+    main()
