@@ -1,4 +1,4 @@
-.PHONY: run test bench
+.PHONY: run test bench compare soak
 
 # the channel session of document 01
 run:
@@ -11,3 +11,13 @@ test:
 # a step's time against plain C, and its growth with the lagoon
 bench:
 	bench/run.sh
+
+# the engine against the reference: fixed sessions and calls, and document 01's slips
+compare:
+	tests/compare.sh
+
+# the same with fresh seeds: make soak SECONDS=600 SEED=17; what differs is kept in target/mismatch/
+SECONDS ?= 600
+SEED ?= $(shell date +%s)
+soak:
+	reference/soak.sh $(SECONDS) $(SEED)
