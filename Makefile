@@ -1,4 +1,4 @@
-.PHONY: run test bench compare soak
+.PHONY: run test bench compare soak accuracy
 
 # the channel session of document 01
 run:
@@ -21,3 +21,8 @@ SECONDS ?= 600
 SEED ?= $(shell date +%s)
 soak:
 	reference/soak.sh $(SECONDS) $(SEED)
+
+# the figures of docs/ACCURACY.md, and its picture
+accuracy:
+	reference/build.sh
+	python3 reference/accuracy.py --call target/compare/call_guarded --fine --svg docs/accuracy.svg
