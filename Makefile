@@ -8,9 +8,9 @@ run:
 test:
 	.ci/run
 
-# a step's time against plain C, and its growth with the lagoon
+# step, call and run beside plain C, and their growth with the lagoon
 bench:
-	bench/run.sh
+	bench/run.py
 
 # the engine against the reference: fixed sessions and calls, and document 01's slips
 compare:

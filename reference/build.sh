@@ -11,6 +11,6 @@ mkdir -p $out
 rt check run >$out/log || { cat $out/log; exit 1; }
 rt staticlib lagoon >$out/log || { cat $out/log; exit 1; }
 cp target/bin/run $out/run
-driver="gcc -std=c11 -Wall -Wextra -Werror -g -O1 -Iinclude reference/call_driver.c"
+driver="gcc -std=c11 -Wall -Wextra -Werror -g -O1 reference/call_driver.c"
 $driver -fsanitize=address,undefined target/staticlib/liblagoon.a -o $out/call_sanitized
 $driver -DGUARD_PAGES target/staticlib/liblagoon.a -o $out/call_guarded

@@ -14,7 +14,7 @@
 #include <stdlib.h>
 #include <string.h>
 
-#include "lagoon.h"
+#include "../include/lagoon.h"
 
 #define PATTERN 0xA5
 
