@@ -1,9 +1,10 @@
 #!/usr/bin/env python3
-"""busy.py WIDTH HEIGHT: the bench's lagoon through the reference, with all its tests.
+"""The bench's lagoon through the reference, with all its tests.
 
 Prints the line that yardstick and bench_step print for one round, and on standard error how busy each stage is.
 """
 
+import argparse
 import sys
 from pathlib import Path
 
@@ -59,22 +60,44 @@ def how_busy(tables):
             "cut": sum(a != b for a, b in zip(wanted, limited)),
             "cut to 0": sum(a != 0 and b == 0 for a, b in zip(wanted, limited))}
 
-def main():
-    width, height = int(sys.argv[1]), int(sys.argv[2])
+def one_round(width, height, watch=lambda step, tables: None):
+    """Masses and moved after one round, and in-mass and out-mass of all its steps."""
     tables = make(width, height)
     cells, faces = width * height, 2 * width * height
     entered = gone = 0
     for step in range(STEPS):
-        if step in (0, 1, STEPS // 2, STEPS - 1):
-            print(f"step {step}:", how_busy(tables), file=sys.stderr)
+        watch(step, tables)
         lent = tables + [[0] * cells, [0] * faces, [0] * (4 * cells + faces)]
         crossed = lagoon.step_on_tables(cells, faces, lent)
         entered, gone = entered + crossed[0], gone + crossed[1]
         tables[5], moved = lent[8], lent[9]
+    return tables[5], moved, entered, gone
+
+def digest_of(numbers):
     digest = 1
-    for x in tables[5] + [2 * abs(x) + (x < 0) for x in moved]:
+    for x in numbers:
         digest = mixed(digest, x)
-    print(sum(tables[5]), entered, gone, digest)
+    return digest
+
+def line_of_tables(width, height):
+    """What yardstick and bench_step print for one round."""
+    masses, moved, entered, gone = one_round(width, height)
+    return f"{sum(masses)} {entered} {gone} {digest_of(masses + [2 * abs(x) + (x < 0) for x in moved])}\n"
+
+def line_of_records(width, height):
+    """What records prints for one round of calls."""
+    masses, *_ = one_round(width, height)
+    return f"{sum(masses)} {digest_of(masses)}\n"
+
+def main():
+    parser = argparse.ArgumentParser(description=__doc__, formatter_class=argparse.RawDescriptionHelpFormatter)
+    parser.add_argument("width", type=int)
+    parser.add_argument("height", type=int)
+    options = parser.parse_args()
+    print(line_of_tables(options.width, options.height), end="")
+    one_round(options.width, options.height,
+              lambda step, tables: print(f"step {step}:", how_busy(tables), file=sys.stderr))
 
 
-main()
+if __name__ == "__main__":
+    main()

@@ -4,10 +4,9 @@
  * then the bytes of the three records. Output: the 64-bit answer, little-endian,
  * then the room's bytes after the call.
  *
- * Every buffer has exactly its length, so that AddressSanitizer sees an overrun:
- *     cc -g -fsanitize=address call_driver.c ENGINE_LIBRARY -o call_driver
- * With -DGUARD_PAGES each buffer ends at a page that may not be touched, which also
- * catches an overrun by code that is not built with the sanitizer.
+ * Every buffer has exactly its length, so that AddressSanitizer sees an overrun by the driver or
+ * by a function that it watches. With -DGUARD_PAGES each buffer ends at a page that may not be
+ * touched, which also catches an overrun by the library, which is not built with the sanitizer.
  */
 #define _DEFAULT_SOURCE
 #include <stdint.h>
@@ -15,10 +14,7 @@
 #include <stdlib.h>
 #include <string.h>
 
-extern uint64_t lagoon_step(const uint8_t *mesh, size_t mesh_len,
-                            const uint8_t *field, size_t field_len,
-                            const uint8_t *step, size_t step_len,
-                            uint8_t *next, size_t next_len);
+#include "../include/lagoon.h"
 
 #define PATTERN 0xA5
 

@@ -5,13 +5,14 @@ session(seed, number) and call(seed, number) give the same case for the same num
 Every case names the kinds of lagoon and of damage that it holds; kinds_made counts them.
 """
 
+import argparse
 import random
 from collections import Counter, namedtuple
 
 import lagoon
 from lagoon import RIM, TOP
 
-Session = namedtuple("Session", "kinds data")
+Session = namedtuple("Session", "kinds data piece")      # piece: bytes handed over at a time, None for all
 Call = namedtuple("Call", "kinds mesh field step room")
 
 
@@ -75,8 +76,8 @@ def finish(values, raw):
 
 # ---------------------------------------------------------------- Valid lagoons
 
-def layout(rng, cells, most):
-    """The pairs of cells that faces join, RIM as second at the boundary, at most `most` of them."""
+def layout(rng, cells, most, fill):
+    """The pairs of cells that faces join, RIM as second at the boundary: at most `most`, at least `fill`."""
     shapes = ["channel", "ring", "grid", "random", "braid", "star", "sieve"]
     shape = rng.choice(shapes) if cells > 1 else rng.choice(["pool", "pool", "pool", "still"])
     pairs = []
@@ -111,9 +112,9 @@ def layout(rng, cells, most):
         pairs = [(i, RIM) for i in range(cells) for _ in range(2)]
         pairs += [(i, i + 1) for i in range(cells - 1) if rng.random() < 0.3]
     elif shape == "pool":
-        pairs = [(0, RIM)] * rng.randint(0, 6)
+        pairs = [(0, RIM)] * rng.choice([rng.randint(0, 6), most])
     pairs = pairs[:most]
-    while len(pairs) < most and most > 1500 and rng.random() < 0.999:
+    while len(pairs) < fill:
         first, second = rng.randrange(cells), rng.randrange(cells)
         if first != second:
             pairs.append((first, second))
@@ -139,8 +140,8 @@ class Lagoon:
     """A valid mesh with a valid field."""
 
     def __init__(self, rng, size):
-        cells, most = size
-        self.shape, pairs = layout(rng, cells, most)
+        cells, most, fill = size
+        self.shape, pairs = layout(rng, cells, most, fill)
         style = rng.choice(["one", "most", "hundred", "small", "any", "ends", "middle", "middle", "any"])
         self.volumes = [pick_volume(rng, style) for _ in range(cells)]
         shares = rng.choice(["half", "any", "ends", "any"])
@@ -169,6 +170,16 @@ class Lagoon:
             q = pick_concentration(rng, self.salt, cell, cells)
             self.masses.append(q * V + {"any": rng.randrange(V), "none": 0, "most": V - 1}[rest])
 
+    def pick_door(self, rng, cell, usable):
+        """A usable door of the cell: a few are drawn before all are looked at, since a cell may have thousands."""
+        doors = self.doors[cell]
+        for _ in range(min(6, len(doors))):
+            door = rng.choice(doors)
+            if usable(door):
+                return door
+        doors = [door for door in doors if usable(door)]
+        return rng.choice(doors) if doors else None
+
     def walk(self, rng, fluxes, room_at, start_at_rim):
         """A closed loop, or a path from boundary to boundary, along which the flux may still grow."""
         path, order = [], {}            # (face, direction), cell entered; cell -> its place in the path
@@ -183,12 +194,12 @@ class Lagoon:
             cell = rng.randrange(len(self.doors))
         while True:
             order[cell] = len(path)
-            doors = [door for door in self.doors[cell] if door[0] != used
-                     and fluxes[door[0]] * door[1] >= 0 and room_at(door[0]) > 0
-                     and (start_at_rim or door[2] != RIM)]
-            if not doors:
+            usable = lambda door: (door[0] != used and fluxes[door[0]] * door[1] >= 0 and room_at(door[0]) > 0
+                                   and (start_at_rim or door[2] != RIM))
+            door = self.pick_door(rng, cell, usable)
+            if door is None:
                 return None
-            face, direction, beyond = rng.choice(doors)
+            face, direction, beyond = door
             path.append((face, direction, cell))
             if beyond == RIM:
                 return path
@@ -248,13 +259,26 @@ class Lagoon:
         return RawStep(self.rims, fluxes, self.outsides(rng, fluxes))
 
 
-def pick_size(rng, large):
-    """Cells and the most faces; a few lagoons stand at the run's limits."""
-    if large:
-        return rng.choice([(1023, 2046), (1023, 1022), (1000, 2046), (700, 1500), (2, 2046), (1023, 0),
-                           (rng.randint(200, 1023), 2046)])
+# Cells, most faces and least faces of lagoons at the run's limits, taken in turn.
+LIMITS = [(1023, 2046, 2046), (1023, 2046, 0), (2, 2046, 2046), (1023, 0, 0), (1, 2046, 0), (1000, 2046, 1500)]
+
+
+def pick_size(rng, number):
+    """Cells, most and least faces: of 40 lagoons one is at the limits, one between, the others are small."""
+    if number % 40 == 0:
+        return LIMITS[number // 40 % len(LIMITS)]
+    if number % 40 == 20:
+        cells = rng.randint(41, 700)
+        return cells, 2046, rng.choice([0, 2 * cells])
     cells = rng.choice([1, 2, 3, rng.randint(1, 8), rng.randint(1, 8), rng.randint(4, 20), rng.randint(4, 40)])
-    return cells, 80
+    return cells, 80, 0
+
+
+def size_kinds(lag):
+    """Kinds that say how large a lagoon is, where it is not small."""
+    cells, faces = len(lag.volumes), len(lag.faces)
+    kinds = ["more than 40 cells"] if cells > 40 else []
+    return kinds + ["1,023 cells"] * (cells == 1023) + ["2,046 faces"] * (faces == 2046)
 
 
 # ---------------------------------------------------------------- Damage
@@ -512,7 +536,7 @@ def damaged_parts(rng, damage, size):
 
 def demand_damage(rng, damage):
     while True:
-        parts = damaged_parts(rng, damage, pick_size(rng, False))
+        parts = damaged_parts(rng, damage, pick_size(rng, 1))
         if parts:
             return parts
 
@@ -526,30 +550,22 @@ def more_damage(rng, lag, mesh, field, step, kinds):
             kinds.append(damage.__name__)
 
 
-def session(seed, number):
-    """Bytes for the run's standard input: half of the sessions are valid, half are damaged."""
-    rng = random.Random(f"session {seed} {number}")
-    mode = number % 4
-    if mode == 2:
-        damage = ALL_DAMAGE[number // 4 % len(ALL_DAMAGE)]
-        lag, mesh, field, step = demand_damage(rng, damage)
-        kinds = [damage.__name__]
-        steps = [lag.raw_step(rng) for _ in range(rng.choice([0, 0, 1, 2]))] + [step]
-        steps += [lag.raw_step(rng) for _ in range(rng.choice([0, 1, 2]))]
-        records = [mesh, field] + steps
-        broken = [i for i, raw in enumerate(records) if raw.cut is not None]
-        if broken and rng.random() < 0.8:
-            records = records[:broken[0] + 1]           # the input ends inside the record
-            kinds.append("input ends in a record")
-        return Session(tuple(kinds), b"".join(raw.bytes() for raw in records))
-    large = number % 40 == 0
-    lag = Lagoon(rng, pick_size(rng, large))
-    kinds = [lag.shape, "salt " + lag.salt] + ["large"] * large
-    mesh, field = lag.raw_mesh(), lag.raw_field()
-    count = rng.choice([1, 2]) if large else rng.choice([0, 1, 2, 3, 3, 5, 8])
-    if number % 500 == 1:
-        count = 300
-        kinds.append("long")
+def damaged_session(rng, damage):
+    """A session with the one damage, among steps that are valid."""
+    lag, mesh, field, step = demand_damage(rng, damage)
+    kinds = [damage.__name__]
+    steps = [lag.raw_step(rng) for _ in range(rng.choice([0, 0, 1, 2]))] + [step]
+    steps += [lag.raw_step(rng) for _ in range(rng.choice([0, 1, 2]))]
+    records = [mesh, field] + steps
+    broken = [i for i, raw in enumerate(records) if raw.cut is not None]
+    if broken and rng.random() < 0.8:
+        records = records[:broken[0] + 1]           # the input ends inside the record
+        kinds.append("input ends in a record")
+    return kinds, b"".join(raw.bytes() for raw in records)
+
+
+def steps_of(rng, lag, count, kinds):
+    """So many steps, some repeated and some damaged so that the run skips them."""
     steps = []
     for _ in range(count):
         if steps and rng.random() < 0.4:
@@ -560,21 +576,48 @@ def session(seed, number):
             damage = rng.choice(SKIPPED)
             if damage(rng, lag, steps[-1]) is not False:
                 kinds.append(damage.__name__)
-    if mode == 3 and not large:
+    return steps
+
+
+def mixed_session(rng, number, mixed):
+    """A session of valid records, some steps damaged; where `mixed`, more damage and spoilt bytes."""
+    lag = Lagoon(rng, pick_size(rng, number))
+    kinds = [lag.shape, "salt " + lag.salt] + size_kinds(lag)
+    mesh, field = lag.raw_mesh(), lag.raw_field()
+    count = rng.choice([1, 2]) if len(lag.volumes) > 40 else rng.choice([0, 1, 2, 3, 3, 5, 8])
+    if number % 500 == 1:
+        count = 300
+        kinds.append("300 steps")
+    steps = steps_of(rng, lag, count, kinds)
+    if mixed:
         step = lag.raw_step(rng)
         more_damage(rng, lag, mesh, field, step, kinds)
         steps.insert(rng.randint(0, len(steps)), step)
     data = mesh.bytes() + field.bytes() + b"".join(step.bytes() for step in steps)
-    if mode == 3 and rng.random() < 0.6:
+    if mixed and rng.random() < 0.6:
         kind, data = spoil(rng, data)
         kinds.append(kind)
-    elif mode == 1 and rng.random() < 0.1:
+    elif rng.random() < 0.1:
         tail = lag.raw_step(rng).bytes()
         data += tail[:rng.randrange(len(tail))]
         kinds.append("partial step at the end")
+    return kinds, data
+
+
+def session(seed, number):
+    """Bytes for the run's standard input: half of the sessions are valid, half are damaged."""
+    rng = random.Random(f"session {seed} {number}")
     if number % 200 == 3:
         kinds, data = ["empty input"], b""
-    return Session(tuple(dict.fromkeys(kinds)), data)
+    elif number % 4 == 2:
+        kinds, data = damaged_session(rng, ALL_DAMAGE[number // 4 % len(ALL_DAMAGE)])
+    else:
+        kinds, data = mixed_session(rng, number, number % 4 == 3)
+    piece = None
+    if number % 10 in (4, 7):
+        piece = rng.choice([1, 2, 3, 5, 7]) if len(data) < 1000 else rng.randint(500, 5000)
+        kinds.append("input in pieces")
+    return Session(tuple(dict.fromkeys(kinds)), data, piece)
 
 
 def call(seed, number):
@@ -586,10 +629,9 @@ def call(seed, number):
         lag, mesh, field, step = demand_damage(rng, damage)
         kinds = [damage.__name__]
     else:
-        large = number % 40 == 0
-        lag = Lagoon(rng, pick_size(rng, large))
+        lag = Lagoon(rng, pick_size(rng, number))
         mesh, field, step = lag.raw_mesh(), lag.raw_field(), lag.raw_step(rng)
-        kinds = [lag.shape, "salt " + lag.salt] + ["large"] * large
+        kinds = [lag.shape, "salt " + lag.salt] + size_kinds(lag)
     if mode == 3:
         more_damage(rng, lag, mesh, field, step, kinds)
         for raw, name in ((mesh, "mesh"), (field, "field"), (step, "step")):
@@ -602,7 +644,7 @@ def call(seed, number):
         kind, records[which] = spoil(rng, records[which])
         kinds.append(("mesh ", "field ", "step ")[which] + kind)
     need = lagoon.field_length(len(lag.volumes))
-    room = rng.choice(["enough", "enough", "more", "more", "short by one", "short", "none"])
+    room = rng.choice(["enough"] * 5 + ["more"] * 5 + ["short by one", "short", "none"])
     kinds.append("room " + room)
     lent = {"enough": need, "more": need + rng.randint(1, 20), "short by one": need - 1,
             "short": rng.randrange(need), "none": 0}[room]
@@ -614,10 +656,16 @@ def kinds_made(cases):
     return Counter(kind for case in cases for kind in case.kinds)
 
 
-if __name__ == "__main__":
-    import sys
-    many, first_seed = int(sys.argv[1]), int(sys.argv[2]) if len(sys.argv) > 2 else 1
+def main():
+    parser = argparse.ArgumentParser(description=__doc__, formatter_class=argparse.RawDescriptionHelpFormatter)
+    parser.add_argument("many", type=int, help="how many sessions, and as many calls, are made and counted by kind")
+    parser.add_argument("seed", type=int, nargs="?", default=1, help="the seed (1)")
+    options = parser.parse_args()
     for title, make in (("sessions", session), ("calls", call)):
         print(title)
-        for name, count in sorted(kinds_made(make(first_seed, i) for i in range(many)).items()):
+        for name, count in sorted(kinds_made(make(options.seed, i) for i in range(options.many)).items()):
             print(f"  {count:6} {name}")
+
+
+if __name__ == "__main__":
+    main()

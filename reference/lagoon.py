@@ -5,6 +5,7 @@ The functions stand in the order of the document. Nothing here is made fast.
 A refusal is raised as Refusal(cause, place) with the numbers of the table of causes.
 """
 
+import argparse
 import sys
 from collections import namedtuple
 
@@ -456,4 +457,6 @@ def run(data):
 
 
 if __name__ == "__main__":
+    argparse.ArgumentParser(description=__doc__ + "\nReads a session from standard input and prints what the run prints.",
+                            formatter_class=argparse.RawDescriptionHelpFormatter).parse_args()
     sys.stdout.write(run(sys.stdin.buffer.read()))

@@ -1,0 +1,90 @@
+/* A plain C host of document 01's records: unpacks mesh, field and step, packs the next field, tests nothing. */
+#ifndef PLAIN_HOST_H
+#define PLAIN_HOST_H
+
+#include <stddef.h>
+#include <stdint.h>
+#include <string.h>
+
+#include "plain_step.h"
+
+enum { HOST_CELLS = 1023, HOST_FACES = 2046, HEAD = 4, FIELD_HEAD = 2, RECORD = 16384 };
+
+/* A record and the bit that reading or writing has come to. */
+struct cursor {
+  uint8_t *bytes;
+  size_t at;
+};
+
+/* The next field of so many bits, a turn for each byte that it touches. */
+static inline uint64_t get(struct cursor *c, unsigned width) {
+  size_t last = c->at + width - 1;
+  uint64_t value = 0;
+  for (size_t byte = c->at / 8; byte <= last / 8; byte++) value = value << 8 | c->bytes[byte];
+  c->at += width;
+  return value >> (7 - last % 8) & ((1ull << width) - 1);
+}
+
+/* Appends a field to a record whose bytes begin as zeros. */
+static inline void put(struct cursor *c, uint64_t value, unsigned width) {
+  size_t last = c->at + width - 1;
+  value <<= 7 - last % 8;
+  for (size_t byte = last / 8 + 1; byte-- > c->at / 8; value >>= 8) c->bytes[byte] |= (uint8_t)value;
+  c->at += width;
+}
+
+static size_t whole_bytes(size_t bits) { return (bits + 7) / 8; }
+
+struct host {
+  size_t cells, faces;
+  uint64_t volumes[HOST_CELLS], firsts[HOST_FACES], seconds[HOST_FACES], weights[HOST_FACES], spans[HOST_FACES];
+  uint64_t masses[HOST_CELLS], next[HOST_CELLS], outsides[HOST_FACES];
+  int64_t fluxes[HOST_FACES], moved[HOST_FACES], corrections[HOST_FACES];
+  struct cell work[HOST_CELLS];
+  uint64_t in_mass, out_mass;
+};
+
+static void unpack_mesh(struct host *h, uint8_t *record) {
+  struct cursor c = {record, 4};
+  h->cells = get(&c, 12);
+  h->faces = get(&c, 13);
+  c.at += 3;
+  for (size_t i = 0; i < h->cells; i++) h->volumes[i] = get(&c, 12);
+  for (size_t f = 0; f < h->faces; f++) {
+    h->firsts[f] = get(&c, 12);
+    h->seconds[f] = get(&c, 12);
+    h->weights[f] = get(&c, 8);
+    h->spans[f] = get(&c, 12);
+  }
+}
+
+static void unpack_field(struct host *h, uint8_t *record) {
+  struct cursor c = {record, 8 * FIELD_HEAD};
+  for (size_t i = 0; i < h->cells; i++) h->masses[i] = get(&c, 32);
+}
+
+static void unpack_step(struct host *h, uint8_t *record) {
+  struct cursor c = {record, 8 * HEAD};
+  for (size_t f = 0; f < h->faces; f++) {
+    uint64_t minus = get(&c, 1);
+    int64_t size = (int64_t)get(&c, 12);
+    h->fluxes[f] = minus ? -size : size;
+  }
+  for (size_t f = 0; f < h->faces; f++) h->outsides[f] = h->seconds[f] == BOUNDARY ? get(&c, 20) : 0;
+}
+
+static void pack_field(const uint64_t *masses, size_t cells, uint8_t *record) {
+  struct cursor c = {record, 0};
+  memset(record, 0, FIELD_HEAD + 4 * cells);
+  put(&c, 2, 4);
+  put(&c, cells, 12);
+  for (size_t i = 0; i < cells; i++) put(&c, masses[i], 32);
+}
+
+static void host_step(struct host *h) {
+  h->in_mass = h->out_mass = 0;
+  step(h->cells, h->faces, h->volumes, h->firsts, h->seconds, h->weights, h->spans, h->masses, h->fluxes, h->outsides,
+       h->next, h->moved, h->work, h->corrections, &h->in_mass, &h->out_mass);
+}
+
+#endif

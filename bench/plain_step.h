@@ -1,0 +1,105 @@
+/* The arithmetic of one step of document 01 as plain C, with no test of its input. */
+#ifndef PLAIN_STEP_H
+#define PLAIN_STEP_H
+
+#include <stddef.h>
+#include <stdint.h>
+
+enum { BOUNDARY = 4095 };
+
+/* Four numbers of a cell. Before the limiter: q, lo, hi. In it: P, L, G, N. */
+struct cell {
+  uint64_t q_or_p, lo_or_l, hi_or_g, n;
+};
+
+static inline void widen(struct cell *c, uint64_t q) {
+  if (q < c->lo_or_l) c->lo_or_l = q;
+  if (q > c->hi_or_g) c->hi_or_g = q;
+}
+
+static inline uint64_t portion(uint64_t a, uint64_t g, uint64_t p) { return p <= g ? a : a * g / p; }
+
+static void step(size_t cells, size_t faces, const uint64_t *restrict volume, const uint64_t *restrict first,
+                 const uint64_t *restrict second, const uint64_t *restrict weight, const uint64_t *restrict span,
+                 const uint64_t *restrict mass, const int64_t *restrict flux, const uint64_t *restrict outside,
+                 uint64_t *restrict after, int64_t *restrict through, struct cell *restrict cell,
+                 int64_t *restrict correction, uint64_t *restrict in_mass, uint64_t *restrict out_mass) {
+  for (size_t c = 0; c < cells; c++) {
+    uint64_t q = (uint32_t)mass[c] / (uint32_t)volume[c]; /* masses fit 32 bits, which divide faster */
+    cell[c].q_or_p = cell[c].lo_or_l = cell[c].hi_or_g = q;
+    after[c] = mass[c];
+  }
+
+  uint64_t in = 0, out = 0;
+  for (size_t f = 0; f < faces; f++) {
+    int64_t u = flux[f];
+    struct cell *a = &cell[first[f]];
+    if (second[f] == BOUNDARY) {
+      int64_t carried = u * (int64_t)(u < 0 ? outside[f] : a->q_or_p);
+      through[f] = carried;
+      correction[f] = 0;
+      after[first[f]] -= carried;
+      if (u < 0) {
+        in -= carried;
+        widen(a, outside[f]);
+      } else {
+        out += carried;
+      }
+      continue;
+    }
+    if (u == 0) {
+      through[f] = 0;
+      correction[f] = 0;
+      continue;
+    }
+    struct cell *b = &cell[second[f]];
+    int64_t qa = a->q_or_p, qb = b->q_or_p, k = span[f];
+    int64_t size = u < 0 ? -u : u;
+    int64_t d = u < 0 ? qa - qb : qb - qa;
+    int64_t t = u < 0 ? 256 - weight[f] : weight[f];
+    int64_t carried = u * (u < 0 ? qb : qa);
+    through[f] = carried;
+    correction[f] = u * d * (t * k - 128 * size) / (256 * k);
+    after[first[f]] -= carried;
+    after[second[f]] += carried;
+    widen(a, qb);
+    widen(b, qa);
+  }
+  *in_mass += in;
+  *out_mass += out;
+
+  for (size_t c = 0; c < cells; c++) {
+    uint64_t v = volume[c], m = after[c];
+    cell[c].hi_or_g = v * cell[c].hi_or_g + v - 1 - m;
+    cell[c].lo_or_l = m - v * cell[c].lo_or_l;
+    cell[c].q_or_p = cell[c].n = 0;
+  }
+
+  for (size_t f = 0; f < faces; f++) {
+    int64_t x = correction[f];
+    if (x > 0) {
+      cell[second[f]].q_or_p += x;
+      cell[first[f]].n += x;
+    } else if (x < 0) {
+      cell[first[f]].q_or_p -= x;
+      cell[second[f]].n -= x;
+    }
+  }
+
+  for (size_t f = 0; f < faces; f++) {
+    int64_t x = correction[f];
+    if (x == 0) continue;
+    uint64_t size = x < 0 ? -x : x;
+    const struct cell *receiver = &cell[x < 0 ? first[f] : second[f]];
+    const struct cell *giver = &cell[x < 0 ? second[f] : first[f]];
+    uint64_t gained = portion(size, receiver->hi_or_g, receiver->q_or_p);
+    uint64_t lost = portion(size, giver->lo_or_l, giver->n);
+    int64_t cut = gained < lost ? gained : lost;
+    if (x < 0) cut = -cut;
+    through[f] += cut;
+    after[first[f]] -= cut;
+    after[second[f]] += cut;
+  }
+}
+
+#endif

@@ -1,0 +1,132 @@
+"""The two sides of the engine as Python objects: the run program, and the host's call through call_driver.
+
+Each is named by the path of an executable; python3:PATH takes a Python program with run and host_step instead.
+What goes wrong with a process (a signal, an exit status, words on standard error, no end) comes back as text,
+which equals no answer.
+"""
+
+import importlib.util
+import os
+import select
+import struct
+import subprocess
+import tempfile
+import time
+
+PATTERN = 0xA5          # fills the room before a call, as call_driver.c does
+PATIENCE = 120          # seconds for one session or call
+PYTHON = "python3:"
+
+
+def load(path, name):
+    """A fresh copy of a Python program as a module."""
+    spec = importlib.util.spec_from_file_location(name, path)
+    module = importlib.util.module_from_spec(spec)
+    spec.loader.exec_module(module)
+    return module
+
+
+def complaint(status, errors):
+    """What a process says besides its answers, "" where all is well."""
+    text = f"(exit status {status})\n" if status > 0 else f"(ended by signal {-status})\n" if status < 0 else ""
+    return text + errors.decode("utf-8", "backslashreplace")
+
+
+# ---------------------------------------------------------------- The run program
+
+def run_program(path):
+    """A function from a session's bytes to the text printed, the input handed over whole or in pieces."""
+    if path.startswith(PYTHON):
+        module = load(path.removeprefix(PYTHON), "engine_run")
+        return lambda data, piece=None: module.run(data)
+
+    def run(data, piece=None):
+        process = subprocess.Popen([path], stdin=subprocess.PIPE, stdout=subprocess.PIPE, stderr=subprocess.PIPE)
+        if piece:
+            data = hand_over(process.stdin, data, piece)
+        try:
+            output, errors = process.communicate(data, timeout=PATIENCE)
+        except subprocess.TimeoutExpired:
+            process.kill()
+            process.communicate()
+            return f"(no end within {PATIENCE} seconds)\n"
+        return output.decode("ascii", "backslashreplace") + complaint(process.returncode, errors)
+
+    return run
+
+
+def hand_over(pipe, data, piece):
+    """Writes the input in pieces, so that a read may give fewer bytes than asked; gives what is left."""
+    try:
+        for at in range(0, len(data), piece):
+            os.write(pipe.fileno(), data[at:at + piece])
+            time.sleep(0)
+    except BrokenPipeError:         # the run has ended before its input did, as it may
+        pass
+    return b""
+
+
+# ---------------------------------------------------------------- The host's call
+
+def stream(mesh, field, step, room):
+    """A case as call_driver reads it."""
+    return struct.pack("<IIII", len(mesh), len(field), len(step), room) + mesh + field + step
+
+
+def with_room(number, record, room):
+    """The answer and the room's bytes after the call: only an accepted record is written."""
+    return number, (record or b"").ljust(room, bytes([PATTERN]))
+
+
+class Driver:
+    """call_driver as a process that answers one case after another."""
+
+    def __init__(self, path):
+        self.path, self.process = path, None
+
+    def __call__(self, mesh, field, step, room):
+        """(number, bytes of the room), or a text where there is no answer."""
+        if self.process is None:
+            self.errors = tempfile.TemporaryFile()
+            self.process = subprocess.Popen([self.path], stdin=subprocess.PIPE, stdout=subprocess.PIPE,
+                                            stderr=self.errors, bufsize=0)
+        try:
+            self.process.stdin.write(stream(mesh, field, step, room))
+        except BrokenPipeError:
+            return "(no answer)\n" + self.finish()
+        answer = b""
+        while len(answer) < 8 + room:
+            if not select.select([self.process.stdout], [], [], PATIENCE)[0]:
+                self.process.kill()
+                return f"(no answer within {PATIENCE} seconds)\n" + self.finish()
+            part = os.read(self.process.stdout.fileno(), 8 + room - len(answer))
+            if not part:
+                return "(no answer)\n" + self.finish()
+            answer += part
+        return struct.unpack_from("<Q", answer)[0], answer[8:]
+
+    def finish(self):
+        """Ends the process and gives its complaint, if it has one."""
+        if self.process is None:
+            return ""
+        process, self.process = self.process, None
+        output, _ = process.communicate(timeout=PATIENCE)
+        self.errors.seek(0)
+        said = complaint(process.returncode, self.errors.read())
+        self.errors.close()
+        return said + (f"({len(output)} bytes too many)\n" if output else "")
+
+
+class PythonDriver:
+    def __init__(self, path):
+        self.module = load(path, "engine_call")
+
+    def __call__(self, mesh, field, step, room):
+        return with_room(*self.module.host_step(mesh, field, step, room), room)
+
+    def finish(self):
+        return ""
+
+
+def driver(path):
+    return PythonDriver(path.removeprefix(PYTHON)) if path.startswith(PYTHON) else Driver(path)

@@ -1,0 +1,79 @@
+#!/usr/bin/env python3
+"""The comparison itself, with the reference in the place of the engine: what has to fail fails, and is kept small."""
+
+import argparse
+import subprocess
+import sys
+import tempfile
+from pathlib import Path
+
+HERE = Path(__file__).resolve().parent
+sys.path.insert(0, str(HERE))
+
+import engines
+import lagoon
+from slips import SLIPS
+
+SELF = f"python3:{HERE / 'lagoon.py'}"
+SMALL = 90              # bytes; about three cells with the faces between them and one step
+
+
+def compare(*words):
+    """Exit status and output of compare.py."""
+    done = subprocess.run([sys.executable, str(HERE / "compare.py"), *words], capture_output=True, text=True)
+    if done.stderr:
+        raise AssertionError(f"compare.py {' '.join(words)}: {done.stderr}")
+    return done.returncode, done.stdout
+
+
+def demand(fact, what):
+    if not fact:
+        raise AssertionError(what)
+
+
+def test_equal_and_every_cause():
+    status, text = compare("--run", SELF, "--call", SELF, "--sessions", "300", "--seed", "3")
+    demand(status == 0 and "no mismatch" in text, f"the reference differs from itself: {text}")
+
+
+def test_cause_never_reached():
+    status, text = compare("--run", SELF, "--call", SELF, "--sessions", "20", "--seed", "3")
+    demand(status == 1 and "NEVER REACHED" in text, f"20 sessions reach every cause: {text}")
+
+
+def test_silent_program():
+    """A program that prints nothing, as run and as call driver."""
+    for side in ("--run", "--call"):
+        with tempfile.TemporaryDirectory() as folder:
+            status, text = compare(side, "/bin/true", "--sessions", "20", "--keep", folder)
+            demand(status == 1 and "MISMATCH of true" in text, f"{side} /bin/true: {text}")
+
+
+def test_slips_kept_small():
+    """A slip ends a soak, and the small input that it leaves still shows the slip."""
+    for slip in ("floor", "still"):
+        wrong = engines.load(HERE / "lagoon.py", "wrong_lagoon")
+        SLIPS[slip](wrong)
+        with tempfile.TemporaryDirectory() as folder:
+            status, text = compare("--run", SELF, "--soak", "60", "--seed", "5", "--slip", slip, "--keep", folder)
+            kept = list(Path(folder).glob("*-small.bin"))
+            demand(status == 1 and len(kept) == 1, f"slip {slip} leaves no small session: {text}")
+            data = kept[0].read_bytes()
+            demand(wrong.run(data) != lagoon.run(data), f"slip {slip}: the small session shows nothing")
+            demand(len(data) <= SMALL, f"slip {slip}: {len(data)} bytes left: {text}")
+
+
+def test_small_call():
+    with tempfile.TemporaryDirectory() as folder:
+        status, text = compare("--call", SELF, "--soak", "60", "--seed", "5", "--slip", "bound", "--keep", folder)
+        kept = list(Path(folder).glob("*-small.bin"))
+        demand(status == 1 and len(kept) == 1, f"no small call: {text}")
+        demand(kept[0].stat().st_size <= 16 + SMALL, f"the small call is large: {text}")
+
+
+if __name__ == "__main__":
+    argparse.ArgumentParser(description=__doc__).parse_args()
+    tests = [value for name, value in list(globals().items()) if name.startswith("test_")]
+    for test in tests:
+        test()
+    print(f"{len(tests)} tests of the comparison hold")
