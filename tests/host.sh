@@ -1,5 +1,5 @@
 #!/usr/bin/env bash
-# The host's call from C: the example prints document 01's channel session, and the call agrees with the reference program.
+# The host's call from C: the example prints document 01's channel session. tests/compare.sh holds the call against the reference.
 set -euo pipefail
 cd "$(dirname "$0")/.."
 out=target/host
@@ -20,9 +20,5 @@ gcc $strict -fsanitize=address,undefined -fno-sanitize-recover=all -Iinclude exa
 if command -v valgrind >/dev/null; then
   valgrind -q --error-exitcode=1 "$out/host" | diff examples/host.out -
 else
-  echo "no valgrind here: only the guard pages below watch the library's own accesses"
+  echo "no valgrind here: the library's own accesses are watched by the guard pages of tests/compare.sh alone"
 fi
-
-# every cause, beside the reference; each buffer ends at a page that may not be touched
-gcc $strict -DGUARD_PAGES reference/call_driver.c "$lib" -o "$out/call_driver"
-python3 reference/compare.py --call "$out/call_driver" --sessions 1000 --seed 1

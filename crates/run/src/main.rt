@@ -4,12 +4,12 @@ mod reading;
 
 use checks::TotalAnswer;
 use libc::STDOUT_FILENO;
+use model::RUN_CELLS;
+use model::RUN_FACES;
 use model::Refusal;
 use records::MeshAnswer;
 use session::Line;
 use session::RECORD;
-use session::RUN_CELLS;
-use session::RUN_FACES;
 use session::StepTaken;
 ghost use Prim.Native.Nat.{_≤_};
 ghost use lib.ListN.{length};

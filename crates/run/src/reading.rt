@@ -1,8 +1,8 @@
 // Records read from standard input: a head, and then as many bytes as it asks for.
 use libc::STDIN_FILENO;
+use model::RUN_CELLS;
+use model::RUN_FACES;
 use records::LengthAnswer;
-use session::RUN_CELLS;
-use session::RUN_FACES;
 ghost use Prim.Native.Nat.{_≤_};
 ghost use lib.ListN.{length};
 ghost use Rattle.io.specs.Counts.{Counts};

@@ -13,7 +13,7 @@ use Rattle.lists.specs.Fold.{sum}
 use Rattle.lists.proofs.Tests.{leb-le, le-leb, both-true}
 use Rattle.lists.proofs.Tables.{length-table, getD-table, over-table, length-over, getD-over}
 use Rattle.lists.proofs.Sums.{sum-cong}
-use Rattle.model.specs.Mesh.{Mesh, meshOf, total}
+use Rattle.model.specs.Mesh.{Mesh, meshOf, total, runCells, runFaces}
 use Rattle.model.specs.Step.{StepInput, next, inMass, outMass}
 use Rattle.model.specs.Causes.{Outcome, accepted, refused, Verdict, fine, _andThen_, taken, need, each, Call, callOf, inputOf, countsWithin, counts, meshTables, volumeGood, endsGood, spacingGood, meshValues, meshVerdict, meshFieldVerdict, verdict}
 use Rattle.model.specs.Answers.{number, told, said}
@@ -39,7 +39,7 @@ use Rattle.records.specs.declared.Counts.{Counts}
 use Rattle.session.specs.declared.Printed.{Printed}
 use Rattle.session.specs.declared.StepTaken.{StepTaken}
 use Rattle.session.specs.declared.StepTaken.the-variants as step-taken
-use Rattle.session.specs.Taking.{runCells, runFaces, meshTaken, meshReadIn, MeshTaking, fieldTaken, FieldTaking, printedOf, stepTo, massesAfter, Stepping, stepReadIn, callIn, StepTaking}
+use Rattle.session.specs.Taking.{meshTaken, meshReadIn, MeshTaking, fieldTaken, FieldTaking, printedOf, stepTo, massesAfter, Stepping, stepReadIn, callIn, StepTaking}
 
 -- an answer with a value, taken apart
 refused-of : {A : Type 0} (v : Verdict) (x : A) (k i : ℕ) → refused k i ≡ (v andThen accepted x) → v ≡ refused k i

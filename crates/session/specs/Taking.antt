@@ -5,7 +5,7 @@ use mathlib.Core.List.{List}
 use lib.ListN.{length}
 use lib.IntN.{ℤ}
 use Rattle.lists.specs.Table.{table, over}
-use Rattle.model.specs.Mesh.{Mesh, total}
+use Rattle.model.specs.Mesh.{Mesh, total, runCells, runFaces}
 use Rattle.model.specs.Step.{next, inMass, outMass}
 use Rattle.model.specs.Causes.{Outcome, accepted, Verdict, _andThen_, taken, Call, callOf, inputOf, meshValues, meshFieldVerdict, verdict}
 use Rattle.model.specs.Calls.{massIn, nextTable, movedTable, workTable}
@@ -19,14 +19,7 @@ use Rattle.session.specs.Session.{takenSaid}
 use Rattle.session.specs.declared.Printed.{Printed}
 use Rattle.session.specs.declared.StepTaken.{StepTaken}
 
--- "It takes up to 1,023 cells and 2,046 faces, and a larger mesh is its cause 1."
-abbrev pub runCells : ℕ
-runCells = 1023
-
-abbrev pub runFaces : ℕ
-runFaces = 2046
-
--- A mesh is read within the run's limits, then judged by 3 to 5. A reading that is accepted fills its tables.
+-- "It takes up to 1,023 cells and 2,046 faces, and a larger mesh is its cause 1." A mesh is read within these limits, then judged by 3 to 5. A reading that is accepted fills its tables.
 unfoldable pub meshTaken : List ℕ → ℕ → ℕ → ℕ → ℕ → ℕ → Outcome Counts
 meshTaken bs volumes firsts seconds weights spans = meshHeadVerdict runCells runFaces bs andThen meshBodyVerdict bs volumes firsts seconds weights spans
     andThen meshValues (meshIn bs) andThen accepted (countsIn bs)

@@ -7,6 +7,8 @@ pub use lines::board_line;
 pub use lines::refusal_line;
 pub use lines::step_line;
 use model::Cause;
+use model::RUN_CELLS;
+use model::RUN_FACES;
 use model::Refusal;
 use records::LengthAnswer;
 pub use taking::take_field;
@@ -17,11 +19,6 @@ ghost use mathlib.Core.Bool.{not};
 ghost use Prim.Native.Nat.{_+_, _≤_, min};
 ghost use Rattle.records.specs.Answers.{lengthSaid};
 ghost use Rattle.session.specs.Session.{Holds, endsRun, stillNeeded, lineOf, goesOn};
-
-// Most cells and faces of a run.
-pub const RUN_CELLS: usize = 1023;
-
-pub const RUN_FACES: usize = 2046;
 
 // Bytes of the longest record within these: a mesh of all cells and faces.
 pub const RECORD: usize = 12792;

@@ -1,10 +1,10 @@
 // A record's bytes taken into the run: read, judged and, where it is a step, stepped.
 use crate::Printed;
-use crate::RUN_CELLS;
-use crate::RUN_FACES;
 use crate::StepTaken;
 use checks::TotalAnswer;
 use model::Answer;
+use model::RUN_CELLS;
+use model::RUN_FACES;
 use records::MeshAnswer;
 use transport::StepAnswer;
 ghost use mathlib.Core.Path.{_≡_};
