@@ -1,4 +1,4 @@
-.PHONY: run test
+.PHONY: run test bench
 
 # the channel session of document 01
 run:
@@ -9,3 +9,7 @@ run:
 # the gate: tests, proofs, must-fail edits, programs
 test:
 	.ci/run
+
+# a step's time against plain C, and its growth with the lagoon
+bench:
+	bench/run.sh
