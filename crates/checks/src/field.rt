@@ -14,7 +14,7 @@ ghost use Rattle.model.specs.Answers.{said};
 ghost use Rattle.model.specs.Calls.{massIn};
 
 // One cell's concentration within the ceiling, without a division.
-pub fn salt_fits(volume: u64, mass: u64) -> bool
+fn salt_fits(volume: u64, mass: u64) -> bool
     requires { ⌜ (1 ≤ volume) × (volume ≤ maxVolume) ⌝ }
     ensures { λ r. ⌜ r ≡ leb (mass / volume) maxConcentration ⌝ }
 {

@@ -15,7 +15,7 @@ ghost use Rattle.model.specs.Causes.{each, between as betweenOf, volumeGood, en
 ghost use Rattle.model.specs.Answers.{said};
 
 // Cause 3.
-pub fn volumes_good(cells: usize, volumes: &[u64]) -> Answer
+fn volumes_good(cells: usize, volumes: &[u64]) -> Answer
     requires { ⌜ cells ≤ length (now volumes) ⌝ }
     ensures { λ r. ⌜ said r ≡ each 3 cells (volumeGood (meshOf cells 0 (now (volumes .entry)) [] [] [] [])) ⌝ }
 {
@@ -33,7 +33,7 @@ pub fn volumes_good(cells: usize, volumes: &[u64]) -> Answer
 }
 
 // One face's ends: the first a cell, the second a cell or the boundary, and not the same.
-pub fn ends_fit(cells: u64, first: u64, second: u64) -> bool
+fn ends_fit(cells: u64, first: u64, second: u64) -> bool
     ensures { λ r. ⌜ r ≡ (ltb first cells && (ltb second cells || eqb second boundary) && not (eqb first second)) ⌝ }
 {
     if cells <= first {
@@ -49,7 +49,7 @@ pub fn ends_fit(cells: u64, first: u64, second: u64) -> bool
 }
 
 // Cause 4.
-pub fn ends_good(cells: usize, faces: usize, firsts: &[u64], seconds: &[u64]) -> Answer
+fn ends_good(cells: usize, faces: usize, firsts: &[u64], seconds: &[u64]) -> Answer
     requires { ⌜ (faces ≤ length (now firsts)) × (faces ≤ length (now seconds)) ⌝ }
     ensures { λ r. ⌜ said r ≡ each 4 faces (endsGood (meshOf cells faces [] (now (firsts .entry)) (now (seconds .entry)) [] [])) ⌝ }
 {
@@ -67,7 +67,7 @@ pub fn ends_good(cells: usize, faces: usize, firsts: &[u64], seconds: &[u64]) ->
 }
 
 // One face's weight and span: both 0 at the boundary, both in their ranges inside.
-pub fn spacing_fits(second: u64, weight: u64, span: u64) -> bool
+fn spacing_fits(second: u64, weight: u64, span: u64) -> bool
     ensures { λ r. ⌜ r ≡ cond (eqb second boundary) (eqb weight 0 && eqb span 0) (betweenOf 1 maxWeight weight && betweenOf 1 maxSpan span) ⌝ }
 {
     if second == model::BOUNDARY {
@@ -83,7 +83,7 @@ pub fn spacing_fits(second: u64, weight: u64, span: u64) -> bool
 }
 
 // Cause 5.
-pub fn spacing_good(faces: usize, seconds: &[u64], weights: &[u64], spans: &[u64]) -> Answer
+fn spacing_good(faces: usize, seconds: &[u64], weights: &[u64], spans: &[u64]) -> Answer
     requires { ⌜ (faces ≤ length (now seconds)) × (faces ≤ length (now weights)) × (faces ≤ length (now spans)) ⌝ }
     ensures { λ r. ⌜ said r ≡ each 5 faces (spacingGood (meshOf 0 faces [] [] (now (seconds .entry)) (now (weights .entry)) (now (spans .entry)))) ⌝ }
 {

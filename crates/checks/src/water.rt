@@ -16,7 +16,7 @@ ghost use Rattle.model.specs.Causes.{_andThen_, each, callOf, outsideGood, flux
 ghost use Rattle.model.specs.Answers.{said};
 
 // The largest outside value of one face: 0 elsewhere than at an inflow through the boundary.
-pub fn most_outside(second: u64, negative: bool) -> u64
+fn most_outside(second: u64, negative: bool) -> u64
     ensures { λ r. ⌜ r ≡ cond (eqb second boundary && negative) maxConcentration 0 ⌝ }
 {
     if second != model::BOUNDARY {
@@ -29,7 +29,7 @@ pub fn most_outside(second: u64, negative: bool) -> u64
 }
 
 // The largest size of one face's flux.
-pub fn most_flux(second: u64, span: u64) -> u64
+fn most_flux(second: u64, span: u64) -> u64
     ensures { λ r. ⌜ r ≡ cond (eqb second boundary) maxBoundaryFlux span ⌝ }
 {
     if second == model::BOUNDARY {
@@ -39,14 +39,14 @@ pub fn most_flux(second: u64, span: u64) -> u64
 }
 
 // Whether a value is within the largest that may stand.
-pub fn within(most: u64, x: u64) -> bool
+fn within(most: u64, x: u64) -> bool
     ensures { λ r. ⌜ r ≡ leb x most ⌝ }
 {
     x <= most
 }
 
 // Cause 7.
-pub fn outsides_good(faces: usize, seconds: &[u64], fluxes: &[i64], outsides: &[u64]) -> Answer
+fn outsides_good(faces: usize, seconds: &[u64], fluxes: &[i64], outsides: &[u64]) -> Answer
     requires { ⌜ (faces ≤ length (now seconds)) × (faces ≤ length (now fluxes)) × (faces ≤ length (now outsides)) ⌝ }
     ensures { λ r. ⌜ said r ≡ each 7 faces (outsideGood (meshOf 0 faces [] [] (now (seconds .entry)) [] []) [] (callOf (now (fluxes .entry)) (now (outsides .entry)) [] [] [])) ⌝ }
 {
@@ -65,7 +65,7 @@ pub fn outsides_good(faces: usize, seconds: &[u64], fluxes: &[i64], outsides: &[
 }
 
 // Cause 8.
-pub fn fluxes_good(faces: usize, seconds: &[u64], spans: &[u64], fluxes: &[i64]) -> Answer
+fn fluxes_good(faces: usize, seconds: &[u64], spans: &[u64], fluxes: &[i64]) -> Answer
     requires { ⌜ (faces ≤ length (now seconds)) × (faces ≤ length (now spans)) × (faces ≤ length (now fluxes)) ⌝ }
     ensures { λ r. ⌜ said r ≡ each 8 faces (fluxGood (meshOf 0 faces [] [] (now (seconds .entry)) [] (now (spans .entry))) [] (callOf (now (fluxes .entry)) [] [] [] [])) ⌝ }
 {

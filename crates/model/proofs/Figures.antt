@@ -49,7 +49,7 @@ pair = record { cells = 2; faces = 2; volumes = 10 ∷ 10 ∷ []; firsts = 0 ∷
 abbrev pub lake : ℕ → Mesh
 lake v = record { cells = 1; faces = 0; volumes = v ∷ []; firsts = []; seconds = []; weights = []; spans = [] }
 
--- one cell of V 100 that the flux u + 1 leaves and enters over the boundary
+-- one cell of V 100 with two faces over the boundary
 abbrev pub strait : Mesh
 strait = record { cells = 1; faces = 2; volumes = 100 ∷ []; firsts = 0 ∷ 0 ∷ []; seconds = boundary ∷ boundary ∷ []; weights = 0 ∷ 0 ∷ []; spans = 0 ∷ 0 ∷ [] }
 
@@ -151,7 +151,7 @@ figures = record {
   alone = λ v m. no-faces (record { mesh = lake v; masses = m ∷ []; fluxes = []; outsides = [] }) refl 0;
 }
 
--- Not in document 01.
+-- Besides the lines marked P.
 -- the second cell upwind: U −100, K 100, s 1, so t is 255; the correction runs with the water, toward cell 0
 second-upwind : correction (between 1000 0 (negsuc 99) 1 100) 0 ≡ negsuc 49608
 unfolding everything

@@ -1,4 +1,4 @@
--- Document 01, "A list of steps": demand 3 about any calls that are lent a field and refuse it or leave another.
+-- Document 01, "A list of steps": demand 3 about any calls that are lent a field and are refused, or leave another field.
 use Prim.Native.Nat.{ℕ, _+_, _/_, _≤_, _<_}
 use mathlib.Core.Path.{_≡_}
 use mathlib.Core.List.{List, [], _∷_}

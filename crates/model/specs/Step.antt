@@ -10,7 +10,7 @@ use Rattle.lists.specs.Fold.{sum, least, greatest}
 use Rattle.signed.specs.Sign.{forward, backward, size, isZero, isNegative, withSign}
 use Rattle.model.specs.Mesh.{Mesh, volume, first, second, weight, span, atBoundary, incoming, outgoing, updated}
 
--- "A correction of size a becomes .. a where the receiver has P ≤ G, else a·G/P rounded down"
+-- "A correction of size a becomes .. a where the receiver has P ≤ G, else a·G/P rounded down"; the same with N and L of the giver
 unfoldable pub portion : ℕ → ℕ → ℕ → ℕ
 portion a g p = cond (leb p g) a (a * g / p)
 

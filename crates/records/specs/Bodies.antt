@@ -40,7 +40,7 @@ pub record StepBody (body : List ℕ) (faces : ℕ) (seconds : List ℕ) (fluxes
   pub fluxes-are : fluxes ≡ table faces (λ f. withSign (eqb (bitsAt body (f * fluxBits) signBits) 1) (bitsAt body (f * fluxBits + signBits) sizeBits))
   pub outsides-are : outsides ≡ table faces (λ f. cond (isBoundary seconds f) (bitsAt body (faces * fluxBits + boundaryFaces seconds f * outsideBits) outsideBits) 0)
 
--- what the tables hold once a tested record has been read into them
+-- a record whose head and body are tested, before it is read
 pub record MeshTested (cells faces : ℕ) (bs : List ℕ) (volumes firsts seconds weights spans : ℕ) : Type 0 where
   pub cells-are : cells ≡ cellsIn bs
   pub faces-are : faces ≡ facesIn bs
@@ -48,6 +48,7 @@ pub record MeshTested (cells faces : ℕ) (bs : List ℕ) (volumes firsts second
   pub few-faces : faces ≤ maxFaces
   pub passed : meshBodyVerdict bs volumes firsts seconds weights spans ≡ fine
 
+-- what the tables hold once a tested record has been read into them
 pub record MeshFilled (bs volumes firsts seconds weights spans volumes′ firsts′ seconds′ weights′ spans′ : List ℕ) : Type 0 where
   pub volumes-full : volumes′ ≡ over (volumesIn bs) volumes
   pub firsts-full : firsts′ ≡ over (firstsIn bs) firsts

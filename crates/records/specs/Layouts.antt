@@ -128,7 +128,7 @@ fieldRecord cells masses = packed (fieldFields cells masses)
 unfoldable pub stepRecord : ℕ → List ℕ → List ℤ → List ℕ → List ℕ
 stepRecord faces seconds fluxes outsides = packed (stepFields faces seconds fluxes outsides)
 
--- The rim faces below face n.
+-- How many rim faces there are below face n.
 unfoldable pub boundaryFaces : List ℕ → ℕ → ℕ
 boundaryFaces seconds n = sum n (λ f. cond (isBoundary seconds f) 1 0)
 

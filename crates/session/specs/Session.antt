@@ -15,7 +15,7 @@ use Rattle.session.specs.declared.StepTaken.the-variants.{Stepped, Refus
 use Rattle.session.specs.declared.Printed.{Printed}
 use Rattle.session.specs.Lines.{stepLine, refusedStepLine}
 
--- A line by value: its first bytes are the text.
+-- A line by value: its first bytes are the text. What the bytes after them are is left open; nobody prints them.
 abbrev pub Holds : Line → List ℕ → Type 0
 Holds line text = Counts (line .used) (line .bytes) × (take (line .used) (line .bytes) ≡ text)
 

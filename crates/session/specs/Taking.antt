@@ -1,4 +1,5 @@
--- Document 01, "The board and the run": what becomes of each record that the run takes.
+-- Document 01, "The board and the run": what becomes of each record that the run takes. Each is two calls of document 01, one after the
+-- other: a reading, and where that is accepted the call that judges the values or makes the step.
 use Prim.Native.Nat.{ℕ}
 use mathlib.Core.Path.{_≡_}
 use mathlib.Core.List.{List}
@@ -70,7 +71,8 @@ stepReadIn M bs k = stepRead (M .faces) (M .seconds) bs (length (k .fluxes)) (le
 abbrev pub callIn : Mesh → List ℕ → Call → Call
 callIn M bs k = callOf (fluxesIn bs (M .faces)) (outsidesIn bs (M .faces) (M .seconds)) (k .nexts) (k .moveds) (k .work)
 
--- The answer, the field and the other lent tables afterwards. A refusal leaves the field and the step's results as they were.
+-- The answer, the field and the other lent tables afterwards. A refusal leaves the field and the step's results as they were; fluxes and
+-- outside values are filled by a reading that is accepted, and by no other.
 pub record StepTaking (M : Mesh) (masses bs : List ℕ) (k : Call) (r : StepTaken) (masses′ : List ℕ) (k′ : Call) : Type 0 where
   pub answer : takenSaid r ≡ (stepReadIn M bs k andThen stepTo M masses (callIn M bs k))
   pub masses-after : masses′ ≡ taken (stepReadIn M bs k) (massesAfter M masses (callIn M bs k)) masses
