@@ -1,6 +1,6 @@
 -- Entries past the counts mean nothing: a step on tables cut to their counts has the same neighbourhoods and the same in- and out-mass.
 use Prim.Native.Nat.{ℕ, _/_, _≤_, _<_}
-use mathlib.Core.Path.{_≡_, refl}
+use mathlib.Core.Path.{_≡_, refl, sym, ap, _∙_}
 use mathlib.Core.Logic.{_≢_}
 use mathlib.Core.Bool.{Bool, true, false, cond}
 use mathlib.Core.List.{List}
@@ -11,7 +11,7 @@ use lib.ListN.{length}
 use Rattle.lists.specs.Table.{table}
 use Rattle.lists.proofs.Tests.{Same, other, same?}
 use Rattle.lists.proofs.Sums.{sum-cong, least-cong, greatest-cong}
-use Rattle.lists.proofs.Tables.{getD-table}
+use Rattle.lists.proofs.Tables.{getD-table, table-cong}
 use Rattle.signed.specs.Sign.{isZero, isNegative}
 use Rattle.model.specs.Mesh.{Mesh, meshOf, volume, first, second, weight, span, boundary, total}
 use Rattle.model.specs.Step.{StepInput, flux, outside, concentration, adjacent, lo, hi, inMass, outMass}
@@ -94,4 +94,23 @@ module _ (M : Mesh) (fit : MeshFit M) (field : List ℕ) (k : Call) where
     budget = omega (arith, f .budget, sum-cong (M .cells) (massIn (cutField M field)) (massIn field) (λ c h. getD-table (M .cells) (massIn field) 0 c h));
     holds = bounded-same (l .field) (f .holds);
     field-accepted = accepted-same (l .field) long (f .field-accepted);
+  }
+
+-- the same of two fields that agree in the counted entries
+module _ (M : Mesh) (fit : MeshFit M) (field other : List ℕ) (same-masses : (c : ℕ) → c < M .cells → massIn other c ≡ massIn field c) (k : Call) where
+  cut-same : cutField M other ≡ cutField M field
+  cut-same = table-cong 0 (M .cells) (massIn other) (massIn field) same-masses
+
+  other-bounded : (after : List ℕ) → Bounded (inputOf M other k) after → Bounded (inputOf M field k) after
+  other-bounded after b c h =
+      let low = sym (lo-same M fit other k c h) ∙ ap (λ (m : List ℕ). lo (inputOf (cut M) m k) c) cut-same ∙ lo-same M fit field k c h in
+      let high = sym (hi-same M fit other k c h) ∙ ap (λ (m : List ℕ). hi (inputOf (cut M) m k) c) cut-same ∙ hi-same M fit field k c h in
+      (rw (← low) (b c h .0), rw (← high) (b c h .1))
+
+  pub fair-other : (l : Left) → Fair M (Bounded (inputOf M other k) (l .field)) other l → Fair M (Bounded (inputOf M field k) (l .field)) field l
+  unfolding total
+  fair-other l f = record {
+    budget = omega (arith, f .budget, sum-cong (M .cells) (massIn other) (massIn field) same-masses);
+    holds = other-bounded (l .field) (f .holds);
+    field-accepted = f .field-accepted;
   }

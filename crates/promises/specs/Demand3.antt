@@ -1,22 +1,23 @@
 -- Document 01, "A list of steps": the step calls of a list, on tables and on records, and demand 3 about every list of them.
 use Prim.Native.Nat.{ℕ}
 use mathlib.Core.Path.{_≡_}
-use mathlib.Core.List.{List}
+use mathlib.Core.List.{List, [], _∷_, _++_}
 use lib.ListN.{length, take}
+use Rattle.lists.specs.Table.{table}
 use Rattle.model.specs.Mesh.{Mesh}
 use Rattle.model.specs.Step.{StepInput, inMass, outMass}
 use Rattle.model.specs.Causes.{Outcome, accepted, refused, fine, _andThen_, Call, inputOf, meshVerdict, fieldVerdict}
-use Rattle.model.specs.Calls.{Bounded, Left, nextTable, movedTable, workTable, stepOnTables, Claim}
+use Rattle.model.specs.Calls.{massIn, Bounded, Left, fieldAfter, nextTable, movedTable, workTable, stepOnTables, Claim}
 use Rattle.records.specs.Layouts.{meshRecord, fieldRecord, fieldLength}
 use Rattle.records.specs.Reading.{massesIn, fluxesIn, outsidesIn}
 use Rattle.records.specs.Writing.{waterOf}
 use Rattle.lagoon.specs.Host.{hostVerdict, hostBytes}
 
 -- A step call of a list, with what is lent to it besides mesh and field. "The other tables may be filled anew each time, from records
--- or otherwise, with any values and of any length": all tables of a step, or the bytes of a step record and the bytes lent for the next
--- field record.
+-- or otherwise, with any values and of any length". On tables: what stands in the table of masses past the counts, and all other tables
+-- of a step. On records: the bytes of a step record, and the bytes lent for the next field record.
 pub data StepCall : Type 0 where
-  onTables : Call → StepCall
+  onTables : List ℕ → Call → StepCall
   onRecords : List ℕ → List ℕ → StepCall
 
 module _ (M : Mesh) where
@@ -24,13 +25,18 @@ module _ (M : Mesh) where
   abbrev pub waterIn : List ℕ → Call
   waterIn step = waterOf (fluxesIn step (M .faces)) (outsidesIn step (M .faces) (M .seconds))
 
+  -- the table of masses lent to a call on tables
+  abbrev pub lentMasses : List ℕ → List ℕ → List ℕ
+  lentMasses past field = table (M .cells) (massIn field) ++ past
+
   -- what a call works on: the mesh, the field lent to it, and its fluxes and outside values
   abbrev pub workedOn : StepCall → List ℕ → StepInput
-  workedOn (onTables k) field = inputOf M field k
+  workedOn (onTables past k) field = inputOf M field k
   workedOn (onRecords step next) field = inputOf M field (waterIn step)
 
   module _ (step next field : List ℕ) where
-    -- "its mesh and field records hold the mesh and the field": the bytes lent for the next field record, after the call
+    -- "its mesh and field records hold the mesh and the field". No other bytes do: what reading accepts is the record of what was read
+    -- (`mesh-written-back`, `field-written-back`). The bytes lent for the next field record, after the call:
     abbrev pub bytesAfter : List ℕ
     bytesAfter = hostBytes (meshRecord M) (fieldRecord (M .cells) field) step next
 
@@ -45,29 +51,34 @@ module _ (M : Mesh) where
 
   -- "Each call is lent the mesh and, as masses, the field": what it comes to, refused or accepted with the field that it leaves
   abbrev pub comes : StepCall → List ℕ → Outcome Left
-  comes (onTables k) field = stepOnTables M k field
+  comes (onTables past k) field = stepOnTables M k (lentMasses past field)
   comes (onRecords step next) field = stepOnRecords step next field
 
   -- where the field of an accepted call stands: in the table of next masses, or as the next field record
   abbrev pub Stands : StepCall → List ℕ → Left → Type 0
-  Stands (onTables k) field l = nextTable M k field ≡ l .field
+  Stands (onTables past k) field l = nextTable M k (lentMasses past field) ≡ l .field
   Stands (onRecords step next) field l = nextRecord step next field ≡ fieldRecord (M .cells) (l .field)
 
   -- What is owed of each accepted call: "every concentration stays between the least and greatest of its neighbourhood before the step"
   abbrev pub Kept : StepCall → List ℕ → Left → Type 0
   Kept call field l = Bounded (workedOn call field) (l .field) × Stands call field l
 
-  -- "a refused step changes nothing": the tables and bytes lent to be filled
+  -- "a refused step changes nothing": of a refused call, what is lent to be filled is as it was; that the field is, `fieldAfter` says
   abbrev pub Unchanged : StepCall → List ℕ → Type 0
-  Unchanged (onTables k) field = (nextTable M k field ≡ k .nexts) × (movedTable M k field ≡ k .moveds) × (workTable M k field ≡ k .work)
+  Unchanged (onTables past k) field =
+      (nextTable M k (lentMasses past field) ≡ k .nexts) × (movedTable M k (lentMasses past field) ≡ k .moveds) × (workTable M k (lentMasses past field) ≡ k .work)
   Unchanged (onRecords step next) field = bytesAfter step next field ≡ next
 
--- DEMAND 3. "From any accepted mesh and first field, after any list of calls, on tables and on records, whichever are refused: total =
--- first total + in-masses − out-masses of the accepted ones; .. every concentration stays between the least and greatest of its
--- neighbourhood before the step."
-abbrev pub Demand3 : Type 0
-Demand3 = (M : Mesh) → meshVerdict M ≡ fine → (field : List ℕ) → fieldVerdict M field ≡ fine → (calls : List StepCall) → Claim M (comes M) (Kept M) field calls
+  abbrev pub EachRefused : List ℕ → List StepCall → Type 0
+  EachRefused field [] = Unit {0}
+  EachRefused field (call ∷ calls) = ((cause place : ℕ) → comes call field ≡ refused cause place → Unchanged call field) × EachRefused (fieldAfter (comes call field) field) calls
 
--- ".. a refused step changes nothing", of what is lent to be filled; that the field stays is part of the claim (`fieldAfter`).
-abbrev pub RefusedUnchanged : Type 0
-RefusedUnchanged = (M : Mesh) (call : StepCall) (field : List ℕ) (cause place : ℕ) → comes M call field ≡ refused cause place → Unchanged M call field
+  -- "total = first total + in-masses − out-masses of the accepted ones; a refused step changes nothing; every concentration stays
+  -- between the least and greatest of its neighbourhood before the step"
+  pub record Budgeted (field : List ℕ) (calls : List StepCall) : Type 0 where
+    pub claim : Claim M comes Kept field calls
+    pub refused-unchanged : EachRefused field calls
+
+-- DEMAND 3. "From any accepted mesh and first field, after any list of calls, on tables and on records, whichever are refused"
+abbrev pub Demand3 : Type 0
+Demand3 = (M : Mesh) → meshVerdict M ≡ fine → (field : List ℕ) → fieldVerdict M field ≡ fine → (calls : List StepCall) → Budgeted M field calls
