@@ -4,7 +4,7 @@
 #   call_sanitized   call_driver.c with the engine's library, the driver under AddressSanitizer
 #   call_guarded     the same without it, each buffer ending at a page that nobody may touch
 set -eu
-[ $# -eq 0 ] || { sed -n '2,5s/^# \{0,1\}//p' "$0"; exit 0; }
+[ "${1:-}" != --help ] || { sed -n '2,5s/^# \{0,1\}//p' "$0"; exit 0; }
 cd "$(dirname "$0")/.."
 out=target/compare
 library=target/staticlib/liblagoon.a
