@@ -1,6 +1,7 @@
 #!/usr/bin/env python3
 """The figures of document 01, checked against the reference. Fails at the first that differs."""
 
+import argparse
 import subprocess
 import sys
 from pathlib import Path
@@ -190,6 +191,7 @@ def test_conservation_and_bounds():
 
 
 if __name__ == "__main__":
+    argparse.ArgumentParser(description=__doc__).parse_args()
     tests = [value for name, value in list(globals().items()) if name.startswith("test_")]
     for test in tests:
         test()

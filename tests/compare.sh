@@ -2,6 +2,7 @@
 # The engine's run program and host's call against the reference on fixed cases; then each slip of document 01, put
 # into the reference, has to be seen by the same comparison; last, docs/ACCURACY.md shows what the engine gives.
 set -eu
+[ "${1:-}" != --help ] || { sed -n '2,3s/^# //p' "$0"; exit 0; }
 cd "$(dirname "$0")/.."
 reference/build.sh
 programs=(--run target/compare/run --call target/compare/call_sanitized --call target/compare/call_guarded)
