@@ -5,7 +5,7 @@ cd "$(dirname "$0")/.."
 out=target/host
 strict="-std=c11 -Wall -Wextra -Werror -pedantic -O2 -g"
 mkdir -p "$out"
-rt staticlib lagoon
+reference/build.sh
 lib=target/staticlib/liblagoon.a
 
 gcc $strict -Iinclude examples/host.c "$lib" -o "$out/host"
