@@ -37,7 +37,7 @@ use Rattle.promises.proofs.Counted.{fair-other}
 use Rattle.promises.proofs.OnRecords.{records-fair}
 
 -- A refused call.
-refused-first : {A : Type 0} (v : Verdict) (x : A) {i j : ℕ} → (v andThen accepted x) ≡ refused i j → v ≡ refused i j
+pub refused-first : {A : Type 0} (v : Verdict) (x : A) {i j : ℕ} → (v andThen accepted x) ≡ refused i j → v ≡ refused i j
 unfolding _andThen_
 refused-first (accepted t) x e = let z : _≡_ {A = ℕ} 0 1 = cc in absurd (omega arith)
 refused-first (refused a b) x e = cc

@@ -1,7 +1,8 @@
 -- What ties demand 3 to the code: the contracts of the two calls, taken as they stand, give what a list says of a call.
 use Prim.Native.Nat.{ℕ, _+_, _*_}
-use mathlib.Core.Path.{_≡_, _∙_}
+use mathlib.Core.Path.{_≡_, refl, _∙_}
 use mathlib.Core.List.{List}
+use native.Mathlib.Omega.{arith}
 use lib.IntN.{ℤ}
 use lib.ListN.{length, take}
 use Rattle.model.specs.Mesh.{Mesh}
@@ -13,7 +14,9 @@ use Rattle.transport.specs.declared.StepAnswer.{StepAnswer}
 use Rattle.records.specs.Layouts.{meshRecord, fieldRecord, fieldLength}
 use Rattle.records.specs.Reading.{massesIn}
 use Rattle.lagoon.specs.Host.{causeStep, hostVerdict, hostBytes, HostPromise}
+use Rattle.lagoon.proofs.Small.{taken-apart}
 use Rattle.promises.specs.Demand3.{onTables, onRecords, lentMasses, waterIn, stepOnRecords, comes}
+use Rattle.promises.proofs.Demand3.{refused-first}
 
 -- an answer with the table of next masses afterwards
 abbrev pub leftBy : Outcome Crossing → List ℕ → Outcome Left
@@ -34,12 +37,25 @@ step-comes M past k field r next moved work p = joined (verdict M (lentMasses M 
 
 -- The host's call on the records of a mesh and a field: from its number and the bytes that it leaves.
 module _ (M : Mesh) (step next field : List ℕ) (r : ℕ) (next′ : List ℕ) (p : HostPromise (meshRecord M) (fieldRecord (M .cells) field) step next r next′) where
-  pub host-accepted : hostVerdict (meshRecord M) (fieldRecord (M .cells) field) step (length next) ≡ fine
-      → (r ≡ 0) × (comes M (onRecords step next) field ≡ accepted (record { field = massesIn (take (fieldLength (M .cells)) next′) (M .cells); crossing = record { entered = inMass (inputOf M field (waterIn M step)); gone = outMass (inputOf M field (waterIn M step)) } }))
-  unfolding stepOnRecords _andThen_
-  host-accepted e = (p .number ∙ rw e, rw (e, p .next-field))
+  abbrev found : Verdict
+  found = hostVerdict (meshRecord M) (fieldRecord (M .cells) field) step (length next)
 
-  pub host-refused : (i j : ℕ) → hostVerdict (meshRecord M) (fieldRecord (M .cells) field) step (length next) ≡ refused i j
-      → (r ≡ causeStep * i + j) × (comes M (onRecords step next) field ≡ refused i j) × (next′ ≡ next)
-  unfolding stepOnRecords hostBytes _andThen_
-  host-refused i j e = (p .number ∙ rw e, rw e, p .next-field ∙ rw e)
+  zero-is-fine : r ≡ 0 → found ≡ fine
+  zero-is-fine z = go found refl
+    where
+      go : (v : Verdict) → found ≡ v → found ≡ fine
+      go (accepted t) e = e
+      go (refused i j) e =
+          let n : r ≡ causeStep * i + j = p .number ∙ rw e in
+          absurd (omega (arith, n, z, taken-apart (meshRecord M) (fieldRecord (M .cells) field) step (length next) i j e))
+
+  -- 0: the next field record holds the field
+  pub host-accepted : r ≡ 0
+      → comes M (onRecords step next) field ≡ accepted (record { field = massesIn (take (fieldLength (M .cells)) next′) (M .cells); crossing = record { entered = inMass (inputOf M field (waterIn M step)); gone = outMass (inputOf M field (waterIn M step)) } })
+  unfolding stepOnRecords _andThen_
+  host-accepted z = rw (zero-is-fine z, p .next-field)
+
+  -- any other number: cause and place of the refusal, and the bytes as they were
+  pub host-refused : (i j : ℕ) → comes M (onRecords step next) field ≡ refused i j → (r ≡ causeStep * i + j) × (next′ ≡ next)
+  unfolding stepOnRecords hostBytes
+  host-refused i j e = let f = refused-first found _ e in (p .number ∙ rw f, p .next-field ∙ rw f)
