@@ -17,7 +17,7 @@ const STEP_HEAD: usize = 4;
 // Bytes read into buffer[from..to]. Answers where they end.
 fn bytes(buffer: &mut [u8], from: usize, to: usize) -> usize
     requires { ⌜ (from ≤ to) × (to ≤ length (now buffer)) ⌝ }
-    ensures { λ r. ⌜ Counts r (now (buffer .exit)) ⌝ }
+    ensures { λ r. ⌜ Counts r (now (buffer .exit)) × (r ≤ to) ⌝ }
 {
     let more = io::read_full(STDIN_FILENO, &mut buffer[from..to]);
     from + more
@@ -25,15 +25,15 @@ fn bytes(buffer: &mut [u8], from: usize, to: usize) -> usize
 
 // What is left of a record of which `got` bytes have come. Answers how many have come then.
 fn rest(answer: LengthAnswer, got: usize, buffer: &mut [u8]) -> usize
-    requires { ⌜ got ≤ length (now buffer) ⌝ }
+    requires { do ⌜ (got ≤ (← ⟦session::RECORD⟧)) × ((← ⟦session::RECORD⟧) ≤ length (now buffer)) ⌝ }
     ensures { λ r. ⌜ Counts r (now (buffer .exit)) ⌝ }
 {
-    let more = session::rest(answer, got, buffer.len());
+    let more = session::rest(answer, got);
     bytes(buffer, got, got + more)
 }
 
 pub fn mesh(buffer: &mut [u8]) -> usize
-    requires { ⌜ 4 ≤ length (now buffer) ⌝ }
+    requires { do ⌜ (← ⟦session::RECORD⟧) ≤ length (now buffer) ⌝ }
     ensures { λ r. ⌜ Counts r (now (buffer .exit)) ⌝ }
 {
     let got = bytes(buffer, 0, MESH_HEAD);
@@ -42,7 +42,7 @@ pub fn mesh(buffer: &mut [u8]) -> usize
 }
 
 pub fn field(cells: usize, buffer: &mut [u8]) -> usize
-    requires { ⌜ 4 ≤ length (now buffer) ⌝ }
+    requires { do ⌜ (← ⟦session::RECORD⟧) ≤ length (now buffer) ⌝ }
     ensures { λ r. ⌜ Counts r (now (buffer .exit)) ⌝ }
 {
     let got = bytes(buffer, 0, FIELD_HEAD);
@@ -51,7 +51,7 @@ pub fn field(cells: usize, buffer: &mut [u8]) -> usize
 }
 
 pub fn step(faces: usize, seconds: &[u64], buffer: &mut [u8]) -> usize
-    requires { ⌜ 4 ≤ length (now buffer) ⌝ }
+    requires { do ⌜ (← ⟦session::RECORD⟧) ≤ length (now buffer) ⌝ }
     ensures { λ r. ⌜ Counts r (now (buffer .exit)) ⌝ }
 {
     let got = bytes(buffer, 0, STEP_HEAD);

@@ -39,7 +39,8 @@ use Rattle.records.specs.declared.Counts.{Counts}
 use Rattle.session.specs.declared.Printed.{Printed}
 use Rattle.session.specs.declared.StepTaken.{StepTaken}
 use Rattle.session.specs.declared.StepTaken.the-variants as step-taken
-use Rattle.session.specs.Taking.{runCells, runFaces, meshTaken, meshReadIn, MeshTaking, fieldTaken, FieldTaking, printedOf, stepTo, massesAfter, Stepping, stepReadIn, callIn, StepTaking}
+use Rattle.session.specs.Session.{runCells, runFaces}
+use Rattle.session.specs.Taking.{meshTaken, meshReadIn, MeshTaking, fieldTaken, FieldTaking, printedOf, stepTo, massesAfter, Stepping, stepReadIn, callIn, StepTaking}
 
 -- an answer with a value, taken apart
 refused-of : {A : Type 0} (v : Verdict) (x : A) (k i : ℕ) → refused k i ≡ (v andThen accepted x) → v ≡ refused k i

@@ -15,16 +15,9 @@ use Rattle.records.specs.Reading.{volumesIn, firstsIn, secondsIn, weightsIn, sp
 use Rattle.records.specs.Answers.{meshSaid}
 use Rattle.records.specs.declared.Counts.{Counts}
 use Rattle.records.specs.declared.MeshAnswer.{MeshAnswer}
-use Rattle.session.specs.Session.{takenSaid}
+use Rattle.session.specs.Session.{runCells, runFaces, takenSaid}
 use Rattle.session.specs.declared.Printed.{Printed}
 use Rattle.session.specs.declared.StepTaken.{StepTaken}
-
--- "It takes up to 1,023 cells and 2,046 faces, and a larger mesh is its cause 1."
-abbrev pub runCells : ℕ
-runCells = 1023
-
-abbrev pub runFaces : ℕ
-runFaces = 2046
 
 -- A mesh is read within the run's limits, then judged by 3 to 5. A reading that is accepted fills its tables.
 unfoldable pub meshTaken : List ℕ → ℕ → ℕ → ℕ → ℕ → ℕ → Outcome Counts

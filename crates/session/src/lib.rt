@@ -16,15 +16,22 @@ ghost use mathlib.Core.Path.{_≡_};
 ghost use mathlib.Core.Bool.{not};
 ghost use Prim.Native.Nat.{_+_, _≤_, min};
 ghost use Rattle.records.specs.Answers.{lengthSaid};
-ghost use Rattle.session.specs.Session.{Holds, endsRun, stillNeeded, lineOf, goesOn};
+ghost use Rattle.session.specs.Session.{recordBytes, Holds, endsRun, stillNeeded, lineOf, goesOn};
 
 // Most cells and faces of a run.
 pub const RUN_CELLS: usize = 1023;
 
 pub const RUN_FACES: usize = 2046;
 
+// Bits of a mesh's head, and of a cell and a face in its body: `rest` holds them to the layout.
+const HEAD_BITS: usize = 32;
+
+const CELL_BITS: usize = 12;
+
+const FACE_BITS: usize = 44;
+
 // Bytes of the longest record within these: a mesh of all cells and faces.
-pub const RECORD: usize = 12792;
+pub const RECORD: usize = (HEAD_BITS + RUN_CELLS * CELL_BITS + RUN_FACES * FACE_BITS + 7) / 8;
 
 // Entries of a step's work: four for each cell and one for each face.
 pub const WORK: usize = 4 * RUN_CELLS + RUN_FACES;
@@ -99,13 +106,13 @@ fn least(a: usize, b: usize) -> usize
 }
 
 // How many bytes of a record are still to be read, of which so many have come.
-pub fn rest(answer: LengthAnswer, got: usize, room: usize) -> usize
-    ensures { λ r. ⌜ (r ≡ stillNeeded (lengthSaid answer) got room) × (got ≤ room → got + r ≤ room) ⌝ }
+pub fn rest(answer: LengthAnswer, got: usize) -> usize
+    ensures { λ r. ⌜ (r ≡ stillNeeded (lengthSaid answer) got) × (got ≤ recordBytes → got + r ≤ recordBytes) ⌝ }
 {
     let LengthAnswer::Needs(needed) = answer else {
         return 0;
     };
-    let end = least(needed, room);
+    let end = least(needed, RECORD);
     if end < got {
         return 0;
     }
