@@ -12,12 +12,20 @@ mod zeros;
 pub use crate::write::write_field;
 pub use crate::write::write_mesh;
 pub use crate::write::write_step;
+pub use heads::FIELD_HEAD;
+pub use heads::MESH_HEAD;
+pub use heads::STEP_HEAD;
 use model::Answer;
 use model::Refusal;
 ghost use mathlib.Core.Path.{_≡_};
 ghost use lib.ListN.{length};
 ghost use Rattle.records.specs.Reading.{meshNeeds, fieldNeeds, stepNeeds, meshRead, fieldRead, stepRead};
 ghost use Rattle.records.specs.Answers.{lengthSaid, MeshReading, FieldReading, StepReading};
+
+// Bits of a cell and of a face in a mesh record.
+pub const CELL_BITS: usize = body::Body::VOLUME;
+
+pub const FACE_BITS: usize = body::Body::FACE;
 
 // The counts of a mesh that has been read.
 pub struct Counts {

@@ -55,7 +55,7 @@ fn step_once(
     moved: &mut [i64],
     work: &mut [u64],
 ) -> bool
-    requires { ⌜ 4 ≤ length (now buffer) ⌝ }
+    requires { do ⌜ (← ⟦session::RECORD⟧) ≤ length (now buffer) ⌝ }
 {
     let got = reading::step(faces, seconds, buffer);
     if got == 0 {
@@ -98,7 +98,7 @@ fn steps(
     moved: &mut [i64],
     work: &mut [u64],
 )
-    requires { ⌜ 4 ≤ length (now buffer) ⌝ }
+    requires { do ⌜ (← ⟦session::RECORD⟧) ≤ length (now buffer) ⌝ }
 {
     let mut step: u64 = 0;
     while step < u64::MAX {
@@ -143,7 +143,7 @@ fn run_on(
     moved: &mut [i64],
     work: &mut [u64],
 )
-    requires { ⌜ 4 ≤ length (now buffer) ⌝ }
+    requires { do ⌜ (← ⟦session::RECORD⟧) ≤ length (now buffer) ⌝ }
 {
     let got = reading::field(cells, buffer);
     let answer = session::take_field(cells, &buffer[..got], volumes, masses);
@@ -188,7 +188,7 @@ fn run(
     moved: &mut [i64],
     work: &mut [u64],
 )
-    requires { ⌜ 4 ≤ length (now buffer) ⌝ }
+    requires { do ⌜ (← ⟦session::RECORD⟧) ≤ length (now buffer) ⌝ }
 {
     let got = reading::mesh(buffer);
     let answer = session::take_mesh(&buffer[..got], volumes, firsts, seconds, weights, spans);

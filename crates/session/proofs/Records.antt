@@ -1,7 +1,7 @@
 -- What taking a record comes to, from what the calls that it makes promise.
-use Prim.Native.Nat.{ℕ, zero, suc, _+_, _*_, _^_, _≤_, _<_}
+use Prim.Native.Nat.{ℕ, zero, suc, _^_, _≤_, _<_}
 use mathlib.Core.Path.{_≡_, refl, sym, ap, _∙_}
-use mathlib.Core.Bool.{Bool, true, false, _&&_}
+use mathlib.Core.Bool.{Bool, true, _&&_}
 use mathlib.Core.List.{List}
 use native.Mathlib.Omega.{arith}
 use lib.Dec.{leb}
@@ -15,8 +15,8 @@ use Rattle.lists.proofs.Tables.{length-table, getD-table, over-table, length-ov
 use Rattle.lists.proofs.Sums.{sum-cong}
 use Rattle.model.specs.Mesh.{Mesh, meshOf, total, runCells, runFaces}
 use Rattle.model.specs.Step.{StepInput, next, inMass, outMass}
-use Rattle.model.specs.Causes.{Outcome, accepted, refused, Verdict, fine, _andThen_, taken, need, each, Call, callOf, inputOf, countsWithin, counts, meshTables, volumeGood, endsGood, spacingGood, meshValues, meshVerdict, meshFieldVerdict, verdict}
-use Rattle.model.specs.Answers.{number, told, said}
+use Rattle.model.specs.Causes.{Outcome, accepted, refused, Verdict, fine, _andThen_, taken, each, Call, callOf, inputOf, countsWithin, counts, meshTables, volumeGood, endsGood, spacingGood, meshValues, meshVerdict, meshFieldVerdict, verdict}
+use Rattle.model.specs.Answers.{number, said}
 use Rattle.model.specs.Calls.{Crossing as Crossed, massIn, stepAnswer, nextTable}
 use Rattle.model.specs.declared.Answer.{Answer}
 use Rattle.model.specs.declared.Answer.the-variants.{Done, Refused}

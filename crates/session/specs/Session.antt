@@ -6,9 +6,11 @@ use mathlib.Core.Path.{_≡_}
 use lib.Dec.{eqb}
 use lib.ListN.{take}
 use Rattle.io.specs.Counts.{Counts}
+use Rattle.model.specs.Mesh.{runCells, runFaces}
 use Rattle.model.specs.Causes.{Outcome, accepted, refused}
 use Rattle.model.specs.Answers.{number, told}
 use Rattle.model.specs.declared.Cause.{Cause}
+use Rattle.records.specs.Layouts.{meshLength}
 use Rattle.session.specs.declared.Line.{Line}
 use Rattle.session.specs.declared.StepTaken.{StepTaken}
 use Rattle.session.specs.declared.StepTaken.the-variants.{Stepped, Refused}
@@ -23,10 +25,15 @@ Holds line text = Counts (line .used) (line .bytes) × (take (line .used) (line 
 abbrev pub endsRun : Cause → Bool
 endsRun c = eqb (number c) 11 || eqb (number c) 13
 
--- Of a record whose head asks for so many bytes, those not yet read, as far as the room goes. A refused head asks for no more.
-abbrev pub stillNeeded : Outcome ℕ → ℕ → ℕ → ℕ
-stillNeeded (accepted n) got room = min n room - got
-stillNeeded (refused _ _) got room = 0
+-- The longest record within these: a mesh of all cells and faces.
+abbrev pub recordBytes : ℕ
+recordBytes = meshLength runCells runFaces
+
+-- Of a record whose head asks for so many bytes, those not yet read. No head within the limits asks for more than the longest
+-- record, and a refused one asks for none.
+abbrev pub stillNeeded : Outcome ℕ → ℕ → ℕ
+stillNeeded (accepted n) got = min n recordBytes - got
+stillNeeded (refused _ _) got = 0
 
 -- "a definition gives this paper's number and values for each of its cases"
 abbrev pub takenSaid : StepTaken → Outcome Printed

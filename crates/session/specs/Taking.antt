@@ -20,7 +20,8 @@ use Rattle.session.specs.Session.{takenSaid}
 use Rattle.session.specs.declared.Printed.{Printed}
 use Rattle.session.specs.declared.StepTaken.{StepTaken}
 
--- "It takes up to 1,023 cells and 2,046 faces, and a larger mesh is its cause 1." A mesh is read within these limits, then judged by 3 to 5. A reading that is accepted fills its tables.
+-- "It takes up to 1,023 cells and 2,046 faces, and a larger mesh is its cause 1." A mesh is read within these limits, then judged by
+-- 3 to 5. A reading that is accepted fills its tables.
 unfoldable pub meshTaken : List ℕ → ℕ → ℕ → ℕ → ℕ → ℕ → Outcome Counts
 meshTaken bs volumes firsts seconds weights spans = meshHeadVerdict runCells runFaces bs andThen meshBodyVerdict bs volumes firsts seconds weights spans
     andThen meshValues (meshIn bs) andThen accepted (countsIn bs)

@@ -10,7 +10,10 @@ use model::Cause;
 use model::RUN_CELLS;
 use model::RUN_FACES;
 use model::Refusal;
+use records::CELL_BITS;
+use records::FACE_BITS;
 use records::LengthAnswer;
+use records::MESH_HEAD;
 pub use taking::take_field;
 pub use taking::take_mesh;
 pub use taking::take_step;
@@ -18,10 +21,10 @@ ghost use mathlib.Core.Path.{_≡_};
 ghost use mathlib.Core.Bool.{not};
 ghost use Prim.Native.Nat.{_+_, _≤_, min};
 ghost use Rattle.records.specs.Answers.{lengthSaid};
-ghost use Rattle.session.specs.Session.{Holds, endsRun, stillNeeded, lineOf, goesOn};
+ghost use Rattle.session.specs.Session.{recordBytes, Holds, endsRun, stillNeeded, lineOf, goesOn};
 
-// Bytes of the longest record within these: a mesh of all cells and faces.
-pub const RECORD: usize = 12792;
+// Bytes of the longest record within the run's limits, a mesh of all cells and faces. `rest` holds it to the layout.
+pub const RECORD: usize = MESH_HEAD + (RUN_CELLS * CELL_BITS + RUN_FACES * FACE_BITS + 7) / 8;
 
 // Entries of a step's work: four for each cell and one for each face.
 pub const WORK: usize = 4 * RUN_CELLS + RUN_FACES;
@@ -96,13 +99,13 @@ fn least(a: usize, b: usize) -> usize
 }
 
 // How many bytes of a record are still to be read, of which so many have come.
-pub fn rest(answer: LengthAnswer, got: usize, room: usize) -> usize
-    ensures { λ r. ⌜ (r ≡ stillNeeded (lengthSaid answer) got room) × (got ≤ room → got + r ≤ room) ⌝ }
+pub fn rest(answer: LengthAnswer, got: usize) -> usize
+    ensures { λ r. ⌜ (r ≡ stillNeeded (lengthSaid answer) got) × (got ≤ recordBytes → got + r ≤ recordBytes) ⌝ }
 {
     let LengthAnswer::Needs(needed) = answer else {
         return 0;
     };
-    let end = least(needed, room);
+    let end = least(needed, RECORD);
     if end < got {
         return 0;
     }

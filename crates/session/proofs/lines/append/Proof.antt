@@ -7,8 +7,6 @@ use lib.Seq.{take-length}
 use Rattle.session.proofs.Spelling.{put-none, put-next}
 use Rattle.session.proofs.lines.append.Statement.{statement}
 use Rattle.session.proofs.lines.append.Tie as tie
-use Rattle.session.proofs.lines.append.Reads as reads
-use Rattle.session.proofs.lines.append.Lts as lts
 
 abbrev Inv-loop : tie.InvT-loop
 Inv-loop line₀ at bytes i₀ line i = (i ≤ length bytes) × (length line ≡ length line₀) × (take (at + i) line ≡ take at line₀ ++ take i bytes)

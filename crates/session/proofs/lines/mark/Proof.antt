@@ -5,30 +5,22 @@ use lib.ListN.{length-set}
 use Rattle.session.proofs.Spelling.{put-mark}
 use Rattle.session.proofs.lines.mark.Statement.{statement}
 use Rattle.session.proofs.lines.mark.Tie as tie
-use Rattle.session.proofs.lines.mark.Reads as reads
-use Rattle.session.proofs.lines.mark.Lts as lts
 
--- src/lines.rt:45:5
 slice-write-line : tie.Need-slice-write-line
 slice-write-line c = search needs
 
--- src/lines.rt:46:10
 add-line : tie.Need-add-line
 add-line c = search needs
 
--- src/lines.rt:46:5
 slice-write-line-2 : tie.Need-slice-write-line-2
 slice-write-line-2 c = simp length-set (omega arith)
 
--- src/lines.rt:47:5
 add-result : tie.Need-add-result
 add-result c = search needs
 
--- src/lines.rt:41:1
 same-length : tie.Need-same-length
 same-length c = search needs
 
--- src/lines.rt:41:1
 returns : tie.Need-returns
 returns c = (refl, put-mark (c .args .at) (c .args .letter) (c .args .line .now) (omega arith) (simp length-set))
 

@@ -5,32 +5,22 @@ use Rattle.session.specs.Lines.{boardLine}
 use borrow.Author.Needs.{needs}
 use Rattle.session.proofs.lines.put_entry.Statement.{statement}
 use Rattle.session.proofs.lines.put_entry.Tie as tie
-use Rattle.session.proofs.lines.put_entry.Reads as reads
-use Rattle.session.proofs.lines.put_entry.Lts as lts
-use Rattle.session.proofs.lines.mark.Reads as mark-reads
-use Rattle.session.proofs.lines.word.Reads as word-reads
 
--- src/lines.rt:93:9
 mark-requires : tie.Need-mark-requires
 mark-requires c κs = search needs
 
--- src/lines.rt:94:9
 word-requires : tie.Need-word-requires
 word-requires c κs = search needs
 
--- src/lines.rt:95:9
 word-requires-2 : tie.Need-word-requires-2
 word-requires-2 c κs = search needs
 
--- src/lines.rt:96:5
 word-requires-3 : tie.Need-word-requires-3
 word-requires-3 c κs = search needs
 
--- src/lines.rt:89:1
 same-length : tie.Need-same-length
 same-length c = search needs
 
--- src/lines.rt:89:1
 returns : tie.Need-returns
 unfolding boardLine
 returns c = (counts _ _ (omega (arith, c .before .before .word3 .ensures .0, c .before .before .before .before .before .before .word2 .ensures .0, c .before .before .before .before .before .before .before .before .before .before .word .ensures .0, c .before .before .before .before .before .before .before .before .before .before .before .before .before .before .mark .ensures .0)), rw (c .before .before .word3 .ensures .1, c .before .before .before .before .before .before .word2 .ensures .1, c .before .before .before .before .before .before .before .before .before .before .word .ensures .1, c .before .before .before .before .before .before .before .before .before .before .before .before .before .before .mark .ensures .1) (simp append-assoc))

@@ -4,24 +4,16 @@ use Rattle.session.specs.Lines.{refusedStepLine}
 use borrow.Author.Needs.{needs}
 use Rattle.session.proofs.lines.put_refused_step.Statement.{statement}
 use Rattle.session.proofs.lines.put_refused_step.Tie as tie
-use Rattle.session.proofs.lines.put_refused_step.Reads as reads
-use Rattle.session.proofs.lines.put_refused_step.Lts as lts
-use Rattle.session.proofs.lines.refusal.Reads as refusal-reads
-use Rattle.session.proofs.lines.word.Reads as word-reads
 
--- src/lines.rt:84:9
 word-requires : tie.Need-word-requires
 word-requires c κs = search needs
 
--- src/lines.rt:85:5
 refusal-requires : tie.Need-refusal-requires
 refusal-requires c κs = search needs
 
--- src/lines.rt:80:1
 same-length : tie.Need-same-length
 same-length c = search needs
 
--- src/lines.rt:80:1
 returns : tie.Need-returns
 unfolding refusedStepLine
 returns c = (counts _ _ (omega (arith, c .before .before .refusal .ensures .0)), rw (c .before .before .refusal .ensures .1, c .before .before .before .before .before .before .word .ensures .1))

@@ -5,31 +5,22 @@ use Rattle.session.specs.Lines.{stepLine}
 use borrow.Author.Needs.{needs}
 use Rattle.session.proofs.lines.put_step.Statement.{statement}
 use Rattle.session.proofs.lines.put_step.Tie as tie
-use Rattle.session.proofs.lines.put_step.Reads as reads
-use Rattle.session.proofs.lines.put_step.Lts as lts
-use Rattle.session.proofs.lines.word.Reads as word-reads
 
--- src/lines.rt:73:9
 word-requires : tie.Need-word-requires
 word-requires c κs = search needs
 
--- src/lines.rt:74:9
 word-requires-2 : tie.Need-word-requires-2
 word-requires-2 c κs = search needs
 
--- src/lines.rt:75:9
 word-requires-3 : tie.Need-word-requires-3
 word-requires-3 c κs = search needs
 
--- src/lines.rt:76:5
 word-requires-4 : tie.Need-word-requires-4
 word-requires-4 c κs = search needs
 
--- src/lines.rt:69:1
 same-length : tie.Need-same-length
 same-length c = search needs
 
--- src/lines.rt:69:1
 returns : tie.Need-returns
 unfolding stepLine
 returns c = (counts _ _ (omega (arith, c .before .before .word4 .ensures .0, c .before .before .before .before .before .before .word3 .ensures .0, c .before .before .before .before .before .before .before .before .before .before .word2 .ensures .0, c .before .before .before .before .before .before .before .before .before .before .before .before .before .before .word .ensures .0)), rw (c .before .before .word4 .ensures .1, c .before .before .before .before .before .before .word3 .ensures .1, c .before .before .before .before .before .before .before .before .before .before .word2 .ensures .1, c .before .before .before .before .before .before .before .before .before .before .before .before .before .before .word .ensures .1) (simp append-assoc))

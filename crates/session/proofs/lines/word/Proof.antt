@@ -4,24 +4,16 @@ use lib.ListN.{take}
 use Rattle.session.proofs.Spelling.{few-digits, put-word}
 use Rattle.session.proofs.lines.word.Statement.{statement}
 use Rattle.session.proofs.lines.word.Tie as tie
-use Rattle.session.proofs.lines.word.Reads as reads
-use Rattle.session.proofs.lines.word.Lts as lts
-use Rattle.io.proofs.decimal.Reads as decimal-reads
-use Rattle.session.proofs.lines.append.Reads as append-reads
 
--- src/lines.rt:34:9
 decimal-requires : tie.Need-decimal-requires
 decimal-requires c κs = search needs
 
--- src/lines.rt:35:22
 array-share-prefix-text : tie.Need-array-share-prefix-text
 array-share-prefix-text c = search needs
 
--- src/lines.rt:35:22
 slice-aggregate-append : tie.Need-slice-aggregate-append
 slice-aggregate-append c = search needs
 
--- src/lines.rt:35:5
 append-requires : tie.Need-append-requires
 append-requires c κs = omega (arith, few-digits (c .before .before .decimal .result) (c .before .before .before .before .before .args .n) (omega arith) (c .before .before .decimal .ensures .1 .0), c .before .before .decimal .ensures .0 .1)
 
@@ -37,11 +29,9 @@ add-result c = omega (arith, few-digits (c .before .before .before .before .befo
 add-result-2 : tie.Need-add-result-2
 add-result-2 c = omega (arith, few-digits (c .before .before .before .before .before .decimal .result) (c .before .before .before .before .before .before .before .before .args .n) (omega arith) (c .before .before .before .before .before .decimal .ensures .1 .0))
 
--- src/lines.rt:29:1
 same-length : tie.Need-same-length
 same-length c = search needs
 
--- src/lines.rt:29:1
 returns : tie.Need-returns
 returns c =
     let s = c .before .before .before .before .before .before .before .before in

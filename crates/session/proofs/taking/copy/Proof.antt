@@ -8,8 +8,6 @@ use Rattle.lists.specs.Table.{table, over}
 use Rattle.lists.proofs.Tables.{over-start, over-step, table-getD, length-over}
 use Rattle.session.proofs.taking.copy.Statement.{statement}
 use Rattle.session.proofs.taking.copy.Tie as tie
-use Rattle.session.proofs.taking.copy.Reads as reads
-use Rattle.session.proofs.taking.copy.Lts as lts
 
 abbrev Inv-loop : tie.InvT-loop
 Inv-loop from to₀ i₀ to i = (i ≤ length from) × (length to ≡ length to₀) × (to ≡ over (table i (λ k. getD from k 0)) to₀)
