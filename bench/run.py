@@ -2,7 +2,7 @@
 """make bench: the engine beside the same work in plain C, in one run, from a small lagoon to the largest.
 
 Three pairs of programs on the same lagoon: the step on tables, the host's call on records, and the run program.
-A time is the least processor time of several runs, the programs in turn, since a shared machine only ever adds to it;
+A time is the least processor time of many short runs, the programs in turn, since a shared machine only ever adds to it;
 a process with one round is taken off, so that starting and making the lagoon do not count.
 Instructions are those that valgrind's callgrind counts, and repeat exactly.
 Fails where two programs, or a program and the reference, print different things. Judges no time.
@@ -204,8 +204,8 @@ def report_parts(values):
 
 def main():
     parser = argparse.ArgumentParser(description=__doc__, formatter_class=argparse.RawDescriptionHelpFormatter)
-    parser.add_argument("--repeats", type=int, default=15, help="runs of which the least time counts (15)")
-    parser.add_argument("--rounds", type=int, default=30, help="rounds on 4,095 cells, more on fewer (30)")
+    parser.add_argument("--repeats", type=int, default=40, help="short runs of which the least time counts (40)")
+    parser.add_argument("--rounds", type=int, default=4, help="rounds on 4,095 cells, more on fewer (4)")
     parser.add_argument("--built", action="store_true", help="measure the engine as target/ has it")
     parser.add_argument("--counts-only", action="store_true", help="instructions alone, which do not mind other load")
     options = parser.parse_args()

@@ -318,8 +318,8 @@ def mesh_both_beyond(rng, lag, raw):
     mesh_faces_beyond(rng, lag, raw)
 
 def mesh_other_counts(rng, lag, raw):
-    raw.cells = max(1, raw.cells + rng.choice([-1, 0, 1]))
-    raw.count = max(0, raw.count + rng.choice([-1, 1]))
+    raw.cells = min(4095, max(1, raw.cells + rng.choice([-1, 0, 1])))
+    raw.count = min(8191, max(0, raw.count + rng.choice([-1, 1])))
 
 def mesh_zero_bit(rng, lag, raw):
     raw.zeros = rng.randint(1, 7)

@@ -71,6 +71,37 @@ def test_small_call():
         demand(kept[0].stat().st_size <= 16 + SMALL, f"the small call is large: {text}")
 
 
+# A call that is right on a mesh record of one byte, and with FAULT does something else besides.
+CALL_WITH_FAULT = """
+#include "lagoon.h"
+uint64_t lagoon_step(const uint8_t *mesh, size_t mesh_len, const uint8_t *field, size_t field_len,
+                     const uint8_t *step, size_t step_len, uint8_t *next, size_t next_len)
+{
+    (void)field_len, (void)step, (void)step_len;
+    if (FAULT == 1) next[next_len] = 0;
+    if (FAULT == 2 && ((const volatile uint8_t *)mesh)[mesh_len] == 1) return 1;
+    if (FAULT == 3) ((uint8_t *)field)[0] ^= 1;
+    if (FAULT == 4) next[0] = 0;
+    return 11ull << 32;
+}
+"""
+
+
+def test_driver_sees_faults():
+    """A byte written past the room, one read past the mesh, a record changed, a room changed by a refusal."""
+    case = (b"\x10", b"\x20", b"\x30", 5)
+    right = engines.with_room(*lagoon.host_step(*case), case[3])
+    with tempfile.TemporaryDirectory() as folder:
+        Path(folder, "call.c").write_text(CALL_WITH_FAULT)
+        for watch in ("-DGUARD_PAGES", "-fsanitize=address"):
+            for fault in range(5):
+                subprocess.run(["gcc", "-g", watch, f"-DFAULT={fault}", f"-I{HERE.parent / 'include'}", "call.c",
+                                str(HERE / "call_driver.c"), "-o", "driver"], cwd=folder, check=True)
+                driver = engines.Driver(f"{folder}/driver")
+                same = driver(*case) == right and driver.finish() == ""
+                demand(same == (fault == 0), f"{watch}: fault {fault} is {'not ' * same}seen")
+
+
 if __name__ == "__main__":
     argparse.ArgumentParser(description=__doc__).parse_args()
     tests = [value for name, value in list(globals().items()) if name.startswith("test_")]
