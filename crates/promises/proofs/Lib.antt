@@ -2,3 +2,4 @@ pub mod Counted
 pub mod OnRecords
 pub mod Demand3
 pub mod Ties
+pub mod Channel
