@@ -9,6 +9,7 @@ Fails where two programs, or a program and the reference, print different things
 """
 
 import argparse
+import functools
 import os
 import re
 import subprocess
@@ -62,11 +63,11 @@ def faces_of(size):
     return 2 * cells_of(size)
 
 
+@functools.cache
 def session(size, rounds):
-    """The path of a session for the run, written once."""
+    """The path of a session for the run, written at its first use."""
     path = OUT / f"session-{size[0]}-{size[1]}-{rounds}"
-    if not path.exists():
-        path.write_bytes(command(RECORDS, "session", *size, rounds))
+    path.write_bytes(command(RECORDS, "session", *size, rounds))
     return path
 
 
@@ -191,15 +192,15 @@ def report_faces(title, values, factor):
         line("  growth, small to large", *(a / b for a, b in zip(shown[large], shown[small])), "")
 
 
-def report_parts(values):
+def report_parts(unit, values):
     """What stands in the call beside the step on tables."""
-    call, plain = values[CALL, LARGEST], values[PLAIN_CALL, LARGEST]
-    print(f"\nof a call on {cells_of(LARGEST):,} cells, in microseconds")
+    print(f"\nof a call on {cells_of(LARGEST):,} cells, in {unit}")
     for label, program in PARTS:
-        print(f"{label:<44}{values[program, LARGEST]:>10.1f}")
-    for label, whole, step in (("beside the step, plain C", plain, values[PLAIN_STEP, LARGEST]),
-                               ("beside the step, engine", call, values[STEP, LARGEST])):
-        print(f"{label:<44}{whole - step:>10.1f}   {(whole - step) / whole:.0%} of the call")
+        print(f"{label:<44}{values[program, LARGEST]:>10.0f}")
+    for label, call, step in (("beside the step, plain C", PLAIN_CALL, PLAIN_STEP),
+                              ("beside the step, engine", CALL, STEP)):
+        whole, rest = values[call, LARGEST], values[call, LARGEST] - values[step, LARGEST]
+        print(f"{label:<44}{rest:>10.0f}   {rest / whole:.0%} of the call")
 
 
 def main():
@@ -215,9 +216,11 @@ def main():
         values = times(options.repeats, options.rounds)
         report_steps(values)
         report_faces("nanoseconds per face", values, 1000)
-        report_parts(values)
+        report_parts("microseconds", values)
         print(f"\nsteps per second of the run on {cells_of(LARGEST):,} cells: {1e6 / values[RUN_ITSELF, LARGEST]:,.0f}")
-    report_faces("instructions per face", counts(), 1)
+    values = counts()
+    report_faces("instructions per face", values, 1)
+    report_parts("instructions", values)
 
 
 if __name__ == "__main__":
