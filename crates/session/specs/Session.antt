@@ -25,7 +25,7 @@ Holds line text = Counts (line .used) (line .bytes) × (take (line .used) (line 
 abbrev pub endsRun : Cause → Bool
 endsRun c = eqb (number c) 11 || eqb (number c) 13
 
--- The longest record within these: a mesh of all cells and faces.
+-- The longest record within the run's limits: a mesh of all cells and faces.
 abbrev pub recordBytes : ℕ
 recordBytes = meshLength runCells runFaces
 
