@@ -455,8 +455,8 @@ def pack(text):
             packer.take(line)
     packer.close()
     if packer.volumes is None and not packer.records:
-        return b"", "no mesh: the run refuses this session"
-    lacks = "" if packer.has_field or packer.volumes is None else "no field: the run refuses this session"
+        return b"", "no mesh: the run refuses such a session"
+    lacks = "" if packer.has_field or packer.volumes is None else "no field: the run refuses such a session"
     return b"".join(packer.records), lacks
 
 
