@@ -2,6 +2,13 @@
 # The host's call from C: the example prints document 01's channel session. tests/compare.sh holds the call against the reference.
 set -euo pipefail
 cd "$(dirname "$0")/.."
+
+# the header's limits are the model's
+for limit in CELLS FACES; do
+  number=$(sed -n "s/^pub const RUN_$limit: usize = \([0-9]*\);$/\1/p" crates/model/src/lib.rt)
+  grep -qx "#define LAGOON_MAX_$limit $number" include/lagoon.h || { echo "include/lagoon.h: LAGOON_MAX_$limit is not $number"; exit 1; }
+done
+
 out=target/host
 strict="-std=c11 -Wall -Wextra -Werror -pedantic -O2 -g"
 mkdir -p "$out"
