@@ -24,7 +24,7 @@ def stream(x, y):
 def make(width, height):
     """The tables in document 01's order up to the outsides."""
     volumes, masses = [], []
-    firsts, seconds, weights, spans, fluxes, outsides = [], [], [], [], [], []
+    firsts, seconds, shares, reaches, fluxes, outsides = [], [], [], [], [], []
     for c in range(width * height):
         y, x = divmod(c, width)
         V = 150 + 29 * c % 256
@@ -37,17 +37,17 @@ def make(width, height):
             f = 2 * c + side
             firsts.append(c)
             seconds.append(lagoon.RIM if is_open else beyond)
-            weights.append(0 if is_open else 64 + 53 * f % 128)
-            spans.append(0 if is_open else 80 + 23 * f % 256)
+            shares.append(0 if is_open else 64 + 53 * f % 128)
+            reaches.append(0 if is_open else 80 + 23 * f % 256)
             fluxes.append(U)
             outsides.append(f % 5 * 250000 if is_open and U < 0 else 0)
-    return [volumes, firsts, seconds, weights, spans, masses, fluxes, outsides]
+    return [volumes, firsts, seconds, shares, reaches, masses, fluxes, outsides]
 
 def mixed(digest, x):
     return (digest * BASE + x % PRIME) % PRIME
 
 def how_busy(tables):
-    """Of one step: faces with water, boundary inflows and outflows, corrections, those cut, those cut to nothing."""
+    """Of one step: faces with water, rim inflows and outflows, corrections, those cut, those cut to nothing."""
     mesh, masses, fluxes, outsides = lagoon.Mesh(*tables[:5]), *tables[5:8]
     q = lagoon.concentrations(mesh.volumes, masses)
     _, low = lagoon.upwind(mesh, masses, q, fluxes, outsides)

@@ -37,7 +37,7 @@ static size_t whole_bytes(size_t bits) { return (bits + 7) / 8; }
 
 struct host {
   size_t cells, faces;
-  uint64_t volumes[HOST_CELLS], firsts[HOST_FACES], seconds[HOST_FACES], weights[HOST_FACES], spans[HOST_FACES];
+  uint64_t volumes[HOST_CELLS], firsts[HOST_FACES], seconds[HOST_FACES], shares[HOST_FACES], reaches[HOST_FACES];
   uint64_t masses[HOST_CELLS], next[HOST_CELLS], outsides[HOST_FACES];
   int64_t fluxes[HOST_FACES], moved[HOST_FACES], corrections[HOST_FACES];
   struct cell work[HOST_CELLS];
@@ -53,8 +53,8 @@ static void unpack_mesh(struct host *h, uint8_t *record) {
   for (size_t f = 0; f < h->faces; f++) {
     h->firsts[f] = get(&c, 12);
     h->seconds[f] = get(&c, 12);
-    h->weights[f] = get(&c, 8);
-    h->spans[f] = get(&c, 12);
+    h->shares[f] = get(&c, 8);
+    h->reaches[f] = get(&c, 12);
   }
 }
 
@@ -70,7 +70,7 @@ static void unpack_step(struct host *h, uint8_t *record) {
     int64_t size = (int64_t)get(&c, 12);
     h->fluxes[f] = minus ? -size : size;
   }
-  for (size_t f = 0; f < h->faces; f++) h->outsides[f] = h->seconds[f] == BOUNDARY ? get(&c, 20) : 0;
+  for (size_t f = 0; f < h->faces; f++) h->outsides[f] = h->seconds[f] == RIM ? get(&c, 20) : 0;
 }
 
 static void pack_field(const uint64_t *masses, size_t cells, uint8_t *record) {
@@ -83,7 +83,7 @@ static void pack_field(const uint64_t *masses, size_t cells, uint8_t *record) {
 
 static void host_step(struct host *h) {
   h->in_mass = h->out_mass = 0;
-  step(h->cells, h->faces, h->volumes, h->firsts, h->seconds, h->weights, h->spans, h->masses, h->fluxes, h->outsides,
+  step(h->cells, h->faces, h->volumes, h->firsts, h->seconds, h->shares, h->reaches, h->masses, h->fluxes, h->outsides,
        h->next, h->moved, h->work, h->corrections, &h->in_mass, &h->out_mass);
 }
 

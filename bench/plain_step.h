@@ -5,7 +5,7 @@
 #include <stddef.h>
 #include <stdint.h>
 
-enum { BOUNDARY = 4095 };
+enum { RIM = 4095 };
 
 /* Four numbers of a cell. Before the limiter: q, lo, hi. In it: P, L, G, N. */
 struct cell {
@@ -20,7 +20,7 @@ static inline void widen(struct cell *c, uint64_t q) {
 static inline uint64_t portion(uint64_t a, uint64_t g, uint64_t p) { return p <= g ? a : a * g / p; }
 
 static void step(size_t cells, size_t faces, const uint64_t *restrict volume, const uint64_t *restrict first,
-                 const uint64_t *restrict second, const uint64_t *restrict weight, const uint64_t *restrict span,
+                 const uint64_t *restrict second, const uint64_t *restrict share, const uint64_t *restrict reach,
                  const uint64_t *restrict mass, const int64_t *restrict flux, const uint64_t *restrict outside,
                  uint64_t *restrict after, int64_t *restrict through, struct cell *restrict cell,
                  int64_t *restrict correction, uint64_t *restrict in_mass, uint64_t *restrict out_mass) {
@@ -34,7 +34,7 @@ static void step(size_t cells, size_t faces, const uint64_t *restrict volume, co
   for (size_t f = 0; f < faces; f++) {
     int64_t u = flux[f];
     struct cell *a = &cell[first[f]];
-    if (second[f] == BOUNDARY) {
+    if (second[f] == RIM) {
       int64_t carried = u * (int64_t)(u < 0 ? outside[f] : a->q_or_p);
       through[f] = carried;
       correction[f] = 0;
@@ -53,10 +53,10 @@ static void step(size_t cells, size_t faces, const uint64_t *restrict volume, co
       continue;
     }
     struct cell *b = &cell[second[f]];
-    int64_t qa = a->q_or_p, qb = b->q_or_p, k = span[f];
+    int64_t qa = a->q_or_p, qb = b->q_or_p, k = reach[f];
     int64_t size = u < 0 ? -u : u;
     int64_t d = u < 0 ? qa - qb : qb - qa;
-    int64_t t = u < 0 ? 256 - weight[f] : weight[f];
+    int64_t t = u < 0 ? 256 - share[f] : share[f];
     int64_t carried = u * (u < 0 ? qb : qa);
     through[f] = carried;
     correction[f] = u * d * (t * k - 128 * size) / (256 * k);

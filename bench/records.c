@@ -30,8 +30,8 @@ static void pack_mesh(size_t cells, size_t faces) {
   for (size_t f = 0; f < faces; f++) {
     put(&c, firsts[f], 12);
     put(&c, seconds[f], 12);
-    put(&c, weights[f], 8);
-    put(&c, spans[f], 12);
+    put(&c, shares[f], 8);
+    put(&c, reaches[f], 12);
   }
   mesh_length = whole_bytes(c.at);
 }
@@ -47,7 +47,7 @@ static void pack_water(size_t faces) {
     put(&c, (uint64_t)llabs(fluxes[f]), 12);
   }
   for (size_t f = 0; f < faces; f++)
-    if (seconds[f] == BOUNDARY) put(&c, outsides[f], 20);
+    if (seconds[f] == RIM) put(&c, outsides[f], 20);
   water_length = whole_bytes(c.at);
 }
 
@@ -100,7 +100,7 @@ static void write_session(size_t faces, uint64_t rounds) {
   fwrite(first_field, 1, field_length, stdout);
   for (uint64_t s = 0; s < rounds * STEPS; s++) {
     for (size_t f = 0; f < faces; f++)
-      if (seconds[f] == BOUNDARY && fluxes[f] < 0) outsides[f] = (f + s / 4) % 5 * 250000;
+      if (seconds[f] == RIM && fluxes[f] < 0) outsides[f] = (f + s / 4) % 5 * 250000;
     pack_water(faces);
     fwrite(water, 1, water_length, stdout);
   }
@@ -124,7 +124,7 @@ static void run_session(void) {
   unpack_mesh(&host, mesh);
   take(here, FIELD_HEAD + 4 * cells);
   unpack_field(&host, here);
-  for (size_t f = 0; f < faces; f++) rims += host.seconds[f] == BOUNDARY;
+  for (size_t f = 0; f < faces; f++) rims += host.seconds[f] == RIM;
   size_t length = HEAD + whole_bytes(13 * faces + 20 * rims);
   printf("0 0 0 %llu\n", (unsigned long long)total_of(host.masses, cells));
   for (uint64_t number = 1; fread(water, 1, length, stdin) == length; number++) {

@@ -8,7 +8,7 @@
 
 enum { CELLS = 4095, FACES = 8190, STEPS = 16, PRIME = 1000000007, BASE = 1000003 };
 
-static uint64_t volumes[CELLS], firsts[FACES], seconds[FACES], weights[FACES], spans[FACES];
+static uint64_t volumes[CELLS], firsts[FACES], seconds[FACES], shares[FACES], reaches[FACES];
 static uint64_t field[CELLS], outsides[FACES];
 static int64_t fluxes[FACES];
 
@@ -21,7 +21,7 @@ static uint64_t wave(uint64_t k) {
 static uint64_t stream(uint64_t x, uint64_t y) { return 5 * wave(x) * wave(y) + 37 * x * y % 11; }
 
 /* A face's flux is the difference of the stream function at its ends, so inflow and outflow of a cell agree. Its
-   size is at most 70, a span at least 80 and a volume at least 150. */
+   size is at most 70, a reach at least 80 and a volume at least 150. */
 static void make(uint64_t width, uint64_t height) {
   uint64_t cells = width * height;
   for (uint64_t c = 0; c < cells; c++) {
@@ -33,9 +33,9 @@ static void make(uint64_t width, uint64_t height) {
       uint64_t f = 2 * c + side;
       int open = side == 0 ? x + 1 == width : y + 1 == height;
       firsts[f] = c;
-      seconds[f] = open ? BOUNDARY : side == 0 ? c + 1 : c + width;
-      weights[f] = open ? 0 : 64 + 53 * f % 128;
-      spans[f] = open ? 0 : 80 + 23 * f % 256;
+      seconds[f] = open ? RIM : side == 0 ? c + 1 : c + width;
+      shares[f] = open ? 0 : 64 + 53 * f % 128;
+      reaches[f] = open ? 0 : 80 + 23 * f % 256;
       fluxes[f] = side == 0 ? (int64_t)stream(x + 1, y + 1) - (int64_t)stream(x + 1, y)
                             : (int64_t)stream(x, y + 1) - (int64_t)stream(x + 1, y + 1);
       outsides[f] = open && fluxes[f] < 0 ? f % 5 * 250000 : 0;

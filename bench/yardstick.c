@@ -27,9 +27,9 @@ static void run(size_t cells, size_t faces, uint64_t rounds, uint64_t *in_mass, 
   for (uint64_t r = 0; r < rounds; r++) {
     for (size_t c = 0; c < cells; c++) masses[c] = field[c];
     for (int s = 0; s < STEPS; s += 2) {
-      step(cells, faces, volumes, firsts, seconds, weights, spans, masses, fluxes, outsides, next, moved, work,
+      step(cells, faces, volumes, firsts, seconds, shares, reaches, masses, fluxes, outsides, next, moved, work,
            corrections, in_mass, out_mass);
-      step(cells, faces, volumes, firsts, seconds, weights, spans, next, fluxes, outsides, masses, moved, work,
+      step(cells, faces, volumes, firsts, seconds, shares, reaches, next, fluxes, outsides, masses, moved, work,
            corrections, in_mass, out_mass);
     }
   }

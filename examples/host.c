@@ -6,13 +6,13 @@
 
 #include "lagoon.h"
 
-enum { CELLS = 3, FACES = 4, BOUNDARY_FACES = 2, STEPS = 2, VOLUME = 100, WEIGHT = 128, SPAN = 100, BOUNDARY = 4095 };
+enum { CELLS = 3, FACES = 4, RIM_FACES = 2, STEPS = 2, VOLUME = 100, SHARE = 128, REACH = 100, RIM = 4095 };
 
 static const uint32_t firsts[FACES] = {0, 0, 1, 2};
-static const uint32_t seconds[FACES] = {BOUNDARY, 1, 2, BOUNDARY};
+static const uint32_t seconds[FACES] = {RIM, 1, 2, RIM};
 static const uint32_t masses[CELLS] = {100000, 0, 0};
 static const int fluxes[FACES] = {-50, 50, 50, 50};
-static const uint32_t outsides[BOUNDARY_FACES] = {1000, 0};
+static const uint32_t outsides[RIM_FACES] = {1000, 0};
 
 /* A record while it is made: its bytes begin as zeros. */
 struct record {
@@ -40,11 +40,11 @@ static void make_mesh(uint8_t *bytes)
     for (size_t cell = 0; cell < CELLS; cell++)
         put(&r, VOLUME, 12);
     for (size_t face = 0; face < FACES; face++) {
-        int inside = seconds[face] != BOUNDARY;
+        int inside = seconds[face] != RIM;
         put(&r, firsts[face], 12);
         put(&r, seconds[face], 12);
-        put(&r, inside ? WEIGHT : 0, 8);
-        put(&r, inside ? SPAN : 0, 12);
+        put(&r, inside ? SHARE : 0, 8);
+        put(&r, inside ? REACH : 0, 12);
     }
 }
 
@@ -68,7 +68,7 @@ static void make_step(uint8_t *bytes)
         put(&r, minus ? 1 : 0, 1);
         put(&r, (uint32_t)(minus ? -fluxes[face] : fluxes[face]), 12);
     }
-    for (size_t face = 0; face < BOUNDARY_FACES; face++)
+    for (size_t face = 0; face < RIM_FACES; face++)
         put(&r, outsides[face], 20);
 }
 
@@ -100,7 +100,7 @@ static void print_refusal(const char *why, uint64_t answer)
 
 int main(void)
 {
-    uint8_t mesh[LAGOON_MESH_BYTES(CELLS, FACES)] = {0}, step[LAGOON_STEP_BYTES(FACES, BOUNDARY_FACES)] = {0};
+    uint8_t mesh[LAGOON_MESH_BYTES(CELLS, FACES)] = {0}, step[LAGOON_STEP_BYTES(FACES, RIM_FACES)] = {0};
     uint8_t field[LAGOON_FIELD_BYTES(CELLS)] = {0}, next[LAGOON_FIELD_BYTES(CELLS)] = {0};
     uint64_t answer;
 

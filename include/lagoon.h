@@ -1,8 +1,7 @@
 /* liblagoon: one step of salt transport on a lagoon mesh, in whole numbers.
  *
  * A host hands over three records as bytes (the mesh, the field of masses, the water of one step) and gets the next field record.
- * The record layouts, the rule of the step and the causes are those of document 01. Boundary is its word rim, weight its share s, span
- * its reach K.
+ * The record layouts, the rule of the step and the causes are those of document 01, and so are the words.
  *
  * Build the library with `rt staticlib lagoon`, then link target/staticlib/liblagoon.a. It needs memset of the C library, nothing else.
  * examples/host.c is a whole host.
@@ -24,7 +23,7 @@ extern "C" {
 /* Lengths of records in bytes. */
 #define LAGOON_MESH_BYTES(cells, faces) ((32 + 12 * (size_t)(cells) + 44 * (size_t)(faces) + 7) / 8)
 #define LAGOON_FIELD_BYTES(cells) ((16 + 32 * (size_t)(cells)) / 8)
-#define LAGOON_STEP_BYTES(faces, boundary_faces) ((32 + 13 * (size_t)(faces) + 20 * (size_t)(boundary_faces) + 7) / 8)
+#define LAGOON_STEP_BYTES(faces, rim_faces) ((32 + 13 * (size_t)(faces) + 20 * (size_t)(rim_faces) + 7) / 8)
 
 /* An answer taken apart. Both are 0 after an accepted step. */
 #define LAGOON_CAUSE(answer) ((uint32_t)((answer) >> 32))
@@ -52,12 +51,12 @@ extern "C" {
  *       2  too few bytes for the next field                                   11
  *       3  a volume outside 1 to 4,095                                        cell
  *       4  first not a cell; second neither a cell nor 4,095; or both equal   face
- *       5  weight outside 1 to 255 or span outside 1 to 4,095; at a boundary  face
+ *       5  share outside 1 to 255 or reach outside 1 to 4,095; at a rim  face
  *          face either not 0
  *       6  a concentration above 1,000,000                                    cell
  *       7  an outside value above 1,000,000, or not 0 elsewhere than at a     face
- *          boundary face whose water flows in
- *       8  a flux larger than the span, or than 4,095 at a boundary face      face
+ *          rim face whose water flows in
+ *       8  a flux larger than the reach, or than 4,095 at a rim face      face
  *       9  inflow and outflow of a cell differ                                cell
  *      10  a cell's outflow above its volume                                  cell
  *      11  a record of the wrong length                                       0

@@ -77,7 +77,7 @@ def finish(values, raw):
 # ---------------------------------------------------------------- Valid lagoons
 
 def layout(rng, cells, most, fill):
-    """The pairs of cells that faces join, RIM as second at the boundary: at most `most`, at least `fill`."""
+    """The pairs of cells that faces join, RIM as second at the rim: at most `most`, at least `fill`."""
     shapes = ["channel", "ring", "grid", "random", "braid", "star", "sieve"]
     shape = rng.choice(shapes) if cells > 1 else rng.choice(["pool", "pool", "pool", "still"])
     pairs = []
@@ -181,7 +181,7 @@ class Lagoon:
         return rng.choice(doors) if doors else None
 
     def walk(self, rng, fluxes, room_at, start_at_rim):
-        """A closed loop, or a path from boundary to boundary, along which the flux may still grow."""
+        """A closed loop, or a path from rim to rim, along which the flux may still grow."""
         path, order = [], {}            # (face, direction), cell entered; cell -> its place in the path
         used = None
         if start_at_rim:

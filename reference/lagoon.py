@@ -9,7 +9,7 @@ import argparse
 import sys
 from collections import namedtuple
 
-RIM = 4095                  # the mark of the boundary in the place of a second cell
+RIM = 4095                  # the mark of the rim in the place of a second cell
 TOP = 1_000_000             # greatest concentration
 LIBRARY_LIMITS = (4095, 8190)
 RUN_LIMITS = (1023, 2046)
@@ -125,11 +125,11 @@ def finish(mesh, masses, carried, limited):
     return moved, move(mesh, masses, moved)
 
 def in_mass(mesh, fluxes, outsides):
-    """Over boundary faces with U below 0, the size of U times the outside value."""
+    """Over rim faces with U below 0, the size of U times the outside value."""
     return sum(-U * o for second, U, o in zip(mesh.seconds, fluxes, outsides) if second == RIM and U < 0)
 
 def out_mass(mesh, q, fluxes):
-    """Over boundary faces with U above 0, U times the cell's q before the step."""
+    """Over rim faces with U above 0, U times the cell's q before the step."""
     return sum(U * q[first] for first, second, U in zip(mesh.firsts, mesh.seconds, fluxes)
                if second == RIM and U > 0)
 

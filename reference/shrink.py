@@ -56,7 +56,7 @@ def readable(parts):
 
 
 def without_cell(parts, cell):
-    """The cell becomes part of the outside: its faces with other cells become boundary faces."""
+    """The cell becomes part of the outside: its faces with other cells become rim faces."""
     if len(parts.volumes) == 1 or not readable(parts):
         return None
     q = parts.masses[cell] // parts.volumes[cell] if parts.volumes[cell] else 0

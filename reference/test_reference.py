@@ -54,7 +54,7 @@ B 2 187 13
 
 
 def pool(V, faces):
-    """One cell with so many boundary faces."""
+    """One cell with so many rim faces."""
     return Mesh([V], [0] * faces, [RIM] * faces, [0] * faces, [0] * faces)
 
 

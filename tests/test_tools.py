@@ -126,13 +126,13 @@ def test_damage_is_said():
 # ---------------------------------------------------------------- Bad text
 
 def test_bad_text():
-    mesh = "mesh\ncell 0 volume 9\nface 0 from 0 to boundary\nface 1 from 0 to 0 weight 1 span 1\n"
+    mesh = "mesh\ncell 0 volume 9\nface 0 from 0 to rim\nface 1 from 0 to 0 share 1 reach 1\n"
     field = mesh + "field\ncell 0 mass 5\n"
     cases = [("cell 0 volume 1", 1, 1), ("mesh\n  cel 0 volume 1", 2, 3), ("mesh\ncell 1 volume 1", 2, 6),
              ("mesh\ncell 0 volume 4096", 2, 15), ("mesh\ncell 0 volume -1", 2, 15), ("mesh\ncell 0 volume", 2, 14),
              ("mesh\ncell 0 volume # 1", 2, 14), ("mesh\ncell 0 volume 1 2", 2, 17), ("mesh\ncell 0 mass 1", 2, 8),
              ("mesh\nface 0 from 0 to 1", 2, 19), ("mesh\nface 0 from 0 to rim", 2, 18),
-             ("mesh\nface 0 from 0 to 1 weight 256 span 1", 2, 27), ("mesh\nface 0 from 0 to 1 weight 1 span 4096", 2, 34),
+             ("mesh\nface 0 from 0 to 1 share 256 reach 1", 2, 27), ("mesh\nface 0 from 0 to 1 share 1 reach 4096", 2, 34),
              (mesh + "cell 1 volume 1", 5, 1), (mesh + "mesh", 5, 1), (mesh + "step", 5, 1), ("field", 1, 1),
              (mesh + "field\ncell 1 mass 1", 6, 6), (mesh + "field\ncell 0 mass 4294967296", 6, 13),
              (field + "cell 0 mass 6", 7, 6), (field + "field", 7, 1), (field + "step\nface 0 flux 4096", 8, 13),
@@ -155,7 +155,7 @@ def test_bad_text():
 def test_refused_sessions_can_be_made():
     """Values out of range, where they fit their fields."""
     for old, new, refusal in (("cell 1 volume 100", "cell 1 volume 0", "M 3 1"), ("from 1 to 2", "from 4095 to 2", "M 4 2"),
-                              ("face 3 from 2 to boundary", "face 3 from 2 to boundary weight 0 span 1", "M 5 3"),
+                              ("face 3 from 2 to rim", "face 3 from 2 to rim share 0 reach 1", "M 5 3"),
                               ("cell 1 mass 0", "cell 1 mass 4294967295", "F 6 1"), ("outside 1000", "outside 1048575", "1 R 7 0"),
                               ("face 1 flux 50", "face 1 flux -0", "1 R 12 45"), ("face 3 flux 50", "face 3 flux 49", "1 R 9 2")):
         data, _ = records.pack(CHANNEL.replace(old, new, 1))

@@ -14,19 +14,18 @@ The text has one item on a line; words are separated by blanks, and # begins a c
 
   mesh                                            begins the mesh
   cell N volume V                                 V 0 to 4095; cells in order from 0, none left out
-  face N from C to C weight W span K              an interior face; W 0 to 255, K 0 to 4095
-  face N from C to boundary                       a boundary face; weight and span are 0 unless written
+  face N from C to C share S reach K              an interior face; S 0 to 255, K 0 to 4095
+  face N from C to rim                            a rim face; share and reach are 0 unless written
   field                                           begins the field
   cell N mass M                                   M 0 to 4294967295; a cell left out has mass 0
   step                                            begins a step; "step times 24" writes it 24 times
   face N flux U                                   U -4095 to 4095, positive from first to second cell (outward
-                                                  at the boundary); a face left out has flux 0
-  face N flux U outside Q                         Q 0 to 1048575, at a boundary face; 0 unless written
+                                                  at the rim); a face left out has flux 0
+  face N flux U outside Q                         Q 0 to 1048575, at a rim face; 0 unless written
   bytes 30 02 00 00                               these bytes as they are, in hexadecimal
 
-Document 01's words: its rim is the boundary here, its share s the weight, its reach K the span. Weight: the way
-from the first cell's centre to the face, in 1/256 of the way between the centres. Span: face area times distance
-between centres, in volume units. Outside: the concentration of the water that enters over the boundary.
+The words are document 01's. Share: the way from the first cell's centre to the face, in 1/256 of the way between
+the centres. Reach: face area times distance between centres, in volume units. Outside: the concentration of the water that enters over the rim.
 Any value that fits its field is packed, also one that the run refuses: volume 0, from 4095, flux -0 (a minus with
 size 0, cause 12).
 """
@@ -59,13 +58,13 @@ PACK_EXAMPLES = """\
 # Document 01's table of records, in bits.
 MESH, FIELD, STEP = 1, 2, 3
 KIND_BITS, CELLS_BITS, FACES_BITS, MESH_ZEROS, STEP_ZEROS = 4, 12, 13, 3, 15
-VOLUME_BITS, END_BITS, WEIGHT_BITS, SPAN_BITS, MASS_BITS, SIZE_BITS, OUTSIDE_BITS = 12, 12, 8, 12, 32, 12, 20
-BOUNDARY = 4095
+VOLUME_BITS, END_BITS, SHARE_BITS, REACH_BITS, MASS_BITS, SIZE_BITS, OUTSIDE_BITS = 12, 12, 8, 12, 32, 12, 20
+RIM = 4095
 MOST_TIMES = 1_000_000
 BYTES_ON_A_LINE = 16
 
-Face = namedtuple("Face", "first second weight span")
-Flux = namedtuple("Flux", "minus size outside")         # outside is None away from the boundary
+Face = namedtuple("Face", "first second share reach")
+Flux = namedtuple("Flux", "minus size outside")         # outside is None away from the rim
 
 
 # ---------------------------------------------------------------- Bytes
@@ -135,10 +134,10 @@ def read_mesh(data):
     reader.hold(KIND_BITS + CELLS_BITS + FACES_BITS + MESH_ZEROS)
     reader.kind(MESH)
     cells, faces = reader.take(CELLS_BITS), reader.take(FACES_BITS)
-    reader.hold(len(reader.bits) + cells * VOLUME_BITS + faces * (2 * END_BITS + WEIGHT_BITS + SPAN_BITS))
+    reader.hold(len(reader.bits) + cells * VOLUME_BITS + faces * (2 * END_BITS + SHARE_BITS + REACH_BITS))
     reader.zeros(MESH_ZEROS)
     volumes = [reader.take(VOLUME_BITS) for _ in range(cells)]
-    rows = [Face(*map(reader.take, (END_BITS, END_BITS, WEIGHT_BITS, SPAN_BITS))) for _ in range(faces)]
+    rows = [Face(*map(reader.take, (END_BITS, END_BITS, SHARE_BITS, REACH_BITS))) for _ in range(faces)]
     return (volumes, rows), reader.end()
 
 
@@ -156,11 +155,11 @@ def read_step(data, faces):
     reader.hold(KIND_BITS + FACES_BITS + STEP_ZEROS)
     reader.kind(STEP)
     reader.count(FACES_BITS, len(faces), "faces")
-    boundary = [face.second == BOUNDARY for face in faces]
-    reader.hold(len(reader.bits) + len(faces) * (1 + SIZE_BITS) + sum(boundary) * OUTSIDE_BITS)
+    rim = [face.second == RIM for face in faces]
+    reader.hold(len(reader.bits) + len(faces) * (1 + SIZE_BITS) + sum(rim) * OUTSIDE_BITS)
     reader.zeros(STEP_ZEROS)
     fluxes = [reader.flux() for _ in faces]
-    rows = [Flux(*flux, reader.take(OUTSIDE_BITS) if rim else None) for flux, rim in zip(fluxes, boundary)]
+    rows = [Flux(*flux, reader.take(OUTSIDE_BITS) if rim else None) for flux, rim in zip(fluxes, rim)]
     return rows, reader.end()
 
 
@@ -175,7 +174,7 @@ def mesh_record(volumes, faces):
     fields = [(MESH, KIND_BITS), (len(volumes), CELLS_BITS), (len(faces), FACES_BITS), (0, MESH_ZEROS)]
     fields += [(volume, VOLUME_BITS) for volume in volumes]
     for face in faces:
-        fields += zip(face, (END_BITS, END_BITS, WEIGHT_BITS, SPAN_BITS))
+        fields += zip(face, (END_BITS, END_BITS, SHARE_BITS, REACH_BITS))
     return packed(fields)
 
 
@@ -193,9 +192,9 @@ def step_record(fluxes):
 # ---------------------------------------------------------------- Bytes to text
 
 def face_line(number, face):
-    """Weight and span are left out where they have to be 0 and are."""
-    end = "boundary" if face.second == BOUNDARY else face.second
-    spacing = f" weight {face.weight} span {face.span}" if end != "boundary" or face.weight or face.span else ""
+    """Share and reach are left out where they have to be 0 and are."""
+    end = "rim" if face.second == RIM else face.second
+    spacing = f" share {face.share} reach {face.reach}" if end != "rim" or face.share or face.reach else ""
     return f"face {number} from {face.first} to {end}{spacing}"
 
 
@@ -346,7 +345,7 @@ class Packer:
             if not self.has_field:
                 raise line.error("a step follows a field, and there is none above")
             self.times = self.step_times(line)
-            self.values, self.next = [Flux(0, 0, 0 if face.second == BOUNDARY else None) for face in self.faces], 0
+            self.values, self.next = [Flux(0, 0, 0 if face.second == RIM else None) for face in self.faces], 0
         self.section = section
 
     def step_times(self, line):
@@ -407,15 +406,15 @@ class Packer:
         line.keyword("from")
         first = line.number_of("the first cell", most(END_BITS))
         line.keyword("to")
-        found = line.word("the second cell or 'boundary'")
-        second = BOUNDARY if found == "boundary" else line.number_in(found, "the second cell", most(END_BITS))
-        weight = span = 0
-        if second != BOUNDARY or line.more():
-            line.keyword("weight")
-            weight = line.number_of("a weight", most(WEIGHT_BITS))
-            line.keyword("span")
-            span = line.number_of("a span", most(SPAN_BITS))
-        self.faces.append(Face(first, second, weight, span))
+        found = line.word("the second cell or 'rim'")
+        second = RIM if found == "rim" else line.number_in(found, "the second cell", most(END_BITS))
+        share = reach = 0
+        if second != RIM or line.more():
+            line.keyword("share")
+            share = line.number_of("a share", most(SHARE_BITS))
+            line.keyword("reach")
+            reach = line.number_of("a reach", most(REACH_BITS))
+        self.faces.append(Face(first, second, share, reach))
 
     def in_mesh(self, line, what, rows):
         """The number of a cell or face that the mesh has, above those before it."""
@@ -441,7 +440,7 @@ class Packer:
         if line.more():
             line.keyword("outside")
             if outside is None:
-                raise line.error(f"face {face} is inside: a step record has outside values of boundary faces alone")
+                raise line.error(f"face {face} is inside: a step record has outside values of rim faces alone")
             outside = line.number_of("an outside value", most(OUTSIDE_BITS))
         self.values[face] = Flux(int(found[0] == "-"), size, outside)
 

@@ -84,10 +84,10 @@ def layouts():
     end, mass = records.END_BITS, records.MASS_BITS
     rows = [("record", "head", "body"),
             ("mesh", head.format(records.MESH, f"{cells}, {faces}, zeros ({records.MESH_ZEROS})"),
-             f"per cell V ({records.VOLUME_BITS}); then per face first ({end}), second ({end}), s ({records.WEIGHT_BITS}), K ({records.SPAN_BITS})"),
+             f"per cell V ({records.VOLUME_BITS}); then per face first ({end}), second ({end}), s ({records.SHARE_BITS}), K ({records.REACH_BITS})"),
             ("field", head.format(records.FIELD, cells), f"per cell m ({mass})"),
             ("step", head.format(records.STEP, f"{faces}, zeros ({records.STEP_ZEROS})"),
-             f"per face sign (1) and size of U ({records.SIZE_BITS}); then per boundary face outside value ({records.OUTSIDE_BITS})")]
+             f"per face sign (1) and size of U ({records.SIZE_BITS}); then per rim face outside value ({records.OUTSIDE_BITS})")]
     return table(rows)
 
 
@@ -225,7 +225,7 @@ class Step:
         return [*self.before(), "", *self.stage_1(), "", *self.stage_2(), "", *self.stage_3(), "", *self.stage_4(), "", *self.stage_5()]
 
     def before(self):
-        rows = [("cell", "V", "m", "q", "remainder")]
+        rows = [("cell", "V", "m", "q", "rest")]
         return ["Before the step"] + columns(rows + [(c, M.volumes[c], self.m[c], self.q[c], self.m[c] - self.q[c] * M.volumes[c]) for c in CELLS])
 
     def stage_1(self):
@@ -236,7 +236,7 @@ class Step:
         return ["Stage 1, upwind"] + columns(faces) + columns(cells)
 
     def stage_2(self):
-        lines = ["Stage 2, correction (faces 1 and 2; 0 at the boundary)"]
+        lines = ["Stage 2, correction (faces 1 and 2; 0 at the rim)"]
         for f in FACES:
             if len(self.correction_of(f)) > 1:
                 d, t, inner, product, divisor, quotient = self.correction_of(f)
@@ -281,7 +281,7 @@ class Step:
     def stage_5(self):
         faces = [("face", "moved = carried + limited")]
         faces += [(f, f"{signed(self.carried[f])} + {factor(self.limited[f])} = {signed(self.moved[f])}") for f in FACES]
-        cells = [("cell", "next mass = m + entering − leaving", "q", "remainder")]
+        cells = [("cell", "next mass = m + entering − leaving", "q", "rest")]
         for c in CELLS:
             V = M.volumes[c]
             cells.append((c, f"{self.m[c]} + {self.into(c, self.moved)} − {self.out_of(c, self.moved)} = {self.next[c]}",

@@ -1,7 +1,7 @@
 // A lagoon on a grid, as bench/yardstick.c makes it: shores in the west and the north, open sides in the east and the south.
-use model::BOUNDARY;
 use model::MAX_CELLS;
 use model::MAX_FACES;
+use model::RIM;
 ghost use Prim.Native.Nat.{_≤_, _<_};
 ghost use Rattle.model.specs.Mesh.{maxCells, maxFaces, maxConcentration};
 ghost use Rattle.bench_step.specs.Bounds.{maxFactor, maxProduct, maxStream};
@@ -114,7 +114,7 @@ fn second(f: u64, width: u64, open: bool) -> u64
     requires { ⌜ (f < maxFaces) × (width ≤ maxCells) ⌝ }
 {
     if open {
-        return BOUNDARY;
+        return RIM;
     }
     if is_east(f) {
         first(f) + 1
@@ -123,13 +123,13 @@ fn second(f: u64, width: u64, open: bool) -> u64
     }
 }
 
-fn weight(f: u64, open: bool) -> u64
+fn share(f: u64, open: bool) -> u64
     requires { ⌜ f < maxFaces ⌝ }
 {
     if open { 0 } else { 64 + 53 * f % 128 }
 }
 
-fn span(f: u64, open: bool) -> u64
+fn reach(f: u64, open: bool) -> u64
     requires { ⌜ f < maxFaces ⌝ }
 {
     if open { 0 } else { 80 + 23 * f % 256 }
@@ -181,15 +181,15 @@ fn make_ends(
     open: bool,
     firsts: &mut [u64; MAX_FACES],
     seconds: &mut [u64; MAX_FACES],
-    weights: &mut [u64; MAX_FACES],
-    spans: &mut [u64; MAX_FACES],
+    shares: &mut [u64; MAX_FACES],
+    reaches: &mut [u64; MAX_FACES],
 )
     requires { ⌜ (f < maxFaces) × (width ≤ maxCells) ⌝ }
 {
     firsts[f] = first(f as u64);
     seconds[f] = second(f as u64, width, open);
-    weights[f] = weight(f as u64, open);
-    spans[f] = span(f as u64, open);
+    shares[f] = share(f as u64, open);
+    reaches[f] = reach(f as u64, open);
 }
 
 fn make_water(
@@ -214,8 +214,8 @@ pub fn make_faces(
     height: u64,
     firsts: &mut [u64; MAX_FACES],
     seconds: &mut [u64; MAX_FACES],
-    weights: &mut [u64; MAX_FACES],
-    spans: &mut [u64; MAX_FACES],
+    shares: &mut [u64; MAX_FACES],
+    reaches: &mut [u64; MAX_FACES],
     fluxes: &mut [i64; MAX_FACES],
     outsides: &mut [u64; MAX_FACES],
 )
@@ -224,7 +224,7 @@ pub fn make_faces(
     let mut f = 0;
     while f < faces {
         let open = is_open(f as u64, width, height);
-        make_ends(f, width, open, firsts, seconds, weights, spans);
+        make_ends(f, width, open, firsts, seconds, shares, reaches);
         make_water(f, width, open, fluxes, outsides);
         f += 1;
     }

@@ -28,7 +28,7 @@ fn copy(cells: usize, from: &[u64; MAX_CELLS], to: &mut [u64; MAX_CELLS])
     }
 }
 
-// What crossed the boundary in all steps, and how many steps were refused.
+// What crossed the rim in all steps, and how many steps were refused.
 struct Sums {
     entered: u64,
     gone: u64,
@@ -57,8 +57,8 @@ fn pair(
     volumes: &[u64; MAX_CELLS],
     firsts: &[u64; MAX_FACES],
     seconds: &[u64; MAX_FACES],
-    weights: &[u64; MAX_FACES],
-    spans: &[u64; MAX_FACES],
+    shares: &[u64; MAX_FACES],
+    reaches: &[u64; MAX_FACES],
     masses: &mut [u64; MAX_CELLS],
     fluxes: &[i64; MAX_FACES],
     outsides: &[u64; MAX_FACES],
@@ -73,8 +73,8 @@ fn pair(
         volumes,
         firsts,
         seconds,
-        weights,
-        spans,
+        shares,
+        reaches,
         masses,
         fluxes,
         outsides,
@@ -88,8 +88,8 @@ fn pair(
         volumes,
         firsts,
         seconds,
-        weights,
-        spans,
+        shares,
+        reaches,
         next,
         fluxes,
         outsides,
@@ -108,8 +108,8 @@ fn repeat(
     volumes: &[u64; MAX_CELLS],
     firsts: &[u64; MAX_FACES],
     seconds: &[u64; MAX_FACES],
-    weights: &[u64; MAX_FACES],
-    spans: &[u64; MAX_FACES],
+    shares: &[u64; MAX_FACES],
+    reaches: &[u64; MAX_FACES],
     field: &[u64; MAX_CELLS],
     masses: &mut [u64; MAX_CELLS],
     fluxes: &[i64; MAX_FACES],
@@ -136,8 +136,8 @@ fn repeat(
             volumes,
             firsts,
             seconds,
-            weights,
-            spans,
+            shares,
+            reaches,
             masses,
             fluxes,
             outsides,
@@ -160,8 +160,8 @@ fn run_on(
     volumes: &mut [u64; MAX_CELLS],
     firsts: &mut [u64; MAX_FACES],
     seconds: &mut [u64; MAX_FACES],
-    weights: &mut [u64; MAX_FACES],
-    spans: &mut [u64; MAX_FACES],
+    shares: &mut [u64; MAX_FACES],
+    reaches: &mut [u64; MAX_FACES],
     field: &mut [u64; MAX_CELLS],
     masses: &mut [u64; MAX_CELLS],
     fluxes: &mut [i64; MAX_FACES],
@@ -179,8 +179,8 @@ fn run_on(
         height,
         firsts,
         seconds,
-        weights,
-        spans,
+        shares,
+        reaches,
         fluxes,
         outsides,
     );
@@ -191,8 +191,8 @@ fn run_on(
         volumes,
         firsts,
         seconds,
-        weights,
-        spans,
+        shares,
+        reaches,
         field,
         masses,
         fluxes,
@@ -213,8 +213,8 @@ fn run(cells: usize, width: u64, height: u64, rounds: u64)
     let mut volumes = [0u64; MAX_CELLS];
     let mut firsts = [0u64; MAX_FACES];
     let mut seconds = [0u64; MAX_FACES];
-    let mut weights = [0u64; MAX_FACES];
-    let mut spans = [0u64; MAX_FACES];
+    let mut shares = [0u64; MAX_FACES];
+    let mut reaches = [0u64; MAX_FACES];
     let mut field = [0u64; MAX_CELLS];
     let mut masses = [0u64; MAX_CELLS];
     let mut fluxes = [0i64; MAX_FACES];
@@ -230,8 +230,8 @@ fn run(cells: usize, width: u64, height: u64, rounds: u64)
         &mut volumes,
         &mut firsts,
         &mut seconds,
-        &mut weights,
-        &mut spans,
+        &mut shares,
+        &mut reaches,
         &mut field,
         &mut masses,
         &mut fluxes,

@@ -14,7 +14,7 @@ use Rattle.lists.proofs.Sums.{sum-more, sum-term}
 use Rattle.lists.proofs.Tables.{length-table, getD-table, is-table, getD-set}
 use Rattle.signed.specs.Sign.{isNegative, size}
 use Rattle.signed.proofs.Laws.{forward-is, backward-is}
-use Rattle.model.specs.Mesh.{Mesh, meshOf, first, second, boundary, maxCells, maxFaces, maxBoundaryFlux, entering, leaving, incoming, outgoing}
+use Rattle.model.specs.Mesh.{Mesh, meshOf, first, second, rim, maxCells, maxFaces, maxRimFlux, entering, leaving, incoming, outgoing}
 use Rattle.model.specs.Causes.{each, callOf, balanceGood, outflowGood}
 use Rattle.model.proofs.Sizes.{incoming-most, outgoing-most}
 use Rattle.checks.proofs.Laws.{each-cong}
@@ -63,13 +63,13 @@ module _ (M : Mesh) (x : ℕ → ℤ) (f : ℕ) {b : Bool} {i s : ℕ} (n : b �
   unfolding leaving
   leaves e c = rw (e, forward-is (x f), backward-is (x f), n, z) (arrives (isNegative (x f)) (second M f) (first M f) (size (x f)) c)
 
-either-end : (b : Bool) (l k : ℕ) → l ≤ boundary → k ≤ boundary → cond b l k < maxCells + 1
+either-end : (b : Bool) (l k : ℕ) → l ≤ rim → k ≤ rim → cond b l k < maxCells + 1
 either-end true l k h m = omega arith
 either-end false l k h m = omega arith
 
 -- the turn of face f, over the tables lent
 module _ (faces : ℕ) (firsts seconds : List ℕ) (fluxes : List ℤ) (few : faces ≤ maxFaces)
-    (fit : (f : ℕ) → f < faces → (getD firsts f 0 ≤ boundary) × (getD seconds f 0 ≤ boundary) × (size (getD fluxes f (pos 0)) ≤ maxBoundaryFlux))
+    (fit : (f : ℕ) → f < faces → (getD firsts f 0 ≤ rim) × (getD seconds f 0 ≤ rim) × (size (getD fluxes f (pos 0)) ≤ maxRimFlux))
     (f : ℕ) (l : f < faces) (b : Bool) (s : ℕ) (n : b ≡ isNegative (getD fluxes f (pos 0))) (z : s ≡ size (getD fluxes f (pos 0))) (i : ℕ) (xs : List ℕ) where
   abbrev M : Mesh
   M = meshOf 0 faces [] firsts seconds [] []
@@ -83,8 +83,8 @@ module _ (faces : ℕ) (firsts seconds : List ℕ) (fluxes : List ℤ) (few : fa
 
     pub in-asks : (i < length xs) × (getD xs i 0 + s < 2 ^ 64)
     unfolding incoming
-    in-asks = turn-asks (maxCells + 1) f i s (entering M x) reached (enters M x f n z r) xs e faces (maxFaces * (maxBoundaryFlux + maxBoundaryFlux)) l
-        (incoming-most M x maxBoundaryFlux few (λ g h. fit g h .2) i) (omega arith)
+    in-asks = turn-asks (maxCells + 1) f i s (entering M x) reached (enters M x f n z r) xs e faces (maxFaces * (maxRimFlux + maxRimFlux)) l
+        (incoming-most M x maxRimFlux few (λ g h. fit g h .2) i) (omega arith)
 
     pub in-turn : (ys : List ℕ) → ys ≡ set xs i (getD xs i 0 + s) → ys ≡ table (maxCells + 1) (λ c. sum (f + 1) (entering M x c))
     in-turn = turn (maxCells + 1) f i s (entering M x) reached (enters M x f n z r) xs e
@@ -95,8 +95,8 @@ module _ (faces : ℕ) (firsts seconds : List ℕ) (fluxes : List ℤ) (few : fa
 
     pub out-asks : (i < length xs) × (getD xs i 0 + s < 2 ^ 64)
     unfolding outgoing
-    out-asks = turn-asks (maxCells + 1) f i s (leaving M x) left (leaves M x f n z r) xs e faces (maxFaces * (maxBoundaryFlux + maxBoundaryFlux)) l
-        (outgoing-most M x maxBoundaryFlux few (λ g h. fit g h .2) i) (omega arith)
+    out-asks = turn-asks (maxCells + 1) f i s (leaving M x) left (leaves M x f n z r) xs e faces (maxFaces * (maxRimFlux + maxRimFlux)) l
+        (outgoing-most M x maxRimFlux few (λ g h. fit g h .2) i) (omega arith)
 
     pub out-turn : (ys : List ℕ) → ys ≡ set xs i (getD xs i 0 + s) → ys ≡ table (maxCells + 1) (λ c. sum (f + 1) (leaving M x c))
     out-turn = turn (maxCells + 1) f i s (leaving M x) left (leaves M x f n z r) xs e

@@ -11,7 +11,7 @@ use lib.ListN.{length}
 use Rattle.lists.specs.Fold.{sum}
 use Rattle.lists.proofs.Tests.{Same, same, other, same?, Fits, fits, exceeds, fits?}
 use Rattle.signed.specs.Sign.{size}
-use Rattle.model.specs.Mesh.{Mesh, volume, first, second, span, atBoundary, total, boundary, maxCells, maxFaces, maxVolume, maxConcentration, maxBoundaryFlux}
+use Rattle.model.specs.Mesh.{Mesh, volume, first, second, reach, atRim, total, rim, maxCells, maxFaces, maxVolume, maxConcentration, maxRimFlux}
 use Rattle.model.specs.Step.{flux}
 use Rattle.model.specs.Causes.{Verdict, fine, _andThen_, each, counts, meshTables, fieldTable, meshValues, fieldValues, meshFieldVerdict, Call, inputOf, stepTables, outsideGood, fluxGood, balanceGood, outflowGood, stepValues, verdict}
 use Rattle.model.specs.Calls.{massIn}
@@ -46,10 +46,10 @@ salt-test m v h = go (leb (m / v) maxConcentration) (fits? (m / v) maxConcentrat
 
 -- the lengths that the tests of values ask for
 pub mesh-long : (M : Mesh) → (counts M andThen meshTables M) ≡ fine
-    → (M .cells ≤ length (M .volumes)) × (M .faces ≤ length (M .firsts)) × (M .faces ≤ length (M .seconds)) × (M .faces ≤ length (M .weights)) × (M .faces ≤ length (M .spans))
+    → (M .cells ≤ length (M .volumes)) × (M .faces ≤ length (M .firsts)) × (M .faces ≤ length (M .seconds)) × (M .faces ≤ length (M .shares)) × (M .faces ≤ length (M .reaches))
 mesh-long M e =
     let l = mesh-lent M (both-fine _ _ e .1) in
-    (l .volumes-long, l .firsts-long, l .seconds-long, l .weights-long, l .spans-long)
+    (l .volumes-long, l .firsts-long, l .seconds-long, l .shares-long, l .reaches-long)
 
 -- what a field whose causes are fine has passed
 pub record FieldPassed (M : Mesh) (field : List ℕ) : Type 0 where
@@ -112,30 +112,30 @@ module _ (M : Mesh) (field : List ℕ) (k : Call) where
 
   -- what causes 7 and 8 ask for
   module _ (e : (counts M andThen meshTables M andThen fieldTable M field) ≡ fine) (d : stepTables M field k ≡ fine) where
-    pub water-asks : (M .faces ≤ length (M .seconds)) × (M .faces ≤ length (M .spans)) × (M .faces ≤ length (k .fluxes)) × (M .faces ≤ length (k .outsides))
+    pub water-asks : (M .faces ≤ length (M .seconds)) × (M .faces ≤ length (M .reaches)) × (M .faces ≤ length (k .fluxes)) × (M .faces ≤ length (k .outsides))
     water-asks =
         let m = mesh-lent M (both-fine _ _ (both-fine _ _ e .0) .1) in
         let l = call-lent M field k d in
-        (m .seconds-long, m .spans-long, l .fluxes-long, l .outsides-long)
+        (m .seconds-long, m .reaches-long, l .fluxes-long, l .outsides-long)
 
     -- what causes 9 and 10 ask for
     module _ (m : meshValues M ≡ fine) (v : (fieldValues M field andThen (each 7 (M .faces) (outsideGood M field k) andThen each 8 (M .faces) (fluxGood M field k))) ≡ fine) where
-      second-most : (f : ℕ) → f < M .faces → second M f ≤ boundary
-      second-most f h = go (eqb (second M f) boundary) (same? (second M f) boundary)
+      second-most : (f : ℕ) → f < M .faces → second M f ≤ rim
+      second-most f h = go (eqb (second M f) rim) (same? (second M f) rim)
         where
-          go : (b : Bool) → Same (second M f) boundary b → second M f ≤ boundary
+          go : (b : Bool) → Same (second M f) rim b → second M f ≤ rim
           go true (same q) = omega arith
           go false (other q) = omega (arith, mesh-fit M m .second-in f h q, few M field e .0)
 
-      flux-small : (f : ℕ) → f < M .faces → size (flux (inputOf M field k) f) ≤ maxBoundaryFlux
-      flux-small f h = go (atBoundary M f) (let w = both-fine _ _ (both-fine _ _ v .1) in water-fit M field k (w .0) (w .1) .flux-most f h)
+      flux-small : (f : ℕ) → f < M .faces → size (flux (inputOf M field k) f) ≤ maxRimFlux
+      flux-small f h = go (atRim M f) (let w = both-fine _ _ (both-fine _ _ v .1) in water-fit M field k (w .0) (w .1) .flux-most f h)
         where
-          go : (b : Bool) → size (flux (inputOf M field k) f) ≤ cond b maxBoundaryFlux (span M f) → size (flux (inputOf M field k) f) ≤ maxBoundaryFlux
+          go : (b : Bool) → size (flux (inputOf M field k) f) ≤ cond b maxRimFlux (reach M f) → size (flux (inputOf M field k) f) ≤ maxRimFlux
           go true l = l
-          go false l = omega (arith, mesh-fit M m .span-most f h)
+          go false l = omega (arith, mesh-fit M m .reach-most f h)
 
       pub flows-ask : ((M .cells ≤ maxCells) × (M .faces ≤ maxFaces) × (M .cells ≤ length (M .volumes)) × (M .faces ≤ length (M .firsts)) × (M .faces ≤ length (M .seconds)) × (M .faces ≤ length (k .fluxes)))
-          × ((f : ℕ) → f < M .faces → (first M f ≤ boundary) × (second M f ≤ boundary) × (size (flux (inputOf M field k) f) ≤ maxBoundaryFlux))
+          × ((f : ℕ) → f < M .faces → (first M f ≤ rim) × (second M f ≤ rim) × (size (flux (inputOf M field k) f) ≤ maxRimFlux))
       flows-ask =
           let l = mesh-lent M (both-fine _ _ (both-fine _ _ e .0) .1) in (
             (few M field e .0, few M field e .1, l .volumes-long, l .firsts-long, l .seconds-long, call-lent M field k d .fluxes-long),

@@ -14,11 +14,11 @@ ghost use lib.IntN.{pos};
 ghost use lib.ListN.{length, getD, set};
 ghost use Rattle.lists.specs.Table.{table};
 ghost use Rattle.signed.specs.Sign.{size as sizeOf};
-ghost use Rattle.model.specs.Mesh.{meshOf, maxCells, maxFaces, boundary, maxBoundaryFlux, incoming, outgoing};
+ghost use Rattle.model.specs.Mesh.{meshOf, maxCells, maxFaces, rim, maxRimFlux, incoming, outgoing};
 ghost use Rattle.model.specs.Causes.{_andThen_, each, callOf, balanceGood, outflowGood};
 ghost use Rattle.model.specs.Answers.{said};
 
-// One entry for each cell, and one at the boundary's mark: a boundary face needs no case of its own.
+// One entry for each cell, and one at the rim's mark: a rim face needs no case of its own.
 const ENDS: usize = model::MAX_CELLS + 1;
 
 // The end of a face that the water reaches.
@@ -60,7 +60,7 @@ pub fn gather(
     outflow: &mut [u64],
 )
     requires { ⌜ (faces ≤ maxFaces) × (faces ≤ length (now firsts)) × (faces ≤ length (now seconds)) × (faces ≤ length (now fluxes)) ⌝ }
-    requires { ⌜ ((f : ℕ) → f < faces → (getD (now firsts) f 0 ≤ boundary) × (getD (now seconds) f 0 ≤ boundary) × (sizeOf (getD (now fluxes) f (pos 0)) ≤ maxBoundaryFlux)) ⌝ }
+    requires { ⌜ ((f : ℕ) → f < faces → (getD (now firsts) f 0 ≤ rim) × (getD (now seconds) f 0 ≤ rim) × (sizeOf (getD (now fluxes) f (pos 0)) ≤ maxRimFlux)) ⌝ }
     requires { ⌜ (now inflow ≡ table (maxCells + 1) (λ c. 0)) × (now outflow ≡ table (maxCells + 1) (λ c. 0)) ⌝ }
     ensures { λ _. ⌜ (now (inflow .exit) ≡ table (maxCells + 1) (incoming (meshOf 0 faces [] (now (firsts .entry)) (now (seconds .entry)) [] []) (λ f. getD (now (fluxes .entry)) f (pos 0)))) × (now (outflow .exit) ≡ table (maxCells + 1) (outgoing (meshOf 0 faces [] (now (firsts .entry)) (now (seconds .entry)) [] []) (λ f. getD (now (fluxes .entry)) f (pos 0)))) ⌝ }
 {
@@ -124,7 +124,7 @@ pub fn values_in(
     outflow: &mut [u64],
 ) -> Answer
     requires { ⌜ (cells ≤ maxCells) × (faces ≤ maxFaces) × (cells ≤ length (now volumes)) × (faces ≤ length (now firsts)) × (faces ≤ length (now seconds)) × (faces ≤ length (now fluxes)) ⌝ }
-    requires { ⌜ ((f : ℕ) → f < faces → (getD (now firsts) f 0 ≤ boundary) × (getD (now seconds) f 0 ≤ boundary) × (sizeOf (getD (now fluxes) f (pos 0)) ≤ maxBoundaryFlux)) ⌝ }
+    requires { ⌜ ((f : ℕ) → f < faces → (getD (now firsts) f 0 ≤ rim) × (getD (now seconds) f 0 ≤ rim) × (sizeOf (getD (now fluxes) f (pos 0)) ≤ maxRimFlux)) ⌝ }
     requires { ⌜ (now inflow ≡ table (maxCells + 1) (λ c. 0)) × (now outflow ≡ table (maxCells + 1) (λ c. 0)) ⌝ }
     ensures { λ r. ⌜ said r ≡ (each 9 cells (balanceGood (meshOf cells faces (now (volumes .entry)) (now (firsts .entry)) (now (seconds .entry)) [] []) [] (callOf (now (fluxes .entry)) [] [] [] [])) andThen each 10 cells (outflowGood (meshOf cells faces (now (volumes .entry)) (now (firsts .entry)) (now (seconds .entry)) [] []) [] (callOf (now (fluxes .entry)) [] [] [] []))) ⌝ }
 {
@@ -143,7 +143,7 @@ pub fn values(
     fluxes: &[i64],
 ) -> Answer
     requires { ⌜ (cells ≤ maxCells) × (faces ≤ maxFaces) × (cells ≤ length (now volumes)) × (faces ≤ length (now firsts)) × (faces ≤ length (now seconds)) × (faces ≤ length (now fluxes)) ⌝ }
-    requires { ⌜ ((f : ℕ) → f < faces → (getD (now firsts) f 0 ≤ boundary) × (getD (now seconds) f 0 ≤ boundary) × (sizeOf (getD (now fluxes) f (pos 0)) ≤ maxBoundaryFlux)) ⌝ }
+    requires { ⌜ ((f : ℕ) → f < faces → (getD (now firsts) f 0 ≤ rim) × (getD (now seconds) f 0 ≤ rim) × (sizeOf (getD (now fluxes) f (pos 0)) ≤ maxRimFlux)) ⌝ }
     ensures { λ r. ⌜ said r ≡ (each 9 cells (balanceGood (meshOf cells faces (now (volumes .entry)) (now (firsts .entry)) (now (seconds .entry)) [] []) [] (callOf (now (fluxes .entry)) [] [] [] [])) andThen each 10 cells (outflowGood (meshOf cells faces (now (volumes .entry)) (now (firsts .entry)) (now (seconds .entry)) [] []) [] (callOf (now (fluxes .entry)) [] [] [] []))) ⌝ }
 {
     let mut inflow = [0u64; ENDS];

@@ -53,17 +53,17 @@ pub fn mesh_lent(
     volumes: &[u64],
     firsts: &[u64],
     seconds: &[u64],
-    weights: &[u64],
-    spans: &[u64],
+    shares: &[u64],
+    reaches: &[u64],
 ) -> Answer
-    ensures { λ r. ⌜ said r ≡ (counts (meshOf cells faces (now (volumes .entry)) (now (firsts .entry)) (now (seconds .entry)) (now (weights .entry)) (now (spans .entry))) andThen meshTables (meshOf cells faces (now (volumes .entry)) (now (firsts .entry)) (now (seconds .entry)) (now (weights .entry)) (now (spans .entry)))) ⌝ }
+    ensures { λ r. ⌜ said r ≡ (counts (meshOf cells faces (now (volumes .entry)) (now (firsts .entry)) (now (seconds .entry)) (now (shares .entry)) (now (reaches .entry))) andThen meshTables (meshOf cells faces (now (volumes .entry)) (now (firsts .entry)) (now (seconds .entry)) (now (shares .entry)) (now (reaches .entry)))) ⌝ }
 {
     let a = crate::counts_within(model::MAX_CELLS, model::MAX_FACES, cells, faces);
     let b = long(0, cells, volumes.len());
     let b = and_then(b, long(1, faces, firsts.len()));
     let b = and_then(b, long(2, faces, seconds.len()));
-    let b = and_then(b, long(3, faces, weights.len()));
-    let b = and_then(b, long(4, faces, spans.len()));
+    let b = and_then(b, long(3, faces, shares.len()));
+    let b = and_then(b, long(4, faces, reaches.len()));
     and_then(a, b)
 }
 
@@ -74,13 +74,13 @@ pub fn field_lent(
     volumes: &[u64],
     firsts: &[u64],
     seconds: &[u64],
-    weights: &[u64],
-    spans: &[u64],
+    shares: &[u64],
+    reaches: &[u64],
     masses: &[u64],
 ) -> Answer
-    ensures { λ r. ⌜ said r ≡ (counts (meshOf cells faces (now (volumes .entry)) (now (firsts .entry)) (now (seconds .entry)) (now (weights .entry)) (now (spans .entry))) andThen meshTables (meshOf cells faces (now (volumes .entry)) (now (firsts .entry)) (now (seconds .entry)) (now (weights .entry)) (now (spans .entry))) andThen fieldTable (meshOf cells faces (now (volumes .entry)) (now (firsts .entry)) (now (seconds .entry)) (now (weights .entry)) (now (spans .entry))) (now (masses .entry))) ⌝ }
+    ensures { λ r. ⌜ said r ≡ (counts (meshOf cells faces (now (volumes .entry)) (now (firsts .entry)) (now (seconds .entry)) (now (shares .entry)) (now (reaches .entry))) andThen meshTables (meshOf cells faces (now (volumes .entry)) (now (firsts .entry)) (now (seconds .entry)) (now (shares .entry)) (now (reaches .entry))) andThen fieldTable (meshOf cells faces (now (volumes .entry)) (now (firsts .entry)) (now (seconds .entry)) (now (shares .entry)) (now (reaches .entry))) (now (masses .entry))) ⌝ }
 {
-    let a = mesh_lent(cells, faces, volumes, firsts, seconds, weights, spans);
+    let a = mesh_lent(cells, faces, volumes, firsts, seconds, shares, reaches);
     and_then(a, long(5, cells, masses.len()))
 }
 

@@ -43,16 +43,16 @@ pub fn check_mesh(
     volumes: &[u64],
     firsts: &[u64],
     seconds: &[u64],
-    weights: &[u64],
-    spans: &[u64],
+    shares: &[u64],
+    reaches: &[u64],
 ) -> Answer
-    ensures { λ r. ⌜ said r ≡ meshVerdict (meshOf cells faces (now (volumes .entry)) (now (firsts .entry)) (now (seconds .entry)) (now (weights .entry)) (now (spans .entry))) ⌝ }
+    ensures { λ r. ⌜ said r ≡ meshVerdict (meshOf cells faces (now (volumes .entry)) (now (firsts .entry)) (now (seconds .entry)) (now (shares .entry)) (now (reaches .entry))) ⌝ }
 {
-    let a = lengths::mesh_lent(cells, faces, volumes, firsts, seconds, weights, spans);
+    let a = lengths::mesh_lent(cells, faces, volumes, firsts, seconds, shares, reaches);
     if let Answer::Refused(r) = a {
         return Answer::Refused(r);
     }
-    mesh::values(cells, faces, volumes, firsts, seconds, weights, spans)
+    mesh::values(cells, faces, volumes, firsts, seconds, shares, reaches)
 }
 
 // Causes 1 to 6.
@@ -62,11 +62,11 @@ pub fn check_field(
     volumes: &[u64],
     firsts: &[u64],
     seconds: &[u64],
-    weights: &[u64],
-    spans: &[u64],
+    shares: &[u64],
+    reaches: &[u64],
     masses: &[u64],
 ) -> Answer
-    ensures { λ r. ⌜ said r ≡ meshFieldVerdict (meshOf cells faces (now (volumes .entry)) (now (firsts .entry)) (now (seconds .entry)) (now (weights .entry)) (now (spans .entry))) (now (masses .entry)) ⌝ }
+    ensures { λ r. ⌜ said r ≡ meshFieldVerdict (meshOf cells faces (now (volumes .entry)) (now (firsts .entry)) (now (seconds .entry)) (now (shares .entry)) (now (reaches .entry))) (now (masses .entry)) ⌝ }
 {
     let a = lengths::field_lent(
         cells,
@@ -74,14 +74,14 @@ pub fn check_field(
         volumes,
         firsts,
         seconds,
-        weights,
-        spans,
+        shares,
+        reaches,
         masses,
     );
     if let Answer::Refused(r) = a {
         return Answer::Refused(r);
     }
-    let b = mesh::values(cells, faces, volumes, firsts, seconds, weights, spans);
+    let b = mesh::values(cells, faces, volumes, firsts, seconds, shares, reaches);
     if let Answer::Refused(r) = b {
         return Answer::Refused(r);
     }
@@ -114,8 +114,8 @@ pub fn check_step(
     volumes: &[u64],
     firsts: &[u64],
     seconds: &[u64],
-    weights: &[u64],
-    spans: &[u64],
+    shares: &[u64],
+    reaches: &[u64],
     masses: &[u64],
     fluxes: &[i64],
     outsides: &[u64],
@@ -123,7 +123,7 @@ pub fn check_step(
     moved: &[i64],
     work: &[u64],
 ) -> Answer
-    ensures { λ r. ⌜ said r ≡ verdict (meshOf cells faces (now (volumes .entry)) (now (firsts .entry)) (now (seconds .entry)) (now (weights .entry)) (now (spans .entry))) (now (masses .entry)) (callOf (now (fluxes .entry)) (now (outsides .entry)) (now (next .entry)) (now (moved .entry)) (now (work .entry))) ⌝ }
+    ensures { λ r. ⌜ said r ≡ verdict (meshOf cells faces (now (volumes .entry)) (now (firsts .entry)) (now (seconds .entry)) (now (shares .entry)) (now (reaches .entry))) (now (masses .entry)) (callOf (now (fluxes .entry)) (now (outsides .entry)) (now (next .entry)) (now (moved .entry)) (now (work .entry))) ⌝ }
 {
     let a = lengths::field_lent(
         cells,
@@ -131,8 +131,8 @@ pub fn check_step(
         volumes,
         firsts,
         seconds,
-        weights,
-        spans,
+        shares,
+        reaches,
         masses,
     );
     if let Answer::Refused(r) = a {
@@ -142,13 +142,13 @@ pub fn check_step(
     if let Answer::Refused(r) = b {
         return Answer::Refused(r);
     }
-    let d = mesh::values(cells, faces, volumes, firsts, seconds, weights, spans);
+    let d = mesh::values(cells, faces, volumes, firsts, seconds, shares, reaches);
     if let Answer::Refused(r) = d {
         return Answer::Refused(r);
     }
     let e = lengths::and_then(
         field::values(cells, volumes, masses),
-        water::values(faces, seconds, spans, fluxes, outsides),
+        water::values(faces, seconds, reaches, fluxes, outsides),
     );
     if let Answer::Refused(r) = e {
         return Answer::Refused(r);

@@ -10,7 +10,7 @@ ghost use mathlib.Core.List.{[]};
 ghost use Prim.Native.Nat.{_≤_};
 ghost use lib.Dec.{eqb, ltb};
 ghost use lib.ListN.{length};
-ghost use Rattle.model.specs.Mesh.{meshOf, maxWeight, maxSpan, boundary};
+ghost use Rattle.model.specs.Mesh.{meshOf, maxShare, maxReach, rim};
 ghost use Rattle.model.specs.Causes.{each, between as betweenOf, volumeGood, endsGood, spacingGood, meshValues};
 ghost use Rattle.model.specs.Answers.{said};
 
@@ -32,9 +32,9 @@ fn volumes_good(cells: usize, volumes: &[u64]) -> Answer
     Answer::Done
 }
 
-// One face's ends: the first a cell, the second a cell or the boundary, and not the same.
+// One face's ends: the first a cell, the second a cell or the rim, and not the same.
 fn ends_fit(cells: u64, first: u64, second: u64) -> bool
-    ensures { λ r. ⌜ r ≡ (ltb first cells && (ltb second cells || eqb second boundary) && not (eqb first second)) ⌝ }
+    ensures { λ r. ⌜ r ≡ (ltb first cells && (ltb second cells || eqb second rim) && not (eqb first second)) ⌝ }
 {
     if cells <= first {
         return false;
@@ -45,7 +45,7 @@ fn ends_fit(cells: u64, first: u64, second: u64) -> bool
     if second < cells {
         return true;
     }
-    second == model::BOUNDARY
+    second == model::RIM
 }
 
 // Cause 4.
@@ -66,30 +66,30 @@ fn ends_good(cells: usize, faces: usize, firsts: &[u64], seconds: &[u64]) -> Ans
     Answer::Done
 }
 
-// One face's weight and span: both 0 at the boundary, both in their ranges inside.
-fn spacing_fits(second: u64, weight: u64, span: u64) -> bool
-    ensures { λ r. ⌜ r ≡ cond (eqb second boundary) (eqb weight 0 && eqb span 0) (betweenOf 1 maxWeight weight && betweenOf 1 maxSpan span) ⌝ }
+// One face's share and reach: both 0 at the rim, both in their ranges inside.
+fn spacing_fits(second: u64, share: u64, reach: u64) -> bool
+    ensures { λ r. ⌜ r ≡ cond (eqb second rim) (eqb share 0 && eqb reach 0) (betweenOf 1 maxShare share && betweenOf 1 maxReach reach) ⌝ }
 {
-    if second == model::BOUNDARY {
-        if weight == 0 {
-            return span == 0;
+    if second == model::RIM {
+        if share == 0 {
+            return reach == 0;
         }
         return false;
     }
-    if between(1, model::MAX_WEIGHT, weight) {
-        return between(1, model::MAX_SPAN, span);
+    if between(1, model::MAX_SHARE, share) {
+        return between(1, model::MAX_REACH, reach);
     }
     false
 }
 
 // Cause 5.
-fn spacing_good(faces: usize, seconds: &[u64], weights: &[u64], spans: &[u64]) -> Answer
-    requires { ⌜ (faces ≤ length (now seconds)) × (faces ≤ length (now weights)) × (faces ≤ length (now spans)) ⌝ }
-    ensures { λ r. ⌜ said r ≡ each 5 faces (spacingGood (meshOf 0 faces [] [] (now (seconds .entry)) (now (weights .entry)) (now (spans .entry)))) ⌝ }
+fn spacing_good(faces: usize, seconds: &[u64], shares: &[u64], reaches: &[u64]) -> Answer
+    requires { ⌜ (faces ≤ length (now seconds)) × (faces ≤ length (now shares)) × (faces ≤ length (now reaches)) ⌝ }
+    ensures { λ r. ⌜ said r ≡ each 5 faces (spacingGood (meshOf 0 faces [] [] (now (seconds .entry)) (now (shares .entry)) (now (reaches .entry)))) ⌝ }
 {
     let mut f = 0;
     while f < faces {
-        if !spacing_fits(seconds[f], weights[f], spans[f]) {
+        if !spacing_fits(seconds[f], shares[f], reaches[f]) {
             return Answer::Refused(Refusal {
                 cause: Cause::Spacing,
                 place: f as u64,
@@ -107,13 +107,13 @@ pub fn values(
     volumes: &[u64],
     firsts: &[u64],
     seconds: &[u64],
-    weights: &[u64],
-    spans: &[u64],
+    shares: &[u64],
+    reaches: &[u64],
 ) -> Answer
-    requires { ⌜ (cells ≤ length (now volumes)) × (faces ≤ length (now firsts)) × (faces ≤ length (now seconds)) × (faces ≤ length (now weights)) × (faces ≤ length (now spans)) ⌝ }
-    ensures { λ r. ⌜ said r ≡ meshValues (meshOf cells faces (now (volumes .entry)) (now (firsts .entry)) (now (seconds .entry)) (now (weights .entry)) (now (spans .entry))) ⌝ }
+    requires { ⌜ (cells ≤ length (now volumes)) × (faces ≤ length (now firsts)) × (faces ≤ length (now seconds)) × (faces ≤ length (now shares)) × (faces ≤ length (now reaches)) ⌝ }
+    ensures { λ r. ⌜ said r ≡ meshValues (meshOf cells faces (now (volumes .entry)) (now (firsts .entry)) (now (seconds .entry)) (now (shares .entry)) (now (reaches .entry))) ⌝ }
 {
     let a = volumes_good(cells, volumes);
     let a = and_then(a, ends_good(cells, faces, firsts, seconds));
-    and_then(a, spacing_good(faces, seconds, weights, spans))
+    and_then(a, spacing_good(faces, seconds, shares, reaches))
 }

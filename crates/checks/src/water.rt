@@ -11,15 +11,15 @@ ghost use mathlib.Core.List.{[]};
 ghost use Prim.Native.Nat.{_≤_};
 ghost use lib.Dec.{eqb, leb};
 ghost use lib.ListN.{length};
-ghost use Rattle.model.specs.Mesh.{meshOf, boundary, maxConcentration, maxBoundaryFlux};
+ghost use Rattle.model.specs.Mesh.{meshOf, rim, maxConcentration, maxRimFlux};
 ghost use Rattle.model.specs.Causes.{_andThen_, each, callOf, outsideGood, fluxGood};
 ghost use Rattle.model.specs.Answers.{said};
 
-// The largest outside value of one face: 0 elsewhere than at an inflow through the boundary.
+// The largest outside value of one face: 0 elsewhere than at an inflow through the rim.
 fn most_outside(second: u64, negative: bool) -> u64
-    ensures { λ r. ⌜ r ≡ cond (eqb second boundary && negative) maxConcentration 0 ⌝ }
+    ensures { λ r. ⌜ r ≡ cond (eqb second rim && negative) maxConcentration 0 ⌝ }
 {
-    if second != model::BOUNDARY {
+    if second != model::RIM {
         return 0;
     }
     if negative {
@@ -29,13 +29,13 @@ fn most_outside(second: u64, negative: bool) -> u64
 }
 
 // The largest size of one face's flux.
-fn most_flux(second: u64, span: u64) -> u64
-    ensures { λ r. ⌜ r ≡ cond (eqb second boundary) maxBoundaryFlux span ⌝ }
+fn most_flux(second: u64, reach: u64) -> u64
+    ensures { λ r. ⌜ r ≡ cond (eqb second rim) maxRimFlux reach ⌝ }
 {
-    if second == model::BOUNDARY {
-        return model::MAX_BOUNDARY_FLUX;
+    if second == model::RIM {
+        return model::MAX_RIM_FLUX;
     }
-    span
+    reach
 }
 
 // Whether a value is within the largest that may stand.
@@ -65,13 +65,13 @@ fn outsides_good(faces: usize, seconds: &[u64], fluxes: &[i64], outsides: &[u64]
 }
 
 // Cause 8.
-fn fluxes_good(faces: usize, seconds: &[u64], spans: &[u64], fluxes: &[i64]) -> Answer
-    requires { ⌜ (faces ≤ length (now seconds)) × (faces ≤ length (now spans)) × (faces ≤ length (now fluxes)) ⌝ }
-    ensures { λ r. ⌜ said r ≡ each 8 faces (fluxGood (meshOf 0 faces [] [] (now (seconds .entry)) [] (now (spans .entry))) [] (callOf (now (fluxes .entry)) [] [] [] [])) ⌝ }
+fn fluxes_good(faces: usize, seconds: &[u64], reaches: &[u64], fluxes: &[i64]) -> Answer
+    requires { ⌜ (faces ≤ length (now seconds)) × (faces ≤ length (now reaches)) × (faces ≤ length (now fluxes)) ⌝ }
+    ensures { λ r. ⌜ said r ≡ each 8 faces (fluxGood (meshOf 0 faces [] [] (now (seconds .entry)) [] (now (reaches .entry))) [] (callOf (now (fluxes .entry)) [] [] [] [])) ⌝ }
 {
     let mut f = 0;
     while f < faces {
-        let most = most_flux(seconds[f], spans[f]);
+        let most = most_flux(seconds[f], reaches[f]);
         if !within(most, size_at(fluxes, f)) {
             return Answer::Refused(Refusal {
                 cause: Cause::Flux,
@@ -87,13 +87,13 @@ fn fluxes_good(faces: usize, seconds: &[u64], spans: &[u64], fluxes: &[i64]) -> 
 pub fn values(
     faces: usize,
     seconds: &[u64],
-    spans: &[u64],
+    reaches: &[u64],
     fluxes: &[i64],
     outsides: &[u64],
 ) -> Answer
-    requires { ⌜ (faces ≤ length (now seconds)) × (faces ≤ length (now spans)) × (faces ≤ length (now fluxes)) × (faces ≤ length (now outsides)) ⌝ }
-    ensures { λ r. ⌜ said r ≡ (each 7 faces (outsideGood (meshOf 0 faces [] [] (now (seconds .entry)) [] []) [] (callOf (now (fluxes .entry)) (now (outsides .entry)) [] [] [])) andThen each 8 faces (fluxGood (meshOf 0 faces [] [] (now (seconds .entry)) [] (now (spans .entry))) [] (callOf (now (fluxes .entry)) [] [] [] []))) ⌝ }
+    requires { ⌜ (faces ≤ length (now seconds)) × (faces ≤ length (now reaches)) × (faces ≤ length (now fluxes)) × (faces ≤ length (now outsides)) ⌝ }
+    ensures { λ r. ⌜ said r ≡ (each 7 faces (outsideGood (meshOf 0 faces [] [] (now (seconds .entry)) [] []) [] (callOf (now (fluxes .entry)) (now (outsides .entry)) [] [] [])) andThen each 8 faces (fluxGood (meshOf 0 faces [] [] (now (seconds .entry)) [] (now (reaches .entry))) [] (callOf (now (fluxes .entry)) [] [] [] []))) ⌝ }
 {
     let a = outsides_good(faces, seconds, fluxes, outsides);
-    and_then(a, fluxes_good(faces, seconds, spans, fluxes))
+    and_then(a, fluxes_good(faces, seconds, reaches, fluxes))
 }

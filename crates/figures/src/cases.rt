@@ -24,8 +24,8 @@ fn altered(name: &[u8], masses: &mut [u64], fluxes: &[i64], table: u64, at: usiz
     let mut volumes = [100u64, 100, 100];
     let mut firsts = [0u64, 0, 1, 2];
     let mut seconds = [4095u64, 1, 2, 4095];
-    let mut weights = [0u64, 128, 128, 0];
-    let mut spans = [0u64, 100, 100, 0];
+    let mut shares = [0u64, 128, 128, 0];
+    let mut reaches = [0u64, 100, 100, 0];
     let mut outsides = [1000u64, 0, 0, 0];
     let mut next = [7u64; 3];
     let mut moved = [-7i64; 4];
@@ -33,8 +33,8 @@ fn altered(name: &[u8], masses: &mut [u64], fluxes: &[i64], table: u64, at: usiz
     put(&mut volumes, table == 0, at, value);
     put(&mut firsts, table == 1, at, value);
     put(&mut seconds, table == 2, at, value);
-    put(&mut weights, table == 3, at, value);
-    put(&mut spans, table == 4, at, value);
+    put(&mut shares, table == 3, at, value);
+    put(&mut reaches, table == 4, at, value);
     put(masses, table == 5, at, value);
     put(&mut outsides, table == 7, at, value);
     show::word(name);
@@ -44,8 +44,8 @@ fn altered(name: &[u8], masses: &mut [u64], fluxes: &[i64], table: u64, at: usiz
         &volumes,
         &firsts,
         &seconds,
-        &weights,
-        &spans,
+        &shares,
+        &reaches,
         masses,
         fluxes,
         &outsides,
@@ -80,8 +80,8 @@ pub fn exchange() {
     let volumes = [10u64, 10];
     let firsts = [0u64, 0];
     let seconds = [1u64, 1];
-    let weights = [128u64, 128];
-    let spans = [10u64, 10];
+    let shares = [128u64, 128];
+    let reaches = [10u64, 10];
     let masses = [93u64, 15];
     let fluxes = [10i64, -10];
     let outsides = [0u64, 0];
@@ -95,8 +95,8 @@ pub fn exchange() {
         &volumes,
         &firsts,
         &seconds,
-        &weights,
-        &spans,
+        &shares,
+        &reaches,
         &masses,
         &fluxes,
         &outsides,
@@ -112,8 +112,8 @@ pub fn sevens() {
     let volumes = [7u64, 7, 7];
     let firsts = [0u64, 0, 1, 2];
     let seconds = [4095u64, 1, 2, 4095];
-    let weights = [0u64, 128, 128, 0];
-    let spans = [0u64, 7, 7, 0];
+    let shares = [0u64, 128, 128, 0];
+    let reaches = [0u64, 7, 7, 0];
     let masses = [30u64, 30, 30];
     let fluxes = [-5i64, 5, 5, 5];
     let outsides = [4u64, 0, 0, 0];
@@ -127,8 +127,8 @@ pub fn sevens() {
         &volumes,
         &firsts,
         &seconds,
-        &weights,
-        &spans,
+        &shares,
+        &reaches,
         &masses,
         &fluxes,
         &outsides,
@@ -226,12 +226,12 @@ pub fn counted(name: &[u8], cells: usize, faces: usize) {
 }
 
 // The channel on tables that hold more than the counts: past them stand values that no table may hold.
-pub fn longer(name: &[u8], span: u64) {
+pub fn longer(name: &[u8], reach: u64) {
     let volumes = [100u64, 100, 100, 0];
     let firsts = [0u64, 0, 1, 2, 9];
     let seconds = [4095u64, 1, 2, 4095, 9];
-    let weights = [0u64, 128, 128, 0, 999];
-    let spans = [0u64, 100, span, 0, 9999];
+    let shares = [0u64, 128, 128, 0, 999];
+    let reaches = [0u64, 100, reach, 0, 9999];
     let masses = [100000u64, 0, 0, 18446744073709551615];
     let fluxes = [-50i64, 50, 50, 50, -9223372036854775808];
     let outsides = [1000u64, 0, 0, 0, 7];
@@ -245,8 +245,8 @@ pub fn longer(name: &[u8], span: u64) {
         &volumes,
         &firsts,
         &seconds,
-        &weights,
-        &spans,
+        &shares,
+        &reaches,
         &masses,
         &fluxes,
         &outsides,
@@ -263,12 +263,12 @@ pub fn judged(name: &[u8], volume: u64, mass: u64) {
     let volumes = [100u64, 100, volume];
     let firsts = [0u64, 0, 1, 2];
     let seconds = [4095u64, 1, 2, 4095];
-    let weights = [0u64, 128, 128, 0];
-    let spans = [0u64, 100, 100, 0];
+    let shares = [0u64, 128, 128, 0];
+    let reaches = [0u64, 100, 100, 0];
     let masses = [100099u64, 81188, mass];
     show::word(name);
     show::word(b": mesh");
-    show::verdict(checks::check_mesh(3, 4, &volumes, &firsts, &seconds, &weights, &spans));
+    show::verdict(checks::check_mesh(3, 4, &volumes, &firsts, &seconds, &shares, &reaches));
     show::word(b"; field");
     show::verdict(checks::check_field(
         3,
@@ -276,8 +276,8 @@ pub fn judged(name: &[u8], volume: u64, mass: u64) {
         &volumes,
         &firsts,
         &seconds,
-        &weights,
-        &spans,
+        &shares,
+        &reaches,
         &masses,
     ));
     show::word(b"; total");
@@ -290,8 +290,8 @@ pub fn graded(name: &[u8], cells: usize, faces: usize) {
     let volumes = [100u64; 4];
     let firsts = [0u64; 9];
     let seconds = [4095u64; 8];
-    let weights = [0u64; 7];
-    let spans = [0u64; 6];
+    let shares = [0u64; 7];
+    let reaches = [0u64; 6];
     let masses = [0u64; 3];
     let fluxes = [0i64; 5];
     let outsides = [0u64; 4];
@@ -305,8 +305,8 @@ pub fn graded(name: &[u8], cells: usize, faces: usize) {
         &volumes,
         &firsts,
         &seconds,
-        &weights,
-        &spans,
+        &shares,
+        &reaches,
         &masses,
         &fluxes,
         &outsides,

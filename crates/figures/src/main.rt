@@ -1,4 +1,4 @@
-// The figures of document 01, and each cause at its boundary values, through the real calls.
+// The figures of document 01, and each cause at its rim values, through the real calls.
 mod cases;
 mod show;
 
@@ -43,8 +43,8 @@ fn tables() {
     cases::graded(b"volumes short", 5, 10);
     cases::graded(b"firsts short", 4, 10);
     cases::graded(b"seconds short", 4, 9);
-    cases::graded(b"weights short", 4, 8);
-    cases::graded(b"spans short", 4, 7);
+    cases::graded(b"shares short", 4, 8);
+    cases::graded(b"reaches short", 4, 7);
     cases::graded(b"masses short", 4, 6);
     cases::graded(b"fluxes short", 3, 6);
     cases::graded(b"outsides short", 3, 5);
@@ -80,16 +80,16 @@ fn ends() {
 
 // Cause 5, tables 3 and 4.
 fn spacing() {
-    cases::changed(b"weight 0", 3, 1, 0);
-    cases::changed(b"weight 256", 3, 2, 256);
-    cases::changed(b"weight 1", 3, 1, 1);
-    cases::changed(b"weight 255", 3, 2, 255);
-    cases::changed(b"span 0", 4, 1, 0);
-    cases::changed(b"span 4096", 4, 2, 4096);
-    cases::changed(b"span 4095", 4, 2, 4095);
-    cases::changed(b"first face, weight 1 at the boundary", 3, 0, 1);
-    cases::changed(b"last face, span 1 at the boundary", 4, 3, 1);
-    cases::changed(b"inside without weight and span", 2, 3, 0);
+    cases::changed(b"share 0", 3, 1, 0);
+    cases::changed(b"share 256", 3, 2, 256);
+    cases::changed(b"share 1", 3, 1, 1);
+    cases::changed(b"share 255", 3, 2, 255);
+    cases::changed(b"reach 0", 4, 1, 0);
+    cases::changed(b"reach 4096", 4, 2, 4096);
+    cases::changed(b"reach 4095", 4, 2, 4095);
+    cases::changed(b"first face, share 1 at the rim", 3, 0, 1);
+    cases::changed(b"last face, reach 1 at the rim", 4, 3, 1);
+    cases::changed(b"inside without share and reach", 2, 3, 0);
 }
 
 // Cause 6, table 5: a concentration of 1,000,000 and one more.
@@ -106,9 +106,9 @@ fn water() {
     cases::changed(b"outside 1000001", 7, 0, 1000001);
     cases::changed(b"outside 1 inside", 7, 1, 1);
     cases::changed(b"outside 1 at outflow", 7, 3, 1);
-    cases::flux(b"flux equal to the span", 1, 100);
-    cases::flux(b"flux above the span", 1, 101);
-    cases::flux(b"flux below the span's negative", 2, -101);
+    cases::flux(b"flux equal to the reach", 1, 100);
+    cases::flux(b"flux above the reach", 1, 101);
+    cases::flux(b"flux below the reach's negative", 2, -101);
     cases::flux(b"last face, flux 4095", 3, 4095);
     cases::flux(b"last face, flux 4096", 3, 4096);
     cases::flux(b"first face, flux -4095", 0, -4095);
@@ -116,7 +116,7 @@ fn water() {
     cases::flux(b"first face, most negative flux", 0, -9223372036854775808);
     cases::flux(b"last face, most negative flux", 3, -9223372036854775808);
     cases::flux(b"inner face, most negative flux", 1, -9223372036854775808);
-    cases::flux(b"still boundary face with salt outside", 0, 0);
+    cases::flux(b"still rim face with salt outside", 0, 0);
 }
 
 // Causes 9 and 10.

@@ -21,7 +21,7 @@ use Rattle.transport.specs.Promise.{stepSaid}
 use Rattle.transport.specs.declared.StepAnswer.{StepAnswer}
 use Rattle.transport.specs.declared.StepAnswer.the-variants as step
 use Rattle.transport.specs.declared.Crossing.{Crossing}
-use Rattle.records.specs.Reading.{cellsIn, facesIn, volumesIn, firstsIn, secondsIn, weightsIn, spansIn, countsIn, meshIn, massesIn, fluxesIn, outsidesIn, meshHeadVerdict, meshBodyVerdict, meshRead, fieldRead, stepRead}
+use Rattle.records.specs.Reading.{cellsIn, facesIn, volumesIn, firstsIn, secondsIn, sharesIn, reachesIn, countsIn, meshIn, massesIn, fluxesIn, outsidesIn, meshHeadVerdict, meshBodyVerdict, meshRead, fieldRead, stepRead}
 use Rattle.records.specs.Writing.{FieldWriting}
 use Rattle.records.specs.Answers.{meshSaid, MeshReading, FieldReading, StepReading}
 use Rattle.records.specs.declared.MeshAnswer.{MeshAnswer}
@@ -198,18 +198,18 @@ head-counts mesh e =
     (leb-le 1 (cellsIn mesh) (b .0), leb-le (cellsIn mesh) runCells (b .1), leb-le (facesIn mesh) runFaces (need-fine 1 1 _ (p .1)))
 
 -- a mesh record read into tables, and the mesh of the parts that are lent
-pub record MeshIsRead (mesh : List ℕ) (cells faces : ℕ) (volumes' firsts' seconds' weights' spans' : List ℕ) : Type 0 where
+pub record MeshIsRead (mesh : List ℕ) (cells faces : ℕ) (volumes' firsts' seconds' shares' reaches' : List ℕ) : Type 0 where
   pub passed : headAndBody mesh ≡ fine
   pub volumes-fit : cells ≤ length volumes'
   pub firsts-fit : faces ≤ length firsts'
   pub seconds-fit : faces ≤ length seconds'
-  pub weights-fit : faces ≤ length weights'
-  pub spans-fit : faces ≤ length spans'
-  pub same : meshOf cells faces (take cells volumes') (take faces firsts') (take faces seconds') (take faces weights') (take faces spans') ≡ meshIn mesh
-  pub lent : MeshRead (meshOf cells faces (take cells volumes') (take faces firsts') (take faces seconds') (take faces weights') (take faces spans'))
+  pub shares-fit : faces ≤ length shares'
+  pub reaches-fit : faces ≤ length reaches'
+  pub same : meshOf cells faces (take cells volumes') (take faces firsts') (take faces seconds') (take faces shares') (take faces reaches') ≡ meshIn mesh
+  pub lent : MeshRead (meshOf cells faces (take cells volumes') (take faces firsts') (take faces seconds') (take faces shares') (take faces reaches'))
 
 mesh-in-read : (mesh : List ℕ) → headAndBody mesh ≡ fine → MeshRead (meshIn mesh)
-unfolding volumesIn firstsIn secondsIn weightsIn spansIn
+unfolding volumesIn firstsIn secondsIn sharesIn reachesIn
 mesh-in-read mesh e = let k = head-counts mesh e in record {
   some-cells = k .0;
   few-cells = k .1;
@@ -217,26 +217,26 @@ mesh-in-read mesh e = let k = head-counts mesh e in record {
   volumes-long = length-table _ _;
   firsts-long = length-table _ _;
   seconds-long = length-table _ _;
-  weights-long = length-table _ _;
-  spans-long = length-table _ _;
+  shares-long = length-table _ _;
+  reaches-long = length-table _ _;
 }
 
-module _ (mesh volumes firsts seconds weights spans : List ℕ) (l : MeshScratch volumes firsts seconds weights spans) (a : MeshAnswer) where
+module _ (mesh volumes firsts seconds shares reaches : List ℕ) (l : MeshScratch volumes firsts seconds shares reaches) (a : MeshAnswer) where
   abbrev read : Outcome Counts
-  read = meshRead runCells runFaces mesh (length volumes) (length firsts) (length seconds) (length weights) (length spans)
+  read = meshRead runCells runFaces mesh (length volumes) (length firsts) (length seconds) (length shares) (length reaches)
 
   read-said : meshSaid a ≡ read → meshSaid a ≡ (headAndBody mesh andThen accepted (countsIn mesh))
   unfolding meshRead
-  read-said e = rw (l .volumes-long, l .firsts-long, l .seconds-long, l .weights-long, l .spans-long) at e
+  read-said e = rw (l .volumes-long, l .firsts-long, l .seconds-long, l .shares-long, l .reaches-long) at e
 
   pub mesh-unread : (field step bytes : List ℕ) (r : Refusal) → meshSaid a ≡ read → a ≡ mesh-answer.Refused r → HostComes mesh field step bytes (Refused r) bytes
   mesh-unread field step bytes r e d =
       host-comes mesh field step bytes (comes-out (onMesh (meshIn mesh) field step (length bytes)) (meshIn mesh .cells) _ bytes r (refused-of (headAndBody mesh) (countsIn mesh) (number (r .cause)) (r .place) (sym (ap meshSaid d) ∙ read-said e)))
 
-  module _ (volumes' firsts' seconds' weights' spans' : List ℕ) where
-    pub mesh-read : (n : Counts) → MeshReading read mesh volumes firsts seconds weights spans a volumes' firsts' seconds' weights' spans' → a ≡ mesh-answer.Read n
-        → MeshIsRead mesh (n .cells) (n .faces) volumes' firsts' seconds' weights' spans'
-    unfolding volumesIn firstsIn secondsIn weightsIn spansIn
+  module _ (volumes' firsts' seconds' shares' reaches' : List ℕ) where
+    pub mesh-read : (n : Counts) → MeshReading read mesh volumes firsts seconds shares reaches a volumes' firsts' seconds' shares' reaches' → a ≡ mesh-answer.Read n
+        → MeshIsRead mesh (n .cells) (n .faces) volumes' firsts' seconds' shares' reaches'
+    unfolding volumesIn firstsIn secondsIn sharesIn reachesIn
     mesh-read n s d =
         let o = sym (s .answer) ∙ ap meshSaid d in
         let p = accepted-of (headAndBody mesh) (countsIn mesh) n (sym (ap meshSaid d) ∙ read-said (s .answer)) in
@@ -244,7 +244,7 @@ module _ (mesh volumes firsts seconds weights spans : List ℕ) (l : MeshScratch
         let v = read-part (cellsIn mesh) _ volumes volumes' o (omega (arith, l .volumes-long, k)) (s .volumes-read) in
         let f = read-part (facesIn mesh) _ firsts firsts' o (omega (arith, l .firsts-long, k)) (s .firsts-read) in
         let g = read-part (facesIn mesh) _ seconds seconds' o (omega (arith, l .seconds-long, k)) (s .seconds-read) in
-        let w = read-part (facesIn mesh) _ weights weights' o (omega (arith, l .weights-long, k)) (s .weights-read) in
-        let x = read-part (facesIn mesh) _ spans spans' o (omega (arith, l .spans-long, k)) (s .spans-read) in
-        let q : meshOf (cellsIn mesh) (facesIn mesh) (take (cellsIn mesh) volumes') (take (facesIn mesh) firsts') (take (facesIn mesh) seconds') (take (facesIn mesh) weights') (take (facesIn mesh) spans') ≡ meshIn mesh = rw (v .part, f .part, g .part, w .part, x .part) in
-        rw (p .1) (record { passed = p .0; volumes-fit = v .fits; firsts-fit = f .fits; seconds-fit = g .fits; weights-fit = w .fits; spans-fit = x .fits; same = q; lent = rw q (mesh-in-read mesh (p .0)) })
+        let w = read-part (facesIn mesh) _ shares shares' o (omega (arith, l .shares-long, k)) (s .shares-read) in
+        let x = read-part (facesIn mesh) _ reaches reaches' o (omega (arith, l .reaches-long, k)) (s .reaches-read) in
+        let q : meshOf (cellsIn mesh) (facesIn mesh) (take (cellsIn mesh) volumes') (take (facesIn mesh) firsts') (take (facesIn mesh) seconds') (take (facesIn mesh) shares') (take (facesIn mesh) reaches') ≡ meshIn mesh = rw (v .part, f .part, g .part, w .part, x .part) in
+        rw (p .1) (record { passed = p .0; volumes-fit = v .fits; firsts-fit = f .fits; seconds-fit = g .fits; shares-fit = w .fits; reaches-fit = x .fits; same = q; lent = rw q (mesh-in-read mesh (p .0)) })

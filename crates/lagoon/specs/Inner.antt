@@ -65,12 +65,12 @@ pub record HostComes (mesh field step bytes : List ℕ) (r : Answer) (bytes′ :
   pub bytes-after : bytes′ ≡ hostBytes mesh field step bytes
 
 -- tables as long as the run's limits, lent for what is read and worked out
-pub record MeshScratch (volumes firsts seconds weights spans : List ℕ) : Type 0 where
+pub record MeshScratch (volumes firsts seconds shares reaches : List ℕ) : Type 0 where
   pub volumes-long : length volumes ≡ runCells
   pub firsts-long : length firsts ≡ runFaces
   pub seconds-long : length seconds ≡ runFaces
-  pub weights-long : length weights ≡ runFaces
-  pub spans-long : length spans ≡ runFaces
+  pub shares-long : length shares ≡ runFaces
+  pub reaches-long : length reaches ≡ runFaces
 
 pub record WaterScratch (fluxes : List ℤ) (outsides nexts : List ℕ) (moveds : List ℤ) (work : List ℕ) : Type 0 where
   pub fluxes-long : length fluxes ≡ runFaces
@@ -95,8 +95,8 @@ pub record MeshRead (M : Mesh) : Type 0 where
   pub volumes-long : length (M .volumes) ≡ M .cells
   pub firsts-long : length (M .firsts) ≡ M .faces
   pub seconds-long : length (M .seconds) ≡ M .faces
-  pub weights-long : length (M .weights) ≡ M .faces
-  pub spans-long : length (M .spans) ≡ M .faces
+  pub shares-long : length (M .shares) ≡ M .faces
+  pub reaches-long : length (M .reaches) ≡ M .faces
 
 -- a mesh that is accepted and within the run's limits
 pub record MeshFine (M : Mesh) : Type 0 where

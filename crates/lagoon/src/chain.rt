@@ -17,8 +17,8 @@ fn stepped(
     volumes: &[u64],
     firsts: &[u64],
     seconds: &[u64],
-    weights: &[u64],
-    spans: &[u64],
+    shares: &[u64],
+    reaches: &[u64],
     masses: &[u64],
     fluxes: &[i64],
     outsides: &[u64],
@@ -27,9 +27,9 @@ fn stepped(
     work: &mut [u64],
     bytes: &mut [u8],
 ) -> Answer
-    requires { ⌜ FieldFine (meshOf cells faces (now volumes) (now firsts) (now seconds) (now weights) (now spans)) (now masses) ⌝ }
-    requires { ⌜ StepLent (meshOf cells faces (now volumes) (now firsts) (now seconds) (now weights) (now spans)) (now fluxes) (now outsides) (now nexts) (now moveds) (now work) ⌝ }
-    ensures { λ r. ⌜ WaterComes (meshOf cells faces (now (volumes .entry)) (now (firsts .entry)) (now (seconds .entry)) (now (weights .entry)) (now (spans .entry))) (now (masses .entry)) (now (fluxes .entry)) (now (outsides .entry)) (now (bytes .entry)) r (now (bytes .exit)) ⌝ }
+    requires { ⌜ FieldFine (meshOf cells faces (now volumes) (now firsts) (now seconds) (now shares) (now reaches)) (now masses) ⌝ }
+    requires { ⌜ StepLent (meshOf cells faces (now volumes) (now firsts) (now seconds) (now shares) (now reaches)) (now fluxes) (now outsides) (now nexts) (now moveds) (now work) ⌝ }
+    ensures { λ r. ⌜ WaterComes (meshOf cells faces (now (volumes .entry)) (now (firsts .entry)) (now (seconds .entry)) (now (shares .entry)) (now (reaches .entry))) (now (masses .entry)) (now (fluxes .entry)) (now (outsides .entry)) (now (bytes .entry)) r (now (bytes .exit)) ⌝ }
 {
     let a = transport::step(
         cells,
@@ -37,8 +37,8 @@ fn stepped(
         volumes,
         firsts,
         seconds,
-        weights,
-        spans,
+        shares,
+        reaches,
         masses,
         fluxes,
         outsides,
@@ -55,8 +55,8 @@ fn stepped(
         volumes,
         firsts,
         seconds,
-        weights,
-        spans,
+        shares,
+        reaches,
         nexts,
         bytes,
     );
@@ -73,8 +73,8 @@ fn on_step(
     volumes: &[u64],
     firsts: &[u64],
     seconds: &[u64],
-    weights: &[u64],
-    spans: &[u64],
+    shares: &[u64],
+    reaches: &[u64],
     masses: &[u64],
     step: &[u8],
     fluxes: &mut [i64],
@@ -84,9 +84,9 @@ fn on_step(
     work: &mut [u64],
     bytes: &mut [u8],
 ) -> Answer
-    requires { ⌜ FieldFine (meshOf cells faces (now volumes) (now firsts) (now seconds) (now weights) (now spans)) (now masses) ⌝ }
+    requires { ⌜ FieldFine (meshOf cells faces (now volumes) (now firsts) (now seconds) (now shares) (now reaches)) (now masses) ⌝ }
     requires { ⌜ WaterScratch (now fluxes) (now outsides) (now nexts) (now moveds) (now work) ⌝ }
-    ensures { λ r. ⌜ StepComes (meshOf cells faces (now (volumes .entry)) (now (firsts .entry)) (now (seconds .entry)) (now (weights .entry)) (now (spans .entry))) (now (masses .entry)) (now (step .entry)) (now (bytes .entry)) r (now (bytes .exit)) ⌝ }
+    ensures { λ r. ⌜ StepComes (meshOf cells faces (now (volumes .entry)) (now (firsts .entry)) (now (seconds .entry)) (now (shares .entry)) (now (reaches .entry))) (now (masses .entry)) (now (step .entry)) (now (bytes .entry)) r (now (bytes .exit)) ⌝ }
 {
     let a = records::read_step(faces, seconds, step, fluxes, outsides);
     if let Answer::Refused(refusal) = a {
@@ -98,8 +98,8 @@ fn on_step(
         volumes,
         firsts,
         seconds,
-        weights,
-        spans,
+        shares,
+        reaches,
         masses,
         &fluxes[..faces],
         &outsides[..faces],
@@ -117,8 +117,8 @@ fn on_field(
     volumes: &[u64],
     firsts: &[u64],
     seconds: &[u64],
-    weights: &[u64],
-    spans: &[u64],
+    shares: &[u64],
+    reaches: &[u64],
     field: &[u8],
     step: &[u8],
     masses: &mut [u64],
@@ -129,9 +129,9 @@ fn on_field(
     work: &mut [u64],
     bytes: &mut [u8],
 ) -> Answer
-    requires { ⌜ MeshFine (meshOf cells faces (now volumes) (now firsts) (now seconds) (now weights) (now spans)) × (length (now masses) ≡ runCells) ⌝ }
+    requires { ⌜ MeshFine (meshOf cells faces (now volumes) (now firsts) (now seconds) (now shares) (now reaches)) × (length (now masses) ≡ runCells) ⌝ }
     requires { ⌜ WaterScratch (now fluxes) (now outsides) (now nexts) (now moveds) (now work) ⌝ }
-    ensures { λ r. ⌜ FieldComes (meshOf cells faces (now (volumes .entry)) (now (firsts .entry)) (now (seconds .entry)) (now (weights .entry)) (now (spans .entry))) (now (field .entry)) (now (step .entry)) (now (bytes .entry)) r (now (bytes .exit)) ⌝ }
+    ensures { λ r. ⌜ FieldComes (meshOf cells faces (now (volumes .entry)) (now (firsts .entry)) (now (seconds .entry)) (now (shares .entry)) (now (reaches .entry))) (now (field .entry)) (now (step .entry)) (now (bytes .entry)) r (now (bytes .exit)) ⌝ }
 {
     let a = records::read_field(cells, field, masses);
     if let Answer::Refused(refusal) = a {
@@ -144,8 +144,8 @@ fn on_field(
         volumes,
         firsts,
         seconds,
-        weights,
-        spans,
+        shares,
+        reaches,
         counted,
     );
     if let Answer::Refused(refusal) = b {
@@ -157,8 +157,8 @@ fn on_field(
         volumes,
         firsts,
         seconds,
-        weights,
-        spans,
+        shares,
+        reaches,
         counted,
         step,
         fluxes,
@@ -177,8 +177,8 @@ fn on_mesh(
     volumes: &[u64],
     firsts: &[u64],
     seconds: &[u64],
-    weights: &[u64],
-    spans: &[u64],
+    shares: &[u64],
+    reaches: &[u64],
     field: &[u8],
     step: &[u8],
     masses: &mut [u64],
@@ -189,11 +189,11 @@ fn on_mesh(
     work: &mut [u64],
     bytes: &mut [u8],
 ) -> Answer
-    requires { ⌜ MeshRead (meshOf cells faces (now volumes) (now firsts) (now seconds) (now weights) (now spans)) × (length (now masses) ≡ runCells) ⌝ }
+    requires { ⌜ MeshRead (meshOf cells faces (now volumes) (now firsts) (now seconds) (now shares) (now reaches)) × (length (now masses) ≡ runCells) ⌝ }
     requires { ⌜ WaterScratch (now fluxes) (now outsides) (now nexts) (now moveds) (now work) ⌝ }
-    ensures { λ r. ⌜ MeshComes (meshOf cells faces (now (volumes .entry)) (now (firsts .entry)) (now (seconds .entry)) (now (weights .entry)) (now (spans .entry))) (now (field .entry)) (now (step .entry)) (now (bytes .entry)) r (now (bytes .exit)) ⌝ }
+    ensures { λ r. ⌜ MeshComes (meshOf cells faces (now (volumes .entry)) (now (firsts .entry)) (now (seconds .entry)) (now (shares .entry)) (now (reaches .entry))) (now (field .entry)) (now (step .entry)) (now (bytes .entry)) r (now (bytes .exit)) ⌝ }
 {
-    let a = checks::check_mesh(cells, faces, volumes, firsts, seconds, weights, spans);
+    let a = checks::check_mesh(cells, faces, volumes, firsts, seconds, shares, reaches);
     if let Answer::Refused(refusal) = a {
         return Answer::Refused(refusal);
     }
@@ -203,8 +203,8 @@ fn on_mesh(
         volumes,
         firsts,
         seconds,
-        weights,
-        spans,
+        shares,
+        reaches,
         field,
         step,
         masses,
@@ -225,8 +225,8 @@ pub fn on_records(
     volumes: &mut [u64],
     firsts: &mut [u64],
     seconds: &mut [u64],
-    weights: &mut [u64],
-    spans: &mut [u64],
+    shares: &mut [u64],
+    reaches: &mut [u64],
     masses: &mut [u64],
     fluxes: &mut [i64],
     outsides: &mut [u64],
@@ -235,7 +235,7 @@ pub fn on_records(
     work: &mut [u64],
     bytes: &mut [u8],
 ) -> Answer
-    requires { ⌜ MeshScratch (now volumes) (now firsts) (now seconds) (now weights) (now spans) × (length (now masses) ≡ runCells) ⌝ }
+    requires { ⌜ MeshScratch (now volumes) (now firsts) (now seconds) (now shares) (now reaches) × (length (now masses) ≡ runCells) ⌝ }
     requires { ⌜ WaterScratch (now fluxes) (now outsides) (now nexts) (now moveds) (now work) ⌝ }
     ensures { λ r. ⌜ HostComes (now (mesh .entry)) (now (field .entry)) (now (step .entry)) (now (bytes .entry)) r (now (bytes .exit)) ⌝ }
 {
@@ -246,8 +246,8 @@ pub fn on_records(
         volumes,
         firsts,
         seconds,
-        weights,
-        spans,
+        shares,
+        reaches,
     );
     match a {
         MeshAnswer::Refused(refusal) => Answer::Refused(refusal),
@@ -260,8 +260,8 @@ pub fn on_records(
                 &volumes[..cells],
                 &firsts[..faces],
                 &seconds[..faces],
-                &weights[..faces],
-                &spans[..faces],
+                &shares[..faces],
+                &reaches[..faces],
                 field,
                 step,
                 masses,

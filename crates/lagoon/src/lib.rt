@@ -32,8 +32,8 @@ fn on_arrays(mesh: &[u8], field: &[u8], step: &[u8], bytes: &mut [u8]) -> Answer
     let mut volumes = [0u64; RUN_CELLS];
     let mut firsts = [0u64; RUN_FACES];
     let mut seconds = [0u64; RUN_FACES];
-    let mut weights = [0u64; RUN_FACES];
-    let mut spans = [0u64; RUN_FACES];
+    let mut shares = [0u64; RUN_FACES];
+    let mut reaches = [0u64; RUN_FACES];
     let mut masses = [0u64; RUN_CELLS];
     let mut fluxes = [0i64; RUN_FACES];
     let mut outsides = [0u64; RUN_FACES];
@@ -47,8 +47,8 @@ fn on_arrays(mesh: &[u8], field: &[u8], step: &[u8], bytes: &mut [u8]) -> Answer
         &mut volumes,
         &mut firsts,
         &mut seconds,
-        &mut weights,
-        &mut spans,
+        &mut shares,
+        &mut reaches,
         &mut masses,
         &mut fluxes,
         &mut outsides,

@@ -1,11 +1,11 @@
 // Records of the largest counts, with the greatest values: written, and read back into other tables.
 mod show;
 
-use model::BOUNDARY;
 use model::MAX_CELLS;
 use model::MAX_CONCENTRATION;
 use model::MAX_FACES;
 use model::MAX_VOLUME;
+use model::RIM;
 
 // The greatest mass of a cell: the greatest concentration in the greatest volume, and the greatest rest.
 const FULL: u64 = MAX_VOLUME * MAX_CONCENTRATION + MAX_VOLUME - 1;
@@ -23,11 +23,11 @@ fn main() {
     step();
 }
 
-// All faces lead from the first cell over the boundary.
+// All faces lead from the first cell over the rim.
 fn mesh() {
     let volumes = [MAX_VOLUME; MAX_CELLS];
     let firsts = [0u64; MAX_FACES];
-    let seconds = [BOUNDARY; MAX_FACES];
+    let seconds = [RIM; MAX_FACES];
     let none = [0u64; MAX_FACES];
     let mut bytes = [170u8; MESH];
     show::word(b"largest mesh");
@@ -49,8 +49,8 @@ fn read_mesh(bytes: &[u8], volumes: &[u64], firsts: &[u64], seconds: &[u64], non
     let mut volumes_read = [7u64; MAX_CELLS];
     let mut firsts_read = [7u64; MAX_FACES];
     let mut seconds_read = [7u64; MAX_FACES];
-    let mut weights_read = [7u64; MAX_FACES];
-    let mut spans_read = [7u64; MAX_FACES];
+    let mut shares_read = [7u64; MAX_FACES];
+    let mut reaches_read = [7u64; MAX_FACES];
     show::mesh(records::read_mesh(
         MAX_CELLS,
         MAX_FACES,
@@ -58,14 +58,14 @@ fn read_mesh(bytes: &[u8], volumes: &[u64], firsts: &[u64], seconds: &[u64], non
         &mut volumes_read,
         &mut firsts_read,
         &mut seconds_read,
-        &mut weights_read,
-        &mut spans_read,
+        &mut shares_read,
+        &mut reaches_read,
     ));
     show::differing(b"; differing: volumes", volumes, &volumes_read);
     show::differing(b", firsts", firsts, &firsts_read);
     show::differing(b", seconds", seconds, &seconds_read);
-    show::differing(b", weights", none, &weights_read);
-    show::differing(b", spans", none, &spans_read);
+    show::differing(b", shares", none, &shares_read);
+    show::differing(b", reaches", none, &reaches_read);
     show::word(b"\n");
 }
 
@@ -97,7 +97,7 @@ fn field() {
 fn step() {
     let volumes = [MAX_VOLUME; 1];
     let firsts = [0u64; MAX_FACES];
-    let seconds = [BOUNDARY; MAX_FACES];
+    let seconds = [RIM; MAX_FACES];
     let none = [0u64; MAX_FACES];
     let fluxes = [-4095i64; MAX_FACES];
     let outsides = [MAX_CONCENTRATION; MAX_FACES];

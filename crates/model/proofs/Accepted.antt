@@ -11,7 +11,7 @@ use lib.IntN.{ℤ}
 use Rattle.signed.specs.Sign.{size, isZero, isNegative}
 use Rattle.lists.proofs.Tests.{eqb-no, Same, same, other, same?, leb-le, le-leb, eqb-eq, eqb-ne, both-true, either-true}
 use Rattle.lists.proofs.Sums.{greatest-le}
-use Rattle.model.specs.Mesh.{Mesh, volume, first, second, weight, span, atBoundary, boundary, incoming, outgoing, maxCells, maxFaces, maxVolume, maxWeight, maxSpan, maxConcentration, maxBoundaryFlux}
+use Rattle.model.specs.Mesh.{Mesh, volume, first, second, share, reach, atRim, rim, incoming, outgoing, maxCells, maxFaces, maxVolume, maxShare, maxReach, maxConcentration, maxRimFlux}
 use Rattle.model.specs.Step.{StepInput, flux, outside, concentration, adjacent, hi}
 use Rattle.model.specs.Causes.{accepted, fine, _andThen_, each, between, Call, inputOf, workLength, countsWithin, counts, meshTables, volumeGood, endsGood, spacingGood, meshValues, fieldTable, fieldValues, saltGood, fieldVerdict, meshVerdict, stepTables, outsideGood, fluxGood, balanceGood, outflowGood, stepValues, verdict}
 use Rattle.model.proofs.Verdicts.{both-fine, need-fine, need-met, each-fine, fine-each}
@@ -36,8 +36,8 @@ pub record MeshLent (M : Mesh) : Type 0 where
   pub volumes-long : M .cells ≤ length (M .volumes)
   pub firsts-long : M .faces ≤ length (M .firsts)
   pub seconds-long : M .faces ≤ length (M .seconds)
-  pub weights-long : M .faces ≤ length (M .weights)
-  pub spans-long : M .faces ≤ length (M .spans)
+  pub shares-long : M .faces ≤ length (M .shares)
+  pub reaches-long : M .faces ≤ length (M .reaches)
 
 pub mesh-lent : (M : Mesh) → meshTables M ≡ fine → MeshLent M
 unfolding meshTables
@@ -50,8 +50,8 @@ mesh-lent M e =
       volumes-long = leb-le _ _ (need-fine 2 0 _ (d .0));
       firsts-long = leb-le _ _ (need-fine 2 1 _ (d .1));
       seconds-long = leb-le _ _ (need-fine 2 2 _ (c .1));
-      weights-long = leb-le _ _ (need-fine 2 3 _ (b .1));
-      spans-long = leb-le _ _ (need-fine 2 4 _ (a .1));
+      shares-long = leb-le _ _ (need-fine 2 3 _ (b .1));
+      reaches-long = leb-le _ _ (need-fine 2 4 _ (a .1));
     }
 
 pub field-lent : (M : Mesh) (field : List ℕ) → fieldTable M field ≡ fine → M .cells ≤ length field
@@ -85,31 +85,31 @@ pub record MeshFit (M : Mesh) : Type 0 where
   pub volume-some : (c : ℕ) → c < M .cells → 1 ≤ volume M c
   pub volume-most : (c : ℕ) → c < M .cells → volume M c ≤ maxVolume
   pub first-in : (f : ℕ) → f < M .faces → first M f < M .cells
-  pub second-in : (f : ℕ) → f < M .faces → second M f ≢ boundary → second M f < M .cells
+  pub second-in : (f : ℕ) → f < M .faces → second M f ≢ rim → second M f < M .cells
   pub apart : (f : ℕ) → f < M .faces → first M f ≢ second M f
-  pub weight-most : (f : ℕ) → f < M .faces → weight M f ≤ maxWeight
-  pub span-some : (f : ℕ) → f < M .faces → second M f ≢ boundary → 1 ≤ span M f
-  pub span-most : (f : ℕ) → f < M .faces → span M f ≤ maxSpan
+  pub share-most : (f : ℕ) → f < M .faces → share M f ≤ maxShare
+  pub reach-some : (f : ℕ) → f < M .faces → second M f ≢ rim → 1 ≤ reach M f
+  pub reach-most : (f : ℕ) → f < M .faces → reach M f ≤ maxReach
 
 not-true : (b : Bool) → not b ≡ true → b ≡ false
 not-true false e = refl
 not-true true e = let z : _≡_ {A = ℕ} 0 1 = cc in absurd (omega arith)
 
-ends-say : (n l k : ℕ) → (ltb l n && (ltb k n || eqb k boundary) && not (eqb l k)) ≡ true → (l < n) × (k ≢ boundary → k < n) × (l ≢ k)
+ends-say : (n l k : ℕ) → (ltb l n && (ltb k n || eqb k rim) && not (eqb l k)) ≡ true → (l < n) × (k ≢ rim → k < n) × (l ≢ k)
 ends-say n l k e =
-    let a = both-true (ltb l n && (ltb k n || eqb k boundary)) (not (eqb l k)) e in
-    let b = both-true (ltb l n) (ltb k n || eqb k boundary) (a .0) in
-    (leb-le (suc l) n (b .0), (λ d. leb-le (suc k) n (either-true (ltb k n) (eqb k boundary) (b .1) (eqb-no k boundary d))), eqb-ne l k (not-true (eqb l k) (a .1)))
+    let a = both-true (ltb l n && (ltb k n || eqb k rim)) (not (eqb l k)) e in
+    let b = both-true (ltb l n) (ltb k n || eqb k rim) (a .0) in
+    (leb-le (suc l) n (b .0), (λ d. leb-le (suc k) n (either-true (ltb k n) (eqb k rim) (b .1) (eqb-no k rim d))), eqb-ne l k (not-true (eqb l k) (a .1)))
 
-spacing-says : (k s r : ℕ) → cond (eqb k boundary) (eqb s 0 && eqb r 0) (between 1 maxWeight s && between 1 maxSpan r) ≡ true → (s ≤ maxWeight) × (r ≤ maxSpan) × (k ≢ boundary → 1 ≤ r)
-spacing-says k s r e = go (eqb k boundary) (same? k boundary) e
+spacing-says : (k s r : ℕ) → cond (eqb k rim) (eqb s 0 && eqb r 0) (between 1 maxShare s && between 1 maxReach r) ≡ true → (s ≤ maxShare) × (r ≤ maxReach) × (k ≢ rim → 1 ≤ r)
+spacing-says k s r e = go (eqb k rim) (same? k rim) e
   where
-    go : (b : Bool) → Same k boundary b → cond b (eqb s 0 && eqb r 0) (between 1 maxWeight s && between 1 maxSpan r) ≡ true → (s ≤ maxWeight) × (r ≤ maxSpan) × (k ≢ boundary → 1 ≤ r)
+    go : (b : Bool) → Same k rim b → cond b (eqb s 0 && eqb r 0) (between 1 maxShare s && between 1 maxReach r) ≡ true → (s ≤ maxShare) × (r ≤ maxReach) × (k ≢ rim → 1 ≤ r)
     go true (same d) e = let p = both-true (eqb s 0) (eqb r 0) e in (omega (arith, eqb-eq s 0 (p .0)), omega (arith, eqb-eq r 0 (p .1)), λ n. absurd (n d))
     go false o e =
-        let p = both-true (between 1 maxWeight s) (between 1 maxSpan r) e in
-        let a = both-true (leb 1 s) (leb s maxWeight) (p .0) in
-        let b = both-true (leb 1 r) (leb r maxSpan) (p .1) in
+        let p = both-true (between 1 maxShare s) (between 1 maxReach r) e in
+        let a = both-true (leb 1 s) (leb s maxShare) (p .0) in
+        let b = both-true (leb 1 r) (leb r maxReach) (p .1) in
         (leb-le _ _ (a .1), leb-le _ _ (b .1), λ n. leb-le _ _ (b .0))
 
 module _ (M : Mesh) (e : meshValues M ≡ fine) where
@@ -119,13 +119,13 @@ module _ (M : Mesh) (e : meshValues M ≡ fine) where
       let p = both-true (leb 1 (volume M c)) (leb (volume M c) maxVolume) (each-fine 3 (M .cells) (volumeGood M) (both-fine _ _ (both-fine _ _ e .0) .0) c h) in
       (leb-le _ _ (p .0), leb-le _ _ (p .1))
 
-  joins : (f : ℕ) → f < M .faces → (first M f < M .cells) × (second M f ≢ boundary → second M f < M .cells) × (first M f ≢ second M f)
+  joins : (f : ℕ) → f < M .faces → (first M f < M .cells) × (second M f ≢ rim → second M f < M .cells) × (first M f ≢ second M f)
   unfolding meshValues endsGood
   joins f h = ends-say (M .cells) (first M f) (second M f) (each-fine 4 (M .faces) (endsGood M) (both-fine _ _ (both-fine _ _ e .0) .1) f h)
 
-  spaced : (f : ℕ) → f < M .faces → (weight M f ≤ maxWeight) × (span M f ≤ maxSpan) × (second M f ≢ boundary → 1 ≤ span M f)
+  spaced : (f : ℕ) → f < M .faces → (share M f ≤ maxShare) × (reach M f ≤ maxReach) × (second M f ≢ rim → 1 ≤ reach M f)
   unfolding meshValues spacingGood
-  spaced f h = spacing-says (second M f) (weight M f) (span M f) (each-fine 5 (M .faces) (spacingGood M) (both-fine _ _ e .1) f h)
+  spaced f h = spacing-says (second M f) (share M f) (reach M f) (each-fine 5 (M .faces) (spacingGood M) (both-fine _ _ e .1) f h)
 
   pub mesh-fit : MeshFit M
   mesh-fit = record {
@@ -134,9 +134,9 @@ module _ (M : Mesh) (e : meshValues M ≡ fine) where
     first-in = λ f h. joins f h .0;
     second-in = λ f h. joins f h .1;
     apart = λ f h. joins f h .2;
-    weight-most = λ f h. spaced f h .0;
-    span-some = λ f h. spaced f h .2;
-    span-most = λ f h. spaced f h .1;
+    share-most = λ f h. spaced f h .0;
+    reach-some = λ f h. spaced f h .2;
+    reach-most = λ f h. spaced f h .1;
   }
 
 -- past cause 6, and back
@@ -152,7 +152,7 @@ field-accepted M field long fresh =
 -- past causes 7 and 8
 pub record WaterFit (S : StepInput) : Type 0 where
   pub outside-most : (f : ℕ) → f < S .mesh .faces → outside S f ≤ maxConcentration
-  pub flux-most : (f : ℕ) → f < S .mesh .faces → size (flux S f) ≤ cond (atBoundary (S .mesh) f) maxBoundaryFlux (span (S .mesh) f)
+  pub flux-most : (f : ℕ) → f < S .mesh .faces → size (flux S f) ≤ cond (atRim (S .mesh) f) maxRimFlux (reach (S .mesh) f)
 
 outside-says : (o : ℕ) (b : Bool) → leb o (cond b maxConcentration 0) ≡ true → o ≤ maxConcentration
 outside-says o true e = leb-le o maxConcentration e
@@ -162,7 +162,7 @@ module _ (M : Mesh) (field : List ℕ) (k : Call) where
   pub water-fit : each 7 (M .faces) (outsideGood M field k) ≡ fine → each 8 (M .faces) (fluxGood M field k) ≡ fine → WaterFit (inputOf M field k)
   unfolding outsideGood fluxGood
   water-fit e d = record {
-    outside-most = λ f h. outside-says (outside (inputOf M field k) f) (atBoundary M f && isNegative (flux (inputOf M field k) f)) (each-fine 7 (M .faces) (outsideGood M field k) e f h);
+    outside-most = λ f h. outside-says (outside (inputOf M field k) f) (atRim M f && isNegative (flux (inputOf M field k) f)) (each-fine 7 (M .faces) (outsideGood M field k) e f h);
     flux-most = λ f h. leb-le _ _ (each-fine 8 (M .faces) (fluxGood M field k) d f h);
   }
 
@@ -234,11 +234,11 @@ module _ (M : Mesh) (field : List ℕ) (k : Call) where
   ready e = ready-of (passed e)
 
 -- the greatest concentration around a cell is within the ceiling
-met-le : (z : ℤ) (k l c o : ℕ) (q : ℕ → ℕ) (B : ℕ) → q c ≤ B → q l ≤ B → o ≤ B → (k ≢ boundary → q k ≤ B)
-    → cond (isZero z) (q c) (cond (eqb l c) (cond (eqb k boundary) (cond (isNegative z) o (q c)) (q k)) (cond (eqb k c) (q l) (q c))) ≤ B
-met-le z k l c o q B hc hl ho hk = go (isZero z) (eqb l c) (eqb k boundary) (same? k boundary) (isNegative z) (eqb k c)
+met-le : (z : ℤ) (k l c o : ℕ) (q : ℕ → ℕ) (B : ℕ) → q c ≤ B → q l ≤ B → o ≤ B → (k ≢ rim → q k ≤ B)
+    → cond (isZero z) (q c) (cond (eqb l c) (cond (eqb k rim) (cond (isNegative z) o (q c)) (q k)) (cond (eqb k c) (q l) (q c))) ≤ B
+met-le z k l c o q B hc hl ho hk = go (isZero z) (eqb l c) (eqb k rim) (same? k rim) (isNegative z) (eqb k c)
   where
-    go : (a s r : Bool) → Same k boundary r → (n t : Bool) → cond a (q c) (cond s (cond r (cond n o (q c)) (q k)) (cond t (q l) (q c))) ≤ B
+    go : (a s r : Bool) → Same k rim r → (n t : Bool) → cond a (q c) (cond s (cond r (cond n o (q c)) (q k)) (cond t (q l) (q c))) ≤ B
     go true s r rr n t = hc
     go false true true rr true t = ho
     go false true true rr false t = hc
@@ -258,13 +258,13 @@ module _ (S : StepInput) (r : Ready S) where
   unfolding hi
   hi-most c h = greatest-le (M .faces) (concentration S c) (adjacent S c) maxConcentration (r .salt-most c h) (λ f l. adjacent-most c f h l)
 
-  -- a flux is small, at the boundary and inside
-  pub flux-few : (f : ℕ) → f < M .faces → size (flux S f) ≤ maxBoundaryFlux
-  flux-few f h = go (atBoundary M f) (r .water .flux-most f h)
+  -- a flux is small, at the rim and inside
+  pub flux-few : (f : ℕ) → f < M .faces → size (flux S f) ≤ maxRimFlux
+  flux-few f h = go (atRim M f) (r .water .flux-most f h)
     where
-      go : (b : Bool) → size (flux S f) ≤ cond b maxBoundaryFlux (span M f) → size (flux S f) ≤ maxBoundaryFlux
+      go : (b : Bool) → size (flux S f) ≤ cond b maxRimFlux (reach M f) → size (flux S f) ≤ maxRimFlux
       go true l = l
-      go false l = omega (arith, r .fit .span-most f h)
+      go false l = omega (arith, r .fit .reach-most f h)
 
-  pub flux-span : (f : ℕ) → f < M .faces → second M f ≢ boundary → size (flux S f) ≤ span M f
-  flux-span f h d = rw (eqb-no (second M f) boundary d) at (r .water .flux-most f h)
+  pub flux-reach : (f : ℕ) → f < M .faces → second M f ≢ rim → size (flux S f) ≤ reach M f
+  flux-reach f h d = rw (eqb-no (second M f) rim d) at (r .water .flux-most f h)

@@ -9,8 +9,8 @@ use lib.ListN.{replicate}
 use Rattle.lists.specs.Fold.{sum, least, greatest}
 use Rattle.lists.specs.Table.{table, over}
 use Rattle.signed.specs.Sign.{isNegative}
-use Rattle.model.specs.Mesh.{Mesh, second, boundary, entering, leaving, incoming, outgoing, updated}
-use Rattle.model.specs.Step.{StepInput, flux, outside, mass, inMass, next, moved, concentration, beyond, upwind, downwind, carried, low, upwindWeight, correction, adjacent, lo, hi, maxGain, maxLoss, receiver, giver, limitedBy, limited, portion}
+use Rattle.model.specs.Mesh.{Mesh, second, rim, entering, leaving, incoming, outgoing, updated}
+use Rattle.model.specs.Step.{StepInput, flux, outside, mass, inMass, next, moved, concentration, beyond, upwind, downwind, carried, low, upwindShare, correction, adjacent, lo, hi, maxGain, maxLoss, receiver, giver, limitedBy, limited, portion}
 use Rattle.model.specs.Causes.{Call, inputOf, fine, refused, _andThen_, need, each, countsWithin, counts, meshTables, volumeGood, endsGood, spacingGood, meshValues, fieldTable, saltGood, fieldValues, fieldVerdict, stepTables, outsideGood, fluxGood, balanceGood, outflowGood, stepValues, verdict}
 use Rattle.model.specs.Calls.{stepOnTables, nextTable, afterAll, totalIn, totalOut}
 use Rattle.model.proofs.Accepted.{ready}
@@ -18,12 +18,12 @@ use Rattle.model.proofs.Uniform.{uniform, no-faces}
 
 -- a name for all that a figure computes through: to unfold it is to unfold what its `unfolding` line names
 everything : Unit {0}
-unfolding afterAll totalIn totalOut stepOnTables nextTable inMass over verdict counts countsWithin meshTables fieldTable stepTables meshValues fieldValues saltGood stepValues volumeGood endsGood spacingGood outsideGood fluxGood balanceGood outflowGood need each _andThen_ table sum least greatest entering leaving incoming outgoing updated next moved concentration beyond upwind downwind carried low upwindWeight correction adjacent lo hi maxGain maxLoss receiver giver limitedBy limited portion fieldVerdict
+unfolding afterAll totalIn totalOut stepOnTables nextTable inMass over verdict counts countsWithin meshTables fieldTable stepTables meshValues fieldValues saltGood stepValues volumeGood endsGood spacingGood outsideGood fluxGood balanceGood outflowGood need each _andThen_ table sum least greatest entering leaving incoming outgoing updated next moved concentration beyond upwind downwind carried low upwindShare correction adjacent lo hi maxGain maxLoss receiver giver limitedBy limited portion fieldVerdict
 everything = tt
 
 -- "three cells of V 100; faces 0 to rim, 0 to 1, 1 to 2, 2 to rim; s 128, K 100"
 abbrev pub channel : Mesh
-channel = record { cells = 3; faces = 4; volumes = 100 ∷ 100 ∷ 100 ∷ []; firsts = 0 ∷ 0 ∷ 1 ∷ 2 ∷ []; seconds = boundary ∷ 1 ∷ 2 ∷ boundary ∷ []; weights = 0 ∷ 128 ∷ 128 ∷ 0 ∷ []; spans = 0 ∷ 100 ∷ 100 ∷ 0 ∷ [] }
+channel = record { cells = 3; faces = 4; volumes = 100 ∷ 100 ∷ 100 ∷ []; firsts = 0 ∷ 0 ∷ 1 ∷ 2 ∷ []; seconds = rim ∷ 1 ∷ 2 ∷ rim ∷ []; shares = 0 ∷ 128 ∷ 128 ∷ 0 ∷ []; reaches = 0 ∷ 100 ∷ 100 ∷ 0 ∷ [] }
 
 -- "two steps with U −50, 50, 50, 50 and outside value 1000 at face 0"
 abbrev pub channelStep : List ℕ → StepInput
@@ -35,7 +35,7 @@ channelCall = record { fluxes = negsuc 49 ∷ pos 50 ∷ pos 50 ∷ pos 50 ∷ [
 -- one face between two cells of V 1 with concentrations a and b
 abbrev pub between : ℕ → ℕ → ℤ → ℕ → ℕ → StepInput
 between a b u s k = record {
-  mesh = record { cells = 2; faces = 1; volumes = 1 ∷ 1 ∷ []; firsts = 0 ∷ []; seconds = 1 ∷ []; weights = s ∷ []; spans = k ∷ [] };
+  mesh = record { cells = 2; faces = 1; volumes = 1 ∷ 1 ∷ []; firsts = 0 ∷ []; seconds = 1 ∷ []; shares = s ∷ []; reaches = k ∷ [] };
   masses = a ∷ b ∷ [];
   fluxes = u ∷ [];
   outsides = 0 ∷ [];
@@ -43,15 +43,15 @@ between a b u s k = record {
 
 -- two cells of V 10 and two faces from 0 to 1, s 128, K 10
 abbrev pub pair : Mesh
-pair = record { cells = 2; faces = 2; volumes = 10 ∷ 10 ∷ []; firsts = 0 ∷ 0 ∷ []; seconds = 1 ∷ 1 ∷ []; weights = 128 ∷ 128 ∷ []; spans = 10 ∷ 10 ∷ [] }
+pair = record { cells = 2; faces = 2; volumes = 10 ∷ 10 ∷ []; firsts = 0 ∷ 0 ∷ []; seconds = 1 ∷ 1 ∷ []; shares = 128 ∷ 128 ∷ []; reaches = 10 ∷ 10 ∷ [] }
 
 -- one cell of volume v, no faces
 abbrev pub lake : ℕ → Mesh
-lake v = record { cells = 1; faces = 0; volumes = v ∷ []; firsts = []; seconds = []; weights = []; spans = [] }
+lake v = record { cells = 1; faces = 0; volumes = v ∷ []; firsts = []; seconds = []; shares = []; reaches = [] }
 
--- one cell of V 100 with two faces over the boundary
+-- one cell of V 100 with two faces over the rim
 abbrev pub strait : Mesh
-strait = record { cells = 1; faces = 2; volumes = 100 ∷ []; firsts = 0 ∷ 0 ∷ []; seconds = boundary ∷ boundary ∷ []; weights = 0 ∷ 0 ∷ []; spans = 0 ∷ 0 ∷ [] }
+strait = record { cells = 1; faces = 2; volumes = 100 ∷ []; firsts = 0 ∷ 0 ∷ []; seconds = rim ∷ rim ∷ []; shares = 0 ∷ 0 ∷ []; reaches = 0 ∷ 0 ∷ [] }
 
 abbrev pub through : ℕ → Call
 through u = record { fluxes = pos (suc u) ∷ negsuc u ∷ []; outsides = 0 ∷ 0 ∷ []; nexts = 0 ∷ []; moveds = pos 0 ∷ pos 0 ∷ []; work = replicate 6 0 }
@@ -74,7 +74,7 @@ pub record Figures : Type 0 where
   -- "all V 7, all m 30, outside 4: no mass changes", for every mesh and every concentration
   pub unchanged : (M : Mesh) (field : List ℕ) (k : Call) (q : ℕ) → verdict M field k ≡ fine
       → ((c : ℕ) → c < M .cells → concentration (inputOf M field k) c ≡ q)
-      → ((f : ℕ) → f < M .faces → second M f ≡ boundary → isNegative (flux (inputOf M field k) f) ≡ true → outside (inputOf M field k) f ≡ q)
+      → ((f : ℕ) → f < M .faces → second M f ≡ rim → isNegative (flux (inputOf M field k) f) ≡ true → outside (inputOf M field k) f ≡ q)
       → (c : ℕ) → c < M .cells → next (inputOf M field k) c ≡ mass (inputOf M field k) c
   -- "V 4,095: m 4,095,004,094 accepted, 4,095,004,095 refused 6."
   pub fullest : fieldVerdict (lake 4095) (4095004094 ∷ []) ≡ fine
@@ -177,6 +177,6 @@ unfolding everything
 session-in = refl
 
 -- all V 7, all m 30, outside 4, on the channel
-all-30 : table 3 (next (record { mesh = record { cells = 3; faces = 4; volumes = 7 ∷ 7 ∷ 7 ∷ []; firsts = 0 ∷ 0 ∷ 1 ∷ 2 ∷ []; seconds = boundary ∷ 1 ∷ 2 ∷ boundary ∷ []; weights = 0 ∷ 128 ∷ 128 ∷ 0 ∷ []; spans = 0 ∷ 7 ∷ 7 ∷ 0 ∷ [] }; masses = 30 ∷ 30 ∷ 30 ∷ []; fluxes = negsuc 4 ∷ pos 5 ∷ pos 5 ∷ pos 5 ∷ []; outsides = 4 ∷ 0 ∷ 0 ∷ 0 ∷ [] })) ≡ 30 ∷ 30 ∷ 30 ∷ []
+all-30 : table 3 (next (record { mesh = record { cells = 3; faces = 4; volumes = 7 ∷ 7 ∷ 7 ∷ []; firsts = 0 ∷ 0 ∷ 1 ∷ 2 ∷ []; seconds = rim ∷ 1 ∷ 2 ∷ rim ∷ []; shares = 0 ∷ 128 ∷ 128 ∷ 0 ∷ []; reaches = 0 ∷ 7 ∷ 7 ∷ 0 ∷ [] }; masses = 30 ∷ 30 ∷ 30 ∷ []; fluxes = negsuc 4 ∷ pos 5 ∷ pos 5 ∷ pos 5 ∷ []; outsides = 4 ∷ 0 ∷ 0 ∷ 0 ∷ [] })) ≡ 30 ∷ 30 ∷ 30 ∷ []
 unfolding everything
 all-30 = refl

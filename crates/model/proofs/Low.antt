@@ -8,7 +8,7 @@ use native.Mathlib.Omega.{arith}
 use lib.Dec.{eqb}
 use lib.IntN.{ℤ, pos, negsuc, _*ℤ_}
 use Rattle.signed.specs.Sign.{forward, backward, isZero, isNegative}
-use Rattle.model.specs.Mesh.{volume, first, second, boundary, entering, leaving, incoming, outgoing, updated}
+use Rattle.model.specs.Mesh.{volume, first, second, rim, entering, leaving, incoming, outgoing, updated}
 use Rattle.model.specs.Step.{StepInput, flux, outside, mass, concentration, beyond, upwind, carried, low, adjacent, lo, hi}
 use Rattle.lists.proofs.Tests.{Same, same, other, same?}
 use Rattle.lists.proofs.Sums.{sum-cong, sum-mono, sum-scale, least-start, least-each, greatest-start, greatest-each}
@@ -24,11 +24,11 @@ upwind-backward (pos n) u v = omega arith
 upwind-backward (negsuc n) u v = backward-scale (negsuc n) u
 
 -- what leaves a cell leaves at its own concentration
-leaves : (z : ℤ) (k l c o : ℕ) (q : ℕ → ℕ) → c ≢ boundary
-    → cond (eqb l c) (forward z * q l) 0 + cond (eqb k c) (backward z * cond (eqb k boundary) o (q k)) 0 ≡ (cond (eqb l c) (forward z) 0 + cond (eqb k c) (backward z) 0) * q c
-leaves z k l c o q n = go (eqb l c) (same? l c) (eqb k c) (same? k c) (eqb k boundary) (same? k boundary)
+leaves : (z : ℤ) (k l c o : ℕ) (q : ℕ → ℕ) → c ≢ rim
+    → cond (eqb l c) (forward z * q l) 0 + cond (eqb k c) (backward z * cond (eqb k rim) o (q k)) 0 ≡ (cond (eqb l c) (forward z) 0 + cond (eqb k c) (backward z) 0) * q c
+leaves z k l c o q n = go (eqb l c) (same? l c) (eqb k c) (same? k c) (eqb k rim) (same? k rim)
   where
-    go : (s : Bool) → Same l c s → (t : Bool) → Same k c t → (r : Bool) → Same k boundary r
+    go : (s : Bool) → Same l c s → (t : Bool) → Same k c t → (r : Bool) → Same k rim r
         → cond s (forward z * q l) 0 + cond t (backward z * cond r o (q k)) 0 ≡ (cond s (forward z) 0 + cond t (backward z) 0) * q c
     go false (other d) false (other e) r rr = omega arith
     go true (same d) false (other e) r rr = rw d (omega arith)
@@ -37,13 +37,13 @@ leaves z k l c o q n = go (eqb l c) (same? l c) (eqb k c) (same? k c) (eqb k bou
     go true (same d) true (same e) false rr = rw (d, e) (omega arith)
 
 -- what enters a cell through a face enters at what the face shows it
-enters : (z : ℤ) (k l c o : ℕ) (q : ℕ → ℕ) → c ≢ boundary
-    → cond (eqb k c) (forward z * q l) 0 + cond (eqb l c) (backward z * cond (eqb k boundary) o (q k)) 0
+enters : (z : ℤ) (k l c o : ℕ) (q : ℕ → ℕ) → c ≢ rim
+    → cond (eqb k c) (forward z * q l) 0 + cond (eqb l c) (backward z * cond (eqb k rim) o (q k)) 0
     ≡ (cond (eqb k c) (forward z) 0 + cond (eqb l c) (backward z) 0)
-    * cond (isZero z) (q c) (cond (eqb l c) (cond (eqb k boundary) (cond (isNegative z) o (q c)) (q k)) (cond (eqb k c) (q l) (q c)))
-enters z k l c o q n = go z (eqb l c) (same? l c) (eqb k c) (same? k c) (eqb k boundary) (same? k boundary)
+    * cond (isZero z) (q c) (cond (eqb l c) (cond (eqb k rim) (cond (isNegative z) o (q c)) (q k)) (cond (eqb k c) (q l) (q c)))
+enters z k l c o q n = go z (eqb l c) (same? l c) (eqb k c) (same? k c) (eqb k rim) (same? k rim)
   where
-    go : (z : ℤ) (s : Bool) → Same l c s → (t : Bool) → Same k c t → (r : Bool) → Same k boundary r
+    go : (z : ℤ) (s : Bool) → Same l c s → (t : Bool) → Same k c t → (r : Bool) → Same k rim r
         → cond t (forward z * q l) 0 + cond s (backward z * cond r o (q k)) 0
         ≡ (cond t (forward z) 0 + cond s (backward z) 0) * cond (isZero z) (q c) (cond s (cond r (cond (isNegative z) o (q c)) (q k)) (cond t (q l) (q c)))
     go z false ss false tt r rr = omega arith
@@ -73,23 +73,23 @@ mixed O D q m G lo hi low a b c d e f g = omega (arith, mul-le-mul-left D a, mul
 module _ (S : StepInput) where
   open StepInput S using (mesh as M)
 
-  pub entering-carried : (c f : ℕ) → c ≢ boundary → entering M (carried S) c f ≡ entering M (flux S) c f * adjacent S c f
+  pub entering-carried : (c f : ℕ) → c ≢ rim → entering M (carried S) c f ≡ entering M (flux S) c f * adjacent S c f
   unfolding entering carried upwind beyond adjacent
   entering-carried c f n = rw (upwind-forward, upwind-backward) (enters (flux S f) (second M f) (first M f) c (outside S f) (concentration S) n)
 
-  leaving-carried : (c f : ℕ) → c ≢ boundary → leaving M (carried S) c f ≡ leaving M (flux S) c f * concentration S c
+  leaving-carried : (c f : ℕ) → c ≢ rim → leaving M (carried S) c f ≡ leaving M (flux S) c f * concentration S c
   unfolding leaving carried upwind beyond
   leaving-carried c f n = rw (upwind-forward, upwind-backward) (leaves (flux S f) (second M f) (first M f) c (outside S f) (concentration S) n)
 
 module _ (S : StepInput) (ok : Sound S) where
   open StepInput S using (mesh as M)
 
-  not-boundary : (c : ℕ) → c < M .cells → c ≢ boundary
-  not-boundary c h = omega (arith, ok .joined .few)
+  not-rim : (c : ℕ) → c < M .cells → c ≢ rim
+  not-rim c h = omega (arith, ok .joined .few)
 
   pub outgoing-carried : (c : ℕ) → c < M .cells → outgoing M (carried S) c ≡ outgoing M (flux S) c * concentration S c
   unfolding outgoing
-  outgoing-carried c h = sum-cong (M .faces) (leaving M (carried S) c) (λ f. leaving M (flux S) c f * concentration S c) (λ f l. leaving-carried S c f (not-boundary c h)) ∙ sum-scale (M .faces) (concentration S c) (leaving M (flux S) c)
+  outgoing-carried c h = sum-cong (M .faces) (leaving M (carried S) c) (λ f. leaving M (flux S) c f * concentration S c) (λ f l. leaving-carried S c f (not-rim c h)) ∙ sum-scale (M .faces) (concentration S c) (leaving M (flux S) c)
 
   incoming-lo : (c : ℕ) → c < M .cells → incoming M (flux S) c * lo S c ≤ incoming M (carried S) c
   unfolding incoming lo
@@ -97,7 +97,7 @@ module _ (S : StepInput) (ok : Sound S) where
     arith,
     sum-scale (M .faces) (lo S c) (entering M (flux S) c),
     sum-mono (M .faces) (λ f. entering M (flux S) c f * lo S c) (entering M (carried S) c)
-        (λ f l. rw (entering-carried S c f (not-boundary c h)) (mul-le-mul-left (entering M (flux S) c f) (least-each (M .faces) (concentration S c) (adjacent S c) f l))),
+        (λ f l. rw (entering-carried S c f (not-rim c h)) (mul-le-mul-left (entering M (flux S) c f) (least-each (M .faces) (concentration S c) (adjacent S c) f l))),
   )
 
   incoming-hi : (c : ℕ) → c < M .cells → incoming M (carried S) c ≤ incoming M (flux S) c * hi S c
@@ -106,7 +106,7 @@ module _ (S : StepInput) (ok : Sound S) where
     arith,
     sum-scale (M .faces) (hi S c) (entering M (flux S) c),
     sum-mono (M .faces) (entering M (carried S) c) (λ f. entering M (flux S) c f * hi S c)
-        (λ f l. rw (entering-carried S c f (not-boundary c h)) (mul-le-mul-left (entering M (flux S) c f) (greatest-each (M .faces) (concentration S c) (adjacent S c) f l))),
+        (λ f l. rw (entering-carried S c f (not-rim c h)) (mul-le-mul-left (entering M (flux S) c f) (greatest-each (M .faces) (concentration S c) (adjacent S c) f l))),
   )
 
   -- a cell has the salt that the water takes from it

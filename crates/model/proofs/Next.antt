@@ -7,7 +7,7 @@ use native.Mathlib.Omega.{arith}
 use lib.Dec.{eqb}
 use lib.IntN.{ℤ, pos, _+ℤ_, +ℤ-idr}
 use Rattle.signed.specs.Sign.{forward, backward}
-use Rattle.model.specs.Mesh.{volume, first, second, atBoundary, entering, leaving, incoming, outgoing, updated, total}
+use Rattle.model.specs.Mesh.{volume, first, second, atRim, entering, leaving, incoming, outgoing, updated, total}
 use Rattle.model.specs.Step.{StepInput, flux, outside, mass, concentration, beyond, upwind, carried, low, lo, hi, correction, maxGain, maxLoss, limited, moved, next, inMass, outMass}
 use Rattle.lists.proofs.Sums.{sum-cong, sum-add}
 use Rattle.signed.proofs.Laws.{moves}
@@ -85,51 +85,51 @@ module _ (S : StepInput) (ok : Sound S) where
     omega (arith, div-lt-iff-lt-mul {x = next S c} {y = suc (hi S c)} (ok .roomy c h) .1 (omega (arith, ok .roomy c h, next-bounds c h))),
   )
 
--- over the boundary goes what the water carries, and no correction
-module _ (S : StepInput) (f : ℕ) (e : atBoundary (S .mesh) f ≡ true) where
+-- over the rim goes what the water carries, and no correction
+module _ (S : StepInput) (f : ℕ) (e : atRim (S .mesh) f ≡ true) where
   open StepInput S using (mesh as M)
 
-  boundary-correction : correction S f ≡ pos 0
+  rim-correction : correction S f ≡ pos 0
   unfolding correction
-  boundary-correction = rw e
+  rim-correction = rw e
 
-  boundary-limited : limited S f ≡ pos 0
+  rim-limited : limited S f ≡ pos 0
   unfolding limited
-  boundary-limited = limited-zero M (maxGain S) (maxLoss S) (correction S) f boundary-correction
+  rim-limited = limited-zero M (maxGain S) (maxLoss S) (correction S) f rim-correction
 
-  boundary-moved : moved S f ≡ carried S f
+  rim-moved : moved S f ≡ carried S f
   unfolding moved
-  boundary-moved = rw boundary-limited (+ℤ-idr (carried S f))
+  rim-moved = rw rim-limited (+ℤ-idr (carried S f))
 
-at-boundary-only : (b : Bool) (x y : ℕ) → (b ≡ true → x ≡ y) → cond b x 0 ≡ cond b y 0
-at-boundary-only true x y h = h refl
-at-boundary-only false x y h = refl
+at-rim-only : (b : Bool) (x y : ℕ) → (b ≡ true → x ≡ y) → cond b x 0 ≡ cond b y 0
+at-rim-only true x y h = h refl
+at-rim-only false x y h = refl
 
--- amounts that are the carried ones at the boundary bring in and take out the step's in- and out-mass
-module _ (S : StepInput) (x : ℕ → ℤ) (same-at-boundary : (f : ℕ) → atBoundary (S .mesh) f ≡ true → x f ≡ carried S f) where
+-- amounts that are the carried ones at the rim bring in and take out the step's in- and out-mass
+module _ (S : StepInput) (x : ℕ → ℤ) (same-at-rim : (f : ℕ) → atRim (S .mesh) f ≡ true → x f ≡ carried S f) where
   open StepInput S using (mesh as M)
 
-  boundary-out : (f : ℕ) → atBoundary M f ≡ true → forward (x f) ≡ forward (flux S f) * concentration S (first M f)
+  rim-out : (f : ℕ) → atRim M f ≡ true → forward (x f) ≡ forward (flux S f) * concentration S (first M f)
   unfolding carried upwind
-  boundary-out f e = rw (same-at-boundary f e) (upwind-forward (flux S f) (beyond S f) (concentration S (first M f)))
+  rim-out f e = rw (same-at-rim f e) (upwind-forward (flux S f) (beyond S f) (concentration S (first M f)))
 
-  boundary-in : (f : ℕ) → atBoundary M f ≡ true → backward (x f) ≡ backward (flux S f) * outside S f
+  rim-in : (f : ℕ) → atRim M f ≡ true → backward (x f) ≡ backward (flux S f) * outside S f
   unfolding carried upwind beyond
-  boundary-in f e = rw (same-at-boundary f e) (upwind-backward (flux S f) (beyond S f) (concentration S (first M f)) ∙ rw e)
+  rim-in f e = rw (same-at-rim f e) (upwind-backward (flux S f) (beyond S f) (concentration S (first M f)) ∙ rw e)
 
   pub outward-is : outward M x ≡ outMass S
   unfolding outward outMass
-  outward-is = sum-cong (M .faces) (λ f. cond (atBoundary M f) (forward (x f)) 0) (λ f. cond (atBoundary M f) (forward (flux S f) * concentration S (first M f)) 0)
-      (λ f l. at-boundary-only (atBoundary M f) (forward (x f)) (forward (flux S f) * concentration S (first M f)) (boundary-out f))
+  outward-is = sum-cong (M .faces) (λ f. cond (atRim M f) (forward (x f)) 0) (λ f. cond (atRim M f) (forward (flux S f) * concentration S (first M f)) 0)
+      (λ f l. at-rim-only (atRim M f) (forward (x f)) (forward (flux S f) * concentration S (first M f)) (rim-out f))
 
   pub inward-is : inward M x ≡ inMass S
   unfolding inward inMass
-  inward-is = sum-cong (M .faces) (λ f. cond (atBoundary M f) (backward (x f)) 0) (λ f. cond (atBoundary M f) (backward (flux S f) * outside S f) 0)
-      (λ f l. at-boundary-only (atBoundary M f) (backward (x f)) (backward (flux S f) * outside S f) (boundary-in f))
+  inward-is = sum-cong (M .faces) (λ f. cond (atRim M f) (backward (x f)) 0) (λ f. cond (atRim M f) (backward (flux S f) * outside S f) 0)
+      (λ f l. at-rim-only (atRim M f) (backward (x f)) (backward (flux S f) * outside S f) (rim-in f))
 
 pub step-budget : (S : StepInput) → Sound S → total (S .mesh) (next S) + outMass S ≡ total (S .mesh) (mass S) + inMass S
 unfolding next
-step-budget S ok = omega (arith, budget (S .mesh) (ok .joined) (moved S) (mass S) (affords S ok), outward-is S (moved S) (boundary-moved S), inward-is S (moved S) (boundary-moved S))
+step-budget S ok = omega (arith, budget (S .mesh) (ok .joined) (moved S) (mass S) (affords S ok), outward-is S (moved S) (rim-moved S), inward-is S (moved S) (rim-moved S))
 
 pub low-budget : (S : StepInput) → Sound S → total (S .mesh) (low S) + outMass S ≡ total (S .mesh) (mass S) + inMass S
 unfolding low

@@ -12,15 +12,15 @@ use Rattle.signed.specs.Sign.{forward, backward, size, isZero, isNegative}
 use Rattle.signed.proofs.Laws.{size-mul, size-quot, size-diff, size-withSign, size-add, forward-le, backward-le}
 use Rattle.lists.proofs.Tests.{Same, same, other, same?, Fits, fits, exceeds, fits?}
 use Rattle.lists.proofs.Sums.{sum-bound}
-use Rattle.model.specs.Mesh.{Mesh, volume, first, second, weight, span, atBoundary, boundary, entering, leaving, incoming, outgoing, total, maxVolume, maxConcentration, maxBoundaryFlux, maxSpan}
-use Rattle.model.specs.Step.{StepInput, portion, receiver, limitedBy, flux, outside, mass, concentration, beyond, upwind, downwind, upwindWeight, carried, low, correction, lo, hi, maxGain, maxLoss, limited, moved, next, inMass, outMass}
+use Rattle.model.specs.Mesh.{Mesh, volume, first, second, share, reach, atRim, rim, entering, leaving, incoming, outgoing, total, maxVolume, maxConcentration, maxRimFlux, maxReach}
+use Rattle.model.specs.Step.{StepInput, portion, receiver, limitedBy, flux, outside, mass, concentration, beyond, upwind, downwind, upwindShare, carried, low, correction, lo, hi, maxGain, maxLoss, limited, moved, next, inMass, outMass}
 use Rattle.model.proofs.Low.{low-bounds}
 use Rattle.model.proofs.Next.{next-bounds}
-use Rattle.model.proofs.Accepted.{Ready, hi-most, flux-few, flux-span}
+use Rattle.model.proofs.Accepted.{Ready, hi-most, flux-few, flux-reach}
 
 -- the largest mass that passes a face with the water, and the largest mass of a cell
 abbrev pub maxCarried : ℕ
-maxCarried = maxBoundaryFlux * maxConcentration
+maxCarried = maxRimFlux * maxConcentration
 
 abbrev pub maxMass : ℕ
 maxMass = maxVolume * maxConcentration + maxVolume - 1
@@ -68,9 +68,9 @@ module _ (S : StepInput) (r : Ready S) where
 
   beyond-most : (f : ℕ) → f < M .faces → beyond S f ≤ maxConcentration
   unfolding beyond
-  beyond-most f h = go (atBoundary M f) (same? (second M f) boundary)
+  beyond-most f h = go (atRim M f) (same? (second M f) rim)
     where
-      go : (b : Bool) → Same (second M f) boundary b → cond b (outside S f) (concentration S (second M f)) ≤ maxConcentration
+      go : (b : Bool) → Same (second M f) rim b → cond b (outside S f) (concentration S (second M f)) ≤ maxConcentration
       go true s = r .water .outside-most f h
       go false (other d) = r .salt-most (second M f) (r .fit .second-in f h d)
 
@@ -97,25 +97,25 @@ module _ (S : StepInput) (r : Ready S) where
   unfolding carried
   carried-size f h = rw (size-mul (flux S f) (pos (upwind S f))) (mul-le-mul (flux-few S r f h) (upwind-most f h))
 
-  weight-le : (f : ℕ) → f < M .faces → upwindWeight S f ≤ 256
-  unfolding upwindWeight
-  weight-le f h = go (isNegative (flux S f))
+  share-le : (f : ℕ) → f < M .faces → upwindShare S f ≤ 256
+  unfolding upwindShare
+  share-le f h = go (isNegative (flux S f))
     where
-      go : (b : Bool) → cond b (256 - weight M f) (weight M f) ≤ 256
+      go : (b : Bool) → cond b (256 - share M f) (share M f) ≤ 256
       go true = omega arith
-      go false = omega (arith, r .fit .weight-most f h)
+      go false = omega (arith, r .fit .share-most f h)
 
   pub correction-size : (f : ℕ) → f < M .faces → size (correction S f) ≤ maxCarried
   unfolding correction
-  correction-size f h = go (atBoundary M f) (same? (second M f) boundary) (isZero (flux S f))
+  correction-size f h = go (atRim M f) (same? (second M f) rim) (isZero (flux S f))
     where
-      go : (b : Bool) → Same (second M f) boundary b → (z : Bool) → size (cond (b || z) (pos 0) (quotZ (flux S f *ℤ (pos (downwind S f) -ℤ pos (upwind S f)) *ℤ (pos (upwindWeight S f * span M f) -ℤ pos (128 * size (flux S f)))) (pos (256 * span M f)))) ≤ maxCarried
+      go : (b : Bool) → Same (second M f) rim b → (z : Bool) → size (cond (b || z) (pos 0) (quotZ (flux S f *ℤ (pos (downwind S f) -ℤ pos (upwind S f)) *ℤ (pos (upwindShare S f * reach M f) -ℤ pos (128 * size (flux S f)))) (pos (256 * reach M f)))) ≤ maxCarried
       go true s z = omega arith
       go false s true = omega arith
       go false (other d) false = le-trans
-          (quot-size (flux S f) (pos (downwind S f) -ℤ pos (upwind S f)) (pos (upwindWeight S f * span M f) -ℤ pos (128 * size (flux S f))) (span M f) maxConcentration
+          (quot-size (flux S f) (pos (downwind S f) -ℤ pos (upwind S f)) (pos (upwindShare S f * reach M f) -ℤ pos (128 * size (flux S f))) (reach M f) maxConcentration
           (size-diff (downwind S f) (upwind S f) maxConcentration (downwind-most f h) (upwind-most f h))
-          (size-diff (upwindWeight S f * span M f) (128 * size (flux S f)) (256 * span M f) (mul-le-mul-right (span M f) (weight-le f h)) (omega (arith, flux-span S r f h d))))
+          (size-diff (upwindShare S f * reach M f) (128 * size (flux S f)) (256 * reach M f) (mul-le-mul-right (reach M f) (share-le f h)) (omega (arith, flux-reach S r f h d))))
           (mul-le-mul-right maxConcentration (flux-few S r f h))
 
   pub low-most : (c : ℕ) → c < M .cells → low S c ≤ maxMass
@@ -144,16 +144,16 @@ module _ (S : StepInput) (r : Ready S) where
   unfolding concentration
   mass-most c h = omega (arith, lt-div-mul-add {a = mass S c} (r .fit .volume-some c h), r .fit .volume-most c h, mul-le-mul (r .salt-most c h) (r .fit .volume-most c h))
 
-  -- one boundary face's part of the in-mass and of the out-mass, and all of them
-  entered-most : (f : ℕ) → f < M .faces → cond (atBoundary M f) (backward (flux S f) * outside S f) 0 ≤ maxCarried
-  entered-most f h = go (atBoundary M f)
+  -- one rim face's part of the in-mass and of the out-mass, and all of them
+  entered-most : (f : ℕ) → f < M .faces → cond (atRim M f) (backward (flux S f) * outside S f) 0 ≤ maxCarried
+  entered-most f h = go (atRim M f)
     where
       go : (b : Bool) → cond b (backward (flux S f) * outside S f) 0 ≤ maxCarried
       go true = mul-le-mul (le-trans (backward-le (flux S f)) (flux-few S r f h)) (r .water .outside-most f h)
       go false = omega arith
 
-  gone-most : (f : ℕ) → f < M .faces → cond (atBoundary M f) (forward (flux S f) * concentration S (first M f)) 0 ≤ maxCarried
-  gone-most f h = go (atBoundary M f)
+  gone-most : (f : ℕ) → f < M .faces → cond (atRim M f) (forward (flux S f) * concentration S (first M f)) 0 ≤ maxCarried
+  gone-most f h = go (atRim M f)
     where
       go : (b : Bool) → cond b (forward (flux S f) * concentration S (first M f)) 0 ≤ maxCarried
       go true = mul-le-mul (le-trans (forward-le (flux S f)) (flux-few S r f h)) (first-most f h)
@@ -161,11 +161,11 @@ module _ (S : StepInput) (r : Ready S) where
 
   pub inMass-most : inMass S ≤ 8190 * maxCarried
   unfolding inMass
-  inMass-most = le-trans (sum-bound (M .faces) maxCarried (λ f. cond (atBoundary M f) (backward (flux S f) * outside S f) 0) entered-most) (mul-le-mul-right maxCarried (r .counts-fit .few-faces))
+  inMass-most = le-trans (sum-bound (M .faces) maxCarried (λ f. cond (atRim M f) (backward (flux S f) * outside S f) 0) entered-most) (mul-le-mul-right maxCarried (r .counts-fit .few-faces))
 
   pub outMass-most : outMass S ≤ 8190 * maxCarried
   unfolding outMass
-  outMass-most = le-trans (sum-bound (M .faces) maxCarried (λ f. cond (atBoundary M f) (forward (flux S f) * concentration S (first M f)) 0) gone-most) (mul-le-mul-right maxCarried (r .counts-fit .few-faces))
+  outMass-most = le-trans (sum-bound (M .faces) maxCarried (λ f. cond (atRim M f) (forward (flux S f) * concentration S (first M f)) 0) gone-most) (mul-le-mul-right maxCarried (r .counts-fit .few-faces))
 
 -- a total of a field whose concentrations are within the ceiling
 pub total-most : (M : Mesh) (m : ℕ → ℕ) → M .cells ≤ 4095 → ((c : ℕ) → c < M .cells → m c ≤ maxMass) → total M m ≤ 4095 * maxMass

@@ -13,8 +13,8 @@ use Rattle.signed.proofs.Laws.{size-mul, size-quot, size-zero, diff-self}
 use Rattle.lists.specs.Fold.{sum}
 use Rattle.lists.proofs.Tests.{Same, same, other, same?}
 use Rattle.lists.proofs.Sums.{sum-cong, sum-scale, sum-zeros, sum-zero}
-use Rattle.model.specs.Mesh.{Mesh, volume, first, second, span, atBoundary, boundary, entering, leaving, incoming, outgoing, updated}
-use Rattle.model.specs.Step.{StepInput, flux, outside, mass, concentration, beyond, upwind, downwind, upwindWeight, carried, low, correction, adjacent, maxGain, maxLoss, limited, moved, next}
+use Rattle.model.specs.Mesh.{Mesh, volume, first, second, reach, atRim, rim, entering, leaving, incoming, outgoing, updated}
+use Rattle.model.specs.Step.{StepInput, flux, outside, mass, concentration, beyond, upwind, downwind, upwindShare, carried, low, correction, adjacent, maxGain, maxLoss, limited, moved, next}
 use Rattle.model.proofs.Low.{Sound, entering-carried, outgoing-carried, low-is}
 use Rattle.model.proofs.Limit.{limited-zero}
 use Rattle.model.proofs.Next.{next-is}
@@ -39,11 +39,11 @@ no-difference u w k K = size-zero _ (size-quot (u *ℤ (pos k -ℤ pos k) *ℤ w
     none : size (u *ℤ (pos k -ℤ pos k) *ℤ w) ≡ 0
     none = size-mul (u *ℤ (pos k -ℤ pos k)) w ∙ ap (λ (n : ℕ). n * size w) (size-mul u (pos k -ℤ pos k) ∙ ap (λ (z : ℤ). size u * size z) (diff-self k) ∙ mul-zero (size u)) ∙ zero-mul (size w)
 
-met : (z : ℤ) (k l c o q₀ : ℕ) (q : ℕ → ℕ) → q c ≡ q₀ → q l ≡ q₀ → (k ≡ boundary → isNegative z ≡ true → o ≡ q₀) → (k ≢ boundary → q k ≡ q₀)
-    → cond (isZero z) (q c) (cond (eqb l c) (cond (eqb k boundary) (cond (isNegative z) o (q c)) (q k)) (cond (eqb k c) (q l) (q c))) ≡ q₀
-met z k l c o q₀ q hc hl ho hk = go (isZero z) (eqb l c) (eqb k boundary) (same? k boundary) (isNegative z) refl (eqb k c)
+met : (z : ℤ) (k l c o q₀ : ℕ) (q : ℕ → ℕ) → q c ≡ q₀ → q l ≡ q₀ → (k ≡ rim → isNegative z ≡ true → o ≡ q₀) → (k ≢ rim → q k ≡ q₀)
+    → cond (isZero z) (q c) (cond (eqb l c) (cond (eqb k rim) (cond (isNegative z) o (q c)) (q k)) (cond (eqb k c) (q l) (q c))) ≡ q₀
+met z k l c o q₀ q hc hl ho hk = go (isZero z) (eqb l c) (eqb k rim) (same? k rim) (isNegative z) refl (eqb k c)
   where
-    go : (a s r : Bool) → Same k boundary r → (n : Bool) → isNegative z ≡ n → (t : Bool) → cond a (q c) (cond s (cond r (cond n o (q c)) (q k)) (cond t (q l) (q c))) ≡ q₀
+    go : (a s r : Bool) → Same k rim r → (n : Bool) → isNegative z ≡ n → (t : Bool) → cond a (q c) (cond s (cond r (cond n o (q c)) (q k)) (cond t (q l) (q c))) ≡ q₀
     go true s r rr n e t = hc
     go false true true (same d) true e t = ho d e
     go false true true rr false e t = hc
@@ -52,7 +52,7 @@ met z k l c o q₀ q hc hl ho hk = go (isZero z) (eqb l c) (eqb k boundary) (sam
     go false false r rr n e false = hc
 
 module _ (S : StepInput) (ok : Sound S) (q₀ : ℕ) (alike : (c : ℕ) → c < S .mesh .cells → concentration S c ≡ q₀)
-    (outside-alike : (f : ℕ) → f < S .mesh .faces → second (S .mesh) f ≡ boundary → isNegative (flux S f) ≡ true → outside S f ≡ q₀) where
+    (outside-alike : (f : ℕ) → f < S .mesh .faces → second (S .mesh) f ≡ rim → isNegative (flux S f) ≡ true → outside S f ≡ q₀) where
   open StepInput S using (mesh as M)
 
   met-alike : (c f : ℕ) → c < M .cells → f < M .faces → adjacent S c f ≡ q₀
@@ -70,16 +70,16 @@ module _ (S : StepInput) (ok : Sound S) (q₀ : ℕ) (alike : (c : ℕ) → c < 
 
   correction-none : (f : ℕ) → f < M .faces → correction S f ≡ pos 0
   unfolding correction upwind downwind beyond
-  correction-none f l = go (atBoundary M f) (same? (second M f) boundary) (isZero (flux S f)) (isNegative (flux S f))
+  correction-none f l = go (atRim M f) (same? (second M f) rim) (isZero (flux S f)) (isNegative (flux S f))
     where
-      go : (r : Bool) → Same (second M f) boundary r → (z n : Bool)
+      go : (r : Bool) → Same (second M f) rim r → (z n : Bool)
           → cond (r || z) (pos 0)
-          (quotZ (flux S f *ℤ (pos (cond n (concentration S (first M f)) (cond r (outside S f) (concentration S (second M f)))) -ℤ pos (cond n (cond r (outside S f) (concentration S (second M f))) (concentration S (first M f)))) *ℤ (pos (upwindWeight S f * span M f) -ℤ pos (128 * size (flux S f)))) (pos (256 * span M f)))
+          (quotZ (flux S f *ℤ (pos (cond n (concentration S (first M f)) (cond r (outside S f) (concentration S (second M f)))) -ℤ pos (cond n (cond r (outside S f) (concentration S (second M f))) (concentration S (first M f)))) *ℤ (pos (upwindShare S f * reach M f) -ℤ pos (128 * size (flux S f)))) (pos (256 * reach M f)))
           ≡ pos 0
       go true s z n = refl
       go false s true n = refl
-      go false (other d) false true = rw (alike (second M f) (ok .joined .second-in f l d), alike (first M f) (ok .joined .first-in f l)) (no-difference (flux S f) _ q₀ (256 * span M f))
-      go false (other d) false false = rw (alike (second M f) (ok .joined .second-in f l d), alike (first M f) (ok .joined .first-in f l)) (no-difference (flux S f) _ q₀ (256 * span M f))
+      go false (other d) false true = rw (alike (second M f) (ok .joined .second-in f l d), alike (first M f) (ok .joined .first-in f l)) (no-difference (flux S f) _ q₀ (256 * reach M f))
+      go false (other d) false false = rw (alike (second M f) (ok .joined .second-in f l d), alike (first M f) (ok .joined .first-in f l)) (no-difference (flux S f) _ q₀ (256 * reach M f))
 
   limited-none : (f : ℕ) → f < M .faces → limited S f ≡ pos 0
   unfolding limited

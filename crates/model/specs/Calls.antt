@@ -23,7 +23,7 @@ pub record Crossing : Type 0 where
   pub entered : ℕ
   pub gone : ℕ
 
--- What an accepted call leaves: the field, and what crossed the boundary.
+-- What an accepted call leaves: the field, and what crossed the rim.
 pub record Left : Type 0 where
   pub field : List ℕ
   pub crossing : Crossing

@@ -6,7 +6,7 @@ use lib.ListN.{length, getD}
 use lib.Dec.{eqb, leb, ltb}
 use lib.IntN.{ℤ}
 use Rattle.signed.specs.Sign.{size, isNegative}
-use Rattle.model.specs.Mesh.{Mesh, volume, first, second, weight, span, atBoundary, boundary, incoming, outgoing, maxCells, maxFaces, maxVolume, maxWeight, maxSpan, maxConcentration, maxBoundaryFlux}
+use Rattle.model.specs.Mesh.{Mesh, volume, first, second, share, reach, atRim, rim, incoming, outgoing, maxCells, maxFaces, maxVolume, maxShare, maxReach, maxConcentration, maxRimFlux}
 use Rattle.model.specs.Step.{StepInput, flux, outside}
 
 -- "An answer is either the result, or a refusal that carries its cause and its place", by their numbers.
@@ -74,7 +74,7 @@ module _ (M : Mesh) where
 
   unfoldable pub meshTables : Verdict
   meshTables = long 0 (M .cells) (length (M .volumes)) andThen long 1 (M .faces) (length (M .firsts))
-      andThen long 2 (M .faces) (length (M .seconds)) andThen long 3 (M .faces) (length (M .weights)) andThen long 4 (M .faces) (length (M .spans))
+      andThen long 2 (M .faces) (length (M .seconds)) andThen long 3 (M .faces) (length (M .shares)) andThen long 4 (M .faces) (length (M .reaches))
 
   -- 3: "V outside its range"
   unfoldable pub volumeGood : ℕ → Bool
@@ -82,11 +82,11 @@ module _ (M : Mesh) where
 
   -- 4: "first not a cell; second neither a cell nor 4,095; or both equal"
   unfoldable pub endsGood : ℕ → Bool
-  endsGood f = ltb (first M f) (M .cells) && (ltb (second M f) (M .cells) || eqb (second M f) boundary) && not (eqb (first M f) (second M f))
+  endsGood f = ltb (first M f) (M .cells) && (ltb (second M f) (M .cells) || eqb (second M f) rim) && not (eqb (first M f) (second M f))
 
   -- 5: "s or K outside its range, or not 0 at a rim"
   unfoldable pub spacingGood : ℕ → Bool
-  spacingGood f = cond (atBoundary M f) (eqb (weight M f) 0 && eqb (span M f) 0) (between 1 maxWeight (weight M f) && between 1 maxSpan (span M f))
+  spacingGood f = cond (atRim M f) (eqb (share M f) 0 && eqb (reach M f) 0) (between 1 maxShare (share M f) && between 1 maxReach (reach M f))
 
   unfoldable pub meshValues : Verdict
   meshValues = each 3 (M .cells) volumeGood andThen each 4 (M .faces) endsGood andThen each 5 (M .faces) spacingGood
@@ -121,11 +121,11 @@ module _ (M : Mesh) where
 
       -- 7: "outside value above 1,000,000, or not 0 elsewhere than at a rim inflow"
       unfoldable pub outsideGood : ℕ → Bool
-      outsideGood f = leb (outside (inputOf M field k) f) (cond (atBoundary M f && isNegative (flux (inputOf M field k) f)) maxConcentration 0)
+      outsideGood f = leb (outside (inputOf M field k) f) (cond (atRim M f && isNegative (flux (inputOf M field k) f)) maxConcentration 0)
 
       -- 8: "size of U above K, or above 4,095 at a rim"
       unfoldable pub fluxGood : ℕ → Bool
-      fluxGood f = leb (size (flux (inputOf M field k) f)) (cond (atBoundary M f) maxBoundaryFlux (span M f))
+      fluxGood f = leb (size (flux (inputOf M field k) f)) (cond (atRim M f) maxRimFlux (reach M f))
 
       -- 9: "inflow and outflow of a cell differ"
       unfoldable pub balanceGood : ℕ → Bool

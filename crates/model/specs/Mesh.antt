@@ -26,25 +26,25 @@ runFaces = 2046
 abbrev pub maxVolume : ℕ
 maxVolume = 4095
 
--- "the mark 4,095 as second for the rim": the boundary of the mesh
-abbrev pub boundary : ℕ
-boundary = 4095
+-- "the mark 4,095 as second for the rim": the rim of the mesh
+abbrev pub rim : ℕ
+rim = 4095
 
--- "An interior face has a share s, 1 to 255": the weight of a face
-abbrev pub maxWeight : ℕ
-maxWeight = 255
+-- "An interior face has a share s, 1 to 255": the share of a face
+abbrev pub maxShare : ℕ
+maxShare = 255
 
--- "It has a reach K, 1 to 4,095": the span of a face
-abbrev pub maxSpan : ℕ
-maxSpan = 4095
+-- "It has a reach K, 1 to 4,095": the reach of a face
+abbrev pub maxReach : ℕ
+maxReach = 4095
 
 -- "Its concentration is q = m divided by V, rounded down, at most 1,000,000"; the same ceiling holds outside
 abbrev pub maxConcentration : ℕ
 maxConcentration = 1000000
 
 -- Cause 8: "size of U above K, or above 4,095 at a rim"
-abbrev pub maxBoundaryFlux : ℕ
-maxBoundaryFlux = 4095
+abbrev pub maxRimFlux : ℕ
+maxRimFlux = 4095
 
 -- The mesh tables of "Tables lent to a step". They may be longer than the counts; entries past the counts mean nothing.
 pub record Mesh : Type 0 where
@@ -54,14 +54,14 @@ pub record Mesh : Type 0 where
   pub firsts : List ℕ
   pub seconds : List ℕ
   -- document 01's shares
-  pub weights : List ℕ
+  pub shares : List ℕ
   -- document 01's reaches
-  pub spans : List ℕ
+  pub reaches : List ℕ
 
 -- the mesh of the counts and tables lent to a call, in their order
 abbrev pub meshOf : ℕ → ℕ → List ℕ → List ℕ → List ℕ → List ℕ → List ℕ → Mesh
-meshOf cells faces volumes firsts seconds weights spans =
-    record { cells = cells; faces = faces; volumes = volumes; firsts = firsts; seconds = seconds; weights = weights; spans = spans }
+meshOf cells faces volumes firsts seconds shares reaches =
+    record { cells = cells; faces = faces; volumes = volumes; firsts = firsts; seconds = seconds; shares = shares; reaches = reaches }
 
 module _ (M : Mesh) where
   abbrev pub volume : ℕ → ℕ
@@ -74,14 +74,14 @@ module _ (M : Mesh) where
   abbrev pub second : ℕ → ℕ
   second f = getD (M .seconds) f 0
 
-  abbrev pub atBoundary : ℕ → Bool
-  atBoundary f = eqb (second f) boundary
+  abbrev pub atRim : ℕ → Bool
+  atRim f = eqb (second f) rim
 
-  abbrev pub weight : ℕ → ℕ
-  weight f = getD (M .weights) f 0
+  abbrev pub share : ℕ → ℕ
+  share f = getD (M .shares) f 0
 
-  abbrev pub span : ℕ → ℕ
-  span f = getD (M .spans) f 0
+  abbrev pub reach : ℕ → ℕ
+  reach f = getD (M .reaches) f 0
 
   -- What amounts x, "positive from first to second (outward at a rim)", bring into cell c through face f, and what they take from it.
   unfoldable pub entering : (ℕ → ℤ) → ℕ → ℕ → ℕ

@@ -8,7 +8,7 @@ use lib.IntN.{ℤ, pos, _+ℤ_, _-ℤ_, _*ℤ_}
 use lib.Signed.{quotZ}
 use Rattle.lists.specs.Fold.{sum, least, greatest}
 use Rattle.signed.specs.Sign.{forward, backward, size, isZero, isNegative, withSign}
-use Rattle.model.specs.Mesh.{Mesh, volume, first, second, weight, span, atBoundary, incoming, outgoing, updated}
+use Rattle.model.specs.Mesh.{Mesh, volume, first, second, share, reach, atRim, incoming, outgoing, updated}
 
 -- "A correction of size a becomes .. a where the receiver has P ≤ G, else a·G/P rounded down"; the same with N and L of the giver
 unfoldable pub portion : ℕ → ℕ → ℕ → ℕ
@@ -53,7 +53,7 @@ module _ (S : StepInput) where
 
   -- the concentration on the far side of face f: of its second cell, or outside
   unfoldable pub beyond : ℕ → ℕ
-  beyond f = cond (atBoundary M f) (outside f) (concentration (second M f))
+  beyond f = cond (atRim M f) (outside f) (concentration (second M f))
 
   unfoldable pub upwind : ℕ → ℕ
   upwind f = cond (isNegative (flux f)) (beyond f) (concentration (first M f))
@@ -70,14 +70,14 @@ module _ (S : StepInput) where
   low = updated M mass carried
 
   -- 2. "t be s if the first cell is upwind, else 256 − s"
-  unfoldable pub upwindWeight : ℕ → ℕ
-  upwindWeight f = cond (isNegative (flux f)) (256 - weight M f) (weight M f)
+  unfoldable pub upwindShare : ℕ → ℕ
+  upwindShare f = cond (isNegative (flux f)) (256 - share M f) (share M f)
 
   -- "On an interior face with U not 0, let d be q downwind minus q upwind .. The correction is U·d·(t·K − 128·|U|)
   -- divided by 256·K .. Elsewhere it is 0." "Signed quotients below are rounded toward zero."
   unfoldable pub correction : ℕ → ℤ
-  correction f = cond (atBoundary M f || isZero (flux f)) (pos 0)
-      (quotZ (flux f *ℤ (pos (downwind f) -ℤ pos (upwind f)) *ℤ (pos (upwindWeight f * span M f) -ℤ pos (128 * size (flux f)))) (pos (256 * span M f)))
+  correction f = cond (atRim M f || isZero (flux f)) (pos 0)
+      (quotZ (flux f *ℤ (pos (downwind f) -ℤ pos (upwind f)) *ℤ (pos (upwindShare f * reach M f) -ℤ pos (128 * size (flux f)))) (pos (256 * reach M f)))
 
   -- 3. "A cell's neighbourhood is itself, cells across its faces with U not 0, and the outside values of its rim faces with
   -- U below 0". What cell c meets at face f; its own concentration where it meets nothing there.
@@ -85,7 +85,7 @@ module _ (S : StepInput) where
   adjacent c f =
       cond (isZero (flux f)) (concentration c)
       (cond (eqb (first M f) c)
-      (cond (atBoundary M f) (cond (isNegative (flux f)) (outside f) (concentration c)) (concentration (second M f)))
+      (cond (atRim M f) (cond (isNegative (flux f)) (outside f) (concentration c)) (concentration (second M f)))
       (cond (eqb (second M f) c) (concentration (first M f)) (concentration c)))
 
   -- "Let lo and hi be the least and greatest q there before the step."
@@ -115,8 +115,8 @@ module _ (S : StepInput) where
 
   -- "A step's in-mass is the sum, over rim faces with U below 0, of the size of U times the outside value."
   unfoldable pub inMass : ℕ
-  inMass = sum (M .faces) (λ f. cond (atBoundary M f) (backward (flux f) * outside f) 0)
+  inMass = sum (M .faces) (λ f. cond (atRim M f) (backward (flux f) * outside f) 0)
 
   -- "Its out-mass is the sum, over rim faces with U above 0, of U times the cell's q before the step."
   unfoldable pub outMass : ℕ
-  outMass = sum (M .faces) (λ f. cond (atBoundary M f) (forward (flux f) * concentration (first M f)) 0)
+  outMass = sum (M .faces) (λ f. cond (atRim M f) (forward (flux f) * concentration (first M f)) 0)

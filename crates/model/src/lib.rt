@@ -12,20 +12,20 @@ pub const RUN_CELLS: usize = 1023;
 
 pub const RUN_FACES: usize = 2046;
 
-// The mark in the place of a second cell: beyond the face is the boundary (document 01: the rim).
-pub const BOUNDARY: u64 = 4095;
+// The mark in the place of a second cell: beyond the face is the rim.
+pub const RIM: u64 = 4095;
 
 pub const MAX_VOLUME: u64 = 4095;
 
-// Largest weight (document 01: share) and span (document 01: reach).
-pub const MAX_WEIGHT: u64 = 255;
+// Largest share and reach.
+pub const MAX_SHARE: u64 = 255;
 
-pub const MAX_SPAN: u64 = 4095;
+pub const MAX_REACH: u64 = 4095;
 
 pub const MAX_CONCENTRATION: u64 = 1000000;
 
-// Largest flux through a boundary face.
-pub const MAX_BOUNDARY_FLUX: u64 = 4095;
+// Largest flux through a rim face.
+pub const MAX_RIM_FLUX: u64 = 4095;
 
 // Why a call is refused, in the order of document 01's numbers, 1 to 13.
 pub enum Cause {

@@ -14,7 +14,7 @@ use Rattle.model.specs.Causes.{accepted, fine, _andThen_, each, long, Call, wor
 use Rattle.model.specs.Calls.{massIn}
 use Rattle.model.proofs.Verdicts.{both-fine, andThen-assoc, need-fine, need-met}
 use Rattle.checks.specs.Total.{cellsOnly}
-use Rattle.records.specs.Reading.{countsIn, cellsIn, facesIn, volumesIn, firstsIn, secondsIn, weightsIn, spansIn, meshIn, massesIn, fluxesIn, outsidesIn, meshHeadVerdict, stepRead}
+use Rattle.records.specs.Reading.{countsIn, cellsIn, facesIn, volumesIn, firstsIn, secondsIn, sharesIn, reachesIn, meshIn, massesIn, fluxesIn, outsidesIn, meshHeadVerdict, stepRead}
 use Rattle.records.specs.Writing.{waterOf}
 use Rattle.lagoon.specs.Host.{meshTested, fieldTested, stepTested}
 use Rattle.session.specs.Taking.{meshTaken, fieldTaken, printedOf, stepTo, stepReadIn, callIn}
@@ -39,13 +39,13 @@ seconds-long : (mesh : List ℕ) → length (secondsIn mesh) ≡ facesIn mesh
 unfolding secondsIn
 seconds-long mesh = length-table (facesIn mesh) _
 
-weights-long : (mesh : List ℕ) → length (weightsIn mesh) ≡ facesIn mesh
-unfolding weightsIn
-weights-long mesh = length-table (facesIn mesh) _
+shares-long : (mesh : List ℕ) → length (sharesIn mesh) ≡ facesIn mesh
+unfolding sharesIn
+shares-long mesh = length-table (facesIn mesh) _
 
-spans-long : (mesh : List ℕ) → length (spansIn mesh) ≡ facesIn mesh
-unfolding spansIn
-spans-long mesh = length-table (facesIn mesh) _
+reaches-long : (mesh : List ℕ) → length (reachesIn mesh) ≡ facesIn mesh
+unfolding reachesIn
+reaches-long mesh = length-table (facesIn mesh) _
 
 masses-long : (field : List ℕ) (cells : ℕ) → length (massesIn field cells) ≡ cells
 unfolding massesIn
@@ -121,8 +121,8 @@ module _ (mesh field step : List ℕ) where
             enough 0 (M .cells) (length (volumesIn mesh)) (omega (arith, volumes-long mesh)),
             enough 1 (M .faces) (length (firstsIn mesh)) (omega (arith, firsts-long mesh)),
             enough 2 (M .faces) (length (secondsIn mesh)) (omega (arith, seconds-long mesh)),
-            enough 3 (M .faces) (length (weightsIn mesh)) (omega (arith, weights-long mesh)),
-            enough 4 (M .faces) (length (spansIn mesh)) (omega (arith, spans-long mesh)),
+            enough 3 (M .faces) (length (sharesIn mesh)) (omega (arith, shares-long mesh)),
+            enough 4 (M .faces) (length (reachesIn mesh)) (omega (arith, reaches-long mesh)),
             enough 5 (M .cells) (length masses) (omega (arith, masses-long field (M .cells))),
             enough 6 (M .faces) (length (fluxesIn step (M .faces))) (omega (arith, fluxes-long step (M .faces))),
             enough 7 (M .faces) (length (outsidesIn step (M .faces) (M .seconds))) (omega (arith, outsides-long step (M .faces) (M .seconds))),

@@ -7,20 +7,20 @@ use lib.ListN.{replicate}
 use Rattle.lists.specs.Fold.{sum, least, greatest}
 use Rattle.lists.specs.Table.{table, over}
 use Rattle.model.specs.Mesh.{entering, leaving, incoming, outgoing, updated}
-use Rattle.model.specs.Step.{inMass, outMass, next, moved, concentration, beyond, upwind, downwind, carried, low, upwindWeight, correction, adjacent, lo, hi, maxGain, maxLoss, receiver, giver, limitedBy, limited, portion}
+use Rattle.model.specs.Step.{inMass, outMass, next, moved, concentration, beyond, upwind, downwind, carried, low, upwindShare, correction, adjacent, lo, hi, maxGain, maxLoss, receiver, giver, limitedBy, limited, portion}
 use Rattle.model.specs.Causes.{_andThen_, need, each, countsWithin, counts, meshTables, volumeGood, endsGood, spacingGood, meshValues, fieldTable, saltGood, fieldValues, stepTables, outsideGood, fluxGood, balanceGood, outflowGood, stepValues, verdict, callOf}
 use Rattle.model.specs.Calls.{stepOnTables, nextTable, afterAll, totalIn, totalOut}
 use Rattle.model.proofs.Figures.{channel}
 use Rattle.bits.specs.Field.{bitAt, bitsAt}
 use Rattle.bits.specs.Layout.{spelled, bitsOf, widthOf, bytesFor, octet, packed, rows}
-use Rattle.records.specs.Layouts.{meshRecord, fieldRecord, boundaryFaces, meshLength, fieldLength, stepLength}
-use Rattle.records.specs.Reading.{volumesIn, firstsIn, secondsIn, weightsIn, spansIn, massesIn, fluxesIn, outsidesIn, zeroBitGood, minusZero, meshBitGood, stepBitGood, meshHeadVerdict, fieldHeadVerdict, stepHeadVerdict, meshBodyVerdict, fieldBodyVerdict, stepBodyVerdict, fieldRead, stepRead}
+use Rattle.records.specs.Layouts.{meshRecord, fieldRecord, rimFaces, meshLength, fieldLength, stepLength}
+use Rattle.records.specs.Reading.{volumesIn, firstsIn, secondsIn, sharesIn, reachesIn, massesIn, fluxesIn, outsidesIn, zeroBitGood, minusZero, meshBitGood, stepBitGood, meshHeadVerdict, fieldHeadVerdict, stepHeadVerdict, meshBodyVerdict, fieldBodyVerdict, stepBodyVerdict, fieldRead, stepRead}
 use Rattle.lagoon.specs.Host.{meshTested, fieldTested, stepTested, hostVerdict, hostBytes}
 use Rattle.promises.specs.Demand3.{StepCall, onTables, onRecords, stepOnRecords, comes}
 
 -- the definitions that the figures compute
 everything : Unit {0}
-unfolding afterAll totalIn totalOut stepOnTables stepOnRecords nextTable inMass outMass over verdict counts countsWithin meshTables fieldTable stepTables meshValues fieldValues saltGood stepValues volumeGood endsGood spacingGood outsideGood fluxGood balanceGood outflowGood need each _andThen_ table sum least greatest entering leaving incoming outgoing updated next moved concentration beyond upwind downwind carried low upwindWeight correction adjacent lo hi maxGain maxLoss receiver giver limitedBy limited portion bitAt bitsAt spelled bitsOf widthOf bytesFor octet packed rows meshRecord fieldRecord boundaryFaces meshLength fieldLength stepLength volumesIn firstsIn secondsIn weightsIn spansIn massesIn fluxesIn outsidesIn zeroBitGood minusZero meshBitGood stepBitGood meshHeadVerdict fieldHeadVerdict stepHeadVerdict meshBodyVerdict fieldBodyVerdict stepBodyVerdict fieldRead stepRead meshTested fieldTested stepTested hostVerdict hostBytes
+unfolding afterAll totalIn totalOut stepOnTables stepOnRecords nextTable inMass outMass over verdict counts countsWithin meshTables fieldTable stepTables meshValues fieldValues saltGood stepValues volumeGood endsGood spacingGood outsideGood fluxGood balanceGood outflowGood need each _andThen_ table sum least greatest entering leaving incoming outgoing updated next moved concentration beyond upwind downwind carried low upwindShare correction adjacent lo hi maxGain maxLoss receiver giver limitedBy limited portion bitAt bitsAt spelled bitsOf widthOf bytesFor octet packed rows meshRecord fieldRecord rimFaces meshLength fieldLength stepLength volumesIn firstsIn secondsIn sharesIn reachesIn massesIn fluxesIn outsidesIn zeroBitGood minusZero meshBitGood stepBitGood meshHeadVerdict fieldHeadVerdict stepHeadVerdict meshBodyVerdict fieldBodyVerdict stepBodyVerdict fieldRead stepRead meshTested fieldTested stepTested hostVerdict hostBytes
 everything = tt
 
 -- one step on tables with two entries more in the masses, one from its record with a byte more for the next field

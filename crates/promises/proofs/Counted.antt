@@ -13,7 +13,7 @@ use Rattle.lists.proofs.Tests.{Same, other, same?}
 use Rattle.lists.proofs.Sums.{sum-cong, least-cong, greatest-cong}
 use Rattle.lists.proofs.Tables.{getD-table, table-cong}
 use Rattle.signed.specs.Sign.{isZero, isNegative}
-use Rattle.model.specs.Mesh.{Mesh, meshOf, volume, first, second, weight, span, boundary, total}
+use Rattle.model.specs.Mesh.{Mesh, meshOf, volume, first, second, share, reach, rim, total}
 use Rattle.model.specs.Step.{StepInput, flux, outside, concentration, adjacent, lo, hi, inMass, outMass}
 use Rattle.model.specs.Causes.{fine, Call, inputOf, fieldVerdict}
 use Rattle.model.specs.Calls.{massIn, Bounded, Left}
@@ -22,12 +22,12 @@ use Rattle.model.proofs.Accepted.{MeshFit, field-fit, field-accepted}
 use Rattle.model.proofs.Lists.{Fair}
 
 -- what a cell meets at a face rests on few concentrations
-meets : (z : ℤ) (k l c o : ℕ) (p q : ℕ → ℕ) → p c ≡ q c → p l ≡ q l → (k ≢ boundary → p k ≡ q k)
-    → cond (isZero z) (p c) (cond (eqb l c) (cond (eqb k boundary) (cond (isNegative z) o (p c)) (p k)) (cond (eqb k c) (p l) (p c)))
-    ≡ cond (isZero z) (q c) (cond (eqb l c) (cond (eqb k boundary) (cond (isNegative z) o (q c)) (q k)) (cond (eqb k c) (q l) (q c)))
-meets z k l c o p q hc hl hk = go (isZero z) (eqb l c) (eqb k boundary) (same? k boundary) (isNegative z) (eqb k c)
+meets : (z : ℤ) (k l c o : ℕ) (p q : ℕ → ℕ) → p c ≡ q c → p l ≡ q l → (k ≢ rim → p k ≡ q k)
+    → cond (isZero z) (p c) (cond (eqb l c) (cond (eqb k rim) (cond (isNegative z) o (p c)) (p k)) (cond (eqb k c) (p l) (p c)))
+    ≡ cond (isZero z) (q c) (cond (eqb l c) (cond (eqb k rim) (cond (isNegative z) o (q c)) (q k)) (cond (eqb k c) (q l) (q c)))
+meets z k l c o p q hc hl hk = go (isZero z) (eqb l c) (eqb k rim) (same? k rim) (isNegative z) (eqb k c)
   where
-    go : (a s r : Bool) → Same k boundary r → (n t : Bool)
+    go : (a s r : Bool) → Same k rim r → (n t : Bool)
         → cond a (p c) (cond s (cond r (cond n o (p c)) (p k)) (cond t (p l) (p c))) ≡ cond a (q c) (cond s (cond r (cond n o (q c)) (q k)) (cond t (q l) (q c)))
     go true s r rr n t = hc
     go false true true rr true t = refl
@@ -38,7 +38,7 @@ meets z k l c o p q hc hl hk = go (isZero z) (eqb l c) (eqb k boundary) (same? k
 
 -- the mesh with its tables cut to the counts
 abbrev pub cut : Mesh → Mesh
-cut M = meshOf (M .cells) (M .faces) (table (M .cells) (volume M)) (table (M .faces) (first M)) (table (M .faces) (second M)) (table (M .faces) (weight M)) (table (M .faces) (span M))
+cut M = meshOf (M .cells) (M .faces) (table (M .cells) (volume M)) (table (M .faces) (first M)) (table (M .faces) (second M)) (table (M .faces) (share M)) (table (M .faces) (reach M))
 
 abbrev pub cutField : Mesh → List ℕ → List ℕ
 cutField M field = table (M .cells) (massIn field)

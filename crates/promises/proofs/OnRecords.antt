@@ -11,7 +11,7 @@ use Rattle.lists.specs.Table.{table, over}
 use Rattle.lists.proofs.Tests.{le-leb}
 use Rattle.lists.proofs.Sums.{sum-cong}
 use Rattle.lists.proofs.Tables.{length-table, getD-table, table-cong}
-use Rattle.model.specs.Mesh.{Mesh, volume, first, second, weight, span}
+use Rattle.model.specs.Mesh.{Mesh, volume, first, second, share, reach}
 use Rattle.model.specs.Step.{StepInput, next, inMass, outMass}
 use Rattle.model.specs.Causes.{accepted, fine, _andThen_, long, Call, callOf, inputOf, workLength, counts, meshTables, meshValues, meshVerdict, fieldTable, fieldValues, fieldVerdict, stepTables, outsideGood, fluxGood, balanceGood, outflowGood, stepValues}
 use Rattle.model.specs.Calls.{massIn, Bounded, Left}
@@ -19,27 +19,27 @@ use Rattle.model.proofs.Verdicts.{both-fine, need-met}
 use Rattle.model.proofs.Accepted.{Ready, ready-of, counted, mesh-fit}
 use Rattle.model.proofs.Lists.{Fair, step-fair}
 use Rattle.bits.specs.Field.{bitsAt}
-use Rattle.records.specs.Layouts.{meshRecord, fieldRecord, fieldLength, outsideBits, boundaryFaces, isBoundary}
+use Rattle.records.specs.Layouts.{meshRecord, fieldRecord, fieldLength, outsideBits, rimFaces, isRim}
 use Rattle.records.specs.Reading.{meshIn, massesIn, fluxesIn, outsidesIn, outsidePlace}
 use Rattle.records.specs.Writing.{waterOf}
 use Rattle.records.proofs.Packed.{mesh-cells, mesh-faces, field-record-length}
 use Rattle.records.proofs.WidthLaws.{spelled, masses-fit}
-use Rattle.records.proofs.RoundTrip.{volumes-read-back, firsts-read-back, seconds-read-back, weights-read-back, spans-read-back, masses-read-back}
+use Rattle.records.proofs.RoundTrip.{volumes-read-back, firsts-read-back, seconds-read-back, shares-read-back, reaches-read-back, masses-read-back}
 use Rattle.lagoon.specs.Host.{meshTested, fieldTested, stepTested, hostVerdict, hostBytes}
 use Rattle.promises.specs.Demand3.{onRecords, waterIn, nextRecord, stepOnRecords, Kept}
 use Rattle.promises.proofs.Counted.{cut, cutField, in-same, out-same, fair-whole}
 
 -- the outside values in a step record rest on the counted seconds alone
-faces-cut : (M : Mesh) (f : ℕ) → f ≤ M .faces → boundaryFaces (table (M .faces) (second M)) f ≡ boundaryFaces (M .seconds) f
-unfolding boundaryFaces
-faces-cut M f h = sum-cong f (λ g. cond (isBoundary (table (M .faces) (second M)) g) 1 0) (λ g. cond (isBoundary (M .seconds) g) 1 0)
+faces-cut : (M : Mesh) (f : ℕ) → f ≤ M .faces → rimFaces (table (M .faces) (second M)) f ≡ rimFaces (M .seconds) f
+unfolding rimFaces
+faces-cut M f h = sum-cong f (λ g. cond (isRim (table (M .faces) (second M)) g) 1 0) (λ g. cond (isRim (M .seconds) g) 1 0)
     (λ g l. let below : g < M .faces = omega arith in rw (getD-table (M .faces) (second M) 0 g below))
 
 outsides-cut : (M : Mesh) (step : List ℕ) → outsidesIn step (M .faces) (table (M .faces) (second M)) ≡ outsidesIn step (M .faces) (M .seconds)
 unfolding outsidesIn
 outsides-cut M step = table-cong 0 (M .faces)
-    (λ f. cond (isBoundary (table (M .faces) (second M)) f) (bitsAt step (outsidePlace step (M .faces) (table (M .faces) (second M)) f) outsideBits) 0)
-    (λ f. cond (isBoundary (M .seconds) f) (bitsAt step (outsidePlace step (M .faces) (M .seconds) f) outsideBits) 0)
+    (λ f. cond (isRim (table (M .faces) (second M)) f) (bitsAt step (outsidePlace step (M .faces) (table (M .faces) (second M)) f) outsideBits) 0)
+    (λ f. cond (isRim (M .seconds) f) (bitsAt step (outsidePlace step (M .faces) (M .seconds) f) outsideBits) 0)
     (λ f h. rw (getD-table (M .faces) (second M) 0 f h, faces-cut M f (omega arith)))
 
 -- a table of its count is long enough
@@ -76,7 +76,7 @@ module _ (M : Mesh) (mesh-fine : meshVerdict M ≡ fine) (field : List ℕ) (fie
   mesh-is : meshIn (meshRecord M) ≡ cut M
   mesh-is =
       let s = spelled M within passes in
-      rw (mesh-cells M s, mesh-faces M s, volumes-read-back M within passes, firsts-read-back M within passes, seconds-read-back M within passes, weights-read-back M within passes, spans-read-back M within passes)
+      rw (mesh-cells M s, mesh-faces M s, volumes-read-back M within passes, firsts-read-back M within passes, seconds-read-back M within passes, shares-read-back M within passes, reaches-read-back M within passes)
 
   -- so whatever is said of what they hold is said of these
   carry : {A : Type 0} (F : Mesh → List ℕ → List ℕ → A)
@@ -115,7 +115,7 @@ module _ (M : Mesh) (mesh-fine : meshVerdict M ≡ fine) (field : List ℕ) (fie
     tables-pass : (meshTables (cut M) ≡ fine) × (fieldTable (cut M) (cutField M field) ≡ fine) × (stepTables (cut M) (cutField M field) padded ≡ fine)
     unfolding meshTables fieldTable stepTables _andThen_
     tables-pass = (
-      rw (full 0 (M .cells) (volume M), full 1 (M .faces) (first M), full 2 (M .faces) (second M), full 3 (M .faces) (weight M), full 4 (M .faces) (span M)),
+      rw (full 0 (M .cells) (volume M), full 1 (M .faces) (first M), full 2 (M .faces) (second M), full 3 (M .faces) (share M), full 4 (M .faces) (reach M)),
       full 5 (M .cells) (massIn field),
       rw (fluxes-full step (M .faces), outsides-full step (M .faces) (M .seconds), full {A = ℕ} 8 (M .cells) (λ c. 0), full {A = ℤ} 9 (M .faces) (λ f. pos 0), full {A = ℕ} 10 (workLength M) (λ i. 0)),
     )

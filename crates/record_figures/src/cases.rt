@@ -63,8 +63,8 @@ pub fn read_example() {
     let mut volumes = [7u64; 2];
     let mut firsts = [7u64; 1];
     let mut seconds = [7u64; 1];
-    let mut weights = [7u64; 1];
-    let mut spans = [7u64; 1];
+    let mut shares = [7u64; 1];
+    let mut reaches = [7u64; 1];
     let mut masses = [7u64; 2];
     show::word(b"example mesh");
     show::mesh(records::read_mesh(
@@ -74,8 +74,8 @@ pub fn read_example() {
         &mut volumes,
         &mut firsts,
         &mut seconds,
-        &mut weights,
-        &mut spans,
+        &mut shares,
+        &mut reaches,
     ));
     show::numbers(b": volumes", &volumes);
     show::numbers(b"; firsts", &firsts);
@@ -90,8 +90,8 @@ pub fn read_mesh_record(name: &[u8], most_cells: usize, most_faces: usize, bytes
     let mut volumes = [7u64; 4];
     let mut firsts = [7u64; 4];
     let mut seconds = [7u64; 4];
-    let mut weights = [7u64; 4];
-    let mut spans = [7u64; 4];
+    let mut shares = [7u64; 4];
+    let mut reaches = [7u64; 4];
     show::word(name);
     show::mesh(records::read_mesh(
         most_cells,
@@ -100,14 +100,14 @@ pub fn read_mesh_record(name: &[u8], most_cells: usize, most_faces: usize, bytes
         &mut volumes,
         &mut firsts,
         &mut seconds,
-        &mut weights,
-        &mut spans,
+        &mut shares,
+        &mut reaches,
     ));
     show::numbers(b": volumes", &volumes);
     show::numbers(b"; firsts", &firsts);
     show::numbers(b"; seconds", &seconds);
-    show::numbers(b"; weights", &weights);
-    show::numbers(b"; spans", &spans);
+    show::numbers(b"; shares", &shares);
+    show::numbers(b"; reaches", &reaches);
     show::word(b"\n");
 }
 
@@ -205,8 +205,8 @@ pub fn mesh_head(name: &[u8], bytes: &[u8]) {
     let mut volumes = [7u64];
     let mut firsts = [7u64];
     let mut seconds = [7u64];
-    let mut weights = [7u64];
-    let mut spans = [7u64];
+    let mut shares = [7u64];
+    let mut reaches = [7u64];
     show::word(name);
     show::mesh(records::read_mesh(
         65535,
@@ -215,8 +215,8 @@ pub fn mesh_head(name: &[u8], bytes: &[u8]) {
         &mut volumes,
         &mut firsts,
         &mut seconds,
-        &mut weights,
-        &mut spans,
+        &mut shares,
+        &mut reaches,
     ));
     show::word(b"\n");
 }
@@ -231,7 +231,7 @@ pub fn step_head(name: &[u8], faces: usize, bytes: &[u8]) {
     show::word(b"\n");
 }
 
-// A step through one boundary face, whose sign and size are the first 13 bits of these two bytes.
+// A step through one rim face, whose sign and size are the first 13 bits of these two bytes.
 pub fn read_sign(name: &[u8], sign: u8, size: u8) {
     let seconds = [4095u64];
     let bytes = [48u8, 0, 128, 0, sign, size, 0, 0, 0];
@@ -250,8 +250,8 @@ fn read_short(
     volumes: &mut [u64],
     firsts: &mut [u64],
     seconds: &mut [u64],
-    weights: &mut [u64],
-    spans: &mut [u64],
+    shares: &mut [u64],
+    reaches: &mut [u64],
 ) {
     let bytes = [
         16u8,
@@ -287,7 +287,16 @@ fn read_short(
         0,
     ];
     show::word(name);
-    show::mesh(records::read_mesh(4095, 8190, &bytes, volumes, firsts, seconds, weights, spans));
+    show::mesh(records::read_mesh(
+        4095,
+        8190,
+        &bytes,
+        volumes,
+        firsts,
+        seconds,
+        shares,
+        reaches,
+    ));
     show::word(b"\n");
 }
 
@@ -325,7 +334,7 @@ pub fn read_short_mesh() {
         &mut e,
     );
     read_short(
-        b"mesh, weights short",
+        b"mesh, shares short",
         &mut cells,
         &mut a,
         &mut b,
@@ -333,7 +342,7 @@ pub fn read_short_mesh() {
         &mut e,
     );
     read_short(
-        b"mesh, spans short",
+        b"mesh, reaches short",
         &mut cells,
         &mut a,
         &mut b,
@@ -404,8 +413,8 @@ fn write_mesh(
     volumes: &[u64],
     firsts: &[u64],
     seconds: &[u64],
-    weights: &[u64],
-    spans: &[u64],
+    shares: &[u64],
+    reaches: &[u64],
     bytes: &mut [u8],
 ) {
     show::word(b": mesh");
@@ -415,8 +424,8 @@ fn write_mesh(
         volumes,
         firsts,
         seconds,
-        weights,
-        spans,
+        shares,
+        reaches,
         bytes,
     ));
     show::octets(b":", bytes);
@@ -428,8 +437,8 @@ fn write_field(
     volumes: &[u64],
     firsts: &[u64],
     seconds: &[u64],
-    weights: &[u64],
-    spans: &[u64],
+    shares: &[u64],
+    reaches: &[u64],
     masses: &[u64],
     bytes: &mut [u8],
 ) {
@@ -440,8 +449,8 @@ fn write_field(
         volumes,
         firsts,
         seconds,
-        weights,
-        spans,
+        shares,
+        reaches,
         masses,
         bytes,
     ));
@@ -454,8 +463,8 @@ fn write_step(
     volumes: &[u64],
     firsts: &[u64],
     seconds: &[u64],
-    weights: &[u64],
-    spans: &[u64],
+    shares: &[u64],
+    reaches: &[u64],
     fluxes: &[i64],
     outsides: &[u64],
     bytes: &mut [u8],
@@ -467,8 +476,8 @@ fn write_step(
         volumes,
         firsts,
         seconds,
-        weights,
-        spans,
+        shares,
+        reaches,
         fluxes,
         outsides,
         bytes,
@@ -480,22 +489,22 @@ fn changed_mesh(table: u64, at: usize, value: u64) {
     let mut volumes = [100u64, 100, 100];
     let mut firsts = [0u64, 0, 1, 2];
     let mut seconds = [4095u64, 1, 2, 4095];
-    let mut weights = [0u64, 128, 128, 0];
-    let mut spans = [0u64, 100, 100, 0];
+    let mut shares = [0u64, 128, 128, 0];
+    let mut reaches = [0u64, 100, 100, 0];
     let mut bytes = [170u8; 32];
     put(&mut volumes, table == 0, at, value);
     put(&mut firsts, table == 1, at, value);
     put(&mut seconds, table == 2, at, value);
-    put(&mut weights, table == 3, at, value);
-    put(&mut spans, table == 4, at, value);
+    put(&mut shares, table == 3, at, value);
+    put(&mut reaches, table == 4, at, value);
     write_mesh(
         3,
         4,
         &volumes,
         &firsts,
         &seconds,
-        &weights,
-        &spans,
+        &shares,
+        &reaches,
         &mut bytes,
     );
 }
@@ -504,15 +513,15 @@ fn changed_field(table: u64, at: usize, value: u64) {
     let mut volumes = [100u64, 100, 100];
     let mut firsts = [0u64, 0, 1, 2];
     let mut seconds = [4095u64, 1, 2, 4095];
-    let mut weights = [0u64, 128, 128, 0];
-    let mut spans = [0u64, 100, 100, 0];
+    let mut shares = [0u64, 128, 128, 0];
+    let mut reaches = [0u64, 100, 100, 0];
     let mut masses = [100000u64, 0, 0];
     let mut bytes = [170u8; 14];
     put(&mut volumes, table == 0, at, value);
     put(&mut firsts, table == 1, at, value);
     put(&mut seconds, table == 2, at, value);
-    put(&mut weights, table == 3, at, value);
-    put(&mut spans, table == 4, at, value);
+    put(&mut shares, table == 3, at, value);
+    put(&mut reaches, table == 4, at, value);
     put(&mut masses, table == 5, at, value);
     write_field(
         3,
@@ -520,8 +529,8 @@ fn changed_field(table: u64, at: usize, value: u64) {
         &volumes,
         &firsts,
         &seconds,
-        &weights,
-        &spans,
+        &shares,
+        &reaches,
         &masses,
         &mut bytes,
     );
@@ -531,16 +540,16 @@ fn changed_step(table: u64, at: usize, value: u64, flux: i64) {
     let mut volumes = [100u64, 100, 100];
     let mut firsts = [0u64, 0, 1, 2];
     let mut seconds = [4095u64, 1, 2, 4095];
-    let mut weights = [0u64, 128, 128, 0];
-    let mut spans = [0u64, 100, 100, 0];
+    let mut shares = [0u64, 128, 128, 0];
+    let mut reaches = [0u64, 100, 100, 0];
     let mut fluxes = [-50i64, 50, 50, 50];
     let mut outsides = [1000u64, 0, 0, 0];
     let mut bytes = [170u8; 16];
     put(&mut volumes, table == 0, at, value);
     put(&mut firsts, table == 1, at, value);
     put(&mut seconds, table == 2, at, value);
-    put(&mut weights, table == 3, at, value);
-    put(&mut spans, table == 4, at, value);
+    put(&mut shares, table == 3, at, value);
+    put(&mut reaches, table == 4, at, value);
     put_flux(&mut fluxes, table == 6, at, flux);
     put(&mut outsides, table == 7, at, value);
     write_step(
@@ -549,8 +558,8 @@ fn changed_step(table: u64, at: usize, value: u64, flux: i64) {
         &volumes,
         &firsts,
         &seconds,
-        &weights,
-        &spans,
+        &shares,
+        &reaches,
         &fluxes,
         &outsides,
         &mut bytes,
@@ -571,8 +580,8 @@ pub fn write_counted(name: &[u8], cells: usize, faces: usize) {
     let volumes = [100u64, 100, 100];
     let firsts = [0u64, 0, 1, 2];
     let seconds = [4095u64, 1, 2, 4095];
-    let weights = [0u64, 128, 128, 0];
-    let spans = [0u64, 100, 100, 0];
+    let shares = [0u64, 128, 128, 0];
+    let reaches = [0u64, 100, 100, 0];
     let masses = [100000u64, 0, 0];
     let fluxes = [-50i64, 50, 50, 50];
     let outsides = [1000u64, 0, 0, 0];
@@ -586,8 +595,8 @@ pub fn write_counted(name: &[u8], cells: usize, faces: usize) {
         &volumes,
         &firsts,
         &seconds,
-        &weights,
-        &spans,
+        &shares,
+        &reaches,
         &mut mesh,
     );
     write_field(
@@ -596,8 +605,8 @@ pub fn write_counted(name: &[u8], cells: usize, faces: usize) {
         &volumes,
         &firsts,
         &seconds,
-        &weights,
-        &spans,
+        &shares,
+        &reaches,
         &masses,
         &mut field,
     );
@@ -607,8 +616,8 @@ pub fn write_counted(name: &[u8], cells: usize, faces: usize) {
         &volumes,
         &firsts,
         &seconds,
-        &weights,
-        &spans,
+        &shares,
+        &reaches,
         &fluxes,
         &outsides,
         &mut step,
@@ -621,8 +630,8 @@ pub fn write_graded(name: &[u8], cells: usize, faces: usize) {
     let volumes = [100u64; 4];
     let firsts = [0u64; 9];
     let seconds = [4095u64; 8];
-    let weights = [0u64; 7];
-    let spans = [0u64; 6];
+    let shares = [0u64; 7];
+    let reaches = [0u64; 6];
     let masses = [0u64; 3];
     let fluxes = [0i64; 5];
     let outsides = [0u64; 4];
@@ -636,8 +645,8 @@ pub fn write_graded(name: &[u8], cells: usize, faces: usize) {
         &volumes,
         &firsts,
         &seconds,
-        &weights,
-        &spans,
+        &shares,
+        &reaches,
         &mut mesh,
     );
     write_field(
@@ -646,8 +655,8 @@ pub fn write_graded(name: &[u8], cells: usize, faces: usize) {
         &volumes,
         &firsts,
         &seconds,
-        &weights,
-        &spans,
+        &shares,
+        &reaches,
         &masses,
         &mut field,
     );
@@ -657,8 +666,8 @@ pub fn write_graded(name: &[u8], cells: usize, faces: usize) {
         &volumes,
         &firsts,
         &seconds,
-        &weights,
-        &spans,
+        &shares,
+        &reaches,
         &fluxes,
         &outsides,
         &mut step,

@@ -1,4 +1,4 @@
-// The records of document 01 both ways, and each cause of reading and writing at its boundary values.
+// The records of document 01 both ways, and each cause of reading and writing at its rim values.
 mod cases;
 mod show;
 
@@ -106,8 +106,8 @@ fn counts() {
     cases::write_graded(b"volumes short", 5, 10);
     cases::write_graded(b"firsts short", 4, 10);
     cases::write_graded(b"seconds short", 4, 9);
-    cases::write_graded(b"weights short", 4, 8);
-    cases::write_graded(b"spans short", 4, 7);
+    cases::write_graded(b"shares short", 4, 8);
+    cases::write_graded(b"reaches short", 4, 7);
     cases::write_graded(b"masses and fluxes short", 4, 6);
     cases::write_graded(b"outsides short", 3, 5);
     cases::write_graded(b"bytes short", 3, 4);
@@ -121,18 +121,18 @@ fn values() {
     cases::write_changed(b"last face from 3", 1, 3, 3, 0);
     cases::write_changed(b"face to 4094", 2, 2, 4094, 0);
     cases::write_changed(b"face to its first", 2, 1, 0, 0);
-    cases::write_changed(b"weight 0", 3, 1, 0, 0);
-    cases::write_changed(b"weight 256", 3, 2, 256, 0);
-    cases::write_changed(b"weight 255", 3, 2, 255, 0);
-    cases::write_changed(b"span 4096", 4, 2, 4096, 0);
-    cases::write_changed(b"span 4095", 4, 2, 4095, 0);
+    cases::write_changed(b"share 0", 3, 1, 0, 0);
+    cases::write_changed(b"share 256", 3, 2, 256, 0);
+    cases::write_changed(b"share 255", 3, 2, 255, 0);
+    cases::write_changed(b"reach 4096", 4, 2, 4096, 0);
+    cases::write_changed(b"reach 4095", 4, 2, 4095, 0);
     cases::write_changed(b"first mass 100000099", 5, 0, 100000099, 0);
     cases::write_changed(b"first mass 100000100", 5, 0, 100000100, 0);
     cases::write_changed(b"outside 1000000", 7, 0, 1000000, 0);
     cases::write_changed(b"outside 1000001", 7, 0, 1000001, 0);
     cases::write_changed(b"outside 1 at outflow", 7, 3, 1, 0);
-    cases::write_changed(b"flux equal to the span", 6, 1, 0, 100);
-    cases::write_changed(b"flux above the span", 6, 1, 0, 101);
+    cases::write_changed(b"flux equal to the reach", 6, 1, 0, 100);
+    cases::write_changed(b"flux above the reach", 6, 1, 0, 101);
     cases::write_changed(b"last face, flux 4095", 6, 3, 0, 4095);
     cases::write_changed(b"last face, flux 4096", 6, 3, 0, 4096);
     cases::write_changed(

@@ -20,8 +20,8 @@ use Rattle.bits.specs.Field.{bitAt, bitsAt}
 use Rattle.bits.proofs.Fields.{bits-lt}
 use Rattle.bits.specs.Layout.{Field, field, widthOf, bytesFor, packed, rows}
 use Rattle.bits.proofs.Readings.{ReadFrom, read-none, read-more, read-append, read-rows, read-rows-of, pack-read}
-use Rattle.records.specs.Layouts.{volumeBits, endBits, weightBits, spanBits, massBits, signBits, sizeBits, outsideBits, meshHeadBits, fieldHeadBits, stepHeadBits, faceBits, fluxBits, kindBits, meshKind, fieldKind, stepKind, meshZeroBits, stepZeroBits, meshHead, cellRow, faceRow, meshFields, massRow, fieldFields, isBoundary, stepHead, fluxRow, outsideRow, stepFields, meshRecord, fieldRecord, stepRecord, meshBits, stepBits}
-use Rattle.records.specs.Reading.{cellsIn, facesIn, stepFacesIn, meshIn, facePlace, volumesIn, firstsIn, secondsIn, weightsIn, spansIn, massesIn, fluxPlace, minusIn, sizeIn, outsidePlace, fluxesIn, outsidesIn, minusZero, zeroBitGood, meshBitGood, stepBitGood, meshBodyVerdict, meshRead, fieldRead, stepBodyVerdict, stepRead}
+use Rattle.records.specs.Layouts.{volumeBits, endBits, shareBits, reachBits, massBits, signBits, sizeBits, outsideBits, meshHeadBits, fieldHeadBits, stepHeadBits, faceBits, fluxBits, kindBits, meshKind, fieldKind, stepKind, meshZeroBits, stepZeroBits, meshHead, cellRow, faceRow, meshFields, massRow, fieldFields, isRim, stepHead, fluxRow, outsideRow, stepFields, meshRecord, fieldRecord, stepRecord, meshBits, stepBits}
+use Rattle.records.specs.Reading.{cellsIn, facesIn, stepFacesIn, meshIn, facePlace, volumesIn, firstsIn, secondsIn, sharesIn, reachesIn, massesIn, fluxPlace, minusIn, sizeIn, outsidePlace, fluxesIn, outsidesIn, minusZero, zeroBitGood, meshBitGood, stepBitGood, meshBodyVerdict, meshRead, fieldRead, stepBodyVerdict, stepRead}
 use Rattle.records.specs.declared.Counts.{Counts}
 use Rattle.records.proofs.HeadLaws.{mesh-head-says, mesh-tables-say, field-head-says, field-tables-say, step-head-says, step-tables-say, bytes-hold}
 use Rattle.records.proofs.ZeroLaws.{good-clear, minus-at}
@@ -62,12 +62,12 @@ module _ (bs : List ℕ) (small : (j : ℕ) → getD bs j 0 < 256) where
   cell-read c l = read-more (entry bs (cellsIn bs) volumeBits (λ k. meshHeadBits + k * volumeBits) c l) read-none
 
   face-read : (f : ℕ) → f < facesIn bs → ReadFrom bs (facePlace bs f) (faceRow (meshIn bs) f)
-  unfolding firstsIn secondsIn weightsIn spansIn
+  unfolding firstsIn secondsIn sharesIn reachesIn
   face-read f l =
       read-more (entry bs (facesIn bs) endBits (λ k. facePlace bs k) f l)
       (read-more (entry bs (facesIn bs) endBits (λ k. facePlace bs k + endBits) f l)
-      (read-more (entry bs (facesIn bs) weightBits (λ k. facePlace bs k + endBits + endBits) f l)
-      (read-more (entry bs (facesIn bs) spanBits (λ k. facePlace bs k + endBits + endBits + weightBits) f l) read-none)))
+      (read-more (entry bs (facesIn bs) shareBits (λ k. facePlace bs k + endBits + endBits) f l)
+      (read-more (entry bs (facesIn bs) reachBits (λ k. facePlace bs k + endBits + endBits + shareBits) f l) read-none)))
 
   faces-read : ReadFrom bs (0 + widthOf (meshHead (cellsIn bs) (facesIn bs) ++ rows (cellsIn bs) (cellRow (meshIn bs)))) (rows (facesIn bs) (faceRow (meshIn bs)))
   unfolding widthOf
@@ -126,12 +126,12 @@ module _ (bs : List ℕ) (small : (j : ℕ) → getD bs j 0 < 256) where
         let amount : size z ≡ sizeIn bs f = rw (flux-is f l) (size-withSign (minusIn bs f) (sizeIn bs f)) in
         read-more sign (read-more amount read-none)
 
-    outside-is : (f : ℕ) → f < faces → getD (outsidesIn bs faces seconds) f 0 ≡ cond (isBoundary seconds f) (bitsAt bs (outsidePlace bs faces seconds f) outsideBits) 0
+    outside-is : (f : ℕ) → f < faces → getD (outsidesIn bs faces seconds) f 0 ≡ cond (isRim seconds f) (bitsAt bs (outsidePlace bs faces seconds f) outsideBits) 0
     unfolding outsidesIn
-    outside-is f l = getD-table faces (λ k. cond (isBoundary seconds k) (bitsAt bs (outsidePlace bs faces seconds k) outsideBits) 0) 0 f l
+    outside-is f l = getD-table faces (λ k. cond (isRim seconds k) (bitsAt bs (outsidePlace bs faces seconds k) outsideBits) 0) 0 f l
 
     outside-read : (f : ℕ) → f < faces → ReadFrom bs (stepHeadBits + faces * fluxBits + widthOf (rows f (outsideRow seconds (outsidesIn bs faces seconds)))) (outsideRow seconds (outsidesIn bs faces seconds) f)
-    outside-read f l = rw (outside-rows seconds (outsidesIn bs faces seconds) f) (go (isBoundary seconds f) (outside-is f l))
+    outside-read f l = rw (outside-rows seconds (outsidesIn bs faces seconds) f) (go (isRim seconds f) (outside-is f l))
       where
         go : (b : Bool) → getD (outsidesIn bs faces seconds) f 0 ≡ cond b (bitsAt bs (outsidePlace bs faces seconds f) outsideBits) 0
             → ReadFrom bs (outsidePlace bs faces seconds f) (cond b (field outsideBits (getD (outsidesIn bs faces seconds) f 0) ∷ []) [])

@@ -16,10 +16,10 @@ use Rattle.model.specs.Mesh.{maxCells, maxFaces}
 use Rattle.model.specs.Causes.{fine}
 use Rattle.model.proofs.Verdicts.{both-fine}
 use Rattle.bits.specs.Field.{bitAt, bitsAt}
-use Rattle.records.specs.Layouts.{volumeBits, endBits, weightBits, spanBits, massBits, signBits, sizeBits, outsideBits, meshHeadBits, fieldHeadBits, faceBits, fluxBits, isBoundary, boundaryFaces, meshBits, fieldBits, stepBits}
-use Rattle.records.specs.Reading.{cellsIn, facesIn, facePlace, volumesIn, firstsIn, secondsIn, weightsIn, spansIn, massesIn, fluxPlace, minusIn, sizeIn, outsidePlace, fluxesIn, outsidesIn, meshBodyVerdict, fieldBodyVerdict, stepBodyVerdict}
+use Rattle.records.specs.Layouts.{volumeBits, endBits, shareBits, reachBits, massBits, signBits, sizeBits, outsideBits, meshHeadBits, fieldHeadBits, faceBits, fluxBits, isRim, rimFaces, meshBits, fieldBits, stepBits}
+use Rattle.records.specs.Reading.{cellsIn, facesIn, facePlace, volumesIn, firstsIn, secondsIn, sharesIn, reachesIn, massesIn, fluxPlace, minusIn, sizeIn, outsidePlace, fluxesIn, outsidesIn, meshBodyVerdict, fieldBodyVerdict, stepBodyVerdict}
 use Rattle.records.specs.Bodies.{MeshRoom, MeshBody, MeshTested, MeshFilled, StepRoom, StepBody, StepFilled}
-use Rattle.records.proofs.HeadLaws.{bytes-hold, bytes-most, boundary-le, MeshTablesSay, mesh-tables-say, field-tables-say, StepTablesSay, step-tables-say}
+use Rattle.records.proofs.HeadLaws.{bytes-hold, bytes-most, rim-le, MeshTablesSay, mesh-tables-say, field-tables-say, StepTablesSay, step-tables-say}
 
 bit-drop : (n : ℕ) (bs : List ℕ) (i : ℕ) → bitAt (drop n bs) i ≡ bitAt bs (8 * n + i)
 unfolding bitAt
@@ -73,8 +73,8 @@ pub record MeshLends (cells faces : ℕ) (bs v f s w k : List ℕ) : Type 0 wher
   pub volumes-fit : cells ≤ length v
   pub firsts-fit : faces ≤ length f
   pub seconds-fit : faces ≤ length s
-  pub weights-fit : faces ≤ length w
-  pub spans-fit : faces ≤ length k
+  pub shares-fit : faces ≤ length w
+  pub reaches-fit : faces ≤ length k
   pub room : MeshRoom (take (length bs - 4) (drop 4 bs)) (length (take cells v)) (length (take faces f)) (length (take faces s)) (length (take faces w)) (length (take faces k))
   pub filled : {v′ f′ s′ w′ k′ : List ℕ} → MeshBody (take (length bs - 4) (drop 4 bs)) (length (take cells v)) (length (take faces f)) v′ f′ s′ w′ k′
       → MeshFilled bs v f s w k (v′ ++ drop cells v) (f′ ++ drop faces f) (s′ ++ drop faces s) (w′ ++ drop faces w) (k′ ++ drop faces k)
@@ -104,13 +104,13 @@ module _ (cells faces : ℕ) (bs v f s w k : List ℕ) (tested : MeshTested cell
         small = omega (arith, rest-length 4 bs, tested, t .same-length, bytes-most end);
         holds = omega (arith, rest-length 4 bs, tested, cells-lent, faces-lent f (t .firsts-long), t .same-length, bytes-hold end);
         seconds-as-firsts = faces-lent s (t .seconds-long) ∙ sym (faces-lent f (t .firsts-long));
-        weights-as-firsts = faces-lent w (t .weights-long) ∙ sym (faces-lent f (t .firsts-long));
-        spans-as-firsts = faces-lent k (t .spans-long) ∙ sym (faces-lent f (t .firsts-long));
+        shares-as-firsts = faces-lent w (t .shares-long) ∙ sym (faces-lent f (t .firsts-long));
+        reaches-as-firsts = faces-lent k (t .reaches-long) ∙ sym (faces-lent f (t .firsts-long));
       }
 
   mesh-filled : {v′ f′ s′ w′ k′ : List ℕ} → MeshBody (take (length bs - 4) (drop 4 bs)) (length (take cells v)) (length (take faces f)) v′ f′ s′ w′ k′
       → MeshFilled bs v f s w k (v′ ++ drop cells v) (f′ ++ drop faces f) (s′ ++ drop faces s) (w′ ++ drop faces w) (k′ ++ drop faces k)
-  unfolding volumesIn firstsIn secondsIn weightsIn spansIn
+  unfolding volumesIn firstsIn secondsIn sharesIn reachesIn
   mesh-filled {v′} {f′} {s′} {w′} {k′} b =
       let c : length (take cells v) ≡ cellsIn bs = cells-lent ∙ tested .cells-are in
       let n : length (take faces f) ≡ facesIn bs = faces-lent f (tables-say .firsts-long) ∙ tested .faces-are in
@@ -118,8 +118,8 @@ module _ (cells faces : ℕ) (bs v f s w k : List ℕ) (tested : MeshTested cell
         volumes-full = column-filled 4 bs v v′ 0 volumeBits volumeBits (λ i. meshHeadBits + i * volumeBits) c (tested .cells-are) (b .volumes-are) (λ i. omega arith);
         firsts-full = column-filled 4 bs f f′ (length (take cells v) * volumeBits) faceBits endBits (λ i. facePlace bs i) n (tested .faces-are) (b .firsts-are) (λ i. omega arith);
         seconds-full = column-filled 4 bs s s′ (length (take cells v) * volumeBits + endBits) faceBits endBits (λ i. facePlace bs i + endBits) n (tested .faces-are) (b .seconds-are) (λ i. omega arith);
-        weights-full = column-filled 4 bs w w′ (length (take cells v) * volumeBits + endBits + endBits) faceBits weightBits (λ i. facePlace bs i + endBits + endBits) n (tested .faces-are) (b .weights-are) (λ i. omega arith);
-        spans-full = column-filled 4 bs k k′ (length (take cells v) * volumeBits + endBits + endBits + weightBits) faceBits spanBits (λ i. facePlace bs i + endBits + endBits + weightBits) n (tested .faces-are) (b .spans-are) (λ i. omega arith);
+        shares-full = column-filled 4 bs w w′ (length (take cells v) * volumeBits + endBits + endBits) faceBits shareBits (λ i. facePlace bs i + endBits + endBits) n (tested .faces-are) (b .shares-are) (λ i. omega arith);
+        reaches-full = column-filled 4 bs k k′ (length (take cells v) * volumeBits + endBits + endBits + shareBits) faceBits reachBits (λ i. facePlace bs i + endBits + endBits + shareBits) n (tested .faces-are) (b .reaches-are) (λ i. omega arith);
       }
 
   pub mesh-lends : MeshLends cells faces bs v f s w k
@@ -130,8 +130,8 @@ module _ (cells faces : ℕ) (bs v f s w k : List ℕ) (tested : MeshTested cell
         volumes-fit = cells-fit;
         firsts-fit = faces-fit (t .firsts-long);
         seconds-fit = faces-fit (t .seconds-long);
-        weights-fit = faces-fit (t .weights-long);
-        spans-fit = faces-fit (t .spans-long);
+        shares-fit = faces-fit (t .shares-long);
+        reaches-fit = faces-fit (t .reaches-long);
         room = mesh-room;
         filled = mesh-filled;
       }
@@ -180,7 +180,7 @@ module _ (faces : ℕ) (seconds bs : List ℕ) (u : List ℤ) (o : List ℕ) (fe
       let t = says in
       let end = stepBits faces seconds in
       record {
-        small = omega (arith, rest-length 4 bs, t .same-length, bytes-most end, boundary-le seconds faces);
+        small = omega (arith, rest-length 4 bs, t .same-length, bytes-most end, rim-le seconds faces);
         lent = rw fluxes-lent lent;
         outsides-as-fluxes = outsides-lent ∙ sym fluxes-lent;
         holds = rw fluxes-lent (omega (arith, rest-length 4 bs, t .same-length, bytes-hold end));
@@ -194,9 +194,9 @@ module _ (faces : ℕ) (seconds bs : List ℕ) (u : List ℤ) (o : List ℕ) (fe
       record {
         fluxes-full = part-filled (pos 0) u u′ (λ f. withSign (eqb (bitsAt rest (f * fluxBits) signBits) 1) (bitsAt rest (f * fluxBits + signBits) sizeBits)) (λ f. withSign (minusIn bs f) (sizeIn bs f)) fluxes-lent refl (b .fluxes-are)
             (λ f. rw (bits-rest 4 bs (f * fluxBits) signBits {place = fluxPlace bs f} (omega arith), bits-rest 4 bs (f * fluxBits + signBits) sizeBits {place = fluxPlace bs f + signBits} (omega arith)));
-        outsides-full = part-filled 0 o o′ (λ f. cond (isBoundary seconds f) (bitsAt rest (n * fluxBits + boundaryFaces seconds f * outsideBits) outsideBits) 0)
-            (λ f. cond (isBoundary seconds f) (bitsAt bs (outsidePlace bs faces seconds f) outsideBits) 0) fluxes-lent refl (b .outsides-are)
-            (λ f. ap (λ (x : ℕ). cond (isBoundary seconds f) x 0) (bits-rest 4 bs (n * fluxBits + boundaryFaces seconds f * outsideBits) outsideBits {place = outsidePlace bs faces seconds f} (omega (arith, fluxes-lent))));
+        outsides-full = part-filled 0 o o′ (λ f. cond (isRim seconds f) (bitsAt rest (n * fluxBits + rimFaces seconds f * outsideBits) outsideBits) 0)
+            (λ f. cond (isRim seconds f) (bitsAt bs (outsidePlace bs faces seconds f) outsideBits) 0) fluxes-lent refl (b .outsides-are)
+            (λ f. ap (λ (x : ℕ). cond (isRim seconds f) x 0) (bits-rest 4 bs (n * fluxBits + rimFaces seconds f * outsideBits) outsideBits {place = outsidePlace bs faces seconds f} (omega (arith, fluxes-lent))));
       }
 
   pub step-lends : StepLends faces seconds bs u o

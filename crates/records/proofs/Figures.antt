@@ -9,12 +9,12 @@ use Rattle.model.specs.Mesh.{Mesh, meshOf}
 use Rattle.model.specs.Causes.{accepted, refused, fine, _andThen_, need, each, countsWithin}
 use Rattle.bits.specs.Field.{bitAt, bitsAt}
 use Rattle.bits.specs.Layout.{spelled, bitsOf, widthOf, bytesFor, octet, packed, rows}
-use Rattle.records.specs.Layouts.{meshRecord, fieldRecord, stepRecord, boundaryFaces, meshLength, fieldLength, stepLength}
+use Rattle.records.specs.Layouts.{meshRecord, fieldRecord, stepRecord, rimFaces, meshLength, fieldLength, stepLength}
 use Rattle.records.specs.Reading.{volumesIn, massesIn, fluxesIn, outsidesIn, zeroBitGood, minusZero, meshBitGood, stepBitGood, meshHeadVerdict, fieldHeadVerdict, stepHeadVerdict, meshBodyVerdict, fieldBodyVerdict, stepBodyVerdict, meshRead, fieldRead, stepRead}
 
 -- the definitions that a figure computes
 everything : Unit {0}
-unfolding sum table _andThen_ need each countsWithin bitAt bitsAt spelled bitsOf widthOf bytesFor octet packed rows meshRecord fieldRecord stepRecord boundaryFaces meshLength fieldLength stepLength volumesIn massesIn fluxesIn outsidesIn zeroBitGood minusZero meshBitGood stepBitGood meshHeadVerdict fieldHeadVerdict stepHeadVerdict meshBodyVerdict fieldBodyVerdict stepBodyVerdict meshRead fieldRead stepRead
+unfolding sum table _andThen_ need each countsWithin bitAt bitsAt spelled bitsOf widthOf bytesFor octet packed rows meshRecord fieldRecord stepRecord rimFaces meshLength fieldLength stepLength volumesIn massesIn fluxesIn outsidesIn zeroBitGood minusZero meshBitGood stepBitGood meshHeadVerdict fieldHeadVerdict stepHeadVerdict meshBodyVerdict fieldBodyVerdict stepBodyVerdict meshRead fieldRead stepRead
 everything = tt
 
 -- one cell of V 100 and no faces, and its field with m = 99
@@ -48,7 +48,7 @@ pub mass-is-read : massesIn field 1 ≡ 99 ∷ []
 unfolding everything
 mass-is-read = refl
 
--- one face at the boundary with U −50 and outside value 1000
+-- one face at the rim with U −50 and outside value 1000
 abbrev step : List ℕ
 step = 0x30 ∷ 0x00 ∷ 0x80 ∷ 0x00 ∷ 0x81 ∷ 0x90 ∷ 0x01 ∷ 0xf4 ∷ 0x00 ∷ []
 

@@ -17,7 +17,7 @@ use Rattle.model.specs.declared.Answer.the-variants.{Done}
 use Rattle.model.proofs.Verdicts.{both-fine, need-fine}
 use Rattle.checks.proofs.Laws.{passes}
 use Rattle.bits.specs.Layout.{bytesFor}
-use Rattle.records.specs.Layouts.{meshKind, fieldKind, stepKind, outsideBits, isBoundary, boundaryFaces, meshBits, fieldBits, stepBits, meshLength, fieldLength, stepLength}
+use Rattle.records.specs.Layouts.{meshKind, fieldKind, stepKind, outsideBits, isRim, rimFaces, meshBits, fieldBits, stepBits, meshLength, fieldLength, stepLength}
 use Rattle.records.specs.Reading.{kindIn, cellsIn, facesIn, stepFacesIn, hasLength, meshHeadVerdict, fieldHeadVerdict, stepHeadVerdict, fieldBodyVerdict}
 
 -- a record that is as long as its head
@@ -90,34 +90,34 @@ step-head-says faces seconds bs e =
       lent = leb-le _ _ (need-fine 2 2 _ (a .1));
     }
 
--- faces at the boundary, counted one after another
-pub boundary-none : (s : List ℕ) → boundaryFaces s 0 ≡ 0
-unfolding boundaryFaces
-boundary-none s = sum-zero _
+-- faces at the rim, counted one after another
+pub rim-none : (s : List ℕ) → rimFaces s 0 ≡ 0
+unfolding rimFaces
+rim-none s = sum-zero _
 
-pub boundary-more : (s : List ℕ) (f : ℕ) → boundaryFaces s (f + 1) ≡ boundaryFaces s f + cond (isBoundary s f) 1 0
-unfolding boundaryFaces
-boundary-more s f = sum-more f (λ k. cond (isBoundary s k) 1 0)
+pub rim-more : (s : List ℕ) (f : ℕ) → rimFaces s (f + 1) ≡ rimFaces s f + cond (isRim s f) 1 0
+unfolding rimFaces
+rim-more s f = sum-more f (λ k. cond (isRim s k) 1 0)
 
 one-most : (b : Bool) → cond b 1 0 ≤ 1
 one-most true = omega arith
 one-most false = omega arith
 
-pub boundary-le : (s : List ℕ) (n : ℕ) → boundaryFaces s n ≤ n
-unfolding boundaryFaces
-boundary-le s n = omega (arith, sum-bound n 1 (λ k. cond (isBoundary s k) 1 0) (λ k l. one-most (isBoundary s k)))
+pub rim-le : (s : List ℕ) (n : ℕ) → rimFaces s n ≤ n
+unfolding rimFaces
+rim-le s n = omega (arith, sum-bound n 1 (λ k. cond (isRim s k) 1 0) (λ k l. one-most (isRim s k)))
 
 -- the place of the next outside value, and room for this one
 outside-width : (b : Bool) (w : ℕ) → cond b w 0 ≡ cond b 1 0 * w
 outside-width true w = omega arith
 outside-width false w = omega arith
 
-pub outside-next : (s : List ℕ) (f : ℕ) → boundaryFaces s f * outsideBits + cond (isBoundary s f) outsideBits 0 ≡ boundaryFaces s (f + 1) * outsideBits
-outside-next s f = omega (arith, boundary-more s f, outside-width (isBoundary s f) outsideBits)
+pub outside-next : (s : List ℕ) (f : ℕ) → rimFaces s f * outsideBits + cond (isRim s f) outsideBits 0 ≡ rimFaces s (f + 1) * outsideBits
+outside-next s f = omega (arith, rim-more s f, outside-width (isRim s f) outsideBits)
 
-pub boundary-part : (s : List ℕ) (m n : ℕ) → m ≤ n → boundaryFaces s m ≤ boundaryFaces s n
-unfolding boundaryFaces
-boundary-part s m n l = sum-part m n (λ k. cond (isBoundary s k) 1 0) l
+pub rim-part : (s : List ℕ) (m n : ℕ) → m ≤ n → rimFaces s m ≤ rimFaces s n
+unfolding rimFaces
+rim-part s m n l = sum-part m n (λ k. cond (isRim s k) 1 0) l
 
 -- whole bytes hold the bits, and 7 more at most
 pub bytes-hold : (n : ℕ) → n ≤ 8 * bytesFor n
@@ -129,20 +129,20 @@ unfolding bytesFor
 bytes-most n = omega arith
 
 -- what a record that passed its length and its tables says
-pub record MeshTablesSay (bs : List ℕ) (volumes firsts seconds weights spans : ℕ) : Type 0 where
+pub record MeshTablesSay (bs : List ℕ) (volumes firsts seconds shares reaches : ℕ) : Type 0 where
   pub same-length : length bs ≡ bytesFor (meshBits (cellsIn bs) (facesIn bs))
   pub volumes-long : cellsIn bs ≤ volumes
   pub firsts-long : facesIn bs ≤ firsts
   pub seconds-long : facesIn bs ≤ seconds
-  pub weights-long : facesIn bs ≤ weights
-  pub spans-long : facesIn bs ≤ spans
+  pub shares-long : facesIn bs ≤ shares
+  pub reaches-long : facesIn bs ≤ reaches
 
-pub mesh-tables-say : (bs : List ℕ) (volumes firsts seconds weights spans : ℕ)
+pub mesh-tables-say : (bs : List ℕ) (volumes firsts seconds shares reaches : ℕ)
     → (hasLength bs (meshLength (cellsIn bs) (facesIn bs)) andThen long 0 (cellsIn bs) volumes andThen long 1 (facesIn bs) firsts
-    andThen long 2 (facesIn bs) seconds andThen long 3 (facesIn bs) weights andThen long 4 (facesIn bs) spans) ≡ fine
-    → MeshTablesSay bs volumes firsts seconds weights spans
+    andThen long 2 (facesIn bs) seconds andThen long 3 (facesIn bs) shares andThen long 4 (facesIn bs) reaches) ≡ fine
+    → MeshTablesSay bs volumes firsts seconds shares reaches
 unfolding meshLength
-mesh-tables-say bs volumes firsts seconds weights spans e =
+mesh-tables-say bs volumes firsts seconds shares reaches e =
     let a = both-fine _ _ e in
     let b = both-fine _ _ (a .0) in
     let c = both-fine _ _ (b .0) in
@@ -153,8 +153,8 @@ mesh-tables-say bs volumes firsts seconds weights spans e =
       volumes-long = leb-le _ _ (need-fine 2 0 _ (g .1));
       firsts-long = leb-le _ _ (need-fine 2 1 _ (d .1));
       seconds-long = leb-le _ _ (need-fine 2 2 _ (c .1));
-      weights-long = leb-le _ _ (need-fine 2 3 _ (b .1));
-      spans-long = leb-le _ _ (need-fine 2 4 _ (a .1));
+      shares-long = leb-le _ _ (need-fine 2 3 _ (b .1));
+      reaches-long = leb-le _ _ (need-fine 2 4 _ (a .1));
     }
 
 pub record FieldTablesSay (cells : ℕ) (bs : List ℕ) (masses : ℕ) : Type 0 where

@@ -16,16 +16,16 @@ use Rattle.lists.proofs.Tables.{table-cong}
 use Rattle.lists.proofs.Tests.{eqb-yes, eqb-no, le-leb}
 use Rattle.signed.specs.Sign.{size, isNegative}
 use Rattle.signed.proofs.Laws.{withSign-of}
-use Rattle.model.specs.Mesh.{Mesh, volume, first, second, weight, span, maxCells, maxFaces}
+use Rattle.model.specs.Mesh.{Mesh, volume, first, second, share, reach, maxCells, maxFaces}
 use Rattle.model.specs.Causes.{accepted, fine, countsWithin}
 use Rattle.model.proofs.Verdicts.{need-met, fine-each, past}
 use Rattle.bits.specs.Field.{bitAt, bitsAt}
 use Rattle.bits.specs.Layout.{Field, field, widthOf, bytesFor, packed, rows}
 use Rattle.bits.proofs.Fields.{bits-bit}
 use Rattle.bits.proofs.Layouts.{length-packed, packed-pad, width-append, width-rows-of, Stands, stands-here, stands-later, stands-left, stands-right, stands-row, stands-row-of, read-packed}
-use Rattle.records.specs.Layouts.{volumeBits, endBits, weightBits, spanBits, massBits, signBits, sizeBits, outsideBits, meshHeadBits, fieldHeadBits, stepHeadBits, faceBits, fluxBits, meshZeroBits, stepZeroBits, meshKind, fieldKind, stepKind, meshHead, cellRow, faceRow, meshFields, fieldHead, massRow, fieldFields, isBoundary, stepHead, fluxRow, outsideRow, stepFields, meshRecord, fieldRecord, stepRecord, boundaryFaces, meshBits, fieldBits, stepBits, meshLength, fieldLength, stepLength}
-use Rattle.records.specs.Reading.{kindIn, cellsIn, facesIn, countsIn, stepFacesIn, facePlace, volumesIn, firstsIn, secondsIn, weightsIn, spansIn, massesIn, outsidePlace, fluxesIn, outsidesIn, minusZero, zeroBitGood, meshBitGood, stepBitGood, meshHeadVerdict, meshBodyVerdict, meshRead, fieldHeadVerdict, fieldBodyVerdict, fieldRead, stepHeadVerdict, stepBodyVerdict, stepRead}
-use Rattle.records.proofs.HeadLaws.{boundary-none, boundary-more}
+use Rattle.records.specs.Layouts.{volumeBits, endBits, shareBits, reachBits, massBits, signBits, sizeBits, outsideBits, meshHeadBits, fieldHeadBits, stepHeadBits, faceBits, fluxBits, meshZeroBits, stepZeroBits, meshKind, fieldKind, stepKind, meshHead, cellRow, faceRow, meshFields, fieldHead, massRow, fieldFields, isRim, stepHead, fluxRow, outsideRow, stepFields, meshRecord, fieldRecord, stepRecord, rimFaces, meshBits, fieldBits, stepBits, meshLength, fieldLength, stepLength}
+use Rattle.records.specs.Reading.{kindIn, cellsIn, facesIn, countsIn, stepFacesIn, facePlace, volumesIn, firstsIn, secondsIn, sharesIn, reachesIn, massesIn, outsidePlace, fluxesIn, outsidesIn, minusZero, zeroBitGood, meshBitGood, stepBitGood, meshHeadVerdict, meshBodyVerdict, meshRead, fieldHeadVerdict, fieldBodyVerdict, fieldRead, stepHeadVerdict, stepBodyVerdict, stepRead}
+use Rattle.records.proofs.HeadLaws.{rim-none, rim-more}
 use Rattle.records.proofs.ZeroLaws.{bit-clear, bit-used, minus-at, no-minus}
 use Rattle.records.proofs.ReadLaws.{both-past}
 
@@ -81,8 +81,8 @@ pub record MeshSpelled (M : Mesh) : Type 0 where
   pub volume-fits : (c : ℕ) → c < M .cells → volume M c < 4096
   pub first-fits : (f : ℕ) → f < M .faces → first M f < 4096
   pub second-fits : (f : ℕ) → f < M .faces → second M f < 4096
-  pub weight-fits : (f : ℕ) → f < M .faces → weight M f < 256
-  pub span-fits : (f : ℕ) → f < M .faces → span M f < 4096
+  pub share-fits : (f : ℕ) → f < M .faces → share M f < 256
+  pub reach-fits : (f : ℕ) → f < M .faces → reach M f < 4096
 
 pub front-width : (M : Mesh) → widthOf (meshHead (M .cells) (M .faces) ++ rows (M .cells) (cellRow M)) ≡ meshHeadBits + M .cells * volumeBits
 unfolding widthOf
@@ -157,15 +157,15 @@ module _ (M : Mesh) (s : MeshSpelled M) where
   unfolding secondsIn
   seconds-back = column-back endBits endBits (second M) (λ f. facePlace (meshRecord M) f + endBits) (λ f. stands-later stands-here) (s .second-fits) (λ f. omega (arith, mesh-cells))
 
-  pub weights-back : weightsIn (meshRecord M) ≡ table (M .faces) (weight M)
-  unfolding weightsIn
-  weights-back =
-      column-back (endBits + endBits) weightBits (weight M) (λ f. facePlace (meshRecord M) f + endBits + endBits) (λ f. stands-later (stands-later stands-here)) (s .weight-fits) (λ f. omega (arith, mesh-cells))
+  pub shares-back : sharesIn (meshRecord M) ≡ table (M .faces) (share M)
+  unfolding sharesIn
+  shares-back =
+      column-back (endBits + endBits) shareBits (share M) (λ f. facePlace (meshRecord M) f + endBits + endBits) (λ f. stands-later (stands-later stands-here)) (s .share-fits) (λ f. omega (arith, mesh-cells))
 
-  pub spans-back : spansIn (meshRecord M) ≡ table (M .faces) (span M)
-  unfolding spansIn
-  spans-back =
-      column-back (endBits + endBits + weightBits) spanBits (span M) (λ f. facePlace (meshRecord M) f + endBits + endBits + weightBits) (λ f. stands-later (stands-later (stands-later stands-here))) (s .span-fits)
+  pub reaches-back : reachesIn (meshRecord M) ≡ table (M .faces) (reach M)
+  unfolding reachesIn
+  reaches-back =
+      column-back (endBits + endBits + shareBits) reachBits (reach M) (λ f. facePlace (meshRecord M) f + endBits + endBits + shareBits) (λ f. stands-later (stands-later (stands-later stands-here))) (s .reach-fits)
       (λ f. omega (arith, mesh-cells))
 
 -- a field
@@ -199,18 +199,18 @@ module _ (cells : ℕ) (masses : List ℕ) (few : cells < 4096) (fits : (c : ℕ
   masses-back = table-cong {A = ℕ} 0 cells (λ c. bitsAt (fieldRecord cells masses) (fieldHeadBits + c * massBits) massBits) (λ c. getD masses c 0) mass-back
 
 -- a step
-pub outside-rows : (seconds outsides : List ℕ) (n : ℕ) → widthOf (rows n (outsideRow seconds outsides)) ≡ boundaryFaces seconds n * outsideBits
+pub outside-rows : (seconds outsides : List ℕ) (n : ℕ) → widthOf (rows n (outsideRow seconds outsides)) ≡ rimFaces seconds n * outsideBits
 unfolding rows widthOf
-outside-rows seconds outsides zero = rw (boundary-none seconds) (omega arith)
+outside-rows seconds outsides zero = rw (rim-none seconds) (omega arith)
 outside-rows seconds outsides (suc n) =
-    omega (arith, width-append (rows n (outsideRow seconds outsides)) (outsideRow seconds outsides n), outside-rows seconds outsides n, row (isBoundary seconds n), more)
+    omega (arith, width-append (rows n (outsideRow seconds outsides)) (outsideRow seconds outsides n), outside-rows seconds outsides n, row (isRim seconds n), more)
   where
     row : (b : Bool) → widthOf (cond b (field outsideBits (getD outsides n 0) ∷ []) []) ≡ cond b 1 0 * outsideBits
     row true = refl
     row false = refl
 
-    more : boundaryFaces seconds (suc n) ≡ boundaryFaces seconds n + cond (isBoundary seconds n) 1 0
-    more = rw (add-one n) at (boundary-more seconds n)
+    more : rimFaces seconds (suc n) ≡ rimFaces seconds n + cond (isRim seconds n) 1 0
+    more = rw (add-one n) at (rim-more seconds n)
 
 -- a sign of 0 or 1, and its size
 sign-fits : (b : Bool) → cond b 1 0 < 2
@@ -270,18 +270,18 @@ module _ (faces : ℕ) (seconds : List ℕ) (fluxes : List ℤ) (outsides : List
   unfolding fluxesIn
   fluxes-back = table-cong (pos 0) faces _ (λ f. getD fluxes f (pos 0)) (λ f l. rw (sign-read f l, size-read f l, sign-back (isNegative (getD fluxes f (pos 0)))) (withSign-of (getD fluxes f (pos 0))))
 
-  outside-read : (f : ℕ) → f < faces → isBoundary seconds f ≡ true → bitsAt (stepRecord faces seconds fluxes outsides) (outsidePlace (stepRecord faces seconds fluxes outsides) faces seconds f) outsideBits ≡ getD outsides f 0
+  outside-read : (f : ℕ) → f < faces → isRim seconds f ≡ true → bitsAt (stepRecord faces seconds fluxes outsides) (outsidePlace (stepRecord faces seconds fluxes outsides) faces seconds f) outsideBits ≡ getD outsides f 0
   unfolding stepRecord
   outside-read f l b =
       let here : Stands (outsideRow seconds outsides f) 0 outsideBits (getD outsides f 0) = rw b stands-here in
       read-packed (stepFields faces seconds fluxes outsides) (stands-right (stepHead faces ++ rows faces (fluxRow fluxes)) (stands-row faces (outsideRow seconds outsides) f l here))
       (omega (arith, fluxes-width faces fluxes, outside-rows seconds outsides f)) (values f l)
 
-  pub outsides-back : ((f : ℕ) → f < faces → isBoundary seconds f ≡ false → getD outsides f 0 ≡ 0) → outsidesIn (stepRecord faces seconds fluxes outsides) faces seconds ≡ table faces (λ f. getD outsides f 0)
+  pub outsides-back : ((f : ℕ) → f < faces → isRim seconds f ≡ false → getD outsides f 0 ≡ 0) → outsidesIn (stepRecord faces seconds fluxes outsides) faces seconds ≡ table faces (λ f. getD outsides f 0)
   unfolding outsidesIn
-  outsides-back none = table-cong {A = ℕ} 0 faces _ (λ f. getD outsides f 0) (λ f l. go f l (isBoundary seconds f) refl)
+  outsides-back none = table-cong {A = ℕ} 0 faces _ (λ f. getD outsides f 0) (λ f l. go f l (isRim seconds f) refl)
     where
-      go : (f : ℕ) → f < faces → (b : Bool) → isBoundary seconds f ≡ b
+      go : (f : ℕ) → f < faces → (b : Bool) → isRim seconds f ≡ b
           → cond b (bitsAt (stepRecord faces seconds fluxes outsides) (outsidePlace (stepRecord faces seconds fluxes outsides) faces seconds f) outsideBits) 0 ≡ getD outsides f 0
       go f l true e = outside-read f l e
       go f l false e = sym (none f l e)

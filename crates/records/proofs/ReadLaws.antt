@@ -24,7 +24,7 @@ both-past e q = past _ e ∙ q
 
 module _ {bs v f s w k : List ℕ} {o : Outcome Counts} where
   pub mesh-refused : {r : Refusal} → o ≡ told r → MeshReading o bs v f s w k (mesh.Refused r) v f s w k
-  mesh-refused e = record { answer = sym e; volumes-read = rw e; firsts-read = rw e; seconds-read = rw e; weights-read = rw e; spans-read = rw e }
+  mesh-refused e = record { answer = sym e; volumes-read = rw e; firsts-read = rw e; seconds-read = rw e; shares-read = rw e; reaches-read = rw e }
 
   pub mesh-accepted : {n : Counts} {v′ f′ s′ w′ k′ : List ℕ} → o ≡ accepted n → MeshFilled bs v f s w k v′ f′ s′ w′ k′ → MeshReading o bs v f s w k (mesh.Read n) v′ f′ s′ w′ k′
   mesh-accepted e d = record {
@@ -32,8 +32,8 @@ module _ {bs v f s w k : List ℕ} {o : Outcome Counts} where
     volumes-read = rw e (d .volumes-full);
     firsts-read = rw e (d .firsts-full);
     seconds-read = rw e (d .seconds-full);
-    weights-read = rw e (d .weights-full);
-    spans-read = rw e (d .spans-full);
+    shares-read = rw e (d .shares-full);
+    reaches-read = rw e (d .reaches-full);
   }
 
 module _ {cells : ℕ} {bs m : List ℕ} {o : Verdict} where

@@ -11,27 +11,27 @@ use native.Mathlib.Omega.{arith}
 use lib.IntN.{pos}
 use lib.ListN.{length, getD}
 use Rattle.lists.specs.Table.{table}
-use Rattle.model.specs.Mesh.{Mesh, volume, first, second, weight, span, maxCells, maxFaces}
+use Rattle.model.specs.Mesh.{Mesh, volume, first, second, share, reach, maxCells, maxFaces}
 use Rattle.model.specs.Causes.{accepted, fine, each, Call, counts, countsWithin, meshValues, fieldValues, outsideGood, fluxGood}
 use Rattle.model.proofs.Accepted.{counted}
 use Rattle.records.specs.Layouts.{meshRecord, fieldRecord, stepRecord}
-use Rattle.records.specs.Reading.{meshIn, countsIn, volumesIn, firstsIn, secondsIn, weightsIn, spansIn, massesIn, fluxesIn, outsidesIn, meshRead, fieldRead, stepRead}
+use Rattle.records.specs.Reading.{meshIn, countsIn, volumesIn, firstsIn, secondsIn, sharesIn, reachesIn, massesIn, fluxesIn, outsidesIn, meshRead, fieldRead, stepRead}
 use Rattle.records.specs.declared.Counts.{Counts}
-use Rattle.records.proofs.Packed.{mesh-reads, mesh-kind, mesh-cells, mesh-faces, mesh-record-length, mesh-bits-good, volumes-back, firsts-back, seconds-back, weights-back, spans-back, field-reads, field-kind, field-cells, field-record-length, masses-back, step-reads, step-kind, step-faces, step-record-length, step-bits-good, fluxes-back, outsides-back}
+use Rattle.records.proofs.Packed.{mesh-reads, mesh-kind, mesh-cells, mesh-faces, mesh-record-length, mesh-bits-good, volumes-back, firsts-back, seconds-back, shares-back, reaches-back, field-reads, field-kind, field-cells, field-record-length, masses-back, step-reads, step-kind, step-faces, step-record-length, step-bits-good, fluxes-back, outsides-back}
 use Rattle.records.proofs.WidthLaws.{spelled, masses-fit, sizes-fit, outsides-fit, none-inside}
 use Rattle.records.proofs.Again.{mesh-again, field-again, step-again}
 
 -- Reading undoes writing: a mesh.
 module _ (M : Mesh) (within : counts M ≡ fine) (passes : meshValues M ≡ fine) where
-  pub mesh-read-back : (mostCells mostFaces volumes firsts seconds weights spans : ℕ) → countsWithin (min mostCells maxCells) (min mostFaces maxFaces) (M .cells) (M .faces) ≡ fine
-      → M .cells ≤ volumes → M .faces ≤ firsts → M .faces ≤ seconds → M .faces ≤ weights → M .faces ≤ spans
-      → meshRead mostCells mostFaces (meshRecord M) volumes firsts seconds weights spans ≡ accepted (record { cells = M .cells; faces = M .faces })
-  mesh-read-back mostCells mostFaces volumes firsts seconds weights spans limits lv lf ls lw lk =
+  pub mesh-read-back : (mostCells mostFaces volumes firsts seconds shares reaches : ℕ) → countsWithin (min mostCells maxCells) (min mostFaces maxFaces) (M .cells) (M .faces) ≡ fine
+      → M .cells ≤ volumes → M .faces ≤ firsts → M .faces ≤ seconds → M .faces ≤ shares → M .faces ≤ reaches
+      → meshRead mostCells mostFaces (meshRecord M) volumes firsts seconds shares reaches ≡ accepted (record { cells = M .cells; faces = M .faces })
+  mesh-read-back mostCells mostFaces volumes firsts seconds shares reaches limits lv lf ls lw lk =
       let s = spelled M within passes in
       let c = mesh-cells M s in
       let n = mesh-faces M s in
       let same-counts : countsIn (meshRecord M) ≡ record { cells = M .cells; faces = M .faces } = rw (c, n) in
-      mesh-reads (meshRecord M) mostCells mostFaces volumes firsts seconds weights spans (mesh-kind M s) (rw (c, n) limits) (rw (c, n) (mesh-record-length M s))
+      mesh-reads (meshRecord M) mostCells mostFaces volumes firsts seconds shares reaches (mesh-kind M s) (rw (c, n) limits) (rw (c, n) (mesh-record-length M s))
       (rw c lv) (rw n lf) (rw n ls) (rw n lw) (rw n lk) (λ i. rw (c, n) (mesh-bits-good M s i)) ∙ ap accepted same-counts
 
   pub volumes-read-back : volumesIn (meshRecord M) ≡ table (M .cells) (volume M)
@@ -43,11 +43,11 @@ module _ (M : Mesh) (within : counts M ≡ fine) (passes : meshValues M ≡ fine
   pub seconds-read-back : secondsIn (meshRecord M) ≡ table (M .faces) (second M)
   seconds-read-back = seconds-back M (spelled M within passes)
 
-  pub weights-read-back : weightsIn (meshRecord M) ≡ table (M .faces) (weight M)
-  weights-read-back = weights-back M (spelled M within passes)
+  pub shares-read-back : sharesIn (meshRecord M) ≡ table (M .faces) (share M)
+  shares-read-back = shares-back M (spelled M within passes)
 
-  pub spans-read-back : spansIn (meshRecord M) ≡ table (M .faces) (span M)
-  spans-read-back = spans-back M (spelled M within passes)
+  pub reaches-read-back : reachesIn (meshRecord M) ≡ table (M .faces) (reach M)
+  reaches-read-back = reaches-back M (spelled M within passes)
 
 -- A field on it.
 module _ (M : Mesh) (within : counts M ≡ fine) (passes : meshValues M ≡ fine) (field : List ℕ) (salt : fieldValues M field ≡ fine) where
@@ -89,8 +89,8 @@ module _ (M : Mesh) (within : counts M ≡ fine) (passes : meshValues M ≡ fine
 
 -- Writing undoes reading. Nothing is asked of the values here: they fit their fields, from which they were read. A writer asks 3 to 8.
 module _ (bs : List ℕ) (bytes : (j : ℕ) → getD bs j 0 < 256) where
-  pub mesh-written-back : {n : Counts} (mostCells mostFaces volumes firsts seconds weights spans : ℕ) → meshRead mostCells mostFaces bs volumes firsts seconds weights spans ≡ accepted n → meshRecord (meshIn bs) ≡ bs
-  mesh-written-back mostCells mostFaces volumes firsts seconds weights spans e = mesh-again bs bytes mostCells mostFaces volumes firsts seconds weights spans e
+  pub mesh-written-back : {n : Counts} (mostCells mostFaces volumes firsts seconds shares reaches : ℕ) → meshRead mostCells mostFaces bs volumes firsts seconds shares reaches ≡ accepted n → meshRecord (meshIn bs) ≡ bs
+  mesh-written-back mostCells mostFaces volumes firsts seconds shares reaches e = mesh-again bs bytes mostCells mostFaces volumes firsts seconds shares reaches e
 
   pub field-written-back : (cells masses : ℕ) → fieldRead cells bs masses ≡ fine → fieldRecord cells (massesIn bs cells) ≡ bs
   field-written-back cells masses e = field-again bs bytes cells masses e

@@ -9,12 +9,12 @@ use lib.IntN.{pos}
 use lib.ListN.{getD}
 use Rattle.lists.proofs.Tests.{Same, same, other, same?, leb-le}
 use Rattle.signed.specs.Sign.{size, isNegative}
-use Rattle.model.specs.Mesh.{Mesh, volume, second, span, atBoundary, boundary, maxVolume, maxConcentration, maxBoundaryFlux}
+use Rattle.model.specs.Mesh.{Mesh, volume, second, reach, atRim, rim, maxVolume, maxConcentration, maxRimFlux}
 use Rattle.model.specs.Step.{outside}
 use Rattle.model.specs.Causes.{fine, each, Call, counts, meshValues, fieldValues, outsideGood, fluxGood}
 use Rattle.model.proofs.Accepted.{mesh-fit, field-fit, water-fit, counted}
 use Rattle.model.proofs.Verdicts.{each-fine}
-use Rattle.records.specs.Layouts.{isBoundary}
+use Rattle.records.specs.Layouts.{isRim}
 use Rattle.records.proofs.Packed.{MeshSpelled}
 
 pub spelled : (M : Mesh) → counts M ≡ fine → meshValues M ≡ fine → MeshSpelled M
@@ -26,12 +26,12 @@ spelled M c e =
       faces-fit = omega (arith, n .few-faces);
       volume-fits = λ i l. omega (arith, m .volume-most i l);
       first-fits = λ f l. omega (arith, m .first-in f l, n .few-cells);
-      second-fits = λ f l. seconds f l (same? (second M f) boundary);
-      weight-fits = λ f l. omega (arith, m .weight-most f l);
-      span-fits = λ f l. omega (arith, m .span-most f l);
+      second-fits = λ f l. seconds f l (same? (second M f) rim);
+      share-fits = λ f l. omega (arith, m .share-most f l);
+      reach-fits = λ f l. omega (arith, m .reach-most f l);
     }
   where
-    seconds : (f : ℕ) → f < M .faces → {b : Bool} → Same (second M f) boundary b → second M f < 4096
+    seconds : (f : ℕ) → f < M .faces → {b : Bool} → Same (second M f) rim b → second M f < 4096
     seconds f l (same q) = omega arith
     seconds f l (other d) = omega (arith, mesh-fit M e .second-in f l d, counted M c .few-cells)
 
@@ -45,19 +45,19 @@ module _ (M : Mesh) (passes : meshValues M ≡ fine) (field : List ℕ) (salt : 
 module _ (M : Mesh) (passes : meshValues M ≡ fine) (field : List ℕ) (k : Call)
     (outsides-pass : each 7 (M .faces) (outsideGood M field k) ≡ fine) (fluxes-pass : each 8 (M .faces) (fluxGood M field k) ≡ fine) where
   pub sizes-fit : (f : ℕ) → f < M .faces → size (getD (k .fluxes) f (pos 0)) < 4096
-  sizes-fit f l = go (atBoundary M f) (water-fit M field k outsides-pass fluxes-pass .flux-most f l)
+  sizes-fit f l = go (atRim M f) (water-fit M field k outsides-pass fluxes-pass .flux-most f l)
     where
-      go : (b : Bool) → size (getD (k .fluxes) f (pos 0)) ≤ cond b maxBoundaryFlux (span M f) → size (getD (k .fluxes) f (pos 0)) < 4096
+      go : (b : Bool) → size (getD (k .fluxes) f (pos 0)) ≤ cond b maxRimFlux (reach M f) → size (getD (k .fluxes) f (pos 0)) < 4096
       go true h = omega arith
-      go false h = omega (arith, mesh-fit M passes .span-most f l)
+      go false h = omega (arith, mesh-fit M passes .reach-most f l)
 
   pub outsides-fit : (f : ℕ) → f < M .faces → getD (k .outsides) f 0 < 1048576
   outsides-fit f l = omega (arith, water-fit M field k outsides-pass fluxes-pass .outside-most f l)
 
-  -- away from the boundary the outside value is 0
-  pub none-inside : (f : ℕ) → f < M .faces → isBoundary (M .seconds) f ≡ false → getD (k .outsides) f 0 ≡ 0
+  -- away from the rim the outside value is 0
+  pub none-inside : (f : ℕ) → f < M .faces → isRim (M .seconds) f ≡ false → getD (k .outsides) f 0 ≡ 0
   unfolding outsideGood
   none-inside f l e =
-      let g : getD (k .outsides) f 0 ≤ cond (atBoundary M f && isNegative (getD (k .fluxes) f (pos 0))) maxConcentration 0 = leb-le _ _ (each-fine 7 (M .faces) (outsideGood M field k) outsides-pass f l) in
+      let g : getD (k .outsides) f 0 ≤ cond (atRim M f && isNegative (getD (k .fluxes) f (pos 0))) maxConcentration 0 = leb-le _ _ (each-fine 7 (M .faces) (outsideGood M field k) outsides-pass f l) in
       let h : getD (k .outsides) f 0 ≤ 0 = rw e at g in
       omega arith

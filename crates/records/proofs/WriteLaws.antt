@@ -17,10 +17,10 @@ use Rattle.model.proofs.Accepted.{MeshLent, counted, mesh-lent, field-lent}
 use Rattle.bits.specs.Put.{Put}
 use Rattle.bits.specs.Layout.{Field, field, widthOf, bytesFor, packed, rows}
 use Rattle.records.specs.declared.WriteAnswer.the-variants as write
-use Rattle.records.specs.Layouts.{signBits, outsideBits, meshHead, cellRow, faceRow, meshFields, fieldHead, massRow, fieldFields, stepHead, fluxRow, outsideRow, stepFields, isBoundary, meshRecord, fieldRecord, stepRecord, meshLength, fieldLength, stepLength}
+use Rattle.records.specs.Layouts.{signBits, outsideBits, meshHead, cellRow, faceRow, meshFields, fieldHead, massRow, fieldFields, stepHead, fluxRow, outsideRow, stepFields, isRim, meshRecord, fieldRecord, stepRecord, meshLength, fieldLength, stepLength}
 use Rattle.records.specs.Writing.{bytesLong, waterOf, meshWriteVerdict, fieldWriteVerdict, stepWriteVerdict, Writing}
 use Rattle.records.specs.Putting.{AllFit, Room, Laid, Whole, Wrote}
-use Rattle.records.proofs.HeadLaws.{bytes-hold, boundary-le}
+use Rattle.records.proofs.HeadLaws.{bytes-hold, rim-le}
 use Rattle.records.proofs.Packed.{mesh-width, field-width, step-width}
 use Rattle.records.proofs.WidthLaws.{spelled, masses-fit, sizes-fit, outsides-fit}
 use Rattle.records.proofs.PutLaws.{fit-append, fit-rows, laid-length, laid-append, room-left, room-right, record-laid}
@@ -99,7 +99,7 @@ module _ (M : Mesh) where
       let s = spelled M c e in
       fit-append (meshHead (M .cells) (M .faces) ++ rows (M .cells) (cellRow M)) (rows (M .faces) (faceRow M))
       (fit-append (meshHead (M .cells) (M .faces)) (rows (M .cells) (cellRow M)) (omega arith, (s .cells-fit, (s .faces-fit, (omega arith, tt)))) (fit-rows (M .cells) (cellRow M) (λ i l. (s .volume-fits i l, tt))))
-      (fit-rows (M .faces) (faceRow M) (λ f l. (s .first-fits f l, (s .second-fits f l, (s .weight-fits f l, (s .span-fits f l, tt))))))
+      (fit-rows (M .faces) (faceRow M) (λ f l. (s .first-fits f l, (s .second-fits f l, (s .share-fits f l, (s .reach-fits f l, tt))))))
 
   -- what a mesh that is put has passed
   pub mesh-whole : {bs : List ℕ} → meshWriteVerdict M (length bs) ≡ fine → MeshLent M × Whole bs (meshFields M)
@@ -182,7 +182,7 @@ module _ (M : Mesh) (fluxes : List ℤ) (outsides : List ℕ) where
       fit-append (stepHead (M .faces) ++ rows (M .faces) (fluxRow fluxes)) (rows (M .faces) (outsideRow (M .seconds) outsides))
       (fit-append (stepHead (M .faces)) (rows (M .faces) (fluxRow fluxes)) (omega arith, (omega arith, (omega arith, tt)))
       (fit-rows (M .faces) (fluxRow fluxes) (λ f l. (sign-fits (isNegative (getD fluxes f (pos 0))), (sizes f l, tt)))))
-      (fit-rows (M .faces) (outsideRow (M .seconds) outsides) (λ f l. outside-fits (isBoundary (M .seconds) f) (getD outsides f 0) (values f l)))
+      (fit-rows (M .faces) (outsideRow (M .seconds) outsides) (λ f l. outside-fits (isRim (M .seconds) f) (getD outsides f 0) (values f l)))
 
   pub step-whole : {bs : List ℕ} → stepWriteVerdict M fluxes outsides (length bs) ≡ fine
       → (M .faces ≤ length (M .seconds)) × (M .faces ≤ length fluxes) × (M .faces ≤ length outsides) × Whole bs (stepFields (M .faces) (M .seconds) fluxes outsides)
@@ -201,7 +201,7 @@ module _ (M : Mesh) (fluxes : List ℤ) (outsides : List ℕ) where
         leb-le _ _ (need-fine 2 7 _ (g .1)),
         record {
           enough = rw (step-width (M .faces) (M .seconds) fluxes outsides) (leb-le _ _ (need-fine 2 11 _ (f .1)));
-          few = rw (step-width (M .faces) (M .seconds) fluxes outsides) (omega (arith, n .few-faces, boundary-le (M .seconds) (M .faces)));
+          few = rw (step-width (M .faces) (M .seconds) fluxes outsides) (omega (arith, n .few-faces, rim-le (M .seconds) (M .faces)));
           fit = step-fits (n .few-faces) (d .1) (b .1) (a .1);
         },
       )

@@ -14,7 +14,7 @@ use Rattle.records.specs.declared.LengthAnswer.{LengthAnswer}
 use Rattle.records.specs.declared.LengthAnswer.the-variants as needs
 use Rattle.records.specs.declared.WriteAnswer.{WriteAnswer}
 use Rattle.records.specs.declared.WriteAnswer.the-variants as write
-use Rattle.records.specs.Reading.{volumesIn, firstsIn, secondsIn, weightsIn, spansIn, massesIn, fluxesIn, outsidesIn}
+use Rattle.records.specs.Reading.{volumesIn, firstsIn, secondsIn, sharesIn, reachesIn, massesIn, fluxesIn, outsidesIn}
 
 abbrev pub meshSaid : MeshAnswer → Outcome Counts
 meshSaid (mesh.Read n) = accepted n
@@ -31,13 +31,13 @@ writeSaid (write.Refused r) = told r
 
 -- A reading that comes to o: its answer, and each table afterwards. "It fills the counted entries and no others"; a refused reading
 -- fills nothing.
-pub record MeshReading (o : Outcome Counts) (bs volumes firsts seconds weights spans : List ℕ) (r : MeshAnswer) (volumes′ firsts′ seconds′ weights′ spans′ : List ℕ) : Type 0 where
+pub record MeshReading (o : Outcome Counts) (bs volumes firsts seconds shares reaches : List ℕ) (r : MeshAnswer) (volumes′ firsts′ seconds′ shares′ reaches′ : List ℕ) : Type 0 where
   pub answer : meshSaid r ≡ o
   pub volumes-read : volumes′ ≡ taken o (over (volumesIn bs) volumes) volumes
   pub firsts-read : firsts′ ≡ taken o (over (firstsIn bs) firsts) firsts
   pub seconds-read : seconds′ ≡ taken o (over (secondsIn bs) seconds) seconds
-  pub weights-read : weights′ ≡ taken o (over (weightsIn bs) weights) weights
-  pub spans-read : spans′ ≡ taken o (over (spansIn bs) spans) spans
+  pub shares-read : shares′ ≡ taken o (over (sharesIn bs) shares) shares
+  pub reaches-read : reaches′ ≡ taken o (over (reachesIn bs) reaches) reaches
 
 pub record FieldReading (o : Verdict) (cells : ℕ) (bs masses : List ℕ) (r : Answer) (masses′ : List ℕ) : Type 0 where
   pub answer : said r ≡ o

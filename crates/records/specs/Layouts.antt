@@ -7,7 +7,7 @@ use lib.Dec.{eqb}
 use lib.IntN.{ℤ, pos}
 use Rattle.lists.specs.Fold.{sum}
 use Rattle.signed.specs.Sign.{size, isNegative}
-use Rattle.model.specs.Mesh.{Mesh, volume, first, second, weight, span, boundary}
+use Rattle.model.specs.Mesh.{Mesh, volume, first, second, share, reach, rim}
 use Rattle.bits.specs.Layout.{Field, field, bytesFor, packed, rows}
 
 -- "kind 1", "kind 2", "kind 3"
@@ -44,11 +44,11 @@ volumeBits = 12
 abbrev pub endBits : ℕ
 endBits = 12
 
-abbrev pub weightBits : ℕ
-weightBits = 8
+abbrev pub shareBits : ℕ
+shareBits = 8
 
-abbrev pub spanBits : ℕ
-spanBits = 12
+abbrev pub reachBits : ℕ
+reachBits = 12
 
 abbrev pub massBits : ℕ
 massBits = 32
@@ -73,7 +73,7 @@ abbrev pub stepHeadBits : ℕ
 stepHeadBits = kindBits + facesBits + stepZeroBits
 
 abbrev pub faceBits : ℕ
-faceBits = endBits + endBits + weightBits + spanBits
+faceBits = endBits + endBits + shareBits + reachBits
 
 abbrev pub fluxBits : ℕ
 fluxBits = signBits + sizeBits
@@ -86,7 +86,7 @@ abbrev pub cellRow : Mesh → ℕ → List Field
 cellRow M c = field volumeBits (volume M c) ∷ []
 
 abbrev pub faceRow : Mesh → ℕ → List Field
-faceRow M f = field endBits (first M f) ∷ field endBits (second M f) ∷ field weightBits (weight M f) ∷ field spanBits (span M f) ∷ []
+faceRow M f = field endBits (first M f) ∷ field endBits (second M f) ∷ field shareBits (share M f) ∷ field reachBits (reach M f) ∷ []
 
 abbrev pub meshFields : Mesh → List Field
 meshFields M = meshHead (M .cells) (M .faces) ++ rows (M .cells) (cellRow M) ++ rows (M .faces) (faceRow M)
@@ -102,9 +102,9 @@ abbrev pub fieldFields : ℕ → List ℕ → List Field
 fieldFields cells masses = fieldHead cells ++ rows cells (massRow masses)
 
 -- "step | kind 3 (4), faces (13), 15 zero bits | per face sign (1 is minus) and size (12); then outside value (20) per rim face in
--- face order". A rim face is one whose second is the boundary: a step record needs no more of the mesh than its seconds.
-abbrev pub isBoundary : List ℕ → ℕ → Bool
-isBoundary seconds f = eqb (getD seconds f 0) boundary
+-- face order". A rim face is one whose second is the rim: a step record needs no more of the mesh than its seconds.
+abbrev pub isRim : List ℕ → ℕ → Bool
+isRim seconds f = eqb (getD seconds f 0) rim
 
 abbrev pub stepHead : ℕ → List Field
 stepHead faces = field kindBits stepKind ∷ field facesBits faces ∷ field stepZeroBits 0 ∷ []
@@ -113,7 +113,7 @@ abbrev pub fluxRow : List ℤ → ℕ → List Field
 fluxRow fluxes f = field signBits (cond (isNegative (getD fluxes f (pos 0))) 1 0) ∷ field sizeBits (size (getD fluxes f (pos 0))) ∷ []
 
 abbrev pub outsideRow : List ℕ → List ℕ → ℕ → List Field
-outsideRow seconds outsides f = cond (isBoundary seconds f) (field outsideBits (getD outsides f 0) ∷ []) []
+outsideRow seconds outsides f = cond (isRim seconds f) (field outsideBits (getD outsides f 0) ∷ []) []
 
 abbrev pub stepFields : ℕ → List ℕ → List ℤ → List ℕ → List Field
 stepFields faces seconds fluxes outsides = stepHead faces ++ rows faces (fluxRow fluxes) ++ rows faces (outsideRow seconds outsides)
@@ -129,8 +129,8 @@ unfoldable pub stepRecord : ℕ → List ℕ → List ℤ → List ℕ → List 
 stepRecord faces seconds fluxes outsides = packed (stepFields faces seconds fluxes outsides)
 
 -- How many rim faces there are below face n.
-unfoldable pub boundaryFaces : List ℕ → ℕ → ℕ
-boundaryFaces seconds n = sum n (λ f. cond (isBoundary seconds f) 1 0)
+unfoldable pub rimFaces : List ℕ → ℕ → ℕ
+rimFaces seconds n = sum n (λ f. cond (isRim seconds f) 1 0)
 
 -- How many bits the fields of each record have, and how many bytes it is long: "zero bits up to a whole byte".
 abbrev pub meshBits : ℕ → ℕ → ℕ
@@ -140,7 +140,7 @@ abbrev pub fieldBits : ℕ → ℕ
 fieldBits cells = fieldHeadBits + cells * massBits
 
 abbrev pub stepBits : ℕ → List ℕ → ℕ
-stepBits faces seconds = stepHeadBits + faces * fluxBits + boundaryFaces seconds faces * outsideBits
+stepBits faces seconds = stepHeadBits + faces * fluxBits + rimFaces seconds faces * outsideBits
 
 unfoldable pub meshLength : ℕ → ℕ → ℕ
 meshLength cells faces = bytesFor (meshBits cells faces)

@@ -11,7 +11,7 @@ use Rattle.model.specs.Mesh.{Mesh, meshOf, maxCells, maxFaces}
 use Rattle.model.specs.Causes.{Outcome, accepted, Verdict, _andThen_, need, each, between, countsWithin, long}
 use Rattle.bits.specs.Field.{bitAt, bitsAt}
 use Rattle.bits.specs.Layout.{bytesFor}
-use Rattle.records.specs.Layouts.{meshKind, fieldKind, stepKind, kindBits, cellsBits, facesBits, meshZeroBits, stepZeroBits, volumeBits, endBits, weightBits, spanBits, massBits, signBits, sizeBits, outsideBits, meshHeadBits, fieldHeadBits, stepHeadBits, faceBits, fluxBits, isBoundary, boundaryFaces, meshBits, stepBits, meshLength, fieldLength, stepLength}
+use Rattle.records.specs.Layouts.{meshKind, fieldKind, stepKind, kindBits, cellsBits, facesBits, meshZeroBits, stepZeroBits, volumeBits, endBits, shareBits, reachBits, massBits, signBits, sizeBits, outsideBits, meshHeadBits, fieldHeadBits, stepHeadBits, faceBits, fluxBits, isRim, rimFaces, meshBits, stepBits, meshLength, fieldLength, stepLength}
 use Rattle.records.specs.declared.Counts.{Counts}
 
 -- Values: "Reading does not judge values." Each is the number that the bits at its place spell; places count from the record's first bit.
@@ -42,17 +42,17 @@ module _ (bs : List ℕ) where
   unfoldable pub secondsIn : List ℕ
   secondsIn = table facesIn (λ f. bitsAt bs (facePlace f + endBits) endBits)
 
-  unfoldable pub weightsIn : List ℕ
-  weightsIn = table facesIn (λ f. bitsAt bs (facePlace f + endBits + endBits) weightBits)
+  unfoldable pub sharesIn : List ℕ
+  sharesIn = table facesIn (λ f. bitsAt bs (facePlace f + endBits + endBits) shareBits)
 
-  unfoldable pub spansIn : List ℕ
-  spansIn = table facesIn (λ f. bitsAt bs (facePlace f + endBits + endBits + weightBits) spanBits)
+  unfoldable pub reachesIn : List ℕ
+  reachesIn = table facesIn (λ f. bitsAt bs (facePlace f + endBits + endBits + shareBits) reachBits)
 
   abbrev pub countsIn : Counts
   countsIn = record { cells = cellsIn; faces = facesIn }
 
   abbrev pub meshIn : Mesh
-  meshIn = meshOf cellsIn facesIn volumesIn firstsIn secondsIn weightsIn spansIn
+  meshIn = meshOf cellsIn facesIn volumesIn firstsIn secondsIn sharesIn reachesIn
 
   -- a field: "m (32) per cell"
   unfoldable pub massesIn : ℕ → List ℕ
@@ -73,10 +73,10 @@ module _ (bs : List ℕ) where
 
   -- "outsides away from the rim read 0"; 20 bits for each rim face before this one
   abbrev pub outsidePlace : ℕ → List ℕ → ℕ → ℕ
-  outsidePlace faces seconds f = stepHeadBits + faces * fluxBits + boundaryFaces seconds f * outsideBits
+  outsidePlace faces seconds f = stepHeadBits + faces * fluxBits + rimFaces seconds f * outsideBits
 
   unfoldable pub outsidesIn : ℕ → List ℕ → List ℕ
-  outsidesIn faces seconds = table faces (λ f. cond (isBoundary seconds f) (bitsAt bs (outsidePlace faces seconds f) outsideBits) 0)
+  outsidesIn faces seconds = table faces (λ f. cond (isRim seconds f) (bitsAt bs (outsidePlace faces seconds f) outsideBits) 0)
 
 -- 12: "a zero bit set, or minus with size 0", by the bit at i. The zero bits are those that end the head, and those after the last field.
 unfoldable pub zeroBitGood : List ℕ → ℕ → ℕ → ℕ → ℕ → Bool
@@ -133,9 +133,9 @@ stepNeeds faces seconds bs = stepHeadVerdict faces seconds bs andThen accepted (
 
 -- ".. length 11, 2, 12": what a record whose head is fine is refused for, read into tables of so many entries.
 unfoldable pub meshBodyVerdict : List ℕ → ℕ → ℕ → ℕ → ℕ → ℕ → Verdict
-meshBodyVerdict bs volumes firsts seconds weights spans = hasLength bs (meshLength (cellsIn bs) (facesIn bs))
+meshBodyVerdict bs volumes firsts seconds shares reaches = hasLength bs (meshLength (cellsIn bs) (facesIn bs))
     andThen long 0 (cellsIn bs) volumes andThen long 1 (facesIn bs) firsts andThen long 2 (facesIn bs) seconds
-    andThen long 3 (facesIn bs) weights andThen long 4 (facesIn bs) spans
+    andThen long 3 (facesIn bs) shares andThen long 4 (facesIn bs) reaches
     andThen each 12 (8 * length bs) (meshBitGood bs)
 
 unfoldable pub fieldBodyVerdict : ℕ → List ℕ → ℕ → Verdict
@@ -148,8 +148,8 @@ stepBodyVerdict faces seconds bs fluxes outsides = hasLength bs (stepLength face
 
 -- What each reading comes to.
 unfoldable pub meshRead : ℕ → ℕ → List ℕ → ℕ → ℕ → ℕ → ℕ → ℕ → Outcome Counts
-meshRead mostCells mostFaces bs volumes firsts seconds weights spans =
-    meshHeadVerdict mostCells mostFaces bs andThen meshBodyVerdict bs volumes firsts seconds weights spans andThen accepted (countsIn bs)
+meshRead mostCells mostFaces bs volumes firsts seconds shares reaches =
+    meshHeadVerdict mostCells mostFaces bs andThen meshBodyVerdict bs volumes firsts seconds shares reaches andThen accepted (countsIn bs)
 
 unfoldable pub fieldRead : ℕ → List ℕ → ℕ → Verdict
 fieldRead cells bs masses = fieldHeadVerdict cells bs andThen fieldBodyVerdict cells bs masses

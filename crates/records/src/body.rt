@@ -9,7 +9,7 @@ ghost use Rattle.lists.specs.Table.{table};
 ghost use Rattle.signed.specs.Sign.{withSign};
 ghost use Rattle.bits.specs.Field.{bitsAt};
 ghost use Rattle.records.specs.Bodies.{MeshRoom, MeshBody, StepRoom, StepBody};
-ghost use Rattle.records.specs.Layouts.{massBits, signBits, sizeBits, outsideBits, fluxBits, isBoundary, boundaryFaces};
+ghost use Rattle.records.specs.Layouts.{massBits, signBits, sizeBits, outsideBits, fluxBits, isRim, rimFaces};
 
 // A place in a body, in bits from the body's first.
 pub struct Body {
@@ -26,9 +26,9 @@ impl Body {
 
     pub const END: usize = 12;
 
-    pub const WEIGHT: usize = 8;
+    pub const SHARE: usize = 8;
 
-    pub const SPAN: usize = 12;
+    pub const REACH: usize = 12;
 
     // One face of a mesh.
     pub const FACE: usize = 44;
@@ -92,12 +92,12 @@ pub fn fluxes(body: &[u8], out: &mut [i64])
     }
 }
 
-// The outside value of a face and the place of the next: away from the boundary there is none, and it reads 0.
-fn outside(here: Body, body: &[u8], at_boundary: bool) -> Taken
-    requires { ⌜ (here .at + outsideBits < 2 ^ 64) × (here .at + cond «at_boundary» outsideBits 0 ≤ 8 * length (now body)) ⌝ }
-    ensures { λ r. ⌜ (r .value ≡ cond «at_boundary» (bitsAt (now (body .entry)) (here .at) outsideBits) 0) × (r .next .at ≡ here .at + cond «at_boundary» outsideBits 0) ⌝ }
+// The outside value of a face and the place of the next: away from the rim there is none, and it reads 0.
+fn outside(here: Body, body: &[u8], at_rim: bool) -> Taken
+    requires { ⌜ (here .at + outsideBits < 2 ^ 64) × (here .at + cond «at_rim» outsideBits 0 ≤ 8 * length (now body)) ⌝ }
+    ensures { λ r. ⌜ (r .value ≡ cond «at_rim» (bitsAt (now (body .entry)) (here .at) outsideBits) 0) × (r .next .at ≡ here .at + cond «at_rim» outsideBits 0) ⌝ }
 {
-    if at_boundary {
+    if at_rim {
         return here.take(body, Body::OUTSIDE);
     }
     Taken {
@@ -108,13 +108,13 @@ fn outside(here: Body, body: &[u8], at_boundary: bool) -> Taken
 
 // The outside values, from the place of the first on; the place is carried from face to face.
 pub fn outsides(body: &[u8], first: usize, seconds: &[u64], out: &mut [u64])
-    requires { ⌜ (8 * length (now body) + outsideBits < 2 ^ 64) × (length (now out) ≤ length (now seconds)) × (first + boundaryFaces (now seconds) (length (now out)) * outsideBits ≤ 8 * length (now body)) ⌝ }
-    ensures { λ _. ⌜ now (out .exit) ≡ table (length (now (out .entry))) (λ f. cond (isBoundary (now (seconds .entry)) f) (bitsAt (now (body .entry)) (first + boundaryFaces (now (seconds .entry)) f * outsideBits) outsideBits) 0) ⌝ }
+    requires { ⌜ (8 * length (now body) + outsideBits < 2 ^ 64) × (length (now out) ≤ length (now seconds)) × (first + rimFaces (now seconds) (length (now out)) * outsideBits ≤ 8 * length (now body)) ⌝ }
+    ensures { λ _. ⌜ now (out .exit) ≡ table (length (now (out .entry))) (λ f. cond (isRim (now (seconds .entry)) f) (bitsAt (now (body .entry)) (first + rimFaces (now (seconds .entry)) f * outsideBits) outsideBits) 0) ⌝ }
 {
     let mut here = Body::new(first);
     let mut f = 0;
     while f < out.len() {
-        let got = outside(here, body, lengths::is_boundary(seconds[f]));
+        let got = outside(here, body, lengths::is_rim(seconds[f]));
         out[f] = got.value;
         here = got.next;
         f += 1;
@@ -127,21 +127,21 @@ pub fn mesh(
     volumes: &mut [u64],
     firsts: &mut [u64],
     seconds: &mut [u64],
-    weights: &mut [u64],
-    spans: &mut [u64],
+    shares: &mut [u64],
+    reaches: &mut [u64],
 )
-    requires { ⌜ MeshRoom (now body) (length (now volumes)) (length (now firsts)) (length (now seconds)) (length (now weights)) (length (now spans)) ⌝ }
-    ensures { λ _. ⌜ MeshBody (now (body .entry)) (length (now (volumes .entry))) (length (now (firsts .entry))) (now (volumes .exit)) (now (firsts .exit)) (now (seconds .exit)) (now (weights .exit)) (now (spans .exit)) ⌝ }
+    requires { ⌜ MeshRoom (now body) (length (now volumes)) (length (now firsts)) (length (now seconds)) (length (now shares)) (length (now reaches)) ⌝ }
+    ensures { λ _. ⌜ MeshBody (now (body .entry)) (length (now (volumes .entry))) (length (now (firsts .entry))) (now (volumes .exit)) (now (firsts .exit)) (now (seconds .exit)) (now (shares .exit)) (now (reaches .exit)) ⌝ }
 {
     let faces = volumes.len() * Body::VOLUME;
     let second = faces + Body::END;
-    let weight = second + Body::END;
-    let span = weight + Body::WEIGHT;
+    let share = second + Body::END;
+    let reach = share + Body::SHARE;
     column(body, 0, Body::VOLUME, Body::VOLUME, volumes);
     column(body, faces, Body::FACE, Body::END, firsts);
     column(body, second, Body::FACE, Body::END, seconds);
-    column(body, weight, Body::FACE, Body::WEIGHT, weights);
-    column(body, span, Body::FACE, Body::SPAN, spans);
+    column(body, share, Body::FACE, Body::SHARE, shares);
+    column(body, reach, Body::FACE, Body::REACH, reaches);
 }
 
 // The body of a field.

@@ -6,9 +6,9 @@ ghost use mathlib.Core.Bool.{cond};
 ghost use Prim.Native.Nat.{_+_, _*_, _^_, _≤_, _<_};
 ghost use lib.ListN.{length};
 ghost use lib.Dec.{eqb};
-ghost use Rattle.model.specs.Mesh.{boundary, maxCells, maxFaces};
+ghost use Rattle.model.specs.Mesh.{rim, maxCells, maxFaces};
 ghost use Rattle.bits.specs.Layout.{bytesFor};
-ghost use Rattle.records.specs.Layouts.{boundaryFaces, meshBits, stepBits, meshLength, fieldLength, stepLength};
+ghost use Rattle.records.specs.Layouts.{rimFaces, meshBits, stepBits, meshLength, fieldLength, stepLength};
 
 // Whole bytes for so many bits.
 pub fn bytes_for(n: usize) -> usize
@@ -18,11 +18,11 @@ pub fn bytes_for(n: usize) -> usize
     (n + 7) / 8
 }
 
-// Whether beyond a face with this second is the boundary.
-pub fn is_boundary(second: u64) -> bool
-    ensures { λ r. ⌜ r ≡ eqb second boundary ⌝ }
+// Whether beyond a face with this second is the rim.
+pub fn is_rim(second: u64) -> bool
+    ensures { λ r. ⌜ r ≡ eqb second rim ⌝ }
 {
-    second == model::BOUNDARY
+    second == model::RIM
 }
 
 fn one_if(b: bool) -> usize
@@ -31,15 +31,15 @@ fn one_if(b: bool) -> usize
     if b { 1 } else { 0 }
 }
 
-// How many of the first n faces are at the boundary.
-fn boundary_faces(n: usize, seconds: &[u64]) -> usize
+// How many of the first n faces are at the rim.
+fn rim_faces(n: usize, seconds: &[u64]) -> usize
     requires { ⌜ n ≤ length (now seconds) ⌝ }
-    ensures { λ r. ⌜ r ≡ boundaryFaces (now (seconds .entry)) n ⌝ }
+    ensures { λ r. ⌜ r ≡ rimFaces (now (seconds .entry)) n ⌝ }
 {
     let mut count = 0;
     let mut f = 0;
     while f < n {
-        count = count + one_if(is_boundary(seconds[f]));
+        count = count + one_if(is_rim(seconds[f]));
         f += 1;
     }
     count
@@ -56,7 +56,7 @@ pub fn step_bits(faces: usize, seconds: &[u64]) -> usize
     requires { ⌜ (faces ≤ maxFaces) × (faces ≤ length (now seconds)) ⌝ }
     ensures { λ r. ⌜ r ≡ stepBits faces (now (seconds .entry)) ⌝ }
 {
-    let outsides = boundary_faces(faces, seconds);
+    let outsides = rim_faces(faces, seconds);
     8 * heads::STEP_HEAD + faces * Body::FLUX + outsides * Body::OUTSIDE
 }
 

@@ -93,10 +93,10 @@ pub fn read_mesh(
     volumes: &mut [u64],
     firsts: &mut [u64],
     seconds: &mut [u64],
-    weights: &mut [u64],
-    spans: &mut [u64],
+    shares: &mut [u64],
+    reaches: &mut [u64],
 ) -> MeshAnswer
-    ensures { λ r. ⌜ MeshReading (meshRead «most_cells» «most_faces» (now (bytes .entry)) (length (now (volumes .entry))) (length (now (firsts .entry))) (length (now (seconds .entry))) (length (now (weights .entry))) (length (now (spans .entry)))) (now (bytes .entry)) (now (volumes .entry)) (now (firsts .entry)) (now (seconds .entry)) (now (weights .entry)) (now (spans .entry)) r (now (volumes .exit)) (now (firsts .exit)) (now (seconds .exit)) (now (weights .exit)) (now (spans .exit)) ⌝ }
+    ensures { λ r. ⌜ MeshReading (meshRead «most_cells» «most_faces» (now (bytes .entry)) (length (now (volumes .entry))) (length (now (firsts .entry))) (length (now (seconds .entry))) (length (now (shares .entry))) (length (now (reaches .entry)))) (now (bytes .entry)) (now (volumes .entry)) (now (firsts .entry)) (now (seconds .entry)) (now (shares .entry)) (now (reaches .entry)) r (now (volumes .exit)) (now (firsts .exit)) (now (seconds .exit)) (now (shares .exit)) (now (reaches .exit)) ⌝ }
 {
     let a = heads::mesh(most_cells, most_faces, bytes);
     if let Answer::Refused(r) = a {
@@ -111,8 +111,8 @@ pub fn read_mesh(
         volumes.len(),
         firsts.len(),
         seconds.len(),
-        weights.len(),
-        spans.len(),
+        shares.len(),
+        reaches.len(),
     );
     if let Answer::Refused(r) = b {
         return MeshAnswer::Refused(r);
@@ -124,8 +124,8 @@ pub fn read_mesh(
         volumes,
         firsts,
         seconds,
-        weights,
-        spans,
+        shares,
+        reaches,
     );
     MeshAnswer::Read(Counts { cells, faces })
 }
@@ -146,7 +146,7 @@ pub fn read_field(cells: usize, bytes: &[u8], masses: &mut [u64]) -> Answer
     Answer::Done
 }
 
-// The record of a step through these faces. Of the mesh only the seconds are looked at, for the boundary.
+// The record of a step through these faces. Of the mesh only the seconds are looked at, for the rim.
 pub fn read_step(
     faces: usize,
     seconds: &[u64],

@@ -12,7 +12,7 @@ ghost use lib.ListN.{length, getD};
 ghost use Rattle.model.specs.Mesh.{meshOf};
 ghost use Rattle.bits.specs.Put.{Put};
 ghost use Rattle.bits.specs.Layout.{field, rows, bytesFor};
-ghost use Rattle.records.specs.Layouts.{endBits, weightBits, spanBits, signBits, sizeBits, outsideBits, meshHead, fieldHead, stepHead, faceRow, fluxRow, outsideRow};
+ghost use Rattle.records.specs.Layouts.{endBits, shareBits, reachBits, signBits, sizeBits, outsideBits, meshHead, fieldHead, stepHead, faceRow, fluxRow, outsideRow};
 ghost use Rattle.records.specs.Putting.{Room, Laid};
 
 // One field, and the place after it.
@@ -66,14 +66,14 @@ pub fn column(bytes: &mut [u8], at: usize, width: usize, n: usize, values: &[u64
 }
 
 // One face of a mesh.
-fn face(bytes: &mut [u8], at: usize, first: u64, second: u64, weight: u64, span: u64) -> usize
-    requires { ⌜ Room (now bytes) at (field endBits first ∷ field endBits second ∷ field weightBits weight ∷ field spanBits span ∷ []) ⌝ }
-    ensures { λ r. ⌜ Laid (now (bytes .entry)) at (field endBits first ∷ field endBits second ∷ field weightBits weight ∷ field spanBits span ∷ []) (now (bytes .exit)) r ⌝ }
+fn face(bytes: &mut [u8], at: usize, first: u64, second: u64, share: u64, reach: u64) -> usize
+    requires { ⌜ Room (now bytes) at (field endBits first ∷ field endBits second ∷ field shareBits share ∷ field reachBits reach ∷ []) ⌝ }
+    ensures { λ r. ⌜ Laid (now (bytes .entry)) at (field endBits first ∷ field endBits second ∷ field shareBits share ∷ field reachBits reach ∷ []) (now (bytes .exit)) r ⌝ }
 {
     let a = put(bytes, at, Body::END, first);
     let b = put(bytes, a, Body::END, second);
-    let c = put(bytes, b, Body::WEIGHT, weight);
-    put(bytes, c, Body::SPAN, span)
+    let c = put(bytes, b, Body::SHARE, share);
+    put(bytes, c, Body::REACH, reach)
 }
 
 // The first n faces of a mesh.
@@ -83,16 +83,16 @@ pub fn faces(
     n: usize,
     firsts: &[u64],
     seconds: &[u64],
-    weights: &[u64],
-    spans: &[u64],
+    shares: &[u64],
+    reaches: &[u64],
 ) -> usize
-    requires { ⌜ (n ≤ length (now firsts)) × (n ≤ length (now seconds)) × (n ≤ length (now weights)) × (n ≤ length (now spans)) × Room (now bytes) at (rows n (faceRow (meshOf 0 n [] (now firsts) (now seconds) (now weights) (now spans)))) ⌝ }
-    ensures { λ r. ⌜ Laid (now (bytes .entry)) at (rows n (faceRow (meshOf 0 n [] (now (firsts .entry)) (now (seconds .entry)) (now (weights .entry)) (now (spans .entry))))) (now (bytes .exit)) r ⌝ }
+    requires { ⌜ (n ≤ length (now firsts)) × (n ≤ length (now seconds)) × (n ≤ length (now shares)) × (n ≤ length (now reaches)) × Room (now bytes) at (rows n (faceRow (meshOf 0 n [] (now firsts) (now seconds) (now shares) (now reaches)))) ⌝ }
+    ensures { λ r. ⌜ Laid (now (bytes .entry)) at (rows n (faceRow (meshOf 0 n [] (now (firsts .entry)) (now (seconds .entry)) (now (shares .entry)) (now (reaches .entry))))) (now (bytes .exit)) r ⌝ }
 {
     let mut here = at;
     let mut f = 0;
     while f < n {
-        here = face(bytes, here, firsts[f], seconds[f], weights[f], spans[f]);
+        here = face(bytes, here, firsts[f], seconds[f], shares[f], reaches[f]);
         f += 1;
     }
     here
@@ -128,12 +128,12 @@ pub fn fluxes(bytes: &mut [u8], at: usize, n: usize, values: &[i64]) -> usize
     here
 }
 
-// The outside value of one face: only at the boundary is there one.
-fn outside(bytes: &mut [u8], at: usize, at_boundary: bool, value: u64) -> usize
-    requires { ⌜ Room (now bytes) at (cond «at_boundary» (field outsideBits value ∷ []) []) ⌝ }
-    ensures { λ r. ⌜ Laid (now (bytes .entry)) at (cond «at_boundary» (field outsideBits value ∷ []) []) (now (bytes .exit)) r ⌝ }
+// The outside value of one face: only at the rim is there one.
+fn outside(bytes: &mut [u8], at: usize, at_rim: bool, value: u64) -> usize
+    requires { ⌜ Room (now bytes) at (cond «at_rim» (field outsideBits value ∷ []) []) ⌝ }
+    ensures { λ r. ⌜ Laid (now (bytes .entry)) at (cond «at_rim» (field outsideBits value ∷ []) []) (now (bytes .exit)) r ⌝ }
 {
-    if at_boundary {
+    if at_rim {
         return put(bytes, at, Body::OUTSIDE, value);
     }
     at
@@ -147,7 +147,7 @@ pub fn outsides(bytes: &mut [u8], at: usize, n: usize, seconds: &[u64], values: 
     let mut here = at;
     let mut f = 0;
     while f < n {
-        here = outside(bytes, here, lengths::is_boundary(seconds[f]), values[f]);
+        here = outside(bytes, here, lengths::is_rim(seconds[f]), values[f]);
         f += 1;
     }
     here

@@ -18,19 +18,19 @@ pub fn mesh(
     volumes: &mut [u64],
     firsts: &mut [u64],
     seconds: &mut [u64],
-    weights: &mut [u64],
-    spans: &mut [u64],
+    shares: &mut [u64],
+    reaches: &mut [u64],
 )
-    requires { ⌜ MeshTested cells faces (now bytes) (length (now volumes)) (length (now firsts)) (length (now seconds)) (length (now weights)) (length (now spans)) ⌝ }
-    ensures { λ _. ⌜ MeshFilled (now (bytes .entry)) (now (volumes .entry)) (now (firsts .entry)) (now (seconds .entry)) (now (weights .entry)) (now (spans .entry)) (now (volumes .exit)) (now (firsts .exit)) (now (seconds .exit)) (now (weights .exit)) (now (spans .exit)) ⌝ }
+    requires { ⌜ MeshTested cells faces (now bytes) (length (now volumes)) (length (now firsts)) (length (now seconds)) (length (now shares)) (length (now reaches)) ⌝ }
+    ensures { λ _. ⌜ MeshFilled (now (bytes .entry)) (now (volumes .entry)) (now (firsts .entry)) (now (seconds .entry)) (now (shares .entry)) (now (reaches .entry)) (now (volumes .exit)) (now (firsts .exit)) (now (seconds .exit)) (now (shares .exit)) (now (reaches .exit)) ⌝ }
 {
     body::mesh(
         &bytes[heads::MESH_HEAD..],
         &mut volumes[..cells],
         &mut firsts[..faces],
         &mut seconds[..faces],
-        &mut weights[..faces],
-        &mut spans[..faces],
+        &mut shares[..faces],
+        &mut reaches[..faces],
     );
 }
 

@@ -28,19 +28,19 @@ pub fn mesh(
     volumes: usize,
     firsts: usize,
     seconds: usize,
-    weights: usize,
-    spans: usize,
+    shares: usize,
+    reaches: usize,
 ) -> Answer
     requires { ⌜ (cells ≡ cellsIn (now bytes)) × (faces ≡ facesIn (now bytes)) × (cells ≤ maxCells) × (faces ≤ maxFaces) ⌝ }
-    ensures { λ r. ⌜ said r ≡ meshBodyVerdict (now (bytes .entry)) volumes firsts seconds weights spans ⌝ }
+    ensures { λ r. ⌜ said r ≡ meshBodyVerdict (now (bytes .entry)) volumes firsts seconds shares reaches ⌝ }
 {
     let end = lengths::mesh_bits(cells, faces);
     let a = need(Cause::Length, 0, bytes.len() == lengths::bytes_for(end));
     let b = then_long(a, 0, cells, volumes);
     let d = then_long(b, 1, faces, firsts);
     let e = then_long(d, 2, faces, seconds);
-    let f = then_long(e, 3, faces, weights);
-    let g = then_long(f, 4, faces, spans);
+    let f = then_long(e, 3, faces, shares);
+    let g = then_long(f, 4, faces, reaches);
     if let Answer::Refused(r) = g {
         return Answer::Refused(r);
     }

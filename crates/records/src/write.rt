@@ -26,18 +26,18 @@ fn mesh_refused(
     volumes: &[u64],
     firsts: &[u64],
     seconds: &[u64],
-    weights: &[u64],
-    spans: &[u64],
+    shares: &[u64],
+    reaches: &[u64],
     room: usize,
 ) -> Answer
-    ensures { λ r. ⌜ said r ≡ meshWriteVerdict (meshOf cells faces (now (volumes .entry)) (now (firsts .entry)) (now (seconds .entry)) (now (weights .entry)) (now (spans .entry))) room ⌝ }
+    ensures { λ r. ⌜ said r ≡ meshWriteVerdict (meshOf cells faces (now (volumes .entry)) (now (firsts .entry)) (now (seconds .entry)) (now (shares .entry)) (now (reaches .entry))) room ⌝ }
 {
-    let lent = checks::lengths::mesh_lent(cells, faces, volumes, firsts, seconds, weights, spans);
+    let lent = checks::lengths::mesh_lent(cells, faces, volumes, firsts, seconds, shares, reaches);
     if let Answer::Refused(r) = lent {
         return Answer::Refused(r);
     }
     let space = long(RECORD_BYTES, lengths::mesh_length(cells, faces), room);
-    let values = checks::mesh::values(cells, faces, volumes, firsts, seconds, weights, spans);
+    let values = checks::mesh::values(cells, faces, volumes, firsts, seconds, shares, reaches);
     and_then(space, values)
 }
 
@@ -48,16 +48,16 @@ fn put_mesh(
     volumes: &[u64],
     firsts: &[u64],
     seconds: &[u64],
-    weights: &[u64],
-    spans: &[u64],
+    shares: &[u64],
+    reaches: &[u64],
     bytes: &mut [u8],
 ) -> usize
-    requires { ⌜ MeshLent (meshOf cells faces (now volumes) (now firsts) (now seconds) (now weights) (now spans)) × Whole (now bytes) (meshFields (meshOf cells faces (now volumes) (now firsts) (now seconds) (now weights) (now spans))) ⌝ }
-    ensures { λ r. ⌜ Wrote (now (bytes .entry)) (meshRecord (meshOf cells faces (now (volumes .entry)) (now (firsts .entry)) (now (seconds .entry)) (now (weights .entry)) (now (spans .entry)))) (meshLength cells faces) (now (bytes .exit)) r ⌝ }
+    requires { ⌜ MeshLent (meshOf cells faces (now volumes) (now firsts) (now seconds) (now shares) (now reaches)) × Whole (now bytes) (meshFields (meshOf cells faces (now volumes) (now firsts) (now seconds) (now shares) (now reaches))) ⌝ }
+    ensures { λ r. ⌜ Wrote (now (bytes .entry)) (meshRecord (meshOf cells faces (now (volumes .entry)) (now (firsts .entry)) (now (seconds .entry)) (now (shares .entry)) (now (reaches .entry)))) (meshLength cells faces) (now (bytes .exit)) r ⌝ }
 {
     let a = put::mesh_head(bytes, cells, faces);
     let b = put::column(bytes, a, Body::VOLUME, cells, volumes);
-    let d = put::faces(bytes, b, faces, firsts, seconds, weights, spans);
+    let d = put::faces(bytes, b, faces, firsts, seconds, shares, reaches);
     put::pad(bytes, d)
 }
 
@@ -68,11 +68,11 @@ pub fn write_mesh(
     volumes: &[u64],
     firsts: &[u64],
     seconds: &[u64],
-    weights: &[u64],
-    spans: &[u64],
+    shares: &[u64],
+    reaches: &[u64],
     bytes: &mut [u8],
 ) -> WriteAnswer
-    ensures { λ r. ⌜ MeshWriting (meshOf cells faces (now (volumes .entry)) (now (firsts .entry)) (now (seconds .entry)) (now (weights .entry)) (now (spans .entry))) (now (bytes .entry)) r (now (bytes .exit)) ⌝ }
+    ensures { λ r. ⌜ MeshWriting (meshOf cells faces (now (volumes .entry)) (now (firsts .entry)) (now (seconds .entry)) (now (shares .entry)) (now (reaches .entry))) (now (bytes .entry)) r (now (bytes .exit)) ⌝ }
 {
     let a = mesh_refused(
         cells,
@@ -80,8 +80,8 @@ pub fn write_mesh(
         volumes,
         firsts,
         seconds,
-        weights,
-        spans,
+        shares,
+        reaches,
         bytes.len(),
     );
     if let Answer::Refused(r) = a {
@@ -93,8 +93,8 @@ pub fn write_mesh(
         volumes,
         firsts,
         seconds,
-        weights,
-        spans,
+        shares,
+        reaches,
         bytes,
     );
     WriteAnswer::Written(length as u64)
@@ -107,12 +107,12 @@ fn field_refused(
     volumes: &[u64],
     firsts: &[u64],
     seconds: &[u64],
-    weights: &[u64],
-    spans: &[u64],
+    shares: &[u64],
+    reaches: &[u64],
     masses: &[u64],
     room: usize,
 ) -> Answer
-    ensures { λ r. ⌜ said r ≡ fieldWriteVerdict (meshOf cells faces (now (volumes .entry)) (now (firsts .entry)) (now (seconds .entry)) (now (weights .entry)) (now (spans .entry))) (now (masses .entry)) room ⌝ }
+    ensures { λ r. ⌜ said r ≡ fieldWriteVerdict (meshOf cells faces (now (volumes .entry)) (now (firsts .entry)) (now (seconds .entry)) (now (shares .entry)) (now (reaches .entry))) (now (masses .entry)) room ⌝ }
 {
     let lent = checks::lengths::field_lent(
         cells,
@@ -120,15 +120,15 @@ fn field_refused(
         volumes,
         firsts,
         seconds,
-        weights,
-        spans,
+        shares,
+        reaches,
         masses,
     );
     if let Answer::Refused(r) = lent {
         return Answer::Refused(r);
     }
     let space = long(RECORD_BYTES, lengths::field_length(cells), room);
-    let values = checks::mesh::values(cells, faces, volumes, firsts, seconds, weights, spans);
+    let values = checks::mesh::values(cells, faces, volumes, firsts, seconds, shares, reaches);
     let fit = and_then(space, values);
     if let Answer::Refused(r) = fit {
         return Answer::Refused(r);
@@ -153,12 +153,12 @@ pub fn write_field(
     volumes: &[u64],
     firsts: &[u64],
     seconds: &[u64],
-    weights: &[u64],
-    spans: &[u64],
+    shares: &[u64],
+    reaches: &[u64],
     masses: &[u64],
     bytes: &mut [u8],
 ) -> WriteAnswer
-    ensures { λ r. ⌜ FieldWriting (meshOf cells faces (now (volumes .entry)) (now (firsts .entry)) (now (seconds .entry)) (now (weights .entry)) (now (spans .entry))) (now (masses .entry)) (now (bytes .entry)) r (now (bytes .exit)) ⌝ }
+    ensures { λ r. ⌜ FieldWriting (meshOf cells faces (now (volumes .entry)) (now (firsts .entry)) (now (seconds .entry)) (now (shares .entry)) (now (reaches .entry))) (now (masses .entry)) (now (bytes .entry)) r (now (bytes .exit)) ⌝ }
 {
     let a = field_refused(
         cells,
@@ -166,8 +166,8 @@ pub fn write_field(
         volumes,
         firsts,
         seconds,
-        weights,
-        spans,
+        shares,
+        reaches,
         masses,
         bytes.len(),
     );
@@ -185,15 +185,15 @@ fn step_refused(
     volumes: &[u64],
     firsts: &[u64],
     seconds: &[u64],
-    weights: &[u64],
-    spans: &[u64],
+    shares: &[u64],
+    reaches: &[u64],
     fluxes: &[i64],
     outsides: &[u64],
     room: usize,
 ) -> Answer
-    ensures { λ r. ⌜ said r ≡ stepWriteVerdict (meshOf cells faces (now (volumes .entry)) (now (firsts .entry)) (now (seconds .entry)) (now (weights .entry)) (now (spans .entry))) (now (fluxes .entry)) (now (outsides .entry)) room ⌝ }
+    ensures { λ r. ⌜ said r ≡ stepWriteVerdict (meshOf cells faces (now (volumes .entry)) (now (firsts .entry)) (now (seconds .entry)) (now (shares .entry)) (now (reaches .entry))) (now (fluxes .entry)) (now (outsides .entry)) room ⌝ }
 {
-    let lent = checks::lengths::mesh_lent(cells, faces, volumes, firsts, seconds, weights, spans);
+    let lent = checks::lengths::mesh_lent(cells, faces, volumes, firsts, seconds, shares, reaches);
     if let Answer::Refused(r) = lent {
         return Answer::Refused(r);
     }
@@ -203,8 +203,8 @@ fn step_refused(
     if let Answer::Refused(r) = tables {
         return Answer::Refused(r);
     }
-    let mesh = checks::mesh::values(cells, faces, volumes, firsts, seconds, weights, spans);
-    let values = checks::water::values(faces, seconds, spans, fluxes, outsides);
+    let mesh = checks::mesh::values(cells, faces, volumes, firsts, seconds, shares, reaches);
+    let values = checks::water::values(faces, seconds, reaches, fluxes, outsides);
     and_then(mesh, values)
 }
 
@@ -232,13 +232,13 @@ pub fn write_step(
     volumes: &[u64],
     firsts: &[u64],
     seconds: &[u64],
-    weights: &[u64],
-    spans: &[u64],
+    shares: &[u64],
+    reaches: &[u64],
     fluxes: &[i64],
     outsides: &[u64],
     bytes: &mut [u8],
 ) -> WriteAnswer
-    ensures { λ r. ⌜ StepWriting (meshOf cells faces (now (volumes .entry)) (now (firsts .entry)) (now (seconds .entry)) (now (weights .entry)) (now (spans .entry))) (now (fluxes .entry)) (now (outsides .entry)) (now (bytes .entry)) r (now (bytes .exit)) ⌝ }
+    ensures { λ r. ⌜ StepWriting (meshOf cells faces (now (volumes .entry)) (now (firsts .entry)) (now (seconds .entry)) (now (shares .entry)) (now (reaches .entry))) (now (fluxes .entry)) (now (outsides .entry)) (now (bytes .entry)) r (now (bytes .exit)) ⌝ }
 {
     let a = step_refused(
         cells,
@@ -246,8 +246,8 @@ pub fn write_step(
         volumes,
         firsts,
         seconds,
-        weights,
-        spans,
+        shares,
+        reaches,
         fluxes,
         outsides,
         bytes.len(),

@@ -46,8 +46,8 @@ fn step_once(
     volumes: &[u64],
     firsts: &[u64],
     seconds: &[u64],
-    weights: &[u64],
-    spans: &[u64],
+    shares: &[u64],
+    reaches: &[u64],
     masses: &mut [u64],
     fluxes: &mut [i64],
     outsides: &mut [u64],
@@ -68,8 +68,8 @@ fn step_once(
         volumes,
         firsts,
         seconds,
-        weights,
-        spans,
+        shares,
+        reaches,
         masses,
         fluxes,
         outsides,
@@ -89,8 +89,8 @@ fn steps(
     volumes: &[u64],
     firsts: &[u64],
     seconds: &[u64],
-    weights: &[u64],
-    spans: &[u64],
+    shares: &[u64],
+    reaches: &[u64],
     masses: &mut [u64],
     fluxes: &mut [i64],
     outsides: &mut [u64],
@@ -111,8 +111,8 @@ fn steps(
             volumes,
             firsts,
             seconds,
-            weights,
-            spans,
+            shares,
+            reaches,
             masses,
             fluxes,
             outsides,
@@ -134,8 +134,8 @@ fn run_on(
     volumes: &[u64],
     firsts: &[u64],
     seconds: &[u64],
-    weights: &[u64],
-    spans: &[u64],
+    shares: &[u64],
+    reaches: &[u64],
     masses: &mut [u64],
     fluxes: &mut [i64],
     outsides: &mut [u64],
@@ -161,8 +161,8 @@ fn run_on(
         volumes,
         firsts,
         seconds,
-        weights,
-        spans,
+        shares,
+        reaches,
         masses,
         fluxes,
         outsides,
@@ -179,8 +179,8 @@ fn run(
     volumes: &mut [u64],
     firsts: &mut [u64],
     seconds: &mut [u64],
-    weights: &mut [u64],
-    spans: &mut [u64],
+    shares: &mut [u64],
+    reaches: &mut [u64],
     masses: &mut [u64],
     fluxes: &mut [i64],
     outsides: &mut [u64],
@@ -191,7 +191,7 @@ fn run(
     requires { do ⌜ (← ⟦session::RECORD⟧) ≤ length (now buffer) ⌝ }
 {
     let got = reading::mesh(buffer);
-    let answer = session::take_mesh(&buffer[..got], volumes, firsts, seconds, weights, spans);
+    let answer = session::take_mesh(&buffer[..got], volumes, firsts, seconds, shares, reaches);
     let MeshAnswer::Read(counts) = answer else {
         if let MeshAnswer::Refused(refusal) = answer {
             print_refusal(b'M', refusal);
@@ -205,8 +205,8 @@ fn run(
         volumes,
         firsts,
         seconds,
-        weights,
-        spans,
+        shares,
+        reaches,
         masses,
         fluxes,
         outsides,
@@ -226,8 +226,8 @@ fn main() {
     let mut volumes = [0u64; RUN_CELLS];
     let mut firsts = [0u64; RUN_FACES];
     let mut seconds = [0u64; RUN_FACES];
-    let mut weights = [0u64; RUN_FACES];
-    let mut spans = [0u64; RUN_FACES];
+    let mut shares = [0u64; RUN_FACES];
+    let mut reaches = [0u64; RUN_FACES];
     let mut masses = [0u64; RUN_CELLS];
     let mut fluxes = [0i64; RUN_FACES];
     let mut outsides = [0u64; RUN_FACES];
@@ -239,8 +239,8 @@ fn main() {
         &mut volumes,
         &mut firsts,
         &mut seconds,
-        &mut weights,
-        &mut spans,
+        &mut shares,
+        &mut reaches,
         &mut masses,
         &mut fluxes,
         &mut outsides,

@@ -31,7 +31,7 @@ use Rattle.transport.specs.Promise.{stepSaid, StepPromise}
 use Rattle.transport.specs.declared.StepAnswer.{StepAnswer}
 use Rattle.transport.specs.declared.StepAnswer.the-variants as step-answer
 use Rattle.transport.specs.declared.Crossing.{Crossing}
-use Rattle.records.specs.Reading.{cellsIn, facesIn, volumesIn, firstsIn, secondsIn, weightsIn, spansIn, countsIn, meshIn, massesIn, fluxesIn, outsidesIn, meshHeadVerdict, meshBodyVerdict, meshRead, fieldBodyVerdict, fieldRead, stepBodyVerdict, stepRead}
+use Rattle.records.specs.Reading.{cellsIn, facesIn, volumesIn, firstsIn, secondsIn, sharesIn, reachesIn, countsIn, meshIn, massesIn, fluxesIn, outsidesIn, meshHeadVerdict, meshBodyVerdict, meshRead, fieldBodyVerdict, fieldRead, stepBodyVerdict, stepRead}
 use Rattle.records.specs.Answers.{meshSaid, MeshReading, FieldReading, StepReading}
 use Rattle.records.specs.declared.MeshAnswer.{MeshAnswer}
 use Rattle.records.specs.declared.MeshAnswer.the-variants as mesh-answer
@@ -194,20 +194,20 @@ over-same n f ys d i h = getD-over n f ys d i h ∙ sym (getD-table n f d i h)
 
 -- the mesh
 abbrev headAndBody : List ℕ → ℕ → ℕ → ℕ → ℕ → ℕ → Verdict
-headAndBody bs volumes firsts seconds weights spans = meshHeadVerdict runCells runFaces bs andThen meshBodyVerdict bs volumes firsts seconds weights spans
+headAndBody bs volumes firsts seconds shares reaches = meshHeadVerdict runCells runFaces bs andThen meshBodyVerdict bs volumes firsts seconds shares reaches
 
-pub record MeshRoom (bs volumes firsts seconds weights spans : List ℕ) : Type 0 where
+pub record MeshRoom (bs volumes firsts seconds shares reaches : List ℕ) : Type 0 where
   pub some-cells : 1 ≤ cellsIn bs
   pub few-cells : cellsIn bs ≤ 1023
   pub few-faces : facesIn bs ≤ 2046
   pub volumes-room : cellsIn bs ≤ length volumes
   pub firsts-room : facesIn bs ≤ length firsts
   pub seconds-room : facesIn bs ≤ length seconds
-  pub weights-room : facesIn bs ≤ length weights
-  pub spans-room : facesIn bs ≤ length spans
+  pub shares-room : facesIn bs ≤ length shares
+  pub reaches-room : facesIn bs ≤ length reaches
 
-module _ (bs volumes firsts seconds weights spans : List ℕ) (e : headAndBody bs (length volumes) (length firsts) (length seconds) (length weights) (length spans) ≡ fine) where
-  mesh-room : MeshRoom bs volumes firsts seconds weights spans
+module _ (bs volumes firsts seconds shares reaches : List ℕ) (e : headAndBody bs (length volumes) (length firsts) (length seconds) (length shares) (length reaches) ≡ fine) where
+  mesh-room : MeshRoom bs volumes firsts seconds shares reaches
   unfolding meshHeadVerdict meshBodyVerdict countsWithin
   mesh-room =
       let n = both-fine _ _ (both-fine _ _ (both-fine _ _ e .0) .1) in
@@ -223,12 +223,12 @@ module _ (bs volumes firsts seconds weights spans : List ℕ) (e : headAndBody b
         volumes-room = leb-le _ _ (need-fine 2 0 _ (both-fine _ _ (w .0) .1));
         firsts-room = leb-le _ _ (need-fine 2 1 _ (w .1));
         seconds-room = leb-le _ _ (need-fine 2 2 _ (v .1));
-        weights-room = leb-le _ _ (need-fine 2 3 _ (u .1));
-        spans-room = leb-le _ _ (need-fine 2 4 _ (t .1));
+        shares-room = leb-le _ _ (need-fine 2 3 _ (u .1));
+        reaches-room = leb-le _ _ (need-fine 2 4 _ (t .1));
       }
 
   abbrev N : Mesh
-  N = meshOf (cellsIn bs) (facesIn bs) (over (volumesIn bs) volumes) (over (firstsIn bs) firsts) (over (secondsIn bs) seconds) (over (weightsIn bs) weights) (over (spansIn bs) spans)
+  N = meshOf (cellsIn bs) (facesIn bs) (over (volumesIn bs) volumes) (over (firstsIn bs) firsts) (over (secondsIn bs) seconds) (over (sharesIn bs) shares) (over (reachesIn bs) reaches)
 
   counts-good : counts N ≡ fine
   unfolding counts countsWithin _andThen_
@@ -240,20 +240,20 @@ module _ (bs volumes firsts seconds weights spans : List ℕ) (e : headAndBody b
       both e d = rw (e, d)
 
   tables-good : meshTables N ≡ fine
-  unfolding meshTables _andThen_ volumesIn firstsIn secondsIn weightsIn spansIn
+  unfolding meshTables _andThen_ volumesIn firstsIn secondsIn sharesIn reachesIn
   tables-good =
       let m = mesh-room in
       rw (
         length-over (cellsIn bs) _ volumes (m .volumes-room),
         length-over (facesIn bs) _ firsts (m .firsts-room),
         length-over (facesIn bs) _ seconds (m .seconds-room),
-        length-over (facesIn bs) _ weights (m .weights-room),
-        length-over (facesIn bs) _ spans (m .spans-room),
+        length-over (facesIn bs) _ shares (m .shares-room),
+        length-over (facesIn bs) _ reaches (m .reaches-room),
         need-met 2 0 (le-leb (cellsIn bs) (length volumes) (m .volumes-room)),
         need-met 2 1 (le-leb (facesIn bs) (length firsts) (m .firsts-room)),
         need-met 2 2 (le-leb (facesIn bs) (length seconds) (m .seconds-room)),
-        need-met 2 3 (le-leb (facesIn bs) (length weights) (m .weights-room)),
-        need-met 2 4 (le-leb (facesIn bs) (length spans) (m .spans-room)),
+        need-met 2 3 (le-leb (facesIn bs) (length shares) (m .shares-room)),
+        need-met 2 4 (le-leb (facesIn bs) (length reaches) (m .reaches-room)),
       )
 
   volumes-same : (c : ℕ) → c < cellsIn bs → volumeGood N c ≡ volumeGood (meshIn bs) c
@@ -265,8 +265,8 @@ module _ (bs volumes firsts seconds weights spans : List ℕ) (e : headAndBody b
   ends-same f h = rw (over-same (facesIn bs) _ firsts 0 f h, over-same (facesIn bs) _ seconds 0 f h)
 
   spacing-same : (f : ℕ) → f < facesIn bs → spacingGood N f ≡ spacingGood (meshIn bs) f
-  unfolding spacingGood secondsIn weightsIn spansIn
-  spacing-same f h = rw (over-same (facesIn bs) _ seconds 0 f h, over-same (facesIn bs) _ weights 0 f h, over-same (facesIn bs) _ spans 0 f h)
+  unfolding spacingGood secondsIn sharesIn reachesIn
+  spacing-same f h = rw (over-same (facesIn bs) _ seconds 0 f h, over-same (facesIn bs) _ shares 0 f h, over-same (facesIn bs) _ reaches 0 f h)
 
   values-same : meshValues N ≡ meshValues (meshIn bs)
   unfolding meshValues
@@ -281,36 +281,36 @@ module _ (bs volumes firsts seconds weights spans : List ℕ) (e : headAndBody b
   unfolding meshVerdict _andThen_
   verdict-is = rw (counts-good, tables-good, values-same)
 
-module _ (bs volumes firsts seconds weights spans : List ℕ) (a : MeshAnswer) (volumes′ firsts′ seconds′ weights′ spans′ : List ℕ)
-    (s : MeshReading (meshReadIn bs volumes firsts seconds weights spans) bs volumes firsts seconds weights spans a volumes′ firsts′ seconds′ weights′ spans′) where
-  mesh-takes : (r : MeshAnswer) → meshSaid r ≡ meshTaken bs (length volumes) (length firsts) (length seconds) (length weights) (length spans) → MeshTaking bs volumes firsts seconds weights spans r volumes′ firsts′ seconds′ weights′ spans′
-  mesh-takes r e = record { answer = e; volumes-read = s .volumes-read; firsts-read = s .firsts-read; seconds-read = s .seconds-read; weights-read = s .weights-read; spans-read = s .spans-read }
+module _ (bs volumes firsts seconds shares reaches : List ℕ) (a : MeshAnswer) (volumes′ firsts′ seconds′ shares′ reaches′ : List ℕ)
+    (s : MeshReading (meshReadIn bs volumes firsts seconds shares reaches) bs volumes firsts seconds shares reaches a volumes′ firsts′ seconds′ shares′ reaches′) where
+  mesh-takes : (r : MeshAnswer) → meshSaid r ≡ meshTaken bs (length volumes) (length firsts) (length seconds) (length shares) (length reaches) → MeshTaking bs volumes firsts seconds shares reaches r volumes′ firsts′ seconds′ shares′ reaches′
+  mesh-takes r e = record { answer = e; volumes-read = s .volumes-read; firsts-read = s .firsts-read; seconds-read = s .seconds-read; shares-read = s .shares-read; reaches-read = s .reaches-read }
 
-  pub mesh-unread : (r : Refusal) → a ≡ mesh-answer.Refused r → MeshTaking bs volumes firsts seconds weights spans a volumes′ firsts′ seconds′ weights′ spans′
+  pub mesh-unread : (r : Refusal) → a ≡ mesh-answer.Refused r → MeshTaking bs volumes firsts seconds shares reaches a volumes′ firsts′ seconds′ shares′ reaches′
   unfolding meshTaken meshRead
   mesh-unread r d =
-      let v : headAndBody bs (length volumes) (length firsts) (length seconds) (length weights) (length spans) ≡ refused (number (r .cause)) (r .place) = refused-of _ (countsIn bs) (number (r .cause)) (r .place) (sym (ap meshSaid d) ∙ s .answer) in
+      let v : headAndBody bs (length volumes) (length firsts) (length seconds) (length shares) (length reaches) ≡ refused (number (r .cause)) (r .place) = refused-of _ (countsIn bs) (number (r .cause)) (r .place) (sym (ap meshSaid d) ∙ s .answer) in
       mesh-takes a (ap meshSaid d ∙ sym (out _ (out _ v)))
 
-  module _ (n : Counts) (d : a ≡ mesh-answer.Read n) (b : Answer) (c : said b ≡ meshVerdict (meshOf (n .cells) (n .faces) volumes′ firsts′ seconds′ weights′ spans′)) where
-    was-read : (headAndBody bs (length volumes) (length firsts) (length seconds) (length weights) (length spans) ≡ fine) × (n ≡ countsIn bs)
+  module _ (n : Counts) (d : a ≡ mesh-answer.Read n) (b : Answer) (c : said b ≡ meshVerdict (meshOf (n .cells) (n .faces) volumes′ firsts′ seconds′ shares′ reaches′)) where
+    was-read : (headAndBody bs (length volumes) (length firsts) (length seconds) (length shares) (length reaches) ≡ fine) × (n ≡ countsIn bs)
     unfolding meshRead
     was-read = accepted-of _ (countsIn bs) n (sym (ap meshSaid d) ∙ s .answer)
 
     judged : said b ≡ meshValues (meshIn bs)
     judged =
-        let o : meshReadIn bs volumes firsts seconds weights spans ≡ accepted n = sym (s .answer) ∙ ap meshSaid d in
-        let q : said b ≡ meshVerdict (meshOf (n .cells) (n .faces) (over (volumesIn bs) volumes) (over (firstsIn bs) firsts) (over (secondsIn bs) seconds) (over (weightsIn bs) weights) (over (spansIn bs) spans)) =
-        c ∙ rw (s .volumes-read, s .firsts-read, s .seconds-read, s .weights-read, s .spans-read, o) in
-        (rw (was-read .1) at q) ∙ verdict-is bs volumes firsts seconds weights spans (was-read .0)
+        let o : meshReadIn bs volumes firsts seconds shares reaches ≡ accepted n = sym (s .answer) ∙ ap meshSaid d in
+        let q : said b ≡ meshVerdict (meshOf (n .cells) (n .faces) (over (volumesIn bs) volumes) (over (firstsIn bs) firsts) (over (secondsIn bs) seconds) (over (sharesIn bs) shares) (over (reachesIn bs) reaches)) =
+        c ∙ rw (s .volumes-read, s .firsts-read, s .seconds-read, s .shares-read, s .reaches-read, o) in
+        (rw (was-read .1) at q) ∙ verdict-is bs volumes firsts seconds shares reaches (was-read .0)
 
-    pub mesh-refused : (r : Refusal) → b ≡ Refused r → MeshTaking bs volumes firsts seconds weights spans (mesh-answer.Refused r) volumes′ firsts′ seconds′ weights′ spans′
+    pub mesh-refused : (r : Refusal) → b ≡ Refused r → MeshTaking bs volumes firsts seconds shares reaches (mesh-answer.Refused r) volumes′ firsts′ seconds′ shares′ reaches′
     unfolding meshTaken
     mesh-refused r f =
         let v : meshValues (meshIn bs) ≡ refused (number (r .cause)) (r .place) = sym judged ∙ ap said f in
         mesh-takes (mesh-answer.Refused r) (sym (out _ (past _ (was-read .0) ∙ v)))
 
-    pub mesh-taken : b ≡ Done → MeshTaking bs volumes firsts seconds weights spans (mesh-answer.Read n) volumes′ firsts′ seconds′ weights′ spans′
+    pub mesh-taken : b ≡ Done → MeshTaking bs volumes firsts seconds shares reaches (mesh-answer.Read n) volumes′ firsts′ seconds′ shares′ reaches′
     unfolding meshTaken
     mesh-taken f =
         let v : meshValues (meshIn bs) ≡ fine = sym judged ∙ ap said f in

@@ -12,7 +12,7 @@ use Rattle.model.proofs.Verdicts.{both-fine, need-fine}
 use Rattle.bits.specs.Layout.{bytesFor}
 use Rattle.records.specs.Layouts.{meshBits, fieldBits, stepBits, meshLength, fieldLength, stepLength}
 use Rattle.records.specs.Reading.{cellsIn, facesIn, meshHeadVerdict, meshNeeds, fieldNeeds, stepNeeds}
-use Rattle.records.proofs.HeadLaws.{boundary-le}
+use Rattle.records.proofs.HeadLaws.{rim-le}
 use Rattle.session.specs.Session.{recordBytes}
 
 pub record-is : recordBytes ≡ 12792
@@ -44,7 +44,7 @@ unfolding stepNeeds stepLength
 step-fits faces seconds bs n l e =
     let p = both-fine _ _ e .1 in
     let q : bytesFor (stepBits faces seconds) ≡ n = cc in
-    rw record-is (omega (arith, q, bytes-of (stepBits faces seconds), boundary-le seconds faces))
+    rw record-is (omega (arith, q, bytes-of (stepBits faces seconds), rim-le seconds faces))
 
 pub room-left : (got more : ℕ) → (got ≤ recordBytes → got + more ≤ recordBytes) → got ≤ 12792 → got + more ≤ 12792
 room-left got more h l = let q : got ≤ recordBytes = rw record-is l in rw record-is at (h q)

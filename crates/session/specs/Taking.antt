@@ -12,7 +12,7 @@ use Rattle.model.specs.Causes.{Outcome, accepted, Verdict, _andThen_, taken, Ca
 use Rattle.model.specs.Calls.{massIn, nextTable, movedTable, workTable}
 use Rattle.checks.specs.Total.{cellsOnly, totalSaid}
 use Rattle.checks.specs.declared.TotalAnswer.{TotalAnswer}
-use Rattle.records.specs.Reading.{volumesIn, firstsIn, secondsIn, weightsIn, spansIn, countsIn, meshIn, massesIn, fluxesIn, outsidesIn, meshHeadVerdict, meshBodyVerdict, meshRead, fieldRead, stepRead}
+use Rattle.records.specs.Reading.{volumesIn, firstsIn, secondsIn, sharesIn, reachesIn, countsIn, meshIn, massesIn, fluxesIn, outsidesIn, meshHeadVerdict, meshBodyVerdict, meshRead, fieldRead, stepRead}
 use Rattle.records.specs.Answers.{meshSaid}
 use Rattle.records.specs.declared.Counts.{Counts}
 use Rattle.records.specs.declared.MeshAnswer.{MeshAnswer}
@@ -23,19 +23,19 @@ use Rattle.session.specs.declared.StepTaken.{StepTaken}
 -- "It takes up to 1,023 cells and 2,046 faces, and a larger mesh is its cause 1." A mesh is read within these limits, then judged by
 -- 3 to 5. A reading that is accepted fills its tables.
 unfoldable pub meshTaken : List ℕ → ℕ → ℕ → ℕ → ℕ → ℕ → Outcome Counts
-meshTaken bs volumes firsts seconds weights spans = meshHeadVerdict runCells runFaces bs andThen meshBodyVerdict bs volumes firsts seconds weights spans
+meshTaken bs volumes firsts seconds shares reaches = meshHeadVerdict runCells runFaces bs andThen meshBodyVerdict bs volumes firsts seconds shares reaches
     andThen meshValues (meshIn bs) andThen accepted (countsIn bs)
 
 abbrev pub meshReadIn : List ℕ → List ℕ → List ℕ → List ℕ → List ℕ → List ℕ → Outcome Counts
-meshReadIn bs volumes firsts seconds weights spans = meshRead runCells runFaces bs (length volumes) (length firsts) (length seconds) (length weights) (length spans)
+meshReadIn bs volumes firsts seconds shares reaches = meshRead runCells runFaces bs (length volumes) (length firsts) (length seconds) (length shares) (length reaches)
 
-pub record MeshTaking (bs volumes firsts seconds weights spans : List ℕ) (r : MeshAnswer) (volumes′ firsts′ seconds′ weights′ spans′ : List ℕ) : Type 0 where
-  pub answer : meshSaid r ≡ meshTaken bs (length volumes) (length firsts) (length seconds) (length weights) (length spans)
-  pub volumes-read : volumes′ ≡ taken (meshReadIn bs volumes firsts seconds weights spans) (over (volumesIn bs) volumes) volumes
-  pub firsts-read : firsts′ ≡ taken (meshReadIn bs volumes firsts seconds weights spans) (over (firstsIn bs) firsts) firsts
-  pub seconds-read : seconds′ ≡ taken (meshReadIn bs volumes firsts seconds weights spans) (over (secondsIn bs) seconds) seconds
-  pub weights-read : weights′ ≡ taken (meshReadIn bs volumes firsts seconds weights spans) (over (weightsIn bs) weights) weights
-  pub spans-read : spans′ ≡ taken (meshReadIn bs volumes firsts seconds weights spans) (over (spansIn bs) spans) spans
+pub record MeshTaking (bs volumes firsts seconds shares reaches : List ℕ) (r : MeshAnswer) (volumes′ firsts′ seconds′ shares′ reaches′ : List ℕ) : Type 0 where
+  pub answer : meshSaid r ≡ meshTaken bs (length volumes) (length firsts) (length seconds) (length shares) (length reaches)
+  pub volumes-read : volumes′ ≡ taken (meshReadIn bs volumes firsts seconds shares reaches) (over (volumesIn bs) volumes) volumes
+  pub firsts-read : firsts′ ≡ taken (meshReadIn bs volumes firsts seconds shares reaches) (over (firstsIn bs) firsts) firsts
+  pub seconds-read : seconds′ ≡ taken (meshReadIn bs volumes firsts seconds shares reaches) (over (secondsIn bs) seconds) seconds
+  pub shares-read : shares′ ≡ taken (meshReadIn bs volumes firsts seconds shares reaches) (over (sharesIn bs) shares) shares
+  pub reaches-read : reaches′ ≡ taken (meshReadIn bs volumes firsts seconds shares reaches) (over (reachesIn bs) reaches) reaches
 
 -- A field is read, then judged with the volumes of its cells, and summed: step 0 prints its total.
 unfoldable pub fieldTaken : ℕ → List ℕ → List ℕ → ℕ → Outcome ℕ

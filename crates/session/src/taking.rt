@@ -21,10 +21,10 @@ pub fn take_mesh(
     volumes: &mut [u64],
     firsts: &mut [u64],
     seconds: &mut [u64],
-    weights: &mut [u64],
-    spans: &mut [u64],
+    shares: &mut [u64],
+    reaches: &mut [u64],
 ) -> MeshAnswer
-    ensures { λ r. ⌜ MeshTaking (now (bytes .entry)) (now (volumes .entry)) (now (firsts .entry)) (now (seconds .entry)) (now (weights .entry)) (now (spans .entry)) r (now (volumes .exit)) (now (firsts .exit)) (now (seconds .exit)) (now (weights .exit)) (now (spans .exit)) ⌝ }
+    ensures { λ r. ⌜ MeshTaking (now (bytes .entry)) (now (volumes .entry)) (now (firsts .entry)) (now (seconds .entry)) (now (shares .entry)) (now (reaches .entry)) r (now (volumes .exit)) (now (firsts .exit)) (now (seconds .exit)) (now (shares .exit)) (now (reaches .exit)) ⌝ }
 {
     let answer = records::read_mesh(
         RUN_CELLS,
@@ -33,8 +33,8 @@ pub fn take_mesh(
         volumes,
         firsts,
         seconds,
-        weights,
-        spans,
+        shares,
+        reaches,
     );
     let MeshAnswer::Read(counts) = answer else {
         return answer;
@@ -45,8 +45,8 @@ pub fn take_mesh(
         volumes,
         firsts,
         seconds,
-        weights,
-        spans,
+        shares,
+        reaches,
     );
     if let Answer::Refused(refusal) = verdict {
         return MeshAnswer::Refused(refusal);
@@ -83,8 +83,8 @@ fn stepped(
     volumes: &[u64],
     firsts: &[u64],
     seconds: &[u64],
-    weights: &[u64],
-    spans: &[u64],
+    shares: &[u64],
+    reaches: &[u64],
     masses: &mut [u64],
     fluxes: &[i64],
     outsides: &[u64],
@@ -92,7 +92,7 @@ fn stepped(
     moved: &mut [i64],
     work: &mut [u64],
 ) -> StepTaken
-    ensures { λ r. ⌜ Stepping (meshOf cells faces (now (volumes .entry)) (now (firsts .entry)) (now (seconds .entry)) (now (weights .entry)) (now (spans .entry))) (now (masses .entry)) (callOf (now (fluxes .entry)) (now (outsides .entry)) (now (next .entry)) (now (moved .entry)) (now (work .entry))) r (now (masses .exit)) (now (next .exit)) (now (moved .exit)) (now (work .exit)) ⌝ }
+    ensures { λ r. ⌜ Stepping (meshOf cells faces (now (volumes .entry)) (now (firsts .entry)) (now (seconds .entry)) (now (shares .entry)) (now (reaches .entry))) (now (masses .entry)) (callOf (now (fluxes .entry)) (now (outsides .entry)) (now (next .entry)) (now (moved .entry)) (now (work .entry))) r (now (masses .exit)) (now (next .exit)) (now (moved .exit)) (now (work .exit)) ⌝ }
 {
     let answer = transport::step(
         cells,
@@ -100,8 +100,8 @@ fn stepped(
         volumes,
         firsts,
         seconds,
-        weights,
-        spans,
+        shares,
+        reaches,
         masses,
         fluxes,
         outsides,
@@ -130,8 +130,8 @@ pub fn take_step(
     volumes: &[u64],
     firsts: &[u64],
     seconds: &[u64],
-    weights: &[u64],
-    spans: &[u64],
+    shares: &[u64],
+    reaches: &[u64],
     masses: &mut [u64],
     fluxes: &mut [i64],
     outsides: &mut [u64],
@@ -139,7 +139,7 @@ pub fn take_step(
     moved: &mut [i64],
     work: &mut [u64],
 ) -> StepTaken
-    ensures { λ r. ⌜ StepTaking (meshOf cells faces (now (volumes .entry)) (now (firsts .entry)) (now (seconds .entry)) (now (weights .entry)) (now (spans .entry))) (now (masses .entry)) (now (bytes .entry)) (callOf (now (fluxes .entry)) (now (outsides .entry)) (now (next .entry)) (now (moved .entry)) (now (work .entry))) r (now (masses .exit)) (callOf (now (fluxes .exit)) (now (outsides .exit)) (now (next .exit)) (now (moved .exit)) (now (work .exit))) ⌝ }
+    ensures { λ r. ⌜ StepTaking (meshOf cells faces (now (volumes .entry)) (now (firsts .entry)) (now (seconds .entry)) (now (shares .entry)) (now (reaches .entry))) (now (masses .entry)) (now (bytes .entry)) (callOf (now (fluxes .entry)) (now (outsides .entry)) (now (next .entry)) (now (moved .entry)) (now (work .entry))) r (now (masses .exit)) (callOf (now (fluxes .exit)) (now (outsides .exit)) (now (next .exit)) (now (moved .exit)) (now (work .exit))) ⌝ }
 {
     let read = records::read_step(faces, seconds, bytes, fluxes, outsides);
     if let Answer::Refused(refusal) = read {
@@ -151,8 +151,8 @@ pub fn take_step(
         volumes,
         firsts,
         seconds,
-        weights,
-        spans,
+        shares,
+        reaches,
         masses,
         &fluxes[..faces],
         &outsides[..faces],

@@ -1,11 +1,11 @@
 pub mod Corrections
-pub mod Meetings
+pub mod BoundLaws
 pub mod Transfers
-pub mod Openings
+pub mod ConcentrationLaws
 pub mod Flows
-pub mod Sweeps
-pub mod Settlings
-pub mod Weighings
-pub mod Limitings
+pub mod CarryLaws
+pub mod AllowanceLaws
+pub mod SumLaws
+pub mod LimiterLaws
 pub mod Advances
 pub mod Promises

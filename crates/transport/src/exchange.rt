@@ -1,12 +1,12 @@
 // What passes through a face, and what its cells meet across it.
-use model::BOUNDARY;
+use model::RIM;
 ghost use mathlib.Core.Path.{_≡_};
 ghost use mathlib.Core.Logic.{_≢_};
 ghost use Prim.Native.Nat.{ℕ, _≤_, _<_, _+_, _-_, _*_, _/_, _^_, min, max};
 ghost use lib.ListN.{length, getD, set};
 ghost use Rattle.signed.specs.Sign.{withSign};
-ghost use Rattle.model.specs.Mesh.{boundary, maxCells};
-ghost use Rattle.transport.specs.Work.{widened, metAcross, brings, takes, Transferred, EndsIn};
+ghost use Rattle.model.specs.Mesh.{rim, maxCells};
+ghost use Rattle.transport.specs.Work.{widened, widenedAcross, brings, takes, Transferred, EndsIn};
 
 pub fn least_of(a: u64, b: u64) -> u64
     ensures { λ r. ⌜ r ≡ min a b ⌝ }
@@ -21,7 +21,7 @@ pub fn greatest_of(a: u64, b: u64) -> u64
 }
 
 // Cell c meets the concentration q: its least and greatest are widened.
-pub fn meet(work: &mut [u64], c: usize, q: u64)
+pub fn widen(work: &mut [u64], c: usize, q: u64)
     requires { ⌜ (4 * c + 3 < length (now work)) × (c < maxCells) ⌝ }
     ensures { λ _. ⌜ now (work .exit) ≡ widened (now (work .entry)) c q ⌝ }
 {
@@ -32,7 +32,7 @@ pub fn meet(work: &mut [u64], c: usize, q: u64)
 }
 
 // Both cells of a face meet across it; a is the concentration of the first, b the one beyond the face.
-pub fn meet_across(
+pub fn widen_across(
     work: &mut [u64],
     first: u64,
     second: u64,
@@ -41,19 +41,19 @@ pub fn meet_across(
     a: u64,
     b: u64,
 )
-    requires { ⌜ (4 * first + 3 < length (now work)) × (first < maxCells) × (second ≢ boundary → (4 * second + 3 < length (now work)) × (second < maxCells)) ⌝ }
-    ensures { λ _. ⌜ now (work .exit) ≡ metAcross (now (work .entry)) first second (withSign negative size) a b ⌝ }
+    requires { ⌜ (4 * first + 3 < length (now work)) × (first < maxCells) × (second ≢ rim → (4 * second + 3 < length (now work)) × (second < maxCells)) ⌝ }
+    ensures { λ _. ⌜ now (work .exit) ≡ widenedAcross (now (work .entry)) first second (withSign negative size) a b ⌝ }
 {
     if size == 0 {
         return;
     }
-    if second != BOUNDARY {
-        meet(work, first as usize, b);
-        meet(work, second as usize, a);
+    if second != RIM {
+        widen(work, first as usize, b);
+        widen(work, second as usize, a);
         return;
     }
     if negative {
-        meet(work, first as usize, b);
+        widen(work, first as usize, b);
     }
 }
 
@@ -81,13 +81,13 @@ pub fn transfer(next: &mut [u64], first: u64, second: u64, negative: bool, amoun
     let a = first as usize;
     if negative {
         gain(next, a, amount);
-        if second != BOUNDARY {
+        if second != RIM {
             lose(next, second as usize, amount);
         }
         return;
     }
     lose(next, a, amount);
-    if second != BOUNDARY {
+    if second != RIM {
         gain(next, second as usize, amount);
     }
 }

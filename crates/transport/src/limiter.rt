@@ -8,13 +8,13 @@ ghost use Prim.Native.Nat.{ℕ, _≤_, _<_, _+_, _-_, _*_, _/_, _%_, _^_, min};
 ghost use lib.ListN.{length, getD};
 ghost use Rattle.model.specs.Step.{portion as portionOf};
 ghost use Rattle.model.specs.Mesh.{maxCells};
-ghost use Rattle.transport.specs.Work.{settledCell, CellAsks, Settled, enters, leaves, weighedFace, WeighAsks, Weighed, endsOf, corrections, CutAsks, CutDone, LimitAsks, Limited};
+ghost use Rattle.transport.specs.Work.{allowancesOf, CellAsks, Allowances, enters, leaves, correctionAdded, SumAsks, CorrectionSums, endsOf, corrections, CutAsks, CutDone, LimitAsks, Limited};
 ghost use Rattle.lists.specs.Table.{table};
 
 // What a cell may lose and gain, from its bounds and its low-order mass; the sums of corrections start at 0.
-pub fn settle_cell(work: &mut [u64], c: usize, volume: u64, low: u64)
+pub fn allowance_at(work: &mut [u64], c: usize, volume: u64, low: u64)
     requires { ⌜ (4 * c + 3 < length (now work)) × (c < maxCells) × CellAsks volume low (getD (now work) (4 * c + 1) 0) (getD (now work) (4 * c + 2) 0) ⌝ }
-    ensures { λ _. ⌜ now (work .exit) ≡ settledCell (now (work .entry)) c volume low ⌝ }
+    ensures { λ _. ⌜ now (work .exit) ≡ allowancesOf (now (work .entry)) c volume low ⌝ }
 {
     let loss = low - volume * work[4 * c + 1];
     let gain = volume * work[4 * c + 2] + volume - 1 - low;
@@ -25,14 +25,14 @@ pub fn settle_cell(work: &mut [u64], c: usize, volume: u64, low: u64)
 }
 
 // Third pass: what each cell may lose and gain.
-pub fn settle(cells: usize, volumes: &[u64], next: &[u64], work: &mut [u64])
+pub fn allowances(cells: usize, volumes: &[u64], next: &[u64], work: &mut [u64])
     requires { ⌜ (cells ≤ maxCells) × (cells ≤ length (now volumes)) × (cells ≤ length (now next)) × (4 * cells ≤ length (now work)) ⌝ }
     requires { ⌜ ((c : ℕ) → c < cells → CellAsks (getD (now volumes) c 0) (getD (now next) c 0) (getD (now work) (4 * c + 1) 0) (getD (now work) (4 * c + 2) 0)) ⌝ }
-    ensures { λ _. ⌜ Settled (now (volumes .entry)) (now (next .entry)) (now (work .entry)) cells (now (work .exit)) ⌝ }
+    ensures { λ _. ⌜ Allowances (now (volumes .entry)) (now (next .entry)) (now (work .entry)) cells (now (work .exit)) ⌝ }
 {
     let mut c = 0;
     while c < cells {
-        settle_cell(work, c, volumes[c], next[c]);
+        allowance_at(work, c, volumes[c], next[c]);
         c += 1;
     }
 }
@@ -45,10 +45,10 @@ pub fn end_of(code: u64, first: u64, second: u64) -> u64
 }
 
 // A face's correction counted where it enters and where it leaves.
-pub fn weigh_face(work: &mut [u64], first: u64, second: u64, code: u64)
+pub fn add_correction(work: &mut [u64], first: u64, second: u64, code: u64)
     requires { ⌜ (code / 2 ≢ 0 → (4 * first + 3 < length (now work)) × (4 * second + 3 < length (now work)) × (first < maxCells) × (second < maxCells)) ⌝ }
     requires { ⌜ (code / 2 ≢ 0 → (getD (now work) (4 * enters code first second) 0 + code / 2 < 2 ^ 64) × (getD (now work) (4 * leaves code first second + 3) 0 + code / 2 < 2 ^ 64)) ⌝ }
-    ensures { λ _. ⌜ now (work .exit) ≡ weighedFace (now (work .entry)) first second code ⌝ }
+    ensures { λ _. ⌜ now (work .exit) ≡ correctionAdded (now (work .entry)) first second code ⌝ }
 {
     let size = code / 2;
     if size == 0 {
@@ -61,14 +61,20 @@ pub fn weigh_face(work: &mut [u64], first: u64, second: u64, code: u64)
 }
 
 // Fourth pass: the sums of the corrections that enter and that leave each cell.
-pub fn weigh(cells: usize, faces: usize, firsts: &[u64], seconds: &[u64], work: &mut [u64])
-    requires { ⌜ WeighAsks (endsOf cells faces (now firsts) (now seconds)) (corrections cells (now work)) (now work) ⌝ }
-    ensures { λ _. ⌜ Weighed (endsOf cells faces (now (firsts .entry)) (now (seconds .entry))) (corrections cells (now (work .entry))) (now (work .entry)) faces (now (work .exit)) ⌝ }
+pub fn sum_corrections(
+    cells: usize,
+    faces: usize,
+    firsts: &[u64],
+    seconds: &[u64],
+    work: &mut [u64],
+)
+    requires { ⌜ SumAsks (endsOf cells faces (now firsts) (now seconds)) (corrections cells (now work)) (now work) ⌝ }
+    ensures { λ _. ⌜ CorrectionSums (endsOf cells faces (now (firsts .entry)) (now (seconds .entry))) (corrections cells (now (work .entry))) (now (work .entry)) faces (now (work .exit)) ⌝ }
 {
     let mut f = 0;
     while f < faces {
         let code = work[4 * cells + f];
-        weigh_face(work, firsts[f], seconds[f], code);
+        add_correction(work, firsts[f], seconds[f], code);
         f += 1;
     }
 }

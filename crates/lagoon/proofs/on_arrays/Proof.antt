@@ -5,7 +5,7 @@ use Rattle.lagoon.proofs.on_arrays.Tie as tie
 
 on-records-requires : tie.Need-on-records-requires
 on-records-requires c κs = (
-  (record { volumes-long = refl; firsts-long = refl; seconds-long = refl; weights-long = refl; spans-long = refl }, refl),
+  (record { volumes-long = refl; firsts-long = refl; seconds-long = refl; shares-long = refl; reaches-long = refl }, refl),
   record { fluxes-long = refl; outsides-long = refl; nexts-long = refl; moveds-long = refl; work-long = refl },
 )
 

@@ -8,11 +8,11 @@ use Rattle.run.proofs.steps.Tie as tie
 
 -- every table keeps its length
 abbrev Inv-loop : tie.InvT-loop
-Inv-loop cells faces buffer₀ volumes firsts seconds weights spans masses₀ fluxes₀ outsides₀ next₀ moved₀ work₀ step₀ buffer masses fluxes outsides next moved work step =
+Inv-loop cells faces buffer₀ volumes firsts seconds shares reaches masses₀ fluxes₀ outsides₀ next₀ moved₀ work₀ step₀ buffer masses fluxes outsides next moved work step =
     (length buffer ≡ length buffer₀) × (length masses ≡ length masses₀) × (length fluxes ≡ length fluxes₀) × (length outsides ≡ length outsides₀) × (length next ≡ length next₀) × (length moved ≡ length moved₀) × (length work ≡ length work₀)
 
 abbrev μ-loop : tie.MeasureT-loop
-μ-loop cells faces buffer₀ volumes firsts seconds weights spans masses₀ fluxes₀ outsides₀ next₀ moved₀ work₀ step₀ buffer masses fluxes outsides next moved work step =
+μ-loop cells faces buffer₀ volumes firsts seconds shares reaches masses₀ fluxes₀ outsides₀ next₀ moved₀ work₀ step₀ buffer masses fluxes outsides next moved work step =
     18446744073709551615 - step
 
 step-once-requires : tie.Need-step-once-requires Inv-loop μ-loop

@@ -5,10 +5,10 @@ use Rattle.bench_step.proofs.grid.make_faces.Statement.{statement}
 use Rattle.bench_step.proofs.grid.make_faces.Tie as tie
 
 abbrev Inv-loop : tie.InvT-loop
-Inv-loop faces width height firsts₀ seconds₀ weights₀ spans₀ fluxes₀ outsides₀ f₀ firsts seconds weights spans fluxes outsides f = f ≤ faces
+Inv-loop faces width height firsts₀ seconds₀ shares₀ reaches₀ fluxes₀ outsides₀ f₀ firsts seconds shares reaches fluxes outsides f = f ≤ faces
 
 abbrev μ-loop : tie.MeasureT-loop
-μ-loop faces width height firsts₀ seconds₀ weights₀ spans₀ fluxes₀ outsides₀ f₀ firsts seconds weights spans fluxes outsides f = faces - f
+μ-loop faces width height firsts₀ seconds₀ shares₀ reaches₀ fluxes₀ outsides₀ f₀ firsts seconds shares reaches fluxes outsides f = faces - f
 
 pub make-faces-spec : {M : Type 1} → statement M
 make-faces-spec =

@@ -10,10 +10,10 @@ use Rattle.checks.proofs.mesh.spacing_good.Statement.{statement}
 use Rattle.checks.proofs.mesh.spacing_good.Tie as tie
 
 abbrev Inv-loop : tie.InvT-loop
-Inv-loop faces seconds weights spans f₀ f = (f ≤ faces) × (each 5 f (spacingGood (meshOf 0 faces [] [] seconds weights spans)) ≡ fine)
+Inv-loop faces seconds shares reaches f₀ f = (f ≤ faces) × (each 5 f (spacingGood (meshOf 0 faces [] [] seconds shares reaches)) ≡ fine)
 
 abbrev μ-loop : tie.MeasureT-loop
-μ-loop faces seconds weights spans f₀ f = faces - f
+μ-loop faces seconds shares reaches f₀ f = faces - f
 
 returns : tie.Need-returns Inv-loop μ-loop
 unfolding spacingGood

@@ -10,10 +10,10 @@ use Rattle.checks.proofs.water.fluxes_good.Statement.{statement}
 use Rattle.checks.proofs.water.fluxes_good.Tie as tie
 
 abbrev Inv-loop : tie.InvT-loop
-Inv-loop faces seconds spans fluxes f₀ f = (f ≤ faces) × (each 8 f (fluxGood (meshOf 0 faces [] [] seconds [] spans) [] (callOf fluxes [] [] [] [])) ≡ fine)
+Inv-loop faces seconds reaches fluxes f₀ f = (f ≤ faces) × (each 8 f (fluxGood (meshOf 0 faces [] [] seconds [] reaches) [] (callOf fluxes [] [] [] [])) ≡ fine)
 
 abbrev μ-loop : tie.MeasureT-loop
-μ-loop faces seconds spans fluxes f₀ f = faces - f
+μ-loop faces seconds reaches fluxes f₀ f = faces - f
 
 returns : tie.Need-returns Inv-loop μ-loop
 unfolding fluxGood

@@ -10,7 +10,7 @@ use Rattle.lagoon.proofs.chain.on_step.Statement.{statement}
 use Rattle.lagoon.proofs.chain.on_step.Tie as tie
 
 abbrev mesh : tie.Start → Mesh
-mesh s = meshOf (s .args .cells) (s .args .faces) (s .args .volumes .now) (s .args .firsts .now) (s .args .seconds .now) (s .args .weights .now) (s .args .spans .now)
+mesh s = meshOf (s .args .cells) (s .args .faces) (s .args .volumes .now) (s .args .firsts .now) (s .args .seconds .now) (s .args .shares .now) (s .args .reaches .now)
 
 returns : tie.Need-returns
 returns c =

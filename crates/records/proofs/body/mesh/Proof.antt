@@ -15,8 +15,8 @@ returns c =
       volumes-are = v .column .ensures;
       firsts-are = f .column2 .ensures;
       seconds-are = recount _ (d .column3 .ensures) (p .seconds-as-firsts);
-      weights-are = recount _ (w .column4 .ensures) (p .weights-as-firsts);
-      spans-are = recount _ (k .column5 .ensures) (p .spans-as-firsts);
+      shares-are = recount _ (w .column4 .ensures) (p .shares-as-firsts);
+      reaches-are = recount _ (k .column5 .ensures) (p .reaches-as-firsts);
     }
 
 pub mesh-spec : {M : Type 1} → statement M

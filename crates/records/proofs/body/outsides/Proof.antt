@@ -7,16 +7,16 @@ use lib.ListN.{length, length-set}
 use Rattle.lists.specs.Table.{table, over}
 use Rattle.lists.proofs.Tables.{over-start, over-step, over-done}
 use Rattle.bits.specs.Field.{bitsAt}
-use Rattle.records.specs.Layouts.{outsideBits, isBoundary, boundaryFaces}
-use Rattle.records.proofs.HeadLaws.{boundary-none, boundary-part, outside-next}
+use Rattle.records.specs.Layouts.{outsideBits, isRim, rimFaces}
+use Rattle.records.proofs.HeadLaws.{rim-none, rim-part, outside-next}
 use Rattle.records.proofs.BodyLaws.{outside-taken}
 use Rattle.records.proofs.body.outsides.Statement.{statement}
 use Rattle.records.proofs.body.outsides.Tie as tie
 
 abbrev Inv-loop : tie.InvT-loop
 Inv-loop body first seconds out₀ here₀ f₀ out here f =
-    (length out ≡ length out₀) × (f ≤ length out₀) × (here .at ≡ first + boundaryFaces seconds f * outsideBits)
-    × (out ≡ over (table f (λ k. cond (isBoundary seconds k) (bitsAt body (first + boundaryFaces seconds k * outsideBits) outsideBits) 0)) out₀)
+    (length out ≡ length out₀) × (f ≤ length out₀) × (here .at ≡ first + rimFaces seconds f * outsideBits)
+    × (out ≡ over (table f (λ k. cond (isRim seconds k) (bitsAt body (first + rimFaces seconds k * outsideBits) outsideBits) 0)) out₀)
 
 abbrev μ-loop : tie.MeasureT-loop
 μ-loop body first seconds out₀ here₀ f₀ out here f = length out₀ - f
@@ -24,15 +24,15 @@ abbrev μ-loop : tie.MeasureT-loop
 loop-holds : tie.Need-loop-holds Inv-loop μ-loop
 loop-holds c =
     let s = c .before .before .before .before in
-    (refl, search needs, omega (arith, c .new .ensures, boundary-none (s .args .seconds .now)), over-start _ _)
+    (refl, search needs, omega (arith, c .new .ensures, rim-none (s .args .seconds .now)), over-start _ _)
 
 outside-requires : tie.Need-outside-requires Inv-loop μ-loop
 outside-requires c κs =
     let l = c .before .before .before .loop in
     let s = c .before .before .before .before .before .before .before .before in
     let n = outside-next (s .args .seconds .now) (l .f) in
-    let p = boundary-part (s .args .seconds .now) (l .f + 1) (length (s .args .out .now)) (search needs) in
-    rw (c .is-boundary .ensures) (omega arith)
+    let p = rim-part (s .args .seconds .now) (l .f + 1) (length (s .args .out .now)) (search needs) in
+    rw (c .is-rim .ensures) (omega arith)
 
 loop-again : tie.Need-loop-again Inv-loop μ-loop
 loop-again c =
@@ -41,8 +41,8 @@ loop-again c =
     let s = o .before .before .before .before .before .before .before .before .before in (
       simp length-set (l .inv .0),
       search needs,
-      rw (o .outside .ensures .1, o .before .is-boundary .ensures) (omega (arith, outside-next (s .args .seconds .now) (l .f), l .inv .2)),
-      over-step _ _ _ (search needs) (l .inv .3) (outside-taken _ (o .outside .ensures .0) (o .before .is-boundary .ensures) (l .inv .2)),
+      rw (o .outside .ensures .1, o .before .is-rim .ensures) (omega (arith, outside-next (s .args .seconds .now) (l .f), l .inv .2)),
+      over-step _ _ _ (search needs) (l .inv .3) (outside-taken _ (o .outside .ensures .0) (o .before .is-rim .ensures) (l .inv .2)),
     )
 
 pub outsides-spec : {M : Type 1} → statement M

@@ -1,14 +1,14 @@
 use native.Mathlib.Omega.{arith}
 use borrow.Author.Needs.{needs}
-use Rattle.records.proofs.HeadLaws.{boundary-le}
+use Rattle.records.proofs.HeadLaws.{rim-le}
 use Rattle.records.proofs.lengths.step_bits.Statement.{statement}
 use Rattle.records.proofs.lengths.step_bits.Tie as tie
 
 mul-result-3 : tie.Need-mul-result-3
-mul-result-3 c = let s = c .before .before in omega (arith, boundary-le (s .args .seconds .now) (s .args .faces))
+mul-result-3 c = let s = c .before .before in omega (arith, rim-le (s .args .seconds .now) (s .args .faces))
 
 add-result-2 : tie.Need-add-result-2
-add-result-2 c = let s = c .before .before in omega (arith, boundary-le (s .args .seconds .now) (s .args .faces))
+add-result-2 c = let s = c .before .before in omega (arith, rim-le (s .args .seconds .now) (s .args .faces))
 
 pub step-bits-spec : {M : Type 1} → statement M
 step-bits-spec = tie.close (tie.spec (search needs) (search needs) (search needs) (search needs) mul-result-3 add-result-2 (search needs))

@@ -10,10 +10,10 @@ use Rattle.records.proofs.put.faces.Statement.{statement}
 use Rattle.records.proofs.put.faces.Tie as tie
 
 abbrev Inv-loop : tie.InvT-loop
-Inv-loop bytes₀ at n firsts seconds weights spans here₀ f₀ bytes here f = (f ≤ n) × Laid bytes₀ at (rows f (faceRow (meshOf 0 n [] firsts seconds weights spans))) bytes here
+Inv-loop bytes₀ at n firsts seconds shares reaches here₀ f₀ bytes here f = (f ≤ n) × Laid bytes₀ at (rows f (faceRow (meshOf 0 n [] firsts seconds shares reaches))) bytes here
 
 abbrev μ-loop : tie.MeasureT-loop
-μ-loop bytes₀ at n firsts seconds weights spans here₀ f₀ bytes here f = n - f
+μ-loop bytes₀ at n firsts seconds shares reaches here₀ f₀ bytes here f = n - f
 
 face-requires : tie.Need-face-requires Inv-loop μ-loop
 face-requires c κs = room-row _ _ _ (search needs) (c .before .before .before .before .before .before .before .before .before .before .before .before .pre .4) (c .before .before .before .before .before .before .loop .inv .1)

@@ -14,10 +14,10 @@ abbrev μ-loop : tie.MeasureT-loop
 μ-loop bytes₀ at n seconds values here₀ f₀ bytes here f = n - f
 
 outside-requires : tie.Need-outside-requires Inv-loop μ-loop
-outside-requires c κs = rw (c .before .is-boundary .ensures) (room-row _ _ _ (search needs) (c .before .before .before .before .before .before .before .before .before .pre .2) (c .before .before .before .before .before .loop .inv .1))
+outside-requires c κs = rw (c .before .is-rim .ensures) (room-row _ _ _ (search needs) (c .before .before .before .before .before .before .before .before .before .pre .2) (c .before .before .before .before .before .loop .inv .1))
 
 loop-again : tie.Need-loop-again Inv-loop μ-loop
-loop-again c = (search needs, laid-row _ _ (c .before .before .before .before .before .before .before .before .loop .inv .1) (rw (c .before .before .before .before .is-boundary .ensures) at (c .before .before .outside .ensures)))
+loop-again c = (search needs, laid-row _ _ (c .before .before .before .before .before .before .before .before .loop .inv .1) (rw (c .before .before .before .before .is-rim .ensures) at (c .before .before .outside .ensures)))
 
 returns : tie.Need-returns Inv-loop μ-loop
 returns c = laid-rows _ _ _ (search needs) (search needs) (c .before .loop .inv .1)

@@ -5,7 +5,7 @@ use Rattle.records.proofs.BodyLaws.{MeshLends, mesh-lends}
 use Rattle.records.proofs.tables.mesh.Statement.{statement}
 use Rattle.records.proofs.tables.mesh.Tie as tie
 
-lends : (s : tie.Start) → MeshLends (s .args .cells) (s .args .faces) (s .args .bytes .now) (s .args .volumes .now) (s .args .firsts .now) (s .args .seconds .now) (s .args .weights .now) (s .args .spans .now)
+lends : (s : tie.Start) → MeshLends (s .args .cells) (s .args .faces) (s .args .bytes .now) (s .args .volumes .now) (s .args .firsts .now) (s .args .seconds .now) (s .args .shares .now) (s .args .reaches .now)
 lends s = mesh-lends _ _ _ _ _ _ _ _ (s .pre)
 
 pub mesh-spec : {M : Type 1} → statement M
@@ -15,7 +15,7 @@ mesh-spec =
     (λ c. lends (c .before .before .before .before .before .before .before) .volumes-fit) (λ c. sym (length-take-le _ _ (lends (c .before .before .before .before .before .before .before .before) .volumes-fit)))
     (λ c. lends (c .before .before .before .before .before .before .before .before) .firsts-fit) (λ c. sym (length-take-le _ _ (lends (c .before .before .before .before .before .before .before .before .before) .firsts-fit)))
     (λ c. lends (c .before .before .before .before .before .before .before .before .before) .seconds-fit) (λ c. sym (length-take-le _ _ (lends (c .before .before .before .before .before .before .before .before .before .before) .seconds-fit)))
-    (λ c. lends (c .before .before .before .before .before .before .before .before .before .before) .weights-fit) (λ c. sym (length-take-le _ _ (lends (c .before .before .before .before .before .before .before .before .before .before .before) .weights-fit)))
-    (λ c. lends (c .before .before .before .before .before .before .before .before .before .before .before) .spans-fit) (λ c. sym (length-take-le _ _ (lends (c .before .before .before .before .before .before .before .before .before .before .before .before) .spans-fit)))
+    (λ c. lends (c .before .before .before .before .before .before .before .before .before .before) .shares-fit) (λ c. sym (length-take-le _ _ (lends (c .before .before .before .before .before .before .before .before .before .before .before) .shares-fit)))
+    (λ c. lends (c .before .before .before .before .before .before .before .before .before .before .before) .reaches-fit) (λ c. sym (length-take-le _ _ (lends (c .before .before .before .before .before .before .before .before .before .before .before .before) .reaches-fit)))
     (λ c κs. lends (c .before .before .before .before .before .before .before .before .before .before .before .before) .room) (search needs) (search needs) (search needs) (search needs) (search needs)
     (λ c. lends (c .before .before .before .before .before .before .before .before .before .before .before .before .before .before .before .before .before .before .before .before .before .before .before) .filled (c .before .before .before .before .before .before .before .before .before .before .mesh .ensures)))

@@ -14,7 +14,7 @@ use Rattle.records.proofs.verdicts.mesh.Tie as tie
 -- the length and the tables
 lent : (c : tie.After-then-long5) → let s = c .before .before .before .before .before .before .before .before .before in let bs = s .args .bytes .now in
     said (c .then-long5 .result) ≡ (hasLength bs (meshLength (cellsIn bs) (facesIn bs)) andThen long 0 (cellsIn bs) (s .args .volumes) andThen long 1 (facesIn bs) (s .args .firsts)
-    andThen long 2 (facesIn bs) (s .args .seconds) andThen long 3 (facesIn bs) (s .args .weights) andThen long 4 (facesIn bs) (s .args .spans))
+    andThen long 2 (facesIn bs) (s .args .seconds) andThen long 3 (facesIn bs) (s .args .shares) andThen long 4 (facesIn bs) (s .args .reaches))
 unfolding meshLength
 lent c =
     let d = c .before .before .before in

@@ -7,7 +7,7 @@ use Rattle.model.proofs.Verdicts.{past, out}
 use Rattle.records.specs.Layouts.{stepBits, stepLength}
 use Rattle.records.specs.Reading.{hasLength, stepBodyVerdict, stepBitGood}
 use Rattle.checks.proofs.Laws.{refuses, passes}
-use Rattle.records.proofs.HeadLaws.{step-tables-say, boundary-le, bytes-hold, bytes-most}
+use Rattle.records.proofs.HeadLaws.{step-tables-say, rim-le, bytes-hold, bytes-most}
 use Rattle.records.proofs.verdicts.step.Statement.{statement}
 use Rattle.records.proofs.verdicts.step.Tie as tie
 
@@ -20,7 +20,7 @@ lent c =
     rw (c .then-long2 .ensures, c .before .then-long .ensures, n .need .ensures, n .before .bytes-for .ensures, n .before .before .step-bits .ensures)
 
 bytes-for-requires : tie.Need-bytes-for-requires
-bytes-for-requires c κs = let s = c .before .before .before in omega (arith, c .step-bits .ensures, boundary-le (s .args .seconds .now) (s .args .faces))
+bytes-for-requires c κs = let s = c .before .before .before in omega (arith, c .step-bits .ensures, rim-le (s .args .seconds .now) (s .args .faces))
 
 returns : tie.Need-returns
 unfolding stepBodyVerdict
@@ -32,7 +32,7 @@ step-requires c κs =
     let s = n .before .before .before .before .before in
     let end = stepBits (s .args .faces) (s .args .seconds .now) in
     let t = step-tables-say (s .args .faces) (s .args .seconds .now) (s .args .bytes .now) _ _ (passes (lent (c .before .before)) (c .enum-told .given .1)) in
-    omega (arith, n .before .before .step-bits .ensures, t .same-length, bytes-hold end, bytes-most end, boundary-le (s .args .seconds .now) (s .args .faces))
+    omega (arith, n .before .before .step-bits .ensures, t .same-length, bytes-hold end, bytes-most end, rim-le (s .args .seconds .now) (s .args .faces))
 
 returns-2 : tie.Need-returns-2
 unfolding stepBodyVerdict stepBitGood

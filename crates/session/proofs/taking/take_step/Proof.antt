@@ -8,7 +8,7 @@ use Rattle.session.proofs.taking.take_step.Statement.{statement}
 use Rattle.session.proofs.taking.take_step.Tie as tie
 
 abbrev mesh : tie.Start → Mesh
-mesh s = meshOf (s .args .cells) (s .args .faces) (s .args .volumes .now) (s .args .firsts .now) (s .args .seconds .now) (s .args .weights .now) (s .args .spans .now)
+mesh s = meshOf (s .args .cells) (s .args .faces) (s .args .volumes .now) (s .args .firsts .now) (s .args .seconds .now) (s .args .shares .now) (s .args .reaches .now)
 
 abbrev call : tie.Start → Call
 call s = callOf (s .args .fluxes .now) (s .args .outsides .now) (s .args .next .now) (s .args .moved .now) (s .args .work .now)
