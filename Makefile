@@ -14,7 +14,7 @@ test:
 bench:
 	bench/run.py
 
-# the engine against the reference: fixed sessions and calls, and document 01's slips
+# the engine against the reference: fixed sessions, records and scripts of calls, and slips
 compare:
 	tests/compare.sh
 
@@ -27,4 +27,4 @@ soak:
 # the figures of docs/ACCURACY.md, and its picture
 accuracy:
 	reference/build.sh
-	python3 reference/accuracy.py --call target/compare/call_guarded --fine --svg docs/accuracy.svg
+	python3 bench/accuracy.py --call target/compare/call_guarded --fine --svg docs/accuracy.svg

@@ -61,16 +61,16 @@ def test_channel():
 
 
 def test_engine_records():
-    """The bytes that the engine wrote in the gate's program of the records."""
-    printed = (ROOT / "crates" / "record_figures" / "stdout").read_text()
+    """The bytes that the engine writes in the gate's program of all calls."""
+    printed = (ROOT / "crates" / "calls" / "stdout").read_text()
+    written = re.compile(r"write_mesh: accepted (\d+); bytes (.*)\nwrite_field: accepted (\d+); bytes (.*)\n"
+                         r"write_step: accepted (\d+); bytes (.*)\n")
     sessions = 0
-    for line in printed.splitlines():
-        found = re.fullmatch(r".*: mesh written (\d+): (.*); field written (\d+): (.*); step written (\d+): (.*)", line)
-        if found:
-            data = b"".join(bytes.fromhex(found[i + 1])[:int(found[i])] for i in (1, 3, 5))
-            _, problems = both_ways(data, line[:30])
-            equal(problems, [], line[:30])
-            sessions += 1
+    for found in written.finditer(printed):
+        data = b"".join(bytes(map(int, found[i + 1].split()[:int(found[i])])) for i in (1, 3, 5))
+        _, problems = both_ways(data, found[0][:60])
+        equal(problems, [], found[0][:60])
+        sessions += 1
     equal(sessions > 3, True, "sessions of the engine's records")
 
 
@@ -131,8 +131,8 @@ def test_bad_text():
     cases = [("cell 0 volume 1", 1, 1), ("mesh\n  cel 0 volume 1", 2, 3), ("mesh\ncell 1 volume 1", 2, 6),
              ("mesh\ncell 0 volume 4096", 2, 15), ("mesh\ncell 0 volume -1", 2, 15), ("mesh\ncell 0 volume", 2, 14),
              ("mesh\ncell 0 volume # 1", 2, 14), ("mesh\ncell 0 volume 1 2", 2, 17), ("mesh\ncell 0 mass 1", 2, 8),
-             ("mesh\nface 0 from 0 to 1", 2, 19), ("mesh\nface 0 from 0 to rim", 2, 18),
-             ("mesh\nface 0 from 0 to 1 share 256 reach 1", 2, 27), ("mesh\nface 0 from 0 to 1 share 1 reach 4096", 2, 34),
+             ("mesh\nface 0 from 0 to 1", 2, 19), ("mesh\nface 0 from 0 to shore", 2, 18),
+             ("mesh\nface 0 from 0 to 1 share 256 reach 1", 2, 26), ("mesh\nface 0 from 0 to 1 share 1 reach 4096", 2, 34),
              (mesh + "cell 1 volume 1", 5, 1), (mesh + "mesh", 5, 1), (mesh + "step", 5, 1), ("field", 1, 1),
              (mesh + "field\ncell 1 mass 1", 6, 6), (mesh + "field\ncell 0 mass 4294967296", 6, 13),
              (field + "cell 0 mass 6", 7, 6), (field + "field", 7, 1), (field + "step\nface 0 flux 4096", 8, 13),
