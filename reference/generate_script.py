@@ -263,9 +263,10 @@ def read_step(rng, large, kinds):
 def number_at(rng, large, kinds):
     record = list(rng.randbytes(rng.choice([0, 1, 5, 6, 9, 30])))
     bits = 8 * len(record)
-    width = rng.choice([0, 1, 4, 12, 13, 20, 32, 39, 40, 41, 64, GREATEST])
-    bit = rng.choice([0, max(0, bits - width), max(0, bits - width + 1), rng.randint(0, bits), bits, bits + 1,
-                      1 << 32, (1 << 32) + 1, GREATEST])
+    width = rng.choice([0, 1, 4, 8, 12, 13, 20, 32, 39, 40, 41, rng.choice([64, GREATEST])])
+    last = max(0, bits - width)
+    bit = rng.choice([0, last, last, rng.randint(0, last), rng.randint(0, last), last + 1,
+                      rng.choice([bits, bits + 1, 1 << 32, (1 << 32) + 1, GREATEST])])
     return record, bit, width
 
 def lagoon_step(rng, large, kinds):
