@@ -16,16 +16,16 @@ reference/build.sh
 lib=target/staticlib/liblagoon.a
 
 gcc $strict -Iinclude examples/host.c "$lib" -o "$out/host"
-"$out/host" | diff examples/host.out -
+"$out/host" | diff tests/host.out -
 
 # within the stack that include/lagoon.h names, in KiB
-(ulimit -s 320; "$out/host") | diff examples/host.out -
+(ulimit -s 320; "$out/host") | diff tests/host.out -
 
 # the example under the sanitizers, and the library, which is built without them, under valgrind where it is there
 gcc $strict -fsanitize=address,undefined -fno-sanitize-recover=all -Iinclude examples/host.c "$lib" -o "$out/host_checked"
-"$out/host_checked" | diff examples/host.out -
+"$out/host_checked" | diff tests/host.out -
 if command -v valgrind >/dev/null; then
-  valgrind -q --error-exitcode=1 "$out/host" | diff examples/host.out -
+  valgrind -q --error-exitcode=1 "$out/host" | diff tests/host.out -
 else
   echo "no valgrind here: the library's own accesses are watched by the guard pages of tests/compare.sh alone"
 fi
