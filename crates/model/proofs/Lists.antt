@@ -1,6 +1,6 @@
 -- Demand 3 over an abstract kind of call, and the step on tables as such a call.
-use Prim.Native.Nat.{ℕ, _+_, _/_, _≤_, _<_}
-use mathlib.Core.Path.{_≡_, refl, sym, _∙_}
+use Prim.Native.Nat.{ℕ, _+_, _≤_, _<_}
+use mathlib.Core.Path.{_≡_, refl}
 use mathlib.Core.List.{List, [], _∷_}
 use native.Mathlib.Nat.{le-trans}
 use native.Mathlib.Omega.{arith}
@@ -8,11 +8,11 @@ use lib.ListN.{length}
 use Rattle.lists.specs.Table.{table, over}
 use Rattle.lists.proofs.Sums.{sum-cong}
 use Rattle.lists.proofs.Tables.{length-over, getD-over}
-use Rattle.model.specs.Mesh.{Mesh, volume, total}
-use Rattle.model.specs.Step.{StepInput, next, lo, hi, mass, inMass, outMass}
-use Rattle.model.specs.Causes.{Outcome, accepted, refused, fine, taken, _andThen_, Call, inputOf, fieldVerdict, verdict}
-use Rattle.model.specs.Calls.{massIn, Bounded, Crossing, Left, fieldAfter, enteredBy, goneBy, nextTable, stepOnTables, afterAll, totalIn, totalOut, EachAccepted, Claim}
-use Rattle.model.proofs.Verdicts.{both-fine, past}
+use Rattle.model.specs.Mesh.{Mesh, total}
+use Rattle.model.specs.Step.{StepInput, next, inMass, outMass}
+use Rattle.model.specs.Causes.{Outcome, accepted, refused, fine, Call, inputOf, fieldVerdict, verdict}
+use Rattle.model.specs.Calls.{massIn, Bounded, Left, fieldAfter, enteredBy, goneBy, nextTable, stepOnTables, afterAll, totalIn, totalOut, EachAccepted, Claim}
+use Rattle.model.proofs.Verdicts.{both-fine}
 use Rattle.model.proofs.Next.{next-concentration, step-budget}
 use Rattle.model.proofs.Accepted.{Ready, ready, passed, call-lent, field-accepted, hi-most}
 
@@ -33,16 +33,16 @@ module _ (M : Mesh) {K : Type 0} (comes : K → List ℕ → Outcome Left) (P : 
   one-accepted k field g (accepted l) e = fair k field l g e .field-accepted
   one-accepted k field g (refused i j) e = g
 
-  all-budget : (field : List ℕ) → fieldVerdict M field ≡ fine → (ks : List K) → total M (massIn (afterAll M comes field ks)) + totalOut M comes field ks ≡ total M (massIn field) + totalIn M comes field ks
+  all-budget : (field : List ℕ) → fieldVerdict M field ≡ fine → (ks : List K) → total M (massIn (afterAll comes field ks)) + totalOut comes field ks ≡ total M (massIn field) + totalIn comes field ks
   unfolding afterAll totalOut totalIn
   all-budget field g [] = refl
   all-budget field g (k ∷ ks) = omega (arith, one-budget k field g (comes k field) refl, all-budget (fieldAfter (comes k field) field) (one-accepted k field g (comes k field) refl) ks)
 
-  all-hold : (field : List ℕ) → fieldVerdict M field ≡ fine → (ks : List K) → EachAccepted M comes P field ks
+  all-hold : (field : List ℕ) → fieldVerdict M field ≡ fine → (ks : List K) → EachAccepted comes P field ks
   all-hold field g [] = tt
   all-hold field g (k ∷ ks) = ((λ l e. fair k field l g e .holds), all-hold (fieldAfter (comes k field) field) (one-accepted k field g (comes k field) refl) ks)
 
-  all-accepted : (field : List ℕ) → fieldVerdict M field ≡ fine → (ks : List K) → fieldVerdict M (afterAll M comes field ks) ≡ fine
+  all-accepted : (field : List ℕ) → fieldVerdict M field ≡ fine → (ks : List K) → fieldVerdict M (afterAll comes field ks) ≡ fine
   unfolding afterAll
   all-accepted field g [] = g
   all-accepted field g (k ∷ ks) = all-accepted (fieldAfter (comes k field) field) (one-accepted k field g (comes k field) refl) ks

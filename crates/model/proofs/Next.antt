@@ -131,6 +131,7 @@ pub step-budget : (S : StepInput) → Sound S → total (S .mesh) (next S) + out
 unfolding next
 step-budget S ok = omega (arith, budget (S .mesh) (ok .joined) (moved S) (mass S) (affords S ok), outward-is S (moved S) (rim-moved S), inward-is S (moved S) (rim-moved S))
 
+-- the same of the low-order masses: the budget of a step that ends after stage 1
 pub low-budget : (S : StepInput) → Sound S → total (S .mesh) (low S) + outMass S ≡ total (S .mesh) (mass S) + inMass S
 unfolding low
 low-budget S ok = omega (arith, budget (S .mesh) (ok .joined) (carried S) (mass S) (λ c h. omega (arith, low-affords S ok c h)), outward-is S (carried S) (λ f e. refl), inward-is S (carried S) (λ f e. refl))
