@@ -12,7 +12,7 @@ use Rattle.signed.specs.Sign.{isNegative}
 use Rattle.model.specs.Mesh.{Mesh, second, rim, entering, leaving, incoming, outgoing, updated}
 use Rattle.model.specs.Step.{StepInput, flux, outside, mass, inMass, next, moved, concentration, beyond, upwind, downwind, carried, low, upwindShare, correction, adjacent, lo, hi, maxGain, maxLoss, receiver, giver, limitedBy, limited, portion}
 use Rattle.model.specs.Causes.{Call, inputOf, fine, refused, _andThen_, need, each, countsWithin, counts, meshTables, volumeGood, endsGood, spacingGood, meshValues, fieldTable, saltGood, fieldValues, fieldVerdict, stepTables, outsideGood, fluxGood, balanceGood, outflowGood, stepValues, verdict}
-use Rattle.model.specs.Calls.{stepOnTables, nextTable, afterAll, totalIn, totalOut}
+use Rattle.model.specs.Calls.{corrected, stepOnTables, nextTable, afterAll, totalIn, totalOut}
 use Rattle.model.proofs.Accepted.{ready}
 use Rattle.model.proofs.Uniform.{uniform, no-faces}
 
@@ -196,11 +196,11 @@ unfolding everything
 toward-zero = (refl, refl)
 
 -- the channel session as a list of two calls
-session : afterAll (stepOnTables channel) (100000 ∷ 0 ∷ 0 ∷ []) (channelCall ∷ channelCall ∷ []) ≡ 100099 ∷ 81188 ∷ 18713 ∷ []
+session : afterAll (stepOnTables corrected channel) (100000 ∷ 0 ∷ 0 ∷ []) (channelCall ∷ channelCall ∷ []) ≡ 100099 ∷ 81188 ∷ 18713 ∷ []
 unfolding everything
 session = refl
 
-session-in : totalIn (stepOnTables channel) (100000 ∷ 0 ∷ 0 ∷ []) (channelCall ∷ channelCall ∷ []) ≡ 100000
+session-in : totalIn (stepOnTables corrected channel) (100000 ∷ 0 ∷ 0 ∷ []) (channelCall ∷ channelCall ∷ []) ≡ 100000
 unfolding everything
 session-in = refl
 

@@ -6,9 +6,9 @@ use mathlib.Core.List.{List, [], _∷_}
 use lib.ListN.{getD}
 use lib.IntN.{ℤ}
 use Rattle.lists.specs.Table.{table, over}
-use Rattle.model.specs.Mesh.{Mesh, volume, total}
-use Rattle.model.specs.Step.{StepInput, lo, hi, next, moved, inMass, outMass}
-use Rattle.model.specs.Causes.{Outcome, accepted, refused, taken, fine, _andThen_, Call, inputOf, workLength, fieldVerdict, verdict}
+use Rattle.model.specs.Mesh.{Mesh, volume, updated, total}
+use Rattle.model.specs.Step.{StepInput, lo, hi, moved, inMass, outMass}
+use Rattle.model.specs.Causes.{Outcome, accepted, refused, Verdict, taken, fine, _andThen_, Call, inputOf, workLength, fieldVerdict, verdict}
 
 -- the mass that a field has in cell c
 abbrev pub massIn : List ℕ → ℕ → ℕ
@@ -23,6 +23,9 @@ Bounded S after = (c : ℕ) → c < S .mesh .cells
 pub record Crossing : Type 0 where
   pub entered : ℕ
   pub gone : ℕ
+
+abbrev pub crossingOf : StepInput → Crossing
+crossingOf S = record { entered = inMass S; gone = outMass S }
 
 -- What an accepted call leaves: the field, and what crossed the rim.
 pub record Left : Type 0 where
@@ -42,25 +45,33 @@ abbrev pub goneBy : Outcome Left → ℕ
 goneBy (accepted l) = l .crossing .gone
 goneBy (refused _ _) = 0
 
+-- A way to make a step: what it finds in a call, and the amounts that it moves through the faces.
+pub record Scheme : Type 0 where
+  pub finds : Mesh → List ℕ → Call → Verdict
+  pub moves : Mesh → List ℕ → Call → ℕ → ℤ
+
+-- "One step": causes 1 to 10, and the moved masses of stage 5
+abbrev pub corrected : Scheme
+corrected = record { finds = verdict; moves = λ M field k. moved (inputOf M field k) }
+
 -- What a step call on tables answers: its crossing where no cause applies.
-module _ (M : Mesh) (k : Call) (field : List ℕ) where
+module _ (s : Scheme) (M : Mesh) (k : Call) (field : List ℕ) where
   unfoldable pub stepAnswer : Outcome Crossing
-  stepAnswer = verdict M field k andThen accepted (record { entered = inMass (inputOf M field k); gone = outMass (inputOf M field k) })
+  stepAnswer = s .finds M field k andThen accepted (crossingOf (inputOf M field k))
 
   -- "Tables lent to a step": after acceptance the results in the counted parts of next masses and moved, zeros in that of work
   unfoldable pub nextTable : List ℕ
-  nextTable = taken (verdict M field k) (over (table (M .cells) (next (inputOf M field k))) (k .nexts)) (k .nexts)
+  nextTable = taken (s .finds M field k) (over (table (M .cells) (updated M (massIn field) (s .moves M field k))) (k .nexts)) (k .nexts)
 
   unfoldable pub movedTable : List ℤ
-  movedTable = taken (verdict M field k) (over (table (M .faces) (moved (inputOf M field k))) (k .moveds)) (k .moveds)
+  movedTable = taken (s .finds M field k) (over (table (M .faces) (s .moves M field k)) (k .moveds)) (k .moveds)
 
   unfoldable pub workTable : List ℕ
-  workTable = taken (verdict M field k) (over (table (workLength M) (λ i. 0)) (k .work)) (k .work)
+  workTable = taken (s .finds M field k) (over (table (workLength M) (λ i. 0)) (k .work)) (k .work)
 
   -- the same call as one of a list
   unfoldable pub stepOnTables : Outcome Left
-  stepOnTables = verdict M field k andThen
-      accepted (record { field = nextTable; crossing = record { entered = inMass (inputOf M field k); gone = outMass (inputOf M field k) } })
+  stepOnTables = s .finds M field k andThen accepted (record { field = nextTable; crossing = crossingOf (inputOf M field k) })
 
 -- Calls of some kind K, each with what it comes to on the field that it is lent.
 module _ {K : Type 0} (comes : K → List ℕ → Outcome Left) where
