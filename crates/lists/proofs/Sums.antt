@@ -107,11 +107,6 @@ least-each (suc n) s f i h = go (eqb i n) (same? i n) (least-each n s f i)
     go true (same e) ih = rw e (omega arith)
     go false (other d) ih = omega (arith, ih (omega arith))
 
-pub least-same : (n s : ℕ) (f : ℕ → ℕ) → ((i : ℕ) → i < n → f i ≡ s) → least n s f ≡ s
-unfolding least
-least-same zero s f h = refl
-least-same (suc n) s f h = rw (least-same n s f (λ i l. h i (omega arith)), h n (omega arith)) (omega arith)
-
 pub greatest-cong : (n s t : ℕ) (f g : ℕ → ℕ) → s ≡ t → ((i : ℕ) → i < n → f i ≡ g i) → greatest n s f ≡ greatest n t g
 unfolding greatest
 greatest-cong zero s t f g e h = e
@@ -135,8 +130,3 @@ pub greatest-le : (n s : ℕ) (f : ℕ → ℕ) (k : ℕ) → s ≤ k → ((i : 
 unfolding greatest
 greatest-le zero s f k h g = h
 greatest-le (suc n) s f k h g = omega (arith, greatest-le n s f k h (λ i l. g i (omega arith)), g n (omega arith))
-
-pub greatest-same : (n s : ℕ) (f : ℕ → ℕ) → ((i : ℕ) → i < n → f i ≡ s) → greatest n s f ≡ s
-unfolding greatest
-greatest-same zero s f h = refl
-greatest-same (suc n) s f h = rw (greatest-same n s f (λ i l. h i (omega arith)), h n (omega arith)) (omega arith)

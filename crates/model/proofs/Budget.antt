@@ -26,7 +26,7 @@ outward M x = sum (M .faces) (λ f. cond (atRim M f) (forward (x f)) 0)
 unfoldable pub inward : Mesh → (ℕ → ℤ) → ℕ
 inward M x = sum (M .faces) (λ f. cond (atRim M f) (backward (x f)) 0)
 
--- the cells' shares of a that enters at k, and b that enters at l
+-- the cells' parts of a that enters at k, and b that enters at l
 split : (n k l a b : ℕ) → sum n (λ c. cond (eqb k c) a 0 + cond (eqb l c) b 0) ≡ sum n (λ c. cond (eqb k c) a 0) + sum n (λ c. cond (eqb l c) b 0)
 split n k l a b = sum-add n (λ c. cond (eqb k c) a 0) (λ c. cond (eqb l c) b 0)
 
