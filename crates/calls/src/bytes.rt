@@ -33,22 +33,45 @@ pub fn step_length(words: &[u64]) {
 
 pub fn read_mesh(words: &[u64]) {
     let mut record = [0u8; BYTES_ROOM];
+    show::word(b"read_mesh:");
+    let b = bytes(table(words, 2), &mut record);
+    fill_mesh(
+        number(words, 0),
+        number(words, 1),
+        &record[..b],
+        table(words, 3),
+        table(words, 4),
+        table(words, 5),
+        table(words, 6),
+        table(words, 7),
+    );
+}
+
+// A mesh record read into arrays that hold the entries given.
+fn fill_mesh(
+    most_cells: usize,
+    most_faces: usize,
+    record: &[u8],
+    given_volumes: &[u64],
+    given_firsts: &[u64],
+    given_seconds: &[u64],
+    given_shares: &[u64],
+    given_reaches: &[u64],
+) {
     let mut volumes = [0u64; ROOM];
     let mut firsts = [0u64; ROOM];
     let mut seconds = [0u64; ROOM];
     let mut shares = [0u64; ROOM];
     let mut reaches = [0u64; ROOM];
-    show::word(b"read_mesh:");
-    let b = bytes(table(words, 2), &mut record);
-    let v = copy(table(words, 3), &mut volumes);
-    let f = copy(table(words, 4), &mut firsts);
-    let s = copy(table(words, 5), &mut seconds);
-    let h = copy(table(words, 6), &mut shares);
-    let r = copy(table(words, 7), &mut reaches);
+    let v = copy(given_volumes, &mut volumes);
+    let f = copy(given_firsts, &mut firsts);
+    let s = copy(given_seconds, &mut seconds);
+    let h = copy(given_shares, &mut shares);
+    let r = copy(given_reaches, &mut reaches);
     answers::mesh(records::read_mesh(
-        number(words, 0),
-        number(words, 1),
-        &record[..b],
+        most_cells,
+        most_faces,
+        record,
         &mut volumes[..v],
         &mut firsts[..f],
         &mut seconds[..s],
@@ -74,16 +97,32 @@ pub fn read_field(words: &[u64]) {
 
 pub fn read_step(words: &[u64], ints: &[i64]) {
     let mut record = [0u8; BYTES_ROOM];
-    let mut fluxes = [0i64; ROOM];
-    let mut outsides = [0u64; ROOM];
     show::word(b"read_step:");
     let b = bytes(table(words, 2), &mut record);
-    let f = copy_amounts(amounts(words, ints, 3), &mut fluxes);
-    let o = copy(table(words, 4), &mut outsides);
-    answers::verdict(records::read_step(
+    fill_step(
         number(words, 0),
         table(words, 1),
         &record[..b],
+        amounts(words, ints, 3),
+        table(words, 4),
+    );
+}
+
+fn fill_step(
+    faces: usize,
+    seconds: &[u64],
+    record: &[u8],
+    given_fluxes: &[i64],
+    given_outsides: &[u64],
+) {
+    let mut fluxes = [0i64; ROOM];
+    let mut outsides = [0u64; ROOM];
+    let f = copy_amounts(given_fluxes, &mut fluxes);
+    let o = copy(given_outsides, &mut outsides);
+    answers::verdict(records::read_step(
+        faces,
+        seconds,
+        record,
         &mut fluxes[..f],
         &mut outsides[..o],
     ));
@@ -152,17 +191,34 @@ pub fn number_at(words: &[u64]) {
     answers::spelled(records::reader::number_at(&record[..b], number(words, 1), number(words, 2)));
 }
 
-// The host's answer is one number, printed as it is.
 pub fn lagoon_step(words: &[u64]) {
     let mut mesh = [0u8; BYTES_ROOM];
-    let mut field = [0u8; BYTES_ROOM];
-    let mut step = [0u8; BYTES_ROOM];
-    let mut next = [0u8; BYTES_ROOM];
     show::word(b"lagoon_step:");
     let m = bytes(table(words, 0), &mut mesh);
-    let f = bytes(table(words, 1), &mut field);
-    let s = bytes(table(words, 2), &mut step);
-    let n = bytes(table(words, 3), &mut next);
-    show::number(lagoon::lagoon_step(&mesh[..m], &field[..f], &step[..s], &mut next[..n]));
+    on_mesh(
+        &mesh[..m],
+        table(words, 1),
+        table(words, 2),
+        table(words, 3),
+    );
+}
+
+fn on_mesh(mesh: &[u8], given_field: &[u64], given_step: &[u64], given_next: &[u64]) {
+    let mut field = [0u8; BYTES_ROOM];
+    let f = bytes(given_field, &mut field);
+    on_field(mesh, &field[..f], given_step, given_next);
+}
+
+fn on_field(mesh: &[u8], field: &[u8], given_step: &[u64], given_next: &[u64]) {
+    let mut step = [0u8; BYTES_ROOM];
+    let s = bytes(given_step, &mut step);
+    on_step(mesh, field, &step[..s], given_next);
+}
+
+// The host's answer is one number, printed as it is.
+fn on_step(mesh: &[u8], field: &[u8], step: &[u8], given_next: &[u64]) {
+    let mut next = [0u8; BYTES_ROOM];
+    let n = bytes(given_next, &mut next);
+    show::number(lagoon::lagoon_step(mesh, field, step, &mut next[..n]));
     show::octets(b"; next", n, &next);
 }

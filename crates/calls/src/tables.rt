@@ -79,16 +79,9 @@ pub fn board(words: &[u64]) {
     answers::board(board::board(number(words, 0), table(words, 1), table(words, 2)));
 }
 
-// The three tables that a step writes are arrays of this function, filled with the entries given.
 pub fn step(words: &[u64], ints: &[i64]) {
-    let mut next = [0u64; ROOM];
-    let mut moved = [0i64; ROOM];
-    let mut work = [0u64; ROOM];
     show::word(b"step:");
-    let n = copy(table(words, 10), &mut next);
-    let m = copy_amounts(amounts(words, ints, 11), &mut moved);
-    let w = copy(table(words, 12), &mut work);
-    answers::step(transport::step(
+    fill(
         number(words, 0),
         number(words, 1),
         table(words, 2),
@@ -99,6 +92,45 @@ pub fn step(words: &[u64], ints: &[i64]) {
         table(words, 7),
         amounts(words, ints, 8),
         table(words, 9),
+        table(words, 10),
+        amounts(words, ints, 11),
+        table(words, 12),
+    );
+}
+
+// A step that writes into arrays which hold the entries given.
+fn fill(
+    cells: usize,
+    faces: usize,
+    volumes: &[u64],
+    firsts: &[u64],
+    seconds: &[u64],
+    shares: &[u64],
+    reaches: &[u64],
+    masses: &[u64],
+    fluxes: &[i64],
+    outsides: &[u64],
+    given_next: &[u64],
+    given_moved: &[i64],
+    given_work: &[u64],
+) {
+    let mut next = [0u64; ROOM];
+    let mut moved = [0i64; ROOM];
+    let mut work = [0u64; ROOM];
+    let n = copy(given_next, &mut next);
+    let m = copy_amounts(given_moved, &mut moved);
+    let w = copy(given_work, &mut work);
+    answers::step(transport::step(
+        cells,
+        faces,
+        volumes,
+        firsts,
+        seconds,
+        shares,
+        reaches,
+        masses,
+        fluxes,
+        outsides,
         &mut next[..n],
         &mut moved[..m],
         &mut work[..w],

@@ -62,7 +62,7 @@ fn digit_of(b: u8) -> u64
 }
 
 // A number with one more digit.
-pub fn grow(n: Number, digit: u64) -> Token
+fn grow(n: Number, digit: u64) -> Token
     requires { ⌜ digit < 10 ⌝ }
     ensures { λ r. ⌜ r ≡ grown n digit ⌝ }
 {
