@@ -1,7 +1,6 @@
 #!/usr/bin/env python3
 """The figures of docs/ARITHMETIC.md: the channel session of document 01 worked from its bytes, each number shown."""
 
-import argparse
 import re
 import sys
 from pathlib import Path
@@ -10,7 +9,9 @@ HERE = Path(__file__).resolve().parent
 ROOT = HERE.parent
 sys.path[:0] = [str(HERE), str(ROOT / "reference")]
 
+import command
 import lagoon
+import layout
 import records
 
 HELP = """\
@@ -42,8 +43,7 @@ def same(ours, reference):
 def channel():
     """The records of the channel session."""
     data, _ = records.pack((ROOT / "examples" / "channel.txt").read_text())
-    _, mesh = records.read_mesh(data)
-    _, field = records.read_field(data[mesh:], 3)
+    mesh, field = layout.mesh_bytes(3, 4), layout.field_bytes(3)
     step = (len(data) - mesh - field) // 2
     ends = [0, mesh, mesh + field, mesh + field + step, mesh + field + 2 * step]
     return [data[a:b] for a, b in zip(ends, ends[1:])]
@@ -79,15 +79,15 @@ def factor(number):
 # ---------------------------------------------------------------- Bytes
 
 def layouts():
-    head = f"kind {{}} ({records.KIND_BITS}), {{}}"
-    cells, faces = f"cells ({records.CELLS_BITS})", f"faces ({records.FACES_BITS})"
-    end, mass = records.END_BITS, records.MASS_BITS
+    head = f"kind {{}} ({layout.KIND_BITS}), {{}}"
+    cells, faces = f"cells ({layout.CELLS_BITS})", f"faces ({layout.FACES_BITS})"
+    end, mass = layout.END_BITS, layout.MASS_BITS
     rows = [("record", "head", "body"),
-            ("mesh", head.format(records.MESH, f"{cells}, {faces}, zeros ({records.MESH_ZEROS})"),
-             f"per cell V ({records.VOLUME_BITS}); then per face first ({end}), second ({end}), s ({records.SHARE_BITS}), K ({records.REACH_BITS})"),
-            ("field", head.format(records.FIELD, cells), f"per cell m ({mass})"),
-            ("step", head.format(records.STEP, f"{faces}, zeros ({records.STEP_ZEROS})"),
-             f"per face sign (1) and size of U ({records.SIZE_BITS}); then per rim face outside value ({records.OUTSIDE_BITS})")]
+            ("mesh", head.format(layout.MESH, f"{cells}, {faces}, zeros ({layout.MESH_ZEROS})"),
+             f"per cell V ({layout.VOLUME_BITS}); then per face first ({end}), second ({end}), s ({layout.SHARE_BITS}), K ({layout.REACH_BITS})"),
+            ("field", head.format(layout.FIELD, cells), f"per cell m ({mass})"),
+            ("step", head.format(layout.STEP, f"{faces}, zeros ({layout.STEP_ZEROS})"),
+             f"per face sign (1) and size of U ({layout.SIZE_BITS}); then per rim face outside value ({layout.OUTSIDE_BITS})")]
     return table(rows)
 
 
@@ -357,7 +357,7 @@ def check(path):
 
 
 def main():
-    parser = argparse.ArgumentParser(description=__doc__, epilog=HELP, formatter_class=argparse.RawDescriptionHelpFormatter)
+    parser = command.parser("worked.py", __doc__, HELP)
     parser.add_argument("block", nargs="?", choices=list(BLOCKS), help="the block to print (default: all)")
     parser.add_argument("--check", metavar="PAGE", type=Path, help="compare the blocks of a page with those worked out")
     parser.add_argument("--write", metavar="PAGE", type=Path, help="fill the blocks of a page")
@@ -372,4 +372,4 @@ def main():
 
 
 if __name__ == "__main__":
-    main()
+    sys.exit(command.finish("worked.py", main))
