@@ -6,9 +6,8 @@ use mathlib.Core.List.{List, [], _∷_, map}
 use lib.ListN.{getD, take, replicate}
 use lib.Dec.{eqb, ltb}
 use Rattle.lists.specs.Table.{over}
-use Rattle.model.specs.Causes.{Verdict, taken, meshFieldVerdict}
+use Rattle.model.specs.Causes.{Verdict, taken, meshFieldVerdict, cellsOnly}
 use Rattle.model.specs.Answers.{said}
-use Rattle.checks.specs.Total.{cellsOnly}
 use Rattle.board.specs.declared.Entry.{Entry}
 use Rattle.board.specs.declared.BoardAnswer.{BoardAnswer}
 

@@ -12,8 +12,9 @@ use Rattle.model.specs.Step.{StepInput, flux, outside, mass, concentrati
 use Rattle.lists.proofs.Sums.{sum-cong, sum-add}
 use Rattle.signed.proofs.Laws.{moves}
 use Rattle.model.proofs.Budget.{outward, inward, budget}
-use Rattle.model.proofs.Low.{Sound, low-affords, low-is, low-bounds, upwind-forward, upwind-backward}
+use Rattle.model.proofs.Low.{low-affords, low-is, low-bounds, upwind-forward, upwind-backward}
 use Rattle.model.proofs.Limit.{incoming-limited, outgoing-limited, limited-zero}
+use Rattle.model.specs.Accepted.{Sound}
 
 -- what two amounts move through a face, their sum moves
 both : (s t : Bool) (x y : ℤ)

@@ -1,6 +1,6 @@
 -- "If an answer is an enum, a definition gives this paper's number and values for each of its cases."
 use Prim.Native.Nat.{ℕ}
-use Rattle.model.specs.Causes.{Outcome, accepted, refused, Verdict, fine}
+use Rattle.model.specs.Causes.{Outcome, refused, Verdict, fine}
 use Rattle.model.specs.declared.Cause.{Cause}
 use Rattle.model.specs.declared.Cause.the-variants.{Limits, Table, Volume, Ends, Spacing, Concentration, Outside, Flux, Balance, Outflow, Length, Bit, Head}
 use Rattle.model.specs.declared.Refusal.{Refusal}

@@ -1,12 +1,12 @@
 -- Document 01, "Causes", 1 to 10.
 use Prim.Native.Nat.{ℕ, zero, suc, _+_, _*_, _/_}
 use mathlib.Core.Bool.{Bool, not, cond, _&&_, _||_}
-use mathlib.Core.List.{List}
+use mathlib.Core.List.{List, []}
 use lib.ListN.{length, getD}
 use lib.Dec.{eqb, leb, ltb}
 use lib.IntN.{ℤ}
 use Rattle.signed.specs.Sign.{size, isNegative}
-use Rattle.model.specs.Mesh.{Mesh, volume, first, second, share, reach, atRim, rim, incoming, outgoing, maxCells, maxFaces, maxVolume, maxShare, maxReach, maxConcentration, maxRimFlux}
+use Rattle.model.specs.Mesh.{Mesh, meshOf, volume, first, second, share, reach, atRim, rim, incoming, outgoing, maxCells, maxFaces, maxVolume, maxShare, maxReach, maxConcentration, maxRimFlux}
 use Rattle.model.specs.Step.{StepInput, flux, outside}
 
 -- "An answer is either the result, or a refusal that carries its cause and its place", by their numbers.
@@ -51,6 +51,10 @@ countsWithin mostCells mostFaces cells faces = need 1 0 (between 1 mostCells cel
 abbrev pub long : ℕ → ℕ → ℕ → Verdict
 long position wanted has = need 2 position (leb wanted has)
 
+-- the bytes of a record stand at position 11
+abbrev pub bytesLong : ℕ → ℕ → Verdict
+bytesLong wanted room = long 11 wanted room
+
 -- "Tables lent to a step", besides mesh and masses. "Work has 4 entries per cell and one per face."
 pub record Call : Type 0 where
   pub fluxes : List ℤ
@@ -62,8 +66,20 @@ pub record Call : Type 0 where
 abbrev pub callOf : List ℤ → List ℕ → List ℕ → List ℤ → List ℕ → Call
 callOf fluxes outsides nexts moveds work = record { fluxes = fluxes; outsides = outsides; nexts = nexts; moveds = moveds; work = work }
 
+-- a step of which the water alone is lent, as a writer has it: no table of its results
+abbrev pub waterOf : List ℤ → List ℕ → Call
+waterOf fluxes outsides = callOf fluxes outsides [] [] []
+
+-- the length of work
+abbrev pub workEntries : ℕ → ℕ → ℕ
+workEntries cells faces = 4 * cells + faces
+
 abbrev pub workLength : Mesh → ℕ
-workLength M = 4 * M .cells + M .faces
+workLength M = workEntries (M .cells) (M .faces)
+
+-- a mesh of which a call is lent the cells alone: one without faces
+abbrev pub cellsOnly : ℕ → List ℕ → Mesh
+cellsOnly cells volumes = meshOf cells 0 volumes [] [] [] []
 
 abbrev pub inputOf : Mesh → List ℕ → Call → StepInput
 inputOf M field k = record { mesh = M; masses = field; fluxes = k .fluxes; outsides = k .outsides }
