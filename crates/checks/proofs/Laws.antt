@@ -16,8 +16,10 @@ use Rattle.model.specs.Step.{flux}
 use Rattle.model.specs.Causes.{Verdict, fine, _andThen_, each, counts, meshTables, fieldTable, meshValues, fieldValues, meshFieldVerdict, Call, inputOf, stepTables, outsideGood, fluxGood, balanceGood, outflowGood, stepValues, verdict}
 use Rattle.model.specs.Calls.{massIn}
 use Rattle.model.proofs.Verdicts.{both-fine, andThen-assoc}
-use Rattle.model.proofs.Accepted.{counted, mesh-lent, field-lent, call-lent, mesh-fit, field-fit, water-fit, field-passed, few, mass-small, second-most, flux-small}
+use Rattle.model.proofs.Accepted.{counted, mesh-lent, field-lent, call-lent, mesh-fit, field-fit, water-fit, mass-small, second-most, flux-small}
 use Rattle.model.proofs.Sizes.{total-most}
+pub use Rattle.model.proofs.Verdicts.{refuses, passes, both-are, each-cong}
+pub use Rattle.model.proofs.Accepted.{FieldPassed, field-passed, mesh-long, salt-asks, few}
 
 -- cause 6 without a division
 pub salt-test : (m v : ℕ) → 1 ≤ v → ltb m ((maxConcentration + 1) * v) ≡ leb (m / v) maxConcentration

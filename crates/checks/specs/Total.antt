@@ -1,11 +1,12 @@
 -- What the total of a field answers.
 use Prim.Native.Nat.{ℕ}
 use Rattle.model.specs.Causes.{Outcome, accepted}
+pub use Rattle.model.specs.Causes.{cellsOnly}
 use Rattle.model.specs.Answers.{told}
 use Rattle.checks.specs.declared.TotalAnswer.{TotalAnswer}
 use Rattle.checks.specs.declared.TotalAnswer.the-variants.{Total, Refused}
 
--- Document 01, "Causes", on answers that are enums: each case by its number and values.
+-- Document 01, "What form each place needs", on answers that are enums.
 abbrev pub totalSaid : TotalAnswer → Outcome ℕ
 totalSaid (Total n) = accepted n
 totalSaid (Refused r) = told r
