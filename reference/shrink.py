@@ -183,3 +183,19 @@ def call(mesh, field, step, room, fails, seconds=60):
         return mesh, field, b"".join(steps), max(0, len(field) + spare)
 
     return lend(shrink_parts(parts, lambda p: len(p.steps) == 1 and fails(*lend(p)), seconds))
+
+
+def script(text, fails, seconds=60):
+    """Drops lines of a script, each of which is a call as a rule, while it still fails."""
+    end = time.monotonic() + seconds
+    lines = text.splitlines(keepends=True)
+    size = max(1, len(lines) // 2)
+    while size and time.monotonic() < end:
+        at = max(0, len(lines) - size)
+        while at >= 0 and time.monotonic() < end:
+            candidate = lines[:at] + lines[at + size:]
+            if len(candidate) < len(lines) and fails(b"".join(candidate)):
+                lines = candidate
+            at -= size
+        size //= 2
+    return b"".join(lines)
