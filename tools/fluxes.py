@@ -223,8 +223,8 @@ def real(value):
 class Table:
     """The rows of a CSV file: for each its line, its fluxes and its outside values."""
 
-    def __init__(self, file, name, mesh, labels, factor):
-        self.name, self.mesh, self.factor = name, mesh, factor
+    def __init__(self, file, name, mesh, labels, factor, outside_factor):
+        self.name, self.mesh, self.factor, self.outside_factor = name, mesh, factor, outside_factor
         text = io.TextIOWrapper(file, encoding="utf-8-sig", errors="replace", newline="")
         heading = text.readline(records.MOST_LINE)
         if not heading.strip():
@@ -286,7 +286,7 @@ class Table:
         return round(value * UNIT)
 
     def outside(self, word, line, column):
-        value = self.number(word)
+        value = self.number(word) * self.outside_factor
         if not -0.5 <= value <= causes.TOP:
             raise Bad(f"{self.name}:{line}: column {column + 1} should be a concentration from 0 to {causes.TOP:,}, not {shown(word.strip())}")
         return round(value)
@@ -476,7 +476,7 @@ def run(options):
     lagoon = Lagoon(options.lagoon)
     session, name = lagoon.session, command.named(options.table)
     constant = outside_values(options.outside, session)
-    table = Table(command.opened(options.table), name, session.mesh, session.labels, options.factor)
+    table = Table(command.opened(options.table), name, session.mesh, session.labels, options.factor, options.outside_factor)
     maker = Maker(Water(session.mesh), options)
 
     def steps():
@@ -527,6 +527,8 @@ def arguments():
     parser.add_argument("--factor", type=lambda text: number(text, -1e9, 1e9), default=1, metavar="X",
                         help="what a flux of the table is in units of volume per step (default: 1)")
     parser.add_argument("--outside", action="append", default=[], metavar="FACE=Q", help="the concentration outside a rim face that has no column")
+    parser.add_argument("--outside-factor", type=lambda text: number(text, 0, 1e9), default=1, metavar="X",
+                        help="what an outside value of the table is as a concentration (default: 1)")
     parser.add_argument("--tolerance", type=lambda text: number(text, 0, 1e6), default=0.01, metavar="T",
                         help="how much inflow and outflow of a cell may differ as read, in units (default: 0.01)")
     parser.add_argument("--spread", action="store_true", help="carry larger differences to the rim too")
