@@ -8,6 +8,7 @@ import functools
 import io
 import re
 import subprocess
+import sys
 
 from toolcase import CHANNEL, HERE, ROOT, TIDE, breaks, command, equal, folder, holds, interrupted, known, refuses, run_all
 
@@ -311,6 +312,16 @@ def test_the_command():
                              ("nowhere/x: No such file", ["pack", ROOT / "examples" / "channel.txt", "-o", "nowhere/x"])):
         refuses(words, "records.py", *arguments)
     refuses("bytes or more: it is no text", "records.py", "pack", data=bytes(3 << 20))
+    known("worked.py")
+    breaks("worked.py", "printed")
+
+
+def test_little_memory():
+    """A step many times over is written without being held."""
+    many = CHANNEL.replace("step times 2", "step times 1000000")
+    line = f"ulimit -v 100000; '{sys.executable}' '{ROOT}/tools/records.py' pack | wc -c"
+    done = subprocess.run(["bash", "-c", line], input=many.encode(), capture_output=True)
+    equal((done.stdout.split(), done.stderr), ([b"16000045"], b""), "a million steps in 100 MB")
 
 
 if __name__ == "__main__":

@@ -231,12 +231,14 @@ class Table:
             raise Bad(f"{name}: the first line should be a heading: face 0, face 1, ..")
         self.comma = "," if ";" not in heading else ";"
         self.reader = csv.reader(text, delimiter=self.comma)
-        self.width = 0
-        self.columns(next(csv.reader([heading], delimiter=self.comma)), labels)
+        try:
+            self.columns(next(csv.reader([heading], delimiter=self.comma)), labels)
+        except csv.Error as error:
+            raise Bad(f"{name}:1: {error}") from None
 
     def columns(self, heading, labels):
         """The column of each face and of each outside value."""
-        self.width, self.faces, self.outsides, self.ignored = len(heading), {}, {}, []
+        self.width, self.faces, self.outsides = len(heading), {}, {}
         numbers = {name: face for face, name in labels.names["face"].items()}
         for column, words in enumerate(heading):
             kind, face = self.heading_of(words.strip(), numbers)
@@ -320,7 +322,7 @@ class Maker:
     def __init__(self, water, options):
         self.water, self.mesh, self.options = water, water.mesh, options
         self.tolerance = round(options.tolerance * UNIT)
-        self.rows = self.steps = self.unbalanced = self.too_large = 0
+        self.rows = self.steps = self.unbalanced = self.too_large = self.dropped = 0
         self.said, self.worst = [], 0
         self.difference, self.bent, self.change = Largest(), Largest(), Largest()
         self.sums = [0] * len(self.mesh.faces)              # by how much each face's sum is changed
@@ -360,6 +362,7 @@ class Maker:
             return wanted
         beyond = self.water.beyond(values)
         if not beyond:
+            self.dropped += 1
             return values
         self.too_large += 1
         self.worst = max([self.worst] + [times for _, times in beyond])
@@ -404,6 +407,8 @@ class Maker:
         sums.take(self.sums, lambda face: f"face {face}")
         lines.append(f"summed over all rows a face is changed by {real(sums.size)} at most" + (f" ({sums.where})" if sums.size else "")
                      + ("" if self.options.carry or sums.size < UNIT else "; --carry keeps this below 1"))
+        if self.dropped:
+            lines.append(f"what rounding had left was dropped in {count(self.dropped, 'step')}, where it would have passed a limit")
         return lines
 
     def advice(self):

@@ -12,7 +12,7 @@ import command
 import layout
 from command import Bad, Output, count, listed, shown
 from layout import (CELLS_BITS, END_BITS, FACES_BITS, MASS_BITS, MINUS_ZERO, OUTSIDE_BITS, REACH_BITS, RIM, SHARE_BITS, SIZE_BITS,
-                    VOLUME_BITS, Damage, Face, Mesh, Source, Step, field_record, mesh_of, mesh_record, most, step_record)
+                    VOLUME_BITS, Damage, Face, Source, Step, field_record, mesh_of, mesh_record, most, step_record)
 
 HELP = """\
 A session is what the run program reads: a mesh record, a field record, then step records. unpack turns its
@@ -562,25 +562,22 @@ class Session:
         return found
 
     def steps(self):
-        """The bytes of each step and why the run refuses it, None where it does not. Equal steps are judged once."""
-        held, refusal = None, None
+        """The bytes of each step; where they are no record of a step, what is wrong with them too, and that is the last."""
         while True:
             try:
                 record = self.source.next_step(self.mesh)
             except Damage as damage:
-                yield damage.record, causes.damaged(damage)
+                yield damage.record, damage
                 return
             if record is None:
                 return
-            if record != held:
-                held, refusal = record, causes.refused_step(self.source, self.mesh)
-            yield record, refusal
+            yield record, None
 
 
-def session(path):
+def session(path, file=None):
     """The session of a file, as text or packed, or from standard input."""
     try:
-        return Session(command.opened(path))
+        return Session(file or command.opened(path))
     except TextError as error:
         raise Bad(text_words(path, error)) from None
 

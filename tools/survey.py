@@ -5,13 +5,12 @@ import argparse
 import csv
 import io
 import math
-import re
 import sys
 
 import causes
 import command
-from command import Bad, Output, count, shown
-from layout import RIM, Face, most, mesh_of, MASS_BITS
+from command import Bad, count, shown
+from layout import MASS_BITS, RIM, Face, mesh_of, most
 from records import face_line
 
 HELP = """\
