@@ -9,11 +9,11 @@ import math
 import random
 import re
 
-from toolcase import CHANNEL, ROOT, RUN, breaks, command, equal, folder, holds, interrupted, known, refuses, run_all
+from toolcase import CHANNEL, ROOT, RUN, breaks, command, equal, folder, holds, interrupted, known, refuses, run_all, session_of
 
 import causes
 import layout
-import records
+import sessiontext
 from fluxes import UNIT, Water
 from layout import RIM, Face, mesh_of
 
@@ -79,7 +79,7 @@ def made(*arguments, table, lagoon=LAGOON, wanted=0):
 
 
 def steps_of(data):
-    session = records.Session(io.BufferedReader(io.BytesIO(data)))
+    session = session_of(data)
     return [layout.Source(io.BytesIO()).step_in(layout.bits_of(record), session.mesh) for record, _ in session.steps()]
 
 
@@ -88,7 +88,7 @@ def test_a_table():
     table = "time,sea,face 1,2,3,outside sea\nmon,-10.5,10.5,10.5,10.5,1000\ntue,-0.25,0.25,0.25,0.25,999.6\n,3,-3,-3,-3,7\n"
     text, said = made(table=table)
     packed, _ = made("--packed", table=table)
-    equal(records.pack(text.decode())[0], packed, "as text and packed")
+    equal(sessiontext.pack(text.decode())[0], packed, "as text and packed")
     holds(text.decode().startswith(LAGOON), "the lagoon's text is kept")
     steps = steps_of(packed)
     rows = [(-10.5, 1000), (-0.25, 1000), (3, 7)]
@@ -181,7 +181,7 @@ def test_a_gyre_with_a_river():
     status, report, _ = command("budget.py", "--run", RUN, data=out)
     holds(status == 0 and b"24 steps, 24 accepted, 0 refused" in report, report.decode())
     rounded = [[round(float(value)) for value in row.split(",")] for row in table[1:]]
-    mesh = records.Session(io.BufferedReader(io.BytesIO(out))).mesh
+    mesh = session_of(out).mesh
     holds(any(causes.flow_refusal(mesh, row) for row in rounded), "rounded one by one the fluxes do not balance")
 
 

@@ -11,7 +11,7 @@ from toolcase import CHANNEL, ROOT, RUN, TIDE, breaks, command, equal, folder, h
 
 import lagoon
 import plot
-import records
+import sessiontext
 
 SVG = "{http://www.w3.org/2000/svg}"
 CONCENTRATION, TOTAL, RATES = "Concentration q after each step", "Total of all masses", "In-mass and out-mass of each step"
@@ -55,7 +55,7 @@ def marks(panel):
 
 
 def test_the_channel():
-    for data in (CHANNEL.encode(), records.pack(CHANNEL)[0]):
+    for data in (CHANNEL.encode(), sessiontext.pack(CHANNEL)[0]):
         panels, _ = picture("--run", RUN, data=data)
         cells = drawn(panels[CONCENTRATION])
         equal(list(cells), ["cell 0", "cell 1", "cell 2"], "cells drawn")
@@ -83,7 +83,7 @@ def test_the_tide():
 def test_bands():
     """A long session is drawn as bands whose edges are the least and greatest of each column of pixels; refusals are ticks."""
     start = TIDE.index("step times 10")
-    data, _ = records.pack(TIDE[:start] + TIDE[start:] * 40)
+    data, _ = sessiontext.pack(TIDE[:start] + TIDE[start:] * 40)
     panels, out = picture("--cells", "0,3", data=data)
     lines = [line.split() for line in lagoon.run(data).splitlines() if line[0] != "B"]
     totals = []
@@ -113,7 +113,7 @@ def test_profile_and_table():
     equal(list(drawn(panels[CONCENTRATION])), ["1 Bay"], "the cell's name")
     equal(rows[0], ["step", "q cell 1 (Bay)", "total", "in", "out", "cause"], "heading of the table")
     equal([rows[1][:3], rows[-1][0], rows[26][5], len(rows)], [["0", "30000", "245000000"], "49", "9", 51], "its rows")
-    lines = [line.split() for line in lagoon.run(records.pack(TIDE)[0]).splitlines() if line[0] != "B"]
+    lines = [line.split() for line in lagoon.run(sessiontext.pack(TIDE)[0]).splitlines() if line[0] != "B"]
     equal([row[3:5] + [row[2]] for row in rows[1:] if not row[5]], [line[1:] for line in lines if line[1] != "R"], "in, out and total")
 
 
@@ -126,7 +126,7 @@ def test_titles():
 
 
 def test_an_engine_that_differs():
-    data, _ = records.pack(CHANNEL)
+    data, _ = sessiontext.pack(CHANNEL)
     with folder() as made:
         program = f"{made}/run"
         with open(program, "w") as file:
@@ -136,7 +136,7 @@ def test_an_engine_that_differs():
 
 
 def test_no_picture():
-    data, _ = records.pack(CHANNEL)
+    data, _ = sessiontext.pack(CHANNEL)
     for arguments, given, words in (([], data[:20], "plot.py: the mesh is refused: the input ends in this mesh record, which needs 31 bytes and has 20 (cause 11)"),
                                     ([], data[:31] + b"\x10" + data[32:], "plot.py: the field is refused: kind 0001 in binary"),
                                     ([], b"mesh\ncell 0 volume x\n", "plot.py: <stdin>:2:15: a volume should be"),

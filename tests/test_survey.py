@@ -5,14 +5,12 @@
     python3 tests/test_survey.py --write    puts into the page what its commands print
 """
 
-import io
 import re
 import subprocess
 import sys
 
-from toolcase import ROOT, breaks, command, equal, folder, holds, interrupted, known, refuses, run_all
+from toolcase import ROOT, breaks, command, equal, folder, holds, interrupted, known, refuses, run_all, session_of
 
-import records
 
 PAGE = ROOT / "docs" / "SURVEY-TO-SESSION.md"
 CELLS, FACES = ROOT / "examples" / "bay-cells.csv", ROOT / "examples" / "bay-faces.csv"
@@ -62,7 +60,7 @@ ONE = "face,from,to,area,way,distance\nf,a,b,10,30,40\ng,b,rim,,,\n"
 def test_figures():
     """Volumes, shares, reaches and masses by the formulas of the page, with the unit given and with the unit chosen."""
     text, said = whole(TWO, ONE, "--volume-unit", "2", "--salt-unit", "0.5")
-    session = records.Session(io.BufferedReader(io.BytesIO(text.encode())))
+    session = session_of(text.encode())
     equal((session.mesh.volumes, [tuple(face) for face in session.mesh.faces], session.masses),
           ([500, 200], [(0, 1, 192, 200), (1, 4095, 0, 0)], [35000000, 40200]), "mesh and field")
     equal((session.labels.of("cell", 1), session.labels.of("face", 1), session.labels.units), ("cell 1 (b)", "face 1 (g)", {"volume": "2 m3", "mass": "1 g"}), "labels")

@@ -12,9 +12,10 @@ from collections import deque
 import causes
 import command
 import layout
-import records
 from command import Bad, Output, count, shown
 from layout import RIM, Step
+from session import Session, is_text
+from sessiontext import MOST_LINE, MOST_TIMES, StepText, field_text, mesh_text
 
 HELP = """\
 The engine takes whole fluxes, and in every cell as much has to leave as enters. A model of the water gives real ones,
@@ -226,7 +227,7 @@ class Table:
     def __init__(self, file, name, mesh, labels, factor, outside_factor):
         self.name, self.mesh, self.factor, self.outside_factor = name, mesh, factor, outside_factor
         text = io.TextIOWrapper(file, encoding="utf-8-sig", errors="replace", newline="")
-        heading = text.readline(records.MOST_LINE)
+        heading = text.readline(MOST_LINE)
         if not heading.strip():
             raise Bad(f"{name}: the first line should be a heading: face 0, face 1, ..")
         self.comma = "," if ";" not in heading else ";"
@@ -429,17 +430,14 @@ class Lagoon:
     def __init__(self, path):
         with command.opened(path) as file:
             data = file.read()
-        try:
-            self.session = records.Session(io.BufferedReader(io.BytesIO(data)))
-            if next(self.session.steps(), None):
-                raise Bad(f"{command.named(path)} has steps already; they come from the table")
-        except records.TextError as error:
-            raise Bad(records.text_words(path, error)) from None
+        self.session = Session(io.BufferedReader(io.BytesIO(data)), path)
+        if next(self.session.steps(), None):
+            raise Bad(f"{command.named(path)} has steps already; they come from the table")
         self.packed = self.session.mesh_record + self.session.field_record
-        if records.is_text(io.BufferedReader(io.BytesIO(data))):
+        if is_text(io.BufferedReader(io.BytesIO(data))):
             self.text = data.decode("utf-8-sig", "replace").rstrip() + "\n"
         else:
-            self.text = records.mesh_text(self.session.mesh) + records.field_text(self.session.masses)
+            self.text = mesh_text(self.session.mesh) + field_text(self.session.masses)
 
 
 def outside_values(texts, lagoon):
@@ -465,9 +463,9 @@ def written(steps, lagoon, packed):
             yield layout.step_record(step)
         return
     yield lagoon.text.encode()
-    writer, held, times, number = records.StepText(lagoon.session.mesh), None, 0, 0
+    writer, held, times, number = StepText(lagoon.session.mesh), None, 0, 0
     for step in steps:
-        if step != held or times == records.MOST_TIMES:
+        if step != held or times == MOST_TIMES:
             if times:
                 yield writer.of(held, number - times + 1, times).encode()
             held, times = step, 0

@@ -14,8 +14,8 @@ from xml.sax.saxutils import escape
 import causes
 import command
 import engine
-import records
 from command import Bad, count, shown
+from session import Session
 
 HELP = """\
 The session is text or packed; names and units of a text stand in the picture. The panels show q, the mass of a cell
@@ -417,7 +417,7 @@ class Input:
     def session(self):
         if self.file:
             self.file.seek(0)
-        return records.session(self.path, self.file)
+        return Session(self.file or command.opened(self.path), self.path)
 
 
 def run(options):
@@ -458,10 +458,7 @@ def main():
             command.apart(output, options.file)
     if options.output == options.csv == "-":
         raise Bad("the picture and --csv cannot both be on standard output")
-    try:
-        return run(options)
-    except records.TextError as error:
-        raise Bad(records.text_words(options.file, error)) from None
+    return run(options)
 
 
 if __name__ == "__main__":

@@ -11,7 +11,7 @@ import causes
 import command
 from command import Bad, count, shown
 from layout import MASS_BITS, RIM, Face, mesh_of, most
-from records import face_line
+from sessiontext import face_line
 
 HELP = """\
 Both tables are CSV with a heading; other columns are not read.

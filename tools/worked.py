@@ -12,7 +12,7 @@ sys.path[:0] = [str(HERE), str(ROOT / "reference")]
 import command
 import lagoon
 import layout
-import records
+import sessiontext
 
 HELP = """\
 The page holds blocks between lines <!-- worked: NAME --> and <!-- end -->. Every number is worked out here by its
@@ -42,7 +42,7 @@ def same(ours, reference):
 
 def channel():
     """The records of the channel session."""
-    data, _ = records.pack((ROOT / "examples" / "channel.txt").read_text())
+    data, _ = sessiontext.pack((ROOT / "examples" / "channel.txt").read_text())
     mesh, field = layout.mesh_bytes(3, 4), layout.field_bytes(3)
     step = (len(data) - mesh - field) // 2
     ends = [0, mesh, mesh + field, mesh + field + step, mesh + field + 2 * step]
