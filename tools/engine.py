@@ -7,6 +7,7 @@ import subprocess
 import tempfile
 from collections import namedtuple
 
+import causes
 import layout
 from command import ROOT, Bad
 
@@ -101,14 +102,12 @@ class History:
     def moments(self):
         masses, number = self.session.masses, 0
         yield Moment(0, None, masses, {}, {})
-        for record, refusal in self.session.steps():
+        for record, damage in self.session.steps():
             number += 1
             field, refused = self.engine.step(self.field, record)
-            if refused != (refusal and (refusal.cause, refusal.place)):
-                raise Bad(f"step {number}: the engine answers {refused or 'that it is accepted'}, and by the words it is {refusal or 'accepted'}")
-            if refusal:
-                self.keep(f"{number} R {refusal.cause} {refusal.place}", record)
-                yield Moment(number, refusal, masses, {}, {})
+            if refused:
+                self.keep(f"{number} R {refused[0]} {refused[1]}", record)
+                yield Moment(number, self.words(number, damage, refused), masses, {}, {})
                 continue
             entered, gone = self.over_the_rim(record, masses)
             self.field, masses = field, layout.masses_in(field)
@@ -119,6 +118,14 @@ class History:
         if self.program:
             self.records.seek(0)
             agree(self.program, self.records, self.lines)
+
+    def words(self, number, damage, refused):
+        """The words of a refusal, which have to be about the engine's cause and place."""
+        refusal = causes.damaged(damage) if damage else causes.refused_step(self.session.source, self.mesh)
+        if refusal is None or (refusal.cause, refusal.place) != refused:
+            raise Bad(f"step {number}: the engine refuses it by cause {refused[0]}, place {refused[1]}, and tools/causes.py finds "
+                      + (causes.told(refusal) if refusal else "nothing wrong with it"))
+        return refusal
 
     def over_the_rim(self, record, masses):
         """In-mass and out-mass of an accepted step, by rim face: document 01's two sums, face by face."""
