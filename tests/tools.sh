@@ -1,5 +1,7 @@
 #!/usr/bin/env bash
-# tools/records.py and tools/plot.py: round trips, errors with their places, and the picture of the channel session.
+# The tools beside the engine: records as text and back, what is refused in words, budgets, whole fluxes, pictures, and the page
+# from a survey to a session.
 set -eu
 cd "$(dirname "$0")/.."
-python3 tests/test_tools.py
+reference/build.sh
+printf '%s\n' records budget fluxes plot survey | xargs -P 2 -I NAME python3 tests/test_NAME.py

@@ -1,7 +1,6 @@
 #!/usr/bin/env python3
 """The figures of docs/ARITHMETIC.md: two sessions worked from their bytes, each number shown."""
 
-import argparse
 import re
 import sys
 from pathlib import Path
@@ -10,8 +9,10 @@ HERE = Path(__file__).resolve().parent
 ROOT = HERE.parent
 sys.path[:0] = [str(HERE), str(ROOT / "reference")]
 
+import command
 import lagoon
-import records
+import layout
+import sessiontext
 
 HELP = """\
 The page holds blocks between lines <!-- worked: NAME --> and <!-- end -->. Every number is worked out here by its
@@ -30,7 +31,7 @@ BLOCK = re.compile(r"(<!-- worked: (\S+) -->\n).*?(<!-- end -->)", re.DOTALL)
 SMALL = 13              # numbers up to here name stages, causes and positions
 
 # Numbers of document 01 that the page's prose may say.
-CONSTANTS = {lagoon.RIM, lagoon.TOP, *lagoon.LIBRARY_LIMITS, *lagoon.RUN_LIMITS, 255, 256, 128, records.MASS_BITS}
+CONSTANTS = {lagoon.RIM, lagoon.TOP, *lagoon.LIBRARY_LIMITS, *lagoon.RUN_LIMITS, 255, 256, 128, layout.MASS_BITS}
 
 
 def same(ours, reference):
@@ -44,17 +45,17 @@ class Session:
     """A session of examples/: its records, the mesh, the first field and the water of its first step."""
 
     def __init__(self, name):
-        data, _ = records.pack((ROOT / "examples" / name).read_text())
-        _, mesh = records.read_mesh(data)
+        data, _ = sessiontext.pack((ROOT / "examples" / name).read_text())
+        cells, faces = int.from_bytes(data[:2], "big") % 4096, int.from_bytes(data[2:4], "big") // 8
+        mesh, field = layout.mesh_bytes(cells, faces), layout.field_bytes(cells)
+        self.cells, self.faces = range(cells), range(faces)
         self.mesh = lagoon.accept_mesh(data[:mesh])
-        self.cells, self.faces = range(len(self.mesh.volumes)), range(len(self.mesh.firsts))
-        _, field = records.read_field(data[mesh:], len(self.cells))
         self.first = lagoon.accept_field(data[mesh:mesh + field], self.mesh)
-        rims = sum(second == lagoon.RIM for second in self.mesh.seconds)
-        step = lagoon.STEP_HEAD + lagoon.whole_bytes(13 * len(self.faces) + 20 * rims)
+        rims = self.mesh.seconds.count(lagoon.RIM)
+        step = layout.whole_bytes(layout.STEP_HEAD + faces * layout.FLUX_BITS + rims * layout.OUTSIDE_BITS)
         ends = [0, mesh, *range(mesh + field, len(data) + 1, step)]
         self.records = [data[a:b] for a, b in zip(ends, ends[1:])]
-        self.fluxes, self.outsides = lagoon.read_step(self.records[2], len(self.faces), self.mesh.seconds)
+        self.fluxes, self.outsides = lagoon.read_step(self.records[2], faces, self.mesh.seconds)
 
     def printed(self):
         return lagoon.run(b"".join(self.records)).splitlines()
@@ -86,15 +87,15 @@ def factor(number):
 # ---------------------------------------------------------------- Bytes
 
 def layouts():
-    head = f"kind {{}} ({records.KIND_BITS}), {{}}"
-    cells, faces = f"cells ({records.CELLS_BITS})", f"faces ({records.FACES_BITS})"
-    end, mass = records.END_BITS, records.MASS_BITS
+    head = f"kind {{}} ({layout.KIND_BITS}), {{}}"
+    cells, faces = f"cells ({layout.CELLS_BITS})", f"faces ({layout.FACES_BITS})"
+    end, mass = layout.END_BITS, layout.MASS_BITS
     rows = [("record", "head", "body"),
-            ("mesh", head.format(records.MESH, f"{cells}, {faces}, zeros ({records.MESH_ZEROS})"),
-             f"per cell V ({records.VOLUME_BITS}); then per face first ({end}), second ({end}), s ({records.SHARE_BITS}), K ({records.REACH_BITS})"),
-            ("field", head.format(records.FIELD, cells), f"per cell m ({mass})"),
-            ("step", head.format(records.STEP, f"{faces}, zeros ({records.STEP_ZEROS})"),
-             f"per face sign (1) and size of U ({records.SIZE_BITS}); then per rim face outside value ({records.OUTSIDE_BITS})")]
+            ("mesh", head.format(layout.MESH, f"{cells}, {faces}, zeros ({layout.MESH_ZEROS})"),
+             f"per cell V ({layout.VOLUME_BITS}); then per face first ({end}), second ({end}), s ({layout.SHARE_BITS}), K ({layout.REACH_BITS})"),
+            ("field", head.format(layout.FIELD, cells), f"per cell m ({mass})"),
+            ("step", head.format(layout.STEP, f"{faces}, zeros ({layout.STEP_ZEROS})"),
+             f"per face sign (1) and size of U ({layout.SIZE_BITS}); then per rim face outside value ({layout.OUTSIDE_BITS})")]
     return table(rows)
 
 
@@ -413,7 +414,7 @@ def check(path):
 
 
 def main():
-    parser = argparse.ArgumentParser(description=__doc__, epilog=HELP, formatter_class=argparse.RawDescriptionHelpFormatter)
+    parser = command.parser("worked.py", __doc__, HELP)
     parser.add_argument("block", nargs="?", choices=list(BLOCKS), help="the block to print (default: all)")
     parser.add_argument("--check", metavar="PAGE", type=Path, help="compare the blocks of a page with those worked out")
     parser.add_argument("--write", metavar="PAGE", type=Path, help="fill the blocks of a page")
@@ -428,4 +429,4 @@ def main():
 
 
 if __name__ == "__main__":
-    main()
+    sys.exit(command.finish("worked.py", main))

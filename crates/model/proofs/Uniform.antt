@@ -15,9 +15,10 @@ use Rattle.lists.proofs.Tests.{Same, same, other, same?}
 use Rattle.lists.proofs.Sums.{sum-cong, sum-scale, sum-zeros, sum-zero}
 use Rattle.model.specs.Mesh.{Mesh, first, second, reach, atRim, rim, entering, leaving, incoming, outgoing, updated}
 use Rattle.model.specs.Step.{StepInput, flux, outside, mass, concentration, beyond, upwind, downwind, upwindShare, carried, low, correction, adjacent, maxGain, maxLoss, limited, moved, next}
-use Rattle.model.proofs.Low.{Sound, entering-carried, outgoing-carried, low-is}
+use Rattle.model.proofs.Low.{entering-carried, outgoing-carried, low-is}
 use Rattle.model.proofs.Limit.{limited-zero}
 use Rattle.model.proofs.Next.{next-is}
+use Rattle.model.specs.Accepted.{Sound}
 
 -- amounts of 0 bring nothing and take nothing
 nothing : (s t : Bool) → cond s 0 0 + cond t 0 0 ≡ 0
