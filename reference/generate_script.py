@@ -20,6 +20,7 @@ Script = namedtuple("Script", "kinds text")
 GREATEST = (1 << 64) - 1
 LEAST, MOST = -(1 << 63), (1 << 63) - 1
 NAMES = [name for name, _ in CALLS.values()]
+OFTEN = NAMES + ["step"] * 4            # most of the arithmetic is in a step
 CELLS, FACES = lagoon.LIBRARY_LIMITS
 COUNTS = [0, 1, CELLS - 1, CELLS, CELLS + 1, FACES, FACES + 1, 1 << 16, 1 << 63, GREATEST]
 
@@ -128,7 +129,7 @@ def tables_for(rng, positions, large, kinds):
     if rng.random() < 0.5:
         lent.lengthen(positions)
         kinds.append("longer tables")
-    for _ in range(rng.choice([0, 1, 1, 1, 2])):
+    for _ in range(rng.choice([0, 0, 1, 1, 2])):
         lent.damage(positions, kinds)
     if not large and rng.random() < 0.25:
         lent = one_short(rng, rng.choice(positions), kinds)
@@ -377,7 +378,7 @@ def script(seed, number):
         return Script(("largest",), largest().encode())
     rng = random.Random(f"script {seed} {number}")
     large = number % 200 == 100
-    names = [NAMES[number % len(NAMES)]] + [rng.choice(NAMES) for _ in range(0 if large else 7)]
+    names = [NAMES[number % len(NAMES)]] + [rng.choice(OFTEN) for _ in range(0 if large else 7)]
     kinds, calls = [], []
     for name in names:
         calls.append(spell(name, *MAKE[name](rng, large, kinds)))

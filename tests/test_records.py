@@ -60,15 +60,15 @@ def test_equal_steps_are_folded():
 
 
 def test_engine_records():
-    """The bytes that the engine wrote in the gate's program of the records."""
-    printed = (ROOT / "crates" / "record_figures" / "stdout").read_text()
+    """The bytes that the engine writes in the gate's program of all calls."""
+    printed = (ROOT / "crates" / "calls" / "stdout").read_text()
+    written = re.compile(r"write_mesh: accepted (\d+); bytes (.*)\nwrite_field: accepted (\d+); bytes (.*)\n"
+                         r"write_step: accepted (\d+); bytes (.*)\n")
     sessions = 0
-    for line in printed.splitlines():
-        found = re.fullmatch(r".*: mesh written (\d+): (.*); field written (\d+): (.*); step written (\d+): (.*)", line)
-        if found:
-            data = b"".join(bytes.fromhex(found[i + 1])[:int(found[i])] for i in (1, 3, 5))
-            equal(both_ways(data, line[:30])[1], [], line[:30])
-            sessions += 1
+    for found in written.finditer(printed):
+        data = b"".join(bytes(map(int, found[i + 1].split()[:int(found[i])])) for i in (1, 3, 5))
+        equal(both_ways(data, found[0][:60])[1], [], found[0][:60])
+        sessions += 1
     holds(sessions > 3, "sessions of the engine's records")
 
 
