@@ -108,7 +108,7 @@ def test_an_engine_that_differs():
             holds(status == wanted and ("by the C call" in said) == bool(wanted), f"beside a program that prints {printed[:40]!r}: {said}")
         with open(f"{made}/lib.a", "w") as file:
             file.write("no archive")
-        refuses("gcc makes no shared object", "budget.py", "--library", f"{made}/lib.a", data=data)
+        refuses("has no call lagoon_step", "budget.py", "--library", f"{made}/lib.a", data=data)
         refuses("has no call lagoon_step", "budget.py", "--library", program, data=data)
         refuses("nowhere.a is not there", "budget.py", "--library", "nowhere.a", data=data)
         refuses("nowhere: No such file", "budget.py", "--run", "nowhere", data=data)

@@ -11,7 +11,6 @@ import sys
 
 from toolcase import ROOT, breaks, command, equal, folder, holds, interrupted, known, refuses, run_all, session_of
 
-
 PAGE = ROOT / "docs" / "SURVEY-TO-SESSION.md"
 CELLS, FACES = ROOT / "examples" / "bay-cells.csv", ROOT / "examples" / "bay-faces.csv"
 COMMANDS = 8

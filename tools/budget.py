@@ -13,7 +13,7 @@ from command import Output, count
 from session import open_session
 
 HELP = """\
-The session is text or packed. The engine steps through it, by the C call of liblagoon.a; in-mass and out-mass are summed
+The session is text or packed. The engine steps through it, by the C call of the library (`make lib`); in-mass and out-mass are summed
 here, face by face, as document 01 defines them, and the totals are those of the engine's fields. So the difference,
 first total + in - out - last total, is a check: it is 0, and where it is not the exit status is 1.
 

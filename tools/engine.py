@@ -1,8 +1,7 @@
-"""The proved step, called from Python: liblagoon.a made a shared object, and a session stepped through it."""
+"""The proved step, called from Python through the library's shared object, and a session stepped through it."""
 
 import ctypes
 import os
-import shutil
 import subprocess
 import tempfile
 from collections import namedtuple
@@ -11,56 +10,22 @@ import causes
 import layout
 from command import ROOT, Bad
 
-ARCHIVE = ROOT / "target" / "staticlib" / "liblagoon.a"
-SHARED = ROOT / "target" / "tools" / "liblagoon.so"
+SHARED = ROOT / "target" / "lib" / "liblagoon.so"
 
 # One step of a session: its number, None or the refusal, the masses after it, and its in-mass and out-mass by rim face.
 Moment = namedtuple("Moment", "number refusal masses entered gone")
 
 
 def options(parser):
-    parser.add_argument("--library", metavar="FILE", help="liblagoon.a, or a shared object made of it (default: target/staticlib/liblagoon.a)")
+    parser.add_argument("--library", metavar="FILE", help="the shared object of the library (default: target/lib/liblagoon.so, which `make lib` makes)")
     parser.add_argument("--run", metavar="PROGRAM", help="the run program: its lines have to say the same of every step and of the board")
 
 
 def loaded(path):
-    """The shared object of the library. From an archive gcc makes it; that of the default archive is kept until it is older."""
-    archive = os.path.abspath(path or ARCHIVE)
-    if not os.path.exists(archive):
-        raise Bad(f"{path or 'target/staticlib/liblagoon.a'} is not there: `rt staticlib lagoon` makes it")
-    if not archive.endswith(".a"):
-        return ctypes.CDLL(archive)
-    if path is None and SHARED.exists() and SHARED.stat().st_mtime > os.stat(archive).st_mtime:
-        return ctypes.CDLL(str(SHARED))
-    with tempfile.TemporaryDirectory() as folder:
-        made = os.path.join(folder, "liblagoon.so")
-        link(archive, made)
-        if path is None:
-            keep(made)
-        return ctypes.CDLL(made)
-
-
-def link(archive, made):
-    line = ["gcc", "-shared", "-o", made, "-Wl,--whole-archive", archive, "-Wl,--no-whole-archive"]
-    try:
-        done = subprocess.run(line, capture_output=True, text=True, errors="replace", check=False)
-    except FileNotFoundError:
-        raise Bad("gcc is not there, and it makes a shared object of liblagoon.a") from None
-    if done.returncode:
-        said = done.stderr.strip().splitlines() or ["it said nothing"]
-        raise Bad(f"gcc makes no shared object of {archive}: {said[0][:200]}")
-
-
-def keep(made):
-    """For the next time, where the folder can be written."""
-    try:
-        SHARED.parent.mkdir(parents=True, exist_ok=True)
-        number, beside = tempfile.mkstemp(dir=SHARED.parent)
-        os.close(number)
-        shutil.copyfile(made, beside)
-        os.replace(beside, SHARED)
-    except OSError:
-        pass
+    """The shared object of the library."""
+    if not os.path.exists(path or SHARED):
+        raise Bad(f"{path or 'target/lib/liblagoon.so'} is not there: `make lib` makes it")
+    return ctypes.CDLL(os.path.abspath(path or SHARED))
 
 
 class Engine:
@@ -70,7 +35,7 @@ class Engine:
         try:
             self.call = loaded(library).lagoon_step
         except (OSError, AttributeError) as error:
-            raise Bad(f"{library or ARCHIVE} has no call lagoon_step: {str(error)[:200]}") from None
+            raise Bad(f"{library or SHARED} has no call lagoon_step: {str(error)[:200]}") from None
         self.call.restype = ctypes.c_uint64
         self.call.argtypes = [ctypes.c_char_p, ctypes.c_size_t] * 4
         self.mesh = mesh_record

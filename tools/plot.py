@@ -28,7 +28,7 @@ by a cross or, where there are more than a few, by a tick; its cause is in its t
 
 --profile 0,24,last adds a panel of q over the cells' numbers after these steps. --every draws every Nth step only, and
 may show a tide falsely: with N near its period all points are of one phase. --csv writes the figures that are drawn.
-The engine is the C call of liblagoon.a; with --run the run program has to print the same lines, else nothing is drawn.
+The engine is the C call of the library (`make lib`); with --run the run program has to print the same lines, else nothing is drawn.
 
 examples:
   tools/plot.py tests/sessions/channel.in -o channel.svg
