@@ -1,7 +1,6 @@
 -- Where every cell and every inflow has the same concentration, no mass changes; nor does one where there are no faces.
 use Prim.Native.Nat.{ℕ, _+_, _*_, _/_, _<_}
 use mathlib.Core.Path.{_≡_, refl, ap, _∙_}
-use mathlib.Core.Logic.{_≢_}
 use mathlib.Core.Bool.{Bool, true, false, cond, _||_}
 use native.Mathlib.Nat.{zero-mul, mul-zero, zero-div}
 use native.Mathlib.Omega.{arith}
@@ -11,11 +10,11 @@ use lib.Signed.{quotZ}
 use Rattle.signed.specs.Sign.{size, isZero, isNegative}
 use Rattle.signed.proofs.Laws.{size-mul, size-quot, size-zero, diff-self}
 use Rattle.lists.specs.Fold.{sum}
-use Rattle.lists.proofs.Tests.{Same, same, other, same?}
+use Rattle.lists.proofs.Tests.{Same, other, same?}
 use Rattle.lists.proofs.Sums.{sum-cong, sum-scale, sum-zeros, sum-zero}
 use Rattle.model.specs.Mesh.{Mesh, first, second, reach, atRim, rim, entering, leaving, incoming, outgoing, updated}
 use Rattle.model.specs.Step.{StepInput, flux, outside, mass, concentration, beyond, upwind, downwind, upwindShare, carried, low, correction, adjacent, maxGain, maxLoss, limited, moved, next}
-use Rattle.model.proofs.Low.{Sound, entering-carried, outgoing-carried, low-is}
+use Rattle.model.proofs.Low.{Sound, met-any, entering-carried, outgoing-carried, low-is}
 use Rattle.model.proofs.Limit.{limited-zero}
 use Rattle.model.proofs.Next.{next-is}
 
@@ -39,25 +38,12 @@ no-difference u w k K = size-zero _ (size-quot (u *ℤ (pos k -ℤ pos k) *ℤ w
     none : size (u *ℤ (pos k -ℤ pos k) *ℤ w) ≡ 0
     none = size-mul (u *ℤ (pos k -ℤ pos k)) w ∙ ap (λ (n : ℕ). n * size w) (size-mul u (pos k -ℤ pos k) ∙ ap (λ (z : ℤ). size u * size z) (diff-self k) ∙ mul-zero (size u)) ∙ zero-mul (size w)
 
-met : (z : ℤ) (k l c o q₀ : ℕ) (q : ℕ → ℕ) → q c ≡ q₀ → q l ≡ q₀ → (k ≡ rim → isNegative z ≡ true → o ≡ q₀) → (k ≢ rim → q k ≡ q₀)
-    → cond (isZero z) (q c) (cond (eqb l c) (cond (eqb k rim) (cond (isNegative z) o (q c)) (q k)) (cond (eqb k c) (q l) (q c))) ≡ q₀
-met z k l c o q₀ q hc hl ho hk = go (isZero z) (eqb l c) (eqb k rim) (same? k rim) (isNegative z) refl (eqb k c)
-  where
-    go : (a s r : Bool) → Same k rim r → (n : Bool) → isNegative z ≡ n → (t : Bool) → cond a (q c) (cond s (cond r (cond n o (q c)) (q k)) (cond t (q l) (q c))) ≡ q₀
-    go true s r rr n e t = hc
-    go false true true (same d) true e t = ho d e
-    go false true true rr false e t = hc
-    go false true false (other d) n e t = hk d
-    go false false r rr n e true = hl
-    go false false r rr n e false = hc
-
 module _ (S : StepInput) (ok : Sound S) (q₀ : ℕ) (alike : (c : ℕ) → c < S .mesh .cells → concentration S c ≡ q₀)
     (outside-alike : (f : ℕ) → f < S .mesh .faces → second (S .mesh) f ≡ rim → isNegative (flux S f) ≡ true → outside S f ≡ q₀) where
   open StepInput S using (mesh as M)
 
   met-alike : (c f : ℕ) → c < M .cells → f < M .faces → adjacent S c f ≡ q₀
-  unfolding adjacent
-  met-alike c f h l = met (flux S f) (second M f) (first M f) c (outside S f) q₀ (concentration S) (alike c h) (alike (first M f) (ok .joined .first-in f l)) (outside-alike f l) (λ d. alike (second M f) (ok .joined .second-in f l d))
+  met-alike c f h l = met-any (λ q. q ≡ q₀) S c f (alike c h) (alike (first M f) (ok .joined .first-in f l)) (outside-alike f l) (λ d. alike (second M f) (ok .joined .second-in f l d))
 
   incoming-alike : (c : ℕ) → c < M .cells → incoming M (carried S) c ≡ incoming M (flux S) c * q₀
   unfolding incoming

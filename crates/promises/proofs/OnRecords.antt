@@ -19,6 +19,7 @@ use Rattle.model.proofs.Verdicts.{both-fine, need-met}
 use Rattle.model.proofs.Accepted.{Ready, ready-of, counted, mesh-fit}
 use Rattle.model.proofs.Next.{moved-keeps}
 use Rattle.model.proofs.Lists.{Fair, amounts-fair}
+use Rattle.model.proofs.Agree.{in-agree, out-agree, fair-agree}
 use Rattle.bits.specs.Field.{bitsAt}
 use Rattle.records.specs.Layouts.{meshRecord, fieldRecord, fieldLength, outsideBits, rimFaces, isRim}
 use Rattle.records.specs.Reading.{meshIn, massesIn, fluxesIn, outsidesIn, outsidePlace}
@@ -28,7 +29,7 @@ use Rattle.records.proofs.WidthLaws.{spelled, masses-fit}
 use Rattle.records.proofs.RoundTrip.{volumes-read-back, firsts-read-back, seconds-read-back, shares-read-back, reaches-read-back, masses-read-back}
 use Rattle.lagoon.specs.Host.{meshTested, fieldTested, stepTested, hostVerdict, hostBytes}
 use Rattle.promises.specs.Demand3.{onRecords, waterIn, nextRecord, stepOnRecords, Kept}
-use Rattle.promises.proofs.Counted.{cut, cutField, in-same, out-same, fair-whole}
+use Rattle.promises.proofs.Counted.{cut, cutField, cut-agrees}
 
 -- the outside values in a step record rest on the counted seconds alone
 faces-cut : (M : Mesh) (f : ℕ) → f ≤ M .faces → rimFaces (table (M .faces) (second M)) f ≡ rimFaces (M .seconds) f
@@ -133,18 +134,23 @@ module _ (M : Mesh) (mesh-fine : meshVerdict M ≡ fine) (field : List ℕ) (fie
       step-values-fine = values-pass .2;
     })
 
+    abbrev whole : StepInput
+    whole = inputOf M field (waterIn M step)
+
     abbrev left : Left
-    left = record { field = after; crossing = crossingOf (inputOf M field (waterIn M step)) }
+    left = record { field = after; crossing = crossingOf whole }
 
     part-fair : Fair (cut M) (Bounded part after) (cutField M field) left
     unfolding next
     part-fair =
+        let few-cells = counted M within .few-cells in
         let fit = mesh-fit M passes in
+        let g = cut-agrees M field (waterIn M step) in
         amounts-fair part part-ready (moved part) (moved-keeps part (part-ready .sound)) after (omega (arith, length-table (M .cells) (next part))) (λ c h. getD-table (M .cells) (next part) 0 c h)
-        left refl (rw (in-same M fit field (waterIn M step), out-same M fit field (waterIn M step)))
+        left refl (rw (in-agree whole part few-cells fit g, out-agree whole part few-cells fit g))
 
-    left-fair : Fair M (Bounded (inputOf M field (waterIn M step)) after) field left
-    left-fair = fair-whole M (mesh-fit M passes) field (waterIn M step) left (omega (arith, length-table (M .cells) (next part))) part-fair
+    left-fair : Fair M (Bounded whole after) field left
+    left-fair = fair-agree M (cut M) field (cutField M field) (waterIn M step) (waterIn M step) (cut-agrees M field (waterIn M step)) (counted M within .few-cells) (mesh-fit M passes) left part-fair
 
     after-salt : fieldValues (cut M) after ≡ fine
     after-salt = salt-part (cut M) after (part-fair .field-accepted)
