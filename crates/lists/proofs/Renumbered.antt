@@ -7,7 +7,7 @@ use native.Mathlib.Omega.{arith}
 use borrow.Author.Tests.{eq-eqb, ne-eqb}
 use lib.Dec.{eqb}
 use Rattle.lists.specs.Fold.{sum, least, greatest}
-use Rattle.lists.proofs.Tests.{Same, same, other, same?}
+use Rattle.lists.proofs.Tests.{Same, same, other, same?, cond-same}
 use Rattle.lists.proofs.Sums.{sum-cong, sum-zeros, sum-swap, sum-pick, least-start, least-each, greatest-start, greatest-each, greatest-le}
 use Rattle.lists.specs.Renumbering.{Renumbering}
 
@@ -18,10 +18,6 @@ module _ (m n : ℕ) (g f : ℕ → ℕ) (to from : ℕ → ℕ) (to-in : (j : �
   met : (i : ℕ) → i < n → sum m (λ j. cond (eqb (to j) i) (f i) 0) ≡ f i
   met i h = go (eqb (f i) 0) (same? (f i) 0)
     where
-      nothing : (b : Bool) → _≡_ {A = ℕ} (cond b 0 0) 0
-      nothing true = refl
-      nothing false = refl
-
       once : to (from i) ≡ i → (j : ℕ) → j < m → eqb (to j) i ≡ eqb (from i) j
       once e j l = one (eqb (from i) j) (same? (from i) j)
         where
@@ -30,7 +26,7 @@ module _ (m n : ℕ) (g f : ℕ → ℕ) (to from : ℕ → ℕ) (to-in : (j : �
           one false (other d) = ne-eqb (to j) i (λ q. d (ap from (sym q) ∙ from-to j l))
 
       go : (b : Bool) → Same (f i) 0 b → sum m (λ j. cond (eqb (to j) i) (f i) 0) ≡ f i
-      go true (same e) = rw e (sum-cong m (λ j. cond (eqb (to j) i) 0 0) (λ j. 0) (λ j l. nothing (eqb (to j) i)) ∙ sum-zeros m)
+      go true (same e) = rw e (sum-cong m (λ j. cond (eqb (to j) i) 0 0) (λ j. 0) (λ j l. cond-same (eqb (to j) i) 0) ∙ sum-zeros m)
       go false (other d) =
           let p = rest i h d in
           sum-cong m (λ j. cond (eqb (to j) i) (f i) 0) (λ j. cond (eqb (from i) j) (f i) 0) (λ j l. ap (λ (b : Bool). cond b (f i) 0) (once (p .1) j l)) ∙ sum-pick m (from i) (f i) (p .0)

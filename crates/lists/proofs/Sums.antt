@@ -6,9 +6,10 @@ use mathlib.Core.Bool.{Bool, true, false, cond}
 use native.Mathlib.Nat.{zero-mul, suc-mul, le-of-suc-le-suc, eq-or-lt-of-le}
 use native.Mathlib.Numerals.{add-one}
 use native.Mathlib.Omega.{arith}
+use borrow.Author.Tests.{ne-eqb}
 use lib.Dec.{eqb}
 use Rattle.lists.specs.Fold.{sum, least, greatest}
-use Rattle.lists.proofs.Tests.{Same, same, other, same?, eqb-no}
+use Rattle.lists.proofs.Tests.{Same, same, other, same?}
 
 pub sum-zero : (f : ℕ → ℕ) → sum 0 f ≡ 0
 unfolding sum
@@ -69,7 +70,7 @@ sum-term k n f l = rw (← sum-more k f) (sum-part (k + 1) n f (omega arith))
 pub sum-none : (n k a : ℕ) → n ≤ k → sum n (λ c. cond (eqb k c) a 0) ≡ 0
 unfolding sum
 sum-none zero k a h = refl
-sum-none (suc n) k a h = rw (eqb-no k n (omega arith)) (omega (arith, sum-none n k a (omega arith)))
+sum-none (suc n) k a h = rw (ne-eqb k n (omega arith)) (omega (arith, sum-none n k a (omega arith)))
 
 pub sum-pick : (n k a : ℕ) → k < n → sum n (λ c. cond (eqb k c) a 0) ≡ a
 unfolding sum

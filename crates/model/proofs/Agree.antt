@@ -1,6 +1,6 @@
 -- Entries past the counts mean nothing: steps that agree below their counts are alike, each cell and face with its own number, and so
 -- have the same stages; scans of tests that agree find the same, so they have the same verdicts and answers.
-use Prim.Native.Nat.{ℕ, zero, suc, _≤_, _<_}
+use Prim.Native.Nat.{ℕ, _≤_, _<_}
 use mathlib.Core.Path.{_≡_, refl, sym, ap, ap₂, _∙_}
 use mathlib.Core.Bool.{Bool, true, false, cond}
 use mathlib.Core.List.{List}
@@ -18,7 +18,9 @@ use Rattle.model.specs.Step.{StepInput, flux, lo, hi, moved, next, inMas
 use Rattle.model.specs.Alike.{straight, AlikeEnds, Alike, AgreeMesh, Agree}
 use Rattle.model.specs.Causes.{accepted, refused, Verdict, fine, _andThen_, taken, each, Call, inputOf, counts, meshTables, fieldTable, stepTables, meshValues, volumeGood, endsGood, spacingGood, fieldValues, fieldVerdict, saltGood, stepValues, outsideGood, fluxGood, balanceGood, outflowGood, verdict}
 use Rattle.model.specs.Calls.{massIn, Bounded, Left, crossingOf, corrected, stepAnswer, nextTable, movedTable}
-use Rattle.model.proofs.Accepted.{MeshFit, ready}
+use Rattle.model.specs.Accepted.{MeshFit}
+use Rattle.model.proofs.Verdicts.{each-cong}
+use Rattle.model.proofs.Accepted.{ready}
 use Rattle.model.proofs.Lists.{Fair}
 use Rattle.model.proofs.AlikeStages.{lo-alike, hi-alike, moved-alike, next-alike, in-mass-alike, out-mass-alike}
 
@@ -81,9 +83,7 @@ module _ (M M′ : Mesh) (same-faces : M′ .faces ≡ M .faces)
 
 -- a scan of tests that agree finds the same, at the same place
 each-agree : (k n : ℕ) {n′ : ℕ} (good good′ : ℕ → Bool) → n′ ≡ n → ((i : ℕ) → i < n → good′ i ≡ good i) → each k n′ good′ ≡ each k n good
-unfolding each
-each-agree k zero good good′ e h = rw e
-each-agree k (suc n) good good′ e h = rw (e, each-agree k n good good′ refl (λ i l. h i (omega arith)), h n (omega arith))
+each-agree k n good good′ e h = ap (λ (m : ℕ). each k m good′) e ∙ each-cong k n good′ good h
 
 -- causes 3 to 5
 module _ (M M′ : Mesh) (g : AgreeMesh M M′) where

@@ -13,12 +13,12 @@ use Rattle.signed.specs.Sign.{isNegative, isZero, size, withSign, turn}
 use Rattle.signed.proofs.Laws.{isZero-size, size-zero}
 use Rattle.model.specs.Mesh.{Mesh, first, second, atRim, rim, entering, leaving, incoming, outgoing, updated}
 use Rattle.model.specs.Step.{portion, receiver, giver, limitedBy}
-use Rattle.model.proofs.Budget.{Joined}
+use Rattle.model.specs.Accepted.{Joined}
 use Rattle.model.proofs.Limit.{portion-zero}
 use Rattle.lists.specs.Renumbering.{Renumbering}
 use Rattle.model.specs.Alike.{Facing, straight, turned, AlikeEnds}
 use Rattle.lists.proofs.Renumbered.{sum-renumbered, renumbered-eqb}
-use Rattle.signed.proofs.Turns.{size-turn, isZero-turn, turn-passes, turn-negative, turn-withSign}
+use Rattle.signed.proofs.Turns.{size-turn, isZero-turn, turn-zero, turn-passes, turn-negative, turn-withSign}
 
 -- a correction z from l to k, limited
 abbrev limit : (ℕ → ℕ) → (ℕ → ℕ) → (ℕ → ℕ) → (ℕ → ℕ) → ℤ → ℕ → ℕ → ℤ
@@ -27,10 +27,6 @@ limit G P L N z l k = withSign (isNegative z)
 
 limit-nothing : (G P L N : ℕ → ℕ) (z : ℤ) (l k : ℕ) → isZero z ≡ true → limit G P L N z l k ≡ pos 0
 limit-nothing G P L N z l k e = let n = size-zero z (isZero-size z e) in rw (n, portion-zero (G k) (P k), portion-zero (L l) (N l))
-
-turn-nothing : (t : Bool) → turn t (pos 0) ≡ pos 0
-turn-nothing true = refl
-turn-nothing false = refl
 
 limit-turned : (n : ℕ) (new : ℕ → ℕ) (G P L N G′ P′ L′ N′ : ℕ → ℕ)
     → ((c : ℕ) → c < n → G′ (new c) ≡ G c) → ((c : ℕ) → c < n → P′ (new c) ≡ P c) → ((c : ℕ) → c < n → L′ (new c) ≡ L c) → ((c : ℕ) → c < n → N′ (new c) ≡ N c)
@@ -122,7 +118,7 @@ module _ (M M′ : Mesh) (j : Joined M) (cell : Renumbering (M .cells)) (face : 
             → limit gain′ (incoming M′ x′) loss′ (outgoing M′ x′) (turn (turns f) (x f)) (first M′ (face .new f)) (second M′ (face .new f))
             ≡ turn (turns f) (limit gain (incoming M x) loss (outgoing M x) (x f) (first M f) (second M f))
         go true z = limit-nothing gain′ (incoming M′ x′) loss′ (outgoing M′ x′) (turn (turns f) (x f)) (first M′ (face .new f)) (second M′ (face .new f)) (isZero-turn (turns f) (x f) ∙ z)
-            ∙ sym (ap (turn (turns f)) (limit-nothing gain (incoming M x) loss (outgoing M x) (x f) (first M f) (second M f) z) ∙ turn-nothing (turns f))
+            ∙ sym (ap (turn (turns f)) (limit-nothing gain (incoming M x) loss (outgoing M x) (x f) (first M f) (second M f) z) ∙ turn-zero (turns f))
         go false z =
             let d = within z in
             let p = ends d (turns f) (a .facing f l) in

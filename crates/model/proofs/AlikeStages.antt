@@ -14,12 +14,11 @@ use Rattle.lists.proofs.Tests.{Same, same, other, same?}
 use Rattle.signed.specs.Sign.{isNegative, isZero, size, forward, backward, turn}
 use Rattle.model.specs.Mesh.{Mesh, first, second, share, reach, atRim, rim, maxShare}
 use Rattle.model.specs.Step.{StepInput, flux, outside, mass, concentration, beyond, upwind, downwind, carried, low, upwindShare, correction, adjacent, lo, hi, maxGain, maxLoss, limited, moved, next, inMass, outMass}
-use Rattle.model.proofs.Budget.{Joined}
-use Rattle.model.proofs.Accepted.{MeshFit}
+use Rattle.model.specs.Accepted.{Joined, MeshFit}
 use Rattle.lists.specs.Renumbering.{Renumbering}
 use Rattle.model.specs.Alike.{Facing, straight, turned, Alike}
 use Rattle.lists.proofs.Renumbered.{sum-renumbered, least-renumbered, greatest-renumbered}
-use Rattle.signed.proofs.Turns.{size-turn, isZero-turn, turn-add, turn-mul, turn-quot, turn-carries, turn-negative}
+use Rattle.signed.proofs.Turns.{size-turn, isZero-turn, turn-zero, turn-add, turn-mul, turn-quot, turn-carries, turn-negative}
 use Rattle.model.proofs.AlikeFaces.{rim-same, first-is, second-is, updated-alike, limited-alike}
 
 pub joined : (M : Mesh) → M .cells ≤ rim → MeshFit M → Joined M
@@ -94,15 +93,11 @@ module _ (S S′ : StepInput) (few : S .mesh .cells ≤ rim) (fit : MeshFit (S .
       rw (rim-same M M′ j cell face turns (a .mesh-alike .ends-alike) f l, a .flux-same f l, near-alike f l, beyond-alike f l, a .mesh-alike .share-same f l, a .mesh-alike .reach-same f l, isZero-turn (turns f) (flux S f))
       (go (atRim M f) (isZero (flux S f)) refl)
     where
-      nothing : (t : Bool) → pos 0 ≡ turn t (pos 0)
-      nothing true = refl
-      nothing false = refl
-
       go : (r b : Bool) → isZero (flux S f) ≡ b
           → cond (r || b) (pos 0) (correct (turn (turns f) (flux S f)) (cond (turns f) (beyond S f) (concentration S (first M f))) (cond (turns f) (concentration S (first M f)) (beyond S f)) (cond (turns f) (256 - share M f) (share M f)) (reach M f))
           ≡ turn (turns f) (cond (r || b) (pos 0) (correct (flux S f) (concentration S (first M f)) (beyond S f) (share M f) (reach M f)))
-      go true b e = nothing (turns f)
-      go false true e = nothing (turns f)
+      go true b e = sym (turn-zero (turns f))
+      go false true e = sym (turn-zero (turns f))
       go false false e = correct-turned (turns f) (flux S f) (concentration S (first M f)) (beyond S f) (share M f) (reach M f) (fit .share-most f l) e
 
   -- a correction that is not 0 is that of an interior face

@@ -15,7 +15,8 @@ use Rattle.model.specs.Causes.{Outcome, accepted, refused, fine, Call, i
 use Rattle.model.specs.Calls.{massIn, Bounded, Left, fieldAfter, enteredBy, goneBy, crossingOf, Scheme, corrected, nextTable, stepOnTables, afterAll, totalIn, totalOut, EachAccepted, Claim}
 use Rattle.model.proofs.Verdicts.{both-fine}
 use Rattle.model.proofs.Next.{Keeps, amounts-budget, moved-keeps}
-use Rattle.model.proofs.Accepted.{Ready, ready, passed, call-lent, field-accepted, hi-most}
+use Rattle.model.proofs.Accepted.{ready, passed, call-lent, field-accepted, hi-most}
+use Rattle.model.specs.Accepted.{Ready}
 
 -- what one accepted call owes: its own budget, P, and an accepted field
 pub record Fair (M : Mesh) (P : Type 0) (field : List ℕ) (l : Left) : Type 0 where

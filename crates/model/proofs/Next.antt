@@ -12,8 +12,9 @@ use Rattle.model.specs.Step.{StepInput, flux, outside, mass, concentrati
 use Rattle.lists.proofs.Sums.{sum-cong, sum-add}
 use Rattle.signed.proofs.Laws.{moves}
 use Rattle.model.proofs.Budget.{outward, inward, budget}
-use Rattle.model.proofs.Low.{Sound, low-affords, low-is, low-bounds, upwind-forward, upwind-backward}
+use Rattle.model.proofs.Low.{low-affords, low-is, low-bounds, upwind-forward, upwind-backward}
 use Rattle.model.proofs.Limit.{incoming-limited, outgoing-limited, limited-zero}
+use Rattle.model.specs.Accepted.{Sound}
 
 -- masses between V·lo and V·hi + V − 1, as concentrations
 between : {v l h : ℕ} (m : ℕ) → 1 ≤ v → (v * l ≤ m) × (m ≤ v * h + v - 1) → (l ≤ m / v) × (m / v ≤ h)

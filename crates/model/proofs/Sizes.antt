@@ -10,18 +10,13 @@ use Rattle.signed.specs.Sign.{forward, backward, size, isZero, isNegative}
 use Rattle.signed.proofs.Laws.{size-mul, size-quot, size-diff, forward-le, backward-le}
 use Rattle.lists.proofs.Tests.{Same, other, same?, Fits, exceeds, fits?}
 use Rattle.lists.proofs.Sums.{sum-bound}
-use Rattle.model.specs.Mesh.{Mesh, first, second, share, reach, atRim, rim, entering, leaving, incoming, outgoing, total, maxCells, maxFaces, maxVolume, maxConcentration, maxRimFlux}
+use Rattle.model.specs.Mesh.{Mesh, first, second, share, reach, atRim, rim, entering, leaving, incoming, outgoing, total, maxCells, maxFaces, maxConcentration}
 use Rattle.model.specs.Step.{StepInput, portion, flux, outside, mass, concentration, beyond, upwind, downwind, upwindShare, carried, low, correction, maxGain, maxLoss, next, inMass, outMass}
 use Rattle.model.proofs.Low.{low-bounds}
 use Rattle.model.proofs.Next.{next-bounds}
-use Rattle.model.proofs.Accepted.{Ready, hi-most, flux-few, flux-reach}
-
--- the largest mass that passes a face with the water, and the largest mass of a cell
-abbrev pub maxCarried : ℕ
-maxCarried = maxRimFlux * maxConcentration
-
-abbrev pub maxMass : ℕ
-maxMass = maxVolume * maxConcentration + maxVolume - 1
+pub use Rattle.model.specs.Accepted.{maxCarried, maxMass}
+use Rattle.model.specs.Accepted.{Ready}
+use Rattle.model.proofs.Accepted.{hi-most, flux-few, flux-reach}
 
 quotient : (u d w K B : ℕ) → d ≤ B → w ≤ 256 * K → u * d * w / (256 * K) ≤ u * B
 quotient u d w K B h k = div-le-of-le-mul (256 * K) (le-trans (mul-le-mul-left (u * d) k) (omega (arith, mul-le-mul-left (256 * K * u) h)))

@@ -10,20 +10,18 @@ use lib.Signed.{quotZ}
 use Rattle.signed.specs.Sign.{size, isZero, isNegative}
 use Rattle.signed.proofs.Laws.{size-mul, size-quot, size-zero, diff-self}
 use Rattle.lists.specs.Fold.{sum}
-use Rattle.lists.proofs.Tests.{Same, other, same?}
+use Rattle.lists.proofs.Tests.{Same, other, same?, cond-same}
 use Rattle.lists.proofs.Sums.{sum-cong, sum-scale, sum-zeros, sum-zero}
 use Rattle.model.specs.Mesh.{Mesh, first, second, reach, atRim, rim, entering, leaving, incoming, outgoing, updated}
 use Rattle.model.specs.Step.{StepInput, flux, outside, mass, concentration, beyond, upwind, downwind, upwindShare, carried, low, correction, adjacent, maxGain, maxLoss, limited, moved, next}
-use Rattle.model.proofs.Low.{Sound, met-any, entering-carried, outgoing-carried, low-is}
+use Rattle.model.proofs.Low.{met-any, entering-carried, outgoing-carried, low-is}
 use Rattle.model.proofs.Limit.{limited-zero}
 use Rattle.model.proofs.Next.{next-is}
+use Rattle.model.specs.Accepted.{Sound}
 
 -- amounts of 0 bring nothing and take nothing
 nothing : (s t : Bool) → cond s 0 0 + cond t 0 0 ≡ 0
-nothing true true = refl
-nothing true false = refl
-nothing false true = refl
-nothing false false = refl
+nothing s t = rw (cond-same {A = ℕ} s 0, cond-same {A = ℕ} t 0)
 
 still : (M : Mesh) (x : ℕ → ℤ) → ((f : ℕ) → f < M .faces → x f ≡ pos 0) → (c : ℕ) → (incoming M x c ≡ 0) × (outgoing M x c ≡ 0)
 unfolding incoming outgoing entering leaving

@@ -27,7 +27,8 @@ use Rattle.model.specs.Mesh.{Mesh, rim}
 use Rattle.model.specs.Causes.{accepted, refused, Verdict, fine, _andThen_, Call, meshVerdict, fieldVerdict, verdict}
 use Rattle.model.specs.Calls.{massIn, Left, fieldAfter, corrected, nextTable, movedTable, workTable, stepOnTables}
 use Rattle.model.proofs.Verdicts.{both-fine}
-use Rattle.model.proofs.Accepted.{counted, MeshFit, mesh-fit}
+use Rattle.model.proofs.Accepted.{counted, mesh-fit}
+use Rattle.model.specs.Accepted.{MeshFit}
 use Rattle.model.proofs.Agree.{field-agrees, fair-agree}
 use Rattle.model.proofs.Lists.{Fair, list-law, corrected-keeping, tables-fair}
 use Rattle.model.proofs.Figures.{Figures, figures}

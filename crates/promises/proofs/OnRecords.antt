@@ -13,17 +13,17 @@ use Rattle.lists.proofs.Sums.{sum-cong}
 use Rattle.lists.proofs.Tables.{length-table, getD-table, table-cong}
 use Rattle.model.specs.Mesh.{Mesh, volume, first, second, share, reach}
 use Rattle.model.specs.Step.{StepInput, moved, next}
-use Rattle.model.specs.Causes.{accepted, fine, _andThen_, long, Call, callOf, inputOf, workLength, counts, meshTables, meshValues, meshVerdict, fieldTable, fieldValues, fieldVerdict, stepTables, outsideGood, fluxGood, balanceGood, outflowGood, stepValues}
+use Rattle.model.specs.Causes.{accepted, fine, _andThen_, long, Call, callOf, inputOf, workLength, counts, meshTables, meshValues, meshVerdict, fieldTable, fieldValues, fieldVerdict, stepTables, outsideGood, fluxGood, balanceGood, outflowGood, stepValues, waterOf}
 use Rattle.model.specs.Calls.{massIn, Bounded, Left, crossingOf}
 use Rattle.model.proofs.Verdicts.{both-fine, need-met}
-use Rattle.model.proofs.Accepted.{Ready, ready-of, counted, mesh-fit}
+use Rattle.model.proofs.Accepted.{ready-of, counted, mesh-fit}
 use Rattle.model.proofs.Next.{moved-keeps}
 use Rattle.model.proofs.Lists.{Fair, amounts-fair}
 use Rattle.model.proofs.Agree.{in-agree, out-agree, fair-agree}
 use Rattle.bits.specs.Field.{bitsAt}
+use Rattle.model.specs.Accepted.{Ready}
 use Rattle.records.specs.Layouts.{meshRecord, fieldRecord, fieldLength, outsideBits, rimFaces, isRim}
 use Rattle.records.specs.Reading.{meshIn, massesIn, fluxesIn, outsidesIn, outsidePlace}
-use Rattle.records.specs.Writing.{waterOf}
 use Rattle.records.proofs.Packed.{mesh-cells, mesh-faces, field-record-length}
 use Rattle.records.proofs.WidthLaws.{spelled, masses-fit}
 use Rattle.records.proofs.RoundTrip.{volumes-read-back, firsts-read-back, seconds-read-back, shares-read-back, reaches-read-back, masses-read-back}

@@ -15,7 +15,7 @@ use Rattle.lists.proofs.Tables.{length-table, getD-table, over-table, length-ov
 use Rattle.lists.proofs.Sums.{sum-cong}
 use Rattle.model.specs.Mesh.{Mesh, meshOf, total, runCells, runFaces}
 use Rattle.model.specs.Step.{StepInput, next, inMass, outMass}
-use Rattle.model.specs.Causes.{Outcome, accepted, refused, Verdict, fine, _andThen_, taken, each, Call, callOf, inputOf, countsWithin, counts, meshTables, volumeGood, endsGood, spacingGood, meshValues, meshVerdict, meshFieldVerdict, verdict}
+use Rattle.model.specs.Causes.{Outcome, accepted, refused, Verdict, fine, _andThen_, taken, each, Call, callOf, inputOf, countsWithin, counts, meshTables, volumeGood, endsGood, spacingGood, meshValues, meshVerdict, meshFieldVerdict, verdict, cellsOnly}
 use Rattle.model.specs.Answers.{number, said}
 use Rattle.model.specs.Calls.{Crossing as Crossed, massIn, corrected, stepAnswer, nextTable}
 use Rattle.model.specs.declared.Answer.{Answer}
@@ -24,7 +24,7 @@ use Rattle.model.specs.declared.Refusal.{Refusal}
 use Rattle.model.proofs.Verdicts.{both-fine, past, out, need-fine, need-met}
 use Rattle.model.proofs.Accepted.{ready, passed, call-lent}
 use Rattle.model.proofs.Sizes.{next-most, total-most}
-use Rattle.checks.specs.Total.{cellsOnly, totalSaid}
+use Rattle.checks.specs.Total.{totalSaid}
 use Rattle.checks.specs.declared.TotalAnswer.{TotalAnswer}
 use Rattle.checks.specs.declared.TotalAnswer.the-variants as total-answer
 use Rattle.transport.specs.Promise.{stepSaid, StepPromise}

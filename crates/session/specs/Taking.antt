@@ -8,9 +8,9 @@ use lib.IntN.{ℤ}
 use Rattle.lists.specs.Table.{table, over}
 use Rattle.model.specs.Mesh.{Mesh, total, runCells, runFaces}
 use Rattle.model.specs.Step.{next, inMass, outMass}
-use Rattle.model.specs.Causes.{Outcome, accepted, Verdict, _andThen_, taken, Call, callOf, inputOf, meshValues, meshFieldVerdict, verdict}
+use Rattle.model.specs.Causes.{Outcome, accepted, Verdict, _andThen_, taken, Call, callOf, inputOf, meshValues, meshFieldVerdict, verdict, cellsOnly}
 use Rattle.model.specs.Calls.{massIn, corrected, nextTable, movedTable, workTable}
-use Rattle.checks.specs.Total.{cellsOnly, totalSaid}
+use Rattle.checks.specs.Total.{totalSaid}
 use Rattle.checks.specs.declared.TotalAnswer.{TotalAnswer}
 use Rattle.records.specs.Reading.{volumesIn, firstsIn, secondsIn, sharesIn, reachesIn, countsIn, meshIn, massesIn, fluxesIn, outsidesIn, meshHeadVerdict, meshBodyVerdict, meshRead, fieldRead, stepRead}
 use Rattle.records.specs.Answers.{meshSaid}

@@ -30,6 +30,10 @@ isZero-turn true (pos zero) = refl
 isZero-turn true (pos (suc n)) = refl
 isZero-turn true (negsuc n) = refl
 
+pub turn-zero : (t : Bool) → turn t (pos 0) ≡ pos 0
+turn-zero false = refl
+turn-zero true = refl
+
 pub turn-add : (t : Bool) (a b : ℤ) → turn t a +ℤ turn t b ≡ turn t (a +ℤ b)
 turn-add false a b = refl
 turn-add true a b = sym (negℤ-+ℤ a b)
