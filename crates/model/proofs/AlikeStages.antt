@@ -16,7 +16,7 @@ use Rattle.model.specs.Mesh.{Mesh, first, second, share, reach, atRim, r
 use Rattle.model.specs.Step.{StepInput, flux, outside, mass, concentration, beyond, upwind, downwind, carried, low, upwindShare, correction, adjacent, lo, hi, maxGain, maxLoss, limited, moved, next, inMass, outMass}
 use Rattle.model.specs.Accepted.{Joined, MeshFit}
 use Rattle.lists.specs.Renumbering.{Renumbering}
-use Rattle.model.specs.Alike.{Facing, straight, turned, Alike}
+use Rattle.model.specs.Alike.{Facing, straight, turned, AlikeEnds, Alike}
 use Rattle.lists.proofs.Renumbered.{sum-renumbered, least-renumbered, greatest-renumbered}
 use Rattle.signed.proofs.Turns.{size-turn, isZero-turn, turn-zero, turn-add, turn-mul, turn-quot, turn-carries, turn-negative}
 use Rattle.model.proofs.AlikeFaces.{rim-same, first-is, second-is, updated-alike, limited-alike}
@@ -47,6 +47,12 @@ module _ (S S′ : StepInput) (few : S .mesh .cells ≤ rim) (fit : MeshFit (S .
   j : Joined M
   j = joined M few fit
 
+  abbrev ends : AlikeEnds M M′ cell face turns
+  ends = a .mesh-alike .ends-alike
+
+  at-rim : (f : ℕ) → f < M .faces → atRim M′ (face .new f) ≡ atRim M f
+  at-rim = rim-same M M′ j cell face turns ends
+
   pub concentration-alike : (c : ℕ) → c < M .cells → concentration S′ (cell .new c) ≡ concentration S c
   unfolding concentration
   concentration-alike c h = rw (a .mass-same c h, a .mesh-alike .volume-same c h)
@@ -54,22 +60,24 @@ module _ (S S′ : StepInput) (few : S .mesh .cells ≤ rim) (fit : MeshFit (S .
   -- the two sides of a face
   near-alike : (f : ℕ) → f < M .faces → concentration S′ (first M′ (face .new f)) ≡ cond (turns f) (beyond S f) (concentration S (first M f))
   unfolding beyond
-  near-alike f l = go (turns f) (a .mesh-alike .ends-alike .facing f l)
+  near-alike f l = go (turns f) (ends .facing f l)
     where
-      go : (t : Bool) → Facing M M′ (cell .new) f (face .new f) t → concentration S′ (first M′ (face .new f)) ≡ cond t (cond (atRim M f) (outside S f) (concentration S (second M f))) (concentration S (first M f))
+      go : (t : Bool) → Facing M M′ (cell .new) f (face .new f) t
+          → concentration S′ (first M′ (face .new f)) ≡ cond t (cond (atRim M f) (outside S f) (concentration S (second M f))) (concentration S (first M f))
       go false (straight p q) = rw p (concentration-alike (first M f) (fit .first-in f l))
       go true (turned d p q) = rw (p, ne-eqb (second M f) rim d) (concentration-alike (second M f) (fit .second-in f l d))
 
   far-alike : (f : ℕ) → f < M .faces → second M f ≢ rim → concentration S′ (second M′ (face .new f)) ≡ cond (turns f) (concentration S (first M f)) (concentration S (second M f))
-  far-alike f l d = go (turns f) (a .mesh-alike .ends-alike .facing f l)
+  far-alike f l d = go (turns f) (ends .facing f l)
     where
-      go : (t : Bool) → Facing M M′ (cell .new) f (face .new f) t → concentration S′ (second M′ (face .new f)) ≡ cond t (concentration S (first M f)) (concentration S (second M f))
+      go : (t : Bool) → Facing M M′ (cell .new) f (face .new f) t
+          → concentration S′ (second M′ (face .new f)) ≡ cond t (concentration S (first M f)) (concentration S (second M f))
       go false (straight p q) = rw (q, ne-eqb (second M f) rim d) (concentration-alike (second M f) (fit .second-in f l d))
       go true (turned _ p q) = rw q (concentration-alike (first M f) (fit .first-in f l))
 
   beyond-alike : (f : ℕ) → f < M .faces → beyond S′ (face .new f) ≡ cond (turns f) (concentration S (first M f)) (beyond S f)
   unfolding beyond
-  beyond-alike f l = rw (rim-same M M′ j cell face turns (a .mesh-alike .ends-alike) f l, a .outside-same f l) (go (turns f) (a .mesh-alike .ends-alike .facing f l) (atRim M f) (same? (second M f) rim))
+  beyond-alike f l = rw (at-rim f l, a .outside-same f l) (go (turns f) (ends .facing f l) (atRim M f) (same? (second M f) rim))
     where
       go : (t : Bool) → Facing M M′ (cell .new) f (face .new f) t → (r : Bool) → Same (second M f) rim r
           → cond r (outside S f) (concentration S′ (second M′ (face .new f))) ≡ cond t (concentration S (first M f)) (cond r (outside S f) (concentration S (second M f)))
@@ -84,17 +92,18 @@ module _ (S S′ : StepInput) (few : S .mesh .cells ≤ rim) (fit : MeshFit (S .
 
   pub low-alike : (c : ℕ) → c < M .cells → low S′ (cell .new c) ≡ low S c
   unfolding low
-  low-alike = updated-alike M M′ j cell face turns (a .mesh-alike .ends-alike) (carried S) (carried S′) carried-alike (mass S) (mass S′) (a .mass-same)
+  low-alike = updated-alike M M′ j cell face turns ends (carried S) (carried S′) carried-alike (mass S) (mass S′) (a .mass-same)
 
   -- stage 2
   pub correction-alike : (f : ℕ) → f < M .faces → correction S′ (face .new f) ≡ turn (turns f) (correction S f)
   unfolding correction upwind downwind upwindShare correct
   correction-alike f l =
-      rw (rim-same M M′ j cell face turns (a .mesh-alike .ends-alike) f l, a .flux-same f l, near-alike f l, beyond-alike f l, a .mesh-alike .share-same f l, a .mesh-alike .reach-same f l, isZero-turn (turns f) (flux S f))
+      rw (at-rim f l, a .flux-same f l, near-alike f l, beyond-alike f l, a .mesh-alike .share-same f l, a .mesh-alike .reach-same f l, isZero-turn (turns f) (flux S f))
       (go (atRim M f) (isZero (flux S f)) refl)
     where
       go : (r b : Bool) → isZero (flux S f) ≡ b
-          → cond (r || b) (pos 0) (correct (turn (turns f) (flux S f)) (cond (turns f) (beyond S f) (concentration S (first M f))) (cond (turns f) (concentration S (first M f)) (beyond S f)) (cond (turns f) (256 - share M f) (share M f)) (reach M f))
+          → cond (r || b) (pos 0) (correct (turn (turns f) (flux S f)) (cond (turns f) (beyond S f) (concentration S (first M f))) (cond (turns f) (concentration S (first M f)) (beyond S f))
+          (cond (turns f) (256 - share M f) (share M f)) (reach M f))
           ≡ turn (turns f) (cond (r || b) (pos 0) (correct (flux S f) (concentration S (first M f)) (beyond S f) (share M f) (reach M f)))
       go true b e = sym (turn-zero (turns f))
       go false true e = sym (turn-zero (turns f))
@@ -109,8 +118,17 @@ module _ (S S′ : StepInput) (few : S .mesh .cells ≤ rim) (fit : MeshFit (S .
   adjacent-alike : (c f : ℕ) → c < M .cells → f < M .faces → adjacent S′ (cell .new c) (face .new f) ≡ adjacent S c f
   unfolding adjacent beyond
   adjacent-alike c f h l =
-      rw (rim-same M M′ j cell face turns (a .mesh-alike .ends-alike) f l, first-is M M′ j cell face turns (a .mesh-alike .ends-alike) f c l h, second-is M M′ j cell face turns (a .mesh-alike .ends-alike) f c l h, a .flux-same f l, isZero-turn (turns f) (flux S f), a .outside-same f l, concentration-alike c h)
-      (go (concentration S c) (concentration S (first M f)) (concentration S (second M f)) (outside S f) _ _ (turns f) (a .mesh-alike .ends-alike .facing f l) (near-alike f l) (far-alike f l) (isZero (flux S f)) (atRim M f) (same? (second M f) rim) (eqb (first M f) c) (same? (first M f) c) (eqb (second M f) c) (same? (second M f) c))
+      rw (
+        at-rim f l,
+        first-is M M′ j cell face turns ends f c l h,
+        second-is M M′ j cell face turns ends f c l h,
+        a .flux-same f l,
+        isZero-turn (turns f) (flux S f),
+        a .outside-same f l,
+        concentration-alike c h,
+      )
+      (go (concentration S c) (concentration S (first M f)) (concentration S (second M f)) (outside S f) _ _ (turns f) (ends .facing f l) (near-alike f l) (far-alike f l)
+      (isZero (flux S f)) (atRim M f) (same? (second M f) rim) (eqb (first M f) c) (same? (first M f) c) (eqb (second M f) c) (same? (second M f) c))
     where
       go : (q n k o n′ k′ : ℕ) (t : Bool) → Facing M M′ (cell .new) f (face .new f) t → n′ ≡ cond t (cond (atRim M f) o k) n → (second M f ≢ rim → k′ ≡ cond t n k)
           → (z r : Bool) → Same (second M f) rim r → (s : Bool) → Same (first M f) c s → (u : Bool) → Same (second M f) c u
@@ -129,11 +147,13 @@ module _ (S S′ : StepInput) (few : S .mesh .cells ≤ rim) (fit : MeshFit (S .
 
   pub lo-alike : (c : ℕ) → c < M .cells → lo S′ (cell .new c) ≡ lo S c
   unfolding lo
-  lo-alike c h = ap (λ (n : ℕ). least n (concentration S′ (cell .new c)) (adjacent S′ (cell .new c))) (a .mesh-alike .ends-alike .faces-same) ∙ (least-renumbered (M .faces) face (adjacent S′ (cell .new c)) (adjacent S c) (λ f l. adjacent-alike c f h l) _ _ (concentration-alike c h))
+  lo-alike c h = ap (λ (n : ℕ). least n (concentration S′ (cell .new c)) (adjacent S′ (cell .new c))) (ends .faces-same)
+      ∙ least-renumbered (M .faces) face (adjacent S′ (cell .new c)) (adjacent S c) (λ f l. adjacent-alike c f h l) _ _ (concentration-alike c h)
 
   pub hi-alike : (c : ℕ) → c < M .cells → hi S′ (cell .new c) ≡ hi S c
   unfolding hi
-  hi-alike c h = ap (λ (n : ℕ). greatest n (concentration S′ (cell .new c)) (adjacent S′ (cell .new c))) (a .mesh-alike .ends-alike .faces-same) ∙ (greatest-renumbered (M .faces) face (adjacent S′ (cell .new c)) (adjacent S c) (λ f l. adjacent-alike c f h l) _ _ (concentration-alike c h))
+  hi-alike c h = ap (λ (n : ℕ). greatest n (concentration S′ (cell .new c)) (adjacent S′ (cell .new c))) (ends .faces-same)
+      ∙ greatest-renumbered (M .faces) face (adjacent S′ (cell .new c)) (adjacent S c) (λ f l. adjacent-alike c f h l) _ _ (concentration-alike c h)
 
   gain-alike : (c : ℕ) → c < M .cells → maxGain S′ (cell .new c) ≡ maxGain S c
   unfolding maxGain
@@ -146,7 +166,8 @@ module _ (S S′ : StepInput) (few : S .mesh .cells ≤ rim) (fit : MeshFit (S .
   -- stages 4 and 5
   pub limit-alike : (f : ℕ) → f < M .faces → limited S′ (face .new f) ≡ turn (turns f) (limited S f)
   unfolding limited
-  limit-alike f l = limited-alike M M′ j cell face turns (a .mesh-alike .ends-alike) (correction S) (correction S′) correction-alike (maxGain S) (maxGain S′) (maxLoss S) (maxLoss S′) gain-alike loss-alike f l (corrected-within f)
+  limit-alike f l = limited-alike M M′ j cell face turns ends (correction S) (correction S′) correction-alike
+      (maxGain S) (maxGain S′) (maxLoss S) (maxLoss S′) gain-alike loss-alike f l (corrected-within f)
 
   pub moved-alike : (f : ℕ) → f < M .faces → moved S′ (face .new f) ≡ turn (turns f) (moved S f)
   unfolding moved
@@ -154,11 +175,11 @@ module _ (S S′ : StepInput) (few : S .mesh .cells ≤ rim) (fit : MeshFit (S .
 
   pub next-alike : (c : ℕ) → c < M .cells → next S′ (cell .new c) ≡ next S c
   unfolding next
-  next-alike = updated-alike M M′ j cell face turns (a .mesh-alike .ends-alike) (moved S) (moved S′) moved-alike (mass S) (mass S′) (a .mass-same)
+  next-alike = updated-alike M M′ j cell face turns ends (moved S) (moved S′) moved-alike (mass S) (mass S′) (a .mass-same)
 
   -- in- and out-mass
-  at-rim : (f : ℕ) → f < M .faces → (g : ℤ → ℕ) → cond (atRim M f) (g (turn (turns f) (flux S f))) 0 ≡ cond (atRim M f) (g (flux S f)) 0
-  at-rim f l g = go (turns f) (a .mesh-alike .ends-alike .facing f l) (atRim M f) (same? (second M f) rim)
+  flux-at-rim : (f : ℕ) → f < M .faces → (g : ℤ → ℕ) → cond (atRim M f) (g (turn (turns f) (flux S f))) 0 ≡ cond (atRim M f) (g (flux S f)) 0
+  flux-at-rim f l g = go (turns f) (ends .facing f l) (atRim M f) (same? (second M f) rim)
     where
       go : (t : Bool) → Facing M M′ (cell .new) f (face .new f) t → (r : Bool) → Same (second M f) rim r → cond r (g (turn t (flux S f))) 0 ≡ cond r (g (flux S f)) 0
       go t x false s = refl
@@ -167,16 +188,17 @@ module _ (S S′ : StepInput) (few : S .mesh .cells ≤ rim) (fit : MeshFit (S .
 
   pub in-mass-alike : inMass S′ ≡ inMass S
   unfolding inMass
-  in-mass-alike = ap (λ (n : ℕ). sum n (λ f. cond (atRim M′ f) (backward (flux S′ f) * outside S′ f) 0)) (a .mesh-alike .ends-alike .faces-same)
-      ∙ sum-renumbered (M .faces) face _ _ (λ f l. rw (rim-same M M′ j cell face turns (a .mesh-alike .ends-alike) f l, a .flux-same f l, a .outside-same f l) (at-rim f l (λ z. backward z * outside S f)))
+  in-mass-alike = ap (λ (n : ℕ). sum n (λ f. cond (atRim M′ f) (backward (flux S′ f) * outside S′ f) 0)) (ends .faces-same)
+      ∙ sum-renumbered (M .faces) face _ _ (λ f l. rw (at-rim f l, a .flux-same f l, a .outside-same f l) (flux-at-rim f l (λ z. backward z * outside S f)))
 
   pub out-mass-alike : outMass S′ ≡ outMass S
   unfolding outMass
-  out-mass-alike = ap (λ (n : ℕ). sum n (λ f. cond (atRim M′ f) (forward (flux S′ f) * concentration S′ (first M′ f)) 0)) (a .mesh-alike .ends-alike .faces-same)
-      ∙ sum-renumbered (M .faces) face _ _ (λ f l. rw (rim-same M M′ j cell face turns (a .mesh-alike .ends-alike) f l, a .flux-same f l) (at-rim-first f l))
+  out-mass-alike = ap (λ (n : ℕ). sum n (λ f. cond (atRim M′ f) (forward (flux S′ f) * concentration S′ (first M′ f)) 0)) (ends .faces-same)
+      ∙ sum-renumbered (M .faces) face _ _ (λ f l. rw (at-rim f l, a .flux-same f l) (at-rim-first f l))
     where
-      at-rim-first : (f : ℕ) → f < M .faces → cond (atRim M f) (forward (turn (turns f) (flux S f)) * concentration S′ (first M′ (face .new f))) 0 ≡ cond (atRim M f) (forward (flux S f) * concentration S (first M f)) 0
-      at-rim-first f l = go (turns f) (a .mesh-alike .ends-alike .facing f l) (atRim M f) (same? (second M f) rim)
+      at-rim-first : (f : ℕ) → f < M .faces
+          → cond (atRim M f) (forward (turn (turns f) (flux S f)) * concentration S′ (first M′ (face .new f))) 0 ≡ cond (atRim M f) (forward (flux S f) * concentration S (first M f)) 0
+      at-rim-first f l = go (turns f) (ends .facing f l) (atRim M f) (same? (second M f) rim)
         where
           go : (t : Bool) → Facing M M′ (cell .new) f (face .new f) t → (r : Bool) → Same (second M f) rim r
               → cond r (forward (turn t (flux S f)) * concentration S′ (first M′ (face .new f))) 0 ≡ cond r (forward (flux S f) * concentration S (first M f)) 0

@@ -58,7 +58,9 @@ module _ (S : StepInput) (ok : Sound S) (q₀ : ℕ) (alike : (c : ℕ) → c < 
     where
       go : (r : Bool) → Same (second M f) rim r → (z n : Bool)
           → cond (r || z) (pos 0)
-          (quotZ (flux S f *ℤ (pos (cond n (concentration S (first M f)) (cond r (outside S f) (concentration S (second M f)))) -ℤ pos (cond n (cond r (outside S f) (concentration S (second M f))) (concentration S (first M f)))) *ℤ (pos (upwindShare S f * reach M f) -ℤ pos (128 * size (flux S f)))) (pos (256 * reach M f)))
+          (quotZ (flux S f *ℤ (pos (cond n (concentration S (first M f)) (cond r (outside S f) (concentration S (second M f))))
+          -ℤ pos (cond n (cond r (outside S f) (concentration S (second M f))) (concentration S (first M f))))
+          *ℤ (pos (upwindShare S f * reach M f) -ℤ pos (128 * size (flux S f)))) (pos (256 * reach M f)))
           ≡ pos 0
       go true s z n = refl
       go false s true n = refl
@@ -75,4 +77,10 @@ module _ (S : StepInput) (ok : Sound S) (q₀ : ℕ) (alike : (c : ℕ) → c < 
 -- no faces, no change
 pub no-faces : (S : StepInput) → S .mesh .faces ≡ 0 → (c : ℕ) → next S c ≡ mass S c
 unfolding next updated incoming outgoing
-no-faces S e c = omega (arith, ap (λ (n : ℕ). sum n (entering (S .mesh) (moved S) c)) e, sum-zero (entering (S .mesh) (moved S) c), ap (λ (n : ℕ). sum n (leaving (S .mesh) (moved S) c)) e, sum-zero (leaving (S .mesh) (moved S) c))
+no-faces S e c = omega (
+  arith,
+  ap (λ (n : ℕ). sum n (entering (S .mesh) (moved S) c)) e,
+  sum-zero (entering (S .mesh) (moved S) c),
+  ap (λ (n : ℕ). sum n (leaving (S .mesh) (moved S) c)) e,
+  sum-zero (leaving (S .mesh) (moved S) c),
+)
