@@ -9,8 +9,7 @@ use native.Mathlib.Omega.{arith}
 use borrow.Author.Tests.{not-true, ne-eqb, leb-true, le-leb, eqb-true, eqb-false}
 use lib.ListN.{length, getD}
 use lib.Dec.{eqb, leb, ltb}
-use lib.IntN.{ℤ}
-use Rattle.signed.specs.Sign.{size, isZero, isNegative}
+use Rattle.signed.specs.Sign.{size, isNegative}
 use Rattle.lists.proofs.Tests.{Same, same, other, same?, both-true, either-true}
 use Rattle.lists.proofs.Sums.{greatest-le}
 use Rattle.model.specs.Mesh.{Mesh, volume, first, second, share, reach, atRim, rim, incoming, outgoing, maxCells, maxFaces, maxVolume, maxShare, maxReach, maxConcentration, maxRimFlux}
@@ -19,6 +18,7 @@ use Rattle.model.specs.Causes.{fine, _andThen_, each, between, Call, inp
 pub use Rattle.model.specs.Accepted.{Counted, MeshLent, CallLent, MeshFit, WaterFit, Ready}
 use Rattle.model.specs.Accepted.{maxMass}
 use Rattle.model.proofs.Verdicts.{both-fine, need-fine, need-met, each-fine, fine-each}
+use Rattle.model.proofs.Low.{met-any}
 
 -- past cause 1
 pub counted : (M : Mesh) → counts M ≡ fine → Counted M
@@ -239,25 +239,12 @@ module _ (M : Mesh) (field : List ℕ) (k : Call) where
   ready e = ready-of (passed e)
 
 -- the greatest concentration around a cell is within the ceiling
-met-le : (z : ℤ) (k l c o : ℕ) (q : ℕ → ℕ) (B : ℕ) → q c ≤ B → q l ≤ B → o ≤ B → (k ≢ rim → q k ≤ B)
-    → cond (isZero z) (q c) (cond (eqb l c) (cond (eqb k rim) (cond (isNegative z) o (q c)) (q k)) (cond (eqb k c) (q l) (q c))) ≤ B
-met-le z k l c o q B hc hl ho hk = go (isZero z) (eqb l c) (eqb k rim) (same? k rim) (isNegative z) (eqb k c)
-  where
-    go : (a s r : Bool) → Same k rim r → (n t : Bool) → cond a (q c) (cond s (cond r (cond n o (q c)) (q k)) (cond t (q l) (q c))) ≤ B
-    go true s r rr n t = hc
-    go false true true rr true t = ho
-    go false true true rr false t = hc
-    go false true false (other d) n t = hk d
-    go false false r rr n true = hl
-    go false false r rr n false = hc
-
 module _ (S : StepInput) (r : Ready S) where
   open StepInput S using (mesh as M)
 
   pub adjacent-most : (c f : ℕ) → c < M .cells → f < M .faces → adjacent S c f ≤ maxConcentration
-  unfolding adjacent
-  adjacent-most c f h l = met-le (flux S f) (second M f) (first M f) c (outside S f) (concentration S) maxConcentration
-      (r .salt-most c h) (r .salt-most (first M f) (r .fit .first-in f l)) (r .water .outside-most f l) (λ d. r .salt-most (second M f) (r .fit .second-in f l d))
+  adjacent-most c f h l = met-any (λ q. q ≤ maxConcentration) S c f (r .salt-most c h) (r .salt-most (first M f) (r .fit .first-in f l)) (λ d e. r .water .outside-most f l)
+      (λ d. r .salt-most (second M f) (r .fit .second-in f l d))
 
   pub hi-most : (c : ℕ) → c < M .cells → hi S c ≤ maxConcentration
   unfolding hi
