@@ -1,20 +1,49 @@
--- A step on tables cut to their counts, as records hold them, agrees with the step on the whole tables.
-use Prim.Native.Nat.{ℕ}
-use mathlib.Core.Path.{refl}
+-- Entries past the counts mean nothing: of tables that agree below the counts a step record has the same length, bits and values, and a
+-- step on tables cut to their counts, as records hold them, agrees with the step on the whole tables.
+use Prim.Native.Nat.{ℕ, _*_, _≤_, _<_}
+use mathlib.Core.Path.{_≡_, refl}
+use mathlib.Core.Bool.{cond}
 use mathlib.Core.List.{List}
-use Rattle.lists.specs.Table.{table}
-use Rattle.lists.proofs.Tables.{getD-table}
-use Rattle.model.specs.Mesh.{Mesh, meshOf, volume, first, second, share, reach}
+use native.Mathlib.Omega.{arith}
+use lib.ListN.{length, getD}
+use Rattle.lists.proofs.Tests.{le-leb}
+use Rattle.lists.proofs.Sums.{sum-cong}
+use Rattle.lists.proofs.Tables.{getD-table, table-cong}
+use Rattle.model.specs.Mesh.{Mesh, volume, first, second, share, reach, runFaces}
 use Rattle.model.specs.Alike.{Agree}
 use Rattle.model.specs.Causes.{Call, inputOf}
 use Rattle.model.specs.Calls.{massIn}
+use Rattle.model.proofs.Verdicts.{need-met, each-cong}
+use Rattle.bits.specs.Field.{bitsAt}
+use Rattle.records.specs.Layouts.{outsideBits, rimFaces, isRim, stepLength}
+use Rattle.records.specs.Reading.{outsidesIn, outsidePlace, stepBitGood, stepHeadVerdict, stepBodyVerdict, stepRead}
+use Rattle.promises.specs.Held.{cut, cutField}
 
--- the mesh with its tables cut to the counts
-abbrev pub cut : Mesh → Mesh
-cut M = meshOf (M .cells) (M .faces) (table (M .cells) (volume M)) (table (M .faces) (first M)) (table (M .faces) (second M)) (table (M .faces) (share M)) (table (M .faces) (reach M))
+-- a step record on seconds that agree below the faces
+module _ (step : List ℕ) (faces : ℕ) (seconds other : List ℕ) (same : (f : ℕ) → f < faces → getD other f 0 ≡ getD seconds f 0) where
+  rims-same : (f : ℕ) → f ≤ faces → rimFaces other f ≡ rimFaces seconds f
+  unfolding rimFaces
+  rims-same f h = sum-cong f (λ g. cond (isRim other g) 1 0) (λ g. cond (isRim seconds g) 1 0) (λ g l. rw (same g (omega arith)))
 
-abbrev pub cutField : Mesh → List ℕ → List ℕ
-cutField M field = table (M .cells) (massIn field)
+  pub outsides-same : outsidesIn step faces other ≡ outsidesIn step faces seconds
+  unfolding outsidesIn
+  outsides-same = table-cong 0 faces
+      (λ f. cond (isRim other f) (bitsAt step (outsidePlace step faces other f) outsideBits) 0)
+      (λ f. cond (isRim seconds f) (bitsAt step (outsidePlace step faces seconds f) outsideBits) 0)
+      (λ f h. rw (same f h, rims-same f (omega arith)))
+
+  bit-same : (i : ℕ) → stepBitGood step faces other i ≡ stepBitGood step faces seconds i
+  unfolding stepBitGood
+  bit-same i = rw (rims-same faces (omega arith))
+
+  pub read-same : faces ≤ length seconds → faces ≤ length other → stepRead faces other step runFaces runFaces ≡ stepRead faces seconds step runFaces runFaces
+  unfolding stepRead stepHeadVerdict stepBodyVerdict stepLength
+  read-same l m = rw (
+    need-met 2 2 (le-leb faces (length other) m),
+    need-met 2 2 (le-leb faces (length seconds) l),
+    rims-same faces (omega arith),
+    each-cong 12 (8 * length step) (stepBitGood step faces other) (stepBitGood step faces seconds) (λ i h. bit-same i),
+  )
 
 pub cut-agrees : (M : Mesh) (field : List ℕ) (k : Call) → Agree (inputOf M field k) (inputOf (cut M) (cutField M field) k)
 cut-agrees M field k = record {
