@@ -22,7 +22,7 @@ use Rattle.model.proofs.Low.{low-affords}
 use Rattle.model.proofs.Accepted.{Ready, flux-few, flux-reach}
 use Rattle.model.proofs.Sizes.{mass-most, carried-size, incoming-most, maxCarried, inMass-most, outMass-most}
 use Rattle.face.specs.Correction.{coded, correctionOf}
-use Rattle.face.specs.Exchange.{EndsIn}
+use Rattle.face.specs.Exchange.{EndsIn, Transferred}
 use Rattle.face.proofs.Corrections.{correction-none}
 use Rattle.face.proofs.Flows.{flow-start, flow-afford, flow-room, flow-turn}
 use Rattle.cell.specs.Work.{ofCell, ofFace, widenedAcross}
@@ -71,6 +71,18 @@ inside z a b s k = go (isZero z) refl
     go true e = correction-none z a b s k (isZero-size z e)
     go false e = refl
 
+-- one face's calls, by the upwind concentration v
+pub face-done : (f l k s r a b n v c : ℕ) (p : Bool) (u : ℕ) (next next′ : List ℕ) (moved moved′ : List ℤ) (work met work′ : List ℕ) → v ≡ cond p b a
+    → Transferred next l k (withSign p (u * v)) next′ → moved′ ≡ set moved f (withSign p (u * v)) → met ≡ widenedAcross work l k (withSign p u) a b
+    → c ≡ cond (eqb k rim) 0 (coded (correctionOf (withSign p u) a b s r)) → work′ ≡ set met (4 * n + f) c
+    → FaceDone f l k s r a b n (u * v) (withSign p u) (withSign p (u * cond p b a)) next next′ moved moved′ work work′
+face-done f l k s r a b n v c p u next next′ moved moved′ work met work′ e t m w d q = record {
+  amount = rw e (sym (size-withSign p (u * cond p b a)));
+  flowed = rw e at t;
+  carries = rw e at m;
+  worked = rw (q, w, d);
+}
+
 -- what crosses the rim at one face
 one-in : (b p : Bool) (u o q n : ℕ) → cond b (cond p (u * cond p (cond b o q) n) 0) 0 ≡ cond b (cond p u 0 * o) 0
 one-in true true u o q n = refl
@@ -92,10 +104,10 @@ module _ (S : StepInput) (r : Ready S) (f : ℕ) (h : f < S .mesh .faces) (enter
   abbrev pub far : ℕ
   far = cond (eqb (second M f) rim) (outside S f) (ofCell work (second M f) 0)
 
-  abbrev negative : Bool
+  abbrev pub negative : Bool
   negative = isNegative (flux S f)
 
-  abbrev through : ℤ
+  abbrev pub through : ℤ
   through = withSign negative (size (flux S f) * cond negative far near)
 
   pub in-first : 4 * first M f + 3 < length work
@@ -126,8 +138,8 @@ module _ (S : StepInput) (r : Ready S) (f : ℕ) (h : f < S .mesh .faces) (enter
       go true o = r .water .outside-most f h
       go false (other d) = let i = r .fit .second-in f h d in rw (s .q-at (second M f) i) (r .salt-most (second M f) i)
 
-  pub face-asks : FaceAsks f (first M f) (second M f) (size (flux S f)) (share M f) (reach M f) near far (M .cells) through next moved work
-  face-asks = record {
+  asks-there : FaceAsks f (first M f) (second M f) (size (flux S f)) (share M f) (reach M f) near far (M .cells) through next moved work
+  asks-there = record {
     ends = ends-in S r f h;
     next-long = s .flowing .long;
     in-moved = rw (s .moved-long) h;
@@ -142,6 +154,11 @@ module _ (S : StepInput) (r : Ready S) (f : ℕ) (h : f < S .mesh .faces) (enter
     afford = rw through-is (flow-afford M (carried S) (mass S) f h next (s .flowing) (affordable S r));
     room = rw through-is (flow-room M (carried S) (mass S) f h next (s .flowing) (bounded S r));
   }
+
+  -- the same of values that the code has read
+  pub face-asks : (p : Bool) (u a b : ℕ) → p ≡ negative → u ≡ size (flux S f) → a ≡ near → b ≡ far
+      → FaceAsks f (first M f) (second M f) u (share M f) (reach M f) a b (M .cells) (withSign p (u * cond p b a)) next moved work
+  face-asks p u a b d e i j = rw (d, e, i, j) asks-there
 
   correction-there : correction S f ≡ cond (eqb (second M f) rim || isZero (flux S f)) (pos 0) (correctionOf (flux S f) (concentration S (first M f)) (beyond S f) (share M f) (reach M f))
   unfolding correction correctionOf upwind downwind upwindShare
@@ -192,49 +209,72 @@ module _ (S : StepInput) (r : Ready S) (f : ℕ) (h : f < S .mesh .faces) (enter
       (omega (arith, greatest-start f (concentration S c) (adjacent S c))) (r .fit .apart f h) (cell-not-mark S r c l))
 
   -- what the face adds to the in-mass and to the out-mass, with what it carries
-  module _ (amount : ℕ) (amount-is : amount ≡ size through) where
-    entered-more : (i : ℕ) → i ≡ cond (eqb (second M f) rim) (cond negative amount 0) 0 → entered + i ≡ inMassTo S (f + 1)
-    entered-more i d =
-        let piece : i ≡ cond (eqb (second M f) rim) (backward (flux S f) * outside S f) 0 =
-        rw (d, amount-is, size-withSign, backward-is (flux S f)) (one-in (eqb (second M f) rim) negative (size (flux S f)) (outside S f) (ofCell work (second M f) 0) near) in
-        omega (arith, s .entered-is, sum-more f (λ g. cond (atRim M g) (backward (flux S g) * outside S g) 0))
+  abbrev adds-in : ℕ → ℕ
+  adds-in amount = cond (eqb (second M f) rim) (cond negative amount 0) 0
 
-    gone-more : (i : ℕ) → i ≡ cond (eqb (second M f) rim) (cond negative 0 amount) 0 → gone + i ≡ outMassTo S (f + 1)
-    gone-more i d =
-        let piece : i ≡ cond (eqb (second M f) rim) (forward (flux S f) * concentration S (first M f)) 0 =
-        rw (d, amount-is, size-withSign, forward-is (flux S f), ← near-is) (one-out (eqb (second M f) rim) negative (size (flux S f)) (outside S f) (ofCell work (second M f) 0) near) in
-        omega (arith, s .gone-is, sum-more f (λ g. cond (atRim M g) (forward (flux S g) * concentration S (first M g)) 0))
+  abbrev adds-out : ℕ → ℕ
+  adds-out amount = cond (eqb (second M f) rim) (cond negative 0 amount) 0
 
-    -- the sums stay within the words
-    pub entered-fits : (i : ℕ) → i ≡ cond (eqb (second M f) rim) (cond negative amount 0) 0 → entered + i < 2 ^ 64
-    unfolding inMass
-    entered-fits i d = omega (arith, entered-more i d, sum-more f (λ g. cond (atRim M g) (backward (flux S g) * outside S g) 0), sum-term f (M .faces) (λ g. cond (atRim M g) (backward (flux S g) * outside S g) 0) h, inMass-most S r)
+  entered-more : (amount : ℕ) → amount ≡ size through → entered + adds-in amount ≡ inMassTo S (f + 1)
+  entered-more amount e =
+      let piece : adds-in amount ≡ cond (eqb (second M f) rim) (backward (flux S f) * outside S f) 0 =
+      rw (e, size-withSign, backward-is (flux S f)) (one-in (eqb (second M f) rim) negative (size (flux S f)) (outside S f) (ofCell work (second M f) 0) near) in
+      omega (arith, s .entered-is, sum-more f (λ g. cond (atRim M g) (backward (flux S g) * outside S g) 0))
 
-    pub gone-fits : (i : ℕ) → i ≡ cond (eqb (second M f) rim) (cond negative 0 amount) 0 → gone + i < 2 ^ 64
-    unfolding outMass
-    gone-fits i d = omega (arith, gone-more i d, sum-more f (λ g. cond (atRim M g) (forward (flux S g) * concentration S (first M g)) 0), sum-term f (M .faces) (λ g. cond (atRim M g) (forward (flux S g) * concentration S (first M g)) 0) h, outMass-most S r)
+  gone-more : (amount : ℕ) → amount ≡ size through → gone + adds-out amount ≡ outMassTo S (f + 1)
+  gone-more amount e =
+      let piece : adds-out amount ≡ cond (eqb (second M f) rim) (forward (flux S f) * concentration S (first M f)) 0 =
+      rw (e, size-withSign, forward-is (flux S f), ← near-is) (one-out (eqb (second M f) rim) negative (size (flux S f)) (outside S f) (ofCell work (second M f) 0) near) in
+      omega (arith, s .gone-is, sum-more f (λ g. cond (atRim M g) (forward (flux S g) * concentration S (first M g)) 0))
 
-  -- the turn of the second pass
-  pub face-turn : (amount i o : ℕ) (next′ work′ : List ℕ) (moved′ : List ℤ)
-      → FaceDone f (first M f) (second M f) (share M f) (reach M f) near far (M .cells) amount (withSign negative (size (flux S f))) through next next′ moved moved′ work work′
-      → i ≡ cond (eqb (second M f) rim) (cond negative amount 0) 0 → o ≡ cond (eqb (second M f) rim) (cond negative 0 amount) 0
-      → CarriedTo S (f + 1) (entered + i) (gone + o) next′ moved′ work′
-  unfolding after
-  face-turn amount i o next′ work′ moved′ d p q = record {
-    entered-is = entered-more amount (d .amount) i p;
-    gone-is = gone-more amount (d .amount) o q;
-    flowing = flow-turn M (carried S) (mass S) f h next (s .flowing) next′ (rw through-is at (d .flowed));
-    moved-long = rw (d .carries) (length-set moved f _ ∙ s .moved-long);
-    moved-at = rw (d .carries, through-is) (below-more (λ g. getD (set moved f (carried S f)) g (pos 0) ≡ carried S g) f
-        (λ g l. getD-set-other moved f g (carried S f) (pos 0) (λ (e : g ≡ f). omega arith) ∙ s .moved-at g l) (getD-set-same moved f (carried S f) (pos 0) (rw (s .moved-long) h)));
-    work-long = rw worked (length-set after (4 * M .cells + f) code ∙ after-long ∙ s .work-long);
-    q-at = λ c l. rw worked (face-slot after (M .cells) f code c 0 refl l ∙ after-q c l);
-    lo-at = λ c l. rw worked (face-slot after (M .cells) f code c 1 refl l ∙ after-lo c l);
-    hi-at = λ c l. rw worked (face-slot after (M .cells) f code c 2 refl l ∙ after-hi c l);
-    code-at = rw worked (below-more (λ g. ofFace (set after (4 * M .cells + f) code) (M .cells) g ≡ coded (correction S g)) f
-        (λ g l. getD-set-other after (4 * M .cells + f) (4 * M .cells + g) code 0 (λ (e : 4 * M .cells + g ≡ 4 * M .cells + f). omega arith) ∙ after-face g ∙ s .code-at g l)
-        (getD-set-same after (4 * M .cells + f) code 0 (rw after-long (face-in f (M .cells) (M .faces) (length work) h (s .work-long))) ∙ code-is));
-  }
-    where
-      worked : work′ ≡ set after (4 * M .cells + f) code
-      worked = d .worked ∙ ap (λ (u : ℤ). set (widenedAcross work (first M f) (second M f) u near far) (4 * M .cells + f) (cond (eqb (second M f) rim) 0 (coded (correctionOf u near far (share M f) (reach M f))))) (withSign-of (flux S f))
+  -- the sums stay within the words
+  in-mass-fits : (i : ℕ) → i ≡ inMassTo S (f + 1) → i < 2 ^ 64
+  unfolding inMass
+  in-mass-fits i e = omega (arith, sum-more f (λ g. cond (atRim M g) (backward (flux S g) * outside S g) 0),
+      sum-term f (M .faces) (λ g. cond (atRim M g) (backward (flux S g) * outside S g) 0) h, inMass-most S r)
+
+  out-mass-fits : (o : ℕ) → o ≡ outMassTo S (f + 1) → o < 2 ^ 64
+  unfolding outMass
+  out-mass-fits o e = omega (arith, sum-more f (λ g. cond (atRim M g) (forward (flux S g) * concentration S (first M g)) 0),
+      sum-term f (M .faces) (λ g. cond (atRim M g) (forward (flux S g) * concentration S (first M g)) 0) h, outMass-most S r)
+
+  -- what the face has done, of the values that the code has read
+  module _ (p : Bool) (u a b amount : ℕ) (p-is : p ≡ negative) (u-is : u ≡ size (flux S f)) (a-is : a ≡ near) (b-is : b ≡ far) (next′ work′ : List ℕ) (moved′ : List ℤ)
+      (d : FaceDone f (first M f) (second M f) (share M f) (reach M f) a b (M .cells) amount (withSign p u) (withSign p (u * cond p b a)) next next′ moved moved′ work work′) where
+    there : FaceDone f (first M f) (second M f) (share M f) (reach M f) near far (M .cells) amount (withSign negative (size (flux S f))) through next next′ moved moved′ work work′
+    there = rw (p-is, u-is, a-is, b-is) at d
+
+    in-is : (i : ℕ) → i ≡ cond (eqb (second M f) rim) (cond p amount 0) 0 → entered + i ≡ inMassTo S (f + 1)
+    in-is i e = rw (e, p-is) (entered-more amount (there .amount))
+
+    out-is : (o : ℕ) → o ≡ cond (eqb (second M f) rim) (cond p 0 amount) 0 → gone + o ≡ outMassTo S (f + 1)
+    out-is o e = rw (e, p-is) (gone-more amount (there .amount))
+
+    pub entered-fits : (i : ℕ) → i ≡ cond (eqb (second M f) rim) (cond p amount 0) 0 → entered + i < 2 ^ 64
+    entered-fits i e = in-mass-fits (entered + i) (in-is i e)
+
+    pub gone-fits : (o : ℕ) → o ≡ cond (eqb (second M f) rim) (cond p 0 amount) 0 → gone + o < 2 ^ 64
+    gone-fits o e = out-mass-fits (gone + o) (out-is o e)
+
+    worked : work′ ≡ set after (4 * M .cells + f) code
+    unfolding after
+    worked = rw (withSign-of (flux S f)) at (there .worked)
+
+    -- the turn of the second pass
+    pub face-turn : (i o : ℕ) → i ≡ cond (eqb (second M f) rim) (cond p amount 0) 0 → o ≡ cond (eqb (second M f) rim) (cond p 0 amount) 0
+        → CarriedTo S (f + 1) (entered + i) (gone + o) next′ moved′ work′
+    face-turn i o e g = record {
+      entered-is = in-is i e;
+      gone-is = out-is o g;
+      flowing = flow-turn M (carried S) (mass S) f h next (s .flowing) next′ (rw through-is at (there .flowed));
+      moved-long = rw (there .carries) (length-set moved f _ ∙ s .moved-long);
+      moved-at = rw (there .carries, through-is) (below-more (λ g. getD (set moved f (carried S f)) g (pos 0) ≡ carried S g) f
+          (λ g l. getD-set-other moved f g (carried S f) (pos 0) (λ (e : g ≡ f). omega arith) ∙ s .moved-at g l) (getD-set-same moved f (carried S f) (pos 0) (rw (s .moved-long) h)));
+      work-long = rw worked (length-set after (4 * M .cells + f) code ∙ after-long ∙ s .work-long);
+      q-at = λ c l. rw worked (face-slot after (M .cells) f code c 0 refl l ∙ after-q c l);
+      lo-at = λ c l. rw worked (face-slot after (M .cells) f code c 1 refl l ∙ after-lo c l);
+      hi-at = λ c l. rw worked (face-slot after (M .cells) f code c 2 refl l ∙ after-hi c l);
+      code-at = rw worked (below-more (λ g. ofFace (set after (4 * M .cells + f) code) (M .cells) g ≡ coded (correction S g)) f
+          (λ g l. getD-set-other after (4 * M .cells + f) (4 * M .cells + g) code 0 (λ (e : 4 * M .cells + g ≡ 4 * M .cells + f). omega arith) ∙ after-face g ∙ s .code-at g l)
+          (getD-set-same after (4 * M .cells + f) code 0 (rw after-long (face-in f (M .cells) (M .faces) (length work) h (s .work-long))) ∙ code-is));
+    }

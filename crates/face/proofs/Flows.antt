@@ -5,7 +5,6 @@ use mathlib.Core.List.{List}
 use native.Mathlib.Omega.{arith}
 use lib.IntN.{ℤ}
 use lib.ListN.{length, getD}
-use Rattle.lists.specs.Fold.{sum}
 use Rattle.lists.proofs.Sums.{sum-zero, sum-more, sum-term}
 use Rattle.model.specs.Mesh.{Mesh, first, second, entering, leaving, incoming, outgoing, updated}
 use Rattle.face.specs.Exchange.{brings, takes, Transferred, Flowing}

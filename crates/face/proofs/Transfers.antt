@@ -10,7 +10,7 @@ use lib.Dec.{eqb}
 use lib.ListN.{length, getD, set, length-set}
 use Rattle.signed.specs.Sign.{withSign}
 use Rattle.signed.proofs.Laws.{forward-withSign, backward-withSign}
-use Rattle.lists.proofs.Tests.{Same, same, other, same?}
+use Rattle.lists.proofs.Tests.{Same, same, same?}
 use Rattle.lists.proofs.Tables.{getD-set}
 use Rattle.model.specs.Mesh.{rim}
 use Rattle.face.specs.Exchange.{brings, takes, Lost, Gained, Transferred, EndsIn}

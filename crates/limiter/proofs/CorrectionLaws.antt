@@ -1,5 +1,5 @@
 -- A face's correction in one number: its size, and where it enters and leaves.
-use Prim.Native.Nat.{ℕ, _+_, _*_, _/_, _%_, _<_}
+use Prim.Native.Nat.{ℕ, _/_, _%_, _<_}
 use mathlib.Core.Path.{_≡_, sym, _∙_}
 use mathlib.Core.Logic.{_≢_}
 use mathlib.Core.Bool.{Bool, true, false, cond}
@@ -16,6 +16,9 @@ use Rattle.limiter.specs.Limiter.{corrections, CorrectionsIn, enters, le
 pub either-end : (P : ℕ → Type 0) (b : Bool) {l k : ℕ} → P l → P k → P (cond b l k)
 either-end P true p q = p
 either-end P false p q = q
+
+pub end-holds : (P : ℕ → Type 0) (b : Bool) {l k e : ℕ} → e ≡ cond b l k → P l → P k → P e
+end-holds P b d p q = rw d (either-end P b p q)
 
 -- corrections rest on the faces' entries only
 pub corrections-kept : (M : Mesh) (w w′ : List ℕ) → CorrectionsIn M w → length w′ ≡ length w → ((g : ℕ) → ofFace w′ (M .cells) g ≡ ofFace w (M .cells) g) → CorrectionsIn M w′

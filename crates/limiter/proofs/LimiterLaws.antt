@@ -1,6 +1,6 @@
 -- The fifth pass, face by face: limited corrections join the moved masses and the next masses.
 use Prim.Native.Nat.{ℕ, _+_, _*_, _/_, _%_, _^_, _≤_, _<_}
-use mathlib.Core.Path.{_≡_, refl, ap, _∙_}
+use mathlib.Core.Path.{_≡_, refl, _∙_}
 use mathlib.Core.Logic.{_≢_}
 use mathlib.Core.Bool.{Bool, true, false, cond}
 use mathlib.Core.List.{List}
@@ -15,12 +15,12 @@ use Rattle.signed.specs.Sign.{isNegative, withSign}
 use Rattle.signed.proofs.Laws.{negative-withSign, size-zero}
 use Rattle.lists.proofs.Tests.{Same, same, other, same?}
 use Rattle.lists.proofs.Tables.{getD-set}
-use Rattle.model.specs.Mesh.{Mesh, rim, first, second, incoming, outgoing}
+use Rattle.model.specs.Mesh.{Mesh, first, second, incoming, outgoing}
 use Rattle.model.specs.Step.{receiver, giver, limitedBy}
 use Rattle.model.proofs.Limit.{incoming-limited, outgoing-limited, limited-zero}
-use Rattle.face.specs.Exchange.{brings, takes, Transferred}
+use Rattle.face.specs.Exchange.{Transferred}
 use Rattle.face.proofs.Flows.{flow-start, flow-afford, flow-room, flow-turn}
-use Rattle.cell.specs.Work.{ofCell, ofFace}
+use Rattle.cell.specs.Work.{ofCell}
 use Rattle.cell.proofs.Places.{cell-in}
 use Rattle.limiter.specs.Limiter.{enters, leaves, corrections, cutOf, limitedOf, limitedIn, CutAsks, CutDone, LimitAsks, Limited}
 use Rattle.limiter.proofs.CorrectionLaws.{code, size-is, inside, enters-in, leaves-in}

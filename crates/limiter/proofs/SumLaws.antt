@@ -1,14 +1,14 @@
 -- The fourth pass, face by face.
-use Prim.Native.Nat.{ℕ, _+_, _*_, _/_, _%_, _^_, _≤_, _<_}
-use mathlib.Core.Path.{_≡_, refl, ap, _∙_}
+use Prim.Native.Nat.{ℕ, _+_, _*_, _/_, _%_, _^_, _<_}
+use mathlib.Core.Path.{_≡_, refl, _∙_}
 use mathlib.Core.Logic.{_≢_}
 use mathlib.Core.Bool.{Bool, true, false, cond, _&&_}
 use mathlib.Core.List.{List}
 use native.Mathlib.Omega.{arith}
-use borrow.Author.Tests.{eq-eqb}
+use borrow.Author.Tests.{eq-eqb, ne-eqb}
 use lib.Dec.{eqb, leb}
 use lib.IntN.{ℤ}
-use lib.ListN.{length, getD, set, length-set}
+use lib.ListN.{length, length-set}
 use Rattle.lists.proofs.Tests.{Same, same, other, same?}
 use Rattle.lists.proofs.Sums.{sum-zero, sum-more, sum-term}
 use Rattle.model.specs.Mesh.{Mesh, rim, first, second, entering, leaving, incoming, outgoing}
@@ -16,7 +16,7 @@ use Rattle.model.proofs.Sizes.{incoming-most, outgoing-most, maxCarried}
 use Rattle.face.proofs.Transfers.{raised-at, brings-is, takes-is}
 use Rattle.cell.specs.Work.{ofCell, ofFace}
 use Rattle.cell.proofs.Places.{cell-in, slot-in}
-use Rattle.cell.proofs.Slots.{same-slot, slot-face}
+use Rattle.cell.proofs.Slots.{same-slot, slot-set, slot-face}
 use Rattle.limiter.specs.Limiter.{enters, leaves, raised, correctionAdded, corrections, CorrectionsIn, Unsummed, CorrectionSums}
 use Rattle.limiter.proofs.CorrectionLaws.{code, inside, enters-in, leaves-in}
 
@@ -33,6 +33,16 @@ module _ (w : List ℕ) (r g n : ℕ) where
 
   both-face : (cells f : ℕ) → r < cells → g < cells → ofFace both cells f ≡ ofFace w cells f
   both-face cells f in-r in-g = slot-face (raised w (4 * r + 0) n) g 3 _ cells f refl in-g ∙ slot-face w r 0 _ cells f refl in-r
+
+-- the code's two steps: the second entry has its room after the first is raised, and both together count the correction
+pub giver-has-room : (w w′ : List ℕ) (r g n : ℕ) → 4 * r + 3 < length w → 4 * g + 3 < length w → w′ ≡ raised w (4 * r + 0) n → ofCell w g 3 + n < 2 ^ 64
+    → (4 * g + 3 < length w′) × (ofCell w′ g 3 + n < 2 ^ 64)
+giver-has-room w w′ r g n in-r in-g e h = rw (e, length-set, slot-set w r 0 (ofCell w r 0 + n) g 3 refl refl in-r) (in-g, h)
+
+pub added-is : (w w′ w″ : List ℕ) (l k code r g : ℕ) → code / 2 ≢ 0 → r ≡ enters code l k → g ≡ leaves code l k → w′ ≡ raised w (4 * r + 0) (code / 2) → w″ ≡ raised w′ (4 * g + 3) (code / 2)
+    → w″ ≡ correctionAdded w l k code
+unfolding correctionAdded
+added-is w w′ w″ l k code r g d p q e u = rw (u, e, p, q, ne-eqb (code / 2) 0 d)
 
 none-of : (b : Bool) (n : ℕ) → n ≡ 0 → cond b n 0 ≡ 0
 none-of true n e = e

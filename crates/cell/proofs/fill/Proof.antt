@@ -1,5 +1,4 @@
 use mathlib.Core.Path.{refl}
-use borrow.Author.Needs.{needs}
 use lib.ListN.{length-set}
 use Rattle.cell.specs.Work.{filled}
 use Rattle.cell.proofs.Places.{base-fits, slot-fits, slot-bytes, slot-in}

@@ -1,8 +1,7 @@
 use Prim.Native.Nat.{_≤_, _-_, _+_, _*_}
-use mathlib.Core.Path.{_≡_, refl, _∙_}
+use mathlib.Core.Path.{_≡_, _∙_}
 use native.Mathlib.Omega.{arith}
 use borrow.Author.Needs.{needs}
-use lib.ListN.{length, getD}
 use Rattle.cell.specs.Work.{allowancesOf}
 use Rattle.cell.proofs.Filling.{filling-start, filling-turn}
 use Rattle.limiter.specs.Limiter.{Allowances}
@@ -18,6 +17,9 @@ abbrev μ-loop : tie.MeasureT-loop
 -- the entry of the loop's turn, and of the function
 abbrev start : tie.In-loop Inv-loop μ-loop → tie.Start Inv-loop μ-loop
 start c = c .before .before .before .before .before
+
+abbrev start-after : tie.After-loop Inv-loop μ-loop → tie.Start Inv-loop μ-loop
+start-after c = c .before .before .before .before .before
 
 allowance-at-requires : tie.Need-allowance-at-requires Inv-loop μ-loop
 allowance-at-requires c κs =
@@ -38,7 +40,7 @@ loop-again c =
       (c .before .before .allowance-at .ensures ∙ rw (l .inv .1 .kept (4 * l .c + 1) (omega arith), l .inv .1 .kept (4 * l .c + 2) (omega arith))))
 
 returns : tie.Need-returns Inv-loop μ-loop
-returns c = let e : c .before .loop .c ≡ start c .args .cells = omega arith in rw e at (c .before .loop .inv .1)
+returns c = let e : c .before .loop .c ≡ start-after c .args .cells = omega arith in rw e at (c .before .loop .inv .1)
 
 pub allowances-spec : {M : Type 1} → statement M
 allowances-spec =

@@ -1,10 +1,9 @@
-use Prim.Native.Nat.{_≤_, _<_, _-_, _+_, _*_}
-use mathlib.Core.Path.{_≡_, refl, sym, _∙_}
+use Prim.Native.Nat.{_≤_, _<_, _-_}
+use mathlib.Core.Path.{_≡_, sym, _∙_}
 use native.Mathlib.Nat.{lt-of-lt-of-le}
 use native.Mathlib.Omega.{arith}
 use borrow.Author.Needs.{needs}
 use borrow.Author.Count.{falls}
-use lib.ListN.{length}
 use Rattle.model.specs.Mesh.{Mesh}
 use Rattle.face.proofs.Places.{face-bytes, face-next}
 use Rattle.cell.proofs.Places.{cells-fit, face-fits, face-entry-bytes, face-in}
@@ -21,6 +20,9 @@ abbrev μ-loop : tie.MeasureT-loop
 
 abbrev start : tie.In-loop Inv-loop μ-loop → tie.Start Inv-loop μ-loop
 start c = c .before .before .before .before .before .before
+
+abbrev start-after : tie.After-loop Inv-loop μ-loop → tie.Start Inv-loop μ-loop
+start-after c = c .before .before .before .before .before .before
 
 abbrev mesh : tie.Start Inv-loop μ-loop → Mesh
 mesh s = endsOf (s .args .cells) (s .args .faces) (s .args .firsts .now) (s .args .seconds .now)
@@ -48,7 +50,7 @@ loop-again c =
     (omega (arith, below w), limited-turn (mesh s) (s .args .work .now) (s .args .next .now) (s .args .moved .now) (s .pre) (l .f) (below w) (l .next) (l .moved) (l .inv .1) _ _ (t .limit-face .ensures))
 
 returns : tie.Need-returns Inv-loop μ-loop
-returns c = let e : c .before .loop .f ≡ start c .args .faces = omega (arith, c .before .loop .inv .0, c .loop-test .left) in rw e at (c .before .loop .inv .1)
+returns c = let e : c .before .loop .f ≡ start-after c .args .faces = omega (arith, c .before .loop .inv .0, c .loop-test .left) in rw e at (c .before .loop .inv .1)
 
 pub limit-spec : {M : Type 1} → statement M
 limit-spec =
@@ -62,4 +64,4 @@ limit-spec =
     (λ c. let w = turned (c .before .before .before) in face-next (below w) (start w .pre .coded-in .few-faces))
     (λ c. falls _ _ (below (turned (c .before .before .before))))
     loop-again
-    (λ c. c .before .loop .inv .1 .flowing .long ∙ sym (start c .pre .next-long)) (λ c. c .before .loop .inv .1 .moved-long) returns)
+    (λ c. c .before .loop .inv .1 .flowing .long ∙ sym (start-after c .pre .next-long)) (λ c. c .before .loop .inv .1 .moved-long) returns)

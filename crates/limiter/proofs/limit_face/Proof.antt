@@ -1,6 +1,6 @@
 -- Past a face without a correction, the amount is the correction cut as the limiter says, and what was asked of the limited correction holds of it.
-use Prim.Native.Nat.{_*_, _+_, _<_, _≤_, _/_, _%_, _^_}
-use mathlib.Core.Path.{_≡_, sym, _∙_}
+use Prim.Native.Nat.{_*_, _+_, _<_, _≤_, _/_, _%_}
+use mathlib.Core.Path.{_≡_}
 use native.Mathlib.Nat.{mul-le-mul}
 use native.Mathlib.Omega.{arith}
 use borrow.Author.Needs.{needs}

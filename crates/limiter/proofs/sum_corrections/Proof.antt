@@ -1,15 +1,14 @@
 use Prim.Native.Nat.{_≤_, _<_, _-_, _+_, _*_}
 use mathlib.Core.Path.{_≡_, _∙_}
-use native.Mathlib.Nat.{lt-of-lt-of-le, le-antisymm}
-use native.Mathlib.Numerals.{add-one-le}
+use native.Mathlib.Nat.{lt-of-lt-of-le}
 use native.Mathlib.Omega.{arith}
 use borrow.Author.Needs.{needs}
 use borrow.Author.Count.{falls}
-use lib.ListN.{length, getD}
+use lib.ListN.{length}
 use Rattle.model.specs.Mesh.{Mesh}
 use Rattle.face.proofs.Places.{face-bytes, face-next}
 use Rattle.cell.proofs.Places.{cells-fit, face-fits, face-entry-bytes, face-in}
-use Rattle.limiter.specs.Limiter.{CorrectionsIn, CorrectionSums, endsOf}
+use Rattle.limiter.specs.Limiter.{CorrectionSums, endsOf}
 use Rattle.limiter.proofs.SumLaws.{sums-start, asks-ends, asks-p, asks-n, sums-turn}
 use Rattle.limiter.proofs.sum_corrections.Statement.{statement}
 use Rattle.limiter.proofs.sum_corrections.Tie as tie
@@ -22,6 +21,9 @@ abbrev μ-loop : tie.MeasureT-loop
 
 abbrev start : tie.In-loop Inv-loop μ-loop → tie.Start Inv-loop μ-loop
 start c = c .before .before .before .before .before
+
+abbrev start-after : tie.After-loop Inv-loop μ-loop → tie.Start Inv-loop μ-loop
+start-after c = c .before .before .before .before .before
 
 abbrev mesh : tie.Start Inv-loop μ-loop → Mesh
 mesh s = endsOf (s .args .cells) (s .args .faces) (s .args .firsts .now) (s .args .seconds .now)
@@ -51,7 +53,7 @@ loop-again c =
     (omega (arith, below w), sums-turn (mesh s) (s .args .work .now) (s .pre .0) (s .pre .1) (l .f) (below w) (l .work) (l .inv .1) _ (rw (l .inv .1 .face-at (l .f)) at (c .before .before .add-correction .ensures)))
 
 returns : tie.Need-returns Inv-loop μ-loop
-returns c = let e : c .before .loop .f ≡ start c .args .faces = omega (arith, c .before .loop .inv .0, c .loop-test .left) in rw e at (c .before .loop .inv .1)
+returns c = let e : c .before .loop .f ≡ start-after c .args .faces = omega (arith, c .before .loop .inv .0, c .loop-test .left) in rw e at (c .before .loop .inv .1)
 
 pub sum-corrections-spec : {M : Type 1} → statement M
 sum-corrections-spec =

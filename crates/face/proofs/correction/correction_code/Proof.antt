@@ -1,14 +1,16 @@
+-- The way from the upwind centre is at most the reach, in 1/256; sign and size are then those of the definition.
 use Prim.Native.Nat.{_≤_, _*_}
 use mathlib.Core.Bool.{Bool, true, false, cond}
 use Prim.Native.Nat.{ℕ, _-_}
-use native.Mathlib.Nat.{mul-le-mul, mul-le-mul-right}
+use native.Mathlib.Nat.{mul-le-mul-right}
 use native.Mathlib.Omega.{arith}
 use borrow.Author.Needs.{needs}
+use Rattle.model.specs.Mesh.{maxShare}
 use Rattle.face.proofs.Corrections.{correction-is}
 use Rattle.face.proofs.correction.correction_code.Statement.{statement}
 use Rattle.face.proofs.correction.correction_code.Tie as tie
 
-share-le : (b : Bool) (s : ℕ) → s ≤ 255 → cond b (256 - s) s ≤ 256
+share-le : (b : Bool) (s : ℕ) → s ≤ maxShare → cond b (256 - s) s ≤ 256
 share-le true s h = omega arith
 share-le false s h = omega arith
 

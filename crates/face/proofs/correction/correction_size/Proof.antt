@@ -1,20 +1,22 @@
+-- The factors are small by their ceilings, so no product leaves 64 bits.
 use Prim.Native.Nat.{_≤_, _*_}
 use native.Mathlib.Nat.{mul-le-mul}
 use native.Mathlib.Omega.{arith}
 use borrow.Author.Needs.{needs}
+use Rattle.model.specs.Mesh.{maxReach, maxConcentration}
 use Rattle.face.proofs.Corrections.{size-most}
 use Rattle.face.proofs.correction.correction_size.Statement.{statement}
 use Rattle.face.proofs.correction.correction_size.Tie as tie
 
 -- the factors are small
-drop-small : (c : tie.After-gap-of2) → c .before .before .args .size * c .before .gap-of .result ≤ 4095 * 1000000
+drop-small : (c : tie.After-gap-of2) → c .before .before .args .size * c .before .gap-of .result ≤ maxReach * maxConcentration
 drop-small c =
     let s = c .before .before in
-    let a : s .args .size ≤ 4095 = omega arith in
-    let b : c .before .gap-of .result ≤ 1000000 = omega arith in
+    let a : s .args .size ≤ maxReach = omega arith in
+    let b : c .before .gap-of .result ≤ maxConcentration = omega arith in
     mul-le-mul a b
 
-rest-small : (c : tie.After-gap-of2) → c .gap-of2 .result ≤ 256 * 4095
+rest-small : (c : tie.After-gap-of2) → c .gap-of2 .result ≤ 256 * maxReach
 rest-small c = omega arith
 
 mul-result : tie.Need-mul-result

@@ -1,4 +1,3 @@
-use borrow.Author.Needs.{needs}
 use borrow.Author.Tests.{eq-eqb, ne-eqb}
 use Rattle.face.proofs.correction.face_code.Statement.{statement}
 use Rattle.face.proofs.correction.face_code.Tie as tie

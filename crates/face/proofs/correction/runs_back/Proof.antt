@@ -1,4 +1,3 @@
-use borrow.Author.Needs.{needs}
 use borrow.Author.Tests.{lt-ltb, le-ltb}
 use Rattle.face.proofs.correction.runs_back.Statement.{statement}
 use Rattle.face.proofs.correction.runs_back.Tie as tie

@@ -1,4 +1,3 @@
-use borrow.Author.Needs.{needs}
 use borrow.Author.Tests.{eq-eqb, ne-eqb}
 use Rattle.face.proofs.upwind.entered.Statement.{statement}
 use Rattle.face.proofs.upwind.entered.Tie as tie
