@@ -16,11 +16,12 @@ use Rattle.signed.proofs.Laws.{scale, withSign-of, isZero-size, size-withSign, 
 use Rattle.lists.specs.Fold.{least, greatest}
 use Rattle.lists.proofs.Tests.{Same, same, other, same?}
 use Rattle.lists.proofs.Sums.{sum-zero, sum-more, sum-term, least-start, greatest-start, least-more, greatest-more}
+use Rattle.model.specs.Accepted.{Ready, maxCarried}
 use Rattle.model.specs.Mesh.{rim, maxConcentration, atRim, first, second, share, reach, incoming, outgoing}
 use Rattle.model.specs.Step.{StepInput, flux, outside, mass, concentration, beyond, upwind, downwind, upwindShare, carried, correction, adjacent, inMass, outMass}
 use Rattle.model.proofs.Low.{low-affords}
-use Rattle.model.proofs.Accepted.{Ready, flux-few, flux-reach}
-use Rattle.model.proofs.Sizes.{mass-most, carried-size, incoming-most, maxCarried, inMass-most, outMass-most}
+use Rattle.model.proofs.Accepted.{flux-few, flux-reach}
+use Rattle.model.proofs.Sizes.{mass-most, carried-size, incoming-most, inMass-most, outMass-most}
 use Rattle.face.specs.Correction.{coded, correctionOf}
 use Rattle.face.specs.Exchange.{EndsIn, Transferred}
 use Rattle.face.proofs.Corrections.{correction-none}

@@ -15,9 +15,9 @@ ghost use Prim.Native.Nat.{ℕ, _≤_, _<_, _+_, _*_, _/_};
 ghost use lib.Dec.{eqb};
 ghost use lib.ListN.{length, getD, set};
 ghost use Rattle.signed.specs.Sign.{withSign};
+ghost use Rattle.model.specs.Accepted.{Ready};
 ghost use Rattle.model.specs.Mesh.{rim, maxCells};
 ghost use Rattle.model.specs.Step.{StepInput};
-ghost use Rattle.model.proofs.Accepted.{Ready};
 ghost use Rattle.cell.specs.Work.{ofCell, filled};
 ghost use Rattle.carrying.specs.Carrying.{inputFrom, Concentrations, FaceAsks, FaceDone, CarriedTo};
 

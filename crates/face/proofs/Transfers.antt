@@ -5,12 +5,11 @@ use mathlib.Core.Logic.{_≢_}
 use mathlib.Core.Bool.{Bool, true, false, cond}
 use mathlib.Core.List.{List}
 use native.Mathlib.Omega.{arith}
-use borrow.Author.Tests.{eq-eqb, ne-eqb}
 use lib.Dec.{eqb}
 use lib.ListN.{length, getD, set, length-set}
 use Rattle.signed.specs.Sign.{withSign}
 use Rattle.signed.proofs.Laws.{forward-withSign, backward-withSign}
-use Rattle.lists.proofs.Tests.{Same, same, same?}
+use Rattle.lists.proofs.Tests.{Same, same, same?, cond-same, own, apart}
 use Rattle.lists.proofs.Tables.{getD-set}
 use Rattle.model.specs.Mesh.{rim}
 use Rattle.face.specs.Exchange.{brings, takes, Lost, Gained, Transferred, EndsIn}
@@ -30,26 +29,19 @@ lowered-at xs g n c h k = rw (getD-set xs g c (getD xs g 0 - n) 0 h) (go (eqb g 
     go true (same e) = let d : getD xs g 0 ≡ getD xs c 0 = ap (λ (i : ℕ). getD xs i 0) e in omega arith
     go false o = omega arith
 
-nought : (b : Bool) → _≡_ {A = ℕ} (cond b 0 0) 0
-nought true = refl
-nought false = refl
-
-own : (c n : ℕ) → cond (eqb c c) n 0 ≡ n
-own c n = rw (eq-eqb c c refl)
-
 -- an amount comes from its giver and goes to its receiver
 pub brings-is : (p : Bool) (l k n c : ℕ) → brings l k (withSign p n) c ≡ cond (eqb (cond p l k) c) n 0
-brings-is true l k n c = rw (forward-withSign true n, backward-withSign true n) (omega (arith, nought (eqb k c)))
-brings-is false l k n c = omega (arith, nought (eqb l c))
+brings-is true l k n c = rw (forward-withSign true n, backward-withSign true n) (omega (arith, cond-same (eqb k c) 0))
+brings-is false l k n c = omega (arith, cond-same (eqb l c) 0)
 
 pub takes-is : (p : Bool) (l k n c : ℕ) → takes l k (withSign p n) c ≡ cond (eqb (cond p k l) c) n 0
-takes-is true l k n c = rw (forward-withSign true n, backward-withSign true n) (omega (arith, nought (eqb l c)))
-takes-is false l k n c = omega (arith, nought (eqb k c))
+takes-is true l k n c = rw (forward-withSign true n, backward-withSign true n) (omega (arith, cond-same (eqb l c) 0))
+takes-is false l k n c = omega (arith, cond-same (eqb k c) 0)
 
 -- the rim is no entry of the table
 module _ (xs : List ℕ) (few : length xs ≤ rim) (e : ℕ) (n : ℕ) where
   over-rim : e ≡ rim → (c : ℕ) → c < length xs → cond (eqb e c) n 0 ≡ 0
-  over-rim d c h = rw (ne-eqb e c (λ (q : e ≡ c). omega arith))
+  over-rim d c h = apart e c n (λ (q : e ≡ c). omega arith)
 
   pub none-lost : e ≡ rim → Lost xs e n xs
   none-lost d = record { same-length = refl; at = λ c h. omega (arith, over-rim d c h) }

@@ -7,7 +7,7 @@ ghost use Prim.Native.Nat.{_≤_, _<_, _+_, _-_, _*_, _/_};
 ghost use lib.Dec.{eqb, leb, ltb};
 ghost use Rattle.signed.specs.Sign.{withSign};
 ghost use Rattle.model.specs.Mesh.{rim, maxShare, maxReach, maxConcentration};
-ghost use Rattle.model.proofs.Sizes.{maxCarried};
+ghost use Rattle.model.specs.Accepted.{maxCarried};
 ghost use Rattle.face.specs.Correction.{coded, gap, correctionOf};
 
 // The way between two numbers.

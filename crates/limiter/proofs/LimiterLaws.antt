@@ -13,7 +13,7 @@ use lib.IntN.{ℤ, pos, _+ℤ_, +ℤ-idr}
 use lib.ListN.{length, getD, set, length-set}
 use Rattle.signed.specs.Sign.{isNegative, withSign}
 use Rattle.signed.proofs.Laws.{negative-withSign, size-zero}
-use Rattle.lists.proofs.Tests.{Same, same, other, same?}
+use Rattle.lists.proofs.Tests.{Same, same, other, same?, cond-same}
 use Rattle.lists.proofs.Tables.{getD-set}
 use Rattle.model.specs.Mesh.{Mesh, first, second, incoming, outgoing}
 use Rattle.model.specs.Step.{receiver, giver, limitedBy}
@@ -33,17 +33,11 @@ limited-start M work next moved e =
 pub no-cut : (f l k code : ℕ) (work next : List ℕ) (moved : List ℤ) → code / 2 ≡ 0 → CutDone f l k code work next next moved moved
 unfolding limitedOf
 no-cut f l k code work next moved e = record {
-  flowed = rw (eq-eqb (code / 2) 0 e) (record { same-length = refl; at = λ c h. omega (arith, nothing (eqb l c) (eqb k c), nothing (eqb k c) (eqb l c)) });
+  flowed = rw (eq-eqb (code / 2) 0 e) (record { same-length = refl; at = λ c h. omega (arith, cond-same (eqb l c) 0, cond-same (eqb k c) 0) });
   moved-long = refl;
   moved-at = λ g. rw (eq-eqb (code / 2) 0 e, +ℤ-idr (getD moved f (pos 0))) (either g (eqb f g) (same? f g));
 }
   where
-    nothing : (s t : Bool) → _≡_ {A = ℕ} (cond s 0 0 + cond t 0 0) 0
-    nothing true true = refl
-    nothing true false = refl
-    nothing false true = refl
-    nothing false false = refl
-
     either : (g : ℕ) (b : Bool) → Same f g b → getD moved g (pos 0) ≡ cond b (getD moved f (pos 0)) (getD moved g (pos 0))
     either g true (same e) = rw e
     either g false o = refl

@@ -5,14 +5,15 @@ use mathlib.Core.Logic.{_≢_}
 use mathlib.Core.Bool.{Bool, true, false, cond, _&&_}
 use mathlib.Core.List.{List}
 use native.Mathlib.Omega.{arith}
-use borrow.Author.Tests.{eq-eqb, ne-eqb}
+use borrow.Author.Tests.{ne-eqb}
 use lib.Dec.{eqb, leb}
 use lib.IntN.{ℤ}
 use lib.ListN.{length, length-set}
-use Rattle.lists.proofs.Tests.{Same, same, other, same?}
+use Rattle.lists.proofs.Tests.{Same, same, other, same?, own}
 use Rattle.lists.proofs.Sums.{sum-zero, sum-more, sum-term}
+use Rattle.model.specs.Accepted.{maxCarried}
 use Rattle.model.specs.Mesh.{Mesh, rim, first, second, entering, leaving, incoming, outgoing}
-use Rattle.model.proofs.Sizes.{incoming-most, outgoing-most, maxCarried}
+use Rattle.model.proofs.Sizes.{incoming-most, outgoing-most}
 use Rattle.face.proofs.Transfers.{raised-at, brings-is, takes-is}
 use Rattle.cell.specs.Work.{ofCell, ofFace}
 use Rattle.cell.proofs.Places.{cell-in, slot-in}
@@ -47,9 +48,6 @@ added-is w w′ w″ l k code r g d p q e u = rw (u, e, p, q, ne-eqb (code / 2) 
 none-of : (b : Bool) (n : ℕ) → n ≡ 0 → cond b n 0 ≡ 0
 none-of true n e = e
 none-of false n e = refl
-
-own : (c n : ℕ) → cond (eqb c c) n 0 ≡ n
-own c n = rw (eq-eqb c c refl)
 
 pub sums-start : (M : Mesh) (w : List ℕ) → CorrectionSums M w 0 w
 sums-start M w = record {

@@ -9,9 +9,9 @@ use lib.IntN.{ℤ, pos, _+ℤ_}
 use lib.ListN.{length, getD, set}
 use Rattle.lists.specs.Fold.{sum}
 use Rattle.signed.specs.Sign.{size, withSign}
+use Rattle.model.specs.Accepted.{maxCarried, maxMass}
 use Rattle.model.specs.Mesh.{Mesh, meshOf, rim, maxFaces, entering, leaving, incoming, outgoing, first, second}
 use Rattle.model.specs.Step.{portion, limitedBy}
-use Rattle.model.proofs.Sizes.{maxCarried, maxMass}
 use Rattle.face.specs.Correction.{decoded}
 use Rattle.face.specs.Exchange.{brings, takes, Transferred, EndsIn, Flowing}
 use Rattle.cell.specs.Work.{ofCell, ofFace, Filling}

@@ -29,10 +29,10 @@ calls = onTables (7 ∷ 7 ∷ []) (callOf (negsuc 49 ∷ pos 50 ∷ pos 50 ∷ p
     ∷ onRecords (0x30 ∷ 0x02 ∷ 0x00 ∷ 0x00 ∷ 0x81 ∷ 0x90 ∷ 0x0c ∷ 0x80 ∷ 0x64 ∷ 0x03 ∷ 0x20 ∷ 0x03 ∷ 0xe8 ∷ 0x00 ∷ 0x00 ∷ 0x00 ∷ []) (replicate 15 7)
     ∷ []
 
-pub session : afterAll channel (comes channel) (100000 ∷ 0 ∷ 0 ∷ []) calls ≡ 100099 ∷ 81188 ∷ 18713 ∷ []
+pub session : afterAll (comes channel) (100000 ∷ 0 ∷ 0 ∷ []) calls ≡ 100099 ∷ 81188 ∷ 18713 ∷ []
 unfolding everything
 session = refl
 
-pub session-in : totalIn channel (comes channel) (100000 ∷ 0 ∷ 0 ∷ []) calls ≡ 100000
+pub session-in : totalIn (comes channel) (100000 ∷ 0 ∷ 0 ∷ []) calls ≡ 100000
 unfolding everything
 session-in = refl

@@ -12,16 +12,17 @@ use Rattle.lists.proofs.Tests.{le-leb}
 use Rattle.lists.proofs.Sums.{sum-cong}
 use Rattle.lists.proofs.Tables.{length-table, getD-table, table-cong}
 use Rattle.model.specs.Mesh.{Mesh, volume, first, second, share, reach}
-use Rattle.model.specs.Step.{StepInput, next, inMass, outMass}
-use Rattle.model.specs.Causes.{accepted, fine, _andThen_, long, Call, callOf, inputOf, workLength, counts, meshTables, meshValues, meshVerdict, fieldTable, fieldValues, fieldVerdict, stepTables, outsideGood, fluxGood, balanceGood, outflowGood, stepValues}
-use Rattle.model.specs.Calls.{massIn, Bounded, Left}
+use Rattle.model.specs.Step.{StepInput, moved, next}
+use Rattle.model.specs.Causes.{accepted, fine, long, Call, callOf, inputOf, workLength, counts, meshTables, meshValues, meshVerdict, fieldTable, fieldValues, fieldVerdict, stepTables, outsideGood, fluxGood, balanceGood, outflowGood, stepValues, waterOf}
+use Rattle.model.specs.Calls.{massIn, Bounded, Left, crossingOf}
 use Rattle.model.proofs.Verdicts.{both-fine, need-met}
-use Rattle.model.proofs.Accepted.{Ready, ready-of, counted, mesh-fit}
-use Rattle.model.proofs.Lists.{Fair, step-fair}
+use Rattle.model.proofs.Accepted.{ready-of, counted, mesh-fit}
+use Rattle.model.proofs.Next.{moved-keeps}
+use Rattle.model.proofs.Lists.{Fair, amounts-fair}
 use Rattle.bits.specs.Field.{bitsAt}
+use Rattle.model.specs.Accepted.{Ready}
 use Rattle.records.specs.Layouts.{meshRecord, fieldRecord, fieldLength, outsideBits, rimFaces, isRim}
 use Rattle.records.specs.Reading.{meshIn, massesIn, fluxesIn, outsidesIn, outsidePlace}
-use Rattle.records.specs.Writing.{waterOf}
 use Rattle.records.proofs.Packed.{mesh-cells, mesh-faces, field-record-length}
 use Rattle.records.proofs.WidthLaws.{spelled, masses-fit}
 use Rattle.records.proofs.RoundTrip.{volumes-read-back, firsts-read-back, seconds-read-back, shares-read-back, reaches-read-back, masses-read-back}
@@ -133,13 +134,14 @@ module _ (M : Mesh) (mesh-fine : meshVerdict M ≡ fine) (field : List ℕ) (fie
     })
 
     abbrev left : Left
-    left = record { field = after; crossing = record { entered = inMass (inputOf M field (waterIn M step)); gone = outMass (inputOf M field (waterIn M step)) } }
+    left = record { field = after; crossing = crossingOf (inputOf M field (waterIn M step)) }
 
     part-fair : Fair (cut M) (Bounded part after) (cutField M field) left
+    unfolding next
     part-fair =
         let fit = mesh-fit M passes in
-        step-fair part part-ready after (omega (arith, length-table (M .cells) (next part))) (λ c h. getD-table (M .cells) (next part) 0 c h)
-        left refl (sym (in-same M fit field (waterIn M step))) (sym (out-same M fit field (waterIn M step)))
+        amounts-fair part part-ready (moved part) (moved-keeps part (part-ready .sound)) after (omega (arith, length-table (M .cells) (next part))) (λ c h. getD-table (M .cells) (next part) 0 c h)
+        left refl (rw (in-same M fit field (waterIn M step), out-same M fit field (waterIn M step)))
 
     left-fair : Fair M (Bounded (inputOf M field (waterIn M step)) after) field left
     left-fair = fair-whole M (mesh-fit M passes) field (waterIn M step) left (omega (arith, length-table (M .cells) (next part))) part-fair

@@ -14,8 +14,7 @@ use Rattle.model.specs.Causes.{fine, _andThen_, need, long, countsWithin}
 use Rattle.model.specs.Answers.{said}
 use Rattle.model.specs.declared.Answer.{Answer}
 use Rattle.model.specs.declared.Answer.the-variants.{Done}
-use Rattle.model.proofs.Verdicts.{both-fine, need-fine}
-use Rattle.checks.proofs.Laws.{passes}
+use Rattle.model.proofs.Verdicts.{both-fine, need-fine, passes}
 use Rattle.bits.specs.Layout.{bytesFor}
 use Rattle.records.specs.Layouts.{meshKind, fieldKind, stepKind, outsideBits, isRim, rimFaces, meshBits, fieldBits, stepBits, meshLength, fieldLength, stepLength}
 use Rattle.records.specs.Reading.{kindIn, cellsIn, facesIn, stepFacesIn, hasLength, meshHeadVerdict, fieldHeadVerdict, stepHeadVerdict, fieldBodyVerdict}

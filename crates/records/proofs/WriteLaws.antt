@@ -9,16 +9,17 @@ use lib.IntN.{ℤ, pos}
 use Rattle.lists.proofs.Tests.{leb-le}
 use Rattle.signed.specs.Sign.{isNegative}
 use Rattle.model.specs.Mesh.{Mesh, maxFaces}
-use Rattle.model.specs.Causes.{Verdict, fine, _andThen_, each, long, counts, meshTables, meshValues, outsideGood, fluxGood}
+use Rattle.model.specs.Causes.{Verdict, fine, _andThen_, each, long, counts, meshTables, meshValues, outsideGood, fluxGood, bytesLong, waterOf}
 use Rattle.model.specs.Answers.{told}
 use Rattle.model.specs.declared.Refusal.{Refusal}
 use Rattle.model.proofs.Verdicts.{both-fine, need-fine, past, andThen-assoc}
-use Rattle.model.proofs.Accepted.{MeshLent, counted, mesh-lent, field-lent}
+use Rattle.model.proofs.Accepted.{counted, mesh-lent, field-lent}
 use Rattle.bits.specs.Put.{Put}
 use Rattle.bits.specs.Layout.{Field, field, widthOf, bytesFor, packed, rows}
+use Rattle.model.specs.Accepted.{MeshLent}
 use Rattle.records.specs.declared.WriteAnswer.the-variants as write
 use Rattle.records.specs.Layouts.{signBits, outsideBits, meshHead, cellRow, faceRow, meshFields, fieldHead, massRow, fieldFields, stepHead, fluxRow, outsideRow, stepFields, isRim, meshRecord, fieldRecord, stepRecord, meshLength, fieldLength, stepLength}
-use Rattle.records.specs.Writing.{bytesLong, waterOf, meshWriteVerdict, fieldWriteVerdict, stepWriteVerdict, Writing}
+use Rattle.records.specs.Writing.{meshWriteVerdict, fieldWriteVerdict, stepWriteVerdict, Writing}
 use Rattle.records.specs.Putting.{AllFit, Room, Laid, Whole, Wrote}
 use Rattle.records.proofs.HeadLaws.{bytes-hold, rim-le}
 use Rattle.records.proofs.Packed.{mesh-width, field-width, step-width}

@@ -7,18 +7,11 @@ use lib.ListN.{length}
 use lib.IntN.{ℤ}
 use Rattle.lists.specs.Table.{over}
 use Rattle.model.specs.Mesh.{Mesh}
-use Rattle.model.specs.Causes.{accepted, Verdict, _andThen_, taken, each, long, Call, callOf, counts, meshTables, meshValues, fieldTable, fieldValues, outsideGood, fluxGood}
+use Rattle.model.specs.Causes.{accepted, Verdict, _andThen_, taken, each, long, counts, meshTables, meshValues, fieldTable, fieldValues, outsideGood, fluxGood}
+pub use Rattle.model.specs.Causes.{waterOf, bytesLong}
 use Rattle.records.specs.declared.WriteAnswer.{WriteAnswer}
 use Rattle.records.specs.Layouts.{meshRecord, fieldRecord, stepRecord, meshLength, fieldLength, stepLength}
 use Rattle.records.specs.Answers.{writeSaid}
-
--- 2: "record bytes are 11"
-abbrev pub bytesLong : ℕ → ℕ → Verdict
-bytesLong wanted room = long 11 wanted room
-
--- the water of a step whose record is written: no table of a step's results is lent
-abbrev pub waterOf : List ℤ → List ℕ → Call
-waterOf fluxes outsides = callOf fluxes outsides [] [] []
 
 -- "The lowest number that applies is returned", of a record that is written into so many bytes: too few bytes stand among the tables.
 module _ (M : Mesh) where

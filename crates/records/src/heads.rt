@@ -1,8 +1,8 @@
 // What is tested before a body is read: causes 11, 13, 1 and 2.
-use checks::lengths::and_then;
-use checks::lengths::need;
 use model::Answer;
 use model::Cause;
+use model::needs::and_then;
+use model::needs::need;
 ghost use mathlib.Core.Path.{_≡_};
 ghost use Prim.Native.Nat.{_≤_, min};
 ghost use lib.ListN.{length};

@@ -1,11 +1,11 @@
 // What a record whose head is fine is refused for: causes 11, 2 and 12.
 use crate::lengths;
 use crate::zeros;
-use checks::lengths::and_then;
-use checks::lengths::long;
-use checks::lengths::need;
 use model::Answer;
 use model::Cause;
+use model::needs::and_then;
+use model::needs::long;
+use model::needs::need;
 ghost use mathlib.Core.Path.{_≡_};
 ghost use Prim.Native.Nat.{_≤_};
 ghost use lib.ListN.{length};

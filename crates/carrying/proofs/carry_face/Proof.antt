@@ -6,8 +6,8 @@ use native.Mathlib.Nat.{mul-le-mul}
 use native.Mathlib.Omega.{arith}
 use borrow.Author.Needs.{needs}
 use lib.ListN.{length-set}
+use Rattle.model.specs.Accepted.{maxCarried}
 use Rattle.model.specs.Mesh.{maxConcentration}
-use Rattle.model.proofs.Sizes.{maxCarried}
 use Rattle.cell.proofs.BoundLaws.{length-across}
 use Rattle.carrying.proofs.CarryLaws.{face-done}
 use Rattle.carrying.proofs.carry_face.Statement.{statement}

@@ -8,8 +8,9 @@ use borrow.Author.Tests.{ne-eqb}
 use lib.Dec.{eqb}
 use lib.ListN.{length}
 use Rattle.signed.specs.Sign.{withSign}
+use Rattle.model.specs.Accepted.{maxCarried}
 use Rattle.model.specs.Mesh.{maxCells}
-use Rattle.model.proofs.Sizes.{portion-le, maxCarried}
+use Rattle.model.proofs.Sizes.{portion-le}
 use Rattle.cell.specs.Work.{ofCell}
 use Rattle.limiter.specs.Limiter.{cutOf, limitedOf, enters, leaves}
 use Rattle.limiter.proofs.CorrectionLaws.{either-end}

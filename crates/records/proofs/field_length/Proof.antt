@@ -1,8 +1,7 @@
 use mathlib.Core.Path.{sym}
 use borrow.Author.Needs.{needs}
-use Rattle.model.proofs.Verdicts.{past, out}
+use Rattle.model.proofs.Verdicts.{past, out, refuses, passes}
 use Rattle.records.specs.Reading.{fieldNeeds}
-use Rattle.checks.proofs.Laws.{refuses, passes}
 use Rattle.records.proofs.HeadLaws.{field-head-says}
 use Rattle.records.proofs.field_length.Statement.{statement}
 use Rattle.records.proofs.field_length.Tie as tie

@@ -1,9 +1,8 @@
 use mathlib.Core.Path.{sym}
 use native.Mathlib.Omega.{arith}
 use borrow.Author.Needs.{needs}
-use Rattle.model.proofs.Verdicts.{past, out}
+use Rattle.model.proofs.Verdicts.{past, out, refuses, passes}
 use Rattle.records.specs.Reading.{meshNeeds}
-use Rattle.checks.proofs.Laws.{refuses, passes}
 use Rattle.records.proofs.HeadLaws.{mesh-head-says}
 use Rattle.records.proofs.mesh_length.Statement.{statement}
 use Rattle.records.proofs.mesh_length.Tie as tie

@@ -1,8 +1,7 @@
 use native.Mathlib.Omega.{arith}
 use borrow.Author.Needs.{needs}
-use Rattle.model.proofs.Verdicts.{out, past}
+use Rattle.model.proofs.Verdicts.{out, past, refuses, passes}
 use Rattle.records.specs.Reading.{meshRead}
-use Rattle.checks.proofs.Laws.{refuses, passes}
 use Rattle.records.proofs.HeadLaws.{mesh-head-says}
 use Rattle.records.proofs.ReadLaws.{second-out, both-past, mesh-refused, mesh-accepted}
 use Rattle.records.proofs.read_mesh.Statement.{statement}

@@ -1,7 +1,6 @@
 use borrow.Author.Needs.{needs}
-use Rattle.model.proofs.Verdicts.{out}
+use Rattle.model.proofs.Verdicts.{out, refuses, passes}
 use Rattle.records.specs.Reading.{stepRead}
-use Rattle.checks.proofs.Laws.{refuses, passes}
 use Rattle.records.proofs.HeadLaws.{step-head-says}
 use Rattle.records.proofs.ReadLaws.{second-out, both-past, step-refused, step-accepted}
 use Rattle.records.proofs.read_step.Statement.{statement}

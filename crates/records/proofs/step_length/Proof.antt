@@ -1,8 +1,7 @@
 use mathlib.Core.Path.{sym}
 use borrow.Author.Needs.{needs}
-use Rattle.model.proofs.Verdicts.{past, out}
+use Rattle.model.proofs.Verdicts.{past, out, refuses, passes}
 use Rattle.records.specs.Reading.{stepNeeds}
-use Rattle.checks.proofs.Laws.{refuses, passes}
 use Rattle.records.proofs.HeadLaws.{step-head-says}
 use Rattle.records.proofs.step_length.Statement.{statement}
 use Rattle.records.proofs.step_length.Tie as tie

@@ -3,10 +3,9 @@ use native.Mathlib.Omega.{arith}
 use borrow.Author.Needs.{needs}
 use Rattle.model.specs.Causes.{_andThen_, long}
 use Rattle.model.specs.Answers.{said}
-use Rattle.model.proofs.Verdicts.{past, out}
+use Rattle.model.proofs.Verdicts.{past, out, refuses, passes}
 use Rattle.records.specs.Layouts.{stepBits, stepLength}
 use Rattle.records.specs.Reading.{hasLength, stepBodyVerdict, stepBitGood}
-use Rattle.checks.proofs.Laws.{refuses, passes}
 use Rattle.records.proofs.HeadLaws.{step-tables-say, rim-le, bytes-hold, bytes-most}
 use Rattle.records.proofs.verdicts.step.Statement.{statement}
 use Rattle.records.proofs.verdicts.step.Tie as tie

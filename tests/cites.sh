@@ -1,5 +1,5 @@
 #!/usr/bin/env bash
-# What docs/PROMISES.md, docs/CALLS.md and docs/DESIGN.md cite is there; and that test does find a wrong citation.
+# Every file, name and quoted line that docs/PROMISES.md, docs/CALLS.md and docs/DESIGN.md cite is there; and that test does find a wrong citation.
 set -eu
 cd "$(dirname "$0")/.."
 python3 tests/cites.py docs/PROMISES.md docs/CALLS.md docs/DESIGN.md

@@ -1,6 +1,6 @@
 use borrow.Author.Tests.{le-leb, lt-leb}
-use Rattle.checks.proofs.lengths.between.Statement.{statement}
-use Rattle.checks.proofs.lengths.between.Tie as tie
+use Rattle.model.proofs.needs.between.Statement.{statement}
+use Rattle.model.proofs.needs.between.Tie as tie
 
 returns : tie.Need-returns
 returns c = rw (lt-leb _ _ (c .if1 .taken))

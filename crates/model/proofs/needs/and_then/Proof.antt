@@ -1,9 +1,8 @@
 use mathlib.Core.Path.{refl, sym}
 use borrow.Author.Needs.{needs}
-use Rattle.model.proofs.Verdicts.{past, out}
-use Rattle.checks.proofs.Laws.{refuses, passes}
-use Rattle.checks.proofs.lengths.and_then.Statement.{statement}
-use Rattle.checks.proofs.lengths.and_then.Tie as tie
+use Rattle.model.proofs.Verdicts.{past, out, refuses, passes}
+use Rattle.model.proofs.needs.and_then.Statement.{statement}
+use Rattle.model.proofs.needs.and_then.Tie as tie
 
 returns : tie.Need-returns
 returns c = sym (out _ (refuses refl (c .before .a .given .1)))

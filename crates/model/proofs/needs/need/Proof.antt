@@ -1,7 +1,7 @@
 use mathlib.Core.Path.{sym}
 use Rattle.model.proofs.Verdicts.{need-met, need-unmet}
-use Rattle.checks.proofs.lengths.need.Statement.{statement}
-use Rattle.checks.proofs.lengths.need.Tie as tie
+use Rattle.model.proofs.needs.need.Statement.{statement}
+use Rattle.model.proofs.needs.need.Tie as tie
 
 returns : tie.Need-returns
 returns c = sym (need-met _ _ (c .if1 .taken))
