@@ -46,10 +46,23 @@ module _ (w : List ℕ) (a p l g n : ℕ) where
 
     filled-at : (c j : ℕ) → leb j 3 ≡ true → ofCell (filled w a p l g n) c j ≡ cond (eqb a c) (pick j p l g n) (ofCell w c j)
     unfolding filled
-    filled-at c zero t = slot-set with-g a 3 n c 0 refl refl g-long ∙ slot-set with-l a 2 g c 0 refl refl l-long ∙ slot-set with-p a 1 l c 0 refl refl p-long ∙ slot-set w a 0 p c 0 refl refl h
-    filled-at c (suc zero) t = slot-set with-g a 3 n c 1 refl refl g-long ∙ slot-set with-l a 2 g c 1 refl refl l-long ∙ slot-set with-p a 1 l c 1 refl refl p-long ∙ rw (slot-set w a 0 p c 1 refl refl h)
-    filled-at c (suc (suc zero)) t = slot-set with-g a 3 n c 2 refl refl g-long ∙ slot-set with-l a 2 g c 2 refl refl l-long ∙ rw (slot-set with-p a 1 l c 2 refl refl p-long, slot-set w a 0 p c 2 refl refl h)
-    filled-at c (suc (suc (suc zero))) t = slot-set with-g a 3 n c 3 refl refl g-long ∙ rw (slot-set with-l a 2 g c 3 refl refl l-long, slot-set with-p a 1 l c 3 refl refl p-long, slot-set w a 0 p c 3 refl refl h)
+    filled-at c zero t =
+        slot-set with-g a 3 n c 0 refl refl g-long
+        ∙ slot-set with-l a 2 g c 0 refl refl l-long
+        ∙ slot-set with-p a 1 l c 0 refl refl p-long
+        ∙ slot-set w a 0 p c 0 refl refl h
+    filled-at c (suc zero) t =
+        slot-set with-g a 3 n c 1 refl refl g-long
+        ∙ slot-set with-l a 2 g c 1 refl refl l-long
+        ∙ slot-set with-p a 1 l c 1 refl refl p-long
+        ∙ rw (slot-set w a 0 p c 1 refl refl h)
+    filled-at c (suc (suc zero)) t =
+        slot-set with-g a 3 n c 2 refl refl g-long
+        ∙ slot-set with-l a 2 g c 2 refl refl l-long
+        ∙ rw (slot-set with-p a 1 l c 2 refl refl p-long, slot-set w a 0 p c 2 refl refl h)
+    filled-at c (suc (suc (suc zero))) t =
+        slot-set with-g a 3 n c 3 refl refl g-long
+        ∙ rw (slot-set with-l a 2 g c 3 refl refl l-long, slot-set with-p a 1 l c 3 refl refl p-long, slot-set w a 0 p c 3 refl refl h)
     filled-at c (suc (suc (suc (suc j)))) t = absurd (omega (arith, leb-true (suc (suc (suc (suc j)))) 3 t))
 
 module _ (w : List ℕ) (p l g n : ℕ → ℕ) where

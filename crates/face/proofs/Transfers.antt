@@ -31,12 +31,12 @@ lowered-at xs g n c h k = rw (getD-set xs g c (getD xs g 0 - n) 0 h) (go (eqb g 
 
 -- an amount comes from its giver and goes to its receiver
 pub brings-is : (p : Bool) (l k n c : ℕ) → brings l k (withSign p n) c ≡ cond (eqb (cond p l k) c) n 0
-brings-is true l k n c = rw (forward-withSign true n, backward-withSign true n) (omega (arith, cond-same (eqb k c) 0))
-brings-is false l k n c = omega (arith, cond-same (eqb l c) 0)
+brings-is true l k n c = rw (forward-withSign true n, backward-withSign true n) (omega (arith, cond-same {A = ℕ} (eqb k c) 0))
+brings-is false l k n c = omega (arith, cond-same {A = ℕ} (eqb l c) 0)
 
 pub takes-is : (p : Bool) (l k n c : ℕ) → takes l k (withSign p n) c ≡ cond (eqb (cond p k l) c) n 0
-takes-is true l k n c = rw (forward-withSign true n, backward-withSign true n) (omega (arith, cond-same (eqb l c) 0))
-takes-is false l k n c = omega (arith, cond-same (eqb k c) 0)
+takes-is true l k n c = rw (forward-withSign true n, backward-withSign true n) (omega (arith, cond-same {A = ℕ} (eqb l c) 0))
+takes-is false l k n c = omega (arith, cond-same {A = ℕ} (eqb k c) 0)
 
 -- the rim is no entry of the table
 module _ (xs : List ℕ) (few : length xs ≤ rim) (e : ℕ) (n : ℕ) where

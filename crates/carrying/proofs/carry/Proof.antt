@@ -43,6 +43,8 @@ pub carry-spec : {M : Type 1} → statement M
 carry-spec =
     tie.close
     (tie.spec Inv-loop μ-loop (λ c. (search needs, begun c .pre .1)) carry-turn-requires
-    (λ c. let w = turned (c .before .before .before .before .before) in face-next (below w) (start w .pre .0 .counts-fit .few-faces)) (λ c. falls _ _ (below (turned (c .before .before .before .before .before)))) loop-again
-    (λ c. c .before .loop .inv .1 .flowing .long ∙ sym (start-after c .pre .1 .flowing .long)) (λ c. c .before .loop .inv .1 .moved-long ∙ sym (start-after c .pre .1 .moved-long)) (λ c. c .before .loop .inv .1 .work-long ∙ sym (start-after c .pre .1 .work-long))
+    (λ c. let w = turned (c .before .before .before .before .before) in face-next (below w) (start w .pre .0 .counts-fit .few-faces))
+    (λ c. falls _ _ (below (turned (c .before .before .before .before .before)))) loop-again
+    (λ c. c .before .loop .inv .1 .flowing .long ∙ sym (start-after c .pre .1 .flowing .long)) (λ c. c .before .loop .inv .1 .moved-long ∙ sym (start-after c .pre .1 .moved-long))
+    (λ c. c .before .loop .inv .1 .work-long ∙ sym (start-after c .pre .1 .work-long))
     returns)

@@ -39,7 +39,8 @@ either-most false a b m h k = h
 amount-small : (c : tie.After-upwind) → start c .args .size * c .upwind .result ≤ maxCarried
 amount-small c =
     let s = start c in
-    let k : c .upwind .result ≤ maxConcentration = rw (c .upwind .ensures) (either-most (s .args .negative) (s .args .a) (s .args .b) maxConcentration (s .pre .first-most) (s .pre .beyond-most)) in
+    let k : c .upwind .result ≤ maxConcentration = rw (c .upwind .ensures)
+    (either-most (s .args .negative) (s .args .a) (s .args .b) maxConcentration (s .pre .first-most) (s .pre .beyond-most)) in
     mul-le-mul (s .pre .size-most) k
 
 mul-amount : tie.Need-mul-amount
@@ -57,7 +58,8 @@ transfer-requires c κs =
 widen-across-requires : tie.Need-widen-across-requires
 widen-across-requires c κs =
     let p = start (chosen (noted (c .before .before .before))) .pre in
-    ((omega (arith, p .ends .first-in, p .in-work), omega (arith, p .ends .few, p .ends .first-in)), λ d. (omega (arith, p .ends .second-in d, p .in-work), omega (arith, p .ends .few, p .ends .second-in d)))
+    ((omega (arith, p .ends .first-in, p .in-work), omega (arith, p .ends .few, p .ends .first-in)), λ d.
+    (omega (arith, p .ends .second-in d, p .in-work), omega (arith, p .ends .few, p .ends .second-in d)))
 
 face-code-requires : tie.Need-face-code-requires
 face-code-requires c κs = let p = start-met (c .before .before) .pre in (p .first-most, p .beyond-most, p .share-most, p .reach-most, p .within-reach, p .reach-some)
@@ -82,10 +84,13 @@ returns c =
     let t = passed (met c) in
     let w = chosen (noted t) in
     let s = start w in
-    face-done (s .args .f) (s .args .first) (s .args .second) (s .args .share) (s .args .reach) (s .args .a) (s .args .b) (s .args .cells) (w .upwind .result) (c .face-code .result) (s .args .negative) (s .args .size)
-    (s .args .next .now) _ (s .args .moved .now) _ (s .args .work .now) _ _ (w .upwind .ensures) (t .transfer .ensures) (noted t .put .ensures) (met c .widen-across .ensures) (c .face-code .ensures) refl
+    face-done (s .args .f) (s .args .first) (s .args .second) (s .args .share) (s .args .reach) (s .args .a) (s .args .b) (s .args .cells) (w .upwind .result) (c .face-code .result)
+    (s .args .negative) (s .args .size)
+    (s .args .next .now) _ (s .args .moved .now) _ (s .args .work .now) _ _ (w .upwind .ensures) (t .transfer .ensures) (noted t .put .ensures) (met c .widen-across .ensures)
+    (c .face-code .ensures) refl
 
 pub carry-face-spec : {M : Type 1} → statement M
 carry-face-spec =
     tie.close
-    (tie.spec (search needs) mul-amount put-requires transfer-requires widen-across-requires face-code-requires mul-work add-work mul-work-2 write-work (search needs) (search needs) same-work returns)
+    (tie.spec (search needs) mul-amount put-requires transfer-requires widen-across-requires face-code-requires mul-work add-work mul-work-2 write-work (search needs)
+    (search needs) same-work returns)

@@ -13,7 +13,8 @@ use Rattle.carrying.proofs.carry_turn.Statement.{statement}
 use Rattle.carrying.proofs.carry_turn.Tie as tie
 
 abbrev input : tie.Start → StepInput
-input s = inputFrom (s .args .cells) (s .args .faces) (s .args .volumes .now) (s .args .firsts .now) (s .args .seconds .now) (s .args .shares .now) (s .args .reaches .now) (s .args .masses .now) (s .args .fluxes .now) (s .args .outsides .now)
+input s = inputFrom (s .args .cells) (s .args .faces) (s .args .volumes .now) (s .args .firsts .now) (s .args .seconds .now) (s .args .shares .now) (s .args .reaches .now)
+    (s .args .masses .now) (s .args .fluxes .now) (s .args .outsides .now)
 
 -- from each call back to the one before
 abbrev start : tie.After-slice-known2 → tie.Start
@@ -60,7 +61,8 @@ carry-face-requires c κs =
     let q = far-read w in
     let u = near-read q in
     let s = start-read w in
-    face-asks (input s) (s .pre .0) (s .args .f) (s .pre .1 .0) _ _ (s .args .next .now) (s .args .work .now) (s .args .moved .now) (s .pre .1 .1) (u .before .is-negative-at .result) (u .size-at .result) (q .concentration .result) (w .beyond .result)
+    face-asks (input s) (s .pre .0) (s .args .f) (s .pre .1 .0) _ _ (s .args .next .now) (s .args .work .now) (s .args .moved .now) (s .pre .1 .1) (u .before .is-negative-at .result)
+    (u .size-at .result) (q .concentration .result) (w .beyond .result)
     (u .before .is-negative-at .ensures) (u .size-at .ensures) (q .concentration .ensures) (w .beyond .ensures)
 
 add-entered : tie.Need-add-t29
@@ -71,8 +73,10 @@ add-entered c =
     let q = far-read w in
     let u = near-read q in
     let s = start-read w in
-    record { fits = entered-fits (input s) (s .pre .0) (s .args .f) (s .pre .1 .0) _ _ (s .args .next .now) (s .args .work .now) (s .args .moved .now) (s .pre .1 .1) (u .before .is-negative-at .result) (u .size-at .result) (q .concentration .result) (w .beyond .result) (t .carry-face .result)
-        (u .before .is-negative-at .ensures) (u .size-at .ensures) (q .concentration .ensures) (w .beyond .ensures) _ _ _ (t .carry-face .ensures) (e .entered .result) (e .entered .ensures) }
+    record { fits = entered-fits (input s) (s .pre .0) (s .args .f) (s .pre .1 .0) _ _ (s .args .next .now) (s .args .work .now) (s .args .moved .now) (s .pre .1 .1)
+    (u .before .is-negative-at .result) (u .size-at .result) (q .concentration .result) (w .beyond .result) (t .carry-face .result)
+        (u .before .is-negative-at .ensures) (u .size-at .ensures) (q .concentration .ensures) (w .beyond .ensures) _ _ _ (t .carry-face .ensures) (e .entered .result)
+        (e .entered .ensures) }
 
 add-gone : tie.Need-add-t44
 add-gone c =
@@ -82,7 +86,8 @@ add-gone c =
     let q = far-read w in
     let u = near-read q in
     let s = start-read w in
-    record { fits = gone-fits (input s) (s .pre .0) (s .args .f) (s .pre .1 .0) _ _ (s .args .next .now) (s .args .work .now) (s .args .moved .now) (s .pre .1 .1) (u .before .is-negative-at .result) (u .size-at .result) (q .concentration .result) (w .beyond .result) (t .carry-face .result)
+    record { fits = gone-fits (input s) (s .pre .0) (s .args .f) (s .pre .1 .0) _ _ (s .args .next .now) (s .args .work .now) (s .args .moved .now) (s .pre .1 .1)
+    (u .before .is-negative-at .result) (u .size-at .result) (q .concentration .result) (w .beyond .result) (t .carry-face .result)
         (u .before .is-negative-at .ensures) (u .size-at .ensures) (q .concentration .ensures) (w .beyond .ensures) _ _ _ (t .carry-face .ensures) (g .gone .result) (g .gone .ensures) }
 
 returns : tie.Need-returns
@@ -94,8 +99,10 @@ returns c =
     let q = far-read w in
     let u = near-read q in
     let s = start-read w in
-    face-turn (input s) (s .pre .0) (s .args .f) (s .pre .1 .0) _ _ (s .args .next .now) (s .args .work .now) (s .args .moved .now) (s .pre .1 .1) (u .before .is-negative-at .result) (u .size-at .result) (q .concentration .result) (w .beyond .result) (t .carry-face .result)
-    (u .before .is-negative-at .ensures) (u .size-at .ensures) (q .concentration .ensures) (w .beyond .ensures) _ _ _ (t .carry-face .ensures) (e .entered .result) (g .gone .result) (e .entered .ensures) (g .gone .ensures)
+    face-turn (input s) (s .pre .0) (s .args .f) (s .pre .1 .0) _ _ (s .args .next .now) (s .args .work .now) (s .args .moved .now) (s .pre .1 .1) (u .before .is-negative-at .result)
+    (u .size-at .result) (q .concentration .result) (w .beyond .result) (t .carry-face .result)
+    (u .before .is-negative-at .ensures) (u .size-at .ensures) (q .concentration .ensures) (w .beyond .ensures) _ _ _ (t .carry-face .ensures) (e .entered .result) (g .gone .result)
+    (e .entered .ensures) (g .gone .ensures)
 
 pub carry-turn-spec : {M : Type 1} → statement M
 carry-turn-spec =
@@ -103,10 +110,13 @@ carry-turn-spec =
     (tie.spec
     (λ c. face-bytes (start c .pre .1 .0) (few (start c))) (λ c. let s = start (c .before) in lt-of-lt-of-le (s .pre .1 .0) (s .pre .0 .lent .firsts-long))
     (λ c. let s = start (c .before) in face-bytes (s .pre .1 .0) (few s)) (λ c. let s = start (c .before .before) in lt-of-lt-of-le (s .pre .1 .0) (s .pre .0 .lent .seconds-long))
-    (λ c κs. let s = start (c .before .before) in lt-of-lt-of-le (s .pre .1 .0) (s .pre .0 .fluxes-long)) (λ c κs. let s = signed c in lt-of-lt-of-le (s .pre .1 .0) (s .pre .0 .fluxes-long))
+    (λ c κs. let s = start (c .before .before) in lt-of-lt-of-le (s .pre .1 .0) (s .pre .0 .fluxes-long))
+    (λ c κs. let s = signed c in lt-of-lt-of-le (s .pre .1 .0) (s .pre .0 .fluxes-long))
     concentration-requires
-    (λ c. let s = signed (near-read (c .before) .before) in face-bytes (s .pre .1 .0) (few s)) (λ c. let s = signed (near-read (c .before .before) .before) in lt-of-lt-of-le (s .pre .1 .0) (s .pre .0 .outsides-long))
+    (λ c. let s = signed (near-read (c .before) .before) in face-bytes (s .pre .1 .0) (few s))
+    (λ c. let s = signed (near-read (c .before .before) .before) in lt-of-lt-of-le (s .pre .1 .0) (s .pre .0 .outsides-long))
     beyond-requires
     (λ c. let s = start-read c in face-bytes (s .pre .1 .0) (few s)) (λ c. let s = start-read (c .before) in lt-of-lt-of-le (s .pre .1 .0) (s .pre .0 .lent .shares-long))
-    (λ c. let s = start-read (c .before) in face-bytes (s .pre .1 .0) (few s)) (λ c. let s = start-read (c .before .before) in lt-of-lt-of-le (s .pre .1 .0) (s .pre .0 .lent .reaches-long))
+    (λ c. let s = start-read (c .before) in face-bytes (s .pre .1 .0) (few s))
+    (λ c. let s = start-read (c .before .before) in lt-of-lt-of-le (s .pre .1 .0) (s .pre .0 .lent .reaches-long))
     carry-face-requires (search needs) (search needs) add-entered add-gone (search needs) (search needs) (search needs) returns)

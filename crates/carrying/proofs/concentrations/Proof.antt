@@ -1,5 +1,5 @@
 use Prim.Native.Nat.{_≤_, _<_, _-_}
-use mathlib.Core.Path.{_≡_, refl, _∙_}
+use mathlib.Core.Path.{_≡_, refl, ap, _∙_}
 use native.Mathlib.Nat.{lt-of-lt-of-le}
 use native.Mathlib.Omega.{arith}
 use borrow.Author.Count.{falls}
@@ -32,7 +32,8 @@ start-cell-requires c κs =
     let w = c .before .before .before .before in
     let l = w .before .loop in
     let s = start w in
-    (s .pre .1 .1 (l .c) (below w), rw (l .inv .1) (omega (arith, below w, s .pre .1 .0)), rw (l .inv .2 .filling .same-length) (omega (arith, below w, s .pre .1 .0)), lt-of-lt-of-le (below w) (s .pre .0 .0))
+    (s .pre .1 .1 (l .c) (below w), rw (l .inv .1) (omega (arith, below w, s .pre .1 .0)), rw (l .inv .2 .filling .same-length) (omega (arith, below w, s .pre .1 .0)), lt-of-lt-of-le
+    (below w) (s .pre .0 .0))
 
 -- the turn is done
 abbrev turned : tie.After-start-cell Inv-loop μ-loop → tie.In-loop Inv-loop μ-loop
@@ -45,7 +46,7 @@ loop-again c =
     let l = w .before .loop in
     let s = start w in (
       omega (arith, below w),
-      rw (t .start-cell .ensures .0) (length-set (l .next) (l .c) _ ∙ l .inv .1),
+      ap length (t .start-cell .ensures .0) ∙ length-set (l .next) (l .c) _ ∙ l .inv .1,
       concentrations-turn (s .args .volumes .now) (s .args .masses .now) (s .args .work .now) (l .c) (l .next) (l .work) _ _
           (rw (l .inv .1) (omega (arith, below w, s .pre .1 .0))) (omega (arith, below w, s .pre .1 .0)) (l .inv .2) (t .start-cell .ensures .0) (t .start-cell .ensures .1),
     )
@@ -60,5 +61,6 @@ concentrations-spec =
     (λ c. cell-bytes (below c) (start c .pre .0 .0)) (λ c. lt-of-lt-of-le (below (c .before)) (start (c .before) .pre .0 .2))
     (λ c. cell-bytes (below (c .before)) (start (c .before) .pre .0 .0)) (λ c. lt-of-lt-of-le (below (c .before .before)) (start (c .before .before) .pre .0 .1))
     start-cell-requires
-    (λ c. let w = turned (c .before .before .before .before) in cell-next (below w) (start w .pre .0 .0)) (λ c. falls _ _ (below (turned (c .before .before .before .before)))) loop-again
+    (λ c. let w = turned (c .before .before .before .before) in cell-next (below w) (start w .pre .0 .0))
+    (λ c. falls _ _ (below (turned (c .before .before .before .before)))) loop-again
     (λ c. c .before .loop .inv .1) (λ c. c .before .loop .inv .2 .filling .same-length) returns)

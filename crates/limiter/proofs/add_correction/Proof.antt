@@ -26,7 +26,8 @@ some c = c .before .before .if1 .left
 
 -- the ends, as the code has them
 receiver-long : (c : tie.After-end-to2) → 4 * c .before .end-to .result + 3 < length (start c .args .work .now)
-receiver-long c = let p = start c .pre .0 (some c) in end-holds (λ e. 4 * e + 3 < length (start c .args .work .now)) (eqb (start c .args .code % 2) 1) (c .before .end-to .ensures) (p .0) (p .1)
+receiver-long c = let p = start c .pre .0 (some c) in end-holds (λ e. 4 * e + 3 < length (start c .args .work .now)) (eqb (start c .args .code % 2) 1) (c .before .end-to .ensures)
+    (p .0) (p .1)
 
 receiver-few : (c : tie.After-end-to2) → c .before .end-to .result < maxCells
 receiver-few c = let p = start c .pre .0 (some c) in end-holds (λ e. e < maxCells) (eqb (start c .args .code % 2) 1) (c .before .end-to .ensures) (p .2) (p .3)
@@ -61,7 +62,8 @@ returns-2 c =
     let u = v .before .before .before .before in
     let w = ends u in
     let s = start w in
-    added-is (s .args .work .now) _ _ (s .args .first) (s .args .second) (s .args .code) (w .before .end-to .result) (w .end-to2 .result) (some w) (w .before .end-to .ensures) (w .end-to2 .ensures) (u .raise .ensures) (v .raise2 .ensures)
+    added-is (s .args .work .now) _ _ (s .args .first) (s .args .second) (s .args .code) (w .before .end-to .result) (w .end-to2 .result) (some w) (w .before .end-to .ensures)
+    (w .end-to2 .ensures) (u .raise .ensures) (v .raise2 .ensures)
 
 pub add-correction-spec : {M : Type 1} → statement M
 add-correction-spec =

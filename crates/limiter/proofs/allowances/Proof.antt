@@ -45,4 +45,5 @@ returns c = let e : c .before .loop .c ≡ start-after c .args .cells = omega ar
 pub allowances-spec : {M : Type 1} → statement M
 allowances-spec =
     tie.close
-    (tie.spec Inv-loop μ-loop (λ c. (search needs, filling-start _ _ _ _ _)) (search needs) (search needs) (search needs) (search needs) allowance-at-requires (search needs) (search needs) loop-again (λ c. c .before .loop .inv .1 .same-length) returns)
+    (tie.spec Inv-loop μ-loop (λ c. (search needs, filling-start _ _ _ _ _)) (search needs) (search needs) (search needs) (search needs) allowance-at-requires (search needs)
+    (search needs) loop-again (λ c. c .before .loop .inv .1 .same-length) returns)

@@ -47,7 +47,8 @@ loop-again c =
     let w = turned t in
     let l = w .before .loop in
     let s = start w in
-    (omega (arith, below w), limited-turn (mesh s) (s .args .work .now) (s .args .next .now) (s .args .moved .now) (s .pre) (l .f) (below w) (l .next) (l .moved) (l .inv .1) _ _ (t .limit-face .ensures))
+    (omega (arith, below w), limited-turn (mesh s) (s .args .work .now) (s .args .next .now) (s .args .moved .now) (s .pre) (l .f) (below w) (l .next) (l .moved) (l .inv .1) _ _
+    (t .limit-face .ensures))
 
 returns : tie.Need-returns Inv-loop μ-loop
 returns c = let e : c .before .loop .f ≡ start-after c .args .faces = omega (arith, c .before .loop .inv .0, c .loop-test .left) in rw e at (c .before .loop .inv .1)
@@ -56,10 +57,13 @@ pub limit-spec : {M : Type 1} → statement M
 limit-spec =
     tie.close
     (tie.spec Inv-loop μ-loop (λ c. (search needs, limited-start _ _ _ _ (c .before .before .before .before .pre .next-long)))
-    (λ c. cells-fit (start c .pre .coded-in .few-cells)) (λ c. face-fits (below c) (start c .pre .coded-in .few-cells) (start c .pre .coded-in .few-faces)) (λ c. face-entry-bytes (below c) (start c .pre .coded-in .few-cells) (start c .pre .coded-in .few-faces))
+    (λ c. cells-fit (start c .pre .coded-in .few-cells)) (λ c. face-fits (below c) (start c .pre .coded-in .few-cells) (start c .pre .coded-in .few-faces))
+    (λ c. face-entry-bytes (below c) (start c .pre .coded-in .few-cells) (start c .pre .coded-in .few-faces))
     (λ c. face-in _ _ _ _ (below (c .before)) (start (c .before) .pre .coded-in .work-long))
-    (λ c. face-bytes (below (c .before)) (start (c .before) .pre .coded-in .few-faces)) (λ c. lt-of-lt-of-le (below (c .before .before)) (start (c .before .before) .pre .coded-in .firsts-long))
-    (λ c. face-bytes (below (c .before .before)) (start (c .before .before) .pre .coded-in .few-faces)) (λ c. lt-of-lt-of-le (below (c .before .before .before)) (start (c .before .before .before) .pre .coded-in .seconds-long))
+    (λ c. face-bytes (below (c .before)) (start (c .before) .pre .coded-in .few-faces))
+    (λ c. lt-of-lt-of-le (below (c .before .before)) (start (c .before .before) .pre .coded-in .firsts-long))
+    (λ c. face-bytes (below (c .before .before)) (start (c .before .before) .pre .coded-in .few-faces))
+    (λ c. lt-of-lt-of-le (below (c .before .before .before)) (start (c .before .before .before) .pre .coded-in .seconds-long))
     limit-face-requires
     (λ c. let w = turned (c .before .before .before) in face-next (below w) (start w .pre .coded-in .few-faces))
     (λ c. falls _ _ (below (turned (c .before .before .before))))

@@ -30,7 +30,8 @@ abbrev joined : tie.After-transfer-arg → tie.After-cut
 joined c = c .before .before .before .before
 
 returns : tie.Need-returns
-returns c = let s = c .before .before .before in no-cut (s .args .f) (s .args .first) (s .args .second) (s .args .code) (s .args .work .now) (s .args .next .now) (s .args .moved .now) (c .if1 .taken)
+returns c = let s = c .before .before .before in no-cut (s .args .f) (s .args .first) (s .args .second) (s .args .code) (s .args .work .now) (s .args .next .now) (s .args .moved .now)
+    (c .if1 .taken)
 
 cut-requires : tie.Need-cut-requires
 cut-requires c κs =

@@ -50,7 +50,8 @@ loop-again c =
     let w = c .before .before .before .before .before .before .before in
     let l = w .before .loop in
     let s = start w in
-    (omega (arith, below w), sums-turn (mesh s) (s .args .work .now) (s .pre .0) (s .pre .1) (l .f) (below w) (l .work) (l .inv .1) _ (rw (l .inv .1 .face-at (l .f)) at (c .before .before .add-correction .ensures)))
+    (omega (arith, below w), sums-turn (mesh s) (s .args .work .now) (s .pre .0) (s .pre .1) (l .f) (below w) (l .work) (l .inv .1) _
+    (rw (l .inv .1 .face-at (l .f)) at (c .before .before .add-correction .ensures)))
 
 returns : tie.Need-returns Inv-loop μ-loop
 returns c = let e : c .before .loop .f ≡ start-after c .args .faces = omega (arith, c .before .loop .inv .0, c .loop-test .left) in rw e at (c .before .loop .inv .1)
@@ -59,10 +60,13 @@ pub sum-corrections-spec : {M : Type 1} → statement M
 sum-corrections-spec =
     tie.close
     (tie.spec Inv-loop μ-loop (λ c. (search needs, sums-start _ _))
-    (λ c. cells-fit (start c .pre .0 .few-cells)) (λ c. face-fits (below c) (start c .pre .0 .few-cells) (start c .pre .0 .few-faces)) (λ c. face-entry-bytes (below c) (start c .pre .0 .few-cells) (start c .pre .0 .few-faces))
+    (λ c. cells-fit (start c .pre .0 .few-cells)) (λ c. face-fits (below c) (start c .pre .0 .few-cells) (start c .pre .0 .few-faces))
+    (λ c. face-entry-bytes (below c) (start c .pre .0 .few-cells) (start c .pre .0 .few-faces))
     (λ c. face-in _ _ _ _ (below (c .before)) (long (c .before)))
-    (λ c. face-bytes (below (c .before .before)) (start (c .before .before) .pre .0 .few-faces)) (λ c. lt-of-lt-of-le (below (c .before .before .before)) (start (c .before .before .before) .pre .0 .firsts-long))
-    (λ c. face-bytes (below (c .before .before .before)) (start (c .before .before .before) .pre .0 .few-faces)) (λ c. lt-of-lt-of-le (below (c .before .before .before .before)) (start (c .before .before .before .before) .pre .0 .seconds-long))
+    (λ c. face-bytes (below (c .before .before)) (start (c .before .before) .pre .0 .few-faces))
+    (λ c. lt-of-lt-of-le (below (c .before .before .before)) (start (c .before .before .before) .pre .0 .firsts-long))
+    (λ c. face-bytes (below (c .before .before .before)) (start (c .before .before .before) .pre .0 .few-faces))
+    (λ c. lt-of-lt-of-le (below (c .before .before .before .before)) (start (c .before .before .before .before) .pre .0 .seconds-long))
     add-correction-requires
     (λ c. let w = c .before .before .before .before .before .before .before in face-next (below w) (start w .pre .0 .few-faces))
     (λ c. let w = c .before .before .before .before .before .before .before in falls _ _ (below w))

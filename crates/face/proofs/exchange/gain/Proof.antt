@@ -19,5 +19,6 @@ returns-2 c = let s = c .before .before in one-gained (s .args .next .now) (s .a
 pub gain-spec : {M : Type 1} → statement M
 gain-spec =
     tie.close
-    (tie.spec returns (λ c. cell-bytes (inside c .0) (c .before .pre .0)) (λ c. inside (c .before) .0) (λ c. record { fits = inside (c .before) .1 }) (λ c. cell-bytes (inside (c .before) .0) (c .before .before .pre .0))
+    (tie.spec returns (λ c. cell-bytes (inside c .0) (c .before .pre .0)) (λ c. inside (c .before) .0) (λ c. record { fits = inside (c .before) .1 })
+    (λ c. cell-bytes (inside (c .before) .0) (c .before .before .pre .0))
     (λ c. inside (c .before) .0) (search needs) returns-2)

@@ -27,14 +27,16 @@ gain-requires c κs =
     let w = c .before .before .before in
     let s = start (ends w) in
     rw (ends w .end-to2 .ensures)
-    (rw (lost w .same-length) (s .pre .0 .few), receiver-has-room (s .args .next .now) (s .args .first) (s .args .second) (s .args .negative) (s .args .amount) (s .pre .0) (s .pre .1 .0) (s .pre .1 .1) _ (lost w))
+    (rw (lost w .same-length) (s .pre .0 .few), receiver-has-room (s .args .next .now) (s .args .first) (s .args .second) (s .args .negative) (s .args .amount) (s .pre .0)
+    (s .pre .1 .0) (s .pre .1 .1) _ (lost w))
 
 returns : tie.Need-returns
 returns c =
     let g = c .before .before in
     let w = g .before .before .before .before in
     let s = start (ends w) in
-    transferred (s .args .next .now) (s .args .first) (s .args .second) (s .args .negative) (s .args .amount) (s .pre .0) (s .pre .1 .0) (s .pre .1 .1) _ _ (lost w) (rw (ends w .end-to2 .ensures) at (g .gain .ensures))
+    transferred (s .args .next .now) (s .args .first) (s .args .second) (s .args .negative) (s .args .amount) (s .pre .0) (s .pre .1 .0) (s .pre .1 .1) _ _ (lost w)
+    (rw (ends w .end-to2 .ensures) at (g .gain .ensures))
 
 pub transfer-spec : {M : Type 1} → statement M
 transfer-spec = tie.close (tie.spec (search needs) (search needs) lose-requires gain-requires (search needs) returns)
