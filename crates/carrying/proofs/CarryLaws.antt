@@ -231,13 +231,21 @@ module _ (S : StepInput) (r : Ready S) (f : ℕ) (h : f < S .mesh .faces) (enter
   -- the sums stay within the words
   in-mass-fits : (i : ℕ) → i ≡ inMassTo S (f + 1) → i < 2 ^ 64
   unfolding inMass
-  in-mass-fits i e = omega (arith, sum-more f (λ g. cond (atRim M g) (backward (flux S g) * outside S g) 0),
-      sum-term f (M .faces) (λ g. cond (atRim M g) (backward (flux S g) * outside S g) 0) h, inMass-most S r)
+  in-mass-fits i e = omega (
+    arith,
+    sum-more f (λ g. cond (atRim M g) (backward (flux S g) * outside S g) 0),
+    sum-term f (M .faces) (λ g. cond (atRim M g) (backward (flux S g) * outside S g) 0) h,
+    inMass-most S r,
+  )
 
   out-mass-fits : (o : ℕ) → o ≡ outMassTo S (f + 1) → o < 2 ^ 64
   unfolding outMass
-  out-mass-fits o e = omega (arith, sum-more f (λ g. cond (atRim M g) (forward (flux S g) * concentration S (first M g)) 0),
-      sum-term f (M .faces) (λ g. cond (atRim M g) (forward (flux S g) * concentration S (first M g)) 0) h, outMass-most S r)
+  out-mass-fits o e = omega (
+    arith,
+    sum-more f (λ g. cond (atRim M g) (forward (flux S g) * concentration S (first M g)) 0),
+    sum-term f (M .faces) (λ g. cond (atRim M g) (forward (flux S g) * concentration S (first M g)) 0) h,
+    outMass-most S r,
+  )
 
   -- what the face has done, of the values that the code has read
   module _ (p : Bool) (u a b amount : ℕ) (p-is : p ≡ negative) (u-is : u ≡ size (flux S f)) (a-is : a ≡ near) (b-is : b ≡ far) (next′ work′ : List ℕ) (moved′ : List ℤ)

@@ -1,7 +1,7 @@
 // Stages 1 to 3 of document 01 by faces: what each carries, its correction, and the bounds of its cells.
+use cell::Q;
 use cell::fill;
 use cell::widen_across;
-use cell::Q;
 use face::correction::face_code;
 use face::exchange::transfer;
 use face::upwind::entered;
@@ -141,7 +141,19 @@ fn carry_turn(
     let share = shares[f];
     let reach = reaches[f];
     let amount = carry_face(
-        f, first, second, negative, size, share, reach, a, b, cells, next, moved, work,
+        f,
+        first,
+        second,
+        negative,
+        size,
+        share,
+        reach,
+        a,
+        b,
+        cells,
+        next,
+        moved,
+        work,
     );
     let more_in = entered(second, negative, amount);
     let more_out = gone(second, negative, amount);
@@ -180,7 +192,21 @@ pub fn carry(
     let mut f = 0;
     while f < faces {
         so_far = carry_turn(
-            f, cells, faces, volumes, firsts, seconds, shares, reaches, masses, fluxes, outsides, next, moved, work, so_far,
+            f,
+            cells,
+            faces,
+            volumes,
+            firsts,
+            seconds,
+            shares,
+            reaches,
+            masses,
+            fluxes,
+            outsides,
+            next,
+            moved,
+            work,
+            so_far,
         );
         f += 1;
     }

@@ -11,13 +11,18 @@ ghost use Rattle.cell.specs.Work.{ofCell, filled, widened, widenedAcross
 
 // In passes 1 and 2: the cell's concentration, and the least and the greatest in its neighbourhood.
 pub const Q: usize = 0;
+
 pub const LO: usize = 1;
+
 pub const HI: usize = 2;
 
 // From pass 3 on: the sum of corrections that enter, what the cell may lose and gain, the sum of those that leave.
 pub const P: usize = 0;
+
 pub const L: usize = 1;
+
 pub const G: usize = 2;
+
 pub const N: usize = 3;
 
 pub fn least_of(a: u64, b: u64) -> u64

@@ -95,15 +95,29 @@ module _ (M : Mesh) (w : List ℕ) (asks : CorrectionsIn M w) (begun : Unsummed 
   unfolding incoming
   asks-p d =
       let l = enters-in M w asks f h d in
-      omega (arith, s .p-at receiver l, begun .p-none receiver l, enters-is receiver, own receiver n, sum-term f (M .faces) (entering M x receiver) h,
-        incoming-most M x maxCarried (asks .few-faces) (asks .size-most) receiver)
+      omega (
+        arith,
+        s .p-at receiver l,
+        begun .p-none receiver l,
+        enters-is receiver,
+        own receiver n,
+        sum-term f (M .faces) (entering M x receiver) h,
+        incoming-most M x maxCarried (asks .few-faces) (asks .size-most) receiver,
+      )
 
   pub asks-n : n ≢ 0 → ofCell work giver 3 + n < 2 ^ 64
   unfolding outgoing
   asks-n d =
       let l = leaves-in M w asks f h d in
-      omega (arith, s .n-at giver l, begun .n-none giver l, leaves-is giver, own giver n, sum-term f (M .faces) (leaving M x giver) h,
-        outgoing-most M x maxCarried (asks .few-faces) (asks .size-most) giver)
+      omega (
+        arith,
+        s .n-at giver l,
+        begun .n-none giver l,
+        leaves-is giver,
+        own giver n,
+        sum-term f (M .faces) (leaving M x giver) h,
+        outgoing-most M x maxCarried (asks .few-faces) (asks .size-most) giver,
+      )
 
   still-turn : n ≡ 0 → CorrectionSums M w (f + 1) work
   still-turn e = record {

@@ -1,11 +1,11 @@
 // Stages 3 to 5 of document 01: what cells may gain and lose, and the corrections cut to it.
-use cell::allowance_at;
-use cell::least_of;
-use cell::raise;
 use cell::G;
 use cell::L;
 use cell::N;
 use cell::P;
+use cell::allowance_at;
+use cell::least_of;
+use cell::raise;
 use face::exchange::end_to;
 use face::exchange::transfer;
 ghost use mathlib.Core.Path.{_≡_};

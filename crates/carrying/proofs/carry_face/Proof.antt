@@ -57,9 +57,11 @@ transfer-requires c κs =
 
 widen-across-requires : tie.Need-widen-across-requires
 widen-across-requires c κs =
-    let p = start (chosen (noted (c .before .before .before))) .pre in
-    ((omega (arith, p .ends .first-in, p .in-work), omega (arith, p .ends .few, p .ends .first-in)), λ d.
-    (omega (arith, p .ends .second-in d, p .in-work), omega (arith, p .ends .few, p .ends .second-in d)))
+    let p = start (chosen (noted (c .before .before .before))) .pre in (
+      (omega (arith, p .ends .first-in, p .in-work), omega (arith, p .ends .few, p .ends .first-in)),
+      λ d.
+          (omega (arith, p .ends .second-in d, p .in-work), omega (arith, p .ends .few, p .ends .second-in d)),
+    )
 
 face-code-requires : tie.Need-face-code-requires
 face-code-requires c κs = let p = start-met (c .before .before) .pre in (p .first-most, p .beyond-most, p .share-most, p .reach-most, p .within-reach, p .reach-some)

@@ -44,16 +44,19 @@ few s = s .pre .0 .counts-fit .few-faces
 concentration-requires : tie.Need-concentration-requires
 concentration-requires c κs =
     let s = signed (c .before .before) in
-    let r = s .pre .0 in
-    (in-first (input s) r (s .args .f) (s .pre .1 .0) _ _ (s .args .next .now) (s .args .work .now) (s .args .moved .now) (s .pre .1 .1),
-      lt-of-lt-of-le (r .fit .first-in (s .args .f) (s .pre .1 .0)) (r .counts-fit .few-cells))
+    let r = s .pre .0 in (
+      in-first (input s) r (s .args .f) (s .pre .1 .0) _ _ (s .args .next .now) (s .args .work .now) (s .args .moved .now) (s .pre .1 .1),
+      lt-of-lt-of-le (r .fit .first-in (s .args .f) (s .pre .1 .0)) (r .counts-fit .few-cells),
+    )
 
 beyond-requires : tie.Need-beyond-requires
 beyond-requires c κs =
     let s = signed (near-read (c .before .before) .before) in
     let r = s .pre .0 in
-    λ d. (in-second (input s) r (s .args .f) (s .pre .1 .0) _ _ (s .args .next .now) (s .args .work .now) (s .args .moved .now) (s .pre .1 .1) d,
-      lt-of-lt-of-le (r .fit .second-in (s .args .f) (s .pre .1 .0) d) (r .counts-fit .few-cells))
+    λ d. (
+      in-second (input s) r (s .args .f) (s .pre .1 .0) _ _ (s .args .next .now) (s .args .work .now) (s .args .moved .now) (s .pre .1 .1) d,
+      lt-of-lt-of-le (r .fit .second-in (s .args .f) (s .pre .1 .0) d) (r .counts-fit .few-cells),
+    )
 
 carry-face-requires : tie.Need-carry-face-requires
 carry-face-requires c κs =
@@ -73,10 +76,12 @@ add-entered c =
     let q = far-read w in
     let u = near-read q in
     let s = start-read w in
-    record { fits = entered-fits (input s) (s .pre .0) (s .args .f) (s .pre .1 .0) _ _ (s .args .next .now) (s .args .work .now) (s .args .moved .now) (s .pre .1 .1)
-    (u .before .is-negative-at .result) (u .size-at .result) (q .concentration .result) (w .beyond .result) (t .carry-face .result)
-        (u .before .is-negative-at .ensures) (u .size-at .ensures) (q .concentration .ensures) (w .beyond .ensures) _ _ _ (t .carry-face .ensures) (e .entered .result)
-        (e .entered .ensures) }
+    record {
+      fits = entered-fits (input s) (s .pre .0) (s .args .f) (s .pre .1 .0) _ _ (s .args .next .now) (s .args .work .now) (s .args .moved .now) (s .pre .1 .1)
+          (u .before .is-negative-at .result) (u .size-at .result) (q .concentration .result) (w .beyond .result) (t .carry-face .result)
+          (u .before .is-negative-at .ensures) (u .size-at .ensures) (q .concentration .ensures) (w .beyond .ensures) _ _ _ (t .carry-face .ensures) (e .entered .result)
+          (e .entered .ensures);
+    }
 
 add-gone : tie.Need-add-t44
 add-gone c =
@@ -86,9 +91,11 @@ add-gone c =
     let q = far-read w in
     let u = near-read q in
     let s = start-read w in
-    record { fits = gone-fits (input s) (s .pre .0) (s .args .f) (s .pre .1 .0) _ _ (s .args .next .now) (s .args .work .now) (s .args .moved .now) (s .pre .1 .1)
-    (u .before .is-negative-at .result) (u .size-at .result) (q .concentration .result) (w .beyond .result) (t .carry-face .result)
-        (u .before .is-negative-at .ensures) (u .size-at .ensures) (q .concentration .ensures) (w .beyond .ensures) _ _ _ (t .carry-face .ensures) (g .gone .result) (g .gone .ensures) }
+    record {
+      fits = gone-fits (input s) (s .pre .0) (s .args .f) (s .pre .1 .0) _ _ (s .args .next .now) (s .args .work .now) (s .args .moved .now) (s .pre .1 .1)
+          (u .before .is-negative-at .result) (u .size-at .result) (q .concentration .result) (w .beyond .result) (t .carry-face .result)
+          (u .before .is-negative-at .ensures) (u .size-at .ensures) (q .concentration .ensures) (w .beyond .ensures) _ _ _ (t .carry-face .ensures) (g .gone .result) (g .gone .ensures);
+    }
 
 returns : tie.Need-returns
 returns c =

@@ -31,9 +31,13 @@ start-cell-requires : tie.Need-start-cell-requires Inv-loop μ-loop
 start-cell-requires c κs =
     let w = c .before .before .before .before in
     let l = w .before .loop in
-    let s = start w in
-    (s .pre .1 .1 (l .c) (below w), rw (l .inv .1) (omega (arith, below w, s .pre .1 .0)), rw (l .inv .2 .filling .same-length) (omega (arith, below w, s .pre .1 .0)), lt-of-lt-of-le
-    (below w) (s .pre .0 .0))
+    let s = start w in (
+      s .pre .1 .1 (l .c) (below w),
+      rw (l .inv .1) (omega (arith, below w, s .pre .1 .0)),
+      rw (l .inv .2 .filling .same-length) (omega (arith, below w, s .pre .1 .0)),
+      lt-of-lt-of-le
+          (below w) (s .pre .0 .0),
+    )
 
 -- the turn is done
 abbrev turned : tie.After-start-cell Inv-loop μ-loop → tie.In-loop Inv-loop μ-loop

@@ -19,7 +19,6 @@ top s = let p = s .pre .1 in mul-le-mul (p .volume-most) (p .most-small)
 abbrev start : tie.After-slice-known3 → tie.Start
 start c = c .before .before .before
 
-
 mul-gain-2 : tie.Need-mul-gain-2
 mul-gain-2 c = omega (arith, top (start c))
 

@@ -25,19 +25,21 @@ allowance-at-requires : tie.Need-allowance-at-requires Inv-loop μ-loop
 allowance-at-requires c κs =
     let w = c .before .before .before in
     let l = w .before .loop in
-    let s = start w in
-    ((rw (l .inv .1 .same-length) (omega arith), omega arith),
-      rw (l .inv .1 .kept (4 * l .c + 1) (omega arith), l .inv .1 .kept (4 * l .c + 2) (omega arith)) (s .pre .1 (l .c) (w .loop-test .taken)))
+    let s = start w in (
+      (rw (l .inv .1 .same-length) (omega arith), omega arith),
+      rw (l .inv .1 .kept (4 * l .c + 1) (omega arith), l .inv .1 .kept (4 * l .c + 2) (omega arith)) (s .pre .1 (l .c) (w .loop-test .taken)),
+    )
 
 loop-again : tie.Need-loop-again Inv-loop μ-loop
 unfolding allowancesOf
 loop-again c =
     let w = c .before .before .before .before .before .before in
     let l = w .before .loop in
-    let s = start w in
-    (search needs,
+    let s = start w in (
+      search needs,
       filling-turn (s .args .work .now) (λ c. 0) _ _ (λ c. 0) (l .c) (l .work) _ (omega arith) (l .inv .1)
-      (c .before .before .allowance-at .ensures ∙ rw (l .inv .1 .kept (4 * l .c + 1) (omega arith), l .inv .1 .kept (4 * l .c + 2) (omega arith))))
+          (c .before .before .allowance-at .ensures ∙ rw (l .inv .1 .kept (4 * l .c + 1) (omega arith), l .inv .1 .kept (4 * l .c + 2) (omega arith))),
+    )
 
 returns : tie.Need-returns Inv-loop μ-loop
 returns c = let e : c .before .loop .c ≡ start-after c .args .cells = omega arith in rw e at (c .before .loop .inv .1)

@@ -46,9 +46,11 @@ loop-again c =
     let t = c .before .before .before in
     let w = turned t in
     let l = w .before .loop in
-    let s = start w in
-    (omega (arith, below w), limited-turn (mesh s) (s .args .work .now) (s .args .next .now) (s .args .moved .now) (s .pre) (l .f) (below w) (l .next) (l .moved) (l .inv .1) _ _
-    (t .limit-face .ensures))
+    let s = start w in (
+      omega (arith, below w),
+      limited-turn (mesh s) (s .args .work .now) (s .args .next .now) (s .args .moved .now) (s .pre) (l .f) (below w) (l .next) (l .moved) (l .inv .1) _ _
+          (t .limit-face .ensures),
+    )
 
 returns : tie.Need-returns Inv-loop μ-loop
 returns c = let e : c .before .loop .f ≡ start-after c .args .faces = omega (arith, c .before .loop .inv .0, c .loop-test .left) in rw e at (c .before .loop .inv .1)

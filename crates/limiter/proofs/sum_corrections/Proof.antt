@@ -41,17 +41,21 @@ add-correction-requires c κs =
     let s = start w in
     rw (l .inv .1 .face-at (l .f)) (
       asks-ends (mesh s) (s .args .work .now) (s .pre .0) (s .pre .1) (l .f) (below w) (l .work) (l .inv .1),
-      (asks-p (mesh s) (s .args .work .now) (s .pre .0) (s .pre .1) (l .f) (below w) (l .work) (l .inv .1),
-      asks-n (mesh s) (s .args .work .now) (s .pre .0) (s .pre .1) (l .f) (below w) (l .work) (l .inv .1)),
+      (
+        asks-p (mesh s) (s .args .work .now) (s .pre .0) (s .pre .1) (l .f) (below w) (l .work) (l .inv .1),
+        asks-n (mesh s) (s .args .work .now) (s .pre .0) (s .pre .1) (l .f) (below w) (l .work) (l .inv .1),
+      ),
     )
 
 loop-again : tie.Need-loop-again Inv-loop μ-loop
 loop-again c =
     let w = c .before .before .before .before .before .before .before in
     let l = w .before .loop in
-    let s = start w in
-    (omega (arith, below w), sums-turn (mesh s) (s .args .work .now) (s .pre .0) (s .pre .1) (l .f) (below w) (l .work) (l .inv .1) _
-    (rw (l .inv .1 .face-at (l .f)) at (c .before .before .add-correction .ensures)))
+    let s = start w in (
+      omega (arith, below w),
+      sums-turn (mesh s) (s .args .work .now) (s .pre .0) (s .pre .1) (l .f) (below w) (l .work) (l .inv .1) _
+          (rw (l .inv .1 .face-at (l .f)) at (c .before .before .add-correction .ensures)),
+    )
 
 returns : tie.Need-returns Inv-loop μ-loop
 returns c = let e : c .before .loop .f ≡ start-after c .args .faces = omega (arith, c .before .loop .inv .0, c .loop-test .left) in rw e at (c .before .loop .inv .1)

@@ -27,9 +27,11 @@ mul-result-2 c = omega (arith, mul-le-mul (drop-small c) (rest-small c))
 
 returns : tie.Need-returns
 returns c =
-    let s = c .before .before in
-    (rw (c .gap-of2 .ensures, c .before .gap-of .ensures), rw (c .gap-of2 .ensures, c .before .gap-of .ensures)
-    (size-most (s .args .size) (s .args .a) (s .args .b) (s .args .way) (s .args .reach) (s .pre .0) (s .pre .1) (s .pre .2) (s .pre .3) (s .pre .5)))
+    let s = c .before .before in (
+      rw (c .gap-of2 .ensures, c .before .gap-of .ensures),
+      rw (c .gap-of2 .ensures, c .before .gap-of .ensures)
+          (size-most (s .args .size) (s .args .a) (s .args .b) (s .args .way) (s .args .reach) (s .pre .0) (s .pre .1) (s .pre .2) (s .pre .3) (s .pre .5)),
+    )
 
 pub correction-size-spec : {M : Type 1} → statement M
 correction-size-spec = tie.close (tie.spec (search needs) (search needs) (search needs) mul-result mul-result-2 (search needs) (search needs) returns)

@@ -26,9 +26,11 @@ gain-requires : tie.Need-gain-requires
 gain-requires c κs =
     let w = c .before .before .before in
     let s = start (ends w) in
-    rw (ends w .end-to2 .ensures)
-    (rw (lost w .same-length) (s .pre .0 .few), receiver-has-room (s .args .next .now) (s .args .first) (s .args .second) (s .args .negative) (s .args .amount) (s .pre .0)
-    (s .pre .1 .0) (s .pre .1 .1) _ (lost w))
+    rw (ends w .end-to2 .ensures) (
+      rw (lost w .same-length) (s .pre .0 .few),
+      receiver-has-room (s .args .next .now) (s .args .first) (s .args .second) (s .args .negative) (s .args .amount) (s .pre .0)
+          (s .pre .1 .0) (s .pre .1 .1) _ (lost w),
+    )
 
 returns : tie.Need-returns
 returns c =
