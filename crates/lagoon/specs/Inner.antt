@@ -6,12 +6,11 @@ use lib.ListN.{length}
 use Rattle.lists.specs.Table.{table, over}
 use Rattle.model.specs.Mesh.{Mesh, runCells}
 use Rattle.model.specs.Step.{StepInput, next}
-use Rattle.model.specs.Causes.{Verdict, _andThen_, taken, inputOf}
+use Rattle.model.specs.Causes.{Verdict, _andThen_, taken, inputOf, bytesLong}
 use Rattle.model.specs.Answers.{said}
 use Rattle.model.specs.declared.Answer.{Answer}
 use Rattle.records.specs.Layouts.{fieldRecord, fieldLength}
 use Rattle.records.specs.Reading.{massesIn}
-use Rattle.records.specs.Writing.{bytesLong}
 use Rattle.taking.specs.Taking.{fieldJudged, stepIn, stepJudged}
 use Rattle.lagoon.specs.Host.{hostInput, hostVerdict}
 

@@ -15,7 +15,7 @@ use Rattle.lists.proofs.Sums.{greatest-le}
 use Rattle.model.specs.Mesh.{Mesh, volume, first, second, share, reach, atRim, rim, incoming, outgoing, maxCells, maxFaces, maxVolume, maxShare, maxReach, maxConcentration, maxRimFlux}
 use Rattle.model.specs.Step.{StepInput, flux, outside, concentration, adjacent, hi}
 use Rattle.model.specs.Causes.{fine, _andThen_, each, between, Call, inputOf, countsWithin, counts, meshTables, volumeGood, endsGood, spacingGood, meshValues, fieldTable, fieldValues, saltGood, fieldVerdict, stepTables, outsideGood, fluxGood, balanceGood, outflowGood, stepValues, verdict, meshFieldVerdict}
-pub use Rattle.model.specs.Accepted.{Counted, MeshLent, CallLent, MeshFit, WaterFit, Ready}
+use Rattle.model.specs.Accepted.{Counted, MeshLent, CallLent, MeshFit, WaterFit, Ready}
 use Rattle.model.specs.Accepted.{maxMass}
 use Rattle.model.proofs.Verdicts.{both-fine, need-fine, need-met, each-fine, fine-each}
 use Rattle.model.proofs.Low.{met-any}

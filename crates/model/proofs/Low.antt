@@ -13,7 +13,7 @@ use Rattle.model.specs.Step.{StepInput, flux, outside, mass, concentrati
 use Rattle.lists.proofs.Tests.{Same, same, other, same?}
 use Rattle.lists.proofs.Sums.{sum-cong, sum-mono, sum-scale, least-start, least-each, greatest-start, greatest-each}
 use Rattle.signed.proofs.Laws.{forward-scale, backward-scale}
-pub use Rattle.model.specs.Accepted.{Sound}
+use Rattle.model.specs.Accepted.{Sound}
 
 pub upwind-forward : (z : ℤ) (u v : ℕ) → forward (z *ℤ pos (cond (isNegative z) u v)) ≡ forward z * v
 upwind-forward (pos n) u v = refl

@@ -14,7 +14,7 @@ use Rattle.model.specs.Mesh.{Mesh, first, second, share, reach, atRim, r
 use Rattle.model.specs.Step.{StepInput, portion, flux, outside, mass, concentration, beyond, upwind, downwind, upwindShare, carried, low, correction, maxGain, maxLoss, next, inMass, outMass}
 use Rattle.model.proofs.Low.{low-bounds}
 use Rattle.model.proofs.Next.{next-bounds}
-pub use Rattle.model.specs.Accepted.{maxCarried, maxMass}
+use Rattle.model.specs.Accepted.{maxCarried, maxMass}
 use Rattle.model.specs.Accepted.{Ready}
 use Rattle.model.proofs.Accepted.{hi-most, flux-few, flux-reach}
 

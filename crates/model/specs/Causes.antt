@@ -72,12 +72,12 @@ abbrev pub saltFit : (v m : ℕ) → Bool
 saltFit v m = leb (m / v) maxConcentration
 
 -- 7: an outside value within the same ceiling, and 0 elsewhere than at a rim inflow.
-abbrev pub outsideFit : (second : ℕ) (u : ℤ) (outside : ℕ) → Bool
-outsideFit second u outside = leb outside (cond (eqb second rim && isNegative u) maxConcentration 0)
+abbrev pub outsideFit : (second : ℕ) (inward : Bool) (outside : ℕ) → Bool
+outsideFit second inward outside = leb outside (cond (eqb second rim && inward) maxConcentration 0)
 
 -- 8: the size of U within K, and within 4,095 at the rim.
-abbrev pub fluxFit : (second K : ℕ) (u : ℤ) → Bool
-fluxFit second K u = leb (size u) (cond (eqb second rim) maxRimFlux K)
+abbrev pub fluxFit : (second K amount : ℕ) → Bool
+fluxFit second K amount = leb amount (cond (eqb second rim) maxRimFlux K)
 
 -- "Tables lent to a step", besides mesh and masses.
 pub record Call : Type 0 where
@@ -101,9 +101,18 @@ workEntries cells faces = 4 * cells + faces
 abbrev pub workLength : Mesh → ℕ
 workLength M = workEntries (M .cells) (M .faces)
 
+-- Cause 2 of those tables.
+abbrev pub stepLong : (cells faces : ℕ) → Call → Verdict
+stepLong cells faces k = long 6 faces (length (k .fluxes)) andThen long 7 faces (length (k .outsides)) andThen long 8 cells (length (k .nexts))
+    andThen long 9 faces (length (k .moveds)) andThen long 10 (workEntries cells faces) (length (k .work))
+
 -- a mesh of which a call is lent the cells alone: one without faces
 abbrev pub cellsOnly : ℕ → List ℕ → Mesh
 cellsOnly cells volumes = meshOf cells 0 volumes [] [] [] []
+
+-- a mesh of which the ends of the faces alone are read: inflow and outflow rest on nothing else
+abbrev pub facesOnly : ℕ → List ℕ → List ℕ → Mesh
+facesOnly faces firsts seconds = meshOf 0 faces [] firsts seconds [] []
 
 abbrev pub inputOf : Mesh → List ℕ → Call → StepInput
 inputOf M field k = record { mesh = M; masses = field; fluxes = k .fluxes; outsides = k .outsides }
@@ -151,14 +160,13 @@ module _ (M : Mesh) where
 
     module _ (k : Call) where
       unfoldable pub stepTables : Verdict
-      stepTables = long 6 (M .faces) (length (k .fluxes)) andThen long 7 (M .faces) (length (k .outsides))
-          andThen long 8 (M .cells) (length (k .nexts)) andThen long 9 (M .faces) (length (k .moveds)) andThen long 10 (workLength M) (length (k .work))
+      stepTables = stepLong (M .cells) (M .faces) k
 
       unfoldable pub outsideGood : ℕ → Bool
-      outsideGood f = outsideFit (second M f) (flux (inputOf M field k) f) (outside (inputOf M field k) f)
+      outsideGood f = outsideFit (second M f) (isNegative (flux (inputOf M field k) f)) (outside (inputOf M field k) f)
 
       unfoldable pub fluxGood : ℕ → Bool
-      fluxGood f = fluxFit (second M f) (reach M f) (flux (inputOf M field k) f)
+      fluxGood f = fluxFit (second M f) (reach M f) (size (flux (inputOf M field k) f))
 
       -- 9: a cell's inflow is its outflow; 10: its outflow is within V.
       unfoldable pub balanceGood : ℕ → Bool
@@ -169,6 +177,10 @@ module _ (M : Mesh) where
 
       unfoldable pub stepValues : Verdict
       stepValues = each 7 (M .faces) outsideGood andThen each 8 (M .faces) fluxGood andThen each 9 (M .cells) balanceGood andThen each 10 (M .cells) outflowGood
+
+      -- of tables that are long enough
+      unfoldable pub valuesVerdict : Verdict
+      valuesVerdict = meshValues andThen fieldValues andThen stepValues
 
       unfoldable pub verdict : Verdict
       verdict = counts andThen meshTables andThen fieldTable andThen stepTables andThen meshValues andThen fieldValues andThen stepValues

@@ -4,9 +4,9 @@ use Prim.Native.Nat.{ℕ, _≤_, _<_}
 use mathlib.Core.Path.{_≡_, refl, sym, _∙_}
 use mathlib.Core.List.{List}
 use native.Mathlib.Omega.{arith}
+use borrow.Author.Tests.{le-leb}
 use lib.ListN.{length, getD}
 use Rattle.lists.specs.Table.{table, over}
-use Rattle.lists.proofs.Tests.{le-leb}
 use Rattle.lists.proofs.Tables.{length-table, getD-table, length-over, getD-over}
 use Rattle.model.specs.Mesh.{Mesh, meshOf, runCells, runFaces}
 use Rattle.model.specs.Alike.{AgreeMesh, Agree}

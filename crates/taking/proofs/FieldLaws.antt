@@ -3,20 +3,20 @@ use Prim.Native.Nat.{ℕ, _≤_}
 use mathlib.Core.Path.{_≡_, sym, ap, _∙_}
 use mathlib.Core.List.{List}
 use native.Mathlib.Omega.{arith}
+use borrow.Author.Tests.{leb-true}
 use lib.ListN.{length, take}
 use Rattle.lists.specs.Table.{over}
 use Rattle.lists.specs.Fold.{sum}
-use Rattle.lists.proofs.Tests.{leb-le}
 use Rattle.lists.proofs.Tables.{length-table}
 use Rattle.model.specs.Mesh.{total, runCells}
-use Rattle.model.specs.Causes.{accepted, Verdict, fine, _andThen_, long, meshFieldVerdict}
+use Rattle.model.specs.Causes.{accepted, Verdict, fine, _andThen_, long, meshFieldVerdict, cellsOnly}
 use Rattle.model.specs.Answers.{number, said}
 use Rattle.model.specs.Calls.{massIn}
 use Rattle.model.specs.declared.Answer.{Answer}
 use Rattle.model.specs.declared.Answer.the-variants.{Done, Refused}
 use Rattle.model.specs.declared.Refusal.{Refusal}
 use Rattle.model.proofs.Verdicts.{both-fine, past, out, refused-of, accepted-of, need-fine}
-use Rattle.checks.specs.Total.{cellsOnly, totalSaid}
+use Rattle.checks.specs.Total.{totalSaid}
 use Rattle.checks.specs.declared.TotalAnswer.{TotalAnswer}
 use Rattle.checks.specs.declared.TotalAnswer.the-variants as total-answer
 use Rattle.records.specs.Reading.{massesIn, fieldBodyVerdict, fieldRead}
@@ -41,11 +41,11 @@ module _ (volumes masses : List ℕ) {cells : ℕ} {bs own own′ : List ℕ} {a
     passed = sym found ∙ ap said d
 
     masses-room : cells ≤ length masses
-    masses-room = leb-le _ _ (need-fine 2 5 _ (both-fine _ _ passed .1))
+    masses-room = leb-true _ _ (need-fine 2 5 _ (both-fine _ _ passed .1))
 
     own-room : cells ≤ length own
     unfolding fieldRead fieldBodyVerdict
-    own-room = let n : cells ≤ runCells = leb-le _ _ (need-fine 2 5 _ (both-fine _ _ (both-fine _ _ (both-fine _ _ passed .0) .1) .1)) in omega (arith, n, run)
+    own-room = let n : cells ≤ runCells = leb-true _ _ (need-fine 2 5 _ (both-fine _ _ (both-fine _ _ (both-fine _ _ passed .0) .1) .1)) in omega (arith, n, run)
 
     pub masses-part : PartRead cells (massesIn bs cells) own′
     unfolding massesIn

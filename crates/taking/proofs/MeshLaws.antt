@@ -4,10 +4,11 @@ use Prim.Native.Nat.{ℕ, _≤_}
 use mathlib.Core.Path.{_≡_, refl, sym, ap, _∙_}
 use mathlib.Core.List.{List}
 use native.Mathlib.Omega.{arith}
+use borrow.Author.Tests.{leb-true, le-leb}
 use lib.Dec.{leb}
 use lib.ListN.{length, take}
 use Rattle.lists.specs.Table.{over}
-use Rattle.lists.proofs.Tests.{leb-le, le-leb, both-true, true-both}
+use Rattle.lists.proofs.Tests.{both-true, true-both}
 use Rattle.lists.proofs.Tables.{length-table}
 use Rattle.model.specs.Mesh.{Mesh, meshOf, runCells, runFaces, maxCells, maxFaces}
 use Rattle.model.specs.Causes.{accepted, refused, Verdict, fine, _andThen_, countsWithin, counts, meshTables, meshValues, meshVerdict}
@@ -71,7 +72,7 @@ module _ (bs : List ℕ) (e : meshRecordFound bs ≡ fine) where
   limits =
       let n = both-fine _ _ (both-fine _ _ (both-fine _ _ e .0) .1) in
       let c = both-true (leb 1 (cellsIn bs)) (leb (cellsIn bs) runCells) (need-fine 1 0 _ (n .0)) in
-      record { some-cells = leb-le _ _ (c .0); few-cells = leb-le _ _ (c .1); few-faces = leb-le _ _ (need-fine 1 1 _ (n .1)) }
+      record { some-cells = leb-true _ _ (c .0); few-cells = leb-true _ _ (c .1); few-faces = leb-true _ _ (need-fine 1 1 _ (n .1)) }
 
   counts-pass : countsWithin maxCells maxFaces (cellsIn bs) (facesIn bs) ≡ fine
   unfolding countsWithin _andThen_

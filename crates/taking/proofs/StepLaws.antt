@@ -3,11 +3,11 @@ use Prim.Native.Nat.{ℕ, _^_, _≤_, _<_}
 use mathlib.Core.Path.{_≡_, sym, ap, _∙_}
 use mathlib.Core.List.{List}
 use native.Mathlib.Omega.{arith}
+use borrow.Author.Tests.{leb-true}
 use lib.IntN.{ℤ, pos}
 use lib.ListN.{length, take, length-replicate}
 use Rattle.lists.specs.Table.{table, over}
 use Rattle.lists.specs.Fold.{sum}
-use Rattle.lists.proofs.Tests.{leb-le}
 use Rattle.lists.proofs.Tables.{length-table, length-over, getD-over}
 use Rattle.lists.proofs.Sums.{sum-cong}
 use Rattle.model.specs.Mesh.{Mesh, total, runCells, runFaces}
@@ -19,8 +19,9 @@ use Rattle.model.specs.declared.Answer.{Answer}
 use Rattle.model.specs.declared.Answer.the-variants.{Done, Refused}
 use Rattle.model.specs.declared.Refusal.{Refusal}
 use Rattle.model.proofs.Verdicts.{both-fine, past, out, refused-of, accepted-of, need-fine}
-use Rattle.model.proofs.Accepted.{Ready, ready, passed, call-lent}
+use Rattle.model.proofs.Accepted.{ready, passed, call-lent}
 use Rattle.model.proofs.Sizes.{next-most, total-most}
+use Rattle.model.specs.Accepted.{Ready}
 use Rattle.transport.specs.Promise.{stepSaid, StepPromise}
 use Rattle.transport.specs.declared.StepAnswer.{StepAnswer}
 use Rattle.transport.specs.declared.StepAnswer.the-variants as step-answer
@@ -127,7 +128,7 @@ module _ (M : Mesh) (masses : List ℕ) {bs : List ℕ} {fluxes : List ℤ} {out
 
     few : M .faces ≤ runFaces
     unfolding stepRead stepBodyVerdict
-    few = leb-le _ _ (need-fine 2 7 _ (both-fine _ _ (both-fine _ _ (both-fine _ _ step-read .1) .0) .1))
+    few = leb-true _ _ (need-fine 2 7 _ (both-fine _ _ (both-fine _ _ (both-fine _ _ step-read .1) .0) .1))
 
     pub fluxes-part : PartRead (M .faces) (fluxesIn bs (M .faces)) fluxes′
     unfolding fluxesIn

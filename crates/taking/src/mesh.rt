@@ -32,7 +32,7 @@ fn keep(
         (now (volumes .entry)) (now (firsts .entry)) (now (seconds .entry)) (now (shares .entry)) (now (reaches .entry)) r
         (now (volumes .exit)) (now (firsts .exit)) (now (seconds .exit)) (now (shares .exit)) (now (reaches .exit)) ⌝ }
 {
-    let lent = checks::lengths::mesh_lent(cells, faces, volumes, firsts, seconds, shares, reaches);
+    let lent = lent::mesh_lent(cells, faces, volumes, firsts, seconds, shares, reaches);
     let judged = checks::check_mesh(
         cells,
         faces,
