@@ -1,12 +1,12 @@
 -- Document 01, "The board and the run", the channel session: its bytes, and what a run prints of them. Each record, each answer and each
 -- field is computed from the definitions; the laws before them put the parts together as `printed` does.
-use Prim.Native.Nat.{ℕ, suc, _+_, _*_, _≤_}
+use Prim.Native.Nat.{ℕ, suc, _+_, _≤_}
 use mathlib.Core.Path.{_≡_, refl, ap, _∙_}
 use mathlib.Core.Bool.{cond}
 use mathlib.Core.List.{List, [], _∷_, _++_}
 use lib.IntN.{ℤ, pos, negsuc}
 use native.Mathlib.Omega.{arith}
-use lib.ListN.{length, drop, length-append, length-drop}
+use lib.ListN.{length, drop, length-append, length-drop, length-replicate}
 use lib.Seq.{drop-append-seam}
 use Rattle.lists.specs.Fold.{sum, least, greatest}
 use Rattle.lists.specs.Table.{table, over}
@@ -14,7 +14,7 @@ use Rattle.lists.proofs.Tables.{length-table}
 use Rattle.model.specs.Mesh.{Mesh, runCells, runFaces, entering, leaving, incoming, outgoing, updated, total}
 use Rattle.model.specs.Step.{StepInput, portion, receiver, giver, limitedBy, concentration, beyond, upwind, downwind, carried, low, upwindShare, correction, adjacent, lo, hi, maxGain}
 use Rattle.model.specs.Step.{maxLoss, limited, moved, next, inMass, outMass}
-use Rattle.model.specs.Causes.{Outcome, accepted, Verdict, fine, Call, inputOf, _andThen_, need, each, countsWithin, counts, meshTables, volumeGood, endsGood, spacingGood, meshValues}
+use Rattle.model.specs.Causes.{Outcome, accepted, Verdict, fine, Call, inputOf, workEntries, _andThen_, need, each, countsWithin, counts, meshTables, volumeGood, endsGood, spacingGood, meshValues}
 use Rattle.model.specs.Causes.{fieldTable, saltGood, fieldValues, meshFieldVerdict, stepTables, outsideGood, fluxGood, balanceGood, outflowGood, stepValues, verdict}
 use Rattle.model.proofs.Figures.{channel}
 use Rattle.bits.specs.Field.{bitAt, bitsAt}
@@ -25,7 +25,7 @@ use Rattle.records.specs.Reading.{meshHeadVerdict, fieldHeadVerdict, stepHeadVe
 use Rattle.records.specs.Reading.{stepRead}
 use Rattle.records.specs.declared.Counts.{Counts}
 use Rattle.board.specs.Board.{entryOf, comesBefore, insertInOrder, inOrder, entryAt, before, listed}
-use Rattle.taking.specs.Taking.{meshRecordFound, meshJudged, fieldJudged, stepJudged, stepIn, ownTables, printedOf, massesAfter}
+use Rattle.taking.specs.Taking.{meshRecordFound, meshJudged, fieldJudged, stepJudged, stepIn, ownTables, blank, printedOf, massesAfter}
 use Rattle.taking.specs.declared.Printed.{Printed}
 use Rattle.text.specs.Digits.{digits}
 use Rattle.text.specs.Lines.{word, mark}
@@ -241,9 +241,13 @@ mesh-tables =
       table-long runFaces (channel .reaches) (omega arith),
     )
 
+blank-long : {A : Type 0} (n : ℕ) (x : A) → length (blank n x) ≡ n
+unfolding blank
+blank-long n x = length-replicate n x
+
 step-tables : (field : List ℕ) → stepTables M field call ≡ fine
 unfolding stepTables need _andThen_
-step-tables field = rw (length-table {A = ℕ} runCells (λ c. 0), length-table {A = ℤ} runFaces (λ f. pos 0), length-table {A = ℕ} (4 * runCells + runFaces) (λ i. 0))
+step-tables field = rw (blank-long {A = ℕ} runCells 0, blank-long {A = ℤ} runFaces (pos 0), blank-long {A = ℕ} (workEntries runCells runFaces) 0)
 
 counts-fine : counts M ≡ fine
 unfolding everything
