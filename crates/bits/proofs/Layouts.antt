@@ -33,6 +33,15 @@ pub length-packed : (fs : List Field) → length (packed fs) ≡ bytesFor (width
 unfolding packed
 length-packed fs = length-table _ _
 
+-- whole bytes hold the bits, and 7 more at most
+pub bytes-hold : (n : ℕ) → n ≤ 8 * bytesFor n
+unfolding bytesFor
+bytes-hold n = omega arith
+
+pub bytes-most : (n : ℕ) → 8 * bytesFor n ≤ n + 7
+unfolding bytesFor
+bytes-most n = omega arith
+
 pub width-append : (a b : List Field) → widthOf (a ++ b) ≡ widthOf a + widthOf b
 unfolding widthOf
 width-append [] b = sym (zero-add (widthOf b))
@@ -255,10 +264,6 @@ read-packed fs {p} {q} {w} {v} s e l =
     (λ i m. packed-bit fs (widthOf (s .ahead) + i) ∙ ap (λ (t : List Field). getD (bitsOf t) (widthOf (s .ahead) + i) 0) (s .whole) ∙ field-bit (s .ahead) (s .rest) w v i m)
     ∙ mod-eq-of-lt l)
 
--- the same, with the fields ahead and after written out, and for row i of rows between a head and a tail
+-- the same, with the fields ahead and after written out
 pub read-field : (pre post : List Field) (w v : ℕ) → v < 2 ^ w → bitsAt (packed (pre ++ field w v ∷ post)) (widthOf pre) w ≡ v
 read-field pre post w v l = read-packed (pre ++ field w v ∷ post) (record { ahead = pre; rest = post; whole = refl; place = refl }) refl l
-
-pub read-row : (head tail : List Field) (n : ℕ) (g : ℕ → List Field) (i : ℕ) {p w v : ℕ} → i < n → Stands (g i) p w v → v < 2 ^ w
-    → bitsAt (packed (head ++ (rows n g ++ tail))) (widthOf head + (widthOf (rows i g) + p)) w ≡ v
-read-row head tail n g i l s b = read-packed _ (stands-right head (stands-left tail (stands-row n g i l s))) refl b

@@ -18,10 +18,6 @@ pub data ReadFrom (bs : List ℕ) : ℕ → List Field → Type 0 where
   read-none : {at : ℕ} → ReadFrom bs at []
   read-more : {at : ℕ} {f : Field} {fs : List Field} → f .value ≡ bitsAt bs at (f .width) → ReadFrom bs (at + f .width) fs → ReadFrom bs at (f ∷ fs)
 
--- a field read at p, where p is the place that it is due at
-pub read-more-at : (bs : List ℕ) {at w v : ℕ} {fs : List Field} (p : ℕ) → p ≡ at → v ≡ bitsAt bs p w → ReadFrom bs (at + w) fs → ReadFrom bs at (field w v ∷ fs)
-read-more-at bs p e d r = read-more (rw e at d) r
-
 pub read-append : {bs : List ℕ} {at : ℕ} {a : List Field} (b : List Field) → ReadFrom bs at a → ReadFrom bs (at + widthOf a) b → ReadFrom bs at (a ++ b)
 unfolding widthOf
 read-append b (read-none {at = at}) q = rw (add-zero at) at q

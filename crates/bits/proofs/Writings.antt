@@ -10,10 +10,10 @@ use lib.Seq.{getD-append-add, getD-drop, append-snoc}
 use Rattle.lists.specs.Table.{over}
 use Rattle.bits.specs.Field.{bitAt}
 use Rattle.bits.specs.Put.{Put}
-use Rattle.bits.specs.Layout.{Field, field, bitsOf, widthOf, bytesFor, packed, rows}
+use Rattle.bits.specs.Layout.{Field, field, bitsOf, widthOf, bytesFor, packed}
 use Rattle.bits.proofs.Fields.{bits-bit}
 use Rattle.bits.proofs.Puts.{same-bits}
-use Rattle.bits.proofs.Layouts.{width-append, rows-next, length-bits, length-packed, bits-append, field-bit, append-lt, packed-lt, packed-bit, packed-pad}
+use Rattle.bits.proofs.Layouts.{width-append, length-bits, length-packed, bits-append, field-bit, append-lt, packed-lt, packed-bit, packed-pad}
 
 -- out is old with the bits of fs over its front
 pub record Begun (old : List ℕ) (fs : List Field) (out : List ℕ) : Type 0 where
@@ -57,20 +57,11 @@ pub data Puts : List ℕ → ℕ → List Field → List ℕ → Type 0 where
   puts-none : {bs : List ℕ} {p : ℕ} → Puts bs p [] bs
   puts-more : {bs mid out : List ℕ} {p : ℕ} {f : Field} {fs : List Field} → Put bs p (f .width) (f .value) mid → Puts mid (p + f .width) fs out → Puts bs p (f ∷ fs) out
 
--- a field put at q, where q is the place that it is due at
-pub puts-more-at : {bs mid out : List ℕ} {p q w v : ℕ} {fs : List Field} → q ≡ p → Put bs q w v mid → Puts mid (p + w) fs out → Puts bs p (field w v ∷ fs) out
-puts-more-at {bs = bs} {mid = mid} {w = w} {v = v} e h r = puts-more (rw e at h) r
-
 pub begun-fields : {old mid out : List ℕ} (fs gs : List Field) {at : ℕ} → at ≡ widthOf fs → Begun old fs mid → Puts mid at gs out → Begun old (fs ++ gs) out
 unfolding widthOf
 begun-fields fs gs e b puts-none = rw (append-nil fs) b
 begun-fields fs gs e b (puts-more {f = f} {fs = rest} h r) =
     rw (append-snoc fs f rest) at (begun-fields (fs ++ f ∷ []) rest (omega (arith, width-append fs (f ∷ []))) (begun-field fs e b h) r)
-
--- the next row
-pub begun-row : {old mid out : List ℕ} (head : List Field) (n : ℕ) (g : ℕ → List Field) {at : ℕ} → at ≡ widthOf (head ++ rows n g) → Begun old (head ++ rows n g) mid → Puts mid at (g n) out
-    → Begun old (head ++ rows (n + 1) g) out
-begun-row head n g e b h = rw (rows-next head n g) at (begun-fields (head ++ rows n g) (g n) e b h)
 
 -- a bit of a list over the front of another, and one past it
 bit-front : (xs ys : List ℕ) (i : ℕ) → i < 8 * length xs → bitAt (xs ++ ys) i ≡ bitAt xs i
