@@ -27,14 +27,15 @@ body-is h bs = take-all (length bs - h) (drop h bs) (omega (arith, length-drop h
 pub body-length : (h : ℕ) (bs : List ℕ) → length (bodyOf h bs) ≡ length bs - h
 body-length h bs = ap length (body-is h bs) ∙ length-drop h bs
 
--- a column of the body is one of the record, with the head before it
+-- a field of the body is one of the record, with the head before it, and so is a column
+pub body-value : (h : ℕ) (bs : List ℕ) (head : Section) (S : List Section) (k j i : ℕ) → 8 * h ≡ sectionBits head → valueIn (bodyOf h bs) S k j i ≡ valueIn bs (head ∷ S) (suc k) j i
+body-value h bs head S k j i e =
+    let p : 8 * h + place S k j i ≡ place (head ∷ S) (suc k) j i = omega arith in
+    rw (body-is h bs) (bits-drop h bs (place S k j i) (width S k j) ∙ ap (λ (q : ℕ). bitsAt bs q (width S k j)) p)
+
 pub body-column : (h : ℕ) (bs : List ℕ) (head : Section) (S : List Section) (k j : ℕ) → 8 * h ≡ sectionBits head → columnIn (bodyOf h bs) S k j ≡ columnIn bs (head ∷ S) (suc k) j
-body-column h bs head S k j e = table-cong {A = ℕ} 0 (rowsOf (sectionIn S k)) (entryIn (bodyOf h bs) S k j) (entryIn bs (head ∷ S) (suc k) j) (λ i l. ap (λ (x : ℕ). cond (hasRow (sectionIn S k) i) x 0) (value i))
-  where
-    value : (i : ℕ) → valueIn (bodyOf h bs) S k j i ≡ valueIn bs (head ∷ S) (suc k) j i
-    value i =
-        let p : 8 * h + place S k j i ≡ place (head ∷ S) (suc k) j i = omega arith in
-        rw (body-is h bs) (bits-drop h bs (place S k j i) (width S k j) ∙ ap (λ (q : ℕ). bitsAt bs q (width S k j)) p)
+body-column h bs head S k j e =
+    table-cong {A = ℕ} 0 (rowsOf (sectionIn S k)) (entryIn (bodyOf h bs) S k j) (entryIn bs (head ∷ S) (suc k) j) (λ i l. ap (λ (x : ℕ). cond (hasRow (sectionIn S k) i) x 0) (body-value h bs head S k j i e))
 
 entry-le : (ws : List ℕ) (j : ℕ) → getD ws j 0 ≤ rowBits ws
 entry-le [] j = omega arith
