@@ -21,14 +21,15 @@ use Rattle.transport.specs.Promise.{stepSaid}
 use Rattle.transport.specs.declared.StepAnswer.{StepAnswer}
 use Rattle.transport.specs.declared.StepAnswer.the-variants as step
 use Rattle.transport.specs.declared.Crossing.{Crossing}
-use Rattle.records.specs.Reading.{cellsIn, facesIn, volumesIn, firstsIn, secondsIn, sharesIn, reachesIn, countsIn, meshIn, massesIn, fluxesIn, outsidesIn, meshHeadVerdict, meshBodyVerdict, meshRead, fieldRead, stepRead}
-use Rattle.records.specs.Writing.{FieldWriting}
-use Rattle.records.specs.Answers.{meshSaid, MeshReading, FieldReading, StepReading}
-use Rattle.records.specs.declared.MeshAnswer.{MeshAnswer}
-use Rattle.records.specs.declared.MeshAnswer.the-variants as mesh-answer
-use Rattle.records.specs.declared.Counts.{Counts}
-use Rattle.records.specs.declared.WriteAnswer.{WriteAnswer}
-use Rattle.records.specs.declared.WriteAnswer.the-variants as write
+use Rattle.heads.specs.Heads.{cellsIn, facesIn, meshHeadVerdict}
+use Rattle.reading.specs.Reading.{volumesIn, firstsIn, secondsIn, sharesIn, reachesIn, countsIn, meshIn, massesIn, fluxesIn, outsidesIn, meshBodyVerdict, meshRead, fieldRead, stepRead}
+use Rattle.writing.specs.Writing.{FieldWriting}
+use Rattle.reading.specs.Answers.{meshSaid, MeshReading, FieldReading, StepReading}
+use Rattle.reading.specs.declared.MeshAnswer.{MeshAnswer}
+use Rattle.reading.specs.declared.MeshAnswer.the-variants as mesh-answer
+use Rattle.reading.specs.declared.Counts.{Counts}
+use Rattle.writing.specs.declared.WriteAnswer.{WriteAnswer}
+use Rattle.writing.specs.declared.WriteAnswer.the-variants as write
 use Rattle.lagoon.specs.Host.{meshTested, fieldTested, stepTested, hostVerdict, hostBytes}
 use Rattle.lagoon.specs.Inner.{Comes, onWater, nextOf, WaterComes, onStep, nextBy, StepComes, onField, FieldComes, onMesh, MeshComes, HostComes, MeshScratch, WaterScratch, StepLent, MeshRead, MeshFine, FieldFine}
 use Rattle.lagoon.proofs.Stages.{comes-out, comes-past, refused-of, accepted-of, part-read, water-refused, nexts-are, written, no-room, values-left, salt-left}

@@ -10,9 +10,9 @@ use Rattle.model.specs.Step.{next}
 use Rattle.model.specs.Causes.{Verdict, fine, _andThen_, taken, workLength, inputOf, meshVerdict, meshValues, fieldVerdict, fieldValues, stepValues}
 use Rattle.model.specs.Answers.{said}
 use Rattle.model.specs.declared.Answer.{Answer}
-use Rattle.records.specs.Layouts.{fieldRecord, fieldLength}
-use Rattle.records.specs.Reading.{massesIn, fluxesIn, outsidesIn, fieldRead, stepRead}
-use Rattle.records.specs.Writing.{waterOf, bytesLong}
+use Rattle.heads.specs.Layouts.{fieldRecord, fieldLength}
+use Rattle.reading.specs.Reading.{massesIn, fluxesIn, outsidesIn, fieldRead, stepRead}
+use Rattle.writing.specs.Writing.{waterOf, bytesLong}
 use Rattle.lagoon.specs.Host.{hostVerdict, hostBytes}
 
 -- the bytes after a call that comes to v and, where it is accepted, leaves the masses m

@@ -2,8 +2,8 @@
 use model::Answer;
 use model::RUN_CELLS;
 use model::RUN_FACES;
-use records::MeshAnswer;
-use records::WriteAnswer;
+use reading::MeshAnswer;
+use writing::WriteAnswer;
 use transport::StepAnswer;
 ghost use mathlib.Core.Path.{_≡_};
 ghost use lib.ListN.{length};
@@ -49,7 +49,7 @@ fn stepped(
     if let StepAnswer::Refused(refusal) = a {
         return Answer::Refused(refusal);
     }
-    let b = records::write_field(
+    let b = writing::write_field(
         cells,
         faces,
         volumes,
@@ -88,7 +88,7 @@ fn on_step(
     requires { ⌜ WaterScratch (now fluxes) (now outsides) (now nexts) (now moveds) (now work) ⌝ }
     ensures { λ r. ⌜ StepComes (meshOf cells faces (now (volumes .entry)) (now (firsts .entry)) (now (seconds .entry)) (now (shares .entry)) (now (reaches .entry))) (now (masses .entry)) (now (step .entry)) (now (bytes .entry)) r (now (bytes .exit)) ⌝ }
 {
-    let a = records::read_step(faces, seconds, step, fluxes, outsides);
+    let a = reading::read_step(faces, seconds, step, fluxes, outsides);
     if let Answer::Refused(refusal) = a {
         return Answer::Refused(refusal);
     }
@@ -133,7 +133,7 @@ fn on_field(
     requires { ⌜ WaterScratch (now fluxes) (now outsides) (now nexts) (now moveds) (now work) ⌝ }
     ensures { λ r. ⌜ FieldComes (meshOf cells faces (now (volumes .entry)) (now (firsts .entry)) (now (seconds .entry)) (now (shares .entry)) (now (reaches .entry))) (now (field .entry)) (now (step .entry)) (now (bytes .entry)) r (now (bytes .exit)) ⌝ }
 {
-    let a = records::read_field(cells, field, masses);
+    let a = reading::read_field(cells, field, masses);
     if let Answer::Refused(refusal) = a {
         return Answer::Refused(refusal);
     }
@@ -239,7 +239,7 @@ pub fn on_records(
     requires { ⌜ WaterScratch (now fluxes) (now outsides) (now nexts) (now moveds) (now work) ⌝ }
     ensures { λ r. ⌜ HostComes (now (mesh .entry)) (now (field .entry)) (now (step .entry)) (now (bytes .entry)) r (now (bytes .exit)) ⌝ }
 {
-    let a = records::read_mesh(
+    let a = reading::read_mesh(
         RUN_CELLS,
         RUN_FACES,
         mesh,

@@ -31,7 +31,7 @@ fn mesh() {
     let none = [0u64; MAX_FACES];
     let mut bytes = [170u8; MESH];
     show::word(b"largest mesh");
-    show::written(records::write_mesh(
+    show::written(writing::write_mesh(
         MAX_CELLS,
         MAX_FACES,
         &volumes,
@@ -51,7 +51,7 @@ fn read_mesh(bytes: &[u8], volumes: &[u64], firsts: &[u64], seconds: &[u64], non
     let mut seconds_read = [7u64; MAX_FACES];
     let mut shares_read = [7u64; MAX_FACES];
     let mut reaches_read = [7u64; MAX_FACES];
-    show::mesh(records::read_mesh(
+    show::mesh(reading::read_mesh(
         MAX_CELLS,
         MAX_FACES,
         bytes,
@@ -75,7 +75,7 @@ fn field() {
     let masses = [FULL; MAX_CELLS];
     let mut bytes = [170u8; FIELD];
     show::word(b"largest field");
-    show::written(records::write_field(
+    show::written(writing::write_field(
         MAX_CELLS,
         0,
         &volumes,
@@ -88,7 +88,7 @@ fn field() {
     ));
     show::digest(&bytes);
     let mut masses_read = [7u64; MAX_CELLS];
-    show::verdict(records::read_field(MAX_CELLS, &bytes, &mut masses_read));
+    show::verdict(reading::read_field(MAX_CELLS, &bytes, &mut masses_read));
     show::differing(b"; differing: masses", &masses, &masses_read);
     show::word(b"\n");
 }
@@ -103,7 +103,7 @@ fn step() {
     let outsides = [MAX_CONCENTRATION; MAX_FACES];
     let mut bytes = [170u8; STEP];
     show::word(b"largest step");
-    show::written(records::write_step(
+    show::written(writing::write_step(
         1,
         MAX_FACES,
         &volumes,
@@ -122,7 +122,7 @@ fn step() {
 fn read_step(bytes: &[u8], seconds: &[u64], fluxes: &[i64], outsides: &[u64]) {
     let mut fluxes_read = [7i64; MAX_FACES];
     let mut outsides_read = [7u64; MAX_FACES];
-    show::verdict(records::read_step(
+    show::verdict(reading::read_step(
         MAX_FACES,
         seconds,
         bytes,

@@ -2,8 +2,8 @@
 use libc::STDOUT_FILENO;
 use model::Answer;
 use model::Refusal;
-use records::MeshAnswer;
-use records::WriteAnswer;
+use reading::MeshAnswer;
+use writing::WriteAnswer;
 ghost use Prim.Native.Nat.{_≤_};
 
 // A prime, so that each byte and its place count in a digest.

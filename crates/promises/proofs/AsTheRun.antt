@@ -14,8 +14,9 @@ use Rattle.model.specs.Causes.{accepted, fine, _andThen_, each, long, Call, wor
 use Rattle.model.specs.Calls.{massIn}
 use Rattle.model.proofs.Verdicts.{both-fine, andThen-assoc, need-fine, need-met}
 use Rattle.checks.specs.Total.{cellsOnly}
-use Rattle.records.specs.Reading.{countsIn, cellsIn, facesIn, volumesIn, firstsIn, secondsIn, sharesIn, reachesIn, meshIn, massesIn, fluxesIn, outsidesIn, meshHeadVerdict, stepRead}
-use Rattle.records.specs.Writing.{waterOf}
+use Rattle.heads.specs.Heads.{cellsIn, facesIn, meshHeadVerdict}
+use Rattle.reading.specs.Reading.{countsIn, volumesIn, firstsIn, secondsIn, sharesIn, reachesIn, meshIn, massesIn, fluxesIn, outsidesIn, stepRead}
+use Rattle.writing.specs.Writing.{waterOf}
 use Rattle.lagoon.specs.Host.{meshTested, fieldTested, stepTested}
 use Rattle.session.specs.Taking.{meshTaken, fieldTaken, printedOf, stepTo, stepReadIn, callIn}
 

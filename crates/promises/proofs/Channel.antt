@@ -13,8 +13,9 @@ use Rattle.model.specs.Calls.{stepOnTables, nextTable, afterAll, totalIn, total
 use Rattle.model.proofs.Figures.{channel}
 use Rattle.bits.specs.Field.{bitAt, bitsAt}
 use Rattle.bits.specs.Layout.{spelled, bitsOf, widthOf, bytesFor, octet, packed, rows}
-use Rattle.records.specs.Layouts.{meshRecord, fieldRecord, rimFaces, meshLength, fieldLength, stepLength}
-use Rattle.records.specs.Reading.{volumesIn, firstsIn, secondsIn, sharesIn, reachesIn, massesIn, fluxesIn, outsidesIn, zeroBitGood, minusZero, meshBitGood, stepBitGood, meshHeadVerdict, fieldHeadVerdict, stepHeadVerdict, meshBodyVerdict, fieldBodyVerdict, stepBodyVerdict, fieldRead, stepRead}
+use Rattle.heads.specs.Layouts.{meshRecord, fieldRecord, rimFaces, meshLength, fieldLength, stepLength}
+use Rattle.heads.specs.Heads.{meshHeadVerdict, fieldHeadVerdict, stepHeadVerdict}
+use Rattle.reading.specs.Reading.{volumesIn, firstsIn, secondsIn, sharesIn, reachesIn, massesIn, fluxesIn, outsidesIn, zeroBitGood, minusZero, meshBitGood, stepBitGood, meshBodyVerdict, fieldBodyVerdict, stepBodyVerdict, fieldRead, stepRead}
 use Rattle.lagoon.specs.Host.{meshTested, fieldTested, stepTested, hostVerdict, hostBytes}
 use Rattle.promises.specs.Demand3.{StepCall, onTables, onRecords, stepOnRecords, comes}
 

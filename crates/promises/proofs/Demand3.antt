@@ -30,7 +30,7 @@ use Rattle.model.proofs.Verdicts.{both-fine}
 use Rattle.model.proofs.Accepted.{mesh-fit}
 use Rattle.model.proofs.Lists.{Fair, list-law, tables-fair}
 use Rattle.model.proofs.Figures.{Figures, figures}
-use Rattle.records.specs.Layouts.{meshRecord, fieldRecord}
+use Rattle.heads.specs.Layouts.{meshRecord, fieldRecord}
 use Rattle.lagoon.specs.Host.{hostVerdict, hostBytes}
 use Rattle.promises.specs.Demand3.{StepCall, onTables, onRecords, lentMasses, stepOnRecords, comes, Kept, Unchanged, EachRefused, Demand3}
 use Rattle.promises.proofs.Counted.{fair-other}

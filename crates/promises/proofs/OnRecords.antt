@@ -19,12 +19,12 @@ use Rattle.model.proofs.Verdicts.{both-fine, need-met}
 use Rattle.model.proofs.Accepted.{Ready, ready-of, counted, mesh-fit}
 use Rattle.model.proofs.Lists.{Fair, step-fair}
 use Rattle.bits.specs.Field.{bitsAt}
-use Rattle.records.specs.Layouts.{meshRecord, fieldRecord, fieldLength, outsideBits, rimFaces, isRim}
-use Rattle.records.specs.Reading.{meshIn, massesIn, fluxesIn, outsidesIn, outsidePlace}
-use Rattle.records.specs.Writing.{waterOf}
+use Rattle.heads.specs.Layouts.{meshRecord, fieldRecord, fieldLength, outsideBits, rimFaces, isRim}
+use Rattle.reading.specs.Reading.{meshIn, massesIn, fluxesIn, outsidesIn, outsidePlace}
+use Rattle.writing.specs.Writing.{waterOf}
 use Rattle.records.proofs.Packed.{mesh-cells, mesh-faces, field-record-length}
 use Rattle.records.proofs.WidthLaws.{spelled, masses-fit}
-use Rattle.records.proofs.RoundTrip.{volumes-read-back, firsts-read-back, seconds-read-back, shares-read-back, reaches-read-back, masses-read-back}
+use Rattle.writing.proofs.RoundTrip.{volumes-read-back, firsts-read-back, seconds-read-back, shares-read-back, reaches-read-back, masses-read-back}
 use Rattle.lagoon.specs.Host.{meshTested, fieldTested, stepTested, hostVerdict, hostBytes}
 use Rattle.promises.specs.Demand3.{onRecords, waterIn, nextRecord, stepOnRecords, Kept}
 use Rattle.promises.proofs.Counted.{cut, cutField, in-same, out-same, fair-whole}

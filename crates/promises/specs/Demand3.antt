@@ -8,9 +8,9 @@ use Rattle.model.specs.Mesh.{Mesh}
 use Rattle.model.specs.Step.{StepInput, inMass, outMass}
 use Rattle.model.specs.Causes.{Outcome, accepted, refused, fine, _andThen_, Call, inputOf, meshVerdict, fieldVerdict}
 use Rattle.model.specs.Calls.{massIn, Bounded, Left, fieldAfter, nextTable, movedTable, workTable, stepOnTables, Claim}
-use Rattle.records.specs.Layouts.{meshRecord, fieldRecord, fieldLength}
-use Rattle.records.specs.Reading.{massesIn, fluxesIn, outsidesIn}
-use Rattle.records.specs.Writing.{waterOf}
+use Rattle.heads.specs.Layouts.{meshRecord, fieldRecord, fieldLength}
+use Rattle.reading.specs.Reading.{massesIn, fluxesIn, outsidesIn}
+use Rattle.writing.specs.Writing.{waterOf}
 use Rattle.lagoon.specs.Host.{hostVerdict, hostBytes}
 
 -- A step call of a list, with what is lent to it besides mesh and field. "The other tables may be filled anew each time, from records

@@ -30,7 +30,7 @@ pub fn write_example_mesh() {
     let none = [0u64; 0];
     let mut bytes = [170u8; 8];
     show::word(b"example mesh");
-    show::written(records::write_mesh(1, 0, &volumes, &none, &none, &none, &none, &mut bytes));
+    show::written(writing::write_mesh(1, 0, &volumes, &none, &none, &none, &none, &mut bytes));
     show::octets(b":", &bytes);
     show::word(b"\n");
 }
@@ -41,7 +41,7 @@ pub fn write_example_field() {
     let masses = [99u64];
     let mut bytes = [170u8; 8];
     show::word(b"example field");
-    show::written(records::write_field(
+    show::written(writing::write_field(
         1,
         0,
         &volumes,
@@ -67,7 +67,7 @@ pub fn read_example() {
     let mut reaches = [7u64; 1];
     let mut masses = [7u64; 2];
     show::word(b"example mesh");
-    show::mesh(records::read_mesh(
+    show::mesh(reading::read_mesh(
         4095,
         8190,
         &mesh,
@@ -80,7 +80,7 @@ pub fn read_example() {
     show::numbers(b": volumes", &volumes);
     show::numbers(b"; firsts", &firsts);
     show::word(b"\nexample field");
-    show::verdict(records::read_field(1, &field, &mut masses));
+    show::verdict(reading::read_field(1, &field, &mut masses));
     show::numbers(b": masses", &masses);
     show::word(b"\n");
 }
@@ -93,7 +93,7 @@ pub fn read_mesh_record(name: &[u8], most_cells: usize, most_faces: usize, bytes
     let mut shares = [7u64; 4];
     let mut reaches = [7u64; 4];
     show::word(name);
-    show::mesh(records::read_mesh(
+    show::mesh(reading::read_mesh(
         most_cells,
         most_faces,
         bytes,
@@ -153,7 +153,7 @@ pub fn read_mesh(name: &[u8], most_cells: usize, most_faces: usize, at: usize, v
 pub fn read_field_record(name: &[u8], cells: usize, bytes: &[u8]) {
     let mut masses = [7u64; 4];
     show::word(name);
-    show::verdict(records::read_field(cells, bytes, &mut masses));
+    show::verdict(reading::read_field(cells, bytes, &mut masses));
     show::numbers(b": masses", &masses);
     show::word(b"\n");
 }
@@ -170,7 +170,7 @@ pub fn read_step_record(name: &[u8], faces: usize, bytes: &[u8]) {
     let mut fluxes = [-7i64; 5];
     let mut outsides = [7u64; 5];
     show::word(name);
-    show::verdict(records::read_step(faces, &seconds, bytes, &mut fluxes, &mut outsides));
+    show::verdict(reading::read_step(faces, &seconds, bytes, &mut fluxes, &mut outsides));
     show::amounts(b": fluxes", &fluxes);
     show::numbers(b"; outsides", &outsides);
     show::word(b"\n");
@@ -208,7 +208,7 @@ pub fn mesh_head(name: &[u8], bytes: &[u8]) {
     let mut shares = [7u64];
     let mut reaches = [7u64];
     show::word(name);
-    show::mesh(records::read_mesh(
+    show::mesh(reading::read_mesh(
         65535,
         65535,
         bytes,
@@ -227,7 +227,7 @@ pub fn step_head(name: &[u8], faces: usize, bytes: &[u8]) {
     let mut fluxes = [-7i64];
     let mut outsides = [7u64];
     show::word(name);
-    show::verdict(records::read_step(faces, &seconds, bytes, &mut fluxes, &mut outsides));
+    show::verdict(reading::read_step(faces, &seconds, bytes, &mut fluxes, &mut outsides));
     show::word(b"\n");
 }
 
@@ -238,7 +238,7 @@ pub fn read_sign(name: &[u8], sign: u8, size: u8) {
     let mut fluxes = [-7i64];
     let mut outsides = [7u64];
     show::word(name);
-    show::verdict(records::read_step(1, &seconds, &bytes, &mut fluxes, &mut outsides));
+    show::verdict(reading::read_step(1, &seconds, &bytes, &mut fluxes, &mut outsides));
     show::amounts(b": fluxes", &fluxes);
     show::numbers(b"; outsides", &outsides);
     show::word(b"\n");
@@ -287,7 +287,7 @@ fn read_short(
         0,
     ];
     show::word(name);
-    show::mesh(records::read_mesh(
+    show::mesh(reading::read_mesh(
         4095,
         8190,
         &bytes,
@@ -379,7 +379,7 @@ fn read_short_step(name: &[u8], seconds: &[u64], fluxes: &mut [i64], outsides: &
         0,
     ];
     show::word(name);
-    show::verdict(records::read_step(4, seconds, &bytes, fluxes, outsides));
+    show::verdict(reading::read_step(4, seconds, &bytes, fluxes, outsides));
     show::word(b"\n");
 }
 
@@ -393,7 +393,7 @@ pub fn read_short_rest() {
     let mut short = [7u64; 3];
     let mut masses = [7u64; 2];
     show::word(b"field, masses short");
-    show::verdict(records::read_field(3, &field, &mut masses));
+    show::verdict(reading::read_field(3, &field, &mut masses));
     show::word(b"\n");
     read_short_step(b"step, seconds short", &three, &mut fluxes, &mut outsides);
     read_short_step(b"step, fluxes short", &seconds, &mut few, &mut outsides);
@@ -418,7 +418,7 @@ fn write_mesh(
     bytes: &mut [u8],
 ) {
     show::word(b": mesh");
-    show::written(records::write_mesh(
+    show::written(writing::write_mesh(
         cells,
         faces,
         volumes,
@@ -443,7 +443,7 @@ fn write_field(
     bytes: &mut [u8],
 ) {
     show::word(b"; field");
-    show::written(records::write_field(
+    show::written(writing::write_field(
         cells,
         faces,
         volumes,
@@ -470,7 +470,7 @@ fn write_step(
     bytes: &mut [u8],
 ) {
     show::word(b"; step");
-    show::written(records::write_step(
+    show::written(writing::write_step(
         cells,
         faces,
         volumes,

@@ -1,8 +1,8 @@
 // The answers of the record calls and the lines that they print.
 use model::Answer;
 use model::Refusal;
-use records::MeshAnswer;
-use records::WriteAnswer;
+use reading::MeshAnswer;
+use writing::WriteAnswer;
 
 pub fn word(text: &[u8]) {
     io::write_all(1, text);

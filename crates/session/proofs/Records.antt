@@ -31,11 +31,12 @@ use Rattle.transport.specs.Promise.{stepSaid, StepPromise}
 use Rattle.transport.specs.declared.StepAnswer.{StepAnswer}
 use Rattle.transport.specs.declared.StepAnswer.the-variants as step-answer
 use Rattle.transport.specs.declared.Crossing.{Crossing}
-use Rattle.records.specs.Reading.{cellsIn, facesIn, volumesIn, firstsIn, secondsIn, sharesIn, reachesIn, countsIn, meshIn, massesIn, fluxesIn, outsidesIn, meshHeadVerdict, meshBodyVerdict, meshRead, fieldBodyVerdict, fieldRead, stepBodyVerdict, stepRead}
-use Rattle.records.specs.Answers.{meshSaid, MeshReading, FieldReading, StepReading}
-use Rattle.records.specs.declared.MeshAnswer.{MeshAnswer}
-use Rattle.records.specs.declared.MeshAnswer.the-variants as mesh-answer
-use Rattle.records.specs.declared.Counts.{Counts}
+use Rattle.heads.specs.Heads.{cellsIn, facesIn, meshHeadVerdict}
+use Rattle.reading.specs.Reading.{volumesIn, firstsIn, secondsIn, sharesIn, reachesIn, countsIn, meshIn, massesIn, fluxesIn, outsidesIn, meshBodyVerdict, meshRead, fieldBodyVerdict, fieldRead, stepBodyVerdict, stepRead}
+use Rattle.reading.specs.Answers.{meshSaid, MeshReading, FieldReading, StepReading}
+use Rattle.reading.specs.declared.MeshAnswer.{MeshAnswer}
+use Rattle.reading.specs.declared.MeshAnswer.the-variants as mesh-answer
+use Rattle.reading.specs.declared.Counts.{Counts}
 use Rattle.session.specs.declared.Printed.{Printed}
 use Rattle.session.specs.declared.StepTaken.{StepTaken}
 use Rattle.session.specs.declared.StepTaken.the-variants as step-taken

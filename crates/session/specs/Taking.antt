@@ -12,10 +12,11 @@ use Rattle.model.specs.Causes.{Outcome, accepted, Verdict, _andThen_, taken, Ca
 use Rattle.model.specs.Calls.{massIn, nextTable, movedTable, workTable}
 use Rattle.checks.specs.Total.{cellsOnly, totalSaid}
 use Rattle.checks.specs.declared.TotalAnswer.{TotalAnswer}
-use Rattle.records.specs.Reading.{volumesIn, firstsIn, secondsIn, sharesIn, reachesIn, countsIn, meshIn, massesIn, fluxesIn, outsidesIn, meshHeadVerdict, meshBodyVerdict, meshRead, fieldRead, stepRead}
-use Rattle.records.specs.Answers.{meshSaid}
-use Rattle.records.specs.declared.Counts.{Counts}
-use Rattle.records.specs.declared.MeshAnswer.{MeshAnswer}
+use Rattle.heads.specs.Heads.{meshHeadVerdict}
+use Rattle.reading.specs.Reading.{volumesIn, firstsIn, secondsIn, sharesIn, reachesIn, countsIn, meshIn, massesIn, fluxesIn, outsidesIn, meshBodyVerdict, meshRead, fieldRead, stepRead}
+use Rattle.reading.specs.Answers.{meshSaid}
+use Rattle.reading.specs.declared.Counts.{Counts}
+use Rattle.reading.specs.declared.MeshAnswer.{MeshAnswer}
 use Rattle.session.specs.Session.{takenSaid}
 use Rattle.session.specs.declared.Printed.{Printed}
 use Rattle.session.specs.declared.StepTaken.{StepTaken}

@@ -10,17 +10,17 @@ use model::Cause;
 use model::RUN_CELLS;
 use model::RUN_FACES;
 use model::Refusal;
-use records::CELL_BITS;
-use records::FACE_BITS;
-use records::LengthAnswer;
-use records::MESH_HEAD;
+use heads::CELL_BITS;
+use heads::FACE_BITS;
+use heads::LengthAnswer;
+use heads::MESH_HEAD;
 pub use taking::take_field;
 pub use taking::take_mesh;
 pub use taking::take_step;
 ghost use mathlib.Core.Path.{_≡_};
 ghost use mathlib.Core.Bool.{not};
 ghost use Prim.Native.Nat.{_+_, _≤_, min};
-ghost use Rattle.records.specs.Answers.{lengthSaid};
+ghost use Rattle.heads.specs.Heads.{lengthSaid};
 ghost use Rattle.session.specs.Session.{recordBytes, Holds, endsRun, stillNeeded, lineOf, goesOn};
 
 // Bytes of the longest record within the run's limits, a mesh of all cells and faces. `rest` holds it to the layout.

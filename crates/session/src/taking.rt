@@ -5,7 +5,7 @@ use checks::TotalAnswer;
 use model::Answer;
 use model::RUN_CELLS;
 use model::RUN_FACES;
-use records::MeshAnswer;
+use reading::MeshAnswer;
 use transport::StepAnswer;
 ghost use mathlib.Core.Path.{_≡_};
 ghost use Prim.Native.Nat.{_≤_};
@@ -26,7 +26,7 @@ pub fn take_mesh(
 ) -> MeshAnswer
     ensures { λ r. ⌜ MeshTaking (now (bytes .entry)) (now (volumes .entry)) (now (firsts .entry)) (now (seconds .entry)) (now (shares .entry)) (now (reaches .entry)) r (now (volumes .exit)) (now (firsts .exit)) (now (seconds .exit)) (now (shares .exit)) (now (reaches .exit)) ⌝ }
 {
-    let answer = records::read_mesh(
+    let answer = reading::read_mesh(
         RUN_CELLS,
         RUN_FACES,
         bytes,
@@ -58,7 +58,7 @@ pub fn take_mesh(
 pub fn take_field(cells: usize, bytes: &[u8], volumes: &[u64], masses: &mut [u64]) -> TotalAnswer
     ensures { λ r. ⌜ FieldTaking cells (now (volumes .entry)) (now (bytes .entry)) (now (masses .entry)) r (now (masses .exit)) ⌝ }
 {
-    let answer = records::read_field(cells, bytes, masses);
+    let answer = reading::read_field(cells, bytes, masses);
     if let Answer::Refused(refusal) = answer {
         return TotalAnswer::Refused(refusal);
     }
@@ -141,7 +141,7 @@ pub fn take_step(
 ) -> StepTaken
     ensures { λ r. ⌜ StepTaking (meshOf cells faces (now (volumes .entry)) (now (firsts .entry)) (now (seconds .entry)) (now (shares .entry)) (now (reaches .entry))) (now (masses .entry)) (now (bytes .entry)) (callOf (now (fluxes .entry)) (now (outsides .entry)) (now (next .entry)) (now (moved .entry)) (now (work .entry))) r (now (masses .exit)) (callOf (now (fluxes .exit)) (now (outsides .exit)) (now (next .exit)) (now (moved .exit)) (now (work .exit))) ⌝ }
 {
-    let read = records::read_step(faces, seconds, bytes, fluxes, outsides);
+    let read = reading::read_step(faces, seconds, bytes, fluxes, outsides);
     if let Answer::Refused(refusal) = read {
         return StepTaken::Refused(refusal);
     }
