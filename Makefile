@@ -1,20 +1,61 @@
-.PHONY: run test bench compare soak accuracy
+.PHONY: help run test lib install uninstall paper bench compare soak accuracy clean
 
-# the channel session of document 01
+PREFIX ?= /usr/local
+VERSION := $(shell cat VERSION)
+TO = $(DESTDIR)$(PREFIX)
+
+help:
+	@echo 'make run        the channel session of document 01: six lines (the first time it proves what it builds, some minutes)'
+	@echo 'make test       the gate: tests, proofs, must-fail edits, programs; its last line is "N passed, M failed"'
+	@echo 'make lib        the C library: target/lib/liblagoon.a and liblagoon.so; the header is include/lagoon.h'
+	@echo 'make install    header, library, pkg-config file, run program and papers to PREFIX=$(PREFIX) (DESTDIR= before it)'
+	@echo 'make uninstall  takes them away again'
+	@echo 'make paper      docs/ARITHMETIC.md as a page to print, in target/paper/'
+	@echo 'make compare    the engine against another program, on fixed cases'
+	@echo 'make soak       the same with fresh cases: SECONDS=600 SEED=17'
+	@echo 'make bench      the engine beside plain C'
+	@echo 'make accuracy   the figures of docs/ACCURACY.md'
+	@echo 'make clean      removes target/'
+
+# the channel session of document 01; what is being proved is told on standard error
 run:
 	@mkdir -p target
-	@rt check run > target/run.log 2>&1 || { tail -n 40 target/run.log >&2; exit 1; }
+	@[ -e target/bin/run ] || echo 'proving the run program, some minutes the first time; target/run.log tells all' >&2
+	@bash -c 'set -o pipefail; rt check run 2>&1 | tee target/run.log | sed -un "/unchanged/d; s/^rt: \(.* proved .*\)/\1/p" >&2' \
+	    || { tail -n 40 target/run.log >&2; exit 1; }
 	@target/bin/run < tests/sessions/channel.in
 
 # the gate: tests, proofs, must-fail edits, programs
 test:
 	.ci/run
 
+lib:
+	@tools/lib.sh
+
+install: lib
+	@[ -e target/bin/run ] || rt check run > target/run.log 2>&1 || { tail -n 40 target/run.log >&2; exit 1; }
+	install -d $(TO)/include $(TO)/lib/pkgconfig $(TO)/bin $(TO)/share/doc/lagoon
+	install -m 644 include/lagoon.h $(TO)/include/
+	install -m 644 target/lib/liblagoon.a $(TO)/lib/
+	install -m 755 target/lib/liblagoon.so $(TO)/lib/
+	install -m 755 target/bin/run $(TO)/bin/lagoon-run
+	install -m 644 README.md CHANGES.md docs/*.md examples/lagoon_records.h $(TO)/share/doc/lagoon/
+	printf 'prefix=%s\nName: lagoon\nDescription: salt transport on a lagoon mesh, in whole numbers\nVersion: %s\nCflags: -I$${prefix}/include\nLibs: -L$${prefix}/lib -llagoon\n' \
+	    '$(PREFIX)' '$(VERSION)' > $(TO)/lib/pkgconfig/lagoon.pc
+
+uninstall:
+	rm -f $(TO)/include/lagoon.h $(TO)/lib/liblagoon.a $(TO)/lib/liblagoon.so $(TO)/bin/lagoon-run $(TO)/lib/pkgconfig/lagoon.pc
+	rm -rf $(TO)/share/doc/lagoon
+
+# the archive's page on A4
+paper:
+	tools/paper.py docs/ARITHMETIC.md -o target/paper
+
 # step, call and run beside plain C, and their growth with the lagoon
 bench:
 	bench/run.py
 
-# the engine against the reference: fixed sessions and calls, and document 01's slips
+# the engine against the reference: fixed cases, and document 01's slips
 compare:
 	tests/compare.sh
 
@@ -28,3 +69,6 @@ soak:
 accuracy:
 	reference/build.sh
 	python3 reference/accuracy.py --call target/compare/call_guarded --fine --svg docs/accuracy.svg
+
+clean:
+	rm -rf target

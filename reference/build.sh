@@ -7,13 +7,10 @@ set -eu
 [ "${1:-}" != --help ] || { sed -n '2,5s/^# \{0,1\}//p' "$0"; exit 0; }
 cd "$(dirname "$0")/.."
 out=target/compare
-library=target/staticlib/liblagoon.a
+library=target/lib/liblagoon.a
 mkdir -p $out
 rt check run >$out/log 2>&1 || { cat $out/log; exit 1; }
-# rt proves a library anew each time that it writes the archive, so one that is newer than all crates is taken as it is
-if [ ! -e $library ] || [ -n "$(find crates crates.txt -newer $library -print -quit)" ]; then
-  rt staticlib lagoon >$out/log 2>&1 || { cat $out/log; exit 1; }
-fi
+tools/lib.sh
 cp target/bin/run $out/run
 driver="gcc -std=c11 -Wall -Wextra -Werror -g -O1 reference/call_driver.c"
 $driver -fsanitize=address,undefined $library -o $out/call_sanitized

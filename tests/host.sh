@@ -1,31 +1,64 @@
 #!/usr/bin/env bash
-# The host's call from C: the example prints document 01's channel session. tests/compare.sh holds the call against the reference.
+# The host's call from C and Python: the header says what the engine has; the examples compile, run and print what is stored; a host in C
+# prints what the run program prints. tests/compare.sh holds the call against the reference.
 set -euo pipefail
 cd "$(dirname "$0")/.."
 
-# the header's limits are the model's
-for limit in CELLS FACES; do
-  number=$(sed -n "s/^pub const RUN_$limit: usize = \([0-9]*\);$/\1/p" crates/model/src/lib.rt)
-  grep -qx "#define LAGOON_MAX_$limit $number" include/lagoon.h || { echo "include/lagoon.h: LAGOON_MAX_$limit is not $number"; exit 1; }
+# numbers that stand in the header and in the engine are the same
+number() { # NAME: a constant of the model
+  sed -n "s/^pub const $1: [a-z0-9]* = \([0-9]*\);$/\1/p" crates/model/src/lib.rt
+}
+says() { # TEXT: a line of the header begins with it
+  grep -qE "^$1([^0-9A-Za-z]|$)" include/lagoon.h || { echo "include/lagoon.h: no line begins with '$1'"; exit 1; }
+}
+says "#define LAGOON_MAX_CELLS $(number RUN_CELLS)"
+says "#define LAGOON_MAX_FACES $(number RUN_FACES)"
+says "#define LAGOON_RIM $(number RIM)"
+for name in VOLUME SHARE REACH CONCENTRATION RIM_FLUX; do says "#define LAGOON_MAX_$name $(number MAX_$name)"; done
+sed -n 's/^number \([A-Za-z]*\) = \([0-9]*\)$/\1 \2/p' crates/model/specs/Answers.antt | while read -r cause n; do
+  says "    LAGOON_$(echo "$cause" | tr a-z A-Z) = $n"
 done
+[ "$(grep -c '^    LAGOON_[A-Z]* = ' include/lagoon.h)" = "$(grep -c '^number .* = ' crates/model/specs/Answers.antt)" ] \
+  || { echo "include/lagoon.h: causes and the model's do not match"; exit 1; }
+says "#define LAGOON_VERSION \"$(cat VERSION)\""
+grep -q "^## $(cat VERSION), " CHANGES.md || { echo "CHANGES.md has no version $(cat VERSION)"; exit 1; }
 
 out=target/host
-strict="-std=c11 -Wall -Wextra -Werror -pedantic -O2 -g"
-mkdir -p "$out"
-reference/build.sh
-lib=target/staticlib/liblagoon.a
+mkdir -p $out
+tools/lib.sh
+lib=target/lib/liblagoon.a
+strict="-Wall -Wextra -Werror -pedantic -O2 -g -Iinclude -Iexamples"
+guarded="-fsanitize=address,undefined -fno-sanitize-recover=all"
 
-gcc $strict -Iinclude examples/host.c "$lib" -o "$out/host"
-"$out/host" | diff examples/host.out -
+# the header alone, as C and as C++
+for standard in c99 c11 c17; do echo '#include "lagoon.h"' | gcc -std=$standard $strict -fsyntax-only -xc -; done
+for standard in c++11 c++20; do echo '#include "lagoon_records.h"' | g++ -std=$standard $strict -fsyntax-only -xc++ -; done
 
-# within the stack that include/lagoon.h names, in KiB
-(ulimit -s 320; "$out/host") | diff examples/host.out -
-
-# the example under the sanitizers, and the library, which is built without them, under valgrind where it is there
-gcc $strict -fsanitize=address,undefined -fno-sanitize-recover=all -Iinclude examples/host.c "$lib" -o "$out/host_checked"
-"$out/host_checked" | diff examples/host.out -
+gcc -std=c11 $strict examples/host.c $lib -o $out/host
+$out/host | diff tests/host.out -
+gcc -std=c11 $strict $guarded examples/host.c $lib -o $out/host_checked
+$out/host_checked | diff tests/host.out -
 if command -v valgrind >/dev/null; then
-  valgrind -q --error-exitcode=1 "$out/host" | diff examples/host.out -
+  valgrind -q --error-exitcode=1 $out/host | diff tests/host.out -
 else
   echo "no valgrind here: the library's own accesses are watched by the guard pages of tests/compare.sh alone"
 fi
+python3 examples/host.py target/lib/liblagoon.so | diff tests/host_py.out -
+
+# a host in C prints the run's lines, and its last field starts the next session
+gcc -std=c11 $strict $guarded examples/session.c $lib -o $out/session
+for input in tests/sessions/*.in; do
+  $out/session $out/last.bin < "$input" 2>$out/budget | cmp - "tests/sessions/$(basename "$input" .in).out"
+done
+$out/session $out/last.bin < tests/sessions/channel.in 2>&1 >/dev/null | grep -qx 'budget: first total 100000 + in 100000 - out 0 = 200000, last total 200000'
+head -c 31 tests/sessions/channel.in > $out/mesh.bin
+cat $out/mesh.bin $out/last.bin | $out/session 2>/dev/null | head -n 1 | grep -qx '0 0 0 200000'
+
+# the stack that the header names is enough, and what the call takes
+gcc -std=c11 $strict tests/stack.c $lib -lpthread -o $out/stack
+taken=$($out/stack)
+asked=$((320 * 1024))
+grep -qF '#define LAGOON_STACK_BYTES (320 * 1024)' include/lagoon.h
+[ "$taken" -lt $((asked - 32768)) ] || { echo "an accepted step takes $taken bytes of stack, the header names $asked"; exit 1; }
+(ulimit -s 320; $out/host) | diff tests/host.out -
+echo "host: examples as stored; an accepted step takes $taken bytes of stack"

@@ -1,5 +1,8 @@
 #!/usr/bin/env bash
-# tools/records.py and tools/plot.py: round trips, errors with their places, and the picture of the channel session.
+# The tools beside the engine: records as text and back, what is refused in words, budgets, whole fluxes, pictures.
 set -eu
 cd "$(dirname "$0")/.."
-python3 tests/test_tools.py
+reference/build.sh
+for test in records budget; do
+  python3 tests/test_$test.py
+done

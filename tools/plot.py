@@ -2,6 +2,7 @@
 """From a session an SVG picture: concentrations of chosen cells over the steps, and the salt budget."""
 
 import argparse
+import io
 import subprocess
 import sys
 from collections import namedtuple
@@ -11,8 +12,9 @@ from xml.sax.saxutils import escape
 HERE = Path(__file__).resolve().parent
 sys.path[:0] = [str(HERE), str(HERE.parent / "reference")]
 
+import command
 import lagoon
-import records
+import layout
 
 HELP = """\
 The upper panel shows q, the mass of a cell divided by its volume and rounded down, after each step; the lower one
@@ -62,9 +64,11 @@ class History:
     def start(self, data):
         """The mesh, the first field, and where the steps begin."""
         try:
-            _, at = records.read_mesh(data)
+            source = layout.Source(io.BytesIO(data))
+            source.mesh()
+            at = len(source.record)
             mesh = lagoon.accept_mesh(data[:at])
-        except (records.Damage, lagoon.Refusal) as refusal:
+        except (layout.Damage, lagoon.Refusal) as refusal:
             raise Bad(f"the mesh is refused: cause {refusal.cause}, place {refusal.place}") from None
         end = at + lagoon.field_length(len(mesh.volumes))
         try:
@@ -268,13 +272,13 @@ def arguments():
 def main():
     options = arguments()
     try:
-        data = records.read_input(options.file)
+        data = command.opened(options.file).read()
         history = History(data, options.every)
         if options.run:
             agree(options.run, data, history.lines)
         cells = chosen(options.cells, len(history.volumes)) if options.cells else history.highest()
         title = options.title or ("Session" if options.file == "-" else Path(options.file).name)
-        records.write_output(options.output, picture(history, cells, title).encode())
+        command.write_whole(options.output, picture(history, cells, title).encode())
     except (Bad, OSError) as error:
         print(f"plot.py: {error}", file=sys.stderr)
         return 1

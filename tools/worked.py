@@ -1,7 +1,6 @@
 #!/usr/bin/env python3
-"""The figures of docs/ARITHMETIC.md: the channel session of document 01 worked from its bytes, each number shown."""
+"""The figures of docs/ARITHMETIC.md: two sessions worked from their bytes, each number shown."""
 
-import argparse
 import re
 import sys
 from pathlib import Path
@@ -10,12 +9,15 @@ HERE = Path(__file__).resolve().parent
 ROOT = HERE.parent
 sys.path[:0] = [str(HERE), str(ROOT / "reference")]
 
+import command
 import lagoon
+import layout
 import records
 
 HELP = """\
 The page holds blocks between lines <!-- worked: NAME --> and <!-- end -->. Every number is worked out here by its
-formula and has to be the one of reference/lagoon.py; the bytes are packed from examples/channel.txt.
+formula and has to be the one of reference/lagoon.py; the bytes are packed from examples/channel.txt and
+examples/second.txt.
 
 examples:
   tools/worked.py                               prints all blocks
@@ -29,7 +31,7 @@ BLOCK = re.compile(r"(<!-- worked: (\S+) -->\n).*?(<!-- end -->)", re.DOTALL)
 SMALL = 13              # numbers up to here name stages, causes and positions
 
 # Numbers of document 01 that the page's prose may say.
-CONSTANTS = {lagoon.RIM, lagoon.TOP, *lagoon.LIBRARY_LIMITS, *lagoon.RUN_LIMITS, 255, 256, 128}
+CONSTANTS = {lagoon.RIM, lagoon.TOP, *lagoon.LIBRARY_LIMITS, *lagoon.RUN_LIMITS, 255, 256, 128, layout.MASS_BITS}
 
 
 def same(ours, reference):
@@ -39,21 +41,27 @@ def same(ours, reference):
     return ours
 
 
-def channel():
-    """The records of the channel session."""
-    data, _ = records.pack((ROOT / "examples" / "channel.txt").read_text())
-    _, mesh = records.read_mesh(data)
-    _, field = records.read_field(data[mesh:], 3)
-    step = (len(data) - mesh - field) // 2
-    ends = [0, mesh, mesh + field, mesh + field + step, mesh + field + 2 * step]
-    return [data[a:b] for a, b in zip(ends, ends[1:])]
+class Session:
+    """A session of examples/: its records, the mesh, the first field and the water of its first step."""
+
+    def __init__(self, name):
+        data, _ = records.pack((ROOT / "examples" / name).read_text())
+        cells, faces = int.from_bytes(data[:2], "big") % 4096, int.from_bytes(data[2:4], "big") // 8
+        mesh, field = layout.mesh_bytes(cells, faces), layout.field_bytes(cells)
+        self.cells, self.faces = range(cells), range(faces)
+        self.mesh = lagoon.accept_mesh(data[:mesh])
+        self.first = lagoon.accept_field(data[mesh:mesh + field], self.mesh)
+        rims = self.mesh.seconds.count(lagoon.RIM)
+        step = layout.whole_bytes(layout.STEP_HEAD + faces * layout.FLUX_BITS + rims * layout.OUTSIDE_BITS)
+        ends = [0, mesh, *range(mesh + field, len(data) + 1, step)]
+        self.records = [data[a:b] for a, b in zip(ends, ends[1:])]
+        self.fluxes, self.outsides = lagoon.read_step(self.records[2], faces, self.mesh.seconds)
+
+    def printed(self):
+        return lagoon.run(b"".join(self.records)).splitlines()
 
 
-RECORDS = channel()
-M = lagoon.accept_mesh(RECORDS[0])
-FIRST = lagoon.accept_field(RECORDS[1], M)
-FLUXES, OUTSIDES = lagoon.read_step(RECORDS[2], len(M.firsts), M.seconds)
-CELLS, FACES = range(len(M.volumes)), range(len(M.firsts))
+CHANNEL, SECOND = Session("channel.txt"), Session("second.txt")
 
 
 def columns(rows):
@@ -79,15 +87,15 @@ def factor(number):
 # ---------------------------------------------------------------- Bytes
 
 def layouts():
-    head = f"kind {{}} ({records.KIND_BITS}), {{}}"
-    cells, faces = f"cells ({records.CELLS_BITS})", f"faces ({records.FACES_BITS})"
-    end, mass = records.END_BITS, records.MASS_BITS
+    head = f"kind {{}} ({layout.KIND_BITS}), {{}}"
+    cells, faces = f"cells ({layout.CELLS_BITS})", f"faces ({layout.FACES_BITS})"
+    end, mass = layout.END_BITS, layout.MASS_BITS
     rows = [("record", "head", "body"),
-            ("mesh", head.format(records.MESH, f"{cells}, {faces}, zeros ({records.MESH_ZEROS})"),
-             f"per cell V ({records.VOLUME_BITS}); then per face first ({end}), second ({end}), s ({records.SHARE_BITS}), K ({records.REACH_BITS})"),
-            ("field", head.format(records.FIELD, cells), f"per cell m ({mass})"),
-            ("step", head.format(records.STEP, f"{faces}, zeros ({records.STEP_ZEROS})"),
-             f"per face sign (1) and size of U ({records.SIZE_BITS}); then per rim face outside value ({records.OUTSIDE_BITS})")]
+            ("mesh", head.format(layout.MESH, f"{cells}, {faces}, zeros ({layout.MESH_ZEROS})"),
+             f"per cell V ({layout.VOLUME_BITS}); then per face first ({end}), second ({end}), s ({layout.SHARE_BITS}), K ({layout.REACH_BITS})"),
+            ("field", head.format(layout.FIELD, cells), f"per cell m ({mass})"),
+            ("step", head.format(layout.STEP, f"{faces}, zeros ({layout.STEP_ZEROS})"),
+             f"per face sign (1) and size of U ({layout.SIZE_BITS}); then per rim face outside value ({layout.OUTSIDE_BITS})")]
     return table(rows)
 
 
@@ -97,7 +105,7 @@ def table(rows):
 
 def the_bytes():
     lines = []
-    for name, record in zip(("mesh", "field", "step 1", "step 2"), RECORDS):
+    for name, record in zip(("mesh", "field", "step 1", "step 2"), CHANNEL.records):
         for at in range(0, len(record), 16):
             lines.append(f"{name if at == 0 else '':8}{record[at:at + 16].hex(' ')}")
     return fenced(lines)
@@ -129,19 +137,19 @@ def record_hex(bits):
 
 
 def mesh_bits():
-    fields = [("kind: mesh", 4), ("cells", 12), ("faces", 13), ("zeros", 3)] + [(f"V of cell {c}", 12) for c in CELLS]
-    for f in FACES:
+    fields = [("kind: mesh", 4), ("cells", 12), ("faces", 13), ("zeros", 3)] + [(f"V of cell {c}", 12) for c in CHANNEL.cells]
+    for f in CHANNEL.faces:
         fields += [(f"face {f}: first", 12), (f"face {f}: second", 12), (f"face {f}: s", 8), (f"face {f}: K", 12)]
-    return by_bits(RECORDS[0], fields)
+    return by_bits(CHANNEL.records[0], fields)
 
 
 def field_and_step_bits():
-    field = [("kind: field", 4), ("cells", 12)] + [(f"m of cell {c}", 32) for c in CELLS]
+    field = [("kind: field", 4), ("cells", 12)] + [(f"m of cell {c}", 32) for c in CHANNEL.cells]
     step = [("kind: step", 4), ("faces", 13), ("zeros", 15)]
-    for f in FACES:
+    for f in CHANNEL.faces:
         step += [(f"face {f}: sign of U, 1 is minus", 1), (f"face {f}: size of U", 12)]
-    step += [(f"face {f}: outside value", 20) for f in FACES if M.seconds[f] == lagoon.RIM]
-    return by_bits(RECORDS[1], field) + [""] + by_bits(RECORDS[2], step)
+    step += [(f"face {f}: outside value", 20) for f in CHANNEL.faces if CHANNEL.mesh.seconds[f] == lagoon.RIM]
+    return by_bits(CHANNEL.records[1], field) + [""] + by_bits(CHANNEL.records[2], step)
 
 
 # ---------------------------------------------------------------- One step
@@ -149,49 +157,59 @@ def field_and_step_bits():
 class Step:
     """All numbers of one step, worked by the formulas of the page and compared with the reference."""
 
-    def __init__(self, masses):
-        self.m = masses
-        self.q = same([m // V for m, V in zip(masses, M.volumes)], lagoon.concentrations(M.volumes, masses))
-        self.upwind = [self.upwind_of(f) for f in FACES]
-        carried, low = lagoon.upwind(M, masses, self.q, FLUXES, OUTSIDES)
-        self.carried = same([U * q for U, (_, q) in zip(FLUXES, self.upwind)], carried)
-        self.low = same([masses[c] + self.into(c, carried) - self.out_of(c, carried) for c in CELLS], low)
-        self.corrections = same([self.correction_of(f)[-1] for f in FACES], lagoon.corrections(M, self.q, FLUXES))
-        self.near = [self.neighbours_of(c) for c in CELLS]
+    def __init__(self, session, masses):
+        self.session, self.mesh, self.U, self.outside, self.m = session, session.mesh, session.fluxes, session.outsides, masses
+        self.cells, self.faces = session.cells, session.faces
+        self.q = same([m // V for m, V in zip(masses, self.mesh.volumes)], lagoon.concentrations(self.mesh.volumes, masses))
+        self.upwind = [self.upwind_of(f) for f in self.faces]
+        carried, low = lagoon.upwind(self.mesh, masses, self.q, self.U, self.outside)
+        self.carried = same([U * q for U, (_, q) in zip(self.U, self.upwind)], carried)
+        self.low = same([masses[c] + self.into(c, carried) - self.out_of(c, carried) for c in self.cells], low)
+        self.corrections = same([self.correction_of(f)[-1] for f in self.faces], lagoon.corrections(self.mesh, self.q, self.U))
+        self.near = [self.neighbours_of(c) for c in self.cells]
         self.lo, self.hi = [min(near) for near in self.near], [max(near) for near in self.near]
-        self.G = [V * hi + V - 1 - m for V, hi, m in zip(M.volumes, self.hi, low)]
-        self.L = [m - V * lo for V, lo, m in zip(M.volumes, self.lo, low)]
-        same((self.G, self.L), lagoon.bounds(M, low, self.q, FLUXES, OUTSIDES))
-        self.P = [self.into(c, self.corrections) for c in CELLS]
-        self.N = [self.out_of(c, self.corrections) for c in CELLS]
-        self.limited = same([self.limited_of(f)[-1] for f in FACES], lagoon.limiter(M, self.corrections, self.G, self.L))
-        result = lagoon.advance(M, masses, FLUXES, OUTSIDES)
+        self.G = [V * hi + V - 1 - m for V, hi, m in zip(self.mesh.volumes, self.hi, low)]
+        self.L = [m - V * lo for V, lo, m in zip(self.mesh.volumes, self.lo, low)]
+        same((self.G, self.L), lagoon.bounds(self.mesh, low, self.q, self.U, self.outside))
+        self.P = [self.into(c, self.corrections) for c in self.cells]
+        self.N = [self.out_of(c, self.corrections) for c in self.cells]
+        self.limited = same([self.limited_of(f)[-1] for f in self.faces], lagoon.limiter(self.mesh, self.corrections, self.G, self.L))
+        result = lagoon.advance(self.mesh, masses, self.U, self.outside)
         self.moved = same([c + a for c, a in zip(self.carried, self.limited)], result.moved)
-        self.next = same([masses[c] + self.into(c, self.moved) - self.out_of(c, self.moved) for c in CELLS], result.masses)
-        rim = [f for f in FACES if M.seconds[f] == lagoon.RIM]
-        self.entered = same(sum(-FLUXES[f] * OUTSIDES[f] for f in rim if FLUXES[f] < 0), result.in_mass)
-        self.gone = same(sum(FLUXES[f] * self.q[M.firsts[f]] for f in rim if FLUXES[f] > 0), result.out_mass)
+        self.next = same([masses[c] + self.into(c, self.moved) - self.out_of(c, self.moved) for c in self.cells], result.masses)
+        rim = [f for f in self.faces if self.at_rim(f)]
+        self.entered = same(sum(-self.U[f] * self.outside[f] for f in rim if self.U[f] < 0), result.in_mass)
+        self.gone = same(sum(self.U[f] * self.q[self.mesh.firsts[f]] for f in rim if self.U[f] > 0), result.out_mass)
+
+    def at_rim(self, f):
+        return self.mesh.seconds[f] == lagoon.RIM
 
     def upwind_of(self, f):
         """Where the water of a face comes from, and the concentration there."""
-        if FLUXES[f] >= 0:
-            return f"cell {M.firsts[f]}", self.q[M.firsts[f]]
-        if M.seconds[f] == lagoon.RIM:
-            return "outside", OUTSIDES[f]
-        return f"cell {M.seconds[f]}", self.q[M.seconds[f]]
+        first, second = self.mesh.firsts[f], self.mesh.seconds[f]
+        if self.U[f] >= 0:
+            return f"cell {first}", self.q[first]
+        return ("outside", self.outside[f]) if self.at_rim(f) else (f"cell {second}", self.q[second])
 
     def into(self, c, amounts):
-        return sum(abs(amounts[f]) for f in FACES if (M.seconds[f] == c and amounts[f] > 0) or (M.firsts[f] == c and amounts[f] < 0))
+        return sum(abs(amounts[f]) for f in self.faces
+                   if (self.mesh.seconds[f] == c and amounts[f] > 0) or (self.mesh.firsts[f] == c and amounts[f] < 0))
 
     def out_of(self, c, amounts):
-        return sum(abs(amounts[f]) for f in FACES if (M.firsts[f] == c and amounts[f] > 0) or (M.seconds[f] == c and amounts[f] < 0))
+        return sum(abs(amounts[f]) for f in self.faces
+                   if (self.mesh.firsts[f] == c and amounts[f] > 0) or (self.mesh.seconds[f] == c and amounts[f] < 0))
+
+    def ends(self, f):
+        """The upwind and the downwind cell of an interior face."""
+        ends = self.mesh.firsts[f], self.mesh.seconds[f]
+        return ends if self.U[f] > 0 else ends[::-1]
 
     def correction_of(self, f):
         """d, t, t K - 128 |U|, the product, the divisor, the correction."""
-        U, s, K = FLUXES[f], M.shares[f], M.reaches[f]
-        if M.seconds[f] == lagoon.RIM or U == 0:
+        U, s, K = self.U[f], self.mesh.shares[f], self.mesh.reaches[f]
+        if self.at_rim(f) or U == 0:
             return (0,)
-        up, down = (M.firsts[f], M.seconds[f]) if U > 0 else (M.seconds[f], M.firsts[f])
+        up, down = self.ends(f)
         d, t = self.q[down] - self.q[up], s if U > 0 else 256 - s
         inner = t * K - 128 * abs(U)
         product = U * d * inner
@@ -200,12 +218,12 @@ class Step:
 
     def neighbours_of(self, c):
         near = [self.q[c]]
-        for f in FACES:
-            if FLUXES[f] != 0 and c in (M.firsts[f], M.seconds[f]):
-                if M.seconds[f] != lagoon.RIM:
-                    near.append(self.q[M.firsts[f] + M.seconds[f] - c])
-                elif FLUXES[f] < 0:
-                    near.append(OUTSIDES[f])
+        for f in self.faces:
+            if self.U[f] != 0 and c in (self.mesh.firsts[f], self.mesh.seconds[f]):
+                if not self.at_rim(f):
+                    near.append(self.q[self.mesh.firsts[f] + self.mesh.seconds[f] - c])
+                elif self.U[f] < 0:
+                    near.append(self.outside[f])
         return near
 
     def limited_of(self, f):
@@ -213,7 +231,7 @@ class Step:
         a = abs(self.corrections[f])
         if a == 0:
             return (0,)
-        ends = (M.firsts[f], M.seconds[f])
+        ends = (self.mesh.firsts[f], self.mesh.seconds[f])
         receiver, giver = ends if self.corrections[f] < 0 else ends[::-1]
         gets = a if self.P[receiver] <= self.G[receiver] else a * self.G[receiver] // self.P[receiver]
         gives = a if self.N[giver] <= self.L[giver] else a * self.L[giver] // self.N[giver]
@@ -222,109 +240,144 @@ class Step:
     # ------------------------------------------------------------ as text
 
     def lines(self):
-        return [*self.before(), "", *self.stage_1(), "", *self.stage_2(), "", *self.stage_3(), "", *self.stage_4(), "", *self.stage_5()]
+        stages = (self.before(), self.stage_1(), self.stage_2(), self.stage_3(), self.stage_4(), self.stage_5())
+        return [line for stage in stages for line in [*stage, ""]][:-1]
+
+    def given(self):
+        """What the step is worked from."""
+        M = self.mesh
+        cells = [("cell", "V", "m")] + [(c, M.volumes[c], self.m[c]) for c in self.cells]
+        faces = [("face", "first", "second", "s", "K", "U", "outside value")]
+        faces += [(f, M.firsts[f], "rim" if self.at_rim(f) else M.seconds[f], M.shares[f], M.reaches[f], signed(self.U[f]), self.outside[f])
+                  for f in self.faces]
+        return columns(cells) + [""] + columns(faces)
 
     def before(self):
-        rows = [("cell", "V", "m", "q", "rest")]
-        return ["Before the step"] + columns(rows + [(c, M.volumes[c], self.m[c], self.q[c], self.m[c] - self.q[c] * M.volumes[c]) for c in CELLS])
+        V = self.mesh.volumes
+        rows = [("cell", "V", "m", "q", "rest")] + [(c, V[c], self.m[c], self.q[c], self.m[c] - self.q[c] * V[c]) for c in self.cells]
+        return ["Before the step"] + columns(rows)
 
     def stage_1(self):
         faces = [("face", "U", "upwind", "q there", "carried = U · q")]
-        faces += [(f, signed(FLUXES[f]), *self.upwind[f], f"{signed(FLUXES[f])} · {self.upwind[f][1]} = {signed(self.carried[f])}") for f in FACES]
+        faces += [(f, signed(self.U[f]), *self.upwind[f], f"{signed(self.U[f])} · {self.upwind[f][1]} = {signed(self.carried[f])}") for f in self.faces]
         cells = [("cell", "low-order mass = m + entering − leaving")]
-        cells += [(c, f"{self.m[c]} + {self.into(c, self.carried)} − {self.out_of(c, self.carried)} = {self.low[c]}") for c in CELLS]
+        cells += [(c, f"{self.m[c]} + {self.into(c, self.carried)} − {self.out_of(c, self.carried)} = {self.low[c]}") for c in self.cells]
         return ["Stage 1, upwind"] + columns(faces) + columns(cells)
 
     def stage_2(self):
-        lines = ["Stage 2, correction (faces 1 and 2; 0 at the rim)"]
-        for f in FACES:
+        lines = ["Stage 2, correction (0 at the rim, and where U is 0)"]
+        for f in self.faces:
             if len(self.correction_of(f)) > 1:
                 d, t, inner, product, divisor, quotient = self.correction_of(f)
-                U, K = FLUXES[f], M.reaches[f]
-                up, down = (M.firsts[f], M.seconds[f]) if U > 0 else (M.seconds[f], M.firsts[f])
-                lines.append(f"face {f}: d = {self.q[down]} − {self.q[up]} = {signed(d)}; t = {t}; t·K − 128·|U| = {t} · {K} − 128 · {abs(U)} = {signed(inner)}")
-                lines.append(f"        {signed(U)} · {factor(d)} · {factor(inner)} = {signed(product)}; divided by 256 · {K} = {divisor}: "
-                             f"{signed(quotient)}{self.left_over(product, divisor)}")
+                U, s, K = self.U[f], self.mesh.shares[f], self.mesh.reaches[f]
+                up, down = self.ends(f)
+                way = f"{t}" if U > 0 else f"256 − {s} = {t}"
+                left = abs(product) % divisor
+                lines += [f"face {f}: d = {self.q[down]} − {self.q[up]} = {signed(d)}; t = {way}",
+                          f"        t·K − 128·|U| = {t} · {K} − 128 · {abs(U)} = {signed(inner)}",
+                          f"        {signed(U)} · {factor(d)} · {factor(inner)} = {signed(product)}",
+                          f"        divided by 256 · {K} = {divisor}: {signed(quotient)}, {left if left else 'nothing'} left over"]
         return lines
 
-    def left_over(self, product, divisor):
-        left = abs(product) % divisor
-        return f", {left} left over" if left else ", nothing left over"
-
     def stage_3(self):
-        rows = [("cell", "q met", "lo", "hi", "G = V·hi + V − 1 − low", "L = low − V·lo")]
-        for c in CELLS:
-            V = M.volumes[c]
-            rows.append((c, ", ".join(map(str, self.near[c])), self.lo[c], self.hi[c],
-                         f"{V}·{self.hi[c]} + {V} − 1 − {self.low[c]} = {self.G[c]}", f"{self.low[c]} − {V}·{self.lo[c]} = {self.L[c]}"))
-        return ["Stage 3, bounds"] + columns(rows)
+        V = self.mesh.volumes
+        met = [("cell", "q met", "lo", "hi")] + [(c, ", ".join(map(str, self.near[c])), self.lo[c], self.hi[c]) for c in self.cells]
+        gains = [("cell", "G = V·hi + V − 1 − low")] + [(c, f"{V[c]}·{self.hi[c]} + {V[c]} − 1 − {self.low[c]} = {self.G[c]}") for c in self.cells]
+        losses = [("cell", "L = low − V·lo")] + [(c, f"{self.low[c]} − {V[c]}·{self.lo[c]} = {self.L[c]}") for c in self.cells]
+        return ["Stage 3, bounds", *columns(met), *columns(gains), *columns(losses)]
 
     def stage_4(self):
-        lines = ["Stage 4, limiter"] + columns([("cell", "P", "G", "N", "L")] + [(c, self.P[c], self.G[c], self.N[c], self.L[c]) for c in CELLS])
-        for f in FACES:
+        lines = ["Stage 4, limiter"] + columns([("cell", "P", "G", "N", "L")] + [(c, self.P[c], self.G[c], self.N[c], self.L[c]) for c in self.cells])
+        for f in self.faces:
             if self.corrections[f]:
                 receiver, giver, gets, gives, limited = self.limited_of(f)
                 a = abs(self.corrections[f])
-                lines.append(f"face {f}: a = {a} from cell {giver} to cell {receiver}: limited correction {signed(limited)}, the lesser of")
-                lines.append(f"        {self.portion('P', self.P, 'G', self.G, receiver, a, gets)}, and "
-                             f"{self.portion('N', self.N, 'L', self.L, giver, a, gives)}")
-            elif M.seconds[f] != lagoon.RIM:
+                lines += [f"face {f}: a = {a}, from cell {giver} to cell {receiver}",
+                          f"        cell {receiver} has {self.portion('P', self.P, 'G', self.G, receiver, a, gets)}",
+                          f"        cell {giver} has {self.portion('N', self.N, 'L', self.L, giver, a, gives)}",
+                          f"        limited correction {signed(limited)}, of the lesser size"]
+            elif not self.at_rim(f):
                 lines.append(f"face {f}: limited correction 0, as the correction is")
         return lines
 
     def portion(self, sum_name, sums, room_name, rooms, cell, a, result):
         """What one end of a face lets through."""
         if sums[cell] <= rooms[cell]:
-            return f"{a} (cell {cell}: {sum_name} ≤ {room_name})"
-        return f"{a} · {rooms[cell]} / {sums[cell]} = {result} (cell {cell}: {sum_name} > {room_name})"
+            return f"{sum_name} ≤ {room_name}: {a}"
+        return f"{sum_name} > {room_name}: {a} · {rooms[cell]} / {sums[cell]} = {result}"
 
     def stage_5(self):
+        V = self.mesh.volumes
         faces = [("face", "moved = carried + limited")]
-        faces += [(f, f"{signed(self.carried[f])} + {factor(self.limited[f])} = {signed(self.moved[f])}") for f in FACES]
+        faces += [(f, f"{signed(self.carried[f])} + {factor(self.limited[f])} = {signed(self.moved[f])}") for f in self.faces]
         cells = [("cell", "next mass = m + entering − leaving", "q", "rest")]
-        for c in CELLS:
-            V = M.volumes[c]
-            cells.append((c, f"{self.m[c]} + {self.into(c, self.moved)} − {self.out_of(c, self.moved)} = {self.next[c]}",
-                          self.next[c] // V, self.next[c] % V))
+        cells += [(c, f"{self.m[c]} + {self.into(c, self.moved)} − {self.out_of(c, self.moved)} = {self.next[c]}", self.next[c] // V[c], self.next[c] % V[c])
+                  for c in self.cells]
         before, after = sum(self.m), same(sum(self.next), sum(self.m) + self.entered - self.gone)
         return ["Stage 5, moved and next masses", *columns(faces), *columns(cells),
                 f"in-mass {self.entered}, out-mass {self.gone}; total {before} + {self.entered} − {self.gone} = {after}"]
 
 
-STEP_1 = Step(FIRST)
-STEP_2 = Step(STEP_1.next)
-
-
-def printed():
-    return lagoon.run(b"".join(RECORDS)).splitlines()
+STEP_1 = Step(CHANNEL, CHANNEL.first)
+STEP_2 = Step(CHANNEL, STEP_1.next)
+SECOND_STEP = Step(SECOND, SECOND.first)
 
 
 def year():
     """The channel's step a year of hours long."""
-    masses, entered, gone = FIRST, 0, 0
+    masses, entered, gone = CHANNEL.first, 0, 0
     for _ in range(YEAR):
-        result = lagoon.advance(M, masses, FLUXES, OUTSIDES)
+        result = lagoon.advance(CHANNEL.mesh, masses, CHANNEL.fluxes, CHANNEL.outsides)
         masses, entered, gone = result.masses, entered + result.in_mass, gone + result.out_mass
-    total = same(sum(FIRST) + entered - gone, sum(masses))
-    return columns([("steps", "first total", "in, summed", "out, summed", "last total", "masses"),
-                    (YEAR, sum(FIRST), entered, gone, total, " ".join(map(str, masses)))])
+    total = same(sum(CHANNEL.first) + entered - gone, sum(masses))
+    return columns([("steps", "first total", "in-masses", "out-masses", "last total", "masses"),
+                    (YEAR, sum(CHANNEL.first), entered, gone, total, " ".join(map(str, masses)))])
+
+
+def largest_numerator():
+    """The largest size of U·d·(t·K − 128·|U|), over all t and |U| at the largest K and d."""
+    K = lagoon.RIM
+    return max(U * lagoon.TOP * abs(t * K - 128 * U) for t in (1, 255) for U in range(1, K + 1))
 
 
 def widest():
     """The largest products that a step can ask for."""
-    K = U = lagoon.RIM
-    inner = max(255 * K, 128 * U)
+    U = lagoon.RIM
     most_mass = (lagoon.TOP + 1) * lagoon.RIM - 1
-    rows = [("product", "at most", "digits")]
-    for name, value in (("stage 1, U · q", U * lagoon.TOP), ("stage 2, U·d·(t·K − 128·|U|)", U * lagoon.TOP * inner),
-                        ("stage 4, a · G and a · L", U * lagoon.TOP * most_mass)):
+    rows = [("product", "never above", "digits")]
+    for name, value in (("stage 1, U · q", U * lagoon.TOP), ("stage 2, U·d·(t·K − 128·|U|)", largest_numerator()),
+                        ("stage 4, a · G and a · L", U * lagoon.TOP * most_mass), ("a cell's mass, V·q + rest", most_mass)):
         rows.append((name, value, len(str(value))))
     return columns(rows)
 
 
+def edition():
+    """The version and date of this page: the newest in CHANGES.md, whose version is that of the file VERSION."""
+    version, date = re.search(r"^## (\S+), (\S+)$", (ROOT / "CHANGES.md").read_text(), re.MULTILINE).groups()
+    return [f"Version {same(version, (ROOT / 'VERSION').read_text().strip())}, {date}."]
+
+
+def form():
+    """Two blank tables for one step."""
+    def blank(names, rows):
+        line = "+" + "+".join("-" * (wide + 2) for _, wide in names) + "+"
+        heads = "|" + "|".join(f" {name:{wide}} " for name, wide in names) + "|"
+        empty = "|" + "|".join(" " * (wide + 2) for _, wide in names) + "|"
+        return [line, heads, line] + [empty, line] * rows
+    cells = [("cell", 4), ("V", 4), ("m", 8), ("q", 6), ("low", 8), ("lo", 5), ("hi", 5), ("next m", 8)]
+    sums = [("cell", 4), ("P", 8), ("G", 8), ("N", 8), ("L", 8), ("next q", 7), ("rest", 5)]
+    faces = [("face", 4), ("U", 4), ("carried", 8), ("d", 6), ("t", 3), ("correction", 10), ("limited", 8), ("moved", 8)]
+    return (["Step ______    worked by ____________    checked by ____________", ""]
+            + blank(cells, 4) + [""] + blank(sums, 4) + [""] + blank(faces, 5)
+            + ["", "in-mass ________  out-mass ________  total before ________  after ________"])
+
+
 BLOCKS = {"layouts": layouts, "bytes": the_bytes, "mesh-bits": lambda: fenced(mesh_bits()), "step-bits": lambda: fenced(field_and_step_bits()),
-          "step-1": lambda: fenced(STEP_1.lines()), "step-2": lambda: fenced(STEP_2.lines()), "printed": lambda: fenced(printed()),
-          "year": lambda: fenced(year()), "widest": lambda: fenced(widest())}
+          "step-1": lambda: fenced(STEP_1.lines()), "step-2": lambda: fenced(STEP_2.lines()), "printed": lambda: fenced(CHANNEL.printed()),
+          "second-given": lambda: fenced(SECOND_STEP.given()), "second-step": lambda: fenced(SECOND_STEP.lines()),
+          "second-printed": lambda: fenced(SECOND.printed()), "year": lambda: fenced(year()), "widest": lambda: fenced(widest()),
+          "edition": edition, "form": lambda: fenced(form())}
+WIDEST_LINE = 76        # columns of a fenced block that an A4 page holds
 
 
 # ---------------------------------------------------------------- The page
@@ -348,6 +401,10 @@ def check(path):
             raise SystemExit(f"{path}:{number}: '{has}' where '{wanted}' is worked out")
     if page != filled(page):
         raise SystemExit(f"{path}: a block has more or fewer lines than are worked out")
+    fences = re.findall(r"^```.*?^```", page, re.DOTALL | re.MULTILINE)
+    for line in "\n".join(fences).splitlines():
+        if len(line) > WIDEST_LINE:
+            raise SystemExit(f"{path}: a line of {len(line)} columns in a block: {line}")
     prose = BLOCK.sub("", page)
     for found in re.finditer(r"\d[\d,]*\d|\d", prose):
         value = int(found[0].replace(",", ""))
@@ -357,7 +414,7 @@ def check(path):
 
 
 def main():
-    parser = argparse.ArgumentParser(description=__doc__, epilog=HELP, formatter_class=argparse.RawDescriptionHelpFormatter)
+    parser = command.parser("worked.py", __doc__, HELP)
     parser.add_argument("block", nargs="?", choices=list(BLOCKS), help="the block to print (default: all)")
     parser.add_argument("--check", metavar="PAGE", type=Path, help="compare the blocks of a page with those worked out")
     parser.add_argument("--write", metavar="PAGE", type=Path, help="fill the blocks of a page")
@@ -372,4 +429,4 @@ def main():
 
 
 if __name__ == "__main__":
-    main()
+    sys.exit(command.finish("worked.py", main))

@@ -110,7 +110,7 @@ field-bit pre post w v i l =
     ∙ List·getD-append (spelled w v) (bitsOf post) 0 i (rw (length-spelled w v) l)
     ∙ spelled-bit w v i l)
 
--- the number that bits b 0, .., b w make by their shares: a digit more, its size, and its bits
+-- the number that bits b 0, .., b w make by their powers of 2: a digit more, its size, and its bits
 weighed : (ℕ → ℕ) → ℕ → ℕ
 weighed b w = sum (suc w) (λ k. b k * 2 ^ (w - k))
 

@@ -32,7 +32,7 @@ widthOf (f ∷ fs) = f .width + widthOf fs
 unfoldable pub bytesFor : ℕ → ℕ
 bytesFor n = (n + 7) / 8
 
--- byte j of a list of bits: its eight bits from 8 j on, the first of share 128; a bit past the end is 0
+-- byte j of a list of bits: its eight bits from 8 j on, the first counting 128; a bit past the end is 0
 unfoldable pub octet : List ℕ → ℕ → ℕ
 octet bits j = sum 8 (λ k. getD bits (8 * j + k) 0 * 2 ^ (7 - k))
 

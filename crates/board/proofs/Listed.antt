@@ -2,24 +2,24 @@
 use Prim.Native.Nat.{ℕ, zero, suc, _+_, _-_, _≤_, _<_, min}
 use mathlib.Core.Path.{_≡_, refl, ap, _∙_}
 use mathlib.Core.Logic.{_≢_}
-use mathlib.Core.Bool.{true, false}
+use mathlib.Core.Bool.{true}
 use mathlib.Core.List.{List, [], _∷_, map, List·Memᴰ}
 use native.Mathlib.Omega.{arith}
 use native.Mathlib.Nat.{not-suc-le-zero, le-of-suc-le-suc}
 use lib.ListN.{length, getD, take, drop, replicate, length-map, List·getD-append}
 use lib.Seq.{getD-append-add, getD-drop}
 use Rattle.lists.specs.Table.{over}
-use Rattle.model.specs.Causes.{fine}
+use Rattle.model.specs.Causes.{fine, cellsOnly}
 use Rattle.model.specs.Answers.{said}
 use Rattle.model.specs.declared.Answer.the-variants.{Done, Refused}
 use Rattle.model.specs.declared.Refusal.{Refusal}
-use Rattle.checks.proofs.Laws.{passes, refuses, field-passed, salt-asks}
-use Rattle.checks.specs.Total.{cellsOnly}
+use Rattle.model.proofs.Verdicts.{passes, refuses}
+use Rattle.model.proofs.Accepted.{field-passed, salt-asks}
 use Rattle.board.specs.Board.{boardSize, entryOf, unused, comesBefore, insertInOrder, entryAt, before, listed, boardEntries, boardVerdict, BoardIs}
 use Rattle.board.specs.declared.Entry.{Entry}
 use Rattle.board.specs.declared.BoardAnswer.{BoardAnswer}
 use Rattle.board.proofs.Insertion.{cells-none, cells-more}
-use Rattle.board.proofs.Order.{Strict, board-strict, first-count, first-below, first-ordered, first-distinct, left-out-after, left-out-not-before, few-all}
+use Rattle.board.proofs.Order.{Strict, board-strict, first-count, first-below, first-ordered, first-distinct, left-out-after}
 
 getD-mapped : {B : Type 0} (f : ℕ → B) (l : List ℕ) (i : ℕ) (d : B) → i < length l → getD (map f l) i d ≡ f (getD l i 0)
 getD-mapped f [] i d h = absurd (not-suc-le-zero h)
@@ -74,6 +74,7 @@ module _ (volumes masses : List ℕ) where
     unfolding listed
     listed-count = first-count (before volumes masses) before-strict boardSize n
 
+    -- each a cell
     pub listed-below : {c : ℕ} → List·Memᴰ c (listed volumes masses n) → c < n
     unfolding listed
     listed-below = first-below (before volumes masses) before-strict boardSize n
@@ -91,14 +92,6 @@ module _ (volumes masses : List ℕ) where
     pub unlisted-after : {c d : ℕ} → c < n → (List·Memᴰ c (listed volumes masses n) → ⊥) → List·Memᴰ d (listed volumes masses n) → before volumes masses d c ≡ true
     unfolding listed
     unlisted-after = left-out-after (before volumes masses) before-strict boardSize n
-
-    pub unlisted-not-before : {c d : ℕ} → c < n → (List·Memᴰ c (listed volumes masses n) → ⊥) → List·Memᴰ d (listed volumes masses n) → before volumes masses c d ≡ false
-    unfolding listed
-    unlisted-not-before = left-out-not-before (before volumes masses) before-strict boardSize n
-
-    pub few-listed : n ≤ boardSize → {c : ℕ} → c < n → List·Memᴰ c (listed volumes masses n)
-    unfolding listed
-    few-listed = few-all (before volumes masses) before-strict boardSize n
 
   -- what the board answers, accepted and refused
   pub rank-asks : (n : ℕ) → boardVerdict volumes masses n ≡ fine → ((n ≤ length volumes) × (n ≤ length masses)) × ((c : ℕ) → c < n → 1 ≤ getD volumes c 0)

@@ -1,5 +1,5 @@
 -- The first cells of an order: distinct, in order, and nothing left out that comes before one of them.
-use Prim.Native.Nat.{ℕ, zero, suc, _+_, _≤_, _<_, min}
+use Prim.Native.Nat.{ℕ, zero, suc, _<_, min}
 use mathlib.Core.Path.{_≡_, refl, sym, ap, _∙_}
 use mathlib.Core.Logic.{_≢_, _⊎_, inl, inr, ⊎-elim}
 use mathlib.Core.Bool.{Bool, true, false, cond, true≢false}
@@ -8,7 +8,6 @@ use native.Mathlib.Nat.{not-suc-le-zero, le-of-suc-le-suc, eq-or-lt-of-le}
 use native.Mathlib.Omega.{arith}
 use lib.Dec.{eqb, leb}
 use lib.ListN.{length, getD, take, drop, length-take, take-append-drop}
-use lib.Seq.{take-all}
 use Rattle.lists.proofs.Tests.{Same, same, other, same?, Fits, fits, exceeds, fits?}
 use Rattle.board.specs.Board.{comesBefore, insertInOrder, inOrder}
 use Rattle.board.specs.declared.Entry.{Entry}
@@ -142,16 +141,6 @@ module _ (order : ℕ → ℕ → Bool) where
       left-out-after {c} h out k =
           let all : List·Memᴰ c (take m (inOrder order n) ++ drop m (inOrder order n)) = rw (take-append-drop m (inOrder order n)) (inOrder-all n h) in
           ⊎-elim (λ t. absurd (out t)) (λ t. sorted-split m (inOrder order n) (inOrder-sorted n) k t) (List·Memᴰ·append-cases (take m (inOrder order n)) all)
-
-      pub left-out-not-before : {c d : ℕ} → c < n → (List·Memᴰ c (take m (inOrder order n)) → ⊥) → List·Memᴰ d (take m (inOrder order n)) → order c d ≡ false
-      left-out-not-before {c} {d} h out k = go (order c d) refl
-        where
-          go : (b : Bool) → order c d ≡ b → b ≡ false
-          go false e = refl
-          go true e = absurd (true≢false (sym (strict .transitive c d c e (left-out-after h out k)) ∙ strict .irreflexive c))
-
-      pub few-all : n ≤ m → {c : ℕ} → c < n → List·Memᴰ c (take m (inOrder order n))
-      few-all l h = rw (take-all m (inOrder order n) (omega (arith, length-inOrder order n))) (inOrder-all n h)
 
 not-first : (a b : Entry) → ((b .q < a .q) ⊎ ((a .q ≡ b .q) × (a .cell < b .cell)) → ⊥) → comesBefore a b ≡ false
 not-first a b n = go (comesBefore a b) refl

@@ -6,25 +6,23 @@ use mathlib.Core.List.{List, [], _∷_, map}
 use lib.ListN.{getD, take, replicate}
 use lib.Dec.{eqb, ltb}
 use Rattle.lists.specs.Table.{over}
-use Rattle.model.specs.Causes.{Verdict, taken, meshFieldVerdict}
+use Rattle.model.specs.Causes.{Verdict, taken, meshFieldVerdict, cellsOnly}
 use Rattle.model.specs.Answers.{said}
-use Rattle.checks.specs.Total.{cellsOnly}
 use Rattle.board.specs.declared.Entry.{Entry}
 use Rattle.board.specs.declared.BoardAnswer.{BoardAnswer}
 
--- "The board lists 8 cells, or all where there are fewer"
+-- The first sentence: how many cells are listed at most.
 abbrev pub boardSize : ℕ
 boardSize = 8
 
--- "Each entry has cell, q and the rest", with q = m divided by V, rounded down, and the rest m − qV
+-- An entry: q is m / V rounded down, the rest m − qV.
 unfoldable pub entryOf : ℕ → ℕ → ℕ → Entry
 entryOf cell volume mass = record { cell = cell; q = mass / volume; rest = mass - mass / volume * volume }
 
--- "unused entries are 0"
 abbrev pub unused : Entry
 unused = record { cell = 0; q = 0; rest = 0 }
 
--- "highest q first, lower cell number first among equals"
+-- The order: the higher q, and of equal ones the lower cell.
 unfoldable pub comesBefore : Entry → Entry → Bool
 comesBefore a b = ltb (b .q) (a .q) || (eqb (a .q) (b .q) && ltb (a .cell) (b .cell))
 
@@ -54,7 +52,7 @@ module _ (volumes masses : List ℕ) where
   unfoldable pub boardEntries : ℕ → List Entry
   boardEntries cells = over (map entryAt (listed cells)) (replicate boardSize unused)
 
-  -- "A call tests only what it is lent": causes 1, 2, 3 and 6 of cells, volumes and masses
+  -- causes 1, 2, 3 and 6: the board is lent cells, volumes and masses alone
   abbrev pub boardVerdict : ℕ → Verdict
   boardVerdict cells = meshFieldVerdict (cellsOnly cells volumes) masses
 

@@ -4,12 +4,13 @@ use mathlib.Core.Path.{_≡_, refl, ap, _∙_}
 use mathlib.Core.Bool.{Bool, true, false, cond}
 use mathlib.Core.List.{List, []}
 use native.Mathlib.Omega.{arith}
+use borrow.Author.Tests.{eq-eqb}
 use lib.Dec.{eqb, leb}
 use lib.IntN.{ℤ, pos}
 use lib.ListN.{length, getD, set, replicate, length-set, length-replicate, getD-replicate}
 use Rattle.lists.specs.Fold.{sum}
 use Rattle.lists.specs.Table.{table}
-use Rattle.lists.proofs.Tests.{Same, same, other, same?, eqb-yes}
+use Rattle.lists.proofs.Tests.{Same, same, other, same?}
 use Rattle.lists.proofs.Sums.{sum-more, sum-term}
 use Rattle.lists.proofs.Tables.{length-table, getD-table, is-table, getD-set}
 use Rattle.signed.specs.Sign.{isNegative, size}
@@ -17,7 +18,7 @@ use Rattle.signed.proofs.Laws.{forward-is, backward-is}
 use Rattle.model.specs.Mesh.{Mesh, meshOf, first, second, rim, maxCells, maxFaces, maxRimFlux, entering, leaving, incoming, outgoing}
 use Rattle.model.specs.Causes.{each, callOf, balanceGood, outflowGood}
 use Rattle.model.proofs.Sizes.{incoming-most, outgoing-most}
-use Rattle.checks.proofs.Laws.{each-cong}
+use Rattle.model.proofs.Verdicts.{each-cong}
 
 pub zeros : (n : ℕ) → replicate {A = ℕ} n 0 ≡ table n (λ c. 0)
 zeros n = is-table {A = ℕ} 0 (replicate n 0) n (λ c. 0) (length-replicate n 0) (λ k l. getD-replicate n k 0 0 l)
@@ -29,7 +30,7 @@ module _ (n f i s : ℕ) (g : ℕ → ℕ → ℕ) (l : i < n) (lands : (c : ℕ
 
   turn-asks : (k b : ℕ) → f < k → sum k (g i) ≤ b → b < 2 ^ 64 → (i < length xs) × (getD xs i 0 + s < 2 ^ 64)
   turn-asks k b h m small =
-      let q : s ≡ g i f = rw (eqb-yes i i refl) at (lands i) in
+      let q : s ≡ g i f = rw (eq-eqb i i refl) at (lands i) in
       (omega (arith, ap length e ∙ length-table n (λ c. sum f (g c))), omega (arith, so-far i l, sum-term f k (g i) h))
 
   added : (c : ℕ) → c < n → cond (eqb i c) (getD xs i 0 + s) (getD xs c 0) ≡ sum f (g c) + cond (eqb i c) s 0

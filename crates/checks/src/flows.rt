@@ -1,8 +1,8 @@
 // Causes 9 and 10: the inflow and the outflow of each cell, gathered in arrays of their own.
-use crate::lengths::and_then;
 use model::Answer;
 use model::Cause;
 use model::Refusal;
+use model::needs::and_then;
 use signed::is_negative_at;
 use signed::size_at;
 ghost use mathlib.Core.Path.{_≡_};

@@ -1,50 +1,13 @@
 // Causes 1 and 2: the counts, and the lengths of the tables.
 use model::Answer;
-use model::Cause;
-use model::Refusal;
+use model::needs::and_then;
+use model::needs::long;
 ghost use mathlib.Core.Path.{_≡_};
 ghost use mathlib.Core.List.{[]};
 ghost use Prim.Native.Nat.{_≤_};
 ghost use Rattle.model.specs.Mesh.{meshOf, maxCells, maxFaces};
-ghost use Rattle.model.specs.Causes.{_andThen_, need as needOf, long as longOf, between as betweenOf, counts, meshTables, fieldTable, callOf, stepTables};
-ghost use Rattle.model.specs.Answers.{said, number};
-
-// Whether x lies in the range.
-pub fn between(low: u64, high: u64, x: u64) -> bool
-    ensures { λ r. ⌜ r ≡ betweenOf low high x ⌝ }
-{
-    if x < low {
-        return false;
-    }
-    x <= high
-}
-
-// A refusal where the test fails.
-pub fn need(cause: Cause, place: u64, good: bool) -> Answer
-    ensures { λ r. ⌜ said r ≡ needOf (number cause) place good ⌝ }
-{
-    if good {
-        return Answer::Done;
-    }
-    Answer::Refused(Refusal { cause, place })
-}
-
-// The first of two that refuses.
-pub fn and_then(a: Answer, b: Answer) -> Answer
-    ensures { λ r. ⌜ said r ≡ (said a andThen said b) ⌝ }
-{
-    if let Answer::Refused(r) = a {
-        return Answer::Refused(r);
-    }
-    b
-}
-
-// Whether a table has as many entries as wanted.
-pub fn long(position: u64, wanted: usize, has: usize) -> Answer
-    ensures { λ r. ⌜ said r ≡ longOf position wanted has ⌝ }
-{
-    need(Cause::Table, position, wanted <= has)
-}
+ghost use Rattle.model.specs.Causes.{_andThen_, counts, meshTables, fieldTable, callOf, stepTables};
+ghost use Rattle.model.specs.Answers.{said};
 
 // The counts and the mesh tables.
 pub fn mesh_lent(
@@ -97,9 +60,10 @@ pub fn step_lent(
     requires { ⌜ (cells ≤ maxCells) × (faces ≤ maxFaces) ⌝ }
     ensures { λ r. ⌜ said r ≡ stepTables (meshOf cells faces [] [] [] [] []) [] (callOf (now (fluxes .entry)) (now (outsides .entry)) (now (next .entry)) (now (moved .entry)) (now (work .entry))) ⌝ }
 {
+    let wanted = model::work_length(cells, faces);
     let a = long(6, faces, fluxes.len());
     let a = and_then(a, long(7, faces, outsides.len()));
     let a = and_then(a, long(8, cells, next.len()));
     let a = and_then(a, long(9, faces, moved.len()));
-    and_then(a, long(10, 4 * cells + faces, work.len()))
+    and_then(a, long(10, wanted, work.len()))
 }

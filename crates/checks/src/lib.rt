@@ -8,13 +8,16 @@ pub mod water;
 use model::Answer;
 use model::Cause;
 use model::Refusal;
+use model::needs::and_then;
+use model::needs::between;
+use model::needs::need;
 ghost use mathlib.Core.Path.{_≡_};
 ghost use Rattle.lists.specs.Fold.{sum};
 ghost use Rattle.model.specs.Mesh.{meshOf};
-ghost use Rattle.model.specs.Causes.{accepted, _andThen_, callOf, countsWithin, meshVerdict, meshFieldVerdict, verdict};
+ghost use Rattle.model.specs.Causes.{accepted, _andThen_, callOf, countsWithin, meshVerdict, meshFieldVerdict, verdict, cellsOnly};
 ghost use Rattle.model.specs.Answers.{said};
 ghost use Rattle.model.specs.Calls.{massIn};
-ghost use Rattle.checks.specs.Total.{cellsOnly, totalSaid};
+ghost use Rattle.checks.specs.Total.{totalSaid};
 
 // The total of a field, or why there is none.
 pub enum TotalAnswer {
@@ -26,13 +29,13 @@ pub enum TotalAnswer {
 pub fn counts_within(most_cells: usize, most_faces: usize, cells: usize, faces: usize) -> Answer
     ensures { λ r. ⌜ said r ≡ countsWithin «most_cells» «most_faces» cells faces ⌝ }
 {
-    lengths::and_then(
-        lengths::need(
+    and_then(
+        need(
             Cause::Limits,
             0,
-            lengths::between(1, most_cells as u64, cells as u64),
+            between(1, most_cells as u64, cells as u64),
         ),
-        lengths::need(Cause::Limits, 1, faces <= most_faces),
+        need(Cause::Limits, 1, faces <= most_faces),
     )
 }
 
@@ -146,7 +149,7 @@ pub fn check_step(
     if let Answer::Refused(r) = d {
         return Answer::Refused(r);
     }
-    let e = lengths::and_then(
+    let e = and_then(
         field::values(cells, volumes, masses),
         water::values(faces, seconds, reaches, fluxes, outsides),
     );

@@ -1,9 +1,9 @@
 // Causes 3 to 5: the values of the mesh tables.
-use crate::lengths::and_then;
-use crate::lengths::between;
 use model::Answer;
 use model::Cause;
 use model::Refusal;
+use model::needs::and_then;
+use model::needs::between;
 ghost use mathlib.Core.Path.{_≡_};
 ghost use mathlib.Core.Bool.{cond, not, _&&_, _||_};
 ghost use mathlib.Core.List.{[]};

@@ -1,8 +1,8 @@
 // Causes 7 and 8: the outside values and the fluxes.
-use crate::lengths::and_then;
 use model::Answer;
 use model::Cause;
 use model::Refusal;
+use model::needs::and_then;
 use signed::is_negative_at;
 use signed::size_at;
 ghost use mathlib.Core.Path.{_≡_};

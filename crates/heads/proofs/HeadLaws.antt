@@ -12,8 +12,7 @@ use Rattle.model.specs.Causes.{fine, need, countsWithin}
 use Rattle.model.specs.Answers.{said}
 use Rattle.model.specs.declared.Answer.{Answer}
 use Rattle.model.specs.declared.Answer.the-variants.{Done}
-use Rattle.model.proofs.Verdicts.{both-fine, need-fine}
-use Rattle.checks.proofs.Laws.{passes}
+use Rattle.model.proofs.Verdicts.{both-fine, need-fine, passes}
 use Rattle.bits.specs.Field.{bitsAt}
 use Rattle.bits.specs.Layout.{bytesFor}
 use Rattle.sections.proofs.Columns.{those-le}

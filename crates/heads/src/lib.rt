@@ -6,17 +6,18 @@ pub mod reader;
 pub use lengths::FIELD_HEAD;
 pub use lengths::MESH_HEAD;
 pub use lengths::STEP_HEAD;
-use checks::lengths::and_then;
-use checks::lengths::need;
 use model::Answer;
 use model::Cause;
 use model::Refusal;
+use model::needs::and_then;
+use model::needs::between;
+use model::needs::need;
 use reader::Spelled;
 ghost use mathlib.Core.Path.{_≡_};
 ghost use Prim.Native.Nat.{_≤_, min};
 ghost use lib.ListN.{length};
 ghost use Rattle.model.specs.Mesh.{maxCells, maxFaces};
-ghost use Rattle.model.specs.Causes.{countsWithin, between as betweenOf};
+ghost use Rattle.model.specs.Causes.{countsWithin};
 ghost use Rattle.model.specs.Answers.{said};
 ghost use Rattle.heads.specs.Numbers.{numberAt, numberOf};
 ghost use Rattle.heads.specs.Heads.{kindIn, cellsIn, facesIn, stepFacesIn, meshHeadVerdict, fieldHeadVerdict, stepHeadVerdict, meshNeeds, fieldNeeds, stepNeeds, lengthSaid};
@@ -50,20 +51,12 @@ pub enum LengthAnswer {
     Refused(Refusal),
 }
 
-fn between(low: usize, high: usize, x: usize) -> bool
-    ensures { λ r. ⌜ r ≡ betweenOf low high x ⌝ }
-{
-    if x < low {
-        return false;
-    }
-    x <= high
-}
-
 // Cause 1, with the lesser of the caller's limits and document 01's.
 pub fn counts_within(most_cells: usize, most_faces: usize, cells: usize, faces: usize) -> Answer
     ensures { λ r. ⌜ said r ≡ countsWithin (min «most_cells» maxCells) (min «most_faces» maxFaces) cells faces ⌝ }
 {
-    let few_cells = between(1, bits::least(most_cells, model::MAX_CELLS), cells);
+    let most = bits::least(most_cells, model::MAX_CELLS);
+    let few_cells = between(1, most as u64, cells as u64);
     let few_faces = faces <= bits::least(most_faces, model::MAX_FACES);
     and_then(
         need(Cause::Limits, 0, few_cells),
@@ -137,7 +130,7 @@ pub fn field(expected: usize, bytes: &[u8]) -> Answer
     }
     let b = need(Cause::Head, 0, kind(bytes) == FIELD_KIND);
     let d = and_then(b, need(Cause::Head, 1, cells(bytes) == expected));
-    let few = between(1, model::MAX_CELLS, expected);
+    let few = between(1, model::MAX_CELLS as u64, expected as u64);
     and_then(d, need(Cause::Limits, 0, few))
 }
 

@@ -13,7 +13,7 @@ use Rattle.model.proofs.Verdicts.{both-fine, need-fine}
 use Rattle.model.specs.Mesh.{Mesh, meshOf, runCells, runFaces}
 use Rattle.model.specs.Causes.{Outcome, accepted, refused, Verdict, fine, _andThen_, taken, callOf, countsWithin, meshVerdict, fieldValues, fieldVerdict, meshFieldVerdict, verdict}
 use Rattle.model.specs.Answers.{number, told, said}
-use Rattle.model.specs.Calls.{nextTable, stepAnswer}
+use Rattle.model.specs.Calls.{corrected, nextTable, stepAnswer}
 use Rattle.model.specs.declared.Answer.{Answer}
 use Rattle.model.specs.declared.Answer.the-variants.{Done, Refused}
 use Rattle.model.specs.declared.Refusal.{Refusal}
@@ -37,17 +37,17 @@ use Rattle.lagoon.proofs.Stages.{comes-out, comes-past, refused-of, acc
 -- the step on tables as long as the counts, and its writing
 module _ (M : Mesh) (masses : List ℕ) (fluxes : List ℤ) (outsides nexts : List ℕ) (moveds : List ℤ) (work : List ℕ)
     (p : FieldFine M masses) (l : StepLent M fluxes outsides nexts moveds work) (a : StepAnswer) where
-  pub step-refused : (r : Refusal) (bytes : List ℕ) → stepSaid a ≡ stepAnswer M (callOf fluxes outsides nexts moveds work) masses → a ≡ step.Refused r
+  pub step-refused : (r : Refusal) (bytes : List ℕ) → stepSaid a ≡ stepAnswer corrected M (callOf fluxes outsides nexts moveds work) masses → a ≡ step.Refused r
       → WaterComes M masses fluxes outsides bytes (Refused r) bytes
   unfolding stepAnswer
   step-refused r bytes e d = water-refused M masses (p .mesh-fine .accepted) (p .accepted) fluxes outsides nexts moveds work l r bytes (refused-of (verdict M masses (callOf fluxes outsides nexts moveds work)) _ (number (r .cause)) (r .place) (sym (ap stepSaid d) ∙ e))
 
-  module _ (b : Crossing) (e : stepSaid a ≡ stepAnswer M (callOf fluxes outsides nexts moveds work) masses) (d : a ≡ step.Stepped b) where
+  module _ (b : Crossing) (e : stepSaid a ≡ stepAnswer corrected M (callOf fluxes outsides nexts moveds work) masses) (d : a ≡ step.Stepped b) where
     step-fine : verdict M masses (callOf fluxes outsides nexts moveds work) ≡ fine
     unfolding stepAnswer
     step-fine = accepted-of (verdict M masses (callOf fluxes outsides nexts moveds work)) _ _ (sym (ap stepSaid d) ∙ e) .0
 
-    module _ (bytes bytes' nexts' : List ℕ) (n : nexts' ≡ nextTable M (callOf fluxes outsides nexts moveds work) masses) (o : WriteAnswer) where
+    module _ (bytes bytes' nexts' : List ℕ) (n : nexts' ≡ nextTable corrected M (callOf fluxes outsides nexts moveds work) masses) (o : WriteAnswer) where
       wrote : FieldWriting M nexts' bytes o bytes' → FieldWriting M (nextOf M masses fluxes outsides) bytes o bytes'
       wrote w = let q : nexts' ≡ nextOf M masses fluxes outsides = n ∙ nexts-are M masses (p .mesh-fine .accepted) (p .accepted) fluxes outsides nexts moveds work l step-fine in rw q at w
 

@@ -6,9 +6,10 @@ use mathlib.Core.Bool.{Bool, true, false, cond}
 use native.Mathlib.Nat.{zero-mul, suc-mul, le-of-suc-le-suc, eq-or-lt-of-le}
 use native.Mathlib.Numerals.{add-one}
 use native.Mathlib.Omega.{arith}
+use borrow.Author.Tests.{ne-eqb}
 use lib.Dec.{eqb}
 use Rattle.lists.specs.Fold.{sum, least, greatest}
-use Rattle.lists.proofs.Tests.{Same, same, other, same?, eqb-no}
+use Rattle.lists.proofs.Tests.{Same, same, other, same?}
 
 pub sum-zero : (f : ℕ → ℕ) → sum 0 f ≡ 0
 unfolding sum
@@ -69,7 +70,7 @@ sum-term k n f l = rw (← sum-more k f) (sum-part (k + 1) n f (omega arith))
 pub sum-none : (n k a : ℕ) → n ≤ k → sum n (λ c. cond (eqb k c) a 0) ≡ 0
 unfolding sum
 sum-none zero k a h = refl
-sum-none (suc n) k a h = rw (eqb-no k n (omega arith)) (omega (arith, sum-none n k a (omega arith)))
+sum-none (suc n) k a h = rw (ne-eqb k n (omega arith)) (omega (arith, sum-none n k a (omega arith)))
 
 pub sum-pick : (n k a : ℕ) → k < n → sum n (λ c. cond (eqb k c) a 0) ≡ a
 unfolding sum
@@ -107,11 +108,6 @@ least-each (suc n) s f i h = go (eqb i n) (same? i n) (least-each n s f i)
     go true (same e) ih = rw e (omega arith)
     go false (other d) ih = omega (arith, ih (omega arith))
 
-pub least-same : (n s : ℕ) (f : ℕ → ℕ) → ((i : ℕ) → i < n → f i ≡ s) → least n s f ≡ s
-unfolding least
-least-same zero s f h = refl
-least-same (suc n) s f h = rw (least-same n s f (λ i l. h i (omega arith)), h n (omega arith)) (omega arith)
-
 pub greatest-cong : (n s t : ℕ) (f g : ℕ → ℕ) → s ≡ t → ((i : ℕ) → i < n → f i ≡ g i) → greatest n s f ≡ greatest n t g
 unfolding greatest
 greatest-cong zero s t f g e h = e
@@ -135,8 +131,3 @@ pub greatest-le : (n s : ℕ) (f : ℕ → ℕ) (k : ℕ) → s ≤ k → ((i : 
 unfolding greatest
 greatest-le zero s f k h g = h
 greatest-le (suc n) s f k h g = omega (arith, greatest-le n s f k h (λ i l. g i (omega arith)), g n (omega arith))
-
-pub greatest-same : (n s : ℕ) (f : ℕ → ℕ) → ((i : ℕ) → i < n → f i ≡ s) → greatest n s f ≡ s
-unfolding greatest
-greatest-same zero s f h = refl
-greatest-same (suc n) s f h = rw (greatest-same n s f (λ i l. h i (omega arith)), h n (omega arith)) (omega arith)

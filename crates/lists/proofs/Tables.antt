@@ -7,8 +7,8 @@ use native.Mathlib.Nat.{not-suc-le-zero, le-of-suc-le-suc}
 use native.Mathlib.Numerals.{add-one}
 use native.Mathlib.Omega.{arith}
 use lib.Dec.{eqb}
-use lib.ListN.{length, getD, set, take, drop, length-append, length-drop, drop-of-length-le, List·getD-append}
-use lib.Seq.{ext-getD, getD-set-same, getD-set-other, getD-append-add, getD-drop}
+use lib.ListN.{length, getD, set, drop, length-append, length-drop, drop-of-length-le, List·getD-append}
+use lib.Seq.{ext-getD, getD-set-same, getD-set-other}
 use Rattle.lists.specs.Table.{table, over}
 use Rattle.lists.proofs.Tests.{Same, same, other, same?}
 

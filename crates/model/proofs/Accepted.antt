@@ -1,44 +1,34 @@
 -- What an accepted call has passed.
-use Prim.Native.Nat.{ℕ, suc, _+_, _*_, _/_, _≤_, _<_}
-use mathlib.Core.Path.{_≡_, refl, sym, _∙_}
+use Prim.Native.Nat.{ℕ, suc, _/_, _≤_, _<_}
+use mathlib.Core.Path.{_≡_}
 use mathlib.Core.Logic.{_≢_}
 use mathlib.Core.Bool.{Bool, true, false, not, cond, _&&_, _||_}
 use mathlib.Core.List.{List}
+use native.Mathlib.Nat.{lt-div-mul-add, mul-le-mul}
 use native.Mathlib.Omega.{arith}
+use borrow.Author.Tests.{not-true, ne-eqb, leb-true, le-leb, eqb-true, eqb-false}
 use lib.ListN.{length, getD}
 use lib.Dec.{eqb, leb, ltb}
 use lib.IntN.{ℤ}
 use Rattle.signed.specs.Sign.{size, isZero, isNegative}
-use Rattle.lists.proofs.Tests.{eqb-no, Same, same, other, same?, leb-le, le-leb, eqb-eq, eqb-ne, both-true, either-true}
+use Rattle.lists.proofs.Tests.{Same, same, other, same?, both-true, either-true}
 use Rattle.lists.proofs.Sums.{greatest-le}
 use Rattle.model.specs.Mesh.{Mesh, volume, first, second, share, reach, atRim, rim, incoming, outgoing, maxCells, maxFaces, maxVolume, maxShare, maxReach, maxConcentration, maxRimFlux}
 use Rattle.model.specs.Step.{StepInput, flux, outside, concentration, adjacent, hi}
-use Rattle.model.specs.Causes.{accepted, fine, _andThen_, each, between, Call, inputOf, workLength, countsWithin, counts, meshTables, volumeGood, endsGood, spacingGood, meshValues, fieldTable, fieldValues, saltGood, fieldVerdict, meshVerdict, stepTables, outsideGood, fluxGood, balanceGood, outflowGood, stepValues, verdict}
+use Rattle.model.specs.Causes.{fine, _andThen_, each, between, Call, inputOf, countsWithin, counts, meshTables, volumeGood, endsGood, spacingGood, meshValues, fieldTable, fieldValues, saltGood, fieldVerdict, stepTables, outsideGood, fluxGood, balanceGood, outflowGood, stepValues, verdict, meshFieldVerdict}
+pub use Rattle.model.specs.Accepted.{Counted, MeshLent, CallLent, MeshFit, WaterFit, Ready}
+use Rattle.model.specs.Accepted.{maxMass}
 use Rattle.model.proofs.Verdicts.{both-fine, need-fine, need-met, each-fine, fine-each}
-use Rattle.model.proofs.Budget.{Joined}
-use Rattle.model.proofs.Low.{Sound}
 
 -- past cause 1
-pub record Counted (M : Mesh) : Type 0 where
-  pub some : 1 ≤ M .cells
-  pub few-cells : M .cells ≤ maxCells
-  pub few-faces : M .faces ≤ maxFaces
-
 pub counted : (M : Mesh) → counts M ≡ fine → Counted M
 unfolding counts countsWithin
 counted M e =
     let p = both-fine _ _ e in
     let c = both-true (leb 1 (M .cells)) (leb (M .cells) maxCells) (need-fine 1 0 _ (p .0)) in
-    record { some = leb-le _ _ (c .0); few-cells = leb-le _ _ (c .1); few-faces = leb-le _ _ (need-fine 1 1 _ (p .1)) }
+    record { some = leb-true _ _ (c .0); few-cells = leb-true _ _ (c .1); few-faces = leb-true _ _ (need-fine 1 1 _ (p .1)) }
 
 -- past cause 2
-pub record MeshLent (M : Mesh) : Type 0 where
-  pub volumes-long : M .cells ≤ length (M .volumes)
-  pub firsts-long : M .faces ≤ length (M .firsts)
-  pub seconds-long : M .faces ≤ length (M .seconds)
-  pub shares-long : M .faces ≤ length (M .shares)
-  pub reaches-long : M .faces ≤ length (M .reaches)
-
 pub mesh-lent : (M : Mesh) → meshTables M ≡ fine → MeshLent M
 unfolding meshTables
 mesh-lent M e =
@@ -47,23 +37,16 @@ mesh-lent M e =
     let c = both-fine _ _ (b .0) in
     let d = both-fine _ _ (c .0) in
     record {
-      volumes-long = leb-le _ _ (need-fine 2 0 _ (d .0));
-      firsts-long = leb-le _ _ (need-fine 2 1 _ (d .1));
-      seconds-long = leb-le _ _ (need-fine 2 2 _ (c .1));
-      shares-long = leb-le _ _ (need-fine 2 3 _ (b .1));
-      reaches-long = leb-le _ _ (need-fine 2 4 _ (a .1));
+      volumes-long = leb-true _ _ (need-fine 2 0 _ (d .0));
+      firsts-long = leb-true _ _ (need-fine 2 1 _ (d .1));
+      seconds-long = leb-true _ _ (need-fine 2 2 _ (c .1));
+      shares-long = leb-true _ _ (need-fine 2 3 _ (b .1));
+      reaches-long = leb-true _ _ (need-fine 2 4 _ (a .1));
     }
 
 pub field-lent : (M : Mesh) (field : List ℕ) → fieldTable M field ≡ fine → M .cells ≤ length field
 unfolding fieldTable
-field-lent M field e = leb-le _ _ (need-fine 2 5 _ e)
-
-pub record CallLent (M : Mesh) (k : Call) : Type 0 where
-  pub fluxes-long : M .faces ≤ length (k .fluxes)
-  pub outsides-long : M .faces ≤ length (k .outsides)
-  pub nexts-long : M .cells ≤ length (k .nexts)
-  pub moveds-long : M .faces ≤ length (k .moveds)
-  pub work-long : workLength M ≤ length (k .work)
+field-lent M field e = leb-true _ _ (need-fine 2 5 _ e)
 
 pub call-lent : (M : Mesh) (field : List ℕ) (k : Call) → stepTables M field k ≡ fine → CallLent M k
 unfolding stepTables
@@ -73,51 +56,37 @@ call-lent M field k e =
     let c = both-fine _ _ (b .0) in
     let d = both-fine _ _ (c .0) in
     record {
-      fluxes-long = leb-le _ _ (need-fine 2 6 _ (d .0));
-      outsides-long = leb-le _ _ (need-fine 2 7 _ (d .1));
-      nexts-long = leb-le _ _ (need-fine 2 8 _ (c .1));
-      moveds-long = leb-le _ _ (need-fine 2 9 _ (b .1));
-      work-long = leb-le _ _ (need-fine 2 10 _ (a .1));
+      fluxes-long = leb-true _ _ (need-fine 2 6 _ (d .0));
+      outsides-long = leb-true _ _ (need-fine 2 7 _ (d .1));
+      nexts-long = leb-true _ _ (need-fine 2 8 _ (c .1));
+      moveds-long = leb-true _ _ (need-fine 2 9 _ (b .1));
+      work-long = leb-true _ _ (need-fine 2 10 _ (a .1));
     }
 
 -- past causes 3 to 5
-pub record MeshFit (M : Mesh) : Type 0 where
-  pub volume-some : (c : ℕ) → c < M .cells → 1 ≤ volume M c
-  pub volume-most : (c : ℕ) → c < M .cells → volume M c ≤ maxVolume
-  pub first-in : (f : ℕ) → f < M .faces → first M f < M .cells
-  pub second-in : (f : ℕ) → f < M .faces → second M f ≢ rim → second M f < M .cells
-  pub apart : (f : ℕ) → f < M .faces → first M f ≢ second M f
-  pub share-most : (f : ℕ) → f < M .faces → share M f ≤ maxShare
-  pub reach-some : (f : ℕ) → f < M .faces → second M f ≢ rim → 1 ≤ reach M f
-  pub reach-most : (f : ℕ) → f < M .faces → reach M f ≤ maxReach
-
-not-true : (b : Bool) → not b ≡ true → b ≡ false
-not-true false e = refl
-not-true true e = let z : _≡_ {A = ℕ} 0 1 = cc in absurd (omega arith)
-
 ends-say : (n l k : ℕ) → (ltb l n && (ltb k n || eqb k rim) && not (eqb l k)) ≡ true → (l < n) × (k ≢ rim → k < n) × (l ≢ k)
 ends-say n l k e =
     let a = both-true (ltb l n && (ltb k n || eqb k rim)) (not (eqb l k)) e in
     let b = both-true (ltb l n) (ltb k n || eqb k rim) (a .0) in
-    (leb-le (suc l) n (b .0), (λ d. leb-le (suc k) n (either-true (ltb k n) (eqb k rim) (b .1) (eqb-no k rim d))), eqb-ne l k (not-true (eqb l k) (a .1)))
+    (leb-true (suc l) n (b .0), (λ d. leb-true (suc k) n (either-true (ltb k n) (eqb k rim) (b .1) (ne-eqb k rim d))), eqb-false l k (not-true (eqb l k) (a .1)))
 
 spacing-says : (k s r : ℕ) → cond (eqb k rim) (eqb s 0 && eqb r 0) (between 1 maxShare s && between 1 maxReach r) ≡ true → (s ≤ maxShare) × (r ≤ maxReach) × (k ≢ rim → 1 ≤ r)
 spacing-says k s r e = go (eqb k rim) (same? k rim) e
   where
     go : (b : Bool) → Same k rim b → cond b (eqb s 0 && eqb r 0) (between 1 maxShare s && between 1 maxReach r) ≡ true → (s ≤ maxShare) × (r ≤ maxReach) × (k ≢ rim → 1 ≤ r)
-    go true (same d) e = let p = both-true (eqb s 0) (eqb r 0) e in (omega (arith, eqb-eq s 0 (p .0)), omega (arith, eqb-eq r 0 (p .1)), λ n. absurd (n d))
+    go true (same d) e = let p = both-true (eqb s 0) (eqb r 0) e in (omega (arith, eqb-true s 0 (p .0)), omega (arith, eqb-true r 0 (p .1)), λ n. absurd (n d))
     go false o e =
         let p = both-true (between 1 maxShare s) (between 1 maxReach r) e in
         let a = both-true (leb 1 s) (leb s maxShare) (p .0) in
         let b = both-true (leb 1 r) (leb r maxReach) (p .1) in
-        (leb-le _ _ (a .1), leb-le _ _ (b .1), λ n. leb-le _ _ (b .0))
+        (leb-true _ _ (a .1), leb-true _ _ (b .1), λ n. leb-true _ _ (b .0))
 
 module _ (M : Mesh) (e : meshValues M ≡ fine) where
   volumes-say : (c : ℕ) → c < M .cells → (1 ≤ volume M c) × (volume M c ≤ maxVolume)
   unfolding meshValues volumeGood
   volumes-say c h =
       let p = both-true (leb 1 (volume M c)) (leb (volume M c) maxVolume) (each-fine 3 (M .cells) (volumeGood M) (both-fine _ _ (both-fine _ _ e .0) .0) c h) in
-      (leb-le _ _ (p .0), leb-le _ _ (p .1))
+      (leb-true _ _ (p .0), leb-true _ _ (p .1))
 
   joins : (f : ℕ) → f < M .faces → (first M f < M .cells) × (second M f ≢ rim → second M f < M .cells) × (first M f ≢ second M f)
   unfolding meshValues endsGood
@@ -142,7 +111,7 @@ module _ (M : Mesh) (e : meshValues M ≡ fine) where
 -- past cause 6, and back
 pub field-fit : (M : Mesh) (field : List ℕ) → fieldValues M field ≡ fine → (c : ℕ) → c < M .cells → getD field c 0 / volume M c ≤ maxConcentration
 unfolding fieldValues saltGood
-field-fit M field e c h = leb-le _ _ (each-fine 6 (M .cells) (saltGood M field) e c h)
+field-fit M field e c h = leb-true _ _ (each-fine 6 (M .cells) (saltGood M field) e c h)
 
 pub field-accepted : (M : Mesh) (field : List ℕ) → M .cells ≤ length field → ((c : ℕ) → c < M .cells → getD field c 0 / volume M c ≤ maxConcentration) → fieldVerdict M field ≡ fine
 unfolding fieldVerdict fieldTable fieldValues saltGood _andThen_
@@ -150,42 +119,78 @@ field-accepted M field long fresh =
     rw (need-met 2 5 (le-leb (M .cells) (length field) long)) (fine-each 6 (M .cells) (saltGood M field) (λ c h. le-leb (getD field c 0 / volume M c) maxConcentration (fresh c h)))
 
 -- past causes 7 and 8
-pub record WaterFit (S : StepInput) : Type 0 where
-  pub outside-most : (f : ℕ) → f < S .mesh .faces → outside S f ≤ maxConcentration
-  pub flux-most : (f : ℕ) → f < S .mesh .faces → size (flux S f) ≤ cond (atRim (S .mesh) f) maxRimFlux (reach (S .mesh) f)
-
 outside-says : (o : ℕ) (b : Bool) → leb o (cond b maxConcentration 0) ≡ true → o ≤ maxConcentration
-outside-says o true e = leb-le o maxConcentration e
-outside-says o false e = omega (arith, leb-le o 0 e)
+outside-says o true e = leb-true o maxConcentration e
+outside-says o false e = omega (arith, leb-true o 0 e)
 
 module _ (M : Mesh) (field : List ℕ) (k : Call) where
   pub water-fit : each 7 (M .faces) (outsideGood M field k) ≡ fine → each 8 (M .faces) (fluxGood M field k) ≡ fine → WaterFit (inputOf M field k)
   unfolding outsideGood fluxGood
   water-fit e d = record {
     outside-most = λ f h. outside-says (outside (inputOf M field k) f) (atRim M f && isNegative (flux (inputOf M field k) f)) (each-fine 7 (M .faces) (outsideGood M field k) e f h);
-    flux-most = λ f h. leb-le _ _ (each-fine 8 (M .faces) (fluxGood M field k) d f h);
+    flux-most = λ f h. leb-true _ _ (each-fine 8 (M .faces) (fluxGood M field k) d f h);
   }
 
   -- past causes 9 and 10
   pub level : each 9 (M .cells) (balanceGood M field k) ≡ fine → (c : ℕ) → c < M .cells → incoming M (flux (inputOf M field k)) c ≡ outgoing M (flux (inputOf M field k)) c
   unfolding balanceGood
-  level e c h = eqb-eq _ _ (each-fine 9 (M .cells) (balanceGood M field k) e c h)
+  level e c h = eqb-true _ _ (each-fine 9 (M .cells) (balanceGood M field k) e c h)
 
   pub courant : each 10 (M .cells) (outflowGood M field k) ≡ fine → (c : ℕ) → c < M .cells → outgoing M (flux (inputOf M field k)) c ≤ volume M c
   unfolding outflowGood
-  courant e c h = leb-le _ _ (each-fine 10 (M .cells) (outflowGood M field k) e c h)
+  courant e c h = leb-true _ _ (each-fine 10 (M .cells) (outflowGood M field k) e c h)
 
--- all that acceptance says of what a step works on
-pub record Ready (S : StepInput) : Type 0 where
-  pub counts-fit : Counted (S .mesh)
-  pub lent : MeshLent (S .mesh)
-  pub fit : MeshFit (S .mesh)
-  pub masses-long : S .mesh .cells ≤ length (S .masses)
-  pub fluxes-long : S .mesh .faces ≤ length (S .fluxes)
-  pub outsides-long : S .mesh .faces ≤ length (S .outsides)
-  pub salt-most : (c : ℕ) → c < S .mesh .cells → concentration S c ≤ maxConcentration
-  pub water : WaterFit S
-  pub sound : Sound S
+-- the lengths that the tests of values ask for
+pub mesh-long : (M : Mesh) → (counts M andThen meshTables M) ≡ fine
+    → (M .cells ≤ length (M .volumes)) × (M .faces ≤ length (M .firsts)) × (M .faces ≤ length (M .seconds)) × (M .faces ≤ length (M .shares)) × (M .faces ≤ length (M .reaches))
+mesh-long M e =
+    let l = mesh-lent M (both-fine _ _ e .1) in
+    (l .volumes-long, l .firsts-long, l .seconds-long, l .shares-long, l .reaches-long)
+
+-- what a field whose causes are fine has passed
+pub record FieldPassed (M : Mesh) (field : List ℕ) : Type 0 where
+  pub lent-fine : (counts M andThen meshTables M andThen fieldTable M field) ≡ fine
+  pub mesh-fine : meshValues M ≡ fine
+  pub field-fine : fieldValues M field ≡ fine
+
+pub field-passed : {M : Mesh} {field : List ℕ} → meshFieldVerdict M field ≡ fine → FieldPassed M field
+unfolding meshFieldVerdict
+field-passed {M} {field} e =
+    let a = both-fine _ _ e in
+    let b = both-fine _ _ (a .0) in
+    record { lent-fine = b .0; mesh-fine = b .1; field-fine = a .1 }
+
+-- what cause 6 asks for
+pub salt-asks : (M : Mesh) (field : List ℕ) → (counts M andThen meshTables M andThen fieldTable M field) ≡ fine → meshValues M ≡ fine
+    → ((M .cells ≤ length (M .volumes)) × (M .cells ≤ length field)) × ((c : ℕ) → c < M .cells → (1 ≤ volume M c) × (volume M c ≤ maxVolume))
+salt-asks M field e d =
+    let p = both-fine _ _ e in
+    let m = mesh-fit M d in
+    ((mesh-long M (p .0) .0, field-lent M field (p .1)), λ c h. (m .volume-some c h, m .volume-most c h))
+
+-- what the lengths of a step's tables ask for
+pub few : (M : Mesh) (field : List ℕ) → (counts M andThen meshTables M andThen fieldTable M field) ≡ fine → (M .cells ≤ maxCells) × (M .faces ≤ maxFaces)
+few M field e = let c = counted M (both-fine _ _ (both-fine _ _ e .0) .0) in (c .few-cells, c .few-faces)
+
+-- a mass whose concentration is within the ceiling
+pub mass-small : (m v : ℕ) → 1 ≤ v → v ≤ maxVolume → m / v ≤ maxConcentration → m ≤ maxMass
+mass-small m v h k l = omega (arith, lt-div-mul-add {a = m} h, mul-le-mul l k)
+
+-- a second cell, and the mark, fit one width
+pub second-most : (M : Mesh) → M .cells ≤ maxCells → MeshFit M → (f : ℕ) → f < M .faces → second M f ≤ rim
+second-most M few fit f h = go (eqb (second M f) rim) (same? (second M f) rim)
+  where
+    go : (b : Bool) → Same (second M f) rim b → second M f ≤ rim
+    go true (same q) = omega arith
+    go false (other q) = omega (arith, fit .second-in f h q)
+
+-- a flux is small, at the rim and inside
+pub flux-small : (S : StepInput) → MeshFit (S .mesh) → WaterFit S → (f : ℕ) → f < S .mesh .faces → size (flux S f) ≤ maxRimFlux
+flux-small S fit water f h = go (atRim (S .mesh) f) (water .flux-most f h)
+  where
+    go : (b : Bool) → size (flux S f) ≤ cond b maxRimFlux (reach (S .mesh) f) → size (flux S f) ≤ maxRimFlux
+    go true l = l
+    go false l = omega (arith, fit .reach-most f h)
 
 -- the parts of a call that is accepted
 pub record Passed (M : Mesh) (field : List ℕ) (k : Call) : Type 0 where
@@ -258,13 +263,8 @@ module _ (S : StepInput) (r : Ready S) where
   unfolding hi
   hi-most c h = greatest-le (M .faces) (concentration S c) (adjacent S c) maxConcentration (r .salt-most c h) (λ f l. adjacent-most c f h l)
 
-  -- a flux is small, at the rim and inside
   pub flux-few : (f : ℕ) → f < M .faces → size (flux S f) ≤ maxRimFlux
-  flux-few f h = go (atRim M f) (r .water .flux-most f h)
-    where
-      go : (b : Bool) → size (flux S f) ≤ cond b maxRimFlux (reach M f) → size (flux S f) ≤ maxRimFlux
-      go true l = l
-      go false l = omega (arith, r .fit .reach-most f h)
+  flux-few = flux-small S (r .fit) (r .water)
 
   pub flux-reach : (f : ℕ) → f < M .faces → second M f ≢ rim → size (flux S f) ≤ reach M f
-  flux-reach f h d = rw (eqb-no (second M f) rim d) at (r .water .flux-most f h)
+  flux-reach f h d = rw (ne-eqb (second M f) rim d) at (r .water .flux-most f h)

@@ -12,12 +12,7 @@ use Rattle.signed.specs.Sign.{forward, backward}
 use Rattle.model.specs.Mesh.{Mesh, first, second, atRim, rim, entering, leaving, incoming, outgoing, updated, total}
 use Rattle.lists.proofs.Tests.{Same, same, other, same?}
 use Rattle.lists.proofs.Sums.{sum-cong, sum-add, sum-swap, sum-none, sum-pick}
-
--- every face joins a cell to another, or to the rim
-pub record Joined (M : Mesh) : Type 0 where
-  pub few : M .cells ≤ rim
-  pub first-in : (f : ℕ) → f < M .faces → first M f < M .cells
-  pub second-in : (f : ℕ) → f < M .faces → second M f ≢ rim → second M f < M .cells
+pub use Rattle.model.specs.Accepted.{Joined}
 
 -- what crosses the rim outward and inward
 unfoldable pub outward : Mesh → (ℕ → ℤ) → ℕ
@@ -26,7 +21,7 @@ outward M x = sum (M .faces) (λ f. cond (atRim M f) (forward (x f)) 0)
 unfoldable pub inward : Mesh → (ℕ → ℤ) → ℕ
 inward M x = sum (M .faces) (λ f. cond (atRim M f) (backward (x f)) 0)
 
--- the cells' shares of a that enters at k, and b that enters at l
+-- the cells' parts of a that enters at k, and b that enters at l
 split : (n k l a b : ℕ) → sum n (λ c. cond (eqb k c) a 0 + cond (eqb l c) b 0) ≡ sum n (λ c. cond (eqb k c) a 0) + sum n (λ c. cond (eqb l c) b 0)
 split n k l a b = sum-add n (λ c. cond (eqb k c) a 0) (λ c. cond (eqb l c) b 0)
 

@@ -12,7 +12,7 @@ use Rattle.signed.specs.Sign.{isNegative}
 use Rattle.model.specs.Mesh.{Mesh, second, rim, entering, leaving, incoming, outgoing, updated}
 use Rattle.model.specs.Step.{StepInput, flux, outside, mass, inMass, next, moved, concentration, beyond, upwind, downwind, carried, low, upwindShare, correction, adjacent, lo, hi, maxGain, maxLoss, receiver, giver, limitedBy, limited, portion}
 use Rattle.model.specs.Causes.{Call, inputOf, fine, refused, _andThen_, need, each, countsWithin, counts, meshTables, volumeGood, endsGood, spacingGood, meshValues, fieldTable, saltGood, fieldValues, fieldVerdict, stepTables, outsideGood, fluxGood, balanceGood, outflowGood, stepValues, verdict}
-use Rattle.model.specs.Calls.{stepOnTables, nextTable, afterAll, totalIn, totalOut}
+use Rattle.model.specs.Calls.{corrected, stepOnTables, nextTable, afterAll, totalIn, totalOut}
 use Rattle.model.proofs.Accepted.{ready}
 use Rattle.model.proofs.Uniform.{uniform, no-faces}
 
@@ -21,16 +21,15 @@ everything : Unit {0}
 unfolding afterAll totalIn totalOut stepOnTables nextTable inMass over verdict counts countsWithin meshTables fieldTable stepTables meshValues fieldValues saltGood stepValues volumeGood endsGood spacingGood outsideGood fluxGood balanceGood outflowGood need each _andThen_ table sum least greatest entering leaving incoming outgoing updated next moved concentration beyond upwind downwind carried low upwindShare correction adjacent lo hi maxGain maxLoss receiver giver limitedBy limited portion fieldVerdict
 everything = tt
 
--- "three cells of V 100; faces 0 to rim, 0 to 1, 1 to 2, 2 to rim; s 128, K 100"
+-- "The board and the run", the channel session: its mesh, the call of its two steps, and what that works on
 abbrev pub channel : Mesh
 channel = record { cells = 3; faces = 4; volumes = 100 ∷ 100 ∷ 100 ∷ []; firsts = 0 ∷ 0 ∷ 1 ∷ 2 ∷ []; seconds = rim ∷ 1 ∷ 2 ∷ rim ∷ []; shares = 0 ∷ 128 ∷ 128 ∷ 0 ∷ []; reaches = 0 ∷ 100 ∷ 100 ∷ 0 ∷ [] }
 
--- "two steps with U −50, 50, 50, 50 and outside value 1000 at face 0"
-abbrev pub channelStep : List ℕ → StepInput
-channelStep masses = record { mesh = channel; masses = masses; fluxes = negsuc 49 ∷ pos 50 ∷ pos 50 ∷ pos 50 ∷ []; outsides = 1000 ∷ 0 ∷ 0 ∷ 0 ∷ [] }
-
-abbrev channelCall : Call
+abbrev pub channelCall : Call
 channelCall = record { fluxes = negsuc 49 ∷ pos 50 ∷ pos 50 ∷ pos 50 ∷ []; outsides = 1000 ∷ 0 ∷ 0 ∷ 0 ∷ []; nexts = 7 ∷ 7 ∷ 7 ∷ []; moveds = pos 0 ∷ pos 0 ∷ pos 0 ∷ pos 0 ∷ []; work = replicate 16 0 }
+
+abbrev pub channelStep : List ℕ → StepInput
+channelStep masses = inputOf channel masses channelCall
 
 -- one face between two cells of V 1 with concentrations a and b
 abbrev pub between : ℕ → ℕ → ℤ → ℕ → ℕ → StepInput
@@ -45,9 +44,15 @@ between a b u s k = record {
 abbrev pub pair : Mesh
 pair = record { cells = 2; faces = 2; volumes = 10 ∷ 10 ∷ []; firsts = 0 ∷ 0 ∷ []; seconds = 1 ∷ 1 ∷ []; shares = 128 ∷ 128 ∷ []; reaches = 10 ∷ 10 ∷ [] }
 
+abbrev pub exchangeCall : Call
+exchangeCall = record { fluxes = pos 10 ∷ negsuc 9 ∷ []; outsides = 0 ∷ 0 ∷ []; nexts = 0 ∷ 0 ∷ []; moveds = pos 0 ∷ pos 0 ∷ []; work = replicate 10 0 }
+
 -- one cell of volume v, no faces
 abbrev pub lake : ℕ → Mesh
 lake v = record { cells = 1; faces = 0; volumes = v ∷ []; firsts = []; seconds = []; shares = []; reaches = [] }
+
+abbrev pub lakeCall : Call
+lakeCall = record { fluxes = []; outsides = []; nexts = 0 ∷ []; moveds = []; work = replicate 4 0 }
 
 -- one cell of V 100 with two faces over the rim
 abbrev pub strait : Mesh
@@ -56,34 +61,41 @@ strait = record { cells = 1; faces = 2; volumes = 100 ∷ []; firsts = 0 ∷ 0 �
 abbrev pub through : ℕ → Call
 through u = record { fluxes = pos (suc u) ∷ negsuc u ∷ []; outsides = 0 ∷ 0 ∷ []; nexts = 0 ∷ []; moveds = pos 0 ∷ pos 0 ∷ []; work = replicate 6 0 }
 
--- The lines marked P, in document 01's order.
+-- The lines marked P, in document 01's order. Each step is accepted.
 pub record Figures : Type 0 where
-  -- "channel step 1: masses 100099, 49901, 0; moved −50000, 49901, 0, 0. The correction 12500 toward cell 0 is cut to 99."
+  -- 1: channel step 1, with its cut correction
+  pub channel-1-accepted : verdict channel (100000 ∷ 0 ∷ 0 ∷ []) channelCall ≡ fine
   pub channel-1 : table 3 (next (channelStep (100000 ∷ 0 ∷ 0 ∷ []))) ≡ 100099 ∷ 49901 ∷ 0 ∷ []
   pub channel-1-moved : table 4 (moved (channelStep (100000 ∷ 0 ∷ 0 ∷ []))) ≡ negsuc 49999 ∷ pos 49901 ∷ pos 0 ∷ pos 0 ∷ []
   pub channel-1-correction : correction (channelStep (100000 ∷ 0 ∷ 0 ∷ [])) 1 ≡ negsuc 12499
   pub channel-1-cut : limited (channelStep (100000 ∷ 0 ∷ 0 ∷ [])) 1 ≡ negsuc 98
-  -- "channel step 2: masses 100099, 81188, 18713."
+  -- 2: channel step 2
+  pub channel-2-accepted : verdict channel (100099 ∷ 49901 ∷ 0 ∷ []) channelCall ≡ fine
   pub channel-2 : table 3 (next (channelStep (100099 ∷ 49901 ∷ 0 ∷ []))) ≡ 100099 ∷ 81188 ∷ 18713 ∷ []
-  -- "V 10 and 10, masses 93 and 15, two faces from 0 to 1 with U 10 and −10, s 128, K 10: masses 13 and 95."
-  pub exchange : table 2 (next (record { mesh = pair; masses = 93 ∷ 15 ∷ []; fluxes = pos 10 ∷ negsuc 9 ∷ []; outsides = 0 ∷ 0 ∷ [] })) ≡ 13 ∷ 95 ∷ []
-  -- "U 1, K 2, s 128, d −3: correction 0."
+  -- 3: two cells of V 10 that exchange their water over two faces
+  pub exchange-accepted : verdict pair (93 ∷ 15 ∷ []) exchangeCall ≡ fine
+  pub exchange : table 2 (next (inputOf pair (93 ∷ 15 ∷ []) exchangeCall)) ≡ 13 ∷ 95 ∷ []
+  -- 4 and 5: the correction of one face, of size 0 and of size 49609
   pub correction-none : correction (between 3 0 (pos 1) 128 2) 0 ≡ pos 0
-  -- "U 100, K 100, s 1, d −1000: correction 49609, downwind."
   pub correction-downwind : correction (between 1000 0 (pos 100) 1 100) 0 ≡ pos 49609
-  -- "all V 7, all m 30, outside 4: no mass changes", for every mesh and every concentration
+  -- 6: one concentration everywhere, for every mesh and every concentration
   pub unchanged : (M : Mesh) (field : List ℕ) (k : Call) (q : ℕ) → verdict M field k ≡ fine
       → ((c : ℕ) → c < M .cells → concentration (inputOf M field k) c ≡ q)
       → ((f : ℕ) → f < M .faces → second M f ≡ rim → isNegative (flux (inputOf M field k) f) ≡ true → outside (inputOf M field k) f ≡ q)
       → (c : ℕ) → c < M .cells → next (inputOf M field k) c ≡ mass (inputOf M field k) c
-  -- "V 4,095: m 4,095,004,094 accepted, 4,095,004,095 refused 6."
+  -- 7: the fullest cell of V 4,095, and one too full
   pub fullest : fieldVerdict (lake 4095) (4095004094 ∷ []) ≡ fine
   pub too-full : fieldVerdict (lake 4095) (4095004095 ∷ []) ≡ refused 6 0
-  -- "outflow 100 from V 100 accepted, 101 refused 10."
+  -- 8: as much outflow as V 100, and one more
   pub outflow-100 : verdict strait (0 ∷ []) (through 99) ≡ fine
   pub outflow-101 : verdict strait (0 ∷ []) (through 100) ≡ refused 10 0
-  -- "one cell, no faces: unchanged", for every volume and every mass
-  pub alone : (v m : ℕ) → next (record { mesh = lake v; masses = m ∷ []; fluxes = []; outsides = [] }) 0 ≡ m
+  -- 9: one cell, no faces, for every volume and every mass; accepted where both are within their ranges, as the example record's are
+  pub alone-accepted : verdict (lake 100) (99 ∷ []) lakeCall ≡ fine
+  pub alone : (v m : ℕ) → next (inputOf (lake v) (m ∷ []) lakeCall) 0 ≡ m
+
+channel-1-accepted-is : verdict channel (100000 ∷ 0 ∷ 0 ∷ []) channelCall ≡ fine
+unfolding everything
+channel-1-accepted-is = refl
 
 channel-1-is : table 3 (next (channelStep (100000 ∷ 0 ∷ 0 ∷ []))) ≡ 100099 ∷ 49901 ∷ 0 ∷ []
 unfolding everything
@@ -101,11 +113,19 @@ channel-1-cut-is : limited (channelStep (100000 ∷ 0 ∷ 0 ∷ [])) 1 ≡ negsu
 unfolding everything
 channel-1-cut-is = refl
 
+channel-2-accepted-is : verdict channel (100099 ∷ 49901 ∷ 0 ∷ []) channelCall ≡ fine
+unfolding everything
+channel-2-accepted-is = refl
+
 channel-2-is : table 3 (next (channelStep (100099 ∷ 49901 ∷ 0 ∷ []))) ≡ 100099 ∷ 81188 ∷ 18713 ∷ []
 unfolding everything
 channel-2-is = refl
 
-exchange-is : table 2 (next (record { mesh = pair; masses = 93 ∷ 15 ∷ []; fluxes = pos 10 ∷ negsuc 9 ∷ []; outsides = 0 ∷ 0 ∷ [] })) ≡ 13 ∷ 95 ∷ []
+exchange-accepted-is : verdict pair (93 ∷ 15 ∷ []) exchangeCall ≡ fine
+unfolding everything
+exchange-accepted-is = refl
+
+exchange-is : table 2 (next (inputOf pair (93 ∷ 15 ∷ []) exchangeCall)) ≡ 13 ∷ 95 ∷ []
 unfolding everything
 exchange-is = refl
 
@@ -133,13 +153,20 @@ outflow-101-is : verdict strait (0 ∷ []) (through 100) ≡ refused 10 0
 unfolding everything
 outflow-101-is = refl
 
+alone-accepted-is : verdict (lake 100) (99 ∷ []) lakeCall ≡ fine
+unfolding everything
+alone-accepted-is = refl
+
 pub figures : Figures
 figures = record {
+  channel-1-accepted = channel-1-accepted-is;
   channel-1 = channel-1-is;
   channel-1-moved = channel-1-moved-is;
   channel-1-correction = channel-1-correction-is;
   channel-1-cut = channel-1-cut-is;
+  channel-2-accepted = channel-2-accepted-is;
   channel-2 = channel-2-is;
+  exchange-accepted = exchange-accepted-is;
   exchange = exchange-is;
   correction-none = correction-none-is;
   correction-downwind = correction-downwind-is;
@@ -148,7 +175,8 @@ figures = record {
   too-full = too-full-is;
   outflow-100 = outflow-100-is;
   outflow-101 = outflow-101-is;
-  alone = λ v m. no-faces (record { mesh = lake v; masses = m ∷ []; fluxes = []; outsides = [] }) refl 0;
+  alone-accepted = alone-accepted-is;
+  alone = λ v m. no-faces (inputOf (lake v) (m ∷ []) lakeCall) refl 0;
 }
 
 -- Besides the lines marked P.
@@ -168,11 +196,11 @@ unfolding everything
 toward-zero = (refl, refl)
 
 -- the channel session as a list of two calls
-session : afterAll channel (stepOnTables channel) (100000 ∷ 0 ∷ 0 ∷ []) (channelCall ∷ channelCall ∷ []) ≡ 100099 ∷ 81188 ∷ 18713 ∷ []
+session : afterAll (stepOnTables corrected channel) (100000 ∷ 0 ∷ 0 ∷ []) (channelCall ∷ channelCall ∷ []) ≡ 100099 ∷ 81188 ∷ 18713 ∷ []
 unfolding everything
 session = refl
 
-session-in : totalIn channel (stepOnTables channel) (100000 ∷ 0 ∷ 0 ∷ []) (channelCall ∷ channelCall ∷ []) ≡ 100000
+session-in : totalIn (stepOnTables corrected channel) (100000 ∷ 0 ∷ 0 ∷ []) (channelCall ∷ channelCall ∷ []) ≡ 100000
 unfolding everything
 session-in = refl
 

@@ -58,8 +58,8 @@ brought z w k l c G P h = go z h (eqb k c) (same? k c) (eqb l c) (same? l c)
 module _ (M : Mesh) (gain loss : ℕ → ℕ) (x : ℕ → ℤ) where
   -- the size that a correction is cut to
   cut : ℕ → ℕ
-  cut f = min (portion (size (x f)) (gain (receiver M gain loss x f)) (incoming M x (receiver M gain loss x f)))
-      (portion (size (x f)) (loss (giver M gain loss x f)) (outgoing M x (giver M gain loss x f)))
+  cut f = min (portion (size (x f)) (gain (receiver M x f)) (incoming M x (receiver M x f)))
+      (portion (size (x f)) (loss (giver M x f)) (outgoing M x (giver M x f)))
 
   gain-limited : (c f : ℕ) → entering M (limitedBy M gain loss x) c f ≤ portion (entering M x c f) (gain c) (incoming M x c)
   unfolding entering limitedBy receiver cut

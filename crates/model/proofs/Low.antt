@@ -13,7 +13,7 @@ use Rattle.model.specs.Step.{StepInput, flux, outside, mass, concentrati
 use Rattle.lists.proofs.Tests.{Same, same, other, same?}
 use Rattle.lists.proofs.Sums.{sum-cong, sum-mono, sum-scale, least-start, least-each, greatest-start, greatest-each}
 use Rattle.signed.proofs.Laws.{forward-scale, backward-scale}
-use Rattle.model.proofs.Budget.{Joined}
+pub use Rattle.model.specs.Accepted.{Sound}
 
 pub upwind-forward : (z : ℤ) (u v : ℕ) → forward (z *ℤ pos (cond (isNegative z) u v)) ≡ forward z * v
 upwind-forward (pos n) u v = refl
@@ -57,13 +57,6 @@ enters z k l c o q n = go z (eqb l c) (same? l c) (eqb k c) (same? k c) (eqb k r
     go (pos zero) true ss true tt false rr = omega arith
     go (pos (suc m)) true (same d) true (same e) false rr = rw (d, e) (omega arith)
     go (negsuc m) true (same d) true (same e) false rr = rw (d, e) (omega arith)
-
--- what document 01's causes leave true of an accepted step, as far as the bounds need it
-pub record Sound (S : StepInput) : Type 0 where
-  pub joined : Joined (S .mesh)
-  pub roomy : (c : ℕ) → c < S .mesh .cells → 1 ≤ volume (S .mesh) c
-  pub level : (c : ℕ) → c < S .mesh .cells → incoming (S .mesh) (flux S) c ≡ outgoing (S .mesh) (flux S) c
-  pub courant : (c : ℕ) → c < S .mesh .cells → outgoing (S .mesh) (flux S) c ≤ volume (S .mesh) c
 
 -- a cell of volume O + D that loses O at its own concentration q and gains G between O at lo and O at hi
 mixed : (O D q m G lo hi low : ℕ) → lo ≤ q → q ≤ hi → (O + D) * q ≤ m → m < q * (O + D) + (O + D) → O * lo ≤ G → G ≤ O * hi → low + O * q ≡ m + G

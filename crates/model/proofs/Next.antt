@@ -12,8 +12,13 @@ use Rattle.model.specs.Step.{StepInput, flux, outside, mass, concentrati
 use Rattle.lists.proofs.Sums.{sum-cong, sum-add}
 use Rattle.signed.proofs.Laws.{moves}
 use Rattle.model.proofs.Budget.{outward, inward, budget}
-use Rattle.model.proofs.Low.{Sound, low-affords, low-is, low-bounds, upwind-forward, upwind-backward}
+use Rattle.model.proofs.Low.{low-affords, low-is, low-bounds, upwind-forward, upwind-backward}
 use Rattle.model.proofs.Limit.{incoming-limited, outgoing-limited, limited-zero}
+use Rattle.model.specs.Accepted.{Sound}
+
+-- masses between V·lo and V·hi + V − 1, as concentrations
+between : {v l h : ℕ} (m : ℕ) → 1 ≤ v → (v * l ≤ m) × (m ≤ v * h + v - 1) → (l ≤ m / v) × (m / v ≤ h)
+between {v} {l} {h} m some b = (le-div-iff-mul-le some .1 (omega arith), omega (arith, div-lt-iff-lt-mul {x = m} {y = suc h} some .1 (omega arith)))
 
 -- what two amounts move through a face, their sum moves
 both : (s t : Bool) (x y : ℤ)
@@ -80,10 +85,7 @@ module _ (S : StepInput) (ok : Sound S) where
   next-bounds c h = omega (arith, next-is c h, lost S c, gained S c, low-bounds S ok c h)
 
   pub next-concentration : (c : ℕ) → c < M .cells → (lo S c ≤ next S c / volume M c) × (next S c / volume M c ≤ hi S c)
-  next-concentration c h = (
-    le-div-iff-mul-le (ok .roomy c h) .1 (omega (arith, next-bounds c h)),
-    omega (arith, div-lt-iff-lt-mul {x = next S c} {y = suc (hi S c)} (ok .roomy c h) .1 (omega (arith, ok .roomy c h, next-bounds c h))),
-  )
+  next-concentration c h = between (next S c) (ok .roomy c h) (next-bounds c h)
 
 -- over the rim goes what the water carries, and no correction
 module _ (S : StepInput) (f : ℕ) (e : atRim (S .mesh) f ≡ true) where
@@ -105,32 +107,48 @@ at-rim-only : (b : Bool) (x y : ℕ) → (b ≡ true → x ≡ y) → cond b x 0
 at-rim-only true x y h = h refl
 at-rim-only false x y h = refl
 
--- amounts that are the carried ones at the rim bring in and take out the step's in- and out-mass
-module _ (S : StepInput) (x : ℕ → ℤ) (same-at-rim : (f : ℕ) → atRim (S .mesh) f ≡ true → x f ≡ carried S f) where
+-- What the amounts of a step owe, whatever scheme gives them: the carried ones at the rim, no cell gives what it has not, and the bounds.
+pub record Keeps (S : StepInput) (x : ℕ → ℤ) : Type 0 where
+  pub at-rim : (f : ℕ) → f < S .mesh .faces → atRim (S .mesh) f ≡ true → x f ≡ carried S f
+  pub affords : (c : ℕ) → c < S .mesh .cells → outgoing (S .mesh) x c ≤ mass S c + incoming (S .mesh) x c
+  pub bounds : (c : ℕ) → c < S .mesh .cells
+      → (lo S c ≤ updated (S .mesh) (mass S) x c / volume (S .mesh) c) × (updated (S .mesh) (mass S) x c / volume (S .mesh) c ≤ hi S c)
+
+-- then they bring in and take out the step's in- and out-mass, and nothing else is made or lost
+module _ (S : StepInput) (x : ℕ → ℤ) (k : Keeps S x) where
   open StepInput S using (mesh as M)
 
-  rim-out : (f : ℕ) → atRim M f ≡ true → forward (x f) ≡ forward (flux S f) * concentration S (first M f)
+  rim-out : (f : ℕ) → f < M .faces → atRim M f ≡ true → forward (x f) ≡ forward (flux S f) * concentration S (first M f)
   unfolding carried upwind
-  rim-out f e = rw (same-at-rim f e) (upwind-forward (flux S f) (beyond S f) (concentration S (first M f)))
+  rim-out f l e = rw (k .at-rim f l e) (upwind-forward (flux S f) (beyond S f) (concentration S (first M f)))
 
-  rim-in : (f : ℕ) → atRim M f ≡ true → backward (x f) ≡ backward (flux S f) * outside S f
+  rim-in : (f : ℕ) → f < M .faces → atRim M f ≡ true → backward (x f) ≡ backward (flux S f) * outside S f
   unfolding carried upwind beyond
-  rim-in f e = rw (same-at-rim f e) (upwind-backward (flux S f) (beyond S f) (concentration S (first M f)) ∙ rw e)
+  rim-in f l e = rw (k .at-rim f l e) (upwind-backward (flux S f) (beyond S f) (concentration S (first M f)) ∙ rw e)
 
-  pub outward-is : outward M x ≡ outMass S
+  outward-is : outward M x ≡ outMass S
   unfolding outward outMass
   outward-is = sum-cong (M .faces) (λ f. cond (atRim M f) (forward (x f)) 0) (λ f. cond (atRim M f) (forward (flux S f) * concentration S (first M f)) 0)
-      (λ f l. at-rim-only (atRim M f) (forward (x f)) (forward (flux S f) * concentration S (first M f)) (rim-out f))
+      (λ f l. at-rim-only (atRim M f) (forward (x f)) (forward (flux S f) * concentration S (first M f)) (rim-out f l))
 
-  pub inward-is : inward M x ≡ inMass S
+  inward-is : inward M x ≡ inMass S
   unfolding inward inMass
   inward-is = sum-cong (M .faces) (λ f. cond (atRim M f) (backward (x f)) 0) (λ f. cond (atRim M f) (backward (flux S f) * outside S f) 0)
-      (λ f l. at-rim-only (atRim M f) (backward (x f)) (backward (flux S f) * outside S f) (rim-in f))
+      (λ f l. at-rim-only (atRim M f) (backward (x f)) (backward (flux S f) * outside S f) (rim-in f l))
 
-pub step-budget : (S : StepInput) → Sound S → total (S .mesh) (next S) + outMass S ≡ total (S .mesh) (mass S) + inMass S
+  pub amounts-budget : Sound S → total M (updated M (mass S) x) + outMass S ≡ total M (mass S) + inMass S
+  amounts-budget ok = omega (arith, budget M (ok .joined) x (mass S) (k .affords), outward-is, inward-is)
+
+-- the moved masses of the corrected step
+pub moved-keeps : (S : StepInput) → Sound S → Keeps S (moved S)
 unfolding next
-step-budget S ok = omega (arith, budget (S .mesh) (ok .joined) (moved S) (mass S) (affords S ok), outward-is S (moved S) (rim-moved S), inward-is S (moved S) (rim-moved S))
+moved-keeps S ok = record { at-rim = λ f l e. rim-moved S f e; affords = affords S ok; bounds = next-concentration S ok }
 
-pub low-budget : (S : StepInput) → Sound S → total (S .mesh) (low S) + outMass S ≡ total (S .mesh) (mass S) + inMass S
+-- the carried masses, of a step that ends after stage 1
+pub carried-keeps : (S : StepInput) → Sound S → Keeps S (carried S)
 unfolding low
-low-budget S ok = omega (arith, budget (S .mesh) (ok .joined) (carried S) (mass S) (λ c h. omega (arith, low-affords S ok c h)), outward-is S (carried S) (λ f e. refl), inward-is S (carried S) (λ f e. refl))
+carried-keeps S ok = record {
+  at-rim = λ f l e. refl;
+  affords = λ c h. omega (arith, low-affords S ok c h);
+  bounds = λ c h. between (low S c) (ok .roomy c h) (low-bounds S ok c h);
+}

@@ -1,7 +1,5 @@
 -- How large the numbers of an accepted step get: what the code's words have to hold.
-use Prim.Native.Nat.{ℕ, zero, suc, _+_, _-_, _*_, _/_, _^_, _≤_, _<_, min}
-use mathlib.Core.Path.{_≡_, refl}
-use mathlib.Core.Logic.{_≢_}
+use Prim.Native.Nat.{ℕ, _+_, _-_, _*_, _/_, _≤_, _<_}
 use mathlib.Core.Bool.{Bool, true, false, cond, _||_}
 use native.Mathlib.Nat.{mul-le-mul, mul-le-mul-left, mul-le-mul-right, div-le-of-le-mul, lt-div-mul-add, le-trans}
 use native.Mathlib.Omega.{arith}
@@ -9,21 +7,16 @@ use lib.Dec.{eqb, leb}
 use lib.IntN.{ℤ, pos, _-ℤ_, _*ℤ_}
 use lib.Signed.{quotZ}
 use Rattle.signed.specs.Sign.{forward, backward, size, isZero, isNegative}
-use Rattle.signed.proofs.Laws.{size-mul, size-quot, size-diff, size-withSign, size-add, forward-le, backward-le}
-use Rattle.lists.proofs.Tests.{Same, same, other, same?, Fits, fits, exceeds, fits?}
+use Rattle.signed.proofs.Laws.{size-mul, size-quot, size-diff, forward-le, backward-le}
+use Rattle.lists.proofs.Tests.{Same, other, same?, Fits, exceeds, fits?}
 use Rattle.lists.proofs.Sums.{sum-bound}
-use Rattle.model.specs.Mesh.{Mesh, volume, first, second, share, reach, atRim, rim, entering, leaving, incoming, outgoing, total, maxVolume, maxConcentration, maxRimFlux, maxReach}
-use Rattle.model.specs.Step.{StepInput, portion, receiver, limitedBy, flux, outside, mass, concentration, beyond, upwind, downwind, upwindShare, carried, low, correction, lo, hi, maxGain, maxLoss, limited, moved, next, inMass, outMass}
+use Rattle.model.specs.Mesh.{Mesh, first, second, share, reach, atRim, rim, entering, leaving, incoming, outgoing, total, maxCells, maxFaces, maxVolume, maxConcentration, maxRimFlux}
+use Rattle.model.specs.Step.{StepInput, portion, flux, outside, mass, concentration, beyond, upwind, downwind, upwindShare, carried, low, correction, maxGain, maxLoss, next, inMass, outMass}
 use Rattle.model.proofs.Low.{low-bounds}
 use Rattle.model.proofs.Next.{next-bounds}
-use Rattle.model.proofs.Accepted.{Ready, hi-most, flux-few, flux-reach}
-
--- the largest mass that passes a face with the water, and the largest mass of a cell
-abbrev pub maxCarried : ℕ
-maxCarried = maxRimFlux * maxConcentration
-
-abbrev pub maxMass : ℕ
-maxMass = maxVolume * maxConcentration + maxVolume - 1
+pub use Rattle.model.specs.Accepted.{maxCarried, maxMass}
+use Rattle.model.specs.Accepted.{Ready}
+use Rattle.model.proofs.Accepted.{hi-most, flux-few, flux-reach}
 
 quotient : (u d w K B : ℕ) → d ≤ B → w ≤ 256 * K → u * d * w / (256 * K) ≤ u * B
 quotient u d w K B h k = div-le-of-le-mul (256 * K) (le-trans (mul-le-mul-left (u * d) k) (omega (arith, mul-le-mul-left (256 * K * u) h)))
@@ -38,14 +31,14 @@ either true false a b n h k = omega arith
 either false true a b n h k = omega arith
 either false false a b n h k = omega arith
 
-module _ (M : Mesh) (x : ℕ → ℤ) (B : ℕ) (few : M .faces ≤ 8190) (small : (f : ℕ) → f < M .faces → size (x f) ≤ B) (c : ℕ) where
-  pub incoming-most : incoming M x c ≤ 8190 * (B + B)
+module _ (M : Mesh) (x : ℕ → ℤ) (B : ℕ) (few : M .faces ≤ maxFaces) (small : (f : ℕ) → f < M .faces → size (x f) ≤ B) (c : ℕ) where
+  pub incoming-most : incoming M x c ≤ maxFaces * (B + B)
   unfolding incoming entering
   incoming-most = le-trans
       (sum-bound (M .faces) (B + B) (entering M x c) (λ f l. either (eqb (second M f) c) (eqb (first M f) c) (forward (x f)) (backward (x f)) B (le-trans (forward-le (x f)) (small f l)) (le-trans (backward-le (x f)) (small f l))))
       (mul-le-mul-right (B + B) few)
 
-  pub outgoing-most : outgoing M x c ≤ 8190 * (B + B)
+  pub outgoing-most : outgoing M x c ≤ maxFaces * (B + B)
   unfolding outgoing leaving
   outgoing-most = le-trans
       (sum-bound (M .faces) (B + B) (leaving M x c) (λ f l. either (eqb (first M f) c) (eqb (second M f) c) (forward (x f)) (backward (x f)) B (le-trans (forward-le (x f)) (small f l)) (le-trans (backward-le (x f)) (small f l))))
@@ -58,10 +51,6 @@ portion-le a g p = go (leb p g) (fits? p g)
     go : (b : Bool) → Fits p g b → cond b a (a * g / p) ≤ a
     go true h = omega arith
     go false (exceeds h) = let l : g ≤ p = omega arith in div-le-of-le-mul p (omega (arith, mul-le-mul-left a l))
-
-pub limited-size : (M : Mesh) (gain loss : ℕ → ℕ) (x : ℕ → ℤ) (f : ℕ) → size (limitedBy M gain loss x f) ≤ size (x f)
-unfolding limitedBy
-limited-size M gain loss x f = rw (size-withSign) (omega (arith, portion-le (size (x f)) (gain (receiver M gain loss x f)) (incoming M x (receiver M gain loss x f))))
 
 module _ (S : StepInput) (r : Ready S) where
   open StepInput S using (mesh as M)
@@ -132,14 +121,6 @@ module _ (S : StepInput) (r : Ready S) where
   unfolding maxLoss
   loss-most c h = omega (arith, low-most c h)
 
-  -- the limiter's products fit 64 bits
-  pub product-fits : (f : ℕ) → f < M .faces → {g : ℕ} → g ≤ maxMass → size (correction S f) * g < 2 ^ 64
-  product-fits f h k = omega (arith, mul-le-mul (correction-size f h) k)
-
-  pub moved-size : (f : ℕ) → f < M .faces → size (moved S f) ≤ maxCarried + maxCarried
-  unfolding moved limited
-  moved-size f h = omega (arith, size-add (carried S f) (limitedBy M (maxGain S) (maxLoss S) (correction S) f), carried-size f h, limited-size M (maxGain S) (maxLoss S) (correction S) f, correction-size f h)
-
   pub mass-most : (c : ℕ) → c < M .cells → mass S c ≤ maxMass
   unfolding concentration
   mass-most c h = omega (arith, lt-div-mul-add {a = mass S c} (r .fit .volume-some c h), r .fit .volume-most c h, mul-le-mul (r .salt-most c h) (r .fit .volume-most c h))
@@ -159,15 +140,15 @@ module _ (S : StepInput) (r : Ready S) where
       go true = mul-le-mul (le-trans (forward-le (flux S f)) (flux-few S r f h)) (first-most f h)
       go false = omega arith
 
-  pub inMass-most : inMass S ≤ 8190 * maxCarried
+  pub inMass-most : inMass S ≤ maxFaces * maxCarried
   unfolding inMass
   inMass-most = le-trans (sum-bound (M .faces) maxCarried (λ f. cond (atRim M f) (backward (flux S f) * outside S f) 0) entered-most) (mul-le-mul-right maxCarried (r .counts-fit .few-faces))
 
-  pub outMass-most : outMass S ≤ 8190 * maxCarried
+  pub outMass-most : outMass S ≤ maxFaces * maxCarried
   unfolding outMass
   outMass-most = le-trans (sum-bound (M .faces) maxCarried (λ f. cond (atRim M f) (forward (flux S f) * concentration S (first M f)) 0) gone-most) (mul-le-mul-right maxCarried (r .counts-fit .few-faces))
 
 -- a total of a field whose concentrations are within the ceiling
-pub total-most : (M : Mesh) (m : ℕ → ℕ) → M .cells ≤ 4095 → ((c : ℕ) → c < M .cells → m c ≤ maxMass) → total M m ≤ 4095 * maxMass
+pub total-most : (M : Mesh) (m : ℕ → ℕ) → M .cells ≤ maxCells → ((c : ℕ) → c < M .cells → m c ≤ maxMass) → total M m ≤ maxCells * maxMass
 unfolding total
 total-most M m few most = le-trans (sum-bound (M .cells) maxMass m most) (mul-le-mul-right maxMass few)

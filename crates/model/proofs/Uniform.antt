@@ -1,6 +1,6 @@
 -- Where every cell and every inflow has the same concentration, no mass changes; nor does one where there are no faces.
-use Prim.Native.Nat.{ℕ, zero, suc, _+_, _*_, _/_, _<_}
-use mathlib.Core.Path.{_≡_, refl, sym, ap, _∙_}
+use Prim.Native.Nat.{ℕ, _+_, _*_, _/_, _<_}
+use mathlib.Core.Path.{_≡_, refl, ap, _∙_}
 use mathlib.Core.Logic.{_≢_}
 use mathlib.Core.Bool.{Bool, true, false, cond, _||_}
 use native.Mathlib.Nat.{zero-mul, mul-zero, zero-div}
@@ -8,16 +8,17 @@ use native.Mathlib.Omega.{arith}
 use lib.Dec.{eqb}
 use lib.IntN.{ℤ, pos, _*ℤ_, _-ℤ_}
 use lib.Signed.{quotZ}
-use Rattle.signed.specs.Sign.{forward, backward, size, isZero, isNegative}
+use Rattle.signed.specs.Sign.{size, isZero, isNegative}
 use Rattle.signed.proofs.Laws.{size-mul, size-quot, size-zero, diff-self}
 use Rattle.lists.specs.Fold.{sum}
 use Rattle.lists.proofs.Tests.{Same, same, other, same?}
 use Rattle.lists.proofs.Sums.{sum-cong, sum-scale, sum-zeros, sum-zero}
-use Rattle.model.specs.Mesh.{Mesh, volume, first, second, reach, atRim, rim, entering, leaving, incoming, outgoing, updated}
+use Rattle.model.specs.Mesh.{Mesh, first, second, reach, atRim, rim, entering, leaving, incoming, outgoing, updated}
 use Rattle.model.specs.Step.{StepInput, flux, outside, mass, concentration, beyond, upwind, downwind, upwindShare, carried, low, correction, adjacent, maxGain, maxLoss, limited, moved, next}
-use Rattle.model.proofs.Low.{Sound, entering-carried, outgoing-carried, low-is}
+use Rattle.model.proofs.Low.{entering-carried, outgoing-carried, low-is}
 use Rattle.model.proofs.Limit.{limited-zero}
 use Rattle.model.proofs.Next.{next-is}
+use Rattle.model.specs.Accepted.{Sound}
 
 -- amounts of 0 bring nothing and take nothing
 nothing : (s t : Bool) → cond s 0 0 + cond t 0 0 ≡ 0

@@ -1,12 +1,23 @@
 -- Verdicts: what it means that one is fine, and how a scan finds the lowest place.
 use Prim.Native.Nat.{ℕ, zero, suc, _+_, _≤_, _<_}
-use mathlib.Core.Path.{_≡_, refl, sym, _∙_}
+use mathlib.Core.Path.{_≡_, refl, sym, ap, _∙_}
 use mathlib.Core.Bool.{Bool, true, false}
 use native.Mathlib.Numerals.{add-one}
 use native.Mathlib.Omega.{arith}
 use lib.Dec.{eqb}
 use Rattle.lists.proofs.Tests.{Same, same, other, same?}
 use Rattle.model.specs.Causes.{Outcome, accepted, refused, Verdict, fine, _andThen_, need, each}
+use Rattle.model.specs.Answers.{told, said}
+use Rattle.model.specs.declared.Answer.{Answer}
+use Rattle.model.specs.declared.Answer.the-variants.{Done, Refused}
+use Rattle.model.specs.declared.Refusal.{Refusal}
+
+-- an answer that refuses, and one that does not
+pub refuses : {v : Verdict} {a : Answer} {r : Refusal} → said a ≡ v → a ≡ Refused r → v ≡ told r
+refuses e q = sym e ∙ ap said q
+
+pub passes : {v : Verdict} {a : Answer} → said a ≡ v → a ≡ Done → v ≡ fine
+passes e q = sym e ∙ ap said q
 
 -- both parts are fine
 pub both-fine : {A : Type 0} {x : A} (v : Verdict) (w : Outcome A) → (v andThen w) ≡ accepted x → (v ≡ fine) × (w ≡ accepted x)
@@ -22,6 +33,19 @@ past w e = rw e
 pub out : {A : Type 0} {v : Verdict} {k i : ℕ} (w : Outcome A) → v ≡ refused k i → (v andThen w) ≡ refused k i
 unfolding _andThen_
 out w e = rw e
+
+-- what a call that gives x has found, by its answer
+pub refused-of : {A : Type 0} (v : Verdict) (x : A) (k i : ℕ) → refused k i ≡ (v andThen accepted x) → v ≡ refused k i
+unfolding _andThen_
+refused-of (accepted t) x k i e = let z : _≡_ {A = ℕ} 0 1 = cc in absurd (omega arith)
+refused-of (refused a b) x k i e = cc
+
+pub accepted-of : {A : Type 0} (v : Verdict) (x y : A) → accepted y ≡ (v andThen accepted x) → (v ≡ fine) × (y ≡ x)
+accepted-of v x y e = let p = both-fine v (accepted x) (sym e) in (p .0, cc)
+
+-- two parts of a verdict, each by what it comes to
+pub both-are : {u x y v w : Verdict} → u ≡ (x andThen y) → x ≡ v → y ≡ w → u ≡ (v andThen w)
+both-are e p q = e ∙ rw (p, q)
 
 pub andThen-assoc : {A : Type 0} (u v : Verdict) (w : Outcome A) → ((u andThen v) andThen w) ≡ (u andThen (v andThen w))
 unfolding _andThen_
@@ -54,6 +78,12 @@ pub fine-each : (k n : ℕ) (good : ℕ → Bool) → ((i : ℕ) → i < n → g
 unfolding each need _andThen_
 fine-each k zero good h = refl
 fine-each k (suc n) good h = rw (fine-each k n good (λ i l. h i (omega arith)), h n (omega arith))
+
+-- two tests that agree below n come to the same
+pub each-cong : (k n : ℕ) (good also : ℕ → Bool) → ((i : ℕ) → i < n → good i ≡ also i) → each k n good ≡ each k n also
+unfolding each
+each-cong k zero good also h = refl
+each-cong k (suc n) good also h = rw (each-cong k n good also (λ i l. h i (omega arith)), h n (omega arith))
 
 -- a scan: nothing looked at yet, one more place that is good, the first that is not, and the end
 pub scan-start : (k : ℕ) (good : ℕ → Bool) → each k 0 good ≡ fine

@@ -1,13 +1,13 @@
--- "If an answer is an enum, a definition gives this paper's number and values for each of its cases."
+-- Document 01, "What form each place needs", on answers that are enums: the number and the values of each case.
 use Prim.Native.Nat.{ℕ}
-use Rattle.model.specs.Causes.{Outcome, accepted, refused, Verdict, fine}
+use Rattle.model.specs.Causes.{Outcome, refused, Verdict, fine}
 use Rattle.model.specs.declared.Cause.{Cause}
 use Rattle.model.specs.declared.Cause.the-variants.{Limits, Table, Volume, Ends, Spacing, Concentration, Outside, Flux, Balance, Outflow, Length, Bit, Head}
 use Rattle.model.specs.declared.Refusal.{Refusal}
 use Rattle.model.specs.declared.Answer.{Answer}
 use Rattle.model.specs.declared.Answer.the-variants.{Done, Refused}
 
--- The column "Number" of "Causes".
+-- "Causes", the column of numbers.
 abbrev pub number : Cause → ℕ
 number Limits = 1
 number Table = 2

@@ -1,15 +1,15 @@
--- Document 01, "Causes", 1 to 10.
+-- Document 01, "Causes", 1 to 10: what each tests, and which of them a call answers.
 use Prim.Native.Nat.{ℕ, zero, suc, _+_, _*_, _/_}
 use mathlib.Core.Bool.{Bool, not, cond, _&&_, _||_}
-use mathlib.Core.List.{List}
+use mathlib.Core.List.{List, []}
 use lib.ListN.{length, getD}
 use lib.Dec.{eqb, leb, ltb}
 use lib.IntN.{ℤ}
 use Rattle.signed.specs.Sign.{size, isNegative}
-use Rattle.model.specs.Mesh.{Mesh, volume, first, second, share, reach, atRim, rim, incoming, outgoing, maxCells, maxFaces, maxVolume, maxShare, maxReach, maxConcentration, maxRimFlux}
+use Rattle.model.specs.Mesh.{Mesh, meshOf, volume, first, second, share, reach, rim, incoming, outgoing, maxCells, maxFaces, maxVolume, maxShare, maxReach, maxConcentration, maxRimFlux}
 use Rattle.model.specs.Step.{StepInput, flux, outside}
 
--- "An answer is either the result, or a refusal that carries its cause and its place", by their numbers.
+-- The first sentence: a result, or a refusal by the numbers of its cause and its place.
 pub data Outcome (A : Type 0) : Type 0 where
   accepted : A → Outcome A
   refused : ℕ → ℕ → Outcome A
@@ -21,7 +21,7 @@ Verdict = Outcome (Unit {0})
 abbrev pub fine : Verdict
 fine = accepted tt
 
--- "The lowest number that applies is returned": the first of two that refuses.
+-- The lowest number: the first of two that refuses, where tests stand in the order of their numbers.
 infixl 20 _andThen_
 unfoldable pub _andThen_ : {A : Type 0} → Verdict → Outcome A → Outcome A
 accepted _ andThen w = w
@@ -35,7 +35,7 @@ taken (refused _ _) x y = y
 unfoldable pub need : ℕ → ℕ → Bool → Verdict
 need cause place good = cond good fine (refused cause place)
 
--- ".. and its lowest place": the first of the places below n that is not good
+-- The lowest place: the first below n that is not good.
 unfoldable pub each : ℕ → ℕ → (ℕ → Bool) → Verdict
 each cause zero good = fine
 each cause (suc n) good = each cause n good andThen need cause n (good n)
@@ -43,15 +43,43 @@ each cause (suc n) good = each cause n good andThen need cause n (good n)
 abbrev pub between : ℕ → ℕ → ℕ → Bool
 between a b x = leb a x && leb x b
 
--- 1: "cells or faces beyond limits", "0 for cells, 1 for faces"
+-- Cause 1, with limits that the caller sets: place 0 for cells, 1 for faces.
 unfoldable pub countsWithin : ℕ → ℕ → ℕ → ℕ → Verdict
 countsWithin mostCells mostFaces cells faces = need 1 0 (between 1 mostCells cells) andThen need 1 1 (leb faces mostFaces)
 
--- 2: "a lent table too short", "its position in the list above, from 0"
+-- Cause 2: a table has as many entries as wanted. Its place is its position among the tables lent to a step, from 0;
+-- record bytes are 11.
 abbrev pub long : ℕ → ℕ → ℕ → Verdict
 long position wanted has = need 2 position (leb wanted has)
 
--- "Tables lent to a step", besides mesh and masses. "Work has 4 entries per cell and one per face."
+abbrev pub bytesLong : ℕ → ℕ → Verdict
+bytesLong wanted room = long 11 wanted room
+
+-- Causes 3 to 8, each of the values that it reads. 3: V within its range.
+abbrev pub volumeFits : ℕ → Bool
+volumeFits v = between 1 maxVolume v
+
+-- 4: first a cell, second a cell or the rim's mark, and not the same.
+abbrev pub endsFit : (cells first second : ℕ) → Bool
+endsFit cells first second = ltb first cells && (ltb second cells || eqb second rim) && not (eqb first second)
+
+-- 5: s and K within their ranges, and 0 at the rim.
+abbrev pub spacingFit : (second s K : ℕ) → Bool
+spacingFit second s K = cond (eqb second rim) (eqb s 0 && eqb K 0) (between 1 maxShare s && between 1 maxReach K)
+
+-- 6: q within its ceiling.
+abbrev pub saltFit : (v m : ℕ) → Bool
+saltFit v m = leb (m / v) maxConcentration
+
+-- 7: an outside value within the same ceiling, and 0 elsewhere than at a rim inflow.
+abbrev pub outsideFit : (second : ℕ) (u : ℤ) (outside : ℕ) → Bool
+outsideFit second u outside = leb outside (cond (eqb second rim && isNegative u) maxConcentration 0)
+
+-- 8: the size of U within K, and within 4,095 at the rim.
+abbrev pub fluxFit : (second K : ℕ) (u : ℤ) → Bool
+fluxFit second K u = leb (size u) (cond (eqb second rim) maxRimFlux K)
+
+-- "Tables lent to a step", besides mesh and masses.
 pub record Call : Type 0 where
   pub fluxes : List ℤ
   pub outsides : List ℕ
@@ -62,12 +90,25 @@ pub record Call : Type 0 where
 abbrev pub callOf : List ℤ → List ℕ → List ℕ → List ℤ → List ℕ → Call
 callOf fluxes outsides nexts moveds work = record { fluxes = fluxes; outsides = outsides; nexts = nexts; moveds = moveds; work = work }
 
+-- a step of which the water alone is lent, as a writer has it
+abbrev pub waterOf : List ℤ → List ℕ → Call
+waterOf fluxes outsides = callOf fluxes outsides [] [] []
+
+-- The length of work: 4 entries a cell, and one a face.
+abbrev pub workEntries : ℕ → ℕ → ℕ
+workEntries cells faces = 4 * cells + faces
+
 abbrev pub workLength : Mesh → ℕ
-workLength M = 4 * M .cells + M .faces
+workLength M = workEntries (M .cells) (M .faces)
+
+-- a mesh of which a call is lent the cells alone: one without faces
+abbrev pub cellsOnly : ℕ → List ℕ → Mesh
+cellsOnly cells volumes = meshOf cells 0 volumes [] [] [] []
 
 abbrev pub inputOf : Mesh → List ℕ → Call → StepInput
 inputOf M field k = record { mesh = M; masses = field; fluxes = k .fluxes; outsides = k .outsides }
 
+-- The causes of what is lent: a mesh (1 to 5), a field on it (2 and 6), a step (all).
 module _ (M : Mesh) where
   unfoldable pub counts : Verdict
   counts = countsWithin maxCells maxFaces (M .cells) (M .faces)
@@ -76,22 +117,18 @@ module _ (M : Mesh) where
   meshTables = long 0 (M .cells) (length (M .volumes)) andThen long 1 (M .faces) (length (M .firsts))
       andThen long 2 (M .faces) (length (M .seconds)) andThen long 3 (M .faces) (length (M .shares)) andThen long 4 (M .faces) (length (M .reaches))
 
-  -- 3: "V outside its range"
   unfoldable pub volumeGood : ℕ → Bool
-  volumeGood c = between 1 maxVolume (volume M c)
+  volumeGood c = volumeFits (volume M c)
 
-  -- 4: "first not a cell; second neither a cell nor 4,095; or both equal"
   unfoldable pub endsGood : ℕ → Bool
-  endsGood f = ltb (first M f) (M .cells) && (ltb (second M f) (M .cells) || eqb (second M f) rim) && not (eqb (first M f) (second M f))
+  endsGood f = endsFit (M .cells) (first M f) (second M f)
 
-  -- 5: "s or K outside its range, or not 0 at a rim"
   unfoldable pub spacingGood : ℕ → Bool
-  spacingGood f = cond (atRim M f) (eqb (share M f) 0 && eqb (reach M f) 0) (between 1 maxShare (share M f) && between 1 maxReach (reach M f))
+  spacingGood f = spacingFit (second M f) (share M f) (reach M f)
 
   unfoldable pub meshValues : Verdict
   meshValues = each 3 (M .cells) volumeGood andThen each 4 (M .faces) endsGood andThen each 5 (M .faces) spacingGood
 
-  -- "A mesh is accepted where causes 1 to 5 find nothing in it"
   unfoldable pub meshVerdict : Verdict
   meshVerdict = counts andThen meshTables andThen meshValues
 
@@ -99,18 +136,16 @@ module _ (M : Mesh) where
     unfoldable pub fieldTable : Verdict
     fieldTable = long 5 (M .cells) (length field)
 
-    -- 6: "q above 1,000,000"
     unfoldable pub saltGood : ℕ → Bool
-    saltGood c = leb (getD field c 0 / volume M c) maxConcentration
+    saltGood c = saltFit (volume M c) (getD field c 0)
 
     unfoldable pub fieldValues : Verdict
     fieldValues = each 6 (M .cells) saltGood
 
-    -- "a field on it where 2 and 6 find nothing"
     unfoldable pub fieldVerdict : Verdict
     fieldVerdict = fieldTable andThen fieldValues
 
-    -- the causes of a call that is lent the mesh and a field
+    -- of a call that is lent the mesh and a field
     unfoldable pub meshFieldVerdict : Verdict
     meshFieldVerdict = counts andThen meshTables andThen fieldTable andThen meshValues andThen fieldValues
 
@@ -119,25 +154,21 @@ module _ (M : Mesh) where
       stepTables = long 6 (M .faces) (length (k .fluxes)) andThen long 7 (M .faces) (length (k .outsides))
           andThen long 8 (M .cells) (length (k .nexts)) andThen long 9 (M .faces) (length (k .moveds)) andThen long 10 (workLength M) (length (k .work))
 
-      -- 7: "outside value above 1,000,000, or not 0 elsewhere than at a rim inflow"
       unfoldable pub outsideGood : ℕ → Bool
-      outsideGood f = leb (outside (inputOf M field k) f) (cond (atRim M f && isNegative (flux (inputOf M field k) f)) maxConcentration 0)
+      outsideGood f = outsideFit (second M f) (flux (inputOf M field k) f) (outside (inputOf M field k) f)
 
-      -- 8: "size of U above K, or above 4,095 at a rim"
       unfoldable pub fluxGood : ℕ → Bool
-      fluxGood f = leb (size (flux (inputOf M field k) f)) (cond (atRim M f) maxRimFlux (reach M f))
+      fluxGood f = fluxFit (second M f) (reach M f) (flux (inputOf M field k) f)
 
-      -- 9: "inflow and outflow of a cell differ"
+      -- 9: a cell's inflow is its outflow; 10: its outflow is within V.
       unfoldable pub balanceGood : ℕ → Bool
       balanceGood c = eqb (incoming M (flux (inputOf M field k)) c) (outgoing M (flux (inputOf M field k)) c)
 
-      -- 10: "a cell's outflow above V"
       unfoldable pub outflowGood : ℕ → Bool
       outflowGood c = leb (outgoing M (flux (inputOf M field k)) c) (volume M c)
 
       unfoldable pub stepValues : Verdict
       stepValues = each 7 (M .faces) outsideGood andThen each 8 (M .faces) fluxGood andThen each 9 (M .cells) balanceGood andThen each 10 (M .cells) outflowGood
 
-      -- all causes of a step call, the lowest number first
       unfoldable pub verdict : Verdict
       verdict = counts andThen meshTables andThen fieldTable andThen stepTables andThen meshValues andThen fieldValues andThen stepValues

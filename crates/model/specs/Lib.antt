@@ -1,5 +1,6 @@
 pub mod Mesh
 pub mod Step
 pub mod Causes
+pub mod Accepted
 pub mod Answers
 pub mod Calls

@@ -8,54 +8,51 @@ use lib.IntN.{ℤ}
 use Rattle.lists.specs.Fold.{sum}
 use Rattle.signed.specs.Sign.{forward, backward}
 
--- "Cells: 1 to 4,095, numbered from 0. Faces: 0 to 8,190, numbered from 0."
+-- its first line: how many cells and faces a mesh may have
 abbrev pub maxCells : ℕ
 maxCells = 4095
 
 abbrev pub maxFaces : ℕ
 maxFaces = 8190
 
--- The run program "takes up to 1,023 cells and 2,046 faces"; the host's call is "within the run program's limits"
+-- "The board and the run": how many the run program takes; "Tables lent to a step" holds the host's call to the same
 abbrev pub runCells : ℕ
 runCells = 1023
 
 abbrev pub runFaces : ℕ
 runFaces = 2046
 
--- "A cell has a volume V, 1 to 4,095."
+-- item 1: V
 abbrev pub maxVolume : ℕ
 maxVolume = 4095
 
--- "the mark 4,095 as second for the rim": the rim of the mesh
+-- item 2: the second of a face over the rim
 abbrev pub rim : ℕ
 rim = 4095
 
--- "An interior face has a share s, 1 to 255": the share of a face
+-- item 3: s and K of an interior face
 abbrev pub maxShare : ℕ
 maxShare = 255
 
--- "It has a reach K, 1 to 4,095": the reach of a face
 abbrev pub maxReach : ℕ
 maxReach = 4095
 
--- "Its concentration is q = m divided by V, rounded down, at most 1,000,000"; the same ceiling holds outside
+-- items 4 and 5: q in a cell, and an outside concentration
 abbrev pub maxConcentration : ℕ
 maxConcentration = 1000000
 
--- Cause 8: "size of U above K, or above 4,095 at a rim"
+-- cause 8: |U| over the rim
 abbrev pub maxRimFlux : ℕ
 maxRimFlux = 4095
 
--- The mesh tables of "Tables lent to a step". They may be longer than the counts; entries past the counts mean nothing.
+-- "Tables lent to a step", positions 0 to 4. They may be longer than the counts; entries past the counts mean nothing.
 pub record Mesh : Type 0 where
   pub cells : ℕ
   pub faces : ℕ
   pub volumes : List ℕ
   pub firsts : List ℕ
   pub seconds : List ℕ
-  -- document 01's shares
   pub shares : List ℕ
-  -- document 01's reaches
   pub reaches : List ℕ
 
 -- the mesh of the counts and tables lent to a call, in their order
@@ -67,7 +64,7 @@ module _ (M : Mesh) where
   abbrev pub volume : ℕ → ℕ
   volume c = getD (M .volumes) c 0
 
-  -- "A face has a first cell and a second cell, or the mark 4,095 as second for the rim."
+  -- item 2: the ends of a face
   abbrev pub first : ℕ → ℕ
   first f = getD (M .firsts) f 0
 
@@ -83,7 +80,7 @@ module _ (M : Mesh) where
   abbrev pub reach : ℕ → ℕ
   reach f = getD (M .reaches) f 0
 
-  -- What amounts x, "positive from first to second (outward at a rim)", bring into cell c through face f, and what they take from it.
+  -- item 4: amounts x through the faces count from first to second. What they bring into cell c through face f, and what they take from it.
   unfoldable pub entering : (ℕ → ℤ) → ℕ → ℕ → ℕ
   entering x c f = cond (eqb (second f) c) (forward (x f)) 0 + cond (eqb (first f) c) (backward (x f)) 0
 
@@ -97,10 +94,10 @@ module _ (M : Mesh) where
   unfoldable pub outgoing : (ℕ → ℤ) → ℕ → ℕ
   outgoing x c = sum (M .faces) (leaving x c)
 
-  -- The masses m after the amounts x have passed: low-order masses from carried ones, "Next masses follow from moved masses."
+  -- "One step", stages 1 and 5: the masses m after the amounts x have passed, low-order ones after the carried, next ones after the moved.
   unfoldable pub updated : (ℕ → ℕ) → (ℕ → ℤ) → ℕ → ℕ
   updated m x c = (m c + incoming x c) - outgoing x c
 
-  -- "The total is the sum of a field's masses."
+  -- "One step", last sentence: all masses together
   unfoldable pub total : (ℕ → ℕ) → ℕ
   total m = sum (M .cells) m

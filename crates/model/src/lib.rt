@@ -1,5 +1,10 @@
 // What calls answer, and the numbers that document 01 sets.
+pub mod needs;
+
 ghost use mathlib.Core.Path.{_≡_};
+ghost use Prim.Native.Nat.{_≤_};
+ghost use Rattle.model.specs.Mesh.{maxCells, maxFaces};
+ghost use Rattle.model.specs.Causes.{workEntries};
 ghost use Rattle.model.specs.Answers.{number as numberOf};
 
 // Most cells and faces of a mesh.
@@ -11,6 +16,9 @@ pub const MAX_FACES: usize = 8190;
 pub const RUN_CELLS: usize = 1023;
 
 pub const RUN_FACES: usize = 2046;
+
+// Entries of the work table for such a mesh.
+pub const RUN_WORK: usize = 4 * RUN_CELLS + RUN_FACES;
 
 // The mark in the place of a second cell: beyond the face is the rim.
 pub const RIM: u64 = 4095;
@@ -74,4 +82,12 @@ pub fn number(cause: Cause) -> u64
         Cause::Bit => 12,
         Cause::Head => 13,
     }
+}
+
+// Entries of the work table.
+pub fn work_length(cells: usize, faces: usize) -> usize
+    requires { ⌜ (cells ≤ maxCells) × (faces ≤ maxFaces) ⌝ }
+    ensures { λ r. ⌜ r ≡ workEntries cells faces ⌝ }
+{
+    4 * cells + faces
 }

@@ -10,13 +10,11 @@ use lib.ListN.{length}
 use Rattle.lists.proofs.Tests.{leb-le, le-leb, both-true}
 use Rattle.lists.proofs.Tables.{length-table}
 use Rattle.model.specs.Mesh.{Mesh, total, runCells, runFaces, maxCells, maxFaces}
-use Rattle.model.specs.Causes.{accepted, fine, _andThen_, each, long, Call, workLength, countsWithin, counts, meshTables, volumeGood, meshValues, fieldTable, saltGood, fieldValues, meshFieldVerdict, stepTables, outsideGood, fluxGood, balanceGood, outflowGood, stepValues, verdict}
+use Rattle.model.specs.Causes.{accepted, fine, _andThen_, each, long, Call, workLength, countsWithin, counts, meshTables, volumeGood, meshValues, fieldTable, saltGood, fieldValues, meshFieldVerdict, stepTables, outsideGood, fluxGood, balanceGood, outflowGood, stepValues, verdict, cellsOnly, waterOf}
 use Rattle.model.specs.Calls.{massIn}
 use Rattle.model.proofs.Verdicts.{both-fine, andThen-assoc, need-fine, need-met}
-use Rattle.checks.specs.Total.{cellsOnly}
 use Rattle.heads.specs.Heads.{cellsIn, facesIn, meshHeadVerdict}
 use Rattle.reading.specs.Reading.{countsIn, volumesIn, firstsIn, secondsIn, sharesIn, reachesIn, meshIn, massesIn, fluxesIn, outsidesIn, stepRead}
-use Rattle.writing.specs.Writing.{waterOf}
 use Rattle.lagoon.specs.Host.{meshTested, fieldTested, stepTested}
 use Rattle.session.specs.Taking.{meshTaken, fieldTaken, printedOf, stepTo, stepReadIn, callIn}
 

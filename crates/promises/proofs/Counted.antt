@@ -18,8 +18,9 @@ use Rattle.model.specs.Step.{StepInput, flux, outside, concentration, adjacent,
 use Rattle.model.specs.Causes.{fine, Call, inputOf, fieldVerdict}
 use Rattle.model.specs.Calls.{massIn, Bounded, Left}
 use Rattle.model.proofs.Verdicts.{both-fine}
-use Rattle.model.proofs.Accepted.{MeshFit, field-fit, field-accepted}
+use Rattle.model.proofs.Accepted.{field-fit, field-accepted}
 use Rattle.model.proofs.Lists.{Fair}
+use Rattle.model.specs.Accepted.{MeshFit}
 
 -- what a cell meets at a face rests on few concentrations
 meets : (z : ℤ) (k l c o : ℕ) (p q : ℕ → ℕ) → p c ≡ q c → p l ≡ q l → (k ≢ rim → p k ≡ q k)

@@ -25,10 +25,10 @@ use Rattle.lists.specs.Table.{table}
 use Rattle.lists.proofs.Tables.{length-table, getD-table}
 use Rattle.model.specs.Mesh.{Mesh}
 use Rattle.model.specs.Causes.{accepted, refused, Verdict, fine, _andThen_, Call, meshValues, meshVerdict, fieldVerdict, verdict}
-use Rattle.model.specs.Calls.{massIn, Left, fieldAfter, nextTable, movedTable, workTable, stepOnTables}
+use Rattle.model.specs.Calls.{massIn, Left, fieldAfter, corrected, nextTable, movedTable, workTable, stepOnTables}
 use Rattle.model.proofs.Verdicts.{both-fine}
 use Rattle.model.proofs.Accepted.{mesh-fit}
-use Rattle.model.proofs.Lists.{Fair, list-law, tables-fair}
+use Rattle.model.proofs.Lists.{Fair, list-law, corrected-keeping, tables-fair}
 use Rattle.model.proofs.Figures.{Figures, figures}
 use Rattle.heads.specs.Layouts.{meshRecord, fieldRecord}
 use Rattle.lagoon.specs.Host.{hostVerdict, hostBytes}
@@ -60,14 +60,14 @@ mesh-values : (M : Mesh) → meshVerdict M ≡ fine → meshValues M ≡ fine
 unfolding meshVerdict
 mesh-values M e = both-fine _ _ e .1
 
-module _ (M : Mesh) (mesh-fine : meshVerdict M ≡ fine) (past : List ℕ) (k : Call) (field : List ℕ) (l : Left) (e : stepOnTables M k (lentMasses M past field) ≡ accepted l) where
-  table-stands : nextTable M k (lentMasses M past field) ≡ l .field
+module _ (M : Mesh) (mesh-fine : meshVerdict M ≡ fine) (past : List ℕ) (k : Call) (field : List ℕ) (l : Left) (e : stepOnTables corrected M k (lentMasses M past field) ≡ accepted l) where
+  table-stands : nextTable corrected M k (lentMasses M past field) ≡ l .field
   unfolding stepOnTables
   table-stands = let d = both-fine _ _ e .1 in cc
 
   on-tables : Fair M (Kept M (onTables past k) field l) field l
   on-tables =
-      let f = fair-other M (mesh-fit M (mesh-values M mesh-fine)) field (lentMasses M past field) (lent-same M past field) k l (tables-fair M k (lentMasses M past field) l e) in
+      let f = fair-other M (mesh-fit M (mesh-values M mesh-fine)) field (lentMasses M past field) (lent-same M past field) k l (tables-fair corrected corrected-keeping M k (lentMasses M past field) l e) in
       record { budget = f .budget; holds = (f .holds, table-stands); field-accepted = f .field-accepted }
 
 -- Every list of calls.

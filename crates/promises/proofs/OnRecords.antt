@@ -12,26 +12,27 @@ use Rattle.lists.proofs.Tests.{le-leb}
 use Rattle.lists.proofs.Sums.{sum-cong}
 use Rattle.lists.proofs.Tables.{length-table, getD-table, table-cong}
 use Rattle.model.specs.Mesh.{Mesh, volume, first, second, share, reach}
-use Rattle.model.specs.Step.{StepInput, next, inMass, outMass}
-use Rattle.model.specs.Causes.{accepted, fine, _andThen_, long, Call, callOf, inputOf, workLength, counts, meshTables, meshValues, meshVerdict, fieldTable, fieldValues, fieldVerdict, stepTables, outsideGood, fluxGood, balanceGood, outflowGood, stepValues}
-use Rattle.model.specs.Calls.{massIn, Bounded, Left}
+use Rattle.model.specs.Step.{StepInput, moved, next}
+use Rattle.model.specs.Causes.{accepted, fine, long, Call, callOf, inputOf, workLength, counts, meshTables, meshValues, meshVerdict, fieldTable, fieldValues, fieldVerdict, stepTables, outsideGood, fluxGood, balanceGood, outflowGood, stepValues, waterOf}
+use Rattle.model.specs.Calls.{massIn, Bounded, Left, crossingOf}
 use Rattle.model.proofs.Verdicts.{both-fine, need-met}
-use Rattle.model.proofs.Accepted.{Ready, ready-of, counted, mesh-fit}
-use Rattle.model.proofs.Lists.{Fair, step-fair}
+use Rattle.model.proofs.Accepted.{ready-of, counted, mesh-fit}
+use Rattle.model.proofs.Next.{moved-keeps}
+use Rattle.model.proofs.Lists.{Fair, amounts-fair}
 use Rattle.bits.specs.Field.{bitsAt}
+use Rattle.model.specs.Accepted.{Ready}
+use Rattle.sections.specs.Sections.{those}
 use Rattle.heads.specs.Layouts.{meshRecord, fieldRecord, fieldLength, outsideBits, rimFaces, isRim}
 use Rattle.reading.specs.Reading.{meshIn, massesIn, fluxesIn, outsidesIn, outsidePlace}
-use Rattle.writing.specs.Writing.{waterOf}
-use Rattle.records.proofs.Packed.{mesh-cells, mesh-faces, field-record-length}
-use Rattle.records.proofs.WidthLaws.{spelled, masses-fit}
-use Rattle.writing.proofs.RoundTrip.{volumes-read-back, firsts-read-back, seconds-read-back, shares-read-back, reaches-read-back, masses-read-back}
+use Rattle.writing.proofs.Back.{field-record-length}
+use Rattle.writing.proofs.RoundTrip.{cells-read-back, faces-read-back, volumes-read-back, firsts-read-back, seconds-read-back, shares-read-back, reaches-read-back, masses-read-back}
 use Rattle.lagoon.specs.Host.{meshTested, fieldTested, stepTested, hostVerdict, hostBytes}
 use Rattle.promises.specs.Demand3.{onRecords, waterIn, nextRecord, stepOnRecords, Kept}
 use Rattle.promises.proofs.Counted.{cut, cutField, in-same, out-same, fair-whole}
 
 -- the outside values in a step record rest on the counted seconds alone
 faces-cut : (M : Mesh) (f : ℕ) → f ≤ M .faces → rimFaces (table (M .faces) (second M)) f ≡ rimFaces (M .seconds) f
-unfolding rimFaces
+unfolding those
 faces-cut M f h = sum-cong f (λ g. cond (isRim (table (M .faces) (second M)) g) 1 0) (λ g. cond (isRim (M .seconds) g) 1 0)
     (λ g l. let below : g < M .faces = omega arith in rw (getD-table (M .faces) (second M) 0 g below))
 
@@ -75,8 +76,7 @@ module _ (M : Mesh) (mesh-fine : meshVerdict M ≡ fine) (field : List ℕ) (fie
   -- the records hold the counted entries
   mesh-is : meshIn (meshRecord M) ≡ cut M
   mesh-is =
-      let s = spelled M within passes in
-      rw (mesh-cells M s, mesh-faces M s, volumes-read-back M within passes, firsts-read-back M within passes, seconds-read-back M within passes, shares-read-back M within passes, reaches-read-back M within passes)
+      rw (cells-read-back M within passes, faces-read-back M within passes, volumes-read-back M within passes, firsts-read-back M within passes, seconds-read-back M within passes, shares-read-back M within passes, reaches-read-back M within passes)
 
   -- so whatever is said of what they hold is said of these
   carry : {A : Type 0} (F : Mesh → List ℕ → List ℕ → A)
@@ -133,13 +133,14 @@ module _ (M : Mesh) (mesh-fine : meshVerdict M ≡ fine) (field : List ℕ) (fie
     })
 
     abbrev left : Left
-    left = record { field = after; crossing = record { entered = inMass (inputOf M field (waterIn M step)); gone = outMass (inputOf M field (waterIn M step)) } }
+    left = record { field = after; crossing = crossingOf (inputOf M field (waterIn M step)) }
 
     part-fair : Fair (cut M) (Bounded part after) (cutField M field) left
+    unfolding next
     part-fair =
         let fit = mesh-fit M passes in
-        step-fair part part-ready after (omega (arith, length-table (M .cells) (next part))) (λ c h. getD-table (M .cells) (next part) 0 c h)
-        left refl (sym (in-same M fit field (waterIn M step))) (sym (out-same M fit field (waterIn M step)))
+        amounts-fair part part-ready (moved part) (moved-keeps part (part-ready .sound)) after (omega (arith, length-table (M .cells) (next part))) (λ c h. getD-table (M .cells) (next part) 0 c h)
+        left refl (rw (in-same M fit field (waterIn M step), out-same M fit field (waterIn M step)))
 
     left-fair : Fair M (Bounded (inputOf M field (waterIn M step)) after) field left
     left-fair = fair-whole M (mesh-fit M passes) field (waterIn M step) left (omega (arith, length-table (M .cells) (next part))) part-fair
@@ -147,12 +148,9 @@ module _ (M : Mesh) (mesh-fine : meshVerdict M ≡ fine) (field : List ℕ) (fie
     after-salt : fieldValues (cut M) after ≡ fine
     after-salt = salt-part (cut M) after (part-fair .field-accepted)
 
-    few : M .cells < 4096
-    few = let n = counted M within in omega (arith, n .few-cells)
-
     record-long : length (fieldRecord (M .cells) after) ≡ fieldLength (M .cells)
     unfolding fieldLength
-    record-long = field-record-length (M .cells) after few (masses-fit (cut M) (values-pass .0) after after-salt)
+    record-long = field-record-length (M .cells) after
 
     read-back : massesIn (fieldRecord (M .cells) after) (M .cells) ≡ after
     read-back = masses-read-back (cut M) counts-pass (values-pass .0) after after-salt

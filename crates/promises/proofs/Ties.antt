@@ -6,9 +6,8 @@ use native.Mathlib.Omega.{arith}
 use lib.IntN.{ℤ}
 use lib.ListN.{length, take}
 use Rattle.model.specs.Mesh.{Mesh}
-use Rattle.model.specs.Step.{inMass, outMass}
 use Rattle.model.specs.Causes.{Outcome, accepted, refused, Verdict, fine, _andThen_, Call, inputOf, verdict}
-use Rattle.model.specs.Calls.{Crossing, Left, stepAnswer, stepOnTables}
+use Rattle.model.specs.Calls.{Crossing, Left, crossingOf, corrected, stepAnswer, stepOnTables}
 use Rattle.transport.specs.Promise.{stepSaid, StepPromise}
 use Rattle.transport.specs.declared.StepAnswer.{StepAnswer}
 use Rattle.heads.specs.Layouts.{meshRecord, fieldRecord, fieldLength}
@@ -31,7 +30,7 @@ joined (refused i j) x said next table e q = rw e
 
 -- The step on tables: from what it answers and leaves in the table of next masses.
 pub step-comes : (M : Mesh) (past : List ℕ) (k : Call) (field : List ℕ) (r : StepAnswer) (next : List ℕ) (moved : List ℤ) (work : List ℕ)
-    → StepPromise M (lentMasses M past field) k r next moved work → comes M (onTables past k) field ≡ leftBy (stepSaid r) next
+    → StepPromise corrected M (lentMasses M past field) k r next moved work → comes M (onTables past k) field ≡ leftBy (stepSaid r) next
 unfolding stepOnTables stepAnswer
 step-comes M past k field r next moved work p = joined (verdict M (lentMasses M past field) k) _ (stepSaid r) next _ (p .answer) (p .next-masses)
 
@@ -51,7 +50,7 @@ module _ (M : Mesh) (step next field : List ℕ) (r : ℕ) (next′ : List ℕ) 
 
   -- 0: the next field record holds the field
   pub host-accepted : r ≡ 0
-      → comes M (onRecords step next) field ≡ accepted (record { field = massesIn (take (fieldLength (M .cells)) next′) (M .cells); crossing = record { entered = inMass (inputOf M field (waterIn M step)); gone = outMass (inputOf M field (waterIn M step)) } })
+      → comes M (onRecords step next) field ≡ accepted (record { field = massesIn (take (fieldLength (M .cells)) next′) (M .cells); crossing = crossingOf (inputOf M field (waterIn M step)) })
   unfolding stepOnRecords _andThen_
   host-accepted z = rw (zero-is-fine z, p .next-field)
 

@@ -5,12 +5,11 @@ use mathlib.Core.List.{List, [], _∷_, _++_}
 use lib.ListN.{length, take}
 use Rattle.lists.specs.Table.{table}
 use Rattle.model.specs.Mesh.{Mesh}
-use Rattle.model.specs.Step.{StepInput, inMass, outMass}
-use Rattle.model.specs.Causes.{Outcome, accepted, refused, fine, _andThen_, Call, inputOf, meshVerdict, fieldVerdict}
-use Rattle.model.specs.Calls.{massIn, Bounded, Left, fieldAfter, nextTable, movedTable, workTable, stepOnTables, Claim}
+use Rattle.model.specs.Step.{StepInput}
+use Rattle.model.specs.Causes.{Outcome, accepted, refused, fine, _andThen_, Call, inputOf, meshVerdict, fieldVerdict, waterOf}
+use Rattle.model.specs.Calls.{massIn, Bounded, Left, crossingOf, fieldAfter, corrected, nextTable, movedTable, workTable, stepOnTables, Claim}
 use Rattle.heads.specs.Layouts.{meshRecord, fieldRecord, fieldLength}
 use Rattle.reading.specs.Reading.{massesIn, fluxesIn, outsidesIn}
-use Rattle.writing.specs.Writing.{waterOf}
 use Rattle.lagoon.specs.Host.{hostVerdict, hostBytes}
 
 -- A step call of a list, with what is lent to it besides mesh and field. "The other tables may be filled anew each time, from records
@@ -47,16 +46,16 @@ module _ (M : Mesh) where
     -- The host's call as one of a list. "after an accepted step the next field record holds the field"
     unfoldable pub stepOnRecords : Outcome Left
     stepOnRecords = hostVerdict (meshRecord M) (fieldRecord (M .cells) field) step (length next) andThen
-        accepted (record { field = massesIn nextRecord (M .cells); crossing = record { entered = inMass (inputOf M field (waterIn step)); gone = outMass (inputOf M field (waterIn step)) } })
+        accepted (record { field = massesIn nextRecord (M .cells); crossing = crossingOf (inputOf M field (waterIn step)) })
 
   -- "Each call is lent the mesh and, as masses, the field": what it comes to, refused or accepted with the field that it leaves
   abbrev pub comes : StepCall → List ℕ → Outcome Left
-  comes (onTables past k) field = stepOnTables M k (lentMasses past field)
+  comes (onTables past k) field = stepOnTables corrected M k (lentMasses past field)
   comes (onRecords step next) field = stepOnRecords step next field
 
   -- where the field of an accepted call stands: in the table of next masses, or as the next field record
   abbrev pub Stands : StepCall → List ℕ → Left → Type 0
-  Stands (onTables past k) field l = nextTable M k (lentMasses past field) ≡ l .field
+  Stands (onTables past k) field l = nextTable corrected M k (lentMasses past field) ≡ l .field
   Stands (onRecords step next) field l = nextRecord step next field ≡ fieldRecord (M .cells) (l .field)
 
   -- What is owed of each accepted call: "every concentration stays between the least and greatest of its neighbourhood before the step"
@@ -66,7 +65,7 @@ module _ (M : Mesh) where
   -- "a refused step changes nothing": of a refused call, what is lent to be filled is as it was; that the field is, `fieldAfter` says
   abbrev pub Unchanged : StepCall → List ℕ → Type 0
   Unchanged (onTables past k) field =
-      (nextTable M k (lentMasses past field) ≡ k .nexts) × (movedTable M k (lentMasses past field) ≡ k .moveds) × (workTable M k (lentMasses past field) ≡ k .work)
+      (nextTable corrected M k (lentMasses past field) ≡ k .nexts) × (movedTable corrected M k (lentMasses past field) ≡ k .moveds) × (workTable corrected M k (lentMasses past field) ≡ k .work)
   Unchanged (onRecords step next) field = bytesAfter step next field ≡ next
 
   abbrev pub EachRefused : List ℕ → List StepCall → Type 0

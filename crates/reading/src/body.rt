@@ -45,18 +45,20 @@ pub fn field(cells: usize, body: &[u8], masses: &mut [u64])
 }
 
 // The fluxes of all faces, then the outside values.
-pub fn step(
-    faces: usize,
-    seconds: &[u64],
-    body: &[u8],
-    fluxes: &mut [i64],
-    outsides: &mut [u64],
-)
+pub fn step(faces: usize, seconds: &[u64], body: &[u8], fluxes: &mut [i64], outsides: &mut [u64])
     requires { ⌜ StepRoom faces (now seconds) (now body) (length (now fluxes)) (length (now outsides)) ⌝ }
     ensures { λ _. ⌜ StepFilled faces (now (body .entry)) (stepBody faces (now (seconds .entry))) 0
         (now (fluxes .entry)) (now (outsides .entry)) (now (fluxes .exit)) (now (outsides .exit)) ⌝ }
 {
     let first = Body::new(faces * Body::FLUX);
     read_signed(body, 0, Body::SIZE, faces, fluxes);
-    read_marked(body, first.at, Body::OUTSIDE, model::RIM, faces, seconds, outsides);
+    read_marked(
+        body,
+        first.at,
+        Body::OUTSIDE,
+        model::RIM,
+        faces,
+        seconds,
+        outsides,
+    );
 }

@@ -34,7 +34,7 @@ pub fn read_mesh(
 ) -> MeshAnswer
     ensures { λ r. ⌜ MeshReading
         (meshRead «most_cells» «most_faces» (now (bytes .entry))
-            (length (now (volumes .entry))) (length (now (firsts .entry))) (length (now (seconds .entry))) (length (now (shares .entry))) (length (now (reaches .entry))))
+        (length (now (volumes .entry))) (length (now (firsts .entry))) (length (now (seconds .entry))) (length (now (shares .entry))) (length (now (reaches .entry))))
         (now (bytes .entry))
         (now (volumes .entry)) (now (firsts .entry)) (now (seconds .entry)) (now (shares .entry)) (now (reaches .entry))
         r
@@ -97,12 +97,6 @@ pub fn read_step(
     if let Answer::Refused(r) = a {
         return Answer::Refused(r);
     }
-    body::step(
-        faces,
-        seconds,
-        &bytes[heads::STEP_HEAD..],
-        fluxes,
-        outsides,
-    );
+    body::step(faces, seconds, &bytes[heads::STEP_HEAD..], fluxes, outsides);
     Answer::Done
 }

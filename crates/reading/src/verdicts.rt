@@ -2,12 +2,12 @@
 use crate::Counts;
 use crate::MeshAnswer;
 use crate::zeros;
-use checks::lengths::and_then;
-use checks::lengths::long;
-use checks::lengths::need;
 use heads::lengths;
 use model::Answer;
 use model::Cause;
+use model::needs::and_then;
+use model::needs::long;
+use model::needs::need;
 ghost use mathlib.Core.Path.{_≡_};
 ghost use Prim.Native.Nat.{_≤_};
 ghost use lib.ListN.{length};
@@ -55,11 +55,7 @@ fn field_body(cells: usize, bytes: &[u8], masses: usize) -> Answer
     requires { ⌜ cells ≤ maxCells ⌝ }
     ensures { λ r. ⌜ said r ≡ fieldBodyVerdict cells (now (bytes .entry)) masses ⌝ }
 {
-    let a = need(
-        Cause::Length,
-        0,
-        bytes.len() == lengths::field_bytes(cells),
-    );
+    let a = need(Cause::Length, 0, bytes.len() == lengths::field_bytes(cells));
     then_long(a, 5, cells, masses)
 }
 
@@ -95,7 +91,16 @@ pub fn mesh(
     }
     let cells = heads::cells(bytes);
     let faces = heads::faces(bytes);
-    let b = mesh_body(bytes, cells, faces, volumes, firsts, seconds, shares, reaches);
+    let b = mesh_body(
+        bytes,
+        cells,
+        faces,
+        volumes,
+        firsts,
+        seconds,
+        shares,
+        reaches,
+    );
     if let Answer::Refused(r) = b {
         return MeshAnswer::Refused(r);
     }

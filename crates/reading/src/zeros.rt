@@ -1,9 +1,9 @@
 // Cause 12: zero bits that are set, and a minus with size 0. Only the bits that can break the rule are looked at, in the order of their places.
 use heads::body::Body;
 use heads::lengths;
-use checks::lengths::need;
 use model::Answer;
 use model::Cause;
+use model::needs::need;
 ghost use mathlib.Core.Path.{_≡_};
 ghost use Prim.Native.Nat.{_+_, _*_, _^_, _≤_, _<_};
 ghost use mathlib.Core.Bool.{not, _&&_};

@@ -122,19 +122,6 @@ pub those-le : (test : ℕ → Bool) (n : ℕ) → those test n ≤ n
 unfolding those
 those-le test n = omega (arith, sum-bound n 1 (λ k. cond (test k) 1 0) (λ k l. one-most (test k)))
 
--- rows that are all there or none
-pub all-or-none : (b : Bool) (n : ℕ) → sum n (λ k. cond b 1 0) ≡ cond b n 0
-unfolding sum
-all-or-none true zero = refl
-all-or-none false zero = refl
-all-or-none true (suc n) = omega (arith, all-or-none true n)
-all-or-none false (suc n) = omega (arith, all-or-none false n)
-
-pub column-all-or-none : {bs out : List ℕ} (b : Bool) {n m w : ℕ} {pl v : ℕ → ℕ} → m ≡ cond b n 0 → PutColumn bs m (λ i. true) pl w v out → PutColumn bs n (λ i. b) pl w v out
-column-all-or-none true e c = rw e at c
-column-all-or-none {bs} {out} false {n} {m} {w} {pl} {v} e c = let d : PutColumn bs 0 (λ i. true) pl w v out = rw e at c in
-    record { same-length = d .same-length; inside = λ i l h. absurd (true≢false (sym h)); others = λ p h. d .others p (λ i l. absurd (not-suc-le-zero l)) }
-
 pub column-whole : {bs out : List ℕ} {i n w : ℕ} {test : ℕ → Bool} {pl v : ℕ → ℕ} → i ≤ n → n ≤ i → PutColumn bs i test pl w v out → PutColumn bs n test pl w v out
 column-whole {i = i} {n = n} l m c = let e : i ≡ n = omega arith in rw e at c
 

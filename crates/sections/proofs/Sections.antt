@@ -44,20 +44,6 @@ pub length-record : (S : List Section) (v : Values) → length (recordOf S v) �
 unfolding recordOf
 length-record S v = length-packed (fieldsOf S v) ∙ ap bytesFor (width-fields S v)
 
--- a section of which no row is there adds nothing to what is before it
-no-rows : (n : ℕ) (ws : List ℕ) (v : ℕ → ℕ → ℕ) → rows n (sectionRow (perThat n (λ i. false) ws) v) ≡ []
-unfolding rows
-no-rows n ws v = all n
-  where
-    all : (m : ℕ) → rows m (λ i. []) ≡ []
-    all zero = refl
-    all (suc m) = rw (all m)
-
-pub fields-without : (S : List Section) (n : ℕ) (ws : List ℕ) (v : Values) → fieldsOf (S ++ perThat n (λ i. false) ws ∷ []) v ≡ fieldsOf S v
-unfolding fieldsOf
-fields-without [] n ws v = rw (no-rows n ws (v 0))
-fields-without (s ∷ S) n ws v = ap (λ fs. rows (rowsOf s) (sectionRow s (v 0)) ++ fs) (fields-without S n ws (λ k. v (suc k)))
-
 -- where each field stands
 
 row-stands : (ws : List ℕ) (v : ℕ → ℕ → ℕ) (i j : ℕ) → j < length ws → Stands (row ws v i) (offsetOf ws j) (getD ws j 0) (v j i)

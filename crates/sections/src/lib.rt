@@ -15,6 +15,9 @@ ghost use Rattle.bits.specs.Layout.{bytesFor};
 ghost use Rattle.sections.specs.Columns.{PutIf, PutColumn};
 ghost use Rattle.sections.specs.Sections.{marked, those};
 
+// What a row that is not there reads.
+const ABSENT: u64 = 0;
+
 // One field of each of n rows: entry i becomes the field of width bits at first + i * stride, and entries from n on stay.
 pub fn read_column(
     bytes: &[u8],
@@ -141,7 +144,7 @@ fn field_if(bytes: &[u8], at: usize, width: usize, here: bool) -> u64
     if here {
         return bits::read_bits(bytes, at, width);
     }
-    0
+    ABSENT
 }
 
 // The place after it.

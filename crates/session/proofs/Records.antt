@@ -15,16 +15,16 @@ use Rattle.lists.proofs.Tables.{length-table, getD-table, over-table, length-ov
 use Rattle.lists.proofs.Sums.{sum-cong}
 use Rattle.model.specs.Mesh.{Mesh, meshOf, total, runCells, runFaces}
 use Rattle.model.specs.Step.{StepInput, next, inMass, outMass}
-use Rattle.model.specs.Causes.{Outcome, accepted, refused, Verdict, fine, _andThen_, taken, each, Call, callOf, inputOf, countsWithin, counts, meshTables, volumeGood, endsGood, spacingGood, meshValues, meshVerdict, meshFieldVerdict, verdict}
+use Rattle.model.specs.Causes.{Outcome, accepted, refused, Verdict, fine, _andThen_, taken, each, Call, callOf, inputOf, countsWithin, counts, meshTables, volumeGood, endsGood, spacingGood, meshValues, meshVerdict, meshFieldVerdict, verdict, cellsOnly}
 use Rattle.model.specs.Answers.{number, said}
-use Rattle.model.specs.Calls.{Crossing as Crossed, massIn, stepAnswer, nextTable}
+use Rattle.model.specs.Calls.{Crossing as Crossed, massIn, corrected, stepAnswer, nextTable}
 use Rattle.model.specs.declared.Answer.{Answer}
 use Rattle.model.specs.declared.Answer.the-variants.{Done, Refused}
 use Rattle.model.specs.declared.Refusal.{Refusal}
 use Rattle.model.proofs.Verdicts.{both-fine, past, out, need-fine, need-met}
 use Rattle.model.proofs.Accepted.{ready, passed, call-lent}
 use Rattle.model.proofs.Sizes.{next-most, total-most}
-use Rattle.checks.specs.Total.{cellsOnly, totalSaid}
+use Rattle.checks.specs.Total.{totalSaid}
 use Rattle.checks.specs.declared.TotalAnswer.{TotalAnswer}
 use Rattle.checks.specs.declared.TotalAnswer.the-variants as total-answer
 use Rattle.transport.specs.Promise.{stepSaid, StepPromise}
@@ -65,7 +65,7 @@ read-part n f ys ys′ e l q =
     record { fits = rw z (omega (arith, length-over n f ys l)); part = rw z (part-of n f ys) }
 
 -- the step on lent tables
-module _ (M : Mesh) (masses : List ℕ) (k : Call) (a : StepAnswer) (nexts′ : List ℕ) (moveds′ : List ℤ) (work′ : List ℕ) (p : StepPromise M masses k a nexts′ moveds′ work′) where
+module _ (M : Mesh) (masses : List ℕ) (k : Call) (a : StepAnswer) (nexts′ : List ℕ) (moveds′ : List ℤ) (work′ : List ℕ) (p : StepPromise corrected M masses k a nexts′ moveds′ work′) where
   pub step-refused : (r : Refusal) → a ≡ step-answer.Refused r → Stepping M masses k (step-taken.Refused r) masses nexts′ moveds′ work′
   unfolding stepAnswer stepTo massesAfter
   step-refused r d =
@@ -81,7 +81,7 @@ module _ (M : Mesh) (masses : List ℕ) (k : Call) (a : StepAnswer) (nexts′ : 
     crossed = accepted-of (verdict M masses k) _ _ (sym (ap stepSaid d) ∙ p .answer)
 
     nexts-are : nexts′ ≡ over (table (M .cells) (next S)) (k .nexts)
-    unfolding nextTable
+    unfolding nextTable next
     nexts-are = let q = p .next-masses in rw (crossed .0) at q
 
     pub nexts-part : PartRead (M .cells) (table (M .cells) (next S)) nexts′

@@ -8,9 +8,9 @@ use lib.IntN.{ℤ}
 use Rattle.lists.specs.Table.{table, over}
 use Rattle.model.specs.Mesh.{Mesh, total, runCells, runFaces}
 use Rattle.model.specs.Step.{next, inMass, outMass}
-use Rattle.model.specs.Causes.{Outcome, accepted, Verdict, _andThen_, taken, Call, callOf, inputOf, meshValues, meshFieldVerdict, verdict}
-use Rattle.model.specs.Calls.{massIn, nextTable, movedTable, workTable}
-use Rattle.checks.specs.Total.{cellsOnly, totalSaid}
+use Rattle.model.specs.Causes.{Outcome, accepted, Verdict, _andThen_, taken, Call, callOf, inputOf, meshValues, meshFieldVerdict, verdict, cellsOnly}
+use Rattle.model.specs.Calls.{massIn, corrected, nextTable, movedTable, workTable}
+use Rattle.checks.specs.Total.{totalSaid}
 use Rattle.checks.specs.declared.TotalAnswer.{TotalAnswer}
 use Rattle.heads.specs.Heads.{meshHeadVerdict}
 use Rattle.reading.specs.Reading.{volumesIn, firstsIn, secondsIn, sharesIn, reachesIn, countsIn, meshIn, massesIn, fluxesIn, outsidesIn, meshBodyVerdict, meshRead, fieldRead, stepRead}
@@ -62,9 +62,9 @@ module _ (M : Mesh) (masses : List ℕ) (k : Call) where
 pub record Stepping (M : Mesh) (masses : List ℕ) (k : Call) (r : StepTaken) (masses′ nexts′ : List ℕ) (moveds′ : List ℤ) (work′ : List ℕ) : Type 0 where
   pub answer : takenSaid r ≡ stepTo M masses k
   pub masses-after : masses′ ≡ massesAfter M masses k
-  pub next-masses : nexts′ ≡ nextTable M k masses
-  pub moved-masses : moveds′ ≡ movedTable M k masses
-  pub work-after : work′ ≡ workTable M k masses
+  pub next-masses : nexts′ ≡ nextTable corrected M k masses
+  pub moved-masses : moveds′ ≡ movedTable corrected M k masses
+  pub work-after : work′ ≡ workTable corrected M k masses
 
 -- The step of a record: it is read, and its fluxes and outside values make the call.
 abbrev pub stepReadIn : Mesh → List ℕ → Call → Verdict
@@ -80,6 +80,6 @@ pub record StepTaking (M : Mesh) (masses bs : List ℕ) (k : Call) (r : StepTake
   pub masses-after : masses′ ≡ taken (stepReadIn M bs k) (massesAfter M masses (callIn M bs k)) masses
   pub fluxes-read : k′ .fluxes ≡ taken (stepReadIn M bs k) (over (fluxesIn bs (M .faces)) (k .fluxes)) (k .fluxes)
   pub outsides-read : k′ .outsides ≡ taken (stepReadIn M bs k) (over (outsidesIn bs (M .faces) (M .seconds)) (k .outsides)) (k .outsides)
-  pub next-masses : k′ .nexts ≡ taken (stepReadIn M bs k) (nextTable M (callIn M bs k) masses) (k .nexts)
-  pub moved-masses : k′ .moveds ≡ taken (stepReadIn M bs k) (movedTable M (callIn M bs k) masses) (k .moveds)
-  pub work-after : k′ .work ≡ taken (stepReadIn M bs k) (workTable M (callIn M bs k) masses) (k .work)
+  pub next-masses : k′ .nexts ≡ taken (stepReadIn M bs k) (nextTable corrected M (callIn M bs k) masses) (k .nexts)
+  pub moved-masses : k′ .moveds ≡ taken (stepReadIn M bs k) (movedTable corrected M (callIn M bs k) masses) (k .moveds)
+  pub work-after : k′ .work ≡ taken (stepReadIn M bs k) (workTable corrected M (callIn M bs k) masses) (k .work)

@@ -2,6 +2,10 @@
 mod lines;
 mod taking;
 
+use heads::CELL_BITS;
+use heads::FACE_BITS;
+use heads::LengthAnswer;
+use heads::MESH_HEAD;
 pub use lines::LINE;
 pub use lines::board_line;
 pub use lines::refusal_line;
@@ -10,10 +14,6 @@ use model::Cause;
 use model::RUN_CELLS;
 use model::RUN_FACES;
 use model::Refusal;
-use heads::CELL_BITS;
-use heads::FACE_BITS;
-use heads::LengthAnswer;
-use heads::MESH_HEAD;
 pub use taking::take_field;
 pub use taking::take_mesh;
 pub use taking::take_step;

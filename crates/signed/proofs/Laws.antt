@@ -34,16 +34,6 @@ isZero-size (pos zero) e = refl
 isZero-size (pos (suc n)) e = absurd (true≢false (sym e))
 isZero-size (negsuc n) e = absurd (true≢false (sym e))
 
-pub size-isZero : (z : ℤ) → size z ≡ 0 → isZero z ≡ true
-size-isZero (pos zero) e = refl
-size-isZero (pos (suc n)) e = absurd (omega arith)
-size-isZero (negsuc n) e = absurd (omega arith)
-
-pub some-isZero : (z : ℤ) → 0 < size z → isZero z ≡ false
-some-isZero (pos zero) h = absurd (omega arith)
-some-isZero (pos (suc n)) h = refl
-some-isZero (negsuc n) h = refl
-
 -- what goes forward and back of an amount with a sign
 pub forward-withSign : (b : Bool) (n : ℕ) → forward (withSign b n) ≡ cond b 0 n
 forward-withSign false n = refl

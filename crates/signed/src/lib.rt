@@ -1,6 +1,6 @@
 // Signed machine integers as a sign and a size. No other crate reasons about them.
 ghost use mathlib.Core.Path.{_≡_};
-ghost use Prim.Native.Nat.{ℕ, _<_, _+_, _^_};
+ghost use Prim.Native.Nat.{_<_, _+_, _^_};
 ghost use lib.IntN.{pos, _+ℤ_};
 ghost use lib.ListN.{length, getD, set};
 ghost use Rattle.signed.specs.Sign.{isNegative, size as sizeOf, withSign};

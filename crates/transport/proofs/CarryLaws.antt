@@ -18,8 +18,9 @@ use Rattle.lists.proofs.Sums.{sum-zero, sum-more, sum-term, least-start, greate
 use Rattle.model.specs.Mesh.{Mesh, rim, maxConcentration, atRim, first, second, share, reach, entering, leaving, incoming, outgoing}
 use Rattle.model.specs.Step.{StepInput, flux, outside, mass, concentration, beyond, upwind, downwind, upwindShare, carried, correction, adjacent, inMass, outMass}
 use Rattle.model.proofs.Low.{low-affords}
-use Rattle.model.proofs.Accepted.{Ready, flux-few, flux-reach}
-use Rattle.model.proofs.Sizes.{mass-most, carried-size, incoming-most, upwind-most, downwind-most, maxCarried, maxMass, inMass-most, outMass-most}
+use Rattle.model.proofs.Accepted.{flux-few, flux-reach}
+use Rattle.model.proofs.Sizes.{mass-most, carried-size, incoming-most, upwind-most, downwind-most, inMass-most, outMass-most}
+use Rattle.model.specs.Accepted.{Ready, maxCarried, maxMass}
 use Rattle.transport.specs.Work.{coded, gap, correctionOf, widenedAcross, brings, takes, Transferred, EndsIn, Concentrations, Flowing, CarriedTo, FaceAsks, FaceDone, inMassTo, outMassTo}
 use Rattle.transport.proofs.Corrections.{correction-none}
 use Rattle.transport.proofs.BoundLaws.{length-widened-across, widened-across-other, widened-across-lo, widened-across-hi, widened-across-adjacent}

@@ -15,7 +15,7 @@ use lib.ListN.{length, getD, take, drop}
 use lib.Seq.{take-at}
 use Rattle.lists.specs.Table.{table, over}
 use Rattle.model.specs.Mesh.{Mesh, meshOf, volume, first, second, share, reach, maxCells, maxFaces}
-use Rattle.model.specs.Causes.{accepted, Verdict, fine, _andThen_, each, Call, counts, countsWithin, meshValues, fieldValues, outsideGood, fluxGood}
+use Rattle.model.specs.Causes.{accepted, Verdict, fine, _andThen_, each, Call, counts, countsWithin, meshValues, fieldValues, outsideGood, fluxGood, waterOf}
 use Rattle.model.specs.Answers.{said}
 use Rattle.model.specs.declared.Answer.{Answer}
 use Rattle.model.proofs.Verdicts.{both-fine}
@@ -27,7 +27,7 @@ use Rattle.reading.specs.Answers.{meshSaid, MeshReading, FieldReading, StepRead
 use Rattle.reading.specs.declared.Counts.{Counts}
 use Rattle.reading.specs.declared.MeshAnswer.{MeshAnswer}
 use Rattle.writing.specs.declared.WriteAnswer.{WriteAnswer}
-use Rattle.writing.specs.Writing.{waterOf, meshWriteVerdict, fieldWriteVerdict, stepWriteVerdict, writeSaid, Writing, MeshWriting, FieldWriting, StepWriting}
+use Rattle.writing.specs.Writing.{meshWriteVerdict, fieldWriteVerdict, stepWriteVerdict, writeSaid, Writing, MeshWriting, FieldWriting, StepWriting}
 use Rattle.writing.proofs.WidthLaws.{mesh-fits, masses-fit, field-fits, step-fits, none-inside}
 use Rattle.writing.proofs.Accepting.{mesh-reads, field-reads, step-reads, mesh-passed, field-passed, step-passed}
 use Rattle.writing.proofs.Back.{mesh-kind-back, mesh-cells-back, mesh-faces-back, mesh-record-length, mesh-bits-good, volumes-back, firsts-back, seconds-back, shares-back, reaches-back, field-kind-back, field-cells-back, field-record-length, masses-back, step-kind-back, step-faces-back, step-record-length, step-bits-good, fluxes-back, outsides-back, mesh-again, field-again, step-again}

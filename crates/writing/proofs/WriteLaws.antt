@@ -6,14 +6,14 @@ use lib.ListN.{length}
 use lib.IntN.{ℤ}
 use Rattle.lists.proofs.Tests.{leb-le}
 use Rattle.model.specs.Mesh.{Mesh}
-use Rattle.model.specs.Causes.{Verdict, fine, _andThen_, each, long, counts, meshTables, meshValues, outsideGood, fluxGood}
+use Rattle.model.specs.Causes.{Verdict, fine, _andThen_, each, long, counts, meshTables, meshValues, outsideGood, fluxGood, bytesLong, waterOf}
 use Rattle.model.specs.Answers.{told}
 use Rattle.model.specs.declared.Refusal.{Refusal}
 use Rattle.model.proofs.Verdicts.{both-fine, need-fine, past, andThen-assoc}
 use Rattle.model.proofs.Accepted.{counted, mesh-lent, field-lent}
 use Rattle.heads.specs.Layouts.{stepLength}
 use Rattle.writing.specs.declared.WriteAnswer.the-variants as write
-use Rattle.writing.specs.Writing.{bytesLong, waterOf, meshWriteVerdict, fieldWriteVerdict, stepWriteVerdict, Writing}
+use Rattle.writing.specs.Writing.{meshWriteVerdict, fieldWriteVerdict, stepWriteVerdict, Writing}
 use Rattle.writing.specs.Putting.{MeshWhole, FieldWhole, StepWhole, Wrote}
 use Rattle.writing.proofs.WidthLaws.{mesh-fits, masses-fit, field-fits, outsides-fit, step-fits}
 

@@ -6,7 +6,7 @@ use lib.IntN.{ℤ}
 use lib.ListN.{length}
 use Rattle.lists.specs.Table.{over}
 use Rattle.model.specs.Mesh.{Mesh, maxCells, maxFaces}
-use Rattle.model.proofs.Accepted.{MeshLent}
+use Rattle.model.specs.Accepted.{MeshLent}
 use Rattle.sections.specs.Sections.{Fits}
 use Rattle.heads.specs.Layouts.{outsideBits, outsideOf, meshShape, meshValue, fieldShape, fieldValue, stepShape, stepValue, meshLength, fieldLength, stepLength}
 

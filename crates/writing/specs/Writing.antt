@@ -8,18 +8,10 @@ use lib.IntN.{ℤ}
 use Rattle.lists.specs.Table.{over}
 use Rattle.model.specs.Mesh.{Mesh}
 use Rattle.model.specs.Answers.{told}
-use Rattle.model.specs.Causes.{Outcome, accepted, Verdict, _andThen_, taken, each, long, Call, callOf, counts, meshTables, meshValues, fieldTable, fieldValues, outsideGood, fluxGood}
+use Rattle.model.specs.Causes.{Outcome, accepted, Verdict, _andThen_, taken, each, long, bytesLong, waterOf, counts, meshTables, meshValues, fieldTable, fieldValues, outsideGood, fluxGood}
 use Rattle.heads.specs.Layouts.{meshRecord, fieldRecord, stepRecord, meshLength, fieldLength, stepLength}
 use Rattle.writing.specs.declared.WriteAnswer.{WriteAnswer}
 use Rattle.writing.specs.declared.WriteAnswer.the-variants as write
-
--- Cause 2 numbers the record's bytes 11 among the tables.
-abbrev pub bytesLong : ℕ → ℕ → Verdict
-bytesLong wanted room = long 11 wanted room
-
--- the water of a step whose record is written: no table of a step's results is lent
-abbrev pub waterOf : List ℤ → List ℕ → Call
-waterOf fluxes outsides = callOf fluxes outsides [] [] []
 
 -- The lowest cause that applies to a record that is written into so many bytes: too few bytes stand among the tables.
 module _ (M : Mesh) where

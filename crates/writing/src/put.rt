@@ -36,7 +36,12 @@ pub fn mesh(
     let reach = share + Body::SHARE;
     write_bits(bytes, 0, heads::KIND, heads::MESH_KIND);
     write_bits(bytes, heads::KIND, heads::CELLS, cells as u64);
-    write_bits(bytes, heads::KIND + heads::CELLS, heads::FACES, faces as u64);
+    write_bits(
+        bytes,
+        heads::KIND + heads::CELLS,
+        heads::FACES,
+        faces as u64,
+    );
     write_bits(bytes, zeros, heads::MESH_ZEROS, 0);
     put_column(bytes, head, Body::VOLUME, Body::VOLUME, cells, volumes);
     put_column(bytes, first, Body::FACE, Body::END, faces, firsts);
@@ -79,6 +84,14 @@ pub fn step(
     write_bits(bytes, zeros, heads::STEP_ZEROS, 0);
     put_signs(bytes, head, Body::FLUX, faces, fluxes);
     put_sizes(bytes, size, Body::FLUX, Body::SIZE, faces, fluxes);
-    put_marked(bytes, first, Body::OUTSIDE, model::RIM, faces, seconds, outsides);
+    put_marked(
+        bytes,
+        first,
+        Body::OUTSIDE,
+        model::RIM,
+        faces,
+        seconds,
+        outsides,
+    );
     pad(bytes, end)
 }

@@ -1,8 +1,8 @@
 // What a writing is refused for, before the first byte is touched.
-use checks::lengths::and_then;
-use checks::lengths::long;
 use heads::lengths;
 use model::Answer;
+use model::needs::and_then;
+use model::needs::long;
 ghost use mathlib.Core.Path.{_≡_};
 ghost use Rattle.model.specs.Mesh.{meshOf};
 ghost use Rattle.model.specs.Answers.{said};

@@ -1,5 +1,5 @@
 use borrow.Author.Needs.{needs}
-use Rattle.checks.proofs.Laws.{passes}
+use Rattle.model.proofs.Verdicts.{passes}
 use Rattle.board.proofs.Listed.{rank-asks, accepted-board, refused-board}
 use Rattle.board.proofs.board.Statement.{statement}
 use Rattle.board.proofs.board.Tie as tie

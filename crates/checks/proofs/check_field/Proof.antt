@@ -1,8 +1,8 @@
 use mathlib.Core.Path.{sym, _∙_}
 use borrow.Author.Needs.{needs}
 use Rattle.model.specs.Causes.{meshFieldVerdict, fieldValues, saltGood}
-use Rattle.model.proofs.Verdicts.{both-fine, past, out}
-use Rattle.checks.proofs.Laws.{refuses, passes, mesh-long, salt-asks}
+use Rattle.model.proofs.Verdicts.{both-fine, past, out, refuses, passes}
+use Rattle.model.proofs.Accepted.{mesh-long, salt-asks}
 use Rattle.checks.proofs.check_field.Statement.{statement}
 use Rattle.checks.proofs.check_field.Tie as tie
 

@@ -1,8 +1,8 @@
 use mathlib.Core.Path.{sym, _∙_}
 use borrow.Author.Needs.{needs}
 use Rattle.model.specs.Causes.{meshVerdict}
-use Rattle.model.proofs.Verdicts.{past, out}
-use Rattle.checks.proofs.Laws.{refuses, passes, mesh-long}
+use Rattle.model.proofs.Verdicts.{past, out, refuses, passes}
+use Rattle.model.proofs.Accepted.{mesh-long}
 use Rattle.checks.proofs.check_mesh.Statement.{statement}
 use Rattle.checks.proofs.check_mesh.Tie as tie
 

@@ -2,8 +2,9 @@ use mathlib.Core.Path.{sym, _∙_}
 use borrow.Author.Needs.{needs}
 use Rattle.model.specs.Causes.{callOf, stepTables, fieldValues, saltGood, outsideGood, fluxGood, balanceGood, outflowGood}
 use Rattle.model.specs.Mesh.{incoming, outgoing, entering, leaving}
-use Rattle.model.proofs.Verdicts.{both-fine, past, out}
-use Rattle.checks.proofs.Laws.{refuses, passes, both-are, mesh-long, salt-asks, in-groups, few, water-asks, flows-ask}
+use Rattle.model.proofs.Verdicts.{both-fine, past, out, refuses, passes, both-are}
+use Rattle.model.proofs.Accepted.{mesh-long, salt-asks, few}
+use Rattle.checks.proofs.Laws.{in-groups, water-asks, flows-ask}
 use Rattle.checks.proofs.check_step.Statement.{statement}
 use Rattle.checks.proofs.check_step.Tie as tie
 

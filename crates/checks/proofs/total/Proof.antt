@@ -1,8 +1,8 @@
 use mathlib.Core.Path.{sym, ap, _∙_}
 use borrow.Author.Needs.{needs}
 use Rattle.model.specs.Causes.{accepted}
-use Rattle.model.proofs.Verdicts.{past, out}
-use Rattle.checks.proofs.Laws.{refuses, passes, sum-asks}
+use Rattle.model.proofs.Verdicts.{past, out, refuses, passes}
+use Rattle.checks.proofs.Laws.{sum-asks}
 use Rattle.checks.proofs.total.Statement.{statement}
 use Rattle.checks.proofs.total.Tie as tie
 

@@ -2,10 +2,9 @@ use mathlib.Core.Path.{sym}
 use native.Mathlib.Omega.{arith}
 use borrow.Author.Needs.{needs}
 use Rattle.model.specs.Causes.{_andThen_}
-use Rattle.model.proofs.Verdicts.{out}
+use Rattle.model.proofs.Verdicts.{out, refuses, passes}
 use Rattle.bits.specs.Layout.{bytesFor}
 use Rattle.heads.specs.Heads.{fieldHeadVerdict}
-use Rattle.checks.proofs.Laws.{refuses, passes}
 use Rattle.heads.proofs.HeadLaws.{head-holds}
 use Rattle.heads.proofs.field.Statement.{statement}
 use Rattle.heads.proofs.field.Tie as tie

@@ -1,8 +1,7 @@
 use mathlib.Core.Path.{sym}
 use borrow.Author.Needs.{needs}
-use Rattle.model.proofs.Verdicts.{past, out}
+use Rattle.model.proofs.Verdicts.{past, out, refuses, passes}
 use Rattle.heads.specs.Heads.{fieldNeeds}
-use Rattle.checks.proofs.Laws.{refuses, passes}
 use Rattle.heads.proofs.HeadLaws.{field-head-says}
 use Rattle.heads.proofs.field_length.Statement.{statement}
 use Rattle.heads.proofs.field_length.Tie as tie

@@ -1,9 +1,8 @@
 use mathlib.Core.Path.{sym}
 use native.Mathlib.Omega.{arith}
 use borrow.Author.Needs.{needs}
-use Rattle.model.proofs.Verdicts.{past, out}
+use Rattle.model.proofs.Verdicts.{past, out, refuses, passes}
 use Rattle.heads.specs.Heads.{meshNeeds}
-use Rattle.checks.proofs.Laws.{refuses, passes}
 use Rattle.heads.proofs.HeadLaws.{mesh-head-says}
 use Rattle.heads.proofs.mesh_length.Statement.{statement}
 use Rattle.heads.proofs.mesh_length.Tie as tie

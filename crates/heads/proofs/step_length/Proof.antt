@@ -1,8 +1,7 @@
 use mathlib.Core.Path.{sym}
 use borrow.Author.Needs.{needs}
-use Rattle.model.proofs.Verdicts.{past, out}
+use Rattle.model.proofs.Verdicts.{past, out, refuses, passes}
 use Rattle.heads.specs.Heads.{stepNeeds}
-use Rattle.checks.proofs.Laws.{refuses, passes}
 use Rattle.heads.proofs.HeadLaws.{step-head-says}
 use Rattle.heads.proofs.step_length.Statement.{statement}
 use Rattle.heads.proofs.step_length.Tie as tie

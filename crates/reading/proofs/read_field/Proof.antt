@@ -3,8 +3,7 @@ use mathlib.Core.Path.{_≡_, sym, _∙_}
 use borrow.Author.Needs.{needs}
 use lib.ListN.{length}
 use Rattle.model.specs.Causes.{fine}
-use Rattle.model.proofs.Verdicts.{both-fine}
-use Rattle.checks.proofs.Laws.{refuses, passes}
+use Rattle.model.proofs.Verdicts.{both-fine, refuses, passes}
 use Rattle.sections.specs.Sections.{shapeBits}
 use Rattle.sections.proofs.Bodies.{bodyOf}
 use Rattle.heads.specs.Layouts.{fieldBody}

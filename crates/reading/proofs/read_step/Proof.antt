@@ -4,8 +4,7 @@ use mathlib.Core.List.{List}
 use borrow.Author.Needs.{needs}
 use lib.ListN.{length}
 use Rattle.model.specs.Causes.{fine}
-use Rattle.model.proofs.Verdicts.{both-fine}
-use Rattle.checks.proofs.Laws.{refuses, passes}
+use Rattle.model.proofs.Verdicts.{both-fine, refuses, passes}
 use Rattle.sections.proofs.Bodies.{bodyOf}
 use Rattle.heads.proofs.HeadLaws.{step-head-says}
 use Rattle.reading.specs.Reading.{stepRead}

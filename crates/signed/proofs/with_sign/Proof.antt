@@ -1,10 +1,6 @@
-use mathlib.Core.Path.{_≡_, sym, _∙_, ap}
-use mathlib.Core.Bool.{true, false}
 use borrow.Author.Needs.{needs}
-use lib.IntN.{pos, negℤ}
 use mir.Syntax.{w64}
 use mir.ValLaws.{toZ-ofZ, toZ-pos}
-use Rattle.signed.specs.Sign.{withSign}
 use Rattle.signed.proofs.Machine.{minus, minus-fits}
 use Rattle.signed.proofs.with_sign.Statement.{statement}
 use Rattle.signed.proofs.with_sign.Tie as tie

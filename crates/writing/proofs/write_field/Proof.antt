@@ -1,5 +1,5 @@
 use borrow.Author.Needs.{needs}
-use Rattle.checks.proofs.Laws.{refuses, passes}
+use Rattle.model.proofs.Verdicts.{refuses, passes}
 use Rattle.writing.proofs.WriteLaws.{writing-refused, writing-accepted, field-whole}
 use Rattle.writing.proofs.write_field.Statement.{statement}
 use Rattle.writing.proofs.write_field.Tie as tie

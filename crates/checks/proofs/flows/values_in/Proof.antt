@@ -1,6 +1,6 @@
 use mathlib.Core.Path.{_∙_}
 use borrow.Author.Needs.{needs}
-use Rattle.checks.proofs.Laws.{both-are}
+use Rattle.model.proofs.Verdicts.{both-are}
 use Rattle.checks.proofs.Gathering.{long-enough, balance-read, outflow-read}
 use Rattle.checks.proofs.flows.values_in.Statement.{statement}
 use Rattle.checks.proofs.flows.values_in.Tie as tie

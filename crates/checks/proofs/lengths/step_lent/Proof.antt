@@ -16,9 +16,10 @@ returns c =
       c .before .before .before .before .before .before .and-then .ensures,
       c .before .before .before .before .before .before .before .long2 .ensures,
       c .before .before .before .before .before .before .before .before .long .ensures,
+      c .before .before .before .before .before .before .before .before .before .work-length .ensures,
     )
 
 pub step-lent-spec : {M : Type 1} → statement M
 step-lent-spec =
     tie.close
-    (tie.spec (search needs) (search needs) (search needs) (search needs) (search needs) (search needs) (search needs) (search needs) (search needs) (search needs) (search needs) returns)
+    (tie.spec (search needs) (search needs) (search needs) (search needs) (search needs) (search needs) (search needs) (search needs) (search needs) (search needs) returns)

@@ -1,7 +1,6 @@
 use mathlib.Core.Path.{sym, _∙_}
 use borrow.Author.Needs.{needs}
-use Rattle.model.proofs.Verdicts.{out, past}
-use Rattle.checks.proofs.Laws.{refuses, passes}
+use Rattle.model.proofs.Verdicts.{out, past, refuses, passes}
 use Rattle.heads.proofs.HeadLaws.{field-head-says}
 use Rattle.reading.specs.Reading.{fieldRead}
 use Rattle.reading.proofs.verdicts.field.Statement.{statement}

@@ -3,11 +3,10 @@ use native.Mathlib.Omega.{arith}
 use borrow.Author.Needs.{needs}
 use Rattle.model.specs.Causes.{_andThen_, long}
 use Rattle.model.specs.Answers.{said}
-use Rattle.model.proofs.Verdicts.{past, out}
+use Rattle.model.proofs.Verdicts.{past, out, refuses, passes}
 use Rattle.heads.specs.Layouts.{meshBits, meshLength}
 use Rattle.heads.specs.Heads.{cellsIn, facesIn, hasLength}
 use Rattle.reading.specs.Reading.{meshBodyVerdict, meshBitGood}
-use Rattle.checks.proofs.Laws.{refuses, passes}
 use Rattle.bits.proofs.Layouts.{bytes-hold, bytes-most}
 use Rattle.reading.proofs.ReadLaws.{mesh-tables-say}
 use Rattle.reading.proofs.verdicts.mesh_body.Statement.{statement}

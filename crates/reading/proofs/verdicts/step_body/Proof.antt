@@ -3,11 +3,10 @@ use native.Mathlib.Omega.{arith}
 use borrow.Author.Needs.{needs}
 use Rattle.model.specs.Causes.{_andThen_, long}
 use Rattle.model.specs.Answers.{said}
-use Rattle.model.proofs.Verdicts.{past, out}
+use Rattle.model.proofs.Verdicts.{past, out, refuses, passes}
 use Rattle.heads.specs.Layouts.{stepBits, stepLength}
 use Rattle.heads.specs.Heads.{hasLength}
 use Rattle.reading.specs.Reading.{stepBodyVerdict, stepBitGood}
-use Rattle.checks.proofs.Laws.{refuses, passes}
 use Rattle.bits.proofs.Layouts.{bytes-hold, bytes-most}
 use Rattle.heads.proofs.HeadLaws.{rim-le}
 use Rattle.reading.proofs.ReadLaws.{step-tables-say}

@@ -5,7 +5,7 @@ use borrow.Author.Needs.{needs}
 use lib.ListN.{length, getD}
 use Rattle.lists.proofs.Sums.{sum-zero}
 use Rattle.model.specs.Step.{StepInput, inMass, outMass}
-use Rattle.model.proofs.Accepted.{Ready}
+use Rattle.model.specs.Accepted.{Ready}
 use Rattle.transport.specs.Work.{inputFrom, CarriedTo, inMassTo, outMassTo}
 use Rattle.transport.proofs.CarryLaws.{face-asks, face-turn, entered-turn, gone-turn, entered-fits, gone-fits}
 use Rattle.transport.proofs.carrying.carry.Statement.{statement}

@@ -18,13 +18,13 @@ widen-requires-2 c κs =
 returns-2 : tie.Need-returns-2
 returns-2 c =
     let s = c .before .before .before .before .before .before .before .before .before .before .before in
-    rw (c .before .before .meet2 .ensures, c .before .before .before .before .before .before .widen .ensures)
+    rw (c .before .before .widen2 .ensures, c .before .before .before .before .before .before .widen .ensures)
     (sym (across-inside (s .args .work .now) (s .args .first) (s .args .second) (s .args .a) (s .args .b) (s .args .negative) (s .args .size) (c .before .before .before .before .before .before .before .before .before .if1 .left) (c .before .before .before .before .before .before .before .before .if2 .taken)))
 
 returns-3 : tie.Need-returns-3
 returns-3 c =
     let s = c .before .before .before .before .before .before .before .before in
-    rw (c .before .before .meet3 .ensures, c .before .before .before .before .if3 .taken)
+    rw (c .before .before .widen3 .ensures, c .before .before .before .before .if3 .taken)
     (sym (across-in (s .args .work .now) (s .args .first) (s .args .second) (s .args .a) (s .args .b) (s .args .size) (c .before .before .before .before .before .before .if1 .left) (c .before .before .before .before .before .if2 .left)))
 
 returns-4 : tie.Need-returns-4

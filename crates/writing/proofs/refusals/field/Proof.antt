@@ -1,8 +1,8 @@
 use mathlib.Core.Path.{sym, _∙_}
 use borrow.Author.Needs.{needs}
 use Rattle.model.specs.Causes.{fieldValues, saltGood}
-use Rattle.model.proofs.Verdicts.{both-fine, past, out}
-use Rattle.checks.proofs.Laws.{both-are, few, mesh-long, salt-asks, refuses, passes}
+use Rattle.model.proofs.Verdicts.{both-fine, past, out, both-are, refuses, passes}
+use Rattle.model.proofs.Accepted.{few, mesh-long, salt-asks}
 use Rattle.writing.specs.Writing.{fieldWriteVerdict}
 use Rattle.writing.proofs.WriteLaws.{bytes-said, past-first}
 use Rattle.writing.proofs.refusals.field.Statement.{statement}

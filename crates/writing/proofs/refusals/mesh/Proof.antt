@@ -1,8 +1,7 @@
 use mathlib.Core.Path.{sym, _∙_}
 use borrow.Author.Needs.{needs}
-use Rattle.model.proofs.Verdicts.{both-fine, out}
-use Rattle.model.proofs.Accepted.{counted}
-use Rattle.checks.proofs.Laws.{both-are, mesh-long, refuses, passes}
+use Rattle.model.proofs.Verdicts.{both-fine, out, both-are, refuses, passes}
+use Rattle.model.proofs.Accepted.{counted, mesh-long}
 use Rattle.writing.specs.Writing.{meshWriteVerdict}
 use Rattle.writing.proofs.WriteLaws.{bytes-said, past-first}
 use Rattle.writing.proofs.refusals.mesh.Statement.{statement}

@@ -1,9 +1,8 @@
 use mathlib.Core.Path.{sym, _∙_}
 use borrow.Author.Needs.{needs}
 use Rattle.model.specs.Causes.{outsideGood, fluxGood}
-use Rattle.model.proofs.Verdicts.{both-fine, past, out}
-use Rattle.model.proofs.Accepted.{counted}
-use Rattle.checks.proofs.Laws.{both-are, mesh-long, refuses, passes}
+use Rattle.model.proofs.Verdicts.{both-fine, past, out, both-are, refuses, passes}
+use Rattle.model.proofs.Accepted.{counted, mesh-long}
 use Rattle.writing.proofs.WriteLaws.{bytes-said, water-long, step-groups}
 use Rattle.writing.proofs.refusals.step.Statement.{statement}
 use Rattle.writing.proofs.refusals.step.Tie as tie

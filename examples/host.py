@@ -1,0 +1,34 @@
+#!/usr/bin/env python3
+"""The call from Python: the channel session of document 01, stepped through target/lib/liblagoon.so (`make lib`).
+
+    examples/host.py [LIBRARY]
+"""
+import ctypes
+import sys
+
+MESH = bytes.fromhex("1003 0020 0640 6406 4000 fff0 0000 0000 0180 0640 0100 2800 6400 2fff 0000 00")
+FIELD = bytes.fromhex("2003 000186a0 00000000 00000000")
+STEP = bytes.fromhex("3002 0000 8190 0c80 6403 2003 e800 0000")
+
+library = ctypes.CDLL(sys.argv[1] if len(sys.argv) > 1 else "target/lib/liblagoon.so")
+library.lagoon_step.restype = ctypes.c_uint64
+library.lagoon_step.argtypes = [ctypes.c_char_p, ctypes.c_size_t] * 4
+
+
+def step(mesh, field, water):
+    """The next field record, or cause and place of the refusal."""
+    room = ctypes.create_string_buffer(len(field))
+    answer = library.lagoon_step(mesh, len(mesh), field, len(field), water, len(water), room, len(room))
+    return room.raw if answer == 0 else divmod(answer, 1 << 32)
+
+
+def masses(field):
+    return [int.from_bytes(field[at:at + 4], "big") for at in range(2, len(field), 4)]
+
+
+field = FIELD
+print("step 0:", *masses(field))
+for number in (1, 2):
+    field = step(MESH, field, STEP)
+    print(f"step {number}:", *masses(field))
+print("a field record cut short: cause {}, place {}".format(*step(MESH, field[:-1], STEP)))

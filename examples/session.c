@@ -1,0 +1,149 @@
+/* A whole host: reads a session (a mesh record, a field record, step records) from standard input, prints the lines of the run program and,
+ * on standard error, the budget. With a file name as argument it writes the last field record there, so that the next session can start
+ * from it: cat mesh.bin last.bin steps.bin. */
+#include <inttypes.h>
+#include <stdio.h>
+#include <string.h>
+
+#include "lagoon_records.h"
+
+static uint8_t mesh[LAGOON_MESH_BYTES(LAGOON_MAX_CELLS, LAGOON_MAX_FACES)], step[LAGOON_STEP_BYTES(LAGOON_MAX_FACES, LAGOON_MAX_FACES)];
+static uint8_t field[LAGOON_FIELD_BYTES(LAGOON_MAX_CELLS)], next[LAGOON_FIELD_BYTES(LAGOON_MAX_CELLS)];
+
+static uint64_t refusal(uint32_t cause, uint32_t place)
+{
+    return (uint64_t)cause << 32 | place;
+}
+
+/* The readers answer 0, or what the run refuses the record for while it reads it. */
+static uint64_t read_rest(uint8_t *record, size_t got, size_t length)
+{
+    return fread(record + got, 1, length - got, stdin) == length - got ? 0 : refusal(LAGOON_LENGTH, 0);
+}
+
+static uint64_t read_mesh(size_t *length)
+{
+    if (fread(mesh, 1, 4, stdin) < 4)
+        return refusal(LAGOON_LENGTH, 0);
+    if (lagoon_get(mesh, 0, LAGOON_KIND_BITS) != LAGOON_MESH)
+        return refusal(LAGOON_HEAD, 0);
+    if (lagoon_cells(mesh) == 0 || lagoon_cells(mesh) > LAGOON_MAX_CELLS)
+        return refusal(LAGOON_LIMITS, 0);
+    if (lagoon_faces(mesh) > LAGOON_MAX_FACES)
+        return refusal(LAGOON_LIMITS, 1);
+    *length = LAGOON_MESH_BYTES(lagoon_cells(mesh), lagoon_faces(mesh));
+    return read_rest(mesh, 4, *length);
+}
+
+static uint64_t read_field(size_t cells)
+{
+    if (fread(field, 1, 2, stdin) < 2)
+        return refusal(LAGOON_LENGTH, 0);
+    if (lagoon_get(field, 0, LAGOON_KIND_BITS) != LAGOON_FIELD)
+        return refusal(LAGOON_HEAD, 0);
+    if (lagoon_get(field, LAGOON_KIND_BITS, LAGOON_CELLS_BITS) != cells)
+        return refusal(LAGOON_HEAD, 1);
+    return read_rest(field, 2, LAGOON_FIELD_BYTES(cells));
+}
+
+static uint64_t read_step(size_t got, size_t faces, size_t length)
+{
+    if (got < 4)
+        return refusal(LAGOON_LENGTH, 0);
+    if (lagoon_get(step, 0, LAGOON_KIND_BITS) != LAGOON_STEP)
+        return refusal(LAGOON_HEAD, 0);
+    if (lagoon_get(step, LAGOON_KIND_BITS, LAGOON_FACES_BITS) != faces)
+        return refusal(LAGOON_HEAD, 1);
+    return read_rest(step, 4, length);
+}
+
+static int print_refused(char letter, uint64_t answer)
+{
+    printf("%c %" PRIu32 " %" PRIu32 "\n", letter, LAGOON_CAUSE(answer), LAGOON_PLACE(answer));
+    fprintf(stderr, "%s refused: %s\n", letter == 'M' ? "mesh" : "field", lagoon_cause_text(LAGOON_CAUSE(answer)));
+    return 0;
+}
+
+/* The eight cells with the highest concentration; among equals the lower number first. */
+static void print_board(size_t cells)
+{
+    static uint8_t listed[LAGOON_MAX_CELLS];
+    for (int line = 0; line < 8; line++) {
+        size_t best = cells;
+        for (size_t c = 0; c < cells; c++)
+            if (!listed[c] && (best == cells || lagoon_mass(field, c) / lagoon_volume(mesh, c) > lagoon_mass(field, best) / lagoon_volume(mesh, best)))
+                best = c;
+        if (best == cells)
+            return;
+        listed[best] = 1;
+        printf("B %zu %" PRIu32 " %" PRIu32 "\n", best, lagoon_mass(field, best) / lagoon_volume(mesh, best),
+               lagoon_mass(field, best) % lagoon_volume(mesh, best));
+    }
+}
+
+/* Takes the steps until no byte is left, or one is refused by 11 or 13. */
+static void take_steps(size_t mesh_length, size_t cells, size_t faces, size_t step_length, uint64_t *entered, uint64_t *gone)
+{
+    size_t field_length = LAGOON_FIELD_BYTES(cells), got;
+    for (uint64_t n = 1; (got = fread(step, 1, 4, stdin)) > 0; n++) {
+        uint64_t in_mass, out_mass, answer = read_step(got, faces, step_length);
+        int ends = answer != 0;
+        if (!ends)
+            answer = lagoon_step(mesh, mesh_length, field, field_length, step, step_length, next, field_length);
+        if (answer != 0) {
+            printf("%" PRIu64 " R %" PRIu32 " %" PRIu32 "\n", n, LAGOON_CAUSE(answer), LAGOON_PLACE(answer));
+            if (ends)
+                return;
+            continue;
+        }
+        lagoon_crossing(mesh, field, step, &in_mass, &out_mass);
+        *entered += in_mass;
+        *gone += out_mass;
+        memcpy(field, next, field_length);
+        printf("%" PRIu64 " %" PRIu64 " %" PRIu64 " %" PRIu64 "\n", n, in_mass, out_mass, lagoon_total(field, cells));
+    }
+}
+
+static int write_field(const char *name, size_t length)
+{
+    FILE *file = fopen(name, "wb");
+    if (file == NULL || fwrite(field, 1, length, file) != length || fclose(file) != 0) {
+        perror(name);
+        return 1;
+    }
+    return 0;
+}
+
+int main(int count, char **words)
+{
+    size_t mesh_length = 0, cells, faces, rims = 0;
+    uint64_t first, last, entered = 0, gone = 0, answer = read_mesh(&mesh_length);
+    if (answer != 0)
+        return print_refused('M', answer);
+    cells = lagoon_cells(mesh);
+    faces = lagoon_faces(mesh);
+    /* an empty field record is refused by 11, after the mesh has been judged; an empty step record after the field */
+    answer = lagoon_step(mesh, mesh_length, field, 0, step, 0, next, 0);
+    if (LAGOON_CAUSE(answer) != LAGOON_LENGTH)
+        return print_refused('M', answer);
+    answer = read_field(cells);
+    if (answer != 0)
+        return print_refused('F', answer);
+    answer = lagoon_step(mesh, mesh_length, field, LAGOON_FIELD_BYTES(cells), step, 0, next, 0);
+    if (LAGOON_CAUSE(answer) != LAGOON_LENGTH)
+        return print_refused('F', answer);
+    for (size_t f = 0; f < faces; f++)
+        rims += lagoon_face_of(mesh, f).second == LAGOON_RIM;
+    first = lagoon_total(field, cells);
+    printf("0 0 0 %" PRIu64 "\n", first);
+    take_steps(mesh_length, cells, faces, LAGOON_STEP_BYTES(faces, rims), &entered, &gone);
+    print_board(cells);
+    last = lagoon_total(field, cells);
+    fprintf(stderr, "budget: first total %" PRIu64 " + in %" PRIu64 " - out %" PRIu64 " = %" PRIu64 ", last total %" PRIu64 "\n", first, entered,
+            gone, first + entered - gone, last);
+    if (fflush(stdout) != 0 || ferror(stdin)) {
+        perror("session");
+        return 1;
+    }
+    return count > 1 ? write_field(words[1], LAGOON_FIELD_BYTES(cells)) : 0;
+}

@@ -1,0 +1,19 @@
+#!/usr/bin/env bash
+# Every file, name and quoted line that docs/PROMISES.md, docs/CALLS.md and docs/DESIGN.md cite is there; and that test does find a wrong citation.
+set -eu
+cd "$(dirname "$0")/.."
+python3 tests/cites.py docs/PROMISES.md docs/CALLS.md docs/DESIGN.md
+
+made=$(mktemp -d)
+trap 'rm -r "$made"' EXIT
+found() { # PAGE SED-EXPRESSION: the page changed by it has to be refused
+  sed "$2" "$1" > "$made/page.md"
+  if cmp -s "$1" "$made/page.md"; then echo "$2 changes nothing in $1"; exit 1; fi
+  if python3 tests/cites.py "$made/page.md" > "$made/said" 2>&1; then echo "$2 in $1 is not found"; exit 1; fi
+}
+found docs/PROMISES.md 's/`refused-promise`/`refused-promises`/'
+found docs/PROMISES.md 's,`transport/must-fail/plain_upwind.edit`,`transport/must-fail/plain.edit`,'
+found docs/PROMISES.md 's,`transport/specs/Promise.antt`,`transport/specs/Promise.antt` †,'
+found docs/PROMISES.md 's/: `_andThen_` and `each`/: `_andThen_` and `eachOf`/'
+found docs/CALLS.md 's/^channel 2: accepted 50000 0/channel 2: accepted 50001 0/'
+found docs/CALLS.md 's/^    masses: &\[u64\],/    masses: \&[u32],/'

@@ -1,0 +1,129 @@
+#!/usr/bin/env python3
+"""tools/budget.py beside the run program and the reference: sums by rim face, refusals in words, and months that follow one another.
+
+    python3 tests/test_budget.py
+"""
+
+import csv
+import io
+import re
+import stat
+
+from toolcase import CHANNEL, ROOT, RUN, TIDE, breaks, command, equal, folder, holds, interrupted, known, refuses, run_all
+
+import generate
+import lagoon
+import layout
+import records
+
+
+def figures(report):
+    """The numbers of a report by their words."""
+    found = re.findall(r"^ *(\S.*?) +[-+=]? +(-?[\d,]+)$", report, re.MULTILINE)
+    return {words: int(value.replace(",", "")) for words, value in found}
+
+
+def test_the_tide():
+    status, out, said = command("budget.py", ROOT / "examples" / "tide.txt", "--run", RUN)
+    equal((status, said), (0, ""), "the tide's budget")
+    report = out.decode()
+    equal(figures(report), {"first total": 245000000, "in, face 0 (sea)": 210000000, "in, face 8 (river)": 1568000, "in, all rim faces": 211568000,
+                            "out, face 0 (sea)": 270312000, "out, face 8 (river)": 1851900, "out, all rim faces": 272163900,
+                            "last total": 184404100, "difference": 0}, "its figures")
+    holds("49 steps, 48 accepted, 1 refused" in report and "masses in units of g" in report, report)
+    holds("1 step refused by cause 9: a cell whose inflow and outflow differ\n  step 25: cell 0: 300 enters, 299 leaves (cause 9)\n" in report, report)
+
+
+def test_beside_the_reference():
+    """Sums of the lines that the reference prints, of generated sessions; and every row of --csv."""
+    tried = 0
+    for number in range(40):
+        data = generate.session(23, number).data
+        lines = [line.split() for line in lagoon.run(data).splitlines()]
+        status, out, said = command("budget.py", "--run", RUN, "--csv", "-", data=data)
+        if lines[0][0] in "MF":
+            holds(status == 1 and f"(cause {lines[0][1]})" in said, f"session {number}: {lines[0]} {said}")
+            continue
+        tried += 1
+        steps = [line for line in lines if line[0] != "B"]
+        accepted = [line for line in steps if line[1] != "R"]
+        found = figures(said)
+        equal((status, found["first total"], found["in, all rim faces"], found["out, all rim faces"], found["last total"], found["difference"]),
+              (0, int(steps[0][3]), sum(int(line[1]) for line in accepted), sum(int(line[2]) for line in accepted), int(accepted[-1][3]), 0),
+              f"session {number}")
+        rows = list(csv.reader(io.StringIO(out.decode())))[1:]
+        equal(len(rows), len(steps), f"session {number}, rows")
+        for row, line in zip(rows, steps):
+            wanted = [line[0], "0", "0", row[3], *line[2:]] if line[1] == "R" else [*line, "", ""]
+            equal(row[:6], wanted, f"session {number}, row {line[0]}")
+            equal((sum(map(int, row[6::2])), sum(map(int, row[7::2]))), (int(row[1]), int(row[2])), f"session {number}, row {line[0]}, by face")
+    holds(tried > 10, f"only {tried} sessions with steps")
+
+
+def test_months_follow_one_another():
+    """The second half from the last field of the first gives the whole."""
+    with folder() as made:
+        half = TIDE.index("step            # refused")
+        parts = {"whole": TIDE, "first": TIDE[:half], "second": TIDE[:TIDE.index("step times 10")] + TIDE[half:]}
+        for name, text in parts.items():
+            with open(f"{made}/{name}.txt", "w") as file:
+                file.write(text)
+        sums = {}
+        for name in parts:
+            more = ["--field", f"{made}/first.field"] if name == "second" else []
+            equal(command("records.py", "pack", f"{made}/{name}.txt", *more, "-o", f"{made}/{name}.in")[0], 0, f"{name} packed")
+            status, out, said = command("budget.py", f"{made}/{name}.in", "--field", f"{made}/{name}.field", "--run", RUN)
+            equal((status, said), (0, ""), name)
+            sums[name] = figures(out.decode())
+        for words in ("in, all rim faces", "out, face 0", "out, face 8"):
+            equal(sums["first"][words] + sums["second"][words], sums["whole"][words], words)
+        equal(sums["first"]["last total"], sums["second"]["first total"], "the second begins where the first ends")
+        fields = {name: open(f"{made}/{name}.field", "rb").read() for name in parts}
+        equal(fields["second"], fields["whole"], "the last field of the second half and of the whole")
+        holds(fields["first"] != fields["whole"], "the halves differ")
+        equal(sum(layout.masses_in(fields["whole"])), 184404100, "the last field's total")
+        refuses("a mesh of 3 cells", "records.py", "pack", ROOT / "examples" / "channel.txt", "--field", f"{made}/first.field")
+        refuses("is no field record", "records.py", "pack", ROOT / "examples" / "channel.txt", "--field", f"{made}/first.txt")
+
+
+def test_many_refusals():
+    """Refusals that differ are listed up to a number, and counted."""
+    session = CHANNEL + "".join(f"step\nface 0 flux -{n}\n" for n in range(1, 31)) + "step times 5\nface 1 flux 200\n"
+    status, out, _ = command("budget.py", "--run", RUN, data=session.encode())
+    report = out.decode()
+    holds("30 steps refused by cause 9" in report and "5 steps refused by cause 8: a flux too large for its face" in report, report)
+    holds("  step 3: cell 0: 1 enters, 0 leaves (cause 9)" in report and "  and 11 more" in report, report)
+
+
+def test_an_engine_that_differs():
+    """A run program that prints otherwise, or is none, is said; so is a library that is none."""
+    data, _ = records.pack(CHANNEL)
+    with folder() as made:
+        program = f"{made}/run"
+        for printed, wanted in ((lagoon.run(data), 0), (lagoon.run(data).replace("150000", "150001"), 1), ("", 1)):
+            with open(program, "w") as file:
+                file.write(f"#!/bin/sh\ncat > {made}/session\ncat <<'END'\n{printed}END\n")
+            (ROOT / program).chmod(stat.S_IRWXU)
+            status, _, said = command("budget.py", "--run", program, data=data)
+            holds(status == wanted and ("by the C call" in said) == bool(wanted), f"beside a program that prints {printed[:40]!r}: {said}")
+        with open(f"{made}/lib.a", "w") as file:
+            file.write("no archive")
+        refuses("gcc makes no shared object", "budget.py", "--library", f"{made}/lib.a", data=data)
+        refuses("has no call lagoon_step", "budget.py", "--library", program, data=data)
+        refuses("nowhere.a is not there", "budget.py", "--library", "nowhere.a", data=data)
+        refuses("nowhere: No such file", "budget.py", "--run", "nowhere", data=data)
+
+
+def test_the_command():
+    known("budget.py")
+    breaks("budget.py", ROOT / "examples" / "tide.txt")
+    interrupted("budget.py")
+    refuses("<stdin>:2:15: a volume", "budget.py", data=b"mesh\ncell 0 volume x\n")
+    refuses("the mesh is refused: cell 0: volume 0", "budget.py", data=CHANNEL.replace("volume 100", "volume 0", 1).encode())
+    refuses("nowhere: No such file", "budget.py", "nowhere")
+    tide = ROOT / "examples" / "tide.txt"
+    refuses("is read", "budget.py", tide, "--field", tide)
+
+
+if __name__ == "__main__":
+    run_all(globals(), "tools/budget.py")

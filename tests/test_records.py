@@ -1,0 +1,317 @@
+#!/usr/bin/env python3
+"""tools/records.py on stored and generated sessions, on the engine's own records and on bad text.
+
+    python3 tests/test_records.py
+"""
+
+import functools
+import io
+import re
+import subprocess
+
+from toolcase import CHANNEL, HERE, ROOT, TIDE, breaks, command, equal, folder, holds, interrupted, known, refuses, run_all
+
+import causes
+import generate
+import lagoon
+import layout
+import records
+
+GENERATED = 200
+
+printed_by_reference = functools.lru_cache(maxsize=None)(lagoon.run)
+
+
+def both_ways(data, what):
+    """The problems found in the bytes, whose text gives them back."""
+    text, problems = records.unpack(data)
+    if data:
+        equal(records.pack(text)[0], data, f"{what}, unpacked and packed")
+    return text, problems
+
+
+# ---------------------------------------------------------------- Round trips
+
+def test_document_examples():
+    text, problems = both_ways(bytes.fromhex("100100000640 200100000063"), "document 01's one cell")
+    equal((text, problems), ("mesh\ncell 0 volume 100\n\nfield\ncell 0 mass 99\n", []), "its text")
+
+
+def test_channel():
+    data, lacks = records.pack(CHANNEL)
+    equal(lacks, "", "the channel lacks nothing")
+    equal(data, (HERE / "sessions" / "channel.in").read_bytes(), "the channel's bytes")
+    equal(both_ways(data, "channel"), (CHANNEL, []), "the canonical text, packed and unpacked")
+    step = CHANNEL[CHANNEL.index("\nstep"):]
+    longer = CHANNEL.replace(step, step.replace("step times 2  # 1 to 2", "step") * 2)
+    equal(records.pack(longer)[0], data, "the channel with its two steps apart")
+    equal(records.pack(CHANNEL.replace("cell 1 mass 0\ncell 2 mass 0\n", ""))[0], data, "the channel with masses of 0 left out")
+
+
+def test_equal_steps_are_folded():
+    data, _ = records.pack(TIDE)
+    text, _ = both_ways(data, "tide")
+    equal(re.findall("^step.*$", text, re.MULTILINE), ["step times 10  # 1 to 10", "step times 14  # 11 to 24", "step  # 25",
+                                                       "step times 10  # 26 to 35", "step times 14  # 36 to 49"], "the tide's steps")
+    one = bytes.fromhex("100100000640 200100000063")
+    both_ways(one + bytes.fromhex("30000000") * 5 + bytes.fromhex("30000001") * 2 + bytes.fromhex("30000000"), "equal steps around wrong bits")
+
+
+def test_engine_records():
+    """The bytes that the engine wrote in the gate's program of the records."""
+    printed = (ROOT / "crates" / "record_figures" / "stdout").read_text()
+    sessions = 0
+    for line in printed.splitlines():
+        found = re.fullmatch(r".*: mesh written (\d+): (.*); field written (\d+): (.*); step written (\d+): (.*)", line)
+        if found:
+            data = b"".join(bytes.fromhex(found[i + 1])[:int(found[i])] for i in (1, 3, 5))
+            equal(both_ways(data, line[:30])[1], [], line[:30])
+            sessions += 1
+    holds(sessions > 3, "sessions of the engine's records")
+
+
+def stored():
+    for path in sorted((HERE / "sessions").glob("*.in")):
+        yield path.name, path.read_bytes()
+
+
+@functools.lru_cache(maxsize=None)
+def generated():
+    return list(generate_sessions())
+
+
+def generate_sessions():
+    for number in range(GENERATED):
+        yield f"generated session {number}", generate.session(11, number).data
+
+
+def test_stored_sessions():
+    for name, data in stored():
+        compare_with_run(data, name)
+
+
+def test_generated_sessions():
+    for name, data in generated():
+        compare_with_run(data, name)
+
+
+def compare_with_run(data, what):
+    """Damage is found where the reference refuses by 11, 12 or 13, with its cause and place."""
+    _, problems = both_ways(data, what)
+    found = [tuple(map(int, re.search(r"cause (\d+), place (\d+)\)$", problem).groups())) for problem in problems]
+    printed = printed_by_reference(data)
+    layouts = [refusal for refusal in refusals_in(printed) if refusal[0] > 10]
+    equal(found[:len(layouts)], layouts, f"{what}, what is wrong")
+    if not printed.startswith(("M", "F")):
+        equal(len(found), len(layouts), f"{what}, how many records are wrong")
+
+
+def refusals_in(printed):
+    return [tuple(map(int, line.split()[-2:])) for line in printed.splitlines() if re.match(r"[MF]|\d+ R", line)]
+
+
+def test_check_says_what_the_run_refuses():
+    """Every refusal of the reference, with its cause, step and place, and no other; of stored and generated sessions."""
+    seen = set()
+    for name, data in [*stored(), *generated()]:
+        printed = printed_by_reference(data)
+        checker = records.check_packed(io.BytesIO(data), name)
+        equal(checked(checker.report()[:-1]), [(kind, step, cause) for kind, step, cause, _ in refused(printed)], name)
+        equal(checker.bad(), bool(refused(printed)), f"{name}, whether anything is refused")
+        places = judged_places(data)
+        equal(places, [(cause, place) for _, _, cause, place in refused(printed)], f"{name}, places")
+        seen |= {cause for cause, _ in places}
+    equal(seen, {1, 3, 4, 5, 6, 7, 8, 9, 10, 11, 12, 13}, "causes that were tried")
+
+
+def refused(printed):
+    """Kind, step, cause and place of each refusal that is printed."""
+    found = []
+    for line in printed.splitlines():
+        words = line.split()
+        if words[0] in "MF":
+            found.append(("mesh" if words[0] == "M" else "field", 0, int(words[1]), int(words[2])))
+        elif words[1:2] == ["R"]:
+            found.append(("step", int(words[0]), int(words[2]), int(words[3])))
+    return found
+
+
+def checked(lines):
+    """Kind, step and cause of each refusal that check says, step by step."""
+    found = []
+    for line in lines:
+        kind, first, last, cause = re.search(r": (mesh|field|steps?)(?: (\d+)(?: to (\d+))?)?[:,].*\(cause (\d+)\)$", line).groups()
+        if kind in ("mesh", "field"):
+            found.append((kind, 0, int(cause)))
+        else:
+            found += [("step", step, int(cause)) for step in range(int(first), int(last or first) + 1)]
+    return found
+
+
+def judged_places(data):
+    """Cause and place of each refusal, by tools/causes.py."""
+    source, found = layout.Source(io.BytesIO(data)), []
+    try:
+        mesh = source.mesh(causes.LIMITS)
+        refusal = causes.mesh_refusal(mesh) or causes.field_refusal(mesh, source.field(len(mesh.volumes)))
+        if refusal:
+            return [(refusal.cause, refusal.place)]
+        while source.next_step(mesh) is not None:
+            refusal = causes.refused_step(source, mesh)
+            found += [(refusal.cause, refusal.place)] if refusal else []
+    except layout.Damage as damage:
+        found.append((damage.cause, damage.place))
+    return found
+
+
+def test_check_in_words():
+    tide = ROOT / "examples" / "tide.txt"
+    status, out, said = command("records.py", "check", tide)
+    line = TIDE[:TIDE.index("face 0 flux -300 outside 35000\nface 1 flux 299")].count("\n") + 1
+    equal((status, out.decode().splitlines(), said), (1, [
+        f"{tide}:{line}: step 25, cell 0: 300 enters, 299 leaves (cause 9)",
+        f"{tide}: 8 cells, 9 faces (2 at the rim), 49 steps: the run refuses 1 of them"], ""), "the tide checked")
+    status, out, said = command("records.py", "check", data=records.pack(TIDE)[0])
+    equal((status, out.decode().splitlines()[0]), (1, "<stdin>: byte 676: step 25, cell 0: 300 enters, 299 leaves (cause 9)"), "and packed")
+    for old, new, line, words in (
+            ("cell 1 volume 100", "cell 1 volume 0", 3, "mesh: cell 1: volume 0 is outside 1 to 4,095 (cause 3)"),
+            ("from 1 to 2", "from 7 to 2", 7, "mesh: face 2: it begins at 7, and the cells are 0 to 2 (cause 4)"),
+            ("from 1 to 2", "from 1 to 1", 7, "mesh: face 2: it joins cell 1 to itself (cause 4)"),
+            ("from 1 to 2", "from 1 to 7", 7, "mesh: face 2: it ends at 7, which is neither a cell (0 to 2) nor the rim (cause 4)"),
+            ("share 128", "share 0", 6, "mesh: face 1: share 0 is outside 1 to 255 (cause 5)"),
+            ("reach 100", "reach 0", 6, "mesh: face 1: reach 0 is outside 1 to 4,095 (cause 5)"),
+            ("face 3 from 2 to rim", "face 3 from 2 to rim share 1 reach 0", 8, "mesh: face 3: share 1 and reach 0 at the rim"),
+            ("cell 1 mass 0", "cell 1 mass 100000100", 12, "field: cell 1: mass 100,000,100 in volume 100 is a concentration of 1,000,001, above 1,000,000 (cause 6)"),
+            ("outside 1000", "outside 1000001", 16, "steps 1 to 2, face 0: outside value 1,000,001 is above 1,000,000 (cause 7)"),
+            ("face 3 flux 50", "face 3 flux 50 outside 7", 19, "steps 1 to 2, face 3: outside value 7 where no water enters over the rim (flux 50) (cause 7)"),
+            ("face 1 flux 50", "face 1 flux 101", 17, "steps 1 to 2, face 1: flux 101 is larger than the reach 100 (cause 8)"),
+            ("face 1 flux 50", "face 1 flux -0", 17, "steps 1 to 2, face 1: flux -0, a minus with size 0 (cause 12)"),
+            ("flux 50\nface 2", "flux 49\nface 2", 16, "steps 1 to 2, cell 0: 50 enters, 49 leaves (cause 9)")):
+        bad = CHANNEL.replace(old, new, 1)
+        status, out, said = command("records.py", "check", data=bad.encode())
+        holds(status == 1 and out.decode().startswith(f"<stdin>:{line}: {words}"), f"{new}: {out.decode()} {said}")
+    wide = CHANNEL.replace("50", "101").replace("reach 100", "reach 200")
+    equal(command("records.py", "check", data=wide.encode())[1].decode().splitlines()[0],
+          "<stdin>:16: steps 1 to 2, cell 0: 101 leaves, more than its volume 100 (cause 10)", "outflow above the volume")
+    equal(command("records.py", "check", data=CHANNEL.encode())[:2],
+          (0, b"<stdin>: 3 cells, 4 faces (2 at the rim), 2 steps: the run accepts all\n"), "a session without fault")
+    equal(command("records.py", "check", data=CHANNEL[:CHANNEL.index("field")].encode())[0], 1, "a session without a field")
+
+
+def test_damage_is_said():
+    data, _ = records.pack(CHANNEL)
+    for bad, words in ((data[:2], "<stdin>: byte 2: mesh, byte 2, bit 16: the input ends in this mesh record, which needs 4 bytes and has 2"),
+                       (data[:47] + b"\x40" + data[48:], "<stdin>: byte 47: step 1, byte 2, bit 17: a zero bit is set (cause 12, place 17)"),
+                       (data[:61] + b"\x20" + data[62:], "<stdin>: byte 61: step 2, byte 0, bit 0: kind 0010 in binary"),
+                       (data[:31] + b"\x20\x04" + data[33:], "<stdin>: byte 31: field, byte 0, bit 4: 4 cells where the mesh has 3")):
+        status, text, said = command("records.py", "unpack", data=bad)
+        equal((status, said.startswith(words)), (1, True), said)
+        equal(records.pack(text.decode())[0], bad, "damaged bytes, unpacked and packed")
+
+
+# ---------------------------------------------------------------- Bad text
+
+MESH = "mesh\ncell 0 volume 9\nface 0 from 0 to rim\nface 1 from 0 to 0 share 1 reach 1\n"
+FIELD = MESH + "field\ncell 0 mass 5\n"
+
+
+def test_bad_text():
+    cases = [("cell 0 volume 1", 1, 1), ("mesh\n  cel 0 volume 1", 2, 3), ("mesh\ncell 1 volume 1", 2, 6),
+             ("mesh\ncell 0 volume 4096", 2, 15), ("mesh\ncell 0 volume -1", 2, 15), ("mesh\ncell 0 volume", 2, 14),
+             ("mesh\ncell 0 volume # 1", 2, 14), ("mesh\ncell 0 volume 1 2", 2, 17), ("mesh\ncell 0 mass 1", 2, 8),
+             ("mesh\nface 0 from 0 to 1", 2, 19), ("mesh\nface 0 from 0 to boundary", 2, 18),
+             ("mesh\nface 0 from 0 to 1 share 256 reach 1", 2, 26), ("mesh\nface 0 from 0 to 1 share 1 reach 4096", 2, 34),
+             (MESH + "cell 1 volume 1", 5, 1), (MESH + "mesh", 5, 1), (MESH + "step", 5, 1), ("field", 1, 1),
+             (MESH + "field\ncell 1 mass 1", 6, 6), (MESH + "field\ncell 0 mass 4294967296", 6, 13),
+             (FIELD + "cell 0 mass 6", 7, 6), (FIELD + "field", 7, 1), (FIELD + "step\nface 0 flux 4096", 8, 13),
+             (FIELD + "step\nface 0 flux --1", 8, 13), (FIELD + "step\nface 0 flux 1.5", 8, 13),
+             (FIELD + "step\nface 1 flux 1 outside 0", 8, 15), (FIELD + "step\nface 0 flux -1 outside 1048576", 8, 24),
+             (FIELD + "step\nface 1 flux 1\nface 0 flux 1", 9, 6), (FIELD + "step\nface 2 flux 1", 8, 6),
+             (FIELD + "step times 0", 7, 12), (FIELD + "step times 1000001", 7, 12), (FIELD + "step twice", 7, 6), ("bytes", 1, 6),
+             ("bytes 1", 1, 7), ("bytes 0x", 1, 7), (MESH + "name cell 1 Inlet", 5, 11), (MESH + "name cell 0", 5, 12),
+             (MESH + "name pond 0 Inlet", 5, 6), (MESH + "unit depth m", 5, 6), (FIELD + "step\nname cell 0 Inlet", 8, 1),
+             ("mesh\ncell 0 volume " + "9" * 5000, 2, 15)]
+    for text, line, column in cases:
+        try:
+            records.pack(text)
+        except records.TextError as error:
+            equal((error.line, error.column), (line, column), f"place of the error in {text.splitlines()[-1][:60]!r} ({error.words})")
+        else:
+            raise AssertionError(f"no error in {text!r}")
+    refuses("<stdin>:2:15: a volume is at most 4095, not 4096\n", "records.py", "pack", data=b"mesh\ncell 0 volume 4096\n")
+
+
+def test_words_of_bad_text():
+    for text, words in ((MESH.replace("rim", "boundary"), "write 'rim' for 'boundary'"), (MESH.replace("share", "weight"), "write 'share' for 'weight'"),
+                        (MESH.replace("reach", "span"), "write 'reach' for 'span'"),
+                        (MESH.replace("from 0 to rim", "from rim to 0"), "the number of a cell (the rim stands second), not 'rim'"),
+                        (MESH.replace("to rim", "to K"), "the number of a cell or 'rim', not 'K'"),
+                        (FIELD + "step\nface 0 flux -", "should be a whole number, not '-'"), (FIELD + "step\nface 0 flux --5", "not '--5'"),
+                        ("mesh\n\x1b[31m\0", r"not '\x1b[31m\x00'"), ("mesh\n" + "x" * 3000, "not '" + "x" * 37 + "...'"),
+                        ("", "there is no mesh in this text"), ("mesh\ncell 0 volume " + "9" * 5000, "is at most 4095, not 999")):
+        refuses(words, "records.py", "pack", data=text.encode())
+    refuses("save it as UTF-8", "records.py", "pack", data=CHANNEL.encode("utf-16"))
+    equal(command("records.py", "pack", data=CHANNEL.encode("utf-8-sig"))[1], records.pack(CHANNEL)[0], "text with a byte order mark")
+    equal(command("records.py", "pack", data=CHANNEL.replace("\n", "\r\n").encode())[1], records.pack(CHANNEL)[0], "text with carriage returns")
+
+
+def test_nothing_is_overwritten():
+    with folder() as made:
+        mine, other = f"{made}/mine.txt", f"{made}/other.in"
+        for path in (mine, other):
+            with open(path, "w") as file:
+                file.write(CHANNEL)
+        refuses("is read: it cannot be written too", "records.py", "pack", mine, "-o", mine)
+        done = subprocess.run(["bash", "-c", f"python3 '{ROOT}/tools/records.py' pack -o '{mine}' < '{mine}'"], capture_output=True)
+        equal(done.returncode, 1, "pack over its standard input")
+        refuses("a volume should be", "records.py", "pack", "-o", other, data=b"mesh\ncell 0 volume x\n")
+        for path in (mine, other):
+            with open(path) as file:
+                equal(file.read(), CHANNEL, f"{path} is as it was")
+        equal(command("records.py", "pack", mine, "-o", other)[0], 0, "pack over another file")
+        with open(other, "rb") as file:
+            equal(file.read(), records.pack(CHANNEL)[0], "what is packed")
+
+
+def test_refused_sessions_can_be_made():
+    """Values out of range, where they fit their fields."""
+    for old, new, refusal in (("cell 1 volume 100", "cell 1 volume 0", "M 3 1"), ("from 1 to 2", "from 4095 to 2", "M 4 2"),
+                              ("face 3 from 2 to rim", "face 3 from 2 to rim share 0 reach 1", "M 5 3"),
+                              ("cell 1 mass 0", "cell 1 mass 4294967295", "F 6 1"), ("outside 1000", "outside 1048575", "1 R 7 0"),
+                              ("face 1 flux 50", "face 1 flux -0", "1 R 12 45"), ("face 3 flux 50", "face 3 flux 49", "1 R 9 2")):
+        data, _ = records.pack(CHANNEL.replace(old, new, 1))
+        holds(refusal in lagoon.run(data).splitlines(), f"{new} is refused by {refusal}")
+
+
+def test_units_and_names():
+    """They change no byte, and are read where the session is text."""
+    labelled = "unit volume 10 m3\nname face 0 the sea # west\n" + CHANNEL.replace("field", "name cell 2 Head\nfield")
+    equal(records.pack(labelled)[0], records.pack(CHANNEL)[0], "names and units")
+    labels = records.Session(io.BufferedReader(io.BytesIO(labelled.encode()))).labels
+    equal((labels.units, labels.of("face", 0), labels.of("cell", 2), labels.of("cell", 1)),
+          ({"volume": "10 m3"}, "face 0 (the sea)", "cell 2 (Head)", "cell 1"), "what is named")
+
+
+def test_hexadecimal():
+    status, out, said = command("records.py", "unpack", "--hex", data=b"10 01 00 00 06 40 # mesh\n200100000063\n")
+    equal((status, out.decode(), said), (0, "mesh\ncell 0 volume 100\n\nfield\ncell 0 mass 99\n", ""), "bytes in hexadecimal")
+    equal(command("records.py", "pack", "--hex", data=out)[1], b"10 01 00 00 06 40 20 01 00 00 00 63\n", "and back")
+    refuses("<stdin>:1:4: bytes are pairs of hexadecimal digits, not '0'\n", "records.py", "unpack", "--hex", data=b"10 0\n")
+
+
+# ---------------------------------------------------------------- The command
+
+def test_the_command():
+    known("records.py", ((), ("pack",), ("unpack",), ("check",)))
+    breaks("records.py", "pack", ROOT / "examples" / "tide.txt")
+    breaks("records.py", "unpack", HERE / "sessions" / "channel.in")
+    breaks("records.py", "check", ROOT / "examples" / "tide.txt")
+    interrupted("records.py", "pack")
+    for words, arguments in (("nowhere: No such file", ["pack", "nowhere"]), ("Is a directory", ["check", ROOT]),
+                             ("nowhere/x: No such file", ["pack", ROOT / "examples" / "channel.txt", "-o", "nowhere/x"])):
+        refuses(words, "records.py", *arguments)
+    refuses("bytes or more: it is no text", "records.py", "pack", data=bytes(3 << 20))
+
+
+if __name__ == "__main__":
+    run_all(globals(), "tools/records.py")

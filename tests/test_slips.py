@@ -1,0 +1,118 @@
+#!/usr/bin/env python3
+"""docs/ARITHMETIC.md, section 8: each slip that the page names gives another printed line of examples/second.txt.
+
+The step is written here once more, with a switch for each slip, so that a slip is one changed line of it."""
+
+import sys
+from pathlib import Path
+
+ROOT = Path(__file__).resolve().parent.parent
+sys.path[:0] = [str(ROOT / "tools"), str(ROOT / "reference")]
+
+import lagoon
+from worked import CHANNEL, SECOND
+
+SLIPS = ("s where the second cell is upwind", "correction with the other sign", "quotient rounded down", "q after stage 1 for d",
+         "still face met", "rest dropped", "G by V hi alone", "next masses from the low-order masses",
+         "s and 256 - s exchanged", "V for K", "outside value not met", "giver not limited",
+         "limit rounded up", "limits multiplied", "P netted")
+
+
+def step(session, slip=None):
+    """The masses after the session's first step, with one slip or none, and what crossed the rim."""
+    M, U, outside, m = session.mesh, session.fluxes, session.outsides, session.first
+    cells, faces = session.cells, session.faces
+    rim = [second == lagoon.RIM for second in M.seconds]
+    q = [mass // V for mass, V in zip(m, M.volumes)]
+    if slip == "rest dropped":
+        m = [V * c for V, c in zip(M.volumes, q)]
+
+    def flowed(masses, amounts):
+        after = list(masses)
+        for f in faces:
+            after[M.firsts[f]] -= amounts[f]
+            if not rim[f]:
+                after[M.seconds[f]] += amounts[f]
+        return after
+
+    upwind = [q[M.firsts[f]] if U[f] >= 0 else outside[f] if rim[f] else q[M.seconds[f]] for f in faces]
+    carried = [U[f] * upwind[f] for f in faces]
+    low = flowed(m, carried)
+    d_of = [mass // V for mass, V in zip(low, M.volumes)] if slip == "q after stage 1 for d" else q
+
+    def correction(f):
+        if rim[f] or U[f] == 0:
+            return 0
+        up, down = (M.firsts[f], M.seconds[f]) if U[f] > 0 else (M.seconds[f], M.firsts[f])
+        s, K = M.shares[f], M.volumes[M.firsts[f]] if slip == "V for K" else M.reaches[f]
+        t = s if U[f] > 0 or slip == "s where the second cell is upwind" else 256 - s
+        if slip == "s and 256 - s exchanged":
+            t = 256 - t
+        product = U[f] * (d_of[down] - d_of[up]) * (t * K - 128 * abs(U[f]))
+        if slip == "correction with the other sign":
+            product = -product
+        if slip == "quotient rounded down":
+            return product // (256 * K)
+        return abs(product) // (256 * K) * (-1 if product < 0 else 1)
+
+    x = [correction(f) for f in faces]
+
+    def met(c):
+        near = [q[c]]
+        for f in faces:
+            if c in (M.firsts[f], M.seconds[f]) and (U[f] != 0 or slip == "still face met"):
+                if not rim[f]:
+                    near.append(q[M.firsts[f] + M.seconds[f] - c])
+                elif U[f] < 0 and slip != "outside value not met":
+                    near.append(outside[f])
+        return near
+
+    G = [V * max(met(c)) + (0 if slip == "G by V hi alone" else V - 1) - low[c] for c, V in zip(cells, M.volumes)]
+    L = [low[c] - V * min(met(c)) for c, V in zip(cells, M.volumes)]
+    entering = [[abs(x[f]) for f in faces if x[f] and c == (M.seconds[f] if x[f] > 0 else M.firsts[f])] for c in cells]
+    leaving = [[abs(x[f]) for f in faces if x[f] and c == (M.firsts[f] if x[f] > 0 else M.seconds[f])] for c in cells]
+    P, N = [sum(e) for e in entering], [sum(e) for e in leaving]
+    if slip == "P netted":
+        P, N = [max(p - n, 0) for p, n in zip(P, N)], [max(n - p, 0) for p, n in zip(P, N)]
+
+    def part(a, room, total):
+        if total <= room:
+            return a
+        return -(-a * room // total) if slip == "limit rounded up" else a * room // total
+
+    def limited(f):
+        a = abs(x[f])
+        if a == 0:
+            return 0
+        receiver, giver = (M.seconds[f], M.firsts[f]) if x[f] > 0 else (M.firsts[f], M.seconds[f])
+        gets, gives = part(a, G[receiver], P[receiver]), part(a, L[giver], N[giver])
+        size = gets if slip == "giver not limited" else gets * gives // a if slip == "limits multiplied" else min(gets, gives)
+        return size if x[f] > 0 else -size
+
+    moved = [carried[f] + limited(f) for f in faces]
+    after = flowed(low if slip == "next masses from the low-order masses" else m, moved)
+    entered = sum(-U[f] * outside[f] for f in faces if rim[f] and U[f] < 0)
+    gone = sum(U[f] * q[M.firsts[f]] for f in faces if rim[f] and U[f] > 0)
+    return after, entered, gone
+
+
+def lines(session, slip=None):
+    """What the run would print of the step: its line, and the board."""
+    after, entered, gone = step(session, slip)
+    order = sorted(session.cells, key=lambda c: (-(after[c] // session.mesh.volumes[c]), c))[:8]
+    board = [f"B {c} {after[c] // session.mesh.volumes[c]} {after[c] % session.mesh.volumes[c]}" for c in order]
+    return [f"1 {entered} {gone} {sum(after)}", *board]
+
+
+def main():
+    right = SECOND.printed()[1:]
+    if lines(SECOND) != right or step(CHANNEL)[0] != lagoon.advance(CHANNEL.mesh, CHANNEL.first, CHANNEL.fluxes, CHANNEL.outsides).masses:
+        raise SystemExit("test_slips.py: the step written here is not the engine's")
+    unseen = [slip for slip in SLIPS if lines(SECOND, slip) == right]
+    if unseen:
+        raise SystemExit(f"test_slips.py: examples/second.txt does not show: {', '.join(unseen)}")
+    print(f"{len(SLIPS)} slips, each with other lines than examples/second.txt has")
+
+
+if __name__ == "__main__":
+    main()

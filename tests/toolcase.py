@@ -1,0 +1,85 @@
+"""What the tests of the tools share."""
+
+import os
+import subprocess
+import sys
+import tempfile
+from pathlib import Path
+
+HERE = Path(__file__).resolve().parent
+ROOT = HERE.parent
+TOOLS = ROOT / "tools"
+RUN = ROOT / "target" / "bin" / "run"
+sys.path[:0] = [str(TOOLS), str(ROOT / "reference")]
+
+CHANNEL = (ROOT / "examples" / "channel.txt").read_text()
+TIDE = (ROOT / "examples" / "tide.txt").read_text()
+
+
+def equal(actual, expected, what):
+    if actual != expected:
+        raise AssertionError(f"{what}: expected {expected!r}, got {actual!r}")
+
+
+def holds(claim, what):
+    if not claim:
+        raise AssertionError(what)
+
+
+def command(*arguments, data=b"", **more):
+    """A tool's exit status, output and words; it never shows a traceback."""
+    done = subprocess.run([sys.executable, str(TOOLS / arguments[0]), *map(str, arguments[1:])], input=data, capture_output=True, **more)
+    said = done.stderr.decode("utf-8", "replace")
+    holds("Traceback" not in said and "Exception ignored" not in said, f"{arguments}: {said}")
+    return done.returncode, done.stdout, said
+
+
+def refuses(words, *arguments, data=b"", status=1):
+    """The tool ends with this status, writes nothing and says these words."""
+    found, out, said = command(*arguments, data=data)
+    equal((found, out), (status, b""), f"{arguments}: {said}")
+    holds(words in said, f"{arguments}: '{words}' should be in '{said}'")
+    holds(said.count("\n") == 1 or "usage:" in said, f"{arguments}: one line, not '{said}'")
+
+
+def breaks(*arguments, data=b""):
+    """Output that is closed, full or no longer read, and an interrupt: a line or none, and no traceback."""
+    line = " ".join(f"'{word}'" for word in [sys.executable, str(TOOLS / arguments[0]), *map(str, arguments[1:])])
+    for ending, statuses in ((">&-", (0, 1)), ("> /dev/full", (0, 1)), ("2>&- >/dev/full", (0, 1)), ("| true", (0,)), ("<&- >/dev/null", (0, 1))):
+        done = subprocess.run(["bash", "-c", f"{line} {ending}"], input=data, capture_output=True)
+        said = done.stderr.decode()
+        holds("Traceback" not in said and "Exception ignored" not in said and done.returncode in statuses, f"{line} {ending}: {done.returncode} {said}")
+    if "/dev/full" not in line:
+        full = subprocess.run(["bash", "-c", f"{line} > /dev/full"], input=data, capture_output=True)
+        holds(full.returncode == 1 and b"full" in full.stderr, f"{line} > /dev/full: {full.returncode} {full.stderr}")
+
+
+def interrupted(*arguments):
+    """Ctrl-C while the tool waits for its input."""
+    import signal
+    import time
+    tool = subprocess.Popen([sys.executable, str(TOOLS / arguments[0]), *map(str, arguments[1:])], stdin=subprocess.PIPE,
+                            stdout=subprocess.PIPE, stderr=subprocess.PIPE, preexec_fn=lambda: signal.signal(signal.SIGINT, signal.default_int_handler))
+    time.sleep(0.6)
+    tool.send_signal(signal.SIGINT)
+    out, said = tool.communicate(timeout=20)
+    equal((tool.returncode, said), (130, b""), f"{arguments} interrupted")
+
+
+def known(name, commands=((),)):
+    """--help with examples, and --version from the file VERSION."""
+    for words in commands:
+        status, out, _ = command(name, *words, "--help")
+        equal((status, b"examples:" in out), (0, True), f"help of {name} {words}")
+    equal(command(name, "--version"), (0, f"{name} {(ROOT / 'VERSION').read_text().strip()}\n".encode(), ""), f"version of {name}")
+
+
+def folder():
+    return tempfile.TemporaryDirectory(dir=os.environ.get("TMPDIR"))
+
+
+def run_all(names, what):
+    tests = [value for name, value in names.items() if name.startswith("test_")]
+    for test in tests:
+        test()
+    print(f"{len(tests)} tests of {what} hold")

@@ -1,0 +1,150 @@
+"""The proved step, called from Python: liblagoon.a made a shared object, and a session stepped through it."""
+
+import ctypes
+import os
+import shutil
+import subprocess
+import tempfile
+from collections import namedtuple
+
+import layout
+from command import ROOT, Bad
+
+ARCHIVE = ROOT / "target" / "staticlib" / "liblagoon.a"
+SHARED = ROOT / "target" / "tools" / "liblagoon.so"
+
+# One step of a session: its number, None or the refusal, the masses after it, and its in-mass and out-mass by rim face.
+Moment = namedtuple("Moment", "number refusal masses entered gone")
+
+
+def options(parser):
+    parser.add_argument("--library", metavar="FILE", help="liblagoon.a, or a shared object made of it (default: target/staticlib/liblagoon.a)")
+    parser.add_argument("--run", metavar="PROGRAM", help="the run program: its lines have to say the same of every step and of the board")
+
+
+def loaded(path):
+    """The shared object of the library. From an archive gcc makes it; that of the default archive is kept until it is older."""
+    archive = os.path.abspath(path or ARCHIVE)
+    if not os.path.exists(archive):
+        raise Bad(f"{path or 'target/staticlib/liblagoon.a'} is not there: `rt staticlib lagoon` makes it")
+    if not archive.endswith(".a"):
+        return ctypes.CDLL(archive)
+    if path is None and SHARED.exists() and SHARED.stat().st_mtime > os.stat(archive).st_mtime:
+        return ctypes.CDLL(str(SHARED))
+    with tempfile.TemporaryDirectory() as folder:
+        made = os.path.join(folder, "liblagoon.so")
+        link(archive, made)
+        if path is None:
+            keep(made)
+        return ctypes.CDLL(made)
+
+
+def link(archive, made):
+    line = ["gcc", "-shared", "-o", made, "-Wl,--whole-archive", archive, "-Wl,--no-whole-archive"]
+    try:
+        done = subprocess.run(line, capture_output=True, text=True, errors="replace", check=False)
+    except FileNotFoundError:
+        raise Bad("gcc is not there, and it makes a shared object of liblagoon.a") from None
+    if done.returncode:
+        said = done.stderr.strip().splitlines() or ["it said nothing"]
+        raise Bad(f"gcc makes no shared object of {archive}: {said[0][:200]}")
+
+
+def keep(made):
+    """For the next time, where the folder can be written."""
+    try:
+        SHARED.parent.mkdir(parents=True, exist_ok=True)
+        number, beside = tempfile.mkstemp(dir=SHARED.parent)
+        os.close(number)
+        shutil.copyfile(made, beside)
+        os.replace(beside, SHARED)
+    except OSError:
+        pass
+
+
+class Engine:
+    """The C call on a mesh."""
+
+    def __init__(self, mesh_record, library=None):
+        try:
+            self.call = loaded(library).lagoon_step
+        except (OSError, AttributeError) as error:
+            raise Bad(f"{library or ARCHIVE} has no call lagoon_step: {str(error)[:200]}") from None
+        self.call.restype = ctypes.c_uint64
+        self.call.argtypes = [ctypes.c_char_p, ctypes.c_size_t] * 4
+        self.mesh = mesh_record
+
+    def step(self, field, step):
+        """The next field record, or None and the answer's cause and place."""
+        room = ctypes.create_string_buffer(len(field))
+        answer = self.call(self.mesh, len(self.mesh), field, len(field), step, len(step), room, len(field))
+        return (None, (answer >> 32, answer & 0xffffffff)) if answer else (room.raw, None)
+
+
+class History:
+    """A session stepped through the engine. What the engine refuses has to be what the words of tools/causes.py say."""
+
+    def __init__(self, session, library=None, program=None):
+        self.session, self.mesh, self.program = session, session.mesh, program
+        self.engine = Engine(session.mesh_record, library)
+        self.field = session.field_record
+        self.lines, self.records = [], None     # as the run prints them, and what it reads
+        if program:
+            self.records = tempfile.TemporaryFile()
+            self.keep(f"0 0 0 {sum(session.masses)}", session.mesh_record + session.field_record)
+
+    def keep(self, line, record=b""):
+        if self.program:
+            self.lines.append(line)
+            self.records.write(record)
+
+    def moments(self):
+        masses, number = self.session.masses, 0
+        yield Moment(0, None, masses, {}, {})
+        for record, refusal in self.session.steps():
+            number += 1
+            field, refused = self.engine.step(self.field, record)
+            if refused != (refusal and (refusal.cause, refusal.place)):
+                raise Bad(f"step {number}: the engine answers {refused or 'that it is accepted'}, and by the words it is {refusal or 'accepted'}")
+            if refusal:
+                self.keep(f"{number} R {refusal.cause} {refusal.place}", record)
+                yield Moment(number, refusal, masses, {}, {})
+                continue
+            entered, gone = self.over_the_rim(record, masses)
+            self.field, masses = field, layout.masses_in(field)
+            self.keep(f"{number} {sum(entered.values())} {sum(gone.values())} {sum(masses)}", record)
+            yield Moment(number, None, masses, entered, gone)
+        for cell, q, rest in board(self.mesh.volumes, masses):
+            self.keep(f"B {cell} {q} {rest}")
+        if self.program:
+            self.records.seek(0)
+            agree(self.program, self.records, self.lines)
+
+    def over_the_rim(self, record, masses):
+        """In-mass and out-mass of an accepted step, by rim face: document 01's two sums, face by face."""
+        entered, gone = {}, {}
+        for face, (flux, outside) in zip(self.mesh.rim, layout.rim_values(record, self.mesh)):
+            first = self.mesh.faces[face].first
+            if flux < 0:
+                entered[face] = -flux * outside
+            elif flux:
+                gone[face] = flux * (masses[first] // self.mesh.volumes[first])
+        return entered, gone
+
+
+def board(volumes, masses):
+    """Up to 8 cells as (cell, q, rest), highest q first, lower cell number first among equals."""
+    entries = [(cell, m // V, m % V) for cell, (V, m) in enumerate(zip(volumes, masses))]
+    return sorted(entries, key=lambda entry: (-entry[1], entry[0]))[:8]
+
+
+def agree(program, records, lines):
+    """The run program prints these lines of the records."""
+    try:
+        done = subprocess.run([program], stdin=records, capture_output=True, check=False)
+    except OSError as error:
+        raise Bad(f"{program}: {error.strerror}") from None
+    printed = done.stdout.decode("ascii", "replace").splitlines()
+    for number, (theirs, ours) in enumerate(zip(printed + [""] * len(lines), lines + [""] * len(printed)), 1):
+        if theirs != ours:
+            raise Bad(f"line {number} of {program} is '{theirs}', by the C call '{ours}'")

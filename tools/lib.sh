@@ -1,0 +1,13 @@
+#!/usr/bin/env bash
+# Proves the host's call and writes target/lib/liblagoon.a, liblagoon.so and lagoon.pc. What the prover says is in target/lib/log.
+set -eu
+[ "${1:-}" != --help ] || { sed -n '2s/^# //p' "$0"; exit 0; }
+cd "$(dirname "$0")/.."
+out=target/lib
+mkdir -p $out
+# rt proves a library anew each time that it writes the archive, so one that is newer than all crates is taken as it is
+if [ ! -e $out/liblagoon.a ] || [ -n "$(find crates crates.txt -newer $out/liblagoon.a -print -quit)" ]; then
+  rt staticlib lagoon > $out/log 2>&1 || { tail -n 40 $out/log >&2; exit 1; }
+  cp target/staticlib/liblagoon.a $out/
+  gcc -shared -o $out/liblagoon.so -Wl,--whole-archive $out/liblagoon.a -Wl,--no-whole-archive
+fi
