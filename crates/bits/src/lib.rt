@@ -1,5 +1,5 @@
 ghost use mathlib.Core.Path.{_≡_};
-ghost use Prim.Native.Nat.{ℕ, _≤_, _<_, _+_, _*_, _^_, _/_, _%_, min};
+ghost use Prim.Native.Nat.{_≤_, _<_, _+_, _*_, _^_, _/_, _%_, min};
 ghost use lib.ListN.{length};
 ghost use Rattle.bits.specs.Field.{bitAt, bitsAt};
 ghost use Rattle.bits.specs.Layout.{bytesFor};

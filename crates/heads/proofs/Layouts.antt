@@ -4,9 +4,9 @@ use mathlib.Core.Path.{_≡_, refl}
 use mathlib.Core.List.{List, [], _∷_}
 use native.Mathlib.Omega.{arith}
 use Rattle.model.specs.Mesh.{maxCells, maxFaces}
-use Rattle.sections.specs.Sections.{those, place, shapeBits}
+use Rattle.sections.specs.Sections.{place}
 use Rattle.sections.proofs.Bodies.{Column, column-after}
-use Rattle.heads.specs.Layouts.{kindBits, cellsBits, facesBits, meshZeroBits, stepZeroBits, volumeBits, endBits, shareBits, reachBits, massBits, signBits, sizeBits, outsideBits, meshHeadBits, fieldHeadBits, stepHeadBits, faceBits, fluxBits, isRim, rimFaces, meshHead, meshBody, meshShape, fieldHead, fieldBody, fieldShape, stepHead, stepBody, stepShape, meshBits, fieldBits, stepBits}
+use Rattle.heads.specs.Layouts.{kindBits, cellsBits, facesBits, meshZeroBits, stepZeroBits, volumeBits, endBits, shareBits, reachBits, massBits, signBits, sizeBits, outsideBits, meshHeadBits, fieldHeadBits, stepHeadBits, faceBits, fluxBits, rimFaces, meshHead, meshBody, meshShape, fieldHead, fieldBody, fieldShape, stepHead, stepBody, stepShape, meshBits, fieldBits, stepBits}
 use Rattle.heads.proofs.HeadLaws.{rim-le}
 
 -- the sum of the fluxes and the outside values, as a step's places are reckoned

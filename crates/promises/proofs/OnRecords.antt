@@ -16,7 +16,7 @@ use Rattle.model.specs.Step.{StepInput, moved, next}
 use Rattle.model.specs.Causes.{accepted, fine, long, Call, callOf, inputOf, workLength, counts, meshTables, meshValues, meshVerdict, fieldTable, fieldValues, fieldVerdict, stepTables, outsideGood, fluxGood, balanceGood, outflowGood, stepValues, waterOf}
 use Rattle.model.specs.Calls.{massIn, Bounded, Left, crossingOf}
 use Rattle.model.proofs.Verdicts.{both-fine, need-met}
-use Rattle.model.proofs.Accepted.{ready-of, counted, mesh-fit}
+use Rattle.model.proofs.Accepted.{ready-of, mesh-fit}
 use Rattle.model.proofs.Next.{moved-keeps}
 use Rattle.model.proofs.Lists.{Fair, amounts-fair}
 use Rattle.bits.specs.Field.{bitsAt}

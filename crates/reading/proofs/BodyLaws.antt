@@ -2,7 +2,7 @@
 use Prim.Native.Nat.{ℕ, suc, _+_, _-_, _*_, _^_, _≤_, _<_}
 use mathlib.Core.Path.{_≡_, refl, ap, _∙_}
 use mathlib.Core.Bool.{cond}
-use mathlib.Core.List.{List, _∷_}
+use mathlib.Core.List.{List}
 use native.Mathlib.Omega.{arith}
 use lib.Dec.{eqb}
 use lib.IntN.{ℤ, pos}
@@ -17,7 +17,7 @@ use Rattle.bits.specs.Field.{bitsAt}
 use Rattle.bits.proofs.Layouts.{bytes-hold, bytes-most}
 use Rattle.sections.specs.Sections.{shapeBits, place, valueIn, columnIn}
 use Rattle.sections.proofs.Bodies.{bodyOf, body-length, body-value, body-column}
-use Rattle.heads.specs.Layouts.{signBits, sizeBits, fluxBits, outsideBits, isRim, rimFaces, meshHead, meshBody, fieldHead, fieldBody, stepHead, stepBody, stepShape, meshBits, fieldBits, stepBits}
+use Rattle.heads.specs.Layouts.{sizeBits, fluxBits, outsideBits, isRim, rimFaces, meshHead, meshBody, fieldHead, fieldBody, stepHead, stepBody, stepShape, meshBits, fieldBits, stepBits}
 use Rattle.heads.specs.Heads.{cellsIn, facesIn}
 use Rattle.heads.proofs.Layouts.{mesh-most, field-most, step-most, outside-at}
 use Rattle.reading.specs.Reading.{shapeIn, massesIn, meshBodyVerdict, fieldBodyVerdict, stepBodyVerdict}

@@ -1,6 +1,5 @@
 -- Cited by the contracts of inner functions only: no promise of the crate rests on these. A body counts its bits from its own first.
 use mathlib.Core.Path.{_≡_}
-use mathlib.Core.Bool.{cond}
 use mathlib.Core.List.{List}
 use Prim.Native.Nat.{ℕ, suc, _+_, _*_, _^_, _≤_, _<_}
 use lib.Dec.{eqb}

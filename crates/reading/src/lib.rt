@@ -5,7 +5,6 @@ mod zeros;
 
 use model::Answer;
 use model::Refusal;
-ghost use mathlib.Core.Path.{_≡_};
 ghost use lib.ListN.{length};
 ghost use Rattle.reading.specs.Reading.{meshRead, fieldRead, stepRead};
 ghost use Rattle.reading.specs.Answers.{MeshReading, FieldReading, StepReading};

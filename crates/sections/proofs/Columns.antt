@@ -3,7 +3,7 @@
 use mathlib.Core.Path.{_≡_, refl, sym, ap, _∙_}
 use mathlib.Core.Bool.{Bool, true, false, cond, _&&_, _||_, true≢false}
 use mathlib.Core.Logic.{_⊎_, inl, inr}
-use mathlib.Core.List.{List, [], _∷_, _++_}
+use mathlib.Core.List.{List, [], _∷_}
 use Prim.Native.Nat.{ℕ, zero, suc, _+_, _-_, _*_, _/_, _%_, _^_, _≤_, _<_}
 use native.Mathlib.Nat.{not-suc-le-zero, le-of-suc-le-suc, zero-add, suc-mul, mul-le-mul-right, add-mul, one-mul, zero-mul}
 use native.Mathlib.Decide.{decLt}
@@ -11,16 +11,14 @@ use native.Mathlib.Omega.{arith}
 use lib.Dec.{eqb}
 use lib.ListN.{length, getD}
 use Rattle.signed.specs.Sign.{withSign}
-use Rattle.lists.specs.Fold.{sum}
 use Rattle.lists.specs.Table.{table, over}
 use Rattle.lists.proofs.Sums.{sum-zero, sum-more, sum-part, sum-bound}
 use Rattle.lists.proofs.Tests.{Same, same, other, same?, both-true}
 use Rattle.bits.specs.Field.{bitAt, bitsAt}
 use Rattle.bits.specs.Put.{Put}
-use Rattle.bits.specs.Layout.{widthOf, bitsOf, bytesFor, packed}
+use Rattle.bits.specs.Layout.{widthOf, bitsOf, packed}
 use Rattle.bits.proofs.Fields.{bits-bit}
 use Rattle.bits.proofs.Puts.{bits-same}
-use Rattle.bits.proofs.Layouts.{packed-bit}
 use Rattle.bits.proofs.Readings.{read-bit}
 use Rattle.bits.proofs.Writings.{Begun, begun-end}
 use Rattle.sections.specs.Sections.{Section, those, rowsOf, widthsOf, hasRow, shapeBits, sectionIn, place, width, Has, Values, fieldsOf, recordOf, lengthOf, Fits, valueIn}

@@ -1,8 +1,8 @@
 -- Laws of sections, over any widths and counts: sizes, where each field stands, reading undoes writing, and writing undoes reading.
 use mathlib.Core.Path.{_≡_, refl, sym, ap, _∙_}
 use mathlib.Core.Bool.{Bool, true, false, cond}
-use mathlib.Core.List.{List, [], _∷_, _++_}
-use Prim.Native.Nat.{ℕ, zero, suc, _+_, _-_, _*_, _^_, _≤_, _<_}
+use mathlib.Core.List.{List, [], _∷_}
+use Prim.Native.Nat.{ℕ, zero, suc, _+_, _-_, _*_, _≤_, _<_}
 use native.Mathlib.Nat.{not-suc-le-zero, le-of-suc-le-suc, add-zero, zero-add, add-assoc, add-mul, one-mul, zero-mul}
 use native.Mathlib.Omega.{arith}
 use lib.ListN.{length, getD}
@@ -10,10 +10,10 @@ use Rattle.lists.specs.Fold.{sum}
 use Rattle.lists.specs.Table.{table}
 use Rattle.lists.proofs.Tables.{table-cong}
 use Rattle.bits.specs.Field.{bitAt, bitsAt}
-use Rattle.bits.specs.Layout.{Field, field, widthOf, rows, bytesFor, packed}
+use Rattle.bits.specs.Layout.{Field, field, widthOf, rows, bytesFor}
 use Rattle.bits.proofs.Layouts.{width-append, width-rows-of, length-packed, Stands, stands-here, stands-later, stands-left, stands-right, stands-row, read-packed}
 use Rattle.bits.proofs.Readings.{ReadFrom, read-none, read-more, read-append, read-rows, pack-read}
-use Rattle.sections.specs.Sections.{Section, per, perThat, those, rowsOf, widthsOf, hasRow, rowsBefore, rowBits, sectionBits, shapeBits, sectionIn, startOf, offsetOf, place, width, Has, Values, row, sectionRow, fieldsOf, recordOf, lengthOf, Fits, valueIn, entryIn, columnIn}
+use Rattle.sections.specs.Sections.{Section, per, perThat, those, rowsOf, widthsOf, hasRow, rowsBefore, rowBits, sectionBits, shapeBits, sectionIn, offsetOf, place, width, Has, Values, row, sectionRow, fieldsOf, recordOf, lengthOf, Fits, valueIn, entryIn, columnIn}
 
 -- sizes
 

@@ -1,7 +1,7 @@
 -- Document 01, "Record layouts", the shape of its table: a record is a list of sections, as a head, a part for each cell, a part for each
 -- face. A section has rows, one after another, and a row has a field of each of the section's widths.
 use mathlib.Core.Path.{_≡_}
-use mathlib.Core.Bool.{Bool, true, false, cond}
+use mathlib.Core.Bool.{Bool, true, cond}
 use mathlib.Core.List.{List, [], _∷_, _++_}
 use Prim.Native.Nat.{ℕ, zero, suc, _+_, _*_, _^_, _<_}
 use lib.Dec.{eqb}

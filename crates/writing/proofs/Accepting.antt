@@ -1,7 +1,7 @@
 -- What makes a reading accepted, and what an accepted one has passed.
 use Prim.Native.Nat.{ℕ, _*_, _≤_, _<_, min}
 use mathlib.Core.Path.{_≡_, refl}
-use mathlib.Core.Bool.{Bool, true, false, not, _&&_}
+use mathlib.Core.Bool.{true, not, _&&_}
 use mathlib.Core.List.{List}
 use native.Mathlib.Omega.{arith}
 use lib.ListN.{length}
@@ -12,7 +12,7 @@ use Rattle.model.proofs.Verdicts.{need-met, fine-each, each-fine, both-fine, pa
 use Rattle.bits.specs.Layout.{bytesFor}
 use Rattle.heads.specs.Layouts.{meshKind, fieldKind, stepKind, meshZeroBits, stepZeroBits, meshHeadBits, stepHeadBits, meshBits, fieldBits, stepBits, meshLength, fieldLength, stepLength}
 use Rattle.heads.specs.Heads.{kindIn, cellsIn, facesIn, stepFacesIn, meshHeadVerdict, fieldHeadVerdict, stepHeadVerdict}
-use Rattle.heads.proofs.HeadLaws.{mesh-head-says, field-head-says, step-head-says}
+use Rattle.heads.proofs.HeadLaws.{field-head-says, step-head-says}
 use Rattle.reading.specs.Reading.{countsIn, zeroBitGood, minusZero, meshBitGood, stepBitGood, meshBodyVerdict, fieldBodyVerdict, stepBodyVerdict, meshRead, fieldRead, stepRead}
 use Rattle.reading.specs.declared.Counts.{Counts}
 use Rattle.reading.proofs.ReadLaws.{both-past, mesh-tables-say, field-tables-say, step-tables-say, read-says}

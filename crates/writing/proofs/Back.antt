@@ -24,7 +24,7 @@ use Rattle.bits.proofs.Layouts.{bytes-hold}
 use Rattle.sections.specs.Sections.{Section, Values, Has, rowsOf, sectionIn, shapeBits, place, fieldsOf, recordOf, Fits, valueIn, entryIn, columnIn}
 use Rattle.sections.proofs.Sections.{width-fields, length-record, value-back, column-back, record-again}
 use Rattle.sections.proofs.Bodies.{column-has}
-use Rattle.heads.specs.Layouts.{kindBits, facesBits, meshZeroBits, stepZeroBits, signBits, sizeBits, fluxBits, meshHeadBits, stepHeadBits, meshKind, fieldKind, stepKind, isRim, signOf, sizeOf, outsideOf, massOf, meshShape, meshValue, fieldShape, fieldValue, stepShape, stepValue, meshBits, fieldBits, stepBits, meshRecord, fieldRecord, stepRecord}
+use Rattle.heads.specs.Layouts.{meshZeroBits, stepZeroBits, signBits, sizeBits, fluxBits, meshHeadBits, stepHeadBits, meshKind, fieldKind, stepKind, isRim, signOf, sizeOf, outsideOf, massOf, meshShape, meshValue, fieldShape, fieldValue, stepShape, stepValue, meshBits, fieldBits, stepBits, meshRecord, fieldRecord, stepRecord}
 use Rattle.heads.specs.Heads.{kindIn, cellsIn, facesIn, stepFacesIn}
 use Rattle.heads.proofs.Layouts.{mesh-kind-in, mesh-cells-in, mesh-faces-in, mesh-zeros-in, mesh-some, field-kind-in, field-cells-in, step-kind-in, step-faces-in, step-zeros-in, signs-in, sizes-in, step-some}
 use Rattle.reading.specs.Reading.{shapeIn, volumesIn, firstsIn, secondsIn, sharesIn, reachesIn, massesIn, minusIn, sizeIn, fluxesIn, outsidesIn, zeroBitGood, minusZero}

@@ -2,10 +2,10 @@
 use Prim.Native.Nat.{ℕ}
 use mathlib.Core.Path.{_≡_, refl}
 use mathlib.Core.List.{List, [], _∷_}
-use lib.IntN.{pos, negsuc}
+use lib.IntN.{negsuc}
 use Rattle.lists.specs.Fold.{sum}
 use Rattle.lists.specs.Table.{table}
-use Rattle.model.specs.Mesh.{Mesh, meshOf}
+use Rattle.model.specs.Mesh.{meshOf}
 use Rattle.model.specs.Causes.{accepted, refused, fine, _andThen_, need, each, countsWithin}
 use Rattle.bits.specs.Field.{bitAt, bitsAt}
 use Rattle.bits.specs.Layout.{spelled, bitsOf, widthOf, bytesFor, octet, packed, rows}

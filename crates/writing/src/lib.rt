@@ -4,7 +4,6 @@ mod refusals;
 
 use model::Answer;
 use model::Refusal;
-ghost use mathlib.Core.Path.{_≡_};
 ghost use Rattle.model.specs.Mesh.{meshOf};
 ghost use Rattle.writing.specs.Writing.{MeshWriting, FieldWriting, StepWriting};
 

@@ -8,7 +8,6 @@ use sections::put_column;
 use sections::put_marked;
 use sections::put_signs;
 use sections::put_sizes;
-ghost use mathlib.Core.Path.{_≡_};
 ghost use Rattle.model.specs.Mesh.{meshOf};
 ghost use Rattle.heads.specs.Layouts.{meshRecord, fieldRecord, stepRecord, meshLength, fieldLength, stepLength};
 ghost use Rattle.writing.specs.Putting.{MeshWhole, FieldWhole, StepWhole, Wrote};

@@ -3,7 +3,7 @@ use mathlib.Core.Path.{_≡_, refl, sym, ap, _∙_}
 use native.Mathlib.Nat.{le-refl}
 use native.Mathlib.Omega.{arith}
 use borrow.Author.Needs.{needs}
-use lib.ListN.{length, getD}
+use lib.ListN.{getD}
 use Rattle.sections.specs.Sections.{marked, those}
 use Rattle.sections.specs.Columns.{PutColumn}
 use Rattle.sections.proofs.Columns.{column-start, column-if, column-whole, those-none, those-next, those-apart, those-room, those-most, first-at}

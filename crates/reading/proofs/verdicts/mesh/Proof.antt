@@ -2,7 +2,7 @@ use mathlib.Core.Path.{sym}
 use native.Mathlib.Omega.{arith}
 use borrow.Author.Needs.{needs}
 use Rattle.model.proofs.Verdicts.{out, past, refuses, passes}
-use Rattle.heads.proofs.HeadLaws.{MeshHeadSays, mesh-head-says}
+use Rattle.heads.proofs.HeadLaws.{mesh-head-says}
 use Rattle.reading.specs.Reading.{meshRead}
 use Rattle.reading.proofs.ReadLaws.{second-out, both-past}
 use Rattle.reading.proofs.verdicts.mesh.Statement.{statement}
