@@ -9,9 +9,12 @@ use Rattle.sections.proofs.Bodies.{Column, column-after}
 use Rattle.heads.specs.Layouts.{kindBits, cellsBits, facesBits, meshZeroBits, stepZeroBits, volumeBits, endBits, shareBits, reachBits, massBits, signBits, sizeBits, outsideBits, meshHeadBits, fieldHeadBits, stepHeadBits, faceBits, fluxBits, rimFaces, meshHead, meshBody, meshShape, fieldHead, fieldBody, fieldShape, stepHead, stepBody, stepShape, meshBits, fieldBits, stepBits}
 use Rattle.heads.proofs.HeadLaws.{rim-le}
 
--- the sum of the fluxes and the outside values, as a step's places are reckoned
+-- where a step's outside values begin, and the most bits that it has
 abbrev pub rimPlace : ℕ → ℕ
 rimPlace faces = stepHeadBits + faces * fluxBits
+
+abbrev pub stepMost : ℕ
+stepMost = rimPlace maxFaces + maxFaces * outsideBits
 
 -- a mesh: its body's columns, each from a place p on
 module _ (cells faces : ℕ) where
@@ -43,7 +46,7 @@ module _ (cells faces : ℕ) where
   pub mesh-zeros-in : Column (meshShape cells faces) 0 3 1 (kindBits + cellsBits + facesBits) meshHeadBits meshZeroBits
   mesh-zeros-in = record { widths = kindBits ∷ cellsBits ∷ facesBits ∷ meshZeroBits ∷ []; every = refl; among = omega arith; wide = refl; apart = refl; begins = refl }
 
-  pub mesh-most : cells ≤ maxCells → faces ≤ maxFaces → meshBits cells faces ≤ 409532
+  pub mesh-most : cells ≤ maxCells → faces ≤ maxFaces → meshBits cells faces ≤ meshBits maxCells maxFaces
   mesh-most l m = omega arith
 
   pub mesh-some : meshHeadBits ≤ meshBits cells faces
@@ -80,7 +83,7 @@ module _ (cells : ℕ) where
   pub masses-in : Column (fieldShape cells) 1 0 cells fieldHeadBits massBits massBits
   masses-in = column-after fieldHead fieldHeadBits masses-at refl
 
-  pub field-most : cells ≤ maxCells → fieldBits cells ≤ 131056
+  pub field-most : cells ≤ maxCells → fieldBits cells ≤ fieldBits maxCells
   field-most l = omega arith
 
   pub field-some : fieldHeadBits ≤ fieldBits cells
@@ -118,7 +121,7 @@ module _ (faces : ℕ) (seconds : List ℕ) where
   pub step-is : stepBits faces seconds ≡ rimPlace faces + rimFaces seconds faces * outsideBits
   step-is = omega arith
 
-  pub step-most : faces ≤ maxFaces → stepBits faces seconds ≤ 270302
+  pub step-most : faces ≤ maxFaces → stepBits faces seconds ≤ stepMost
   step-most l = omega (arith, rim-le seconds faces)
 
   pub step-some : rimPlace faces ≤ stepBits faces seconds

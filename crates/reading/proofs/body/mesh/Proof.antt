@@ -9,7 +9,7 @@ use Rattle.lists.specs.Table.{table, over}
 use Rattle.bits.specs.Field.{bitsAt}
 use Rattle.sections.specs.Sections.{Section, columnIn}
 use Rattle.sections.proofs.Bodies.{Column, column-is, column-room}
-use Rattle.heads.specs.Layouts.{meshBody}
+use Rattle.heads.specs.Layouts.{volumeBits, faceBits, meshBody}
 use Rattle.heads.proofs.Layouts.{volumes-at, firsts-at, seconds-at, shares-at, reaches-at}
 use Rattle.reading.proofs.body.mesh.Statement.{statement}
 use Rattle.reading.proofs.body.mesh.Tie as tie
@@ -23,7 +23,7 @@ asks : (s : tie.Start) {k j n first stride w m : ℕ} → Column (shape s) k j n
 asks s c l e = ((omega (arith, s .pre .small), l, e), λ i h. column-room c (s .pre .holds) i h)
 
 -- the places do not wrap: the body holds what they reach
-within : (s : tie.Start) → s .args .cells * 12 + 44 < 18446744073709551616
+within : (s : tie.Start) → s .args .cells * volumeBits + faceBits < 18446744073709551616
 within s = let p = s .pre in omega (arith, p .small, p .holds)
 
 taken : (s : tie.Start) {k j n first stride w : ℕ} → Column (shape s) k j n first stride w → (ys : List ℕ) {zs : List ℕ} → zs ≡ over (table n (λ i. bitsAt (s .args .body .now) (first + i * stride) w)) ys

@@ -6,12 +6,13 @@ use mathlib.Core.List.{List}
 use native.Mathlib.Omega.{arith}
 use borrow.Author.Needs.{needs}
 use lib.ListN.{length}
+use Rattle.model.specs.Mesh.{maxCells}
 use Rattle.bits.specs.Layout.{bytesFor}
 use Rattle.bits.proofs.Layouts.{bytes-hold}
 use Rattle.sections.specs.Sections.{Section, Values, shapeBits}
 use Rattle.sections.proofs.Columns.{Written, none, and, written-none, written-all}
 use Rattle.sections.proofs.Bodies.{column-rooms, column-fits, column-small, column-written, head-written}
-use Rattle.heads.specs.Layouts.{kindBits, cellsBits, massBits, fieldHeadBits, fieldShape, fieldValue, fieldLength, fieldRecord}
+use Rattle.heads.specs.Layouts.{kindBits, cellsBits, massBits, fieldHeadBits, fieldBits, fieldShape, fieldValue, fieldLength, fieldRecord}
 use Rattle.heads.proofs.Layouts.{field-some, field-most, field-kind-in, field-cells-in, masses-in}
 use Rattle.writing.proofs.put.field.Statement.{statement}
 use Rattle.writing.proofs.put.field.Tie as tie
@@ -29,7 +30,7 @@ Some s put out = Written (shape s) (value s) put (s .args .bytes .now) out
 record Room (s : tie.Start) : Type 0 where
   some : fieldHeadBits ≤ shapeBits (shape s)
   held : shapeBits (shape s) ≤ 8 * length (s .args .bytes .now)
-  most : shapeBits (shape s) ≤ 131056
+  most : shapeBits (shape s) ≤ fieldBits maxCells
   ends : fieldHeadBits + s .args .cells * massBits ≡ shapeBits (shape s)
 
 holds : (s : tie.Start) → Room s

@@ -7,13 +7,13 @@ use mathlib.Core.List.{List}
 use native.Mathlib.Omega.{arith}
 use borrow.Author.Needs.{needs}
 use lib.ListN.{length, getD}
-use Rattle.model.specs.Mesh.{Mesh, meshOf}
+use Rattle.model.specs.Mesh.{Mesh, meshOf, maxCells, maxFaces}
 use Rattle.bits.specs.Layout.{bytesFor}
 use Rattle.bits.proofs.Layouts.{bytes-hold}
 use Rattle.sections.specs.Sections.{Section, Values, shapeBits}
 use Rattle.sections.proofs.Columns.{Written, none, and, written-none, written-all}
 use Rattle.sections.proofs.Bodies.{Column, column-rooms, column-fits, column-small, column-written, head-written}
-use Rattle.heads.specs.Layouts.{kindBits, cellsBits, facesBits, meshZeroBits, volumeBits, faceBits, meshHeadBits, meshShape, meshValue, meshLength, meshRecord}
+use Rattle.heads.specs.Layouts.{kindBits, cellsBits, facesBits, meshZeroBits, volumeBits, faceBits, meshHeadBits, meshBits, meshShape, meshValue, meshLength, meshRecord}
 use Rattle.heads.proofs.Layouts.{mesh-some, mesh-most, mesh-kind-in, mesh-cells-in, mesh-faces-in, mesh-zeros-in, volumes-in, firsts-in, seconds-in, shares-in, reaches-in}
 use Rattle.writing.proofs.put.mesh.Statement.{statement}
 use Rattle.writing.proofs.put.mesh.Tie as tie
@@ -34,7 +34,7 @@ Some s put out = Written (shape s) (value s) put (s .args .bytes .now) out
 record Room (s : tie.Start) : Type 0 where
   some : meshHeadBits ≤ shapeBits (shape s)
   held : shapeBits (shape s) ≤ 8 * length (s .args .bytes .now)
-  most : shapeBits (shape s) ≤ 409532
+  most : shapeBits (shape s) ≤ meshBits maxCells maxFaces
   ends : meshHeadBits + s .args .cells * volumeBits + s .args .faces * faceBits ≡ shapeBits (shape s)
 
 holds : (s : tie.Start) → Room s

@@ -13,7 +13,7 @@ use Rattle.sections.proofs.Columns.{Written, none, and, written-none, written-c
 use Rattle.sections.proofs.Bodies.{Column, column-rooms, column-fits, column-small, column-written, head-written}
 use Rattle.heads.specs.Layouts.{kindBits, facesBits, stepZeroBits, outsideBits, stepHeadBits, rimFaces, stepShape, stepValue, stepLength, stepRecord}
 use Rattle.heads.proofs.HeadLaws.{rim-le}
-use Rattle.heads.proofs.Layouts.{rimPlace, step-is, step-some, step-most, step-kind-in, step-faces-in, step-zeros-in, signs-in, sizes-in, outside-in}
+use Rattle.heads.proofs.Layouts.{rimPlace, stepMost, step-is, step-some, step-most, step-kind-in, step-faces-in, step-zeros-in, signs-in, sizes-in, outside-in}
 use Rattle.writing.proofs.put.step.Statement.{statement}
 use Rattle.writing.proofs.put.step.Tie as tie
 
@@ -33,7 +33,7 @@ rims s = rimFaces (s .args .seconds .now) (s .args .faces)
 record Room (s : tie.Start) : Type 0 where
   some : stepHeadBits ≤ shapeBits (shape s)
   held : shapeBits (shape s) ≤ 8 * length (s .args .bytes .now)
-  most : shapeBits (shape s) ≤ 270302
+  most : shapeBits (shape s) ≤ stepMost
   rims-most : rims s ≤ s .args .faces
   ends : shapeBits (shape s) ≡ rimPlace (s .args .faces) + rims s * outsideBits
 
