@@ -45,21 +45,31 @@ holds s = record {
 field-asks : (s : tie.Start) {put : ℕ → ℕ → Bool} {out : List ℕ} (at w x : ℕ) → Some s put out → at + w ≤ fieldHeadBits → x < 2 ^ w → (at + w ≤ 8 * length out) × (at + w < 18446744073709551616) × (w ≤ 40) × (x < 2 ^ w)
 field-asks s at w x r l m = let h = holds s in (omega (arith, r .same-length, h .some, h .held), omega arith, omega arith, m)
 
-one : (c : tie.After-write-bits) → let s = c .before .before .before .before in Some s (and none 0 0) (c .write-bits .last .0)
+-- the start, from each place
+abbrev from-one : tie.After-write-bits → tie.Start
+from-one c = c .before .before .before .before
+
+abbrev from-two : tie.After-write-bits2 → tie.Start
+from-two c = from-one (c .before .before .before .before)
+
+abbrev from-three : tie.After-put-column → tie.Start
+from-three c = from-two (c .before .before .before .before)
+
+one : (c : tie.After-write-bits) → Some (from-one c) (and none 0 0) (c .write-bits .last .0)
 one c =
-    let s = c .before .before .before .before in
+    let s = from-one c in
     head-written (field-kind-in (s .args .cells)) (value s) (s .pre .fits) (written-none (shape s) (value s) _) (c .write-bits .ensures) refl
 
-two : (c : tie.After-write-bits2) → let p1 = c .before .before .before .before in let s = p1 .before .before .before .before in Some s (and (and none 0 0) 0 1) (c .write-bits2 .last .0)
+two : (c : tie.After-write-bits2) → Some (from-two c) (and (and none 0 0) 0 1) (c .write-bits2 .last .0)
 two c =
     let p1 = c .before .before .before .before in
-    let s = p1 .before .before .before .before in
+    let s = from-two c in
     head-written (field-cells-in (s .args .cells)) (value s) (s .pre .fits) (one p1) (c .write-bits2 .ensures) refl
 
-three : (c : tie.After-put-column) → let p1 = c .before .before .before .before in let s = p1 .before .before .before .before .before .before .before .before in Some s (and (and (and none 0 0) 0 1) 1 0) (c .put-column .last .0)
+three : (c : tie.After-put-column) → Some (from-three c) (and (and (and none 0 0) 0 1) 1 0) (c .put-column .last .0)
 three c =
     let p1 = c .before .before .before .before in
-    let s = p1 .before .before .before .before .before .before .before .before in
+    let s = from-three c in
     column-written (masses-in (s .args .cells)) (value s) (s .pre .fits) (two p1) (c .put-column .ensures) (λ i l. refl)
 
 write-bits-requires : tie.Need-write-bits-requires
@@ -70,13 +80,13 @@ write-bits-requires c κs =
 write-bits-requires-2 : tie.Need-write-bits-requires-2
 write-bits-requires-2 c κs =
     let p1 = c .before .before .before in
-    let s = p1 .before .before .before .before in
+    let s = from-one p1 in
     field-asks s kindBits cellsBits _ (one p1) (omega arith) (omega (arith, s .pre .few-cells))
 
 put-column-requires : tie.Need-put-column-requires
 put-column-requires c κs =
     let p1 = c .before .before .before in
-    let s = p1 .before .before .before .before .before .before .before .before in
+    let s = from-two p1 in
     let h = holds s in
     let k = masses-in (s .args .cells) in
     let r = two p1 in
@@ -98,8 +108,7 @@ pad-requires : tie.Need-pad-requires
 unfolding fieldLength
 pad-requires c κs =
     let p1 = c .before .before .before in
-    let p2 = p1 .before .before .before .before .before .before .before .before .before in
-    let s = p2 .before .before .before in
+    let s = from-three p1 in
     let h = holds s in
     rw (h .ends) (rw (three p1 .same-length) (s .pre .enough), omega (arith, h .most))
 
@@ -116,7 +125,7 @@ returns c =
     let p2 = p1 .before .before .before .before in
     let p3 = p2 .before .before .before .before .before .before .before .before .before in
     let p4 = p3 .before in
-    let s = p4 .before .before in
+    let s = from-three p2 in
     let e = holds s .ends in
     record {
       takes = p1 .pad .ensures .0 ∙ ap bytesFor e;
