@@ -55,7 +55,7 @@ paper:
 bench:
 	bench/run.py
 
-# the engine against the reference: fixed cases, and document 01's slips
+# the engine against the reference: fixed sessions, records and scripts of calls, and slips
 compare:
 	tests/compare.sh
 
@@ -68,7 +68,7 @@ soak:
 # the figures of docs/ACCURACY.md, and its picture
 accuracy:
 	reference/build.sh
-	python3 reference/accuracy.py --call target/compare/call_guarded --fine --svg docs/accuracy.svg
+	python3 bench/accuracy.py --call target/compare/call_guarded --fine --svg docs/accuracy.svg
 
 clean:
 	rm -rf target

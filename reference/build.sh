@@ -1,6 +1,6 @@
 #!/usr/bin/env bash
 # Proves and builds what the comparison runs, into target/compare/:
-#   run              the run program
+#   run, calls       the run program, and the program of all calls
 #   call_sanitized   call_driver.c with the engine's library, the driver under AddressSanitizer
 #   call_guarded     the same without it, each buffer ending at a page that nobody may touch
 set -eu
@@ -9,9 +9,9 @@ cd "$(dirname "$0")/.."
 out=target/compare
 library=target/lib/liblagoon.a
 mkdir -p $out
-rt check run >$out/log 2>&1 || { cat $out/log; exit 1; }
+rt check run calls >$out/log 2>&1 || { cat $out/log; exit 1; }
 tools/lib.sh
-cp target/bin/run $out/run
+cp target/bin/run target/bin/calls $out/
 driver="gcc -std=c11 -Wall -Wextra -Werror -g -O1 reference/call_driver.c"
 $driver -fsanitize=address,undefined $library -o $out/call_sanitized
 $driver -DGUARD_PAGES $library -o $out/call_guarded

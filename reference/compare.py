@@ -1,12 +1,12 @@
 #!/usr/bin/env python3
-"""Compares the engine's run program and host's call with the reference, on generated sessions and calls.
+"""Compares the engine's programs with the reference: the run on sessions, the host's call on records, and calls on scripts.
 
-    compare.py --run RUN --call DRIVER --sessions 2000 --seed 1     fixed cases: equal, and every cause reached
-    compare.py --run RUN --call DRIVER --soak 600 --seed 17         fresh seeds from 17 on, for 600 seconds
-    compare.py --run RUN --call DRIVER --slips                      with each slip in the reference: must differ
+    compare.py --run RUN --call DRIVER --script CALLS --sessions 2000 --seed 1     fixed cases: equal, and every cause reached
+    compare.py --run RUN --call DRIVER --script CALLS --soak 600 --seed 17         fresh seeds from 17 on, for 600 seconds
+    compare.py --run RUN --call DRIVER --script CALLS --slips                      with each slip in the reference: must differ
 
-RUN is the run program, DRIVER a build of call_driver.c with the engine's library (several may be given);
-python3:PATH takes a Python program with run and host_step instead.
+RUN is the run program, DRIVER a build of call_driver.c with the engine's library (several may be given), CALLS the
+program calls; python3:PATH takes a Python program with run and host_step instead, for a script the one that script.py asks.
 Exit status 0: as it should be. 1: a mismatch, which is kept as it is and made small; a cause that was never
 reached; or a slip that was not seen.
 """
@@ -24,21 +24,54 @@ sys.path.insert(0, str(HERE))
 
 import engines
 import generate
+import generate_script
+import script
 import shrink
-from slips import SLIPS
+from slips import ANSWER_SLIPS, SLIPS
 
-BLOCK = 20              # sessions, and as many calls, that one process compares at a time
+BLOCK = 20              # sessions, and as many calls and scripts, that one process compares at a time
 WAVE = 400              # sessions of one seed in a soak
 SLIP_CASES = 400        # a slip has to show within so many sessions and calls
 ENOUGH = 20             # mismatches after which a comparison ends, so that one of them is small
 LARGE = 1 << 20         # bytes; more than any case has
 SHRINK_SECONDS = 30
+SHOWN = 300             # characters of a line that differs
 
 # Causes that the run can meet, per record; 13 and a mesh's 1 with their places.
 REACHABLE = ["M 11", "M 13/0", "M 1/0", "M 1/1", "M 12", "M 3", "M 4", "M 5",
              "F 11", "F 13/0", "F 13/1", "F 6",
              "R 11", "R 13/0", "R 13/1", "R 12", "R 7", "R 8", "R 9", "R 10"]
 CALL_REACHABLE = REACHABLE + ["N 2/11"]         # N: the bytes lent for the next field
+
+# Causes that each call of a script can meet, 1, 2 and 13 with their places.
+COUNTS, MESH = "1/0 1/1", "2/0 2/1 2/2 2/3 2/4"
+CELLS = "1/0 2/0 2/5 3 6"
+STEP = f"{COUNTS} {MESH} 2/5 2/6 2/7 2/8 2/9 2/10 3 4 5 6 7 8 9 10"
+SCRIPT_CAUSES = {
+    "counts_within": COUNTS,
+    "check_mesh": f"{COUNTS} {MESH} 3 4 5",
+    "check_field": f"{COUNTS} {MESH} 2/5 3 4 5 6",
+    "check_cells": CELLS,
+    "check_step": STEP,
+    "total": CELLS,
+    "step": STEP,
+    "mesh_length": f"11 13/0 {COUNTS}",
+    "field_length": "11 13/0 13/1 1/0",
+    "step_length": "11 13/0 13/1 1/1 2/2",
+    "read_mesh": f"11 13/0 {COUNTS} {MESH} 12",
+    "read_field": "11 13/0 13/1 1/0 2/5",
+    "read_step": "11 13/0 13/1 1/1 2/2 2/6 2/7 12",
+    "write_mesh": f"{COUNTS} {MESH} 2/11 3 4 5",
+    "write_field": f"{COUNTS} {MESH} 2/5 2/11 3 4 5 6",
+    "write_step": f"{COUNTS} {MESH} 2/6 2/7 2/11 3 4 5 7 8",
+    "number_at": "past",
+    "board": CELLS,
+    "lagoon_step": "11 13/0 13/1 1/0 1/1 12 3 4 5 6 7 8 9 10 2/11",
+}
+FAULTS = ["not a number", "too large", "no such call", "a minus where none may stand", "a table too long",
+          "a call too long", "the input ends within a call"]
+SCRIPT_REACHABLE = [f"{name} {cause}" for name, causes in SCRIPT_CAUSES.items()
+                    for cause in ["accepted", *causes.split()]] + FAULTS
 
 Mismatch = namedtuple("Mismatch", "engine seed number kinds size")
 
@@ -82,19 +115,43 @@ def cause_of_call(reference, case, number):
     return name_cause(letter, cause, place)
 
 
+def script_cause(cause, place):
+    return f"{cause}/{place}" if cause in (1, 2, 13) else f"{cause}"
+
+
+def causes_of_script(text):
+    """The answers in what calls printed, by the name of the call; and the fault that ended it, if one did."""
+    found = Counter()
+    for line in text.splitlines():
+        name, said = line.split(";")[0].split(":", 1)
+        words = said.split()
+        if name == "bad input":
+            found[line.split(": ")[-1]] += 1
+        elif name == "lagoon_step":
+            cause, place = divmod(int(words[0]), 1 << 32)
+            found[f"{name} {script_cause(cause, place) if cause else 'accepted'}"] += 1
+        elif words[0] == "refused":
+            found[f"{name} {script_cause(int(words[1]), int(words[2]))}"] += 1
+        else:
+            found[f"{name} {words[0]}"] += 1
+    return found
+
+
 class Tally:
     """What a comparison has come to so far."""
 
     def __init__(self):
-        self.sessions = self.calls = 0
-        self.run_causes, self.call_causes = Counter(), Counter()
+        self.sessions = self.calls = self.scripts = 0
+        self.run_causes, self.call_causes, self.script_causes = Counter(), Counter(), Counter()
         self.mismatches = []
 
     def add(self, other):
         self.sessions += other.sessions
         self.calls += other.calls
+        self.scripts += other.scripts
         self.run_causes += other.run_causes
         self.call_causes += other.call_causes
+        self.script_causes += other.script_causes
         self.mismatches += other.mismatches
 
     def never_reached(self):
@@ -104,14 +161,25 @@ class Tally:
             missing += ["run: " + cause for cause in REACHABLE if self.run_causes[cause] == 0]
         if self.calls:
             missing += ["call: " + cause for cause in CALL_REACHABLE if self.call_causes[cause] == 0]
+        if self.scripts:
+            missing += ["script: " + cause for cause in SCRIPT_REACHABLE if self.script_causes[cause] == 0]
         return missing
 
     def show(self):
         """Prints how often each cause was met: M, F and R for a refused mesh, field and step, N for too little room."""
         for title, causes, wanted in (("run", self.run_causes, REACHABLE), ("call", self.call_causes, CALL_REACHABLE)):
             if causes:
-                names = ["accepted"] + wanted + sorted(set(causes) - set(wanted) - {"accepted"})
-                print(f"{title}: " + ", ".join(f"{name}: {causes[name]}" for name in names))
+                show_causes(title, causes, ["accepted"] + wanted + sorted(set(causes) - set(wanted) - {"accepted"}))
+        if self.script_causes:
+            for name in SCRIPT_CAUSES:
+                met = {key.split(" ", 1)[1]: count for key, count in self.script_causes.items() if key.startswith(name + " ")}
+                wanted = ["accepted", *SCRIPT_CAUSES[name].split()]
+                show_causes(name, Counter(met), wanted + sorted(set(met) - set(wanted)))
+            show_causes("no script", self.script_causes, FAULTS)
+
+
+def show_causes(title, causes, names):
+    print(f"{title}: " + ", ".join(f"{name}: {causes[name]}" for name in names))
 
 
 # ---------------------------------------------------------------- Comparison
@@ -119,12 +187,13 @@ class Tally:
 class Sides:
     """The reference, right or with a slip in it, and the engine's programs."""
 
-    def __init__(self, run, calls, slip=None):
+    def __init__(self, run, calls, calls_program, slip=None):
         self.reference = engines.load(HERE / "lagoon.py", "reference_lagoon")
         if slip:
-            SLIPS[slip](self.reference)
+            {**SLIPS, **ANSWER_SLIPS}[slip](self.reference)
         self.run_path, self.run = run, run and engines.run_program(run)
         self.drivers = {path: engines.driver(path) for path in calls}
+        self.script_path, self.script = calls_program, calls_program and engines.script_program(calls_program)
 
     def expected_call(self, case):
         return engines.with_room(*self.reference.host_step(*case), case[3])
@@ -147,6 +216,17 @@ class Sides:
                 size = len(engines.stream(*case[1:]))
                 tally.mismatches.append(Mismatch(path, seed, number, case.kinds, size))
 
+    def play(self, tally, seed, number):
+        case = generate_script.script(seed, number)
+        expected = self.expected_script(case.text)
+        tally.scripts += 1
+        tally.script_causes += causes_of_script(expected)
+        if self.script(case.text) != expected:
+            tally.mismatches.append(Mismatch(self.script_path, seed, number, case.kinds, len(case.text)))
+
+    def expected_script(self, text):
+        return script.answer(text, self.reference)
+
     def block(self, seed, numbers):
         tally = Tally()
         for number in numbers:
@@ -154,6 +234,8 @@ class Sides:
                 self.session(tally, seed, number)
             if self.drivers:
                 self.call(tally, seed, number)
+            if self.script:
+                self.play(tally, seed, number)
         for path, driver in self.drivers.items():
             if driver.finish():
                 tally.mismatches.append(Mismatch(path, seed, numbers[-1], ("the end of the driver",), LARGE))
@@ -161,6 +243,9 @@ class Sides:
 
     def run_differs(self, data):
         return self.run(data) != self.reference.run(data)
+
+    def script_differs(self, text):
+        return self.script(text) != self.expected_script(text)
 
     def call_differs(self, path, case):
         driver = self.drivers[path]
@@ -170,9 +255,9 @@ class Sides:
 
 # Each process of a pool has its own sides.
 
-def prepare(run, calls, slip):
+def prepare(run, calls, calls_program, slip):
     global sides
-    sides = Sides(run, calls, slip)
+    sides = Sides(run, calls, calls_program, slip)
 
 
 def compare_block(block):
@@ -184,7 +269,7 @@ def blocks(seed, count):
 
 
 def compare(pool, tally, seed, count):
-    """Compares count sessions and as many calls of one seed; ends early after enough mismatches."""
+    """Compares count sessions, and as many calls and scripts, of one seed; ends early after enough mismatches."""
     for part in pool.imap_unordered(compare_block, blocks(seed, count)):
         tally.add(part)
         if len(tally.mismatches) >= ENOUGH:
@@ -203,7 +288,7 @@ def soak(pool, tally, seed, seconds):
             if now - shown >= 10:
                 shown = now
                 print(f"{now - start:.0f} s: seed {seed}, {tally.sessions} sessions, {tally.calls} calls, "
-                      f"{len(tally.mismatches)} mismatches", flush=True)
+                      f"{tally.scripts} scripts, {len(tally.mismatches)} mismatches", flush=True)
         if tally.mismatches:
             return
 
@@ -212,11 +297,11 @@ def soak(pool, tally, seed, seconds):
 
 def see_slip(task):
     """The first case of each engine program that tells the reference with this slip from the engine."""
-    slip, run, calls, seed = task
-    wrong = Sides(run, calls, slip)
-    wanted = [path for path in [run, *calls] if path]
+    slip, run, calls, calls_program, seed = task
+    wrong = Sides(run, calls, calls_program, slip)
+    wanted = [path for path in [run, *calls, calls_program] if path]
     first = {}
-    for number in range(SLIP_CASES):
+    for number in range(1, SLIP_CASES):         # case 0 of the scripts is the largest, and slow
         for mismatch in wrong.block(seed, [number]).mismatches:
             first.setdefault(mismatch.engine, number)
         if len(first) == len(wanted):
@@ -224,11 +309,13 @@ def see_slip(task):
     return slip, [(path, first.get(path)) for path in wanted]
 
 
-def see_slips(run, calls, seed, jobs):
-    """True where every slip was seen through every program."""
+def see_slips(run, calls, calls_program, seed, jobs):
+    """True where every slip was seen through every program; those of the answers show in scripts."""
+    tasks = [(slip, run, calls, calls_program, seed) for slip in SLIPS]
+    tasks += [(slip, None, [], calls_program, seed) for slip in ANSWER_SLIPS if calls_program]
     all_seen = True
     with Pool(jobs) as pool:
-        for slip, seen in pool.imap(see_slip, [(slip, run, calls, seed) for slip in SLIPS]):
+        for slip, seen in pool.imap(see_slip, tasks):
             words = [f"{Path(path).name} case {number}" if number is not None else f"{Path(path).name} NOT SEEN"
                      for path, number in seen]
             print(f"slip {slip}: first mismatch of {', '.join(words)}", flush=True)
@@ -250,6 +337,12 @@ def keep_mismatch(sides, mismatch, folder):
         if sides.run_differs(data):
             write_session(sides, base + "-small", shrink.session(data, sides.run_differs, SHRINK_SECONDS))
         return
+    if mismatch.engine == sides.script_path and mismatch.engine not in sides.drivers:
+        text = generate_script.script(seed, number).text
+        write_script(sides, base, text)
+        if sides.script_differs(text):
+            write_script(sides, base + "-small", shrink.script(text, sides.script_differs, SHRINK_SECONDS))
+        return
     case = tuple(generate.call(seed, number)[1:])
     write_call(sides, base, mismatch.engine, case)
     differs = lambda *case: sides.call_differs(mismatch.engine, case)
@@ -258,15 +351,22 @@ def keep_mismatch(sides, mismatch, folder):
 
 
 def write_session(sides, base, data):
-    expected, actual = sides.reference.run(data), sides.run(data)
-    Path(f"{base}.bin").write_bytes(data)
+    write_texts(base, "bin", data, sides.reference.run(data), sides.run(data))
+
+
+def write_script(sides, base, text):
+    write_texts(base, "script", text, sides.expected_script(text), sides.script(text))
+
+
+def write_texts(base, kind, data, expected, actual):
+    Path(f"{base}.{kind}").write_bytes(data)
     Path(f"{base}.expected").write_text(expected)
     Path(f"{base}.actual").write_text(actual)
-    print(f"  {len(data)} bytes: {base}.bin, with .expected and .actual")
+    print(f"  {len(data)} bytes: {base}.{kind}, with .expected and .actual")
     pairs = itertools.zip_longest(expected.splitlines(), actual.splitlines(), fillvalue="(nothing)")
     for line, (a, b) in enumerate(pairs, 1):
         if a != b:
-            print(f"  line {line}: expected {a}; got {b}")
+            print(f"  line {line}: expected {a[:SHOWN]}; got {b[:SHOWN]}")
             break
 
 
@@ -293,17 +393,18 @@ def arguments():
     parser = argparse.ArgumentParser(description=__doc__, formatter_class=argparse.RawDescriptionHelpFormatter)
     parser.add_argument("--run", help="the run program")
     parser.add_argument("--call", action="append", default=[], help="a call driver; may be given more than once")
-    parser.add_argument("--sessions", type=int, default=2000, help="sessions, and as many calls (2000)")
+    parser.add_argument("--script", metavar="CALLS", help="the program calls")
+    parser.add_argument("--sessions", type=int, default=2000, help="sessions, and as many calls and scripts (2000)")
     parser.add_argument("--seed", type=int, default=1, help="the seed, in a soak the first one (1)")
     parser.add_argument("--jobs", type=int, default=cpu_count(), help="processes at a time (one per processor)")
     parser.add_argument("--soak", type=float, metavar="SECONDS", help="go on with fresh seeds for this time")
     parser.add_argument("--keep", type=Path, metavar="FOLDER", default=HERE.parent / "target" / "mismatch",
                         help="where a mismatch is kept (target/mismatch)")
-    parser.add_argument("--slip", choices=SLIPS, help="make the reference wrong in one figure")
+    parser.add_argument("--slip", choices=[*SLIPS, *ANSWER_SLIPS], help="make the reference wrong in one figure")
     parser.add_argument("--slips", action="store_true", help="each slip in turn has to be seen")
     options = parser.parse_args()
-    if not options.run and not options.call:
-        parser.error("give --run, --call or both")
+    if not options.run and not options.call and not options.script:
+        parser.error("give --run, --call, --script or several of them")
     return options
 
 
@@ -311,11 +412,11 @@ def main():
     options = arguments()
     start = time.monotonic()
     if options.slips:
-        seen = see_slips(options.run, options.call, options.seed, options.jobs)
+        seen = see_slips(options.run, options.call, options.script, options.seed, options.jobs)
         print(f"slips in {time.monotonic() - start:.0f} s: " + ("all seen" if seen else "NOT ALL SEEN"))
         return 0 if seen else 1
     tally = Tally()
-    sides = (options.run, options.call, options.slip)
+    sides = (options.run, options.call, options.script, options.slip)
     with Pool(options.jobs, prepare, sides) as pool:
         if options.soak is None:
             compare(pool, tally, options.seed, options.sessions)
@@ -328,7 +429,7 @@ def main():
     missing = tally.never_reached() if options.soak is None else []
     if missing:
         print("NEVER REACHED: " + ", ".join(missing))
-    print(f"{tally.sessions} sessions and {tally.calls} calls in {time.monotonic() - start:.0f} s, no mismatch")
+    print(f"{tally.sessions} sessions, {tally.calls} calls and {tally.scripts} scripts in {time.monotonic() - start:.0f} s, no mismatch")
     return 1 if missing else 0
 
 

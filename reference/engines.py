@@ -1,6 +1,7 @@
-"""The two sides of the engine as Python objects: the run program, and the host's call through call_driver.
+"""The engine's programs as Python functions: the run, the host's call through call_driver, and calls on a script.
 
-Each is named by the path of an executable; python3:PATH takes a Python program with run and host_step instead.
+Each is named by the path of an executable; python3:PATH takes a Python program with run and host_step instead, which
+script.py asks for the answers of a script.
 What goes wrong with a process (a signal, an exit status, words on standard error, no end) comes back as text,
 which equals no answer.
 """
@@ -12,6 +13,8 @@ import struct
 import subprocess
 import tempfile
 import time
+
+import script
 
 PATTERN = 0xA5          # fills the room before a call, as call_driver.c does
 PATIENCE = 120          # seconds for one session or call
@@ -32,14 +35,25 @@ def complaint(status, errors):
     return text + errors.decode("utf-8", "backslashreplace")
 
 
-# ---------------------------------------------------------------- The run program
+# ---------------------------------------------------------------- The run program, and calls
 
 def run_program(path):
     """A function from a session's bytes to the text printed, the input handed over whole or in pieces."""
     if path.startswith(PYTHON):
         module = load(path.removeprefix(PYTHON), "engine_run")
         return lambda data, piece=None: module.run(data)
+    return printing_program(path)
 
+
+def script_program(path):
+    """A function from a script to the lines printed."""
+    if path.startswith(PYTHON):
+        module = load(path.removeprefix(PYTHON), "engine_script")
+        return lambda text: script.answer(text, module)
+    return printing_program(path)
+
+
+def printing_program(path):
     def run(data, piece=None):
         process = subprocess.Popen([path], stdin=subprocess.PIPE, stdout=subprocess.PIPE, stderr=subprocess.PIPE)
         if piece:

@@ -341,14 +341,14 @@ def set_face(rng, raw, column, value, rim):
 
 def mesh_first_out(rng, lag, raw):
     cells = len(raw.volumes)
-    return set_face(rng, raw, 0, rng.choice([cells, rng.randint(cells, 4094)]), None)
+    return set_face(rng, raw, 0, rng.choice([cells, rng.randint(min(cells, 4094), 4094)]), None)
 
 def mesh_first_mark(rng, lag, raw):
     return set_face(rng, raw, 0, RIM, rng.choice([None, True, False]))
 
 def mesh_second_out(rng, lag, raw):
     cells = len(raw.volumes)
-    return set_face(rng, raw, 1, rng.choice([cells, 4094, rng.randint(cells, 4094)]), None)
+    return set_face(rng, raw, 1, rng.choice([cells, 4094, rng.randint(min(cells, 4094), 4094)]), None)
 
 def mesh_self_loop(rng, lag, raw):
     if not raw.faces:
@@ -387,7 +387,7 @@ def field_kind(rng, lag, raw):
     raw.kind = rng.choice([0, 1, 3, rng.randint(4, 15)])
 
 def field_count(rng, lag, raw):
-    raw.cells = rng.choice([n for n in (0, raw.cells - 1, raw.cells + 1, 1024, 4095) if n != raw.cells])
+    raw.cells = rng.choice([n for n in (0, raw.cells - 1, raw.cells + 1, 1024, 4095) if n != raw.cells and 0 <= n <= 4095])
 
 def field_salt_above(rng, lag, raw):
     cell = rng.randrange(len(raw.masses))
@@ -411,7 +411,7 @@ def step_kind(rng, lag, raw):
 
 def step_count(rng, lag, raw):
     count = raw.count
-    raw.count = rng.choice([n for n in (0, count - 1, count + 1, 2047, 8191) if n != count and n >= 0])
+    raw.count = rng.choice([n for n in (0, count - 1, count + 1, 2047, 8191) if n != count and 0 <= n <= 8191])
 
 def step_zero_bit(rng, lag, raw):
     raw.zeros = rng.choice([1, 1 << 14, 1 << rng.randrange(15), rng.randint(1, (1 << 15) - 1)])

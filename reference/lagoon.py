@@ -1,8 +1,8 @@
 #!/usr/bin/env python3
-"""Document 01, lagoon transport in whole numbers, written once more in plain integers.
+"""Document 01 written once more, in plain integers and from the document alone.
 
-The functions stand in the order of the document. Nothing here is made fast.
-A refusal is raised as Refusal(cause, place) with the numbers of the table of causes.
+The functions follow its order; nothing is made fast. A refusal is raised as Refusal(cause, place), with the numbers
+of the document's table of causes.
 """
 
 import argparse
@@ -24,7 +24,7 @@ Result = namedtuple("Result", "masses moved in_mass out_mass")
 
 
 class Refusal(Exception):
-    """A refusal carries its cause and its place."""
+    """Cause and place of a refusal ("Causes")."""
 
     def __init__(self, cause, place):
         super().__init__(cause, place)
@@ -34,18 +34,18 @@ class Refusal(Exception):
 # ---------------------------------------------------------------- Mesh, water and salt
 
 def concentrations(volumes, masses):
-    """q = m divided by V, rounded down."""
+    """q of every cell; what the division leaves over is the rest."""
     return [m // V for V, m in zip(volumes, masses)]
 
 def toward_zero(a, b):
-    """Signed quotients are rounded toward zero (b above 0)."""
+    """The quotient for either sign of a, where b is above 0: the fraction is cut off."""
     return a // b if a >= 0 else -(-a // b)
 
 
 # ---------------------------------------------------------------- One step
 
 def move(mesh, masses, moved):
-    """Each face's mass leaves its first cell and enters its second, if that is a cell."""
+    """Masses after what each face moves is taken from its first cell and given to its second, where it has one."""
     masses = list(masses)
     for first, second, mass in zip(mesh.firsts, mesh.seconds, moved):
         masses[first] -= mass
@@ -54,7 +54,7 @@ def move(mesh, masses, moved):
     return masses
 
 def upwind(mesh, masses, q, fluxes, outsides):
-    """1. Each face carries U times q of the cell the water leaves, or U times the outside value."""
+    """Stage 1: the mass that goes with the water of each face, and the low-order masses that this leaves."""
     carried = []
     for first, second, U, outside in zip(mesh.firsts, mesh.seconds, fluxes, outsides):
         if U >= 0:
@@ -66,15 +66,15 @@ def upwind(mesh, masses, q, fluxes, outsides):
     return carried, move(mesh, masses, carried)
 
 def share_upwind(s, U):
-    """t is s if the first cell is upwind, else 256 - s."""
+    """Stage 2, t: the way from the upwind centre to the face, in 1/256."""
     return s if U > 0 else 256 - s
 
 def correction(U, d, t, K):
-    """U d (t K - 128 |U|) divided by 256 K."""
+    """Stage 2: one face's correction, by a single quotient."""
     return toward_zero(U * d * (t * K - 128 * abs(U)), 256 * K)
 
 def corrections(mesh, q, fluxes):
-    """2. The correction of every interior face with U not 0; elsewhere it is 0."""
+    """Stage 2: all corrections; rim faces and still ones have none."""
     result = []
     for first, second, s, K, U in zip(mesh.firsts, mesh.seconds, mesh.shares, mesh.reaches, fluxes):
         if second == RIM or U == 0:
@@ -85,7 +85,7 @@ def corrections(mesh, q, fluxes):
     return result
 
 def bounds(mesh, low, q, fluxes, outsides):
-    """3. What each cell may gain, V hi + V - 1 - m, and lose, m - V lo, with m its low-order mass."""
+    """Stage 3: G and L of every cell, from the least and greatest q that it meets before the step."""
     near = [[own] for own in q]
     for first, second, U, outside in zip(mesh.firsts, mesh.seconds, fluxes, outsides):
         if second == RIM:
@@ -99,7 +99,7 @@ def bounds(mesh, low, q, fluxes, outsides):
     return gains, losses
 
 def limiter(mesh, corrected, gains, losses):
-    """4. Each correction cut to what its receiver may gain and its giver may lose."""
+    """Stage 4: every correction cut by its receiver's G over P and its giver's L over N, whichever leaves less."""
     entering, leaving = [0] * len(gains), [0] * len(losses)         # P and N
     ends = []
     for first, second, c in zip(mesh.firsts, mesh.seconds, corrected):
@@ -120,16 +120,16 @@ def limiter(mesh, corrected, gains, losses):
     return limited
 
 def finish(mesh, masses, carried, limited):
-    """5. Moved mass is carried mass plus limited correction; next masses follow from it."""
+    """Stage 5: moved masses, and the next masses."""
     moved = [c + a for c, a in zip(carried, limited)]
     return moved, move(mesh, masses, moved)
 
 def in_mass(mesh, fluxes, outsides):
-    """Over rim faces with U below 0, the size of U times the outside value."""
+    """What comes in over the rim."""
     return sum(-U * o for second, U, o in zip(mesh.seconds, fluxes, outsides) if second == RIM and U < 0)
 
 def out_mass(mesh, q, fluxes):
-    """Over rim faces with U above 0, U times the cell's q before the step."""
+    """What goes out over the rim, with q as it was before the step."""
     return sum(U * q[first] for first, second, U in zip(mesh.firsts, mesh.seconds, fluxes)
                if second == RIM and U > 0)
 
@@ -154,26 +154,26 @@ def advance_upwind(mesh, masses, fluxes, outsides):
 # ---------------------------------------------------------------- Causes
 
 def refuse_first(cause, wrong):
-    """Refuses at the lowest place that is wrong."""
+    """The lowest place that is wrong decides."""
     for place, bad in enumerate(wrong):
         if bad:
             raise Refusal(cause, place)
 
 def judge_counts(cells, faces, limits):
-    """1: cells or faces beyond limits."""
+    """Cause 1: the counts, cells before faces."""
     if not 1 <= cells <= limits[0]:
         raise Refusal(1, 0)
     if not 0 <= faces <= limits[1]:
         raise Refusal(1, 1)
 
 def judge_lengths(lengths, needs):
-    """2: a lent table too short. Both map positions to entries; no lengths means long enough."""
+    """Cause 2: the entries lent against those needed, both by position; without lengths all are long enough."""
     for position in sorted(needs):
         if lengths is not None and lengths[position] < needs[position]:
             raise Refusal(2, position)
 
 def judge_mesh(mesh):
-    """3, 4 and 5: V; first and second; s and K."""
+    """Causes 3, 4 and 5: volumes; both ends of a face; share and reach."""
     cells = len(mesh.volumes)
     refuse_first(3, (not 1 <= V <= 4095 for V in mesh.volumes))
     refuse_first(4, (not 0 <= first < cells or not (0 <= second < cells or second == RIM) or first == second
@@ -182,18 +182,18 @@ def judge_mesh(mesh):
                      for second, s, K in zip(mesh.seconds, mesh.shares, mesh.reaches)))
 
 def judge_field(mesh, masses):
-    """6: q above 1,000,000."""
+    """Cause 6: concentrations."""
     refuse_first(6, (q > TOP for q in concentrations(mesh.volumes, masses)))
 
 def judge_values(mesh, fluxes, outsides):
-    """7: outside value too great, or not 0 elsewhere than at an inflow. 8: size of U."""
+    """Causes 7 and 8: outside values, and the size of each flux."""
     refuse_first(7, (not 0 <= o <= TOP if second == RIM and U < 0 else o != 0
                      for second, U, o in zip(mesh.seconds, fluxes, outsides)))
     refuse_first(8, (abs(U) > (4095 if second == RIM else K)
                      for second, K, U in zip(mesh.seconds, mesh.reaches, fluxes)))
 
 def judge_flow(mesh, fluxes):
-    """9: inflow and outflow of a cell differ. 10: outflow above V. Both are sums over all its faces."""
+    """Causes 9 and 10: the balance of every cell's water, and its outflow against its volume, over all its faces."""
     inflow, outflow = [0] * len(mesh.volumes), [0] * len(mesh.volumes)
     for first, second, U in zip(mesh.firsts, mesh.seconds, fluxes):
         (outflow if U > 0 else inflow)[first] += abs(U)
@@ -206,7 +206,9 @@ def judge_flow(mesh, fluxes):
 # ---------------------------------------------------------------- Tables lent to a step
 
 def lengths_of(tables):
-    return {position: len(table) for position, table in enumerate(tables)}
+    """Tables as a list, or by their positions."""
+    tables = tables if isinstance(tables, dict) else dict(enumerate(tables))
+    return {position: len(table) for position, table in tables.items()}
 
 def mesh_needs(cells, faces):
     return {VOLUMES: cells, FIRSTS: faces, SECONDS: faces, SHARES: faces, REACHES: faces}
@@ -215,7 +217,7 @@ def counted_mesh(cells, faces, tables):
     return Mesh(tables[VOLUMES][:cells], *(tables[i][:faces] for i in (FIRSTS, SECONDS, SHARES, REACHES)))
 
 def step_on_tables(cells, faces, tables):
-    """The step on eleven lent lists; fills next masses, moved and work, and gives in-mass and out-mass."""
+    """The step on the eleven tables, as lists: gives in-mass and out-mass, and fills the last three."""
     judge_counts(cells, faces, LIBRARY_LIMITS)
     judge_lengths(lengths_of(tables), {**mesh_needs(cells, faces), MASSES: cells, FLUXES: faces,
                                        OUTSIDES: faces, NEXT: cells, MOVED: faces,
@@ -248,7 +250,7 @@ class Bits:
         return value
 
     def take_zeros(self, width):
-        """12: a zero bit set."""
+        """Cause 12 at the first of these bits that is set."""
         for _ in range(width):
             if self.take(1) != 0:
                 raise Refusal(12, self.at - 1)
@@ -257,7 +259,7 @@ class Bits:
         self.take_zeros(len(self.bits) - self.at)
 
 def pack(values):
-    """Values with their widths in bits, then zero bits up to a whole byte."""
+    """Values in their widths, one after another, and zero bits to the end of the last byte."""
     assert all(0 <= value < 1 << width for value, width in values)
     bits = "".join(f"{value:0{width}b}" for value, width in values)
     bits += "0" * (-len(bits) % 8)
@@ -275,17 +277,58 @@ def field_length(cells):
 def step_length(faces, seconds):
     return STEP_HEAD + whole_bytes(13 * faces + 20 * seconds[:faces].count(RIM))
 
-def read_mesh(record, limits=LIBRARY_LIMITS, lengths=None):
-    """Shorter than its head 11, then 13, 1, length 11, 2, 12."""
+def number_at(record, bit, width):
+    """The number that so many bits spell, None where they are not all there.
+
+    The engine's own bounds (docs/CALLS.md): up to 40 bits at once, from a bit up to 2 to the 32.
+    """
+    if width > 40 or bit > 1 << 32 or bit + width > 8 * len(record):
+        return None
+    bits = Bits(record[bit // 8:whole_bytes(bit + width)])
+    bits.at = bit % 8
+    return bits.take(width) if width else 0
+
+def mesh_head(record, limits):
+    """A mesh record shorter than its head is 11; then 13 for the kind, 1 for the counts that it gives."""
     if len(record) < MESH_HEAD:
         raise Refusal(11, 0)
-    bits = Bits(record)
+    bits = Bits(record[:MESH_HEAD])
     kind, cells, faces = bits.take(4), bits.take(12), bits.take(13)
     if kind != 1:
         raise Refusal(13, 0)
     judge_counts(cells, faces, limits)
+    return cells, faces
+
+def field_head(record, cells, limits):
+    """The same for a field record, whose count has to be the mesh's."""
+    if len(record) < FIELD_HEAD:
+        raise Refusal(11, 0)
+    bits = Bits(record[:FIELD_HEAD])
+    if bits.take(4) != 2:
+        raise Refusal(13, 0)
+    if bits.take(12) != cells:
+        raise Refusal(13, 1)
+    judge_counts(cells, 0, limits)
+
+def step_head(record, faces, seconds, limits):
+    """The same for a step record; its length rests on the seconds, so too few of them are 2 before that."""
+    if len(record) < STEP_HEAD:
+        raise Refusal(11, 0)
+    bits = Bits(record[:STEP_HEAD])
+    if bits.take(4) != 3:
+        raise Refusal(13, 0)
+    if bits.take(13) != faces:
+        raise Refusal(13, 1)
+    judge_counts(1, faces, limits)
+    judge_lengths({SECONDS: len(seconds)}, {SECONDS: faces})
+
+def read_mesh(record, limits=LIBRARY_LIMITS, lengths=None):
+    """After the head: another length 11, then 2, then 12 for a bit that has to be 0."""
+    cells, faces = mesh_head(record, limits)
     if len(record) != mesh_length(cells, faces):
         raise Refusal(11, 0)
+    bits = Bits(record)
+    bits.take(29)
     judge_lengths(lengths, mesh_needs(cells, faces))
     bits.take_zeros(3)
     volumes = [bits.take(12) for _ in range(cells)]
@@ -294,34 +337,23 @@ def read_mesh(record, limits=LIBRARY_LIMITS, lengths=None):
     return Mesh(volumes, *([row[i] for row in rows] for i in range(4)))
 
 def read_field(record, cells, limits=LIBRARY_LIMITS, lengths=None):
-    """The masses; cells is the expected count."""
-    if len(record) < FIELD_HEAD:
-        raise Refusal(11, 0)
-    bits = Bits(record)
-    if bits.take(4) != 2:
-        raise Refusal(13, 0)
-    if bits.take(12) != cells:
-        raise Refusal(13, 1)
-    judge_counts(cells, 0, limits)
+    """The masses, of as many cells as the mesh has."""
+    field_head(record, cells, limits)
     if len(record) != field_length(cells):
         raise Refusal(11, 0)
     judge_lengths(lengths, {MASSES: cells})
+    bits = Bits(record)
+    bits.take(16)
     return [bits.take(32) for _ in range(cells)]
 
 def read_step(record, faces, seconds, limits=LIBRARY_LIMITS, lengths=None):
-    """Fluxes and outsides; faces is the expected count, and outsides away from the rim read 0."""
-    if len(record) < STEP_HEAD:
-        raise Refusal(11, 0)
-    bits = Bits(record)
-    if bits.take(4) != 3:
-        raise Refusal(13, 0)
-    if bits.take(13) != faces:
-        raise Refusal(13, 1)
-    judge_counts(1, faces, limits)
-    judge_lengths({SECONDS: len(seconds)}, {SECONDS: faces})
+    """Fluxes, and outside values for the rim faces; all other faces get 0."""
+    step_head(record, faces, seconds, limits)
     if len(record) != step_length(faces, seconds):
         raise Refusal(11, 0)
     judge_lengths(lengths, {FLUXES: faces, OUTSIDES: faces})
+    bits = Bits(record)
+    bits.take(17)
     bits.take_zeros(15)
     fluxes = []
     for _ in range(faces):
@@ -350,7 +382,7 @@ def pack_step(mesh, fluxes, outsides):
     return pack(values + [(o, 20) for second, o in zip(mesh.seconds, outsides) if second == RIM])
 
 def judge_writing(cells, faces, tables, needs, length, room):
-    """A writer refuses by 1 to 8; room is the number of bytes lent, position 11."""
+    """What all writers test first: causes 1 to 5, where the bytes lent are position 11 of cause 2."""
     judge_counts(cells, faces, LIBRARY_LIMITS)
     judge_lengths({**lengths_of(tables), RECORD: room},
                   {**mesh_needs(cells, faces), **needs, RECORD: length})
@@ -392,7 +424,7 @@ def accept_step(record, mesh, masses):
     return advance(mesh, masses, fluxes, outsides)
 
 def host_step(mesh_record, field_record, step_record, room):
-    """One 64-bit number and, where it is 0, the next field record; room is the bytes lent for that."""
+    """The host's number and, after an accepted step, the next field record; room counts the bytes lent for it."""
     try:
         mesh = accept_mesh(mesh_record)
         masses = accept_field(field_record, mesh)
@@ -406,12 +438,12 @@ def host_step(mesh_record, field_record, step_record, room):
 # ---------------------------------------------------------------- The board and the run
 
 def board(volumes, masses):
-    """Up to 8 cells as (cell, q, rest), highest q first, lower cell number first among equals."""
+    """The board's entries as (cell, q, rest), in its order."""
     entries = [(cell, m // V, m % V) for cell, (V, m) in enumerate(zip(volumes, masses))]
     return sorted(entries, key=lambda entry: (-entry[1], entry[0]))[:8]
 
 def board_on_tables(cells, volumes, masses):
-    """The board's eight entries from lent tables, the unused ones 0."""
+    """All eight entries of the board of lent tables; those not used are 0."""
     judge_counts(cells, 0, LIBRARY_LIMITS)
     judge_lengths({VOLUMES: len(volumes), MASSES: len(masses)}, {VOLUMES: cells, MASSES: cells})
     mesh = Mesh(volumes[:cells], [], [], [], [])
@@ -421,7 +453,7 @@ def board_on_tables(cells, volumes, masses):
     return used + [(0, 0, 0)] * (8 - len(used))
 
 def run(data):
-    """A mesh record, a field record, then step records until no byte is left; gives the text printed."""
+    """What the run program prints of a session."""
     length = len(data)
     if length >= MESH_HEAD:
         head = Bits(data[:MESH_HEAD])

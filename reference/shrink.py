@@ -4,6 +4,7 @@ import time
 
 import lagoon
 from lagoon import RIM
+from script import Fault, Reader
 
 
 class Parts:
@@ -183,3 +184,31 @@ def call(mesh, field, step, room, fails, seconds=60):
         return mesh, field, b"".join(steps), max(0, len(field) + spare)
 
     return lend(shrink_parts(parts, lambda p: len(p.steps) == 1 and fails(*lend(p)), seconds))
+
+
+def split_script(text):
+    """The text of each call, and what is left where the script is no longer one."""
+    reader, parts, start = Reader(text), [], 0
+    try:
+        while reader.call():
+            parts.append(text[start:reader.at] + b"\n")
+            start = reader.at
+    except Fault:
+        pass
+    return parts + [text[start:]]
+
+
+def script(text, fails, seconds=60):
+    """Drops calls of a script while it still fails."""
+    end = time.monotonic() + seconds
+    parts = split_script(text)
+    size = max(1, len(parts) // 2)
+    while size and time.monotonic() < end:
+        at = max(0, len(parts) - size)
+        while at >= 0 and time.monotonic() < end:
+            candidate = parts[:at] + parts[at + size:]
+            if len(candidate) < len(parts) and fails(b"".join(candidate)):
+                parts = candidate
+            at -= size
+        size //= 2
+    return b"".join(parts)

@@ -1,24 +1,24 @@
-"""The slips of document 01, each put into a copy of the reference by replacing one function."""
+"""Slips, each put into a copy of the reference by replacing one function: the seven of document 01, and some of the answers."""
 
 
 def share(lagoon):
-    """s used when the second cell is upwind."""
+    """The share taken from the first cell's side whichever way the water goes."""
     lagoon.share_upwind = lambda s, U: s
 
 
 def sign(lagoon):
-    """The correction with the other sign."""
+    """Equation (23)'s sign: the correction turned round."""
     right = lagoon.correction
     lagoon.correction = lambda U, d, t, K: -right(U, d, t, K)
 
 
 def floor(lagoon):
-    """Negative quotients rounded down."""
+    """Quotients below 0 cut downward instead of toward 0."""
     lagoon.toward_zero = lambda a, b: a // b
 
 
 def late(lagoon):
-    """q after the upwind stage taken for d."""
+    """d from the concentrations that stage 1 leaves."""
     right_upwind, right_corrections = lagoon.upwind, lagoon.corrections
     last = {}
 
@@ -33,21 +33,21 @@ def late(lagoon):
 
 
 def still(lagoon):
-    """A still face widens the bounds."""
+    """A face without water counted in a neighbourhood."""
     right = lagoon.bounds
     lagoon.bounds = lambda mesh, low, q, fluxes, outsides: right(
         mesh, low, q, [U if U != 0 else 1 for U in fluxes], outsides)
 
 
 def rest(lagoon):
-    """The rest dropped."""
+    """Masses rounded down to whole concentrations before the step."""
     right = lagoon.advance
     lagoon.advance = lambda mesh, masses, fluxes, outsides: right(
         mesh, [m - m % V for m, V in zip(masses, mesh.volumes)], fluxes, outsides)
 
 
 def bound(lagoon):
-    """Bounds by V hi alone, negative G treated as 0."""
+    """G without the V - 1 that the rest may take, and 0 where that is negative."""
     right = lagoon.bounds
 
     def bounds(mesh, low, q, fluxes, outsides):
@@ -58,3 +58,47 @@ def bound(lagoon):
 
 
 SLIPS = {slip.__name__: slip for slip in (share, sign, floor, late, still, rest, bound)}
+
+
+# ---------------------------------------------------------------- Slips of the answers, which a script shows
+
+def place(lagoon):
+    """The highest place that is wrong, where the lowest is asked for."""
+    def refuse_last(cause, wrong):
+        places = [place for place, bad in enumerate(wrong) if bad]
+        if places:
+            raise lagoon.Refusal(cause, places[-1])
+
+    lagoon.refuse_first = refuse_last
+
+
+def table(lagoon):
+    """The last table that is too short, where the first is asked for."""
+    right = lagoon.judge_lengths
+
+    def judge_lengths(lengths, needs):
+        for position in sorted(needs, reverse=True):
+            right(lengths, {position: needs[position]})
+
+    lagoon.judge_lengths = judge_lengths
+
+
+def beyond(lagoon):
+    """Work zeroed past the counted part."""
+    right = lagoon.step_on_tables
+
+    def step_on_tables(cells, faces, tables):
+        result = right(cells, faces, tables)
+        tables[lagoon.WORK][:] = [0] * len(tables[lagoon.WORK])
+        return result
+
+    lagoon.step_on_tables = step_on_tables
+
+
+def bit(lagoon):
+    """A number read from the bit after the one asked for."""
+    right = lagoon.number_at
+    lagoon.number_at = lambda record, bit, width: right(record, bit + 1, width)
+
+
+ANSWER_SLIPS = {slip.__name__: slip for slip in (place, table, beyond, bit)}

@@ -12,7 +12,8 @@ sys.path.insert(0, str(HERE))
 
 import engines
 import lagoon
-from slips import SLIPS
+import script
+from slips import ANSWER_SLIPS, SLIPS
 
 SELF = f"python3:{HERE / 'lagoon.py'}"
 SMALL = 90              # bytes; about three cells with the faces between them and one step
@@ -36,14 +37,19 @@ def test_equal_and_every_cause():
     demand(status == 0 and "no mismatch" in text, f"the reference differs from itself: {text}")
 
 
+def test_scripts_equal():
+    status, text = compare("--script", SELF, "--sessions", "120", "--seed", "3")
+    demand("no mismatch" in text, f"the reference differs from itself on scripts: {text}")
+
+
 def test_cause_never_reached():
     status, text = compare("--run", SELF, "--call", SELF, "--sessions", "20", "--seed", "3")
     demand(status == 1 and "NEVER REACHED" in text, f"20 sessions reach every cause: {text}")
 
 
 def test_silent_program():
-    """A program that prints nothing, as run and as call driver."""
-    for side in ("--run", "--call"):
+    """A program that prints nothing, as run, as call driver and as calls."""
+    for side in ("--run", "--call", "--script"):
         with tempfile.TemporaryDirectory() as folder:
             status, text = compare(side, "/bin/true", "--sessions", "20", "--keep", folder)
             demand(status == 1 and "MISMATCH of true" in text, f"{side} /bin/true: {text}")
@@ -69,6 +75,22 @@ def test_small_call():
         kept = list(Path(folder).glob("*-small.bin"))
         demand(status == 1 and len(kept) == 1, f"no small call: {text}")
         demand(kept[0].stat().st_size <= 16 + SMALL, f"the small call is large: {text}")
+
+
+def test_slips_of_answers():
+    """Every slip shows in scripts, and a slip of the answers leaves a script of one call."""
+    status, text = compare("--script", SELF, "--slips")
+    demand(status == 0 and all(f"slip {slip}:" in text for slip in [*SLIPS, *ANSWER_SLIPS]), f"slips in scripts: {text}")
+    for slip in ("place", "beyond"):
+        wrong = engines.load(HERE / "lagoon.py", "wrong_lagoon")
+        ANSWER_SLIPS[slip](wrong)
+        with tempfile.TemporaryDirectory() as folder:
+            status, text = compare("--script", SELF, "--sessions", "200", "--seed", "5", "--slip", slip, "--keep", folder)
+            kept = list(Path(folder).glob("*-small.script"))
+            demand(status == 1 and len(kept) == 1, f"slip {slip} leaves no small script: {text}")
+            small = kept[0].read_bytes()
+            demand(script.answer(small, wrong) != script.answer(small), f"slip {slip}: the small script shows nothing")
+            demand(script.answer(small).count("\n") == 1, f"slip {slip}: the small script has more than one call: {text}")
 
 
 # A call that is right on a mesh record of one byte, and with FAULT does something else besides.

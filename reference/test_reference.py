@@ -10,7 +10,9 @@ HERE = Path(__file__).resolve().parent
 sys.path.insert(0, str(HERE))
 
 import generate
+import generate_script
 import lagoon
+import script
 from lagoon import RIM, Mesh
 
 
@@ -165,6 +167,38 @@ def test_host_call_and_run():
     equal(lagoon.board([1] * 10, [5, 9, 5, 9, 0, 0, 0, 0, 0, 1])[:4],
           [(1, 9, 0), (3, 9, 0), (0, 5, 0), (2, 5, 0)], "board order")
     equal(lagoon.board_on_tables(1, [100], [199]), [(0, 1, 99)] + [(0, 0, 0)] * 7, "unused board entries")
+
+
+def digest(data):
+    """All bytes of a record in one number."""
+    result = 0
+    for byte in data:
+        result = (result * 256 + byte) % 4_294_967_291
+    return result
+
+
+def test_largest_records():
+    """The largest records with the greatest values: lengths, and the digests that another program found."""
+    written = {}
+    for printed in script.answer(generate_script.largest().encode()).splitlines():
+        name, _, values = printed.partition(": ")
+        if name.startswith("write_"):
+            said, _, entries = values.partition("; bytes ")
+            length = int(said.split()[1])
+            written[name] = length, digest(map(int, entries.split()[:length]))
+    equal(written, {"write_mesh": (51192, 1815092123), "write_field": (16382, 3739429440),
+                    "write_step": (33788, 399157172)}, "the largest records")
+
+
+def test_script():
+    printed = script.answer(b"1 3 4 3 4 # within\n17 6 16 1 0 0 6 64 32 12\n18 0 0 0\n6 1 1 x")
+    equal(printed.splitlines(), ["counts_within: accepted", "number_at: accepted 100",
+                                 "board: refused 1 0; used 0; entries" + " 0" * 24,
+                                 "bad input: line 4, byte 59: not a number"], "a script")
+    equal(script.answer(b"1 18446744073709551615 0 18446744073709551616"),
+          "bad input: line 1, byte 44: too large\n", "a number too large")
+    equal(script.answer(script.spell("read_step", 1, [RIM], [48], [-(1 << 63)], [7]).encode()),
+          f"read_step: refused 11 0; fluxes {-(1 << 63)}; outsides 7\n", "the most negative entry")
 
 
 def test_conservation_and_bounds():

@@ -6,7 +6,7 @@
 
 A path in backticks has to exist, from the top folder or from crates/. Names in backticks after it, as in
 `model/specs/Step.antt`: `lo`, `hi` and `moved`, have to be defined in that file. A block whose fence names a file, as in
-```rust figures/src/cases.rt, quotes it: its lines stand there in this order, without a gap but at a line of three dots.
+```text calls/stdout, quotes it: its lines stand there in this order, without a gap but at a line of three dots.
 A path marked with a dagger, †, is planned: it has to be missing, so that the mark goes when the thing comes.
 """
 

@@ -14,7 +14,7 @@ from toolcase import CHANNEL, ROOT, RUN, TIDE, breaks, command, equal, folder, h
 import generate
 import lagoon
 import layout
-import records
+import sessiontext
 
 
 def figures(report):
@@ -97,7 +97,7 @@ def test_many_refusals():
 
 def test_an_engine_that_differs():
     """A run program that prints otherwise, or is none, is said; so is a library that is none."""
-    data, _ = records.pack(CHANNEL)
+    data, _ = sessiontext.pack(CHANNEL)
     with folder() as made:
         program = f"{made}/run"
         for printed, wanted in ((lagoon.run(data), 0), (lagoon.run(data).replace("150000", "150001"), 1), ("", 1)):
@@ -108,7 +108,7 @@ def test_an_engine_that_differs():
             holds(status == wanted and ("by the C call" in said) == bool(wanted), f"beside a program that prints {printed[:40]!r}: {said}")
         with open(f"{made}/lib.a", "w") as file:
             file.write("no archive")
-        refuses("gcc makes no shared object", "budget.py", "--library", f"{made}/lib.a", data=data)
+        refuses("has no call lagoon_step", "budget.py", "--library", f"{made}/lib.a", data=data)
         refuses("has no call lagoon_step", "budget.py", "--library", program, data=data)
         refuses("nowhere.a is not there", "budget.py", "--library", "nowhere.a", data=data)
         refuses("nowhere: No such file", "budget.py", "--run", "nowhere", data=data)

@@ -8,14 +8,16 @@ import functools
 import io
 import re
 import subprocess
+import sys
 
-from toolcase import CHANNEL, HERE, ROOT, TIDE, breaks, command, equal, folder, holds, interrupted, known, refuses, run_all
+from toolcase import CHANNEL, HERE, ROOT, TIDE, breaks, command, equal, folder, holds, interrupted, known, refuses, run_all, session_of
 
 import causes
 import generate
 import lagoon
 import layout
 import records
+import sessiontext
 
 GENERATED = 200
 
@@ -26,7 +28,7 @@ def both_ways(data, what):
     """The problems found in the bytes, whose text gives them back."""
     text, problems = records.unpack(data)
     if data:
-        equal(records.pack(text)[0], data, f"{what}, unpacked and packed")
+        equal(sessiontext.pack(text)[0], data, f"{what}, unpacked and packed")
     return text, problems
 
 
@@ -38,18 +40,18 @@ def test_document_examples():
 
 
 def test_channel():
-    data, lacks = records.pack(CHANNEL)
+    data, lacks = sessiontext.pack(CHANNEL)
     equal(lacks, "", "the channel lacks nothing")
     equal(data, (HERE / "sessions" / "channel.in").read_bytes(), "the channel's bytes")
     equal(both_ways(data, "channel"), (CHANNEL, []), "the canonical text, packed and unpacked")
     step = CHANNEL[CHANNEL.index("\nstep"):]
     longer = CHANNEL.replace(step, step.replace("step times 2  # 1 to 2", "step") * 2)
-    equal(records.pack(longer)[0], data, "the channel with its two steps apart")
-    equal(records.pack(CHANNEL.replace("cell 1 mass 0\ncell 2 mass 0\n", ""))[0], data, "the channel with masses of 0 left out")
+    equal(sessiontext.pack(longer)[0], data, "the channel with its two steps apart")
+    equal(sessiontext.pack(CHANNEL.replace("cell 1 mass 0\ncell 2 mass 0\n", ""))[0], data, "the channel with masses of 0 left out")
 
 
 def test_equal_steps_are_folded():
-    data, _ = records.pack(TIDE)
+    data, _ = sessiontext.pack(TIDE)
     text, _ = both_ways(data, "tide")
     equal(re.findall("^step.*$", text, re.MULTILINE), ["step times 10  # 1 to 10", "step times 14  # 11 to 24", "step  # 25",
                                                        "step times 10  # 26 to 35", "step times 14  # 36 to 49"], "the tide's steps")
@@ -58,15 +60,15 @@ def test_equal_steps_are_folded():
 
 
 def test_engine_records():
-    """The bytes that the engine wrote in the gate's program of the records."""
-    printed = (ROOT / "crates" / "record_figures" / "stdout").read_text()
+    """The bytes that the engine writes in the gate's program of all calls."""
+    printed = (ROOT / "crates" / "calls" / "stdout").read_text()
+    written = re.compile(r"write_mesh: accepted (\d+); bytes (.*)\nwrite_field: accepted (\d+); bytes (.*)\n"
+                         r"write_step: accepted (\d+); bytes (.*)\n")
     sessions = 0
-    for line in printed.splitlines():
-        found = re.fullmatch(r".*: mesh written (\d+): (.*); field written (\d+): (.*); step written (\d+): (.*)", line)
-        if found:
-            data = b"".join(bytes.fromhex(found[i + 1])[:int(found[i])] for i in (1, 3, 5))
-            equal(both_ways(data, line[:30])[1], [], line[:30])
-            sessions += 1
+    for found in written.finditer(printed):
+        data = b"".join(bytes(map(int, found[i + 1].split()[:int(found[i])])) for i in (1, 3, 5))
+        equal(both_ways(data, found[0][:60])[1], [], found[0][:60])
+        sessions += 1
     holds(sessions > 3, "sessions of the engine's records")
 
 
@@ -171,7 +173,7 @@ def test_check_in_words():
     equal((status, out.decode().splitlines(), said), (1, [
         f"{tide}:{line}: step 25, cell 0: 300 enters, 299 leaves (cause 9)",
         f"{tide}: 8 cells, 9 faces (2 at the rim), 49 steps: the run refuses 1 of them"], ""), "the tide checked")
-    status, out, said = command("records.py", "check", data=records.pack(TIDE)[0])
+    status, out, said = command("records.py", "check", data=sessiontext.pack(TIDE)[0])
     equal((status, out.decode().splitlines()[0]), (1, "<stdin>: byte 676: step 25, cell 0: 300 enters, 299 leaves (cause 9)"), "and packed")
     for old, new, line, words in (
             ("cell 1 volume 100", "cell 1 volume 0", 3, "mesh: cell 1: volume 0 is outside 1 to 4,095 (cause 3)"),
@@ -199,14 +201,14 @@ def test_check_in_words():
 
 
 def test_damage_is_said():
-    data, _ = records.pack(CHANNEL)
+    data, _ = sessiontext.pack(CHANNEL)
     for bad, words in ((data[:2], "<stdin>: byte 2: mesh, byte 2, bit 16: the input ends in this mesh record, which needs 4 bytes and has 2"),
                        (data[:47] + b"\x40" + data[48:], "<stdin>: byte 47: step 1, byte 2, bit 17: a zero bit is set (cause 12, place 17)"),
                        (data[:61] + b"\x20" + data[62:], "<stdin>: byte 61: step 2, byte 0, bit 0: kind 0010 in binary"),
                        (data[:31] + b"\x20\x04" + data[33:], "<stdin>: byte 31: field, byte 0, bit 4: 4 cells where the mesh has 3")):
         status, text, said = command("records.py", "unpack", data=bad)
         equal((status, said.startswith(words)), (1, True), said)
-        equal(records.pack(text.decode())[0], bad, "damaged bytes, unpacked and packed")
+        equal(sessiontext.pack(text.decode())[0], bad, "damaged bytes, unpacked and packed")
 
 
 # ---------------------------------------------------------------- Bad text
@@ -233,8 +235,8 @@ def test_bad_text():
              ("mesh\ncell 0 volume " + "9" * 5000, 2, 15)]
     for text, line, column in cases:
         try:
-            records.pack(text)
-        except records.TextError as error:
+            sessiontext.pack(text)
+        except sessiontext.TextError as error:
             equal((error.line, error.column), (line, column), f"place of the error in {text.splitlines()[-1][:60]!r} ({error.words})")
         else:
             raise AssertionError(f"no error in {text!r}")
@@ -251,8 +253,8 @@ def test_words_of_bad_text():
                         ("", "there is no mesh in this text"), ("mesh\ncell 0 volume " + "9" * 5000, "is at most 4095, not 999")):
         refuses(words, "records.py", "pack", data=text.encode())
     refuses("save it as UTF-8", "records.py", "pack", data=CHANNEL.encode("utf-16"))
-    equal(command("records.py", "pack", data=CHANNEL.encode("utf-8-sig"))[1], records.pack(CHANNEL)[0], "text with a byte order mark")
-    equal(command("records.py", "pack", data=CHANNEL.replace("\n", "\r\n").encode())[1], records.pack(CHANNEL)[0], "text with carriage returns")
+    equal(command("records.py", "pack", data=CHANNEL.encode("utf-8-sig"))[1], sessiontext.pack(CHANNEL)[0], "text with a byte order mark")
+    equal(command("records.py", "pack", data=CHANNEL.replace("\n", "\r\n").encode())[1], sessiontext.pack(CHANNEL)[0], "text with carriage returns")
 
 
 def test_nothing_is_overwritten():
@@ -270,7 +272,7 @@ def test_nothing_is_overwritten():
                 equal(file.read(), CHANNEL, f"{path} is as it was")
         equal(command("records.py", "pack", mine, "-o", other)[0], 0, "pack over another file")
         with open(other, "rb") as file:
-            equal(file.read(), records.pack(CHANNEL)[0], "what is packed")
+            equal(file.read(), sessiontext.pack(CHANNEL)[0], "what is packed")
 
 
 def test_refused_sessions_can_be_made():
@@ -279,15 +281,15 @@ def test_refused_sessions_can_be_made():
                               ("face 3 from 2 to rim", "face 3 from 2 to rim share 0 reach 1", "M 5 3"),
                               ("cell 1 mass 0", "cell 1 mass 4294967295", "F 6 1"), ("outside 1000", "outside 1048575", "1 R 7 0"),
                               ("face 1 flux 50", "face 1 flux -0", "1 R 12 45"), ("face 3 flux 50", "face 3 flux 49", "1 R 9 2")):
-        data, _ = records.pack(CHANNEL.replace(old, new, 1))
+        data, _ = sessiontext.pack(CHANNEL.replace(old, new, 1))
         holds(refusal in lagoon.run(data).splitlines(), f"{new} is refused by {refusal}")
 
 
 def test_units_and_names():
     """They change no byte, and are read where the session is text."""
     labelled = "unit volume 10 m3\nname face 0 the sea # west\n" + CHANNEL.replace("field", "name cell 2 Head\nfield")
-    equal(records.pack(labelled)[0], records.pack(CHANNEL)[0], "names and units")
-    labels = records.Session(io.BufferedReader(io.BytesIO(labelled.encode()))).labels
+    equal(sessiontext.pack(labelled)[0], sessiontext.pack(CHANNEL)[0], "names and units")
+    labels = session_of(labelled.encode()).labels
     equal((labels.units, labels.of("face", 0), labels.of("cell", 2), labels.of("cell", 1)),
           ({"volume": "10 m3"}, "face 0 (the sea)", "cell 2 (Head)", "cell 1"), "what is named")
 
@@ -311,6 +313,16 @@ def test_the_command():
                              ("nowhere/x: No such file", ["pack", ROOT / "examples" / "channel.txt", "-o", "nowhere/x"])):
         refuses(words, "records.py", *arguments)
     refuses("bytes or more: it is no text", "records.py", "pack", data=bytes(3 << 20))
+    known("worked.py")
+    breaks("worked.py", "printed")
+
+
+def test_little_memory():
+    """A step many times over is written without being held."""
+    many = CHANNEL.replace("step times 2", "step times 1000000")
+    line = f"ulimit -v 100000; '{sys.executable}' '{ROOT}/tools/records.py' pack | wc -c"
+    done = subprocess.run(["bash", "-c", line], input=many.encode(), capture_output=True)
+    equal((done.stdout.split(), done.stderr), ([b"16000045"], b""), "a million steps in 100 MB")
 
 
 if __name__ == "__main__":

@@ -1,5 +1,6 @@
 """What the tests of the tools share."""
 
+import io
 import os
 import subprocess
 import sys
@@ -72,6 +73,12 @@ def known(name, commands=((),)):
         status, out, _ = command(name, *words, "--help")
         equal((status, b"examples:" in out), (0, True), f"help of {name} {words}")
     equal(command(name, "--version"), (0, f"{name} {(ROOT / 'VERSION').read_text().strip()}\n".encode(), ""), f"version of {name}")
+
+
+def session_of(data):
+    """The session of some bytes, text or packed."""
+    import session
+    return session.Session(io.BufferedReader(io.BytesIO(data)), "-")
 
 
 def folder():

@@ -1,8 +1,7 @@
 #!/usr/bin/env bash
-# The tools beside the engine: records as text and back, what is refused in words, budgets, whole fluxes, pictures.
+# The tools beside the engine: records as text and back, what is refused in words, budgets, whole fluxes, pictures, and the page
+# from a survey to a session.
 set -eu
 cd "$(dirname "$0")/.."
 reference/build.sh
-for test in records budget; do
-  python3 tests/test_$test.py
-done
+printf '%s\n' records budget fluxes plot survey | xargs -P 2 -I NAME python3 tests/test_NAME.py

@@ -9,11 +9,11 @@ from collections import Counter
 import causes
 import command
 import engine
-import records
 from command import Output, count
+from session import open_session
 
 HELP = """\
-The session is text or packed. The engine steps through it, by the C call of liblagoon.a; in-mass and out-mass are summed
+The session is text or packed. The engine steps through it, by the C call of the library (`make lib`); in-mass and out-mass are summed
 here, face by face, as document 01 defines them, and the totals are those of the engine's fields. So the difference,
 first total + in - out - last total, is a check: it is 0, and where it is not the exit status is 1.
 
@@ -116,7 +116,7 @@ class Rows:
 
 
 def run(options):
-    session = records.session(options.file)
+    session = open_session(options.file)
     history, budget = engine.History(session, options.library, options.run), Budget(session)
     if options.csv:
         with Output(options.csv) as output:
@@ -151,10 +151,7 @@ def main():
     for output in (options.csv, options.field):
         if output:
             command.apart(output, options.file, *([options.library] if options.library else []))
-    try:
-        return run(options)
-    except records.TextError as error:
-        raise command.Bad(records.text_words(options.file, error)) from None
+    return run(options)
 
 
 if __name__ == "__main__":

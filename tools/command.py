@@ -104,7 +104,7 @@ class Output:
             self.file = open(path, "wb")
         else:
             try:
-                number, self.beside = tempfile.mkstemp(prefix=".lagoon.", dir=os.path.dirname(os.path.abspath(path)))
+                number, self.beside = tempfile.mkstemp(prefix=".lagoon.", dir=os.path.dirname(os.path.realpath(path)))
             except OSError as error:
                 raise OSError(error.errno, error.strerror, path) from None
             self.file = os.fdopen(number, "wb")

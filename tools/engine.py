@@ -1,65 +1,31 @@
-"""The proved step, called from Python: liblagoon.a made a shared object, and a session stepped through it."""
+"""The proved step, called from Python through the library's shared object, and a session stepped through it."""
 
 import ctypes
 import os
-import shutil
 import subprocess
 import tempfile
 from collections import namedtuple
 
+import causes
 import layout
 from command import ROOT, Bad
 
-ARCHIVE = ROOT / "target" / "staticlib" / "liblagoon.a"
-SHARED = ROOT / "target" / "tools" / "liblagoon.so"
+SHARED = ROOT / "target" / "lib" / "liblagoon.so"
 
 # One step of a session: its number, None or the refusal, the masses after it, and its in-mass and out-mass by rim face.
 Moment = namedtuple("Moment", "number refusal masses entered gone")
 
 
 def options(parser):
-    parser.add_argument("--library", metavar="FILE", help="liblagoon.a, or a shared object made of it (default: target/staticlib/liblagoon.a)")
+    parser.add_argument("--library", metavar="FILE", help="the shared object of the library (default: target/lib/liblagoon.so, which `make lib` makes)")
     parser.add_argument("--run", metavar="PROGRAM", help="the run program: its lines have to say the same of every step and of the board")
 
 
 def loaded(path):
-    """The shared object of the library. From an archive gcc makes it; that of the default archive is kept until it is older."""
-    archive = os.path.abspath(path or ARCHIVE)
-    if not os.path.exists(archive):
-        raise Bad(f"{path or 'target/staticlib/liblagoon.a'} is not there: `rt staticlib lagoon` makes it")
-    if not archive.endswith(".a"):
-        return ctypes.CDLL(archive)
-    if path is None and SHARED.exists() and SHARED.stat().st_mtime > os.stat(archive).st_mtime:
-        return ctypes.CDLL(str(SHARED))
-    with tempfile.TemporaryDirectory() as folder:
-        made = os.path.join(folder, "liblagoon.so")
-        link(archive, made)
-        if path is None:
-            keep(made)
-        return ctypes.CDLL(made)
-
-
-def link(archive, made):
-    line = ["gcc", "-shared", "-o", made, "-Wl,--whole-archive", archive, "-Wl,--no-whole-archive"]
-    try:
-        done = subprocess.run(line, capture_output=True, text=True, errors="replace", check=False)
-    except FileNotFoundError:
-        raise Bad("gcc is not there, and it makes a shared object of liblagoon.a") from None
-    if done.returncode:
-        said = done.stderr.strip().splitlines() or ["it said nothing"]
-        raise Bad(f"gcc makes no shared object of {archive}: {said[0][:200]}")
-
-
-def keep(made):
-    """For the next time, where the folder can be written."""
-    try:
-        SHARED.parent.mkdir(parents=True, exist_ok=True)
-        number, beside = tempfile.mkstemp(dir=SHARED.parent)
-        os.close(number)
-        shutil.copyfile(made, beside)
-        os.replace(beside, SHARED)
-    except OSError:
-        pass
+    """The shared object of the library."""
+    if not os.path.exists(path or SHARED):
+        raise Bad(f"{path or 'target/lib/liblagoon.so'} is not there: `make lib` makes it")
+    return ctypes.CDLL(os.path.abspath(path or SHARED))
 
 
 class Engine:
@@ -69,7 +35,7 @@ class Engine:
         try:
             self.call = loaded(library).lagoon_step
         except (OSError, AttributeError) as error:
-            raise Bad(f"{library or ARCHIVE} has no call lagoon_step: {str(error)[:200]}") from None
+            raise Bad(f"{library or SHARED} has no call lagoon_step: {str(error)[:200]}") from None
         self.call.restype = ctypes.c_uint64
         self.call.argtypes = [ctypes.c_char_p, ctypes.c_size_t] * 4
         self.mesh = mesh_record
@@ -101,14 +67,12 @@ class History:
     def moments(self):
         masses, number = self.session.masses, 0
         yield Moment(0, None, masses, {}, {})
-        for record, refusal in self.session.steps():
+        for record, damage in self.session.steps():
             number += 1
             field, refused = self.engine.step(self.field, record)
-            if refused != (refusal and (refusal.cause, refusal.place)):
-                raise Bad(f"step {number}: the engine answers {refused or 'that it is accepted'}, and by the words it is {refusal or 'accepted'}")
-            if refusal:
-                self.keep(f"{number} R {refusal.cause} {refusal.place}", record)
-                yield Moment(number, refusal, masses, {}, {})
+            if refused:
+                self.keep(f"{number} R {refused[0]} {refused[1]}", record)
+                yield Moment(number, self.words(number, damage, refused), masses, {}, {})
                 continue
             entered, gone = self.over_the_rim(record, masses)
             self.field, masses = field, layout.masses_in(field)
@@ -119,6 +83,14 @@ class History:
         if self.program:
             self.records.seek(0)
             agree(self.program, self.records, self.lines)
+
+    def words(self, number, damage, refused):
+        """The words of a refusal, which have to be about the engine's cause and place."""
+        refusal = causes.damaged(damage) if damage else causes.refused_step(self.session.source, self.mesh)
+        if refusal is None or (refusal.cause, refusal.place) != refused:
+            raise Bad(f"step {number}: the engine refuses it by cause {refused[0]}, place {refused[1]}, and tools/causes.py finds "
+                      + (causes.told(refusal) if refusal else "nothing wrong with it"))
+        return refusal
 
     def over_the_rim(self, record, masses):
         """In-mass and out-mass of an accepted step, by rim face: document 01's two sums, face by face."""

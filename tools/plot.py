@@ -1,131 +1,188 @@
 #!/usr/bin/env python3
-"""From a session an SVG picture: concentrations of chosen cells over the steps, and the salt budget."""
+"""From a session an SVG picture: concentrations of chosen cells over the steps, the total, and what enters and leaves."""
 
-import argparse
+import csv
 import io
-import subprocess
+import shutil
 import sys
-from collections import namedtuple
-from pathlib import Path
+import tempfile
+import unicodedata
+from array import array
+from collections import Counter, namedtuple
 from xml.sax.saxutils import escape
 
-HERE = Path(__file__).resolve().parent
-sys.path[:0] = [str(HERE), str(HERE.parent / "reference")]
-
+import causes
 import command
-import lagoon
-import layout
+import engine
+from command import Bad, count, shown
+from session import Session
 
 HELP = """\
-The upper panel shows q, the mass of a cell divided by its volume and rounded down, after each step; the lower one
-the total of all masses, and in-mass and out-mass summed up over the accepted steps. At every step
-total = first total + sum of in-masses - sum of out-masses. A refused step changes nothing and is marked by a cross.
-Document 01 sets no unit: masses are in the units of the field record, q in those per unit of volume.
+The session is text or packed; names and units of a text stand in the picture. The panels show q, the mass of a cell
+divided by its volume and rounded down, after each step; the total of all masses on an axis of its own; and the in-mass
+and out-mass of each step. At every step total = first total + all in - all out; the last line says it of the whole session.
 
-The run program prints totals and the last board alone, so the figures come from reference/lagoon.py, document 01 in
-plain Python. With --run the session is given to the run program too, and its lines have to say the same of every
-step and of the board; else nothing is drawn and the exit status is 1. The reference is slow: a second was measured
-for 10,000 steps of the channel session's mesh, and for 40 steps of the largest mesh that the run takes.
+Where there are more steps than the picture has room for, a line becomes a band: for each column of pixels from the
+least to the greatest value there, with the mean over ten columns as a line. A refused step changes nothing and is marked under the axis,
+by a cross or, where there are more than a few, by a tick; its cause is in its title, which a viewer shows at the mark.
+
+--profile 0,24,last adds a panel of q over the cells' numbers after these steps. --every draws every Nth step only, and
+may show a tide falsely: with N near its period all points are of one phase. --csv writes the figures that are drawn.
+The engine is the C call of the library (`make lib`); with --run the run program has to print the same lines, else nothing is drawn.
 
 examples:
   tools/plot.py tests/sessions/channel.in -o channel.svg
   tools/records.py pack examples/channel.txt | tools/plot.py --cells 0-2 > channel.svg
-  tools/plot.py session.in --cells 0,7,30-33 --every 24 --title "East basin, June" --run target/bin/run -o june.svg
+  tools/plot.py session.in --cells 0,7,30-33 --title "East basin, June" --profile 0,last --run target/bin/run -o june.svg
 """
 
-MOST_CELLS = 8
-MARKED = 40             # up to so many points each has a dot
+MOST_CELLS = MOST_PROFILES = 8
+MARKED = 40                     # up to so many points each has a dot
+MOST_POINTS = 1500              # more are drawn as a band
+MEAN_OVER = 10                  # pixels: the mean in a band is taken over this stretch, so that a tide does not show falsely
+MOST_CROSSES = 20               # more refusals are drawn as ticks
+MOST_CAUSES = 3                 # causes that are named under the panels
 COLOURS = ("#0072b2", "#d55e00", "#009e73", "#cc79a7", "#e69f00", "#56b4e9", "#000000", "#8a6d00")
-WIDTH, LEFT, RIGHT, TOP, PANEL, GAP = 900, 115, 150, 76, 270, 92
+WIDTH, LEFT, RIGHT, PANEL, GAP, BELOW = 960, 115, 215, 210, 92, 60
 PLOT = WIDTH - LEFT - RIGHT
+LINE_WIDE, LEGEND_WIDE, TITLE_LINES = 74, 23, 2     # in letters
 
-Moment = namedtuple("Moment", "step masses total entered gone")        # entered and gone are sums since the first field
 Line = namedtuple("Line", "name colour dash values")
-Panel = namedtuple("Panel", "top title unit lines")
+Panel = namedtuple("Panel", "title unit axis span xs lines marks")      # marks: is it over steps, so that refusals are marked
 
 
 # ---------------------------------------------------------------- Figures
 
-class Bad(Exception):
-    """Why there is no picture."""
+class Figures:
+    """What is drawn of a session: after each step that is kept q of the chosen cells, total, in-mass and out-mass."""
+
+    def __init__(self, history, cells, every, profiles):
+        self.session, self.mesh, self.cells = history.session, history.mesh, cells
+        self.steps, self.q = array("Q"), {cell: array("Q") for cell in cells}
+        self.total, self.entered, self.gone = array("Q"), array("Q"), array("Q")
+        self.all_in = self.all_out = self.last = 0
+        self.refused, self.causes, self.profiles = [], Counter(), {}
+        held = None
+        for moment in history.moments():
+            self.add(moment)
+            if moment.number in profiles:
+                self.profiles[moment.number] = self.profile(moment.masses)
+            held = moment
+            if moment.number % every == 0:
+                self.keep(moment)
+        if held.number % every:
+            self.keep(held)
+        if "last" in profiles:
+            self.profiles[held.number] = self.profile(held.masses)
+        beyond = [step for step in profiles if step != "last" and step > held.number]
+        if beyond:
+            raise Bad(f"--profile: there is no step {beyond[0]}, the last is {held.number}")
+
+    def add(self, moment):
+        self.last = moment.number
+        if moment.refusal:
+            self.refused.append((moment.number, moment.refusal))
+            self.causes[moment.refusal.cause] += 1
+        self.all_in += sum(moment.entered.values())
+        self.all_out += sum(moment.gone.values())
+
+    def keep(self, moment):
+        self.steps.append(moment.number)
+        for cell, values in self.q.items():
+            values.append(moment.masses[cell] // self.mesh.volumes[cell])
+        self.total.append(sum(moment.masses))
+        self.entered.append(sum(moment.entered.values()))
+        self.gone.append(sum(moment.gone.values()))
+
+    def profile(self, masses):
+        return [mass // volume for mass, volume in zip(masses, self.mesh.volumes)]
 
 
-class History:
-    """What the steps of a session come to: the moments kept, the refused steps and the lines that the run prints."""
-
-    def __init__(self, data, every):
-        mesh, field, at = self.start(data)
-        self.volumes, self.refused, self.every = mesh.volumes, [], every
-        self.moments = [Moment(0, field, sum(field), 0, 0)]
-        self.lines = [f"0 0 0 {sum(field)}"]
-        self.steps(data, at, mesh)
-        self.lines += [f"B {cell} {q} {rest}" for cell, q, rest in lagoon.board(mesh.volumes, self.moments[-1].masses)]
-
-    def start(self, data):
-        """The mesh, the first field, and where the steps begin."""
-        try:
-            source = layout.Source(io.BytesIO(data))
-            source.mesh()
-            at = len(source.record)
-            mesh = lagoon.accept_mesh(data[:at])
-        except (layout.Damage, lagoon.Refusal) as refusal:
-            raise Bad(f"the mesh is refused: cause {refusal.cause}, place {refusal.place}") from None
-        end = at + lagoon.field_length(len(mesh.volumes))
-        try:
-            return mesh, lagoon.accept_field(data[at:end], mesh), end
-        except lagoon.Refusal as refusal:
-            raise Bad(f"the field is refused: cause {refusal.cause}, place {refusal.place}") from None
-
-    def steps(self, data, at, mesh):
-        length = lagoon.step_length(len(mesh.firsts), mesh.seconds)
-        now = self.moments[0]
-        while at < len(data):
-            now = now._replace(step=now.step + 1)
-            try:
-                result = lagoon.accept_step(data[at:at + length], mesh, now.masses)
-            except lagoon.Refusal as refusal:
-                self.refused.append(now.step)
-                self.lines.append(f"{now.step} R {refusal.cause} {refusal.place}")
-                if refusal.cause in (11, 13):
-                    break
-            else:
-                now = Moment(now.step, result.masses, sum(result.masses), now.entered + result.in_mass, now.gone + result.out_mass)
-                self.lines.append(f"{now.step} {result.in_mass} {result.out_mass} {now.total}")
-            if now.step % self.every == 0:
-                self.moments.append(now)
-            at += length
-        if self.moments[-1].step != now.step:
-            self.moments.append(now)
-
-    def concentrations(self, cell):
-        return [moment.masses[cell] // self.volumes[cell] for moment in self.moments]
-
-    def highest(self):
-        """The cells of the last board."""
-        return [cell for cell, _, _ in lagoon.board(self.volumes, self.moments[-1].masses)]
-
-
-def agree(program, data, lines):
-    """The run program prints these lines."""
-    printed = subprocess.run([program], input=data, capture_output=True, check=False).stdout.decode("ascii", "replace").splitlines()
-    for number, (theirs, ours) in enumerate(zip(printed + [""] * len(lines), lines + [""] * len(printed)), 1):
-        if theirs != ours:
-            raise Bad(f"line {number} of {program} is '{theirs}', by the reference '{ours}'")
+def last_board(history):
+    """The cells of the last board."""
+    for moment in history.moments():
+        masses = moment.masses
+    return [cell for cell, _, _ in engine.board(history.mesh.volumes, masses)]
 
 
 def chosen(text, cells):
     """Cells from words like 0,7,30-33."""
     found = []
     for word in text.split(","):
-        first, dash, last = word.partition("-")
-        if not first.isdecimal() or (dash and not last.isdecimal()):
-            raise Bad(f"--cells: '{word}' is neither a cell nor two cells joined by a minus")
-        found += range(int(first), int(last if dash else first) + 1)
-    if not found or max(found) >= cells:
-        raise Bad(f"--cells: the mesh has cells 0 to {cells - 1}")
+        first, dash, last = word.strip().partition("-")
+        last = last if dash else first
+        if not all(part.isascii() and part.isdigit() for part in (first, last)):
+            raise Bad(f"--cells: {shown(word)} is neither a cell nor two cells joined by a minus")
+        ends = [int(part) if len(part) <= 9 else cells for part in (first.lstrip("0") or "0", last.lstrip("0") or "0")]
+        if max(ends) >= cells:
+            raise Bad(f"--cells: the mesh has cells 0 to {cells - 1}, not {shown(word)}")
+        if ends[0] > ends[1]:
+            raise Bad(f"--cells: {shown(word)} is no range, its first cell is above its last")
+        found += [cell for cell in range(ends[0], ends[1] + 1) if cell not in found]
     if len(found) > MOST_CELLS:
-        raise Bad(f"--cells: at most {MOST_CELLS} cells are drawn, not {len(found)}")
+        raise Bad(f"--cells: at most {MOST_CELLS} cells are drawn, not {len(found):,}")
     return found
+
+
+def chosen_steps(text):
+    """Steps from words like 0,24,last."""
+    found = []
+    for word in text.split(","):
+        word = word.strip()
+        if word != "last" and not (word.isascii() and word.isdigit() and len(word) <= 12):
+            raise Bad(f"--profile: {shown(word)} is neither a step nor 'last'")
+        found.append(word if word == "last" else int(word))
+    if len(found) > MOST_PROFILES:
+        raise Bad(f"--profile: at most {MOST_PROFILES} steps are drawn, not {len(found)}")
+    return found
+
+
+# ---------------------------------------------------------------- Words
+
+def clean(text):
+    """Text that every viewer of SVG can show: control characters and the like are replaced."""
+    return "".join(c if c.isprintable() else "\ufffd" for c in text)
+
+
+def wide(text):
+    return sum(2 if unicodedata.east_asian_width(c) in "WF" else 1 for c in text)
+
+
+def cut(text, room):
+    """The text, or its beginning and an ellipsis."""
+    if wide(text) <= room:
+        return text
+    while wide(text) > room - 1:
+        text = text[:-1]
+    return text.rstrip() + "…"
+
+
+def wrapped(text, room, most):
+    """The text on at most so many lines."""
+    lines = [""]
+    for word in clean(text).split(" "):
+        longer = f"{lines[-1]} {word}".strip()
+        if wide(longer) <= room or not lines[-1]:
+            lines[-1] = longer
+        else:
+            lines.append(word)
+    if len(lines) > most:
+        lines[most - 1:] = [" ".join(lines[most - 1:])]
+    return [cut(line, room) for line in lines]
+
+
+def per_unit(units):
+    """The unit of a concentration: g per m3, also where masses are in units of 500 g and volumes in units of 500 m3."""
+    mass, volume = units.get("mass", ""), units.get("volume", "")
+    if not mass or not volume:
+        return "mass units per volume unit"
+    (size, _, gram), (other, _, metre) = mass.partition(" "), volume.partition(" ")
+    return f"{gram} per {metre}" if gram and metre and size == other else f"{mass} per {volume}"
+
+
+def mass_unit(units):
+    mass = units.get("mass", "")
+    return "mass units" if not mass else f"units of {mass}" if mass[:1].isdigit() else mass
 
 
 # ---------------------------------------------------------------- The picture
@@ -152,138 +209,257 @@ def scale(marks):
     return 1, ""
 
 
-class Drawing:
-    def __init__(self, history, title):
-        self.history, self.parts = history, []
-        self.last = max(history.moments[-1].step, 1)
-        self.text(LEFT, 30, title, size=18, weight="bold")
+def columns(xs, values, first, last):
+    """For each column of pixels that has values: its middle, the least and the greatest."""
+    found = {}
+    for x, value in zip(xs, values):
+        column = min(int((x - first) * PLOT / (last - first)), PLOT - 1)
+        least, greatest = found.get(column, (value, value))
+        found[column] = min(least, value), max(greatest, value)
+    return [(LEFT + column + 0.5, *ends) for column, ends in sorted(found.items())]
 
-    def x(self, step):
-        return LEFT + PLOT * step / self.last
+
+def means(xs, values, first, last):
+    """The mean of each stretch of pixels, at its middle."""
+    found = {}
+    for x, value in zip(xs, values):
+        stretch = min(int((x - first) * PLOT / (last - first)), PLOT - 1) // MEAN_OVER
+        total, number = found.get(stretch, (0, 0))
+        found[stretch] = total + value, number + 1
+    return [(LEFT + min((stretch + 0.5) * MEAN_OVER, PLOT), total / number) for stretch, (total, number) in sorted(found.items())]
+
+
+class Drawing:
+    """The parts of the picture, from the top down."""
+
+    def __init__(self, figures, title):
+        self.figures, self.parts, self.top = figures, [], 30
+        for line in wrapped(title, LINE_WIDE, TITLE_LINES):
+            self.text(LEFT, self.top, line, size=18, weight="bold")
+            self.top += 24
+        self.top += 22
 
     def text(self, x, y, words, anchor="start", size=13, weight="normal", turn=""):
         self.parts.append(f'<text x="{x:.1f}" y="{y:.1f}" text-anchor="{anchor}" font-size="{size}" font-weight="{weight}"{turn}>'
-                          f"{escape(words)}</text>")
+                          f"{escape(clean(words))}</text>")
+
+    def titled(self, words):
+        return f"<title>{escape(clean(words))}</title>"
 
     def rule(self, x1, y1, x2, y2, colour="#dddddd"):
         self.parts.append(f'<line x1="{x1:.1f}" y1="{y1:.1f}" x2="{x2:.1f}" y2="{y2:.1f}" stroke="{colour}"/>')
 
     def panel(self, panel):
-        values = [value for line in panel.lines for value in line.values]
-        marks = ticks(*vertical_range(values), 6)
+        marks = ticks(*vertical_range([value for line in panel.lines for value in line.values]), 5)
         power, scaled = scale(marks)
-        bottom = panel.top + PANEL
+        top, bottom = self.top, self.top + PANEL
+        first, last = panel.span[0], max(panel.span[1], panel.span[0] + 1)
+
+        def x(value):
+            return LEFT + PLOT * (value - first) / (last - first)
 
         def y(value):
             return bottom - PANEL * (value - marks[0]) / max(marks[-1] - marks[0], 1)
 
-        self.parts.append(f'<g class="panel"><title>{escape(panel.title)}</title>')
-        self.text(LEFT, panel.top - 12, panel.title, size=14, weight="bold")
+        self.parts.append(f'<g class="panel">{self.titled(panel.title)}')
+        self.text(LEFT, top - 12, panel.title, size=14, weight="bold")
         for mark in marks:
             self.rule(LEFT, y(mark), LEFT + PLOT, y(mark))
             self.text(LEFT - 8, y(mark) + 4, f"{mark // power:,}", anchor="end")
-        for step in ticks(0, self.last, 10):
-            if step <= self.last:
-                self.rule(self.x(step), bottom, self.x(step), bottom + 5, "#333333")
-                self.text(self.x(step), bottom + 20, f"{step:,}", anchor="middle")
+        for mark in ticks(first, last, 10):
+            if first <= mark <= last:
+                self.rule(x(mark), bottom, x(mark), bottom + 5, "#333333")
+                self.text(x(mark), bottom + 20, f"{mark:,}", anchor="middle")
         self.rule(LEFT, bottom, LEFT + PLOT, bottom, "#333333")
-        self.rule(LEFT, panel.top, LEFT, bottom, "#333333")
-        self.text(LEFT + PLOT / 2, bottom + 40, "step", anchor="middle")
-        middle = panel.top + PANEL / 2
-        self.text(22, middle, scaled + panel.unit, anchor="middle", turn=f' transform="rotate(-90 22 {middle:.1f})"')
+        self.rule(LEFT, top, LEFT, bottom, "#333333")
+        self.text(LEFT + PLOT / 2, bottom + 38, cut(panel.axis, LINE_WIDE), anchor="middle")
+        middle = top + PANEL / 2
+        self.text(22, middle, cut(scaled + panel.unit, 34), anchor="middle", turn=f' transform="rotate(-90 22 {middle:.1f})"')
         for line in panel.lines:
-            self.line(line, y)
-        self.refusals(bottom)
-        self.legend(panel)
+            (self.band if len(panel.xs) > MOST_POINTS else self.line)(panel, line, x, y, first, last)
+        if panel.marks:
+            self.refusals(x, bottom)
+        self.legend(panel, top)
         self.parts.append("</g>")
+        self.top = bottom + GAP
 
-    def line(self, line, y):
-        points = [(self.x(moment.step), y(value)) for moment, value in zip(self.history.moments, line.values)]
-        self.parts.append(f'<g class="line" fill="{line.colour}"><title>{escape(line.name)}</title>')
+    def line(self, panel, line, x, y, first, last):
+        points = [(x(at), y(value)) for at, value in zip(panel.xs, line.values)]
+        self.parts.append(f'<g class="line" fill="{line.colour}">{self.titled(line.name)}')
         self.parts.append(f'<polyline fill="none" stroke="{line.colour}" stroke-width="2" stroke-linejoin="round"{dashed(line.dash)} '
-                          f'points="{" ".join(f"{x:.2f},{at:.2f}" for x, at in points)}"/>')
+                          f'points="{joined(points)}"/>')
         if len(points) <= MARKED:
-            self.parts += [f'<circle cx="{x:.2f}" cy="{at:.2f}" r="3"/>' for x, at in points]
+            self.parts += [f'<circle cx="{at:.2f}" cy="{height:.2f}" r="3"/>' for at, height in points]
         self.parts.append("</g>")
 
-    def refusals(self, bottom):
-        for step in self.history.refused:
-            self.cross(self.x(step), bottom, f"step {step} refused")
+    def band(self, panel, line, x, y, first, last):
+        """From the least to the greatest of each column of pixels, and the mean."""
+        rows = columns(panel.xs, line.values, first, last)
+        around = [(at, y(greatest)) for at, _, greatest in rows] + [(at, y(least)) for at, least, _ in reversed(rows)]
+        self.parts.append(f'<g class="band" fill="{line.colour}">{self.titled(line.name)}')
+        self.parts.append(f'<polygon stroke="none" fill-opacity="0.3" points="{joined(around)}"/>')
+        self.parts.append(f'<polyline fill="none" stroke="{line.colour}" stroke-width="2" stroke-linejoin="round"{dashed(line.dash)} '
+                          f'points="{joined([(at, y(mean)) for at, mean in means(panel.xs, line.values, first, last)])}"/></g>')
+
+    def refusals(self, x, bottom):
+        labels = self.figures.session.labels
+        if len(self.figures.refused) <= MOST_CROSSES:
+            for step, refusal in self.figures.refused:
+                self.cross(x(step), bottom, f"step {step} refused: {causes.told(refusal, labels)}")
+            return
+        by_column = {}
+        for step, refusal in self.figures.refused:
+            by_column.setdefault(int(x(step)), []).append((step, refusal))
+        for rows in by_column.values():
+            (first, refusal), (last, _) = rows[0], rows[-1]
+            words = f"step {first} refused: {causes.told(refusal, labels)}"
+            if len(rows) > 1:
+                words = f"{len(rows)} of the steps {first} to {last} refused; the first: {causes.told(refusal, labels)}"
+            self.tick(x(first), bottom, words)
 
     def cross(self, x, y, title):
         self.parts.append(f'<path class="refused" d="M{x - 4:.1f},{y - 4:.1f} l8,8 m0,-8 l-8,8" stroke="#b00020" stroke-width="2" fill="none">'
-                          f"<title>{title}</title></path>")
+                          f"{self.titled(title)}</path>")
 
-    def legend(self, panel):
+    def tick(self, x, y, title):
+        self.parts.append(f'<path class="refused" d="M{x:.1f},{y + 1:.1f} v7" stroke="#b00020" stroke-width="1" fill="none">{self.titled(title)}</path>')
+
+    def legend(self, panel, top):
         x = LEFT + PLOT + 18
         for row, line in enumerate(panel.lines):
-            y = panel.top + 8 + 22 * row
+            y = top + 8 + 22 * row
             self.parts.append(f'<line x1="{x}" y1="{y}" x2="{x + 28}" y2="{y}" stroke="{line.colour}" stroke-width="2"{dashed(line.dash)}/>')
-            self.text(x + 36, y + 4, line.name)
-        if self.history.refused:
-            y = panel.top + 8 + 22 * len(panel.lines)
-            self.cross(x + 14, y, "refused step")
-            self.text(x + 36, y + 4, "refused step")
+            self.text(x + 36, y + 4, cut(line.name, LEGEND_WIDE))
+        refused = len(self.figures.refused)
+        if refused and panel.marks:
+            y = top + 8 + 22 * len(panel.lines)
+            words = f"{refused:,} refused"
+            if refused <= MOST_CROSSES:
+                self.cross(x + 14, y, words)
+            else:
+                self.tick(x + 14, y - 5, words)
+            self.text(x + 36, y + 4, words)
+
+    def foot(self):
+        """The budget in a line, and the causes of what was refused."""
+        figures = self.figures
+        self.top -= GAP - BELOW
+        self.text(LEFT, self.top, f"total {figures.total[-1]:,} = first total {figures.total[0]:,} + in {figures.all_in:,} − out {figures.all_out:,}")
+        for cause, number in figures.causes.most_common(MOST_CAUSES):
+            self.top += 20
+            self.text(LEFT, self.top, f"{count(number, 'step')} refused by cause {cause}: {causes.IN_WORDS[cause]}")
+        if len(figures.causes) > MOST_CAUSES:
+            self.top += 20
+            self.text(LEFT, self.top, f"and {count(len(figures.causes) - MOST_CAUSES, 'more cause')}")
 
     def svg(self):
-        height = TOP + 2 * PANEL + GAP + 82
-        first, last = self.history.moments[0], self.history.moments[-1]
-        self.text(LEFT, height - 16, f"total {last.total:,} = first total {first.total:,} + in {last.entered:,} − out {last.gone:,}")
+        height = self.top + 20
         head = (f'<svg xmlns="http://www.w3.org/2000/svg" width="{WIDTH}" height="{height}" viewBox="0 0 {WIDTH} {height}" '
                 'font-family="Helvetica, Arial, sans-serif" fill="#222222">')
         return "\n".join([head, f'<rect width="{WIDTH}" height="{height}" fill="#ffffff"/>', *self.parts, "</svg>", ""])
+
+
+def joined(points):
+    return " ".join([f"{x:.2f},{y:.2f}" for x, y in points])
 
 
 def dashed(dash):
     return f' stroke-dasharray="{dash}"' if dash else ""
 
 
-def picture(history, cells, title):
-    drawing = Drawing(history, title)
-    moments = history.moments
-    drawing.panel(Panel(TOP, "Concentration q after each step", "mass units per volume unit",
-                        [Line(f"cell {cell}", colour, "", history.concentrations(cell)) for cell, colour in zip(cells, COLOURS)]))
-    drawing.panel(Panel(TOP + PANEL + GAP, "Salt budget", "mass units",
-                        [Line("total", "#000000", "", [moment.total for moment in moments]),
-                         Line("in, summed", "#0072b2", "8 4", [moment.entered for moment in moments]),
-                         Line("out, summed", "#d55e00", "2 4", [moment.gone for moment in moments])]))
+def named(labels, cell):
+    """The cell with its name, without the brackets of a sentence."""
+    name = labels.names["cell"].get(cell)
+    return f"{cell} {name}" if name else f"cell {cell}"
+
+
+def picture(figures, title):
+    labels, drawing = figures.session.labels, Drawing(figures, title)
+    step_unit = labels.units.get("step")
+    axis = f"step of {step_unit}" if step_unit else "step"
+    q_unit, unit, steps = per_unit(labels.units), mass_unit(labels.units), (0, figures.last)
+    drawing.panel(Panel("Concentration q after each step", q_unit, axis, steps, figures.steps,
+                        [Line(named(labels, cell), colour, "", figures.q[cell]) for cell, colour in zip(figures.cells, COLOURS)], True))
+    if figures.profiles:
+        drawing.panel(Panel("Concentration q over the cells", q_unit, "cell", (0, len(figures.mesh.volumes) - 1), range(len(figures.mesh.volumes)),
+                            [Line(f"after step {step:,}", colour, "", values)
+                             for (step, values), colour in zip(sorted(figures.profiles.items()), COLOURS)], False))
+    drawing.panel(Panel("Total of all masses", unit, axis, steps, figures.steps, [Line("total", "#000000", "", figures.total)], True))
+    if len(figures.steps) > 1:
+        drawing.panel(Panel("In-mass and out-mass of each step", unit, axis, steps, figures.steps[1:],
+                            [Line("in", "#0072b2", "", figures.entered[1:]), Line("out", "#d55e00", "6 3", figures.gone[1:])], True))
+    drawing.foot()
     return drawing.svg()
+
+
+def table(figures):
+    """The figures that are drawn, a row for each step that is kept."""
+    labels, text = figures.session.labels, io.StringIO()
+    writer = csv.writer(text, lineterminator="\n")
+    writer.writerow(["step", *(f"q {labels.of('cell', cell)}" for cell in figures.cells), "total", "in", "out", "cause"])
+    refused = {step: refusal.cause for step, refusal in figures.refused}
+    for row in zip(figures.steps, *(figures.q[cell] for cell in figures.cells), figures.total, figures.entered, figures.gone):
+        writer.writerow([*row, refused.get(row[0], "")])
+    return text.getvalue()
 
 
 # ---------------------------------------------------------------- The command
 
-def every(text):
-    if not text.isdecimal() or int(text) == 0:
-        raise argparse.ArgumentTypeError("a whole number from 1")
-    return int(text)
+class Input:
+    """The session's bytes, to be read more than once."""
+
+    def __init__(self, path):
+        self.path, self.file = path, None
+        if path == "-":
+            self.file = tempfile.TemporaryFile()
+            shutil.copyfileobj(command.opened(path), self.file)
+
+    def session(self):
+        if self.file:
+            self.file.seek(0)
+        return Session(self.file or command.opened(self.path), self.path)
+
+
+def run(options):
+    given = Input(options.file)
+    session = given.session()
+    profiles = chosen_steps(options.profile) if options.profile is not None else []
+    if options.cells is not None:
+        cells = chosen(options.cells, len(session.mesh.volumes))
+    else:
+        cells = last_board(engine.History(session, options.library))
+        session = given.session()
+    figures = Figures(engine.History(session, options.library, options.run), cells, options.every, profiles)
+    title = options.title if options.title is not None else "Session" if options.file == "-" else options.file.rpartition("/")[2]
+    if options.csv:
+        command.write_whole(options.csv, table(figures).encode())
+    command.write_whole(options.output, picture(figures, title).encode())
+    return 0
 
 
 def arguments():
-    parser = argparse.ArgumentParser(description=__doc__, epilog=HELP, formatter_class=argparse.RawDescriptionHelpFormatter)
-    parser.add_argument("file", nargs="?", default="-", help="the session's bytes (default: standard input)")
+    parser = command.parser("plot.py", __doc__, HELP)
+    parser.add_argument("file", nargs="?", default="-", help="the session, text or packed (default: standard input)")
     parser.add_argument("-o", "--output", default="-", help="the SVG to write (default: standard output)")
     parser.add_argument("--cells", help=f"cells to draw, as 0,7,30-33, at most {MOST_CELLS} (default: those of the last board)")
-    parser.add_argument("--every", type=every, default=1, metavar="N", help="draw every Nth step and the last (default: 1)")
-    parser.add_argument("--title", help="the line above the panels (default: the file's name)")
-    parser.add_argument("--run", metavar="PROGRAM", help="the run program, to compare with")
+    parser.add_argument("--every", type=lambda text: command.whole(text, 1, 10 ** 9), default=1, metavar="N",
+                        help="draw every Nth step and the last (default: 1)")
+    parser.add_argument("--profile", metavar="STEPS", help=f"draw q over the cells after these steps, as 0,24,last, at most {MOST_PROFILES}")
+    parser.add_argument("--title", help="the words above the panels (default: the file's name)")
+    parser.add_argument("--csv", metavar="FILE", help="write the figures that are drawn")
+    engine.options(parser)
     return parser.parse_args()
 
 
 def main():
     options = arguments()
-    try:
-        data = command.opened(options.file).read()
-        history = History(data, options.every)
-        if options.run:
-            agree(options.run, data, history.lines)
-        cells = chosen(options.cells, len(history.volumes)) if options.cells else history.highest()
-        title = options.title or ("Session" if options.file == "-" else Path(options.file).name)
-        command.write_whole(options.output, picture(history, cells, title).encode())
-    except (Bad, OSError) as error:
-        print(f"plot.py: {error}", file=sys.stderr)
-        return 1
-    return 0
+    for output in (options.output, options.csv):
+        if output:
+            command.apart(output, options.file)
+    if options.output == options.csv == "-":
+        raise Bad("the picture and --csv cannot both be on standard output")
+    return run(options)
 
 
 if __name__ == "__main__":
-    sys.exit(main())
+    sys.exit(command.finish("plot.py", main))

@@ -12,7 +12,7 @@ sys.path[:0] = [str(HERE), str(ROOT / "reference")]
 import command
 import lagoon
 import layout
-import records
+import sessiontext
 
 HELP = """\
 The page holds blocks between lines <!-- worked: NAME --> and <!-- end -->. Every number is worked out here by its
@@ -45,7 +45,7 @@ class Session:
     """A session of examples/: its records, the mesh, the first field and the water of its first step."""
 
     def __init__(self, name):
-        data, _ = records.pack((ROOT / "examples" / name).read_text())
+        data, _ = sessiontext.pack((ROOT / "examples" / name).read_text())
         cells, faces = int.from_bytes(data[:2], "big") % 4096, int.from_bytes(data[2:4], "big") // 8
         mesh, field = layout.mesh_bytes(cells, faces), layout.field_bytes(cells)
         self.cells, self.faces = range(cells), range(faces)

@@ -6,7 +6,8 @@ use native.Mathlib.Nat.{le-trans}
 use native.Mathlib.Omega.{arith}
 use lib.ListN.{length}
 use lib.Dec.{leb}
-use Rattle.lists.proofs.Tests.{leb-le, le-leb, eqb-eq, both-true}
+use borrow.Author.Tests.{leb-true, le-leb, eqb-true}
+use Rattle.lists.proofs.Tests.{both-true}
 use Rattle.model.specs.Mesh.{maxCells, maxFaces}
 use Rattle.model.specs.Causes.{fine, need, countsWithin}
 use Rattle.model.specs.Answers.{said}
@@ -30,7 +31,7 @@ held bs bit width l m h = rw (le-leb width widest l, le-leb bit furthest m, le-l
 
 -- a record that is as long as its head
 pub head-holds : {a : Answer} {j m : ℕ} (n : ℕ) → j ≤ n → said a ≡ need 11 0 (leb n m) → a ≡ Done → j ≤ m
-head-holds {m = m} n l e q = le-trans l (leb-le n m (need-fine 11 0 _ (passes e q)))
+head-holds {m = m} n l e q = le-trans l (leb-true n m (need-fine 11 0 _ (passes e q)))
 
 pub record MeshHeadSays (mostCells mostFaces : ℕ) (bs : List ℕ) : Type 0 where
   pub long : 4 ≤ length bs
@@ -49,13 +50,13 @@ mesh-head-says mostCells mostFaces bs e =
     let c = both-fine _ _ (a .1) in
     let d = both-true (leb 1 (cellsIn bs)) (leb (cellsIn bs) (min mostCells maxCells)) (need-fine 1 0 _ (c .0)) in
     record {
-      long = leb-le _ _ (need-fine 11 0 _ (b .0));
-      kind = eqb-eq _ _ (need-fine 13 0 _ (b .1));
-      some-cells = leb-le _ _ (d .0);
-      few-cells = omega (arith, leb-le (cellsIn bs) (min mostCells maxCells) (d .1));
-      few-faces = omega (arith, leb-le (facesIn bs) (min mostFaces maxFaces) (need-fine 1 1 _ (c .1)));
-      within-cells = omega (arith, leb-le (cellsIn bs) (min mostCells maxCells) (d .1));
-      within-faces = omega (arith, leb-le (facesIn bs) (min mostFaces maxFaces) (need-fine 1 1 _ (c .1)));
+      long = leb-true _ _ (need-fine 11 0 _ (b .0));
+      kind = eqb-true _ _ (need-fine 13 0 _ (b .1));
+      some-cells = leb-true _ _ (d .0);
+      few-cells = omega (arith, leb-true (cellsIn bs) (min mostCells maxCells) (d .1));
+      few-faces = omega (arith, leb-true (facesIn bs) (min mostFaces maxFaces) (need-fine 1 1 _ (c .1)));
+      within-cells = omega (arith, leb-true (cellsIn bs) (min mostCells maxCells) (d .1));
+      within-faces = omega (arith, leb-true (facesIn bs) (min mostFaces maxFaces) (need-fine 1 1 _ (c .1)));
     }
 
 pub record FieldHeadSays (cells : ℕ) (bs : List ℕ) : Type 0 where
@@ -73,11 +74,11 @@ field-head-says cells bs e =
     let c = both-fine _ _ (b .0) in
     let d = both-true (leb 1 cells) (leb cells maxCells) (need-fine 1 0 _ (a .1)) in
     record {
-      long = leb-le _ _ (need-fine 11 0 _ (c .0));
-      kind = eqb-eq _ _ (need-fine 13 0 _ (c .1));
-      same-count = eqb-eq _ _ (need-fine 13 1 _ (b .1));
-      some-cells = leb-le _ _ (d .0);
-      few-cells = leb-le _ _ (d .1);
+      long = leb-true _ _ (need-fine 11 0 _ (c .0));
+      kind = eqb-true _ _ (need-fine 13 0 _ (c .1));
+      same-count = eqb-true _ _ (need-fine 13 1 _ (b .1));
+      some-cells = leb-true _ _ (d .0);
+      few-cells = leb-true _ _ (d .1);
     }
 
 pub record StepHeadSays (faces : ℕ) (seconds bs : List ℕ) : Type 0 where
@@ -95,9 +96,9 @@ step-head-says faces seconds bs e =
     let c = both-fine _ _ (b .0) in
     let d = both-fine _ _ (c .0) in
     record {
-      long = leb-le _ _ (need-fine 11 0 _ (d .0));
-      kind = eqb-eq _ _ (need-fine 13 0 _ (d .1));
-      same-count = eqb-eq _ _ (need-fine 13 1 _ (c .1));
-      few-faces = leb-le _ _ (need-fine 1 1 _ (b .1));
-      lent = leb-le _ _ (need-fine 2 2 _ (a .1));
+      long = leb-true _ _ (need-fine 11 0 _ (d .0));
+      kind = eqb-true _ _ (need-fine 13 0 _ (d .1));
+      same-count = eqb-true _ _ (need-fine 13 1 _ (c .1));
+      few-faces = leb-true _ _ (need-fine 1 1 _ (b .1));
+      lent = leb-true _ _ (need-fine 2 2 _ (a .1));
     }

@@ -4,7 +4,7 @@ use mathlib.Core.Path.{_≡_, sym, _∙_}
 use mathlib.Core.List.{List}
 use lib.IntN.{ℤ}
 use lib.ListN.{length}
-use Rattle.lists.proofs.Tests.{leb-le, eqb-eq}
+use borrow.Author.Tests.{leb-true, eqb-true}
 use Rattle.lists.specs.Table.{over}
 use Rattle.model.specs.Causes.{Outcome, accepted, refused, Verdict, fine, _andThen_, long}
 use Rattle.model.specs.Answers.{told}
@@ -49,12 +49,12 @@ mesh-tables-say bs volumes firsts seconds shares reaches e =
     let d = both-fine _ _ (c .0) in
     let g = both-fine _ _ (d .0) in
     record {
-      same-length = eqb-eq _ _ (need-fine 11 0 _ (g .0));
-      volumes-long = leb-le _ _ (need-fine 2 0 _ (g .1));
-      firsts-long = leb-le _ _ (need-fine 2 1 _ (d .1));
-      seconds-long = leb-le _ _ (need-fine 2 2 _ (c .1));
-      shares-long = leb-le _ _ (need-fine 2 3 _ (b .1));
-      reaches-long = leb-le _ _ (need-fine 2 4 _ (a .1));
+      same-length = eqb-true _ _ (need-fine 11 0 _ (g .0));
+      volumes-long = leb-true _ _ (need-fine 2 0 _ (g .1));
+      firsts-long = leb-true _ _ (need-fine 2 1 _ (d .1));
+      seconds-long = leb-true _ _ (need-fine 2 2 _ (c .1));
+      shares-long = leb-true _ _ (need-fine 2 3 _ (b .1));
+      reaches-long = leb-true _ _ (need-fine 2 4 _ (a .1));
     }
 
 pub record FieldTablesSay (cells : ℕ) (bs : List ℕ) (masses : ℕ) : Type 0 where
@@ -65,7 +65,7 @@ pub field-tables-say : (cells : ℕ) (bs : List ℕ) (masses : ℕ) → fieldBod
 unfolding fieldBodyVerdict fieldLength
 field-tables-say cells bs masses e =
     let a = both-fine _ _ e in
-    record { same-length = eqb-eq _ _ (need-fine 11 0 _ (a .0)); masses-long = leb-le _ _ (need-fine 2 5 _ (a .1)) }
+    record { same-length = eqb-true _ _ (need-fine 11 0 _ (a .0)); masses-long = leb-true _ _ (need-fine 2 5 _ (a .1)) }
 
 pub record StepTablesSay (faces : ℕ) (seconds bs : List ℕ) (fluxes outsides : ℕ) : Type 0 where
   pub same-length : length bs ≡ bytesFor (stepBits faces seconds)
@@ -78,7 +78,7 @@ unfolding stepLength
 step-tables-say faces seconds bs fluxes outsides e =
     let a = both-fine _ _ e in
     let b = both-fine _ _ (a .0) in
-    record { same-length = eqb-eq _ _ (need-fine 11 0 _ (b .0)); fluxes-long = leb-le _ _ (need-fine 2 6 _ (b .1)); outsides-long = leb-le _ _ (need-fine 2 7 _ (a .1)) }
+    record { same-length = eqb-true _ _ (need-fine 11 0 _ (b .0)); fluxes-long = leb-true _ _ (need-fine 2 6 _ (b .1)); outsides-long = leb-true _ _ (need-fine 2 7 _ (a .1)) }
 
 -- what a mesh reading that is accepted has passed
 pub record ReadSays (mostCells mostFaces : ℕ) (bs : List ℕ) (n : Counts) (v f s g k : ℕ) : Type 0 where

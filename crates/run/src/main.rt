@@ -10,7 +10,7 @@ use model::Refusal;
 use reading::MeshAnswer;
 use session::Line;
 use session::RECORD;
-use session::StepTaken;
+use taking::StepTaken;
 ghost use Prim.Native.Nat.{_≤_};
 ghost use lib.ListN.{length};
 ghost use Rattle.io.specs.Counts.{Counts};
@@ -49,11 +49,6 @@ fn step_once(
     shares: &[u64],
     reaches: &[u64],
     masses: &mut [u64],
-    fluxes: &mut [i64],
-    outsides: &mut [u64],
-    next: &mut [u64],
-    moved: &mut [i64],
-    work: &mut [u64],
 ) -> bool
     requires { do ⌜ (← ⟦session::RECORD⟧) ≤ length (now buffer) ⌝ }
 {
@@ -61,7 +56,7 @@ fn step_once(
     if got == 0 {
         return false;
     }
-    let taken = session::take_step(
+    let taken = taking::take_step(
         cells,
         faces,
         &buffer[..got],
@@ -71,11 +66,6 @@ fn step_once(
         shares,
         reaches,
         masses,
-        fluxes,
-        outsides,
-        next,
-        moved,
-        work,
     );
     print_step(step, taken)
 }
@@ -92,11 +82,6 @@ fn steps(
     shares: &[u64],
     reaches: &[u64],
     masses: &mut [u64],
-    fluxes: &mut [i64],
-    outsides: &mut [u64],
-    next: &mut [u64],
-    moved: &mut [i64],
-    work: &mut [u64],
 )
     requires { do ⌜ (← ⟦session::RECORD⟧) ≤ length (now buffer) ⌝ }
 {
@@ -114,11 +99,6 @@ fn steps(
             shares,
             reaches,
             masses,
-            fluxes,
-            outsides,
-            next,
-            moved,
-            work,
         );
         if !more {
             return;
@@ -136,17 +116,12 @@ fn run_on(
     seconds: &[u64],
     shares: &[u64],
     reaches: &[u64],
-    masses: &mut [u64],
-    fluxes: &mut [i64],
-    outsides: &mut [u64],
-    next: &mut [u64],
-    moved: &mut [i64],
-    work: &mut [u64],
 )
     requires { do ⌜ (← ⟦session::RECORD⟧) ≤ length (now buffer) ⌝ }
 {
+    let mut masses = [0u64; RUN_CELLS];
     let got = reading::field(cells, buffer);
-    let answer = session::take_field(cells, &buffer[..got], volumes, masses);
+    let answer = taking::take_field(cells, &buffer[..got], volumes, &mut masses);
     let TotalAnswer::Total(total) = answer else {
         if let TotalAnswer::Refused(refusal) = answer {
             print_refusal(b'F', refusal);
@@ -163,57 +138,9 @@ fn run_on(
         seconds,
         shares,
         reaches,
-        masses,
-        fluxes,
-        outsides,
-        next,
-        moved,
-        work,
+        &mut masses,
     );
-    board_lines::print_board(cells, volumes, masses);
-}
-
-// The whole run, in tables that are lent.
-fn run(
-    buffer: &mut [u8],
-    volumes: &mut [u64],
-    firsts: &mut [u64],
-    seconds: &mut [u64],
-    shares: &mut [u64],
-    reaches: &mut [u64],
-    masses: &mut [u64],
-    fluxes: &mut [i64],
-    outsides: &mut [u64],
-    next: &mut [u64],
-    moved: &mut [i64],
-    work: &mut [u64],
-)
-    requires { do ⌜ (← ⟦session::RECORD⟧) ≤ length (now buffer) ⌝ }
-{
-    let got = reading::mesh(buffer);
-    let answer = session::take_mesh(&buffer[..got], volumes, firsts, seconds, shares, reaches);
-    let MeshAnswer::Read(counts) = answer else {
-        if let MeshAnswer::Refused(refusal) = answer {
-            print_refusal(b'M', refusal);
-        }
-        return;
-    };
-    run_on(
-        counts.cells,
-        counts.faces,
-        buffer,
-        volumes,
-        firsts,
-        seconds,
-        shares,
-        reaches,
-        masses,
-        fluxes,
-        outsides,
-        next,
-        moved,
-        work,
-    );
+    board_lines::print_board(cells, volumes, &masses);
 }
 
 // Step 0, the first field.
@@ -228,24 +155,29 @@ fn main() {
     let mut seconds = [0u64; RUN_FACES];
     let mut shares = [0u64; RUN_FACES];
     let mut reaches = [0u64; RUN_FACES];
-    let mut masses = [0u64; RUN_CELLS];
-    let mut fluxes = [0i64; RUN_FACES];
-    let mut outsides = [0u64; RUN_FACES];
-    let mut next = [0u64; RUN_CELLS];
-    let mut moved = [0i64; RUN_FACES];
-    let mut work = [0u64; session::WORK];
-    run(
-        &mut buffer,
+    let got = reading::mesh(&mut buffer);
+    let answer = taking::take_mesh(
+        &buffer[..got],
         &mut volumes,
         &mut firsts,
         &mut seconds,
         &mut shares,
         &mut reaches,
-        &mut masses,
-        &mut fluxes,
-        &mut outsides,
-        &mut next,
-        &mut moved,
-        &mut work,
+    );
+    let MeshAnswer::Read(counts) = answer else {
+        if let MeshAnswer::Refused(refusal) = answer {
+            print_refusal(b'M', refusal);
+        }
+        return;
+    };
+    run_on(
+        counts.cells,
+        counts.faces,
+        &mut buffer,
+        &volumes,
+        &firsts,
+        &seconds,
+        &shares,
+        &reaches,
     );
 }

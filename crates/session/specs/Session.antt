@@ -8,13 +8,12 @@ use lib.ListN.{take}
 use Rattle.io.specs.Counts.{Counts}
 use Rattle.model.specs.Mesh.{runCells, runFaces}
 use Rattle.model.specs.Causes.{Outcome, accepted, refused}
-use Rattle.model.specs.Answers.{number, told}
+use Rattle.model.specs.Answers.{number}
 use Rattle.model.specs.declared.Cause.{Cause}
 use Rattle.heads.specs.Layouts.{meshLength}
 use Rattle.session.specs.declared.Line.{Line}
-use Rattle.session.specs.declared.StepTaken.{StepTaken}
-use Rattle.session.specs.declared.StepTaken.the-variants.{Stepped, Refused}
-use Rattle.session.specs.declared.Printed.{Printed}
+use Rattle.taking.specs.declared.StepTaken.{StepTaken}
+use Rattle.taking.specs.declared.StepTaken.the-variants.{Stepped, Refused}
 use Rattle.session.specs.Lines.{stepLine, refusedStepLine}
 
 -- A line by value: its first bytes are the text. What the bytes after them are is left open; nobody prints them.
@@ -34,11 +33,6 @@ recordBytes = meshLength runCells runFaces
 abbrev pub stillNeeded : Outcome ℕ → ℕ → ℕ
 stillNeeded (accepted n) got = min n recordBytes - got
 stillNeeded (refused _ _) got = 0
-
--- "a definition gives this paper's number and values for each of its cases"
-abbrev pub takenSaid : StepTaken → Outcome Printed
-takenSaid (Stepped p) = accepted p
-takenSaid (Refused r) = told r
 
 -- "for each step: step number, in-mass, out-mass, total; or step number, `R`, number, place"
 abbrev pub lineOf : ℕ → StepTaken → List ℕ

@@ -5,7 +5,8 @@ use mathlib.Core.Bool.{true, not, _&&_}
 use mathlib.Core.List.{List}
 use native.Mathlib.Omega.{arith}
 use lib.ListN.{length}
-use Rattle.lists.proofs.Tests.{eqb-yes, le-leb, both-true}
+use borrow.Author.Tests.{eq-eqb, le-leb}
+use Rattle.lists.proofs.Tests.{both-true}
 use Rattle.model.specs.Mesh.{maxCells, maxFaces}
 use Rattle.model.specs.Causes.{accepted, fine, countsWithin}
 use Rattle.model.proofs.Verdicts.{need-met, fine-each, each-fine, both-fine, past}
@@ -25,24 +26,24 @@ module _ (bs : List ℕ) where
   unfolding meshRead meshHeadVerdict meshBodyVerdict meshLength meshBitGood bytesFor
   mesh-reads mostCells mostFaces v f s w k kind within len lv lf ls lw lk good =
       past _
-      (both-past (both-past (both-past (need-met 11 0 (le-leb 4 (length bs) (omega (arith, len)))) (need-met 13 0 (eqb-yes _ _ kind))) within)
-      (both-past (both-past (both-past (both-past (both-past (both-past (need-met 11 0 (eqb-yes _ _ len)) (need-met 2 0 (le-leb _ _ lv))) (need-met 2 1 (le-leb _ _ lf))) (need-met 2 2 (le-leb _ _ ls)))
+      (both-past (both-past (both-past (need-met 11 0 (le-leb 4 (length bs) (omega (arith, len)))) (need-met 13 0 (eq-eqb _ _ kind))) within)
+      (both-past (both-past (both-past (both-past (both-past (both-past (need-met 11 0 (eq-eqb _ _ len)) (need-met 2 0 (le-leb _ _ lv))) (need-met 2 1 (le-leb _ _ lf))) (need-met 2 2 (le-leb _ _ ls)))
       (need-met 2 3 (le-leb _ _ lw))) (need-met 2 4 (le-leb _ _ lk))) (fine-each 12 _ _ (λ i l. good i))))
 
   pub field-reads : (cells m : ℕ) → kindIn bs ≡ fieldKind → cellsIn bs ≡ cells → 1 ≤ cells → cells ≤ maxCells → length bs ≡ bytesFor (fieldBits cells) → cells ≤ m → fieldRead cells bs m ≡ fine
   unfolding fieldRead fieldHeadVerdict fieldBodyVerdict fieldLength bytesFor
   field-reads cells m kind c some few len lm =
       rw (kind, c)
-      (both-past (both-past (both-past (both-past (need-met 11 0 (le-leb 2 (length bs) (omega (arith, len)))) (need-met 13 0 refl)) (need-met 13 1 (eqb-yes cells cells refl)))
-      (need-met 1 0 (rw (le-leb 1 cells some) (le-leb cells maxCells few)))) (both-past (need-met 11 0 (eqb-yes _ _ len)) (need-met 2 5 (le-leb _ _ lm))))
+      (both-past (both-past (both-past (both-past (need-met 11 0 (le-leb 2 (length bs) (omega (arith, len)))) (need-met 13 0 refl)) (need-met 13 1 (eq-eqb cells cells refl)))
+      (need-met 1 0 (rw (le-leb 1 cells some) (le-leb cells maxCells few)))) (both-past (need-met 11 0 (eq-eqb _ _ len)) (need-met 2 5 (le-leb _ _ lm))))
 
   pub step-reads : (faces : ℕ) (seconds : List ℕ) (u x : ℕ) → kindIn bs ≡ stepKind → stepFacesIn bs ≡ faces → faces ≤ maxFaces → faces ≤ length seconds → length bs ≡ bytesFor (stepBits faces seconds)
       → faces ≤ u → faces ≤ x → ((i : ℕ) → (zeroBitGood bs stepZeroBits stepHeadBits (stepBits faces seconds) i && not (minusZero bs faces i)) ≡ true) → stepRead faces seconds bs u x ≡ fine
   unfolding stepRead stepHeadVerdict stepBodyVerdict stepLength stepBitGood bytesFor
   step-reads faces seconds u x kind n few lent len lu lx good =
       rw (kind, n)
-      (both-past (both-past (both-past (both-past (both-past (need-met 11 0 (le-leb 4 (length bs) (omega (arith, len)))) (need-met 13 0 refl)) (need-met 13 1 (eqb-yes faces faces refl))) (need-met 1 1 (le-leb _ _ few)))
-      (need-met 2 2 (le-leb _ _ lent))) (both-past (both-past (both-past (need-met 11 0 (eqb-yes _ _ len)) (need-met 2 6 (le-leb _ _ lu))) (need-met 2 7 (le-leb _ _ lx))) (fine-each 12 _ _ (λ i l. good i))))
+      (both-past (both-past (both-past (both-past (both-past (need-met 11 0 (le-leb 4 (length bs) (omega (arith, len)))) (need-met 13 0 refl)) (need-met 13 1 (eq-eqb faces faces refl))) (need-met 1 1 (le-leb _ _ few)))
+      (need-met 2 2 (le-leb _ _ lent))) (both-past (both-past (both-past (need-met 11 0 (eq-eqb _ _ len)) (need-met 2 6 (le-leb _ _ lu))) (need-met 2 7 (le-leb _ _ lx))) (fine-each 12 _ _ (λ i l. good i))))
 
 -- an accepted mesh
 pub record MeshPassed (bs : List ℕ) (n : Counts) : Type 0 where

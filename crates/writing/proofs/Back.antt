@@ -7,13 +7,12 @@ use mathlib.Core.Bool.{Bool, true, false, cond, not, _&&_, true≢false}
 use mathlib.Core.List.{List}
 use native.Mathlib.Decide.{decLt}
 use native.Mathlib.Omega.{arith}
-use borrow.Author.Tests.{not-true}
+use borrow.Author.Tests.{not-true, ne-eqb}
 use lib.Dec.{eqb}
 use lib.IntN.{ℤ, pos, negsuc}
 use lib.ListN.{length, getD}
 use Rattle.lists.specs.Table.{table, over}
 use Rattle.lists.proofs.Tables.{getD-over, table-cong}
-use Rattle.lists.proofs.Tests.{eqb-no}
 use Rattle.signed.specs.Sign.{size, isNegative, withSign}
 use Rattle.signed.proofs.Laws.{size-withSign, withSign-of}
 use Rattle.model.specs.Mesh.{Mesh, meshOf, volume, first, second, share, reach}
@@ -110,7 +109,7 @@ sign-back false = refl
 
 no-minus-zero : (z : ℤ) → (eqb (cond (isNegative z) 1 0) 1 && eqb (size z) 0) ≡ false
 no-minus-zero (pos n) = refl
-no-minus-zero (negsuc n) = eqb-no (suc n) 0 (λ e. omega arith)
+no-minus-zero (negsuc n) = ne-eqb (suc n) 0 (λ e. omega arith)
 
 -- a step
 module _ (faces : ℕ) (seconds : List ℕ) (fluxes : List ℤ) (outsides : List ℕ) where

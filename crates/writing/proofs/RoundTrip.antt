@@ -5,12 +5,12 @@
 -- `step-joined`). Below them the same of the records alone (`mesh-read-back` and so on).
 --
 -- Writing undoes reading: the tables that a reader that accepted filled, written by a writer that accepts them, give the same bytes and
--- their length (`mesh-rejoined`, `field-rejoined`, `step-rejoined`). (`bytes` says that the list is one of bytes.)
+-- their length (`mesh-rejoined`, `field-rejoined`, `step-rejoined`); above them the same of the records alone. (`bytes` says that the list is one of bytes.)
 use Prim.Native.Nat.{ℕ, _≤_, _<_, min}
 use mathlib.Core.Path.{_≡_, sym, ap, _∙_}
-use mathlib.Core.List.{List, [], _++_}
+use mathlib.Core.List.{List, [], _++_, append-nil}
 use lib.IntN.{ℤ, pos}
-use lib.ListN.{length, getD, take, drop}
+use lib.ListN.{length, getD, take, drop, drop-of-length-le}
 use lib.Seq.{take-at}
 use Rattle.lists.specs.Table.{table, over}
 use Rattle.model.specs.Mesh.{Mesh, meshOf, volume, first, second, share, reach, maxCells, maxFaces}
@@ -21,7 +21,7 @@ use Rattle.model.proofs.Verdicts.{both-fine}
 use Rattle.model.proofs.Accepted.{counted}
 use Rattle.heads.specs.Layouts.{massOf, outsideOf, meshRecord, fieldRecord, stepRecord, meshLength, fieldLength, stepLength}
 use Rattle.heads.specs.Heads.{cellsIn, facesIn}
-use Rattle.reading.specs.Reading.{countsIn, volumesIn, firstsIn, secondsIn, sharesIn, reachesIn, massesIn, fluxesIn, outsidesIn, meshRead, fieldRead, stepRead}
+use Rattle.reading.specs.Reading.{meshIn, countsIn, volumesIn, firstsIn, secondsIn, sharesIn, reachesIn, massesIn, fluxesIn, outsidesIn, meshRead, fieldRead, stepRead}
 use Rattle.reading.specs.Answers.{meshSaid, MeshReading, FieldReading, StepReading}
 use Rattle.reading.specs.declared.Counts.{Counts}
 use Rattle.reading.specs.declared.MeshAnswer.{MeshAnswer}
@@ -184,18 +184,24 @@ step-joined M fluxes outsides {bytes} {bytes′} {r} {n} w e {us} {us′} {xs} {
       q .outsides-read ∙ ap (λ zs. over zs xs) (outsides-read-back M (p .0) (p .1) [] k (p .2) (p .3)),
     )
 
+-- a table that was written over none
+over-nil : {A : Type 0} (xs : List A) → over xs [] ≡ xs
+unfolding over
+over-nil {A} xs = let l : length {A = A} [] ≤ length xs = omega arith in ap (λ (ys : List A). xs ++ ys) (drop-of-length-le [] l) ∙ append-nil xs
+
 -- Writing undoes reading. Nothing is asked of the values here: they fit their fields, from which they were read. A writer asks 3 to 8.
 module _ (bs : List ℕ) (bytes : (j : ℕ) → getD bs j 0 < 256) where
-  pub mesh-written-back : {n : Counts} (mostCells mostFaces v f s w k : ℕ) → meshRead mostCells mostFaces bs v f s w k ≡ accepted n → (volumes firsts seconds shares reaches : List ℕ)
-      → meshRecord (meshOf (cellsIn bs) (facesIn bs) (over (volumesIn bs) volumes) (over (firstsIn bs) firsts) (over (secondsIn bs) seconds) (over (sharesIn bs) shares) (over (reachesIn bs) reaches)) ≡ bs
-  mesh-written-back mostCells mostFaces v f s w k e volumes firsts seconds shares reaches = mesh-again bs bytes (mesh-passed mostCells mostFaces bs v f s w k e) volumes firsts seconds shares reaches
+  pub mesh-written-back : {n : Counts} (mostCells mostFaces v f s w k : ℕ) → meshRead mostCells mostFaces bs v f s w k ≡ accepted n → meshRecord (meshIn bs) ≡ bs
+  mesh-written-back mostCells mostFaces v f s w k e =
+      rw (over-nil (volumesIn bs), over-nil (firstsIn bs), over-nil (secondsIn bs), over-nil (sharesIn bs), over-nil (reachesIn bs)) at
+      (mesh-again bs bytes (mesh-passed mostCells mostFaces bs v f s w k e) [] [] [] [] [])
 
-  pub field-written-back : (cells m : ℕ) → fieldRead cells bs m ≡ fine → (masses : List ℕ) → fieldRecord cells (over (massesIn bs cells) masses) ≡ bs
-  field-written-back cells m e masses = field-again cells bs bytes (field-passed cells bs m e) masses
+  pub field-written-back : (cells m : ℕ) → fieldRead cells bs m ≡ fine → fieldRecord cells (massesIn bs cells) ≡ bs
+  field-written-back cells m e = rw (over-nil (massesIn bs cells)) at (field-again cells bs bytes (field-passed cells bs m e) [])
 
-  pub step-written-back : (faces : ℕ) (seconds : List ℕ) (u x : ℕ) → stepRead faces seconds bs u x ≡ fine → (fluxes : List ℤ) (outsides : List ℕ)
-      → stepRecord faces seconds (over (fluxesIn bs faces) fluxes) (over (outsidesIn bs faces seconds) outsides) ≡ bs
-  step-written-back faces seconds u x e fluxes outsides = step-again faces seconds bs bytes (step-passed faces seconds bs u x e) fluxes outsides
+  pub step-written-back : (faces : ℕ) (seconds : List ℕ) (u x : ℕ) → stepRead faces seconds bs u x ≡ fine → stepRecord faces seconds (fluxesIn bs faces) (outsidesIn bs faces seconds) ≡ bs
+  step-written-back faces seconds u x e =
+      rw (over-nil (fluxesIn bs faces), over-nil (outsidesIn bs faces seconds)) at (step-again faces seconds bs bytes (step-passed faces seconds bs u x e) [] [])
 
   -- A writing of what was read: it answers the length of the record, and leaves its bytes.
   rewrote : {v : Verdict} {N : ℕ} {rec old new : List ℕ} {r : WriteAnswer} {k : ℕ} → Writing v N rec old r new → writeSaid r ≡ accepted k → rec ≡ bs → length rec ≡ N → (k ≡ length bs) × (new ≡ over bs old)

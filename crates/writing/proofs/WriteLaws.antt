@@ -4,7 +4,7 @@ use mathlib.Core.Path.{_≡_}
 use mathlib.Core.List.{List, []}
 use lib.ListN.{length}
 use lib.IntN.{ℤ}
-use Rattle.lists.proofs.Tests.{leb-le}
+use borrow.Author.Tests.{leb-true}
 use Rattle.model.specs.Mesh.{Mesh}
 use Rattle.model.specs.Causes.{Verdict, fine, _andThen_, each, long, counts, meshTables, meshValues, outsideGood, fluxGood, bytesLong, waterOf}
 use Rattle.model.specs.Answers.{told}
@@ -40,7 +40,7 @@ past-first v w e = rw (past v e)
 pub water-long : (n a b : ℕ) (w : Verdict) → (long 6 n a andThen long 7 n b andThen w) ≡ fine → (n ≤ a) × (n ≤ b)
 water-long n a b w e =
     let p = both-fine _ _ (both-fine _ _ e .0) in
-    (leb-le _ _ (need-fine 2 6 _ (p .0)), leb-le _ _ (need-fine 2 7 _ (p .1)))
+    (leb-true _ _ (need-fine 2 6 _ (p .0)), leb-true _ _ (need-fine 2 7 _ (p .1)))
 
 -- what a record that is put has passed
 pub mesh-whole : (M : Mesh) {bs : List ℕ} → meshWriteVerdict M (length bs) ≡ fine → MeshWhole M bs
@@ -55,7 +55,7 @@ mesh-whole M e =
       few-faces = n .few-faces;
       lent = mesh-lent M (d .1);
       fits = mesh-fits M (d .0) (a .1);
-      enough = leb-le _ _ (need-fine 2 11 _ (b .1));
+      enough = leb-true _ _ (need-fine 2 11 _ (b .1));
     }
 
 pub field-whole : (M : Mesh) (masses : List ℕ) {bs : List ℕ} → fieldWriteVerdict M masses (length bs) ≡ fine → FieldWhole (M .cells) masses bs
@@ -70,7 +70,7 @@ field-whole M masses e =
       few-cells = n .few-cells;
       masses-long = field-lent M masses (f .1);
       fits = field-fits (M .cells) masses (n .few-cells) (masses-fit M (b .1) masses (a .1));
-      enough = leb-le _ _ (need-fine 2 11 _ (d .1));
+      enough = leb-true _ _ (need-fine 2 11 _ (d .1));
     }
 
 module _ (M : Mesh) (fluxes : List ℤ) (outsides : List ℕ) where
@@ -88,11 +88,11 @@ module _ (M : Mesh) (fluxes : List ℤ) (outsides : List ℕ) where
       record {
         few-faces = n .few-faces;
         seconds-long = mesh-lent M (i .1) .seconds-long;
-        fluxes-long = leb-le _ _ (need-fine 2 6 _ (h .1));
-        outsides-long = leb-le _ _ (need-fine 2 7 _ (g .1));
+        fluxes-long = leb-true _ _ (need-fine 2 6 _ (h .1));
+        outsides-long = leb-true _ _ (need-fine 2 7 _ (g .1));
         fits = step-fits M (d .1) [] (waterOf fluxes outsides) (b .1) (a .1) (n .few-faces);
         outsides-fit = outsides-fit M (d .1) [] (waterOf fluxes outsides) (b .1) (a .1);
-        enough = leb-le _ _ (need-fine 2 11 _ (f .1));
+        enough = leb-true _ _ (need-fine 2 11 _ (f .1));
       }
 
   -- the causes of a step as the writer tests them: those that rest on nothing together

@@ -26,12 +26,12 @@ pub fn mesh(
         (meshOf cells faces (now (volumes .entry)) (now (firsts .entry)) (now (seconds .entry)) (now (shares .entry)) (now (reaches .entry)))
         room ⌝ }
 {
-    let lent = checks::lengths::mesh_lent(cells, faces, volumes, firsts, seconds, shares, reaches);
+    let lent = lent::mesh_lent(cells, faces, volumes, firsts, seconds, shares, reaches);
     if let Answer::Refused(r) = lent {
         return Answer::Refused(r);
     }
     let space = long(RECORD_BYTES, lengths::mesh_bytes(cells, faces), room);
-    let values = checks::mesh::values(cells, faces, volumes, firsts, seconds, shares, reaches);
+    let values = shape::values(cells, faces, volumes, firsts, seconds, shares, reaches);
     and_then(space, values)
 }
 
@@ -51,7 +51,7 @@ pub fn field(
         (meshOf cells faces (now (volumes .entry)) (now (firsts .entry)) (now (seconds .entry)) (now (shares .entry)) (now (reaches .entry)))
         (now (masses .entry)) room ⌝ }
 {
-    let lent = checks::lengths::field_lent(
+    let lent = lent::field_lent(
         cells,
         faces,
         volumes,
@@ -65,7 +65,7 @@ pub fn field(
         return Answer::Refused(r);
     }
     let space = long(RECORD_BYTES, lengths::field_bytes(cells), room);
-    let values = checks::mesh::values(cells, faces, volumes, firsts, seconds, shares, reaches);
+    let values = shape::values(cells, faces, volumes, firsts, seconds, shares, reaches);
     let fit = and_then(space, values);
     if let Answer::Refused(r) = fit {
         return Answer::Refused(r);
@@ -90,7 +90,7 @@ pub fn step(
         (meshOf cells faces (now (volumes .entry)) (now (firsts .entry)) (now (seconds .entry)) (now (shares .entry)) (now (reaches .entry)))
         (now (fluxes .entry)) (now (outsides .entry)) room ⌝ }
 {
-    let lent = checks::lengths::mesh_lent(cells, faces, volumes, firsts, seconds, shares, reaches);
+    let lent = lent::mesh_lent(cells, faces, volumes, firsts, seconds, shares, reaches);
     if let Answer::Refused(r) = lent {
         return Answer::Refused(r);
     }
@@ -100,7 +100,7 @@ pub fn step(
     if let Answer::Refused(r) = tables {
         return Answer::Refused(r);
     }
-    let mesh = checks::mesh::values(cells, faces, volumes, firsts, seconds, shares, reaches);
-    let values = checks::water::values(faces, seconds, reaches, fluxes, outsides);
+    let mesh = shape::values(cells, faces, volumes, firsts, seconds, shares, reaches);
+    let values = water::values(faces, seconds, reaches, fluxes, outsides);
     and_then(mesh, values)
 }

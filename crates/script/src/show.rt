@@ -1,0 +1,87 @@
+// What a program prints of a call: words, numbers and tables.
+use crate::input::BYTES_ROOM;
+use crate::input::Fault;
+use crate::input::Input;
+use crate::input::ROOM;
+use libc::STDOUT_FILENO;
+ghost use Prim.Native.Nat.{_≤_};
+ghost use lib.ListN.{length};
+
+pub fn word(text: &[u8]) {
+    io::write_all(STDOUT_FILENO, text);
+}
+
+pub fn number(n: u64) {
+    word(b" ");
+    io::print_decimal(STDOUT_FILENO, n);
+}
+
+fn amount(z: i64) {
+    word(b" ");
+    if signed::is_negative(z) {
+        word(b"-");
+    }
+    io::print_decimal(STDOUT_FILENO, signed::size(z));
+}
+
+fn octet(b: u8) {
+    number(b as u64);
+}
+
+// The first n entries of a table.
+pub fn numbers(title: &[u8], n: usize, xs: &[u64; ROOM]) {
+    word(title);
+    let mut i = 0;
+    while i < n {
+        if i < xs.len() {
+            number(xs[i]);
+        }
+        i += 1;
+    }
+}
+
+pub fn amounts(title: &[u8], n: usize, xs: &[i64; ROOM]) {
+    word(title);
+    let mut i = 0;
+    while i < n {
+        if i < xs.len() {
+            amount(xs[i]);
+        }
+        i += 1;
+    }
+}
+
+pub fn octets(title: &[u8], n: usize, xs: &[u8; BYTES_ROOM]) {
+    word(title);
+    let mut i = 0;
+    while i < n {
+        if i < xs.len() {
+            octet(xs[i]);
+        }
+        i += 1;
+    }
+}
+
+fn reason(fault: Fault) {
+    match fault {
+        Fault::Nothing => word(b"nothing"),
+        Fault::Strange => word(b"not a number"),
+        Fault::TooLarge => word(b"too large"),
+        Fault::NoCall => word(b"no such call"),
+        Fault::Sign => word(b"a minus where none may stand"),
+        Fault::LongTable => word(b"a table too long"),
+        Fault::LongCall => word(b"a call too long"),
+        Fault::Cut => word(b"the input ends within a call"),
+    }
+}
+
+// What is wrong with a script, and where it was seen.
+pub fn bad(fault: Fault, input: Input) {
+    word(b"bad input: line");
+    number(input.line);
+    word(b", byte");
+    number(input.byte);
+    word(b": ");
+    reason(fault);
+    word(b"\n");
+}

@@ -1,0 +1,405 @@
+#!/usr/bin/env python3
+"""Scripts of calls for the program calls, from a seed.
+
+script(seed, number) gives the same script for the same numbers: calls of every name, on valid lagoons and on damaged
+ones, with tables shorter and longer than the counts, values at the edges of their ranges, and text that is no script.
+Script 0 of every seed holds the largest tables and records.
+"""
+
+import argparse
+import random
+from collections import Counter, namedtuple
+
+import generate
+import lagoon
+from lagoon import FLUXES, MASSES, MOVED, NEXT, OUTSIDES, RIM, SECONDS, TOP, VOLUMES, WORK
+from script import CALLS, spell
+
+Script = namedtuple("Script", "kinds text")
+
+GREATEST = (1 << 64) - 1
+LEAST, MOST = -(1 << 63), (1 << 63) - 1
+NAMES = [name for name, _ in CALLS.values()]
+OFTEN = NAMES + ["step"] * 4            # most of the arithmetic is in a step
+CELLS, FACES = lagoon.LIBRARY_LIMITS
+COUNTS = [0, 1, CELLS - 1, CELLS, CELLS + 1, FACES, FACES + 1, 1 << 16, 1 << 63, GREATEST]
+
+# Values at the edges of each table's range, by position.
+EDGES = {
+    VOLUMES: [0, 1, 4095, 4096, GREATEST],
+    lagoon.FIRSTS: [0, 1, 4094, 4095, 4096, GREATEST],
+    SECONDS: [0, 1, 4094, 4095, 4096, GREATEST],
+    lagoon.SHARES: [0, 1, 255, 256, GREATEST],
+    lagoon.REACHES: [0, 1, 4095, 4096, GREATEST],
+    MASSES: [0, 4095 * (TOP + 1) - 1, 4095 * (TOP + 1), 1 << 32, GREATEST],
+    FLUXES: [0, 1, -1, 4095, -4095, 4096, -4096, MOST, LEAST],
+    OUTSIDES: [0, 1, TOP, TOP + 1, GREATEST],
+    NEXT: [7, GREATEST],
+    MOVED: [-7, LEAST, MOST],
+    WORK: [7, GREATEST],
+}
+
+
+# ---------------------------------------------------------------- Tables
+
+def pick_size(rng, large):
+    """Cells, most and least faces of a lagoon."""
+    if large:
+        return rng.choice([(CELLS, FACES, FACES), (CELLS, FACES, 0), (2, FACES, FACES), (CELLS, 0, 0), (1, FACES, 0)])
+    cells = rng.choice([1, 2, 3, rng.randint(1, 8), rng.randint(1, 8), rng.randint(4, 20)])
+    return cells, 40, 0
+
+
+class Lent:
+    """Counts and the eleven tables of a step, valid until damaged."""
+
+    def __init__(self, rng, large=False):
+        self.rng = rng
+        self.lag = generate.Lagoon(rng, pick_size(rng, large))
+        self.cells, self.faces = len(self.lag.volumes), len(self.lag.faces)
+        columns = [[row[i] for row in self.lag.faces] for i in range(4)]
+        raw = self.lag.raw_step(rng)
+        fluxes = [-size if sign else size for sign, size in zip(raw.signs, raw.sizes)]
+        self.tables = [list(self.lag.volumes), *columns, list(self.lag.masses), fluxes, list(raw.outsides),
+                       [7] * self.cells, [-7] * self.faces, [7] * (4 * self.cells + self.faces)]
+
+    def need(self, position):
+        if position == WORK:
+            return 4 * self.cells + self.faces
+        return self.cells if position in (VOLUMES, MASSES, NEXT) else self.faces
+
+    def damage(self, positions, kinds):
+        """One damage to the tables at these positions, or to the counts."""
+        rng = self.rng
+        kind = rng.choice(["short", "short", "value", "value", "value", "counts", "near", "near", "flow"])
+        position = rng.choice(positions)
+        table = self.tables[position]
+        if kind == "short":
+            table = self.tables[rng.choice([p for p in positions if self.tables[p]] or [position])]
+            del table[rng.choice([0, len(table) - 1, len(table) - 1, rng.randint(0, len(table))]):]
+        elif kind == "counts":
+            if rng.random() < 0.5:
+                self.cells = rng.choice(COUNTS + [self.cells + 1, max(0, self.cells - 1)])
+            else:
+                self.faces = rng.choice(COUNTS + [self.faces + 1, max(0, self.faces - 1)])
+        elif kind == "value" and table:
+            table[rng.randrange(len(table))] = rng.choice(EDGES[position])
+        elif kind == "near":
+            self.near(rng, position)
+        elif kind == "flow" and FLUXES in positions and self.faces == len(self.lag.faces):
+            self.flow(rng)
+        kinds.append(f"{kind} {position}" if kind != "counts" else kind)
+
+    def near(self, rng, position):
+        """A value just within or just past what the other tables allow."""
+        mesh = self.tables
+        table = mesh[position]
+        if not table:
+            return
+        i = rng.randrange(len(table))
+        if position == MASSES and i < len(mesh[VOLUMES]):
+            table[i] = mesh[VOLUMES][i] * (TOP + 1) - rng.randint(0, 1)
+        elif position == FLUXES and i < min(len(mesh[SECONDS]), len(mesh[4])):
+            most = 4095 if mesh[SECONDS][i] == RIM else mesh[4][i]
+            table[i] = rng.choice([-1, 1]) * (most + rng.randint(0, 1))
+        elif position in (1, SECONDS):
+            table[i] = rng.choice([self.cells, self.cells - 1 if self.cells else 0, 4094])
+        elif position == OUTSIDES:
+            table[i] = rng.choice([1, TOP, TOP + 1])
+
+    def flow(self, rng):
+        """Balanced water with outflow above a cell's volume, or water out of balance by one."""
+        if rng.random() < 0.6:
+            self.tables[FLUXES] = self.lag.flow(rng, rng.choice([1, 5, 4095]))
+            self.tables[OUTSIDES] = self.lag.outsides(rng, self.tables[FLUXES])
+        elif self.tables[FLUXES]:
+            face = rng.randrange(len(self.tables[FLUXES]))
+            flux = self.tables[FLUXES][face]
+            self.tables[FLUXES][face] = flux + (1 if flux < 0 else -1)
+
+    def lengthen(self, positions):
+        """Entries past the counts, which nobody tests or touches."""
+        for position in positions:
+            extra = self.rng.choice([0, 0, 1, 3])
+            self.tables[position] += [self.rng.choice(EDGES[position]) for _ in range(extra)]
+
+
+def tables_for(rng, positions, large, kinds):
+    lent = Lent(rng, large)
+    if rng.random() < 0.5:
+        lent.lengthen(positions)
+        kinds.append("longer tables")
+    for _ in range(rng.choice([0, 0, 1, 1, 2])):
+        lent.damage(positions, kinds)
+    if not large and rng.random() < 0.25:
+        lent = one_short(rng, rng.choice(positions), kinds)
+    return lent
+
+
+def one_short(rng, position, kinds):
+    """A valid lagoon with one table an entry too short."""
+    lent = Lent(rng)
+    while lent.need(position) == 0:
+        lent = Lent(rng)
+    del lent.tables[position][lent.need(position) - 1:]
+    kinds.append(f"one short {position}")
+    return lent
+
+
+# ---------------------------------------------------------------- Calls
+
+def counts_within(rng, large, kinds):
+    cells, faces = rng.choice(COUNTS), rng.choice(COUNTS)
+    return (rng.choice(COUNTS + [cells, cells]), rng.choice(COUNTS + [faces, faces]), cells, faces)
+
+def on_mesh(positions):
+    def make(rng, large, kinds):
+        lent = tables_for(rng, positions, large, kinds)
+        return (lent.cells, lent.faces, *(lent.tables[position] for position in positions))
+    return make
+
+def on_cells(rng, large, kinds):
+    lent = tables_for(rng, (VOLUMES, MASSES), large, kinds)
+    return lent.cells, lent.tables[VOLUMES], lent.tables[MASSES]
+
+def room_for(rng, need, kinds):
+    room = rng.choice(["enough", "enough", "more", "more", "short by one", "short", "none"])
+    kinds.append("room " + room)
+    return [0xA5] * {"enough": need, "more": need + rng.randint(1, 9), "short by one": max(0, need - 1),
+                     "short": rng.randrange(need + 1), "none": 0}[room]
+
+def writer(positions, length):
+    def make(rng, large, kinds):
+        lent = tables_for(rng, positions, large, kinds)
+        need = length(lent)
+        room = room_for(rng, need if need <= 60_000 else 64, kinds)
+        return (lent.cells, lent.faces, *(lent.tables[position] for position in positions), room)
+    return make
+
+def raw_records(rng, large, kinds, damages):
+    """The raw records of a lagoon, one of them damaged as a rule, and the lagoon."""
+    lag = generate.Lagoon(rng, pick_size(rng, large))
+    mesh, field, step = lag.raw_mesh(), lag.raw_field(), lag.raw_step(rng)
+    for _ in range(rng.choice([0, 1, 1, 2])):
+        damage = rng.choice(damages)
+        raw = mesh if damage in generate.MESH_DAMAGE else field if damage in generate.FIELD_DAMAGE else step
+        if raw.cut is None and damage(rng, lag, raw) is not False:
+            kinds.append(damage.__name__)
+    for raw in (mesh, field, step):
+        if rng.random() < 0.08:
+            raw.tail = rng.choice([b"\0", rng.randbytes(2)])
+    return lag, mesh, field, step
+
+def spoilt(rng, record):
+    return list(generate.spoil(rng, record)[1] if rng.random() < 0.1 else record)
+
+def filled(rng, need, value, kinds):
+    """A table to be filled: as long as it has to be, longer, or too short."""
+    length = rng.choice([need, need, need + 1, need + 3, max(0, need - 1), rng.randint(0, need)])
+    kinds.append("short table" if length < need else "longer table" if length > need else "exact table")
+    return [value] * length
+
+def limits_for(rng, cells, faces):
+    return rng.choice([(CELLS, FACES), (CELLS, FACES), (CELLS, FACES), (1023, 2046), (cells, faces), (GREATEST, GREATEST),
+                       (max(0, cells - 1), faces), (cells, max(0, faces - 1)), (rng.choice(COUNTS), rng.choice(COUNTS))])
+
+def mesh_of(rng, large, kinds):
+    lag, mesh, _, _ = raw_records(rng, large, kinds, generate.MESH_DAMAGE)
+    if rng.random() < 0.1:
+        mesh.count = FACES + 1
+    return len(lag.volumes), len(lag.faces), mesh.bytes()
+
+def mesh_length(rng, large, kinds):
+    cells, faces, record = mesh_of(rng, False, kinds)
+    return (*limits_for(rng, cells, faces), spoilt(rng, record[:rng.choice([4, 4, 5, len(record)])]))
+
+def read_mesh(rng, large, kinds):
+    cells, faces, record = mesh_of(rng, large, kinds)
+    tables = [filled(rng, faces if i else cells, 7, kinds) if rng.random() < 0.3 else [7] * (faces if i else cells)
+              for i in range(5)]
+    return (*limits_for(rng, cells, faces), spoilt(rng, record), *tables)
+
+def field_of(rng, large, kinds):
+    lag, _, field, _ = raw_records(rng, large, kinds, generate.FIELD_DAMAGE)
+    cells = len(lag.volumes)
+    if rng.random() < 0.1:
+        field.cells, cells = 0, 0
+    elif rng.random() < 0.1:
+        cells = rng.choice(COUNTS + [cells + 1])
+    return cells, field.bytes(), len(lag.volumes)
+
+def field_length(rng, large, kinds):
+    cells, record, _ = field_of(rng, False, kinds)
+    return cells, spoilt(rng, record[:rng.choice([2, 2, 3, len(record)])])
+
+def read_field(rng, large, kinds):
+    cells, record, need = field_of(rng, large, kinds)
+    return cells, spoilt(rng, record), filled(rng, need, 7, kinds)
+
+def step_of(rng, large, kinds):
+    lag, _, _, step = raw_records(rng, large, kinds, generate.STEP_DAMAGE)
+    faces, seconds = len(lag.faces), [row[1] for row in lag.faces]
+    if rng.random() < 0.1:
+        step.count = faces = FACES + 1
+    elif rng.random() < 0.1:
+        faces = rng.choice(COUNTS + [faces + 1])
+    change = rng.choice(["none", "none", "none", "longer", "short", "other"])
+    if change == "longer":
+        seconds += [rng.choice(EDGES[SECONDS])]
+    elif change == "short":
+        seconds = seconds[:-1]
+    elif change == "other" and seconds:
+        seconds[rng.randrange(len(seconds))] = rng.choice([RIM, 0, GREATEST])
+    kinds.append("seconds " + change)
+    return faces, seconds, step.bytes(), len(lag.faces)
+
+def step_length(rng, large, kinds):
+    faces, seconds, record, _ = step_of(rng, False, kinds)
+    return faces, seconds, spoilt(rng, record[:rng.choice([4, 4, 5, len(record)])])
+
+def read_step(rng, large, kinds):
+    faces, seconds, record, need = step_of(rng, large, kinds)
+    return faces, seconds, spoilt(rng, record), filled(rng, need, -7, kinds), filled(rng, need, 7, kinds)
+
+def number_at(rng, large, kinds):
+    record = list(rng.randbytes(rng.choice([0, 1, 5, 6, 9, 30])))
+    bits = 8 * len(record)
+    width = rng.choice([0, 1, 4, 8, 12, 13, 20, 32, 39, 40, 41, rng.choice([64, GREATEST])])
+    last = max(0, bits - width)
+    bit = rng.choice([0, last, last, rng.randint(0, last), rng.randint(0, last), last + 1,
+                      rng.choice([bits, bits + 1, 1 << 32, (1 << 32) + 1, GREATEST])])
+    return record, bit, width
+
+def lagoon_step(rng, large, kinds):
+    case = generate.call(rng.getrandbits(32), 40 if large else rng.choice([1, 1, 2, 3]) + 4 * rng.randrange(200))
+    kinds.extend(case.kinds)
+    return list(case.mesh), list(case.field), list(case.step), [0xA5] * case.room
+
+
+MESH_TABLES = (0, 1, 2, 3, 4)
+FIELD_TABLES = (*MESH_TABLES, MASSES)
+STEP_TABLES = tuple(range(11))
+MAKE = {
+    "counts_within": counts_within,
+    "check_mesh": on_mesh(MESH_TABLES),
+    "check_field": on_mesh(FIELD_TABLES),
+    "check_cells": on_cells,
+    "check_step": on_mesh(STEP_TABLES),
+    "total": on_cells,
+    "step": on_mesh(STEP_TABLES),
+    "mesh_length": mesh_length,
+    "field_length": field_length,
+    "step_length": step_length,
+    "read_mesh": read_mesh,
+    "read_field": read_field,
+    "read_step": read_step,
+    "write_mesh": writer(MESH_TABLES, lambda lent: lagoon.mesh_length(lent.cells, lent.faces)),
+    "write_field": writer(FIELD_TABLES, lambda lent: lagoon.field_length(lent.cells)),
+    "write_step": writer((*MESH_TABLES, FLUXES, OUTSIDES),
+                         lambda lent: lagoon.step_length(lent.faces, lent.tables[SECONDS])),
+    "number_at": number_at,
+    "board": on_cells,
+    "lagoon_step": lagoon_step,
+}
+
+
+# ---------------------------------------------------------------- Text
+
+def loosened(rng, text):
+    """The same numbers with other blanks, comments and zeros in front."""
+    words = text.split()
+    for i, word in enumerate(words):
+        if rng.random() < 0.1 and word.isdigit():
+            words[i] = "0" * rng.randint(1, 3) + word
+    return "".join(word + rng.choice([" ", " ", "\n", "\t", "\r\n", " # note 12\n", "# 7 -\n"]) for word in words)
+
+def broken(rng, text):
+    """Text that is no script, somewhere in it."""
+    words = text.split()
+    at = rng.randrange(len(words))
+    kind = rng.choice(["strange", "large", "minus", "call", "long table", "cut", "cut", "signed"])
+    if kind == "strange":
+        words[at] = rng.choice(["x", "1.5", "+3", "-", "--4", "3-4", "0x10", "7,"])
+    elif kind == "large":
+        words[at] = rng.choice([str(GREATEST + 1), "1" + "0" * 25])
+    elif kind == "minus":
+        words[at] = "-" + words[at].lstrip("-")
+    elif kind == "call":
+        words[0] = rng.choice(["0", "20", "-1", str(GREATEST)])
+    elif kind == "long table":
+        words[min(3, len(words) - 1)] = rng.choice(["24577", "65537", str(GREATEST)])
+    elif kind == "signed":
+        words[at] = rng.choice([str(LEAST), str(LEAST - 1), str(MOST), str(MOST + 1)])
+    else:
+        words = words[:at]
+    return kind, " ".join(words) + rng.choice(["", "\n", " "])
+
+
+# ---------------------------------------------------------------- Scripts
+
+FULL = 4095 * (TOP + 1) - 1         # the most that a cell of the greatest volume may hold
+
+def largest():
+    """The largest counts with the greatest values: records written and read back, and every call on tables."""
+    volumes, masses = [4095] * CELLS, [FULL] * CELLS
+    rim = ([0] * FACES, [RIM] * FACES, [0] * FACES, [0] * FACES)
+    mesh = lagoon.Mesh(volumes, *rim)
+    pool = lagoon.Mesh([4095], *rim)
+    inflow, outsides = [-4095] * FACES, [TOP] * FACES
+    still, none = [0] * FACES, [0] * FACES
+    lent = ([7] * (CELLS + 1), [-7] * (FACES + 1), [7] * (4 * CELLS + FACES + 1))
+    mesh_record, field_record = lagoon.pack_mesh(mesh), lagoon.pack_field(masses)
+    step_record = lagoon.pack_step(pool, inflow, outsides)
+    return "".join([
+        "# the largest records, written and read back\n",
+        spell("write_mesh", CELLS, FACES, *mesh, [170] * (len(mesh_record) + 1)),
+        spell("mesh_length", CELLS, FACES, mesh_record),
+        spell("read_mesh", CELLS, FACES, mesh_record, *([7] * (len(column) + 1) for column in mesh)),
+        spell("write_field", CELLS, 0, volumes, [], [], [], [], masses, [170] * len(field_record)),
+        spell("read_field", CELLS, field_record, [7] * CELLS),
+        spell("write_step", 1, FACES, *pool, inflow, outsides, [170] * len(step_record)),
+        spell("step_length", FACES, pool.seconds, step_record),
+        spell("read_step", FACES, pool.seconds, step_record, [-7] * FACES, [7] * FACES),
+        "# the largest tables\n",
+        spell("check_mesh", CELLS, FACES, *mesh),
+        spell("check_field", CELLS, FACES, *mesh, masses),
+        spell("total", CELLS, volumes, masses),
+        spell("board", CELLS, volumes, masses),
+        spell("check_step", CELLS, FACES, *mesh, masses, still, none, *lent),
+        spell("step", CELLS, FACES, *mesh, masses, still, none, *lent),
+        spell("step", 1, FACES, *pool, [0], inflow, outsides, *lent),
+        "# more numbers than a call may have\n",
+        spell("check_field", 1, 1, *([0] * 24_576 for _ in range(6))),
+    ])
+
+def script(seed, number):
+    """A script: as a rule eight calls, the first of them taken in turn from all."""
+    if number == 0:
+        return Script(("largest",), largest().encode())
+    rng = random.Random(f"script {seed} {number}")
+    large = number % 200 == 100
+    names = [NAMES[number % len(NAMES)]] + [rng.choice(OFTEN) for _ in range(0 if large else 7)]
+    kinds, calls = [], []
+    for name in names:
+        calls.append(spell(name, *MAKE[name](rng, large, kinds)))
+        if rng.random() < 0.1:
+            calls[-1] = loosened(rng, calls[-1])
+            kinds.append("loose text")
+    if number % 5 == 4:
+        kind, calls[-1] = broken(rng, calls[-1])
+        kinds.append("text: " + kind)
+    return Script(tuple(dict.fromkeys(kinds + (["large"] if large else []))), "".join(calls).encode())
+
+
+def main():
+    parser = argparse.ArgumentParser(description=__doc__, formatter_class=argparse.RawDescriptionHelpFormatter)
+    parser.add_argument("many", type=int, help="how many scripts are made and counted by kind")
+    parser.add_argument("seed", type=int, nargs="?", default=1, help="the seed (1)")
+    options = parser.parse_args()
+    made = Counter(kind for number in range(options.many) for kind in script(options.seed, number).kinds)
+    for name, count in sorted(made.items()):
+        print(f"  {count:6} {name}")
+
+
+if __name__ == "__main__":
+    main()

@@ -1,0 +1,315 @@
+#!/usr/bin/env python3
+"""A script of calls, answered by the reference: what the program calls prints.
+
+docs/CALLS.md has the form of a script. Numbers stand in CALLS with the names and the kinds of their arguments:
+n a number, t a table, s a table of signed numbers, b bytes.
+"""
+
+import argparse
+import re
+import sys
+
+import lagoon as right_lagoon
+
+CALLS = {
+    1: ("counts_within", "nnnn"),
+    2: ("check_mesh", "nnttttt"),
+    3: ("check_field", "nntttttt"),
+    4: ("check_cells", "ntt"),
+    5: ("check_step", "nnttttttsttst"),
+    6: ("total", "ntt"),
+    7: ("step", "nnttttttsttst"),
+    8: ("mesh_length", "nnb"),
+    9: ("field_length", "nb"),
+    10: ("step_length", "ntb"),
+    11: ("read_mesh", "nnbttttt"),
+    12: ("read_field", "nbt"),
+    13: ("read_step", "ntbst"),
+    14: ("write_mesh", "nntttttb"),
+    15: ("write_field", "nnttttttb"),
+    16: ("write_step", "nntttttstb"),
+    17: ("number_at", "bnn"),
+    18: ("board", "ntt"),
+    19: ("lagoon_step", "bbbb"),
+}
+NUMBER_OF = {name: number for number, (name, _) in CALLS.items()}
+
+MOST_NUMBERS = 120_000          # a call has fewer, its own number not counted
+ROOM = {"t": 24_576, "s": 24_576, "b": 65_536}
+WORD = 1 << 64
+SKIPPED = re.compile(rb"(?:[ \t\r\n]+|#[^\n]*)*")
+SPELLED = re.compile(rb"(-?)([0-9]*)")
+ENDED = re.compile(rb"[ \t\r\n#]|\Z")
+
+
+class Fault(Exception):
+    """What is wrong with a script, and the byte at which it is seen."""
+
+    def __init__(self, reason, at):
+        super().__init__(reason, at)
+        self.reason, self.at = reason, at
+
+
+# ---------------------------------------------------------------- Reading a script
+
+class Reader:
+    """A script's text and the byte that reading has come to."""
+
+    def __init__(self, text):
+        self.text, self.at = text, 0
+
+    def number(self):
+        """The next number as (minus, size), None at the end."""
+        self.at = SKIPPED.match(self.text, self.at).end()
+        if self.at == len(self.text):
+            return None
+        spelled = SPELLED.match(self.text, self.at)
+        minus, digits = spelled.groups()
+        size = int(digits or b"0")
+        if size >= WORD:
+            raise Fault("too large", spelled.start(2) + self.too_many(digits))
+        self.at = spelled.end()
+        if not digits or not ENDED.match(self.text, self.at):
+            raise Fault("not a number", self.at)
+        return minus == b"-", size
+
+    def too_many(self, digits):
+        """The first digit with which a number is too large."""
+        return next(i for i in range(len(digits)) if int(digits[:i + 1]) >= WORD)
+
+    def within_call(self, count):
+        if count == MOST_NUMBERS:
+            raise Fault("a call too long", self.at)
+        found = self.number()
+        if found is None:
+            raise Fault("the input ends within a call", self.at)
+        return found
+
+    def unsigned(self, found, most=WORD - 1, reason="too large"):
+        minus, size = found
+        if minus:
+            raise Fault("a minus where none may stand", self.at)
+        if size > most:
+            raise Fault(reason, self.at)
+        return size
+
+    def entry(self, kind, found):
+        if kind == "s":
+            value = -found[1] if found[0] else found[1]
+            if not -WORD // 2 <= value < WORD // 2:
+                raise Fault("too large", self.at)
+            return value
+        return self.unsigned(found, 255 if kind == "b" else WORD - 1)
+
+    def call(self):
+        """The next call as (name, arguments), None at the end."""
+        found = self.number()
+        if found is None:
+            return None
+        number = self.unsigned(found)
+        if number not in CALLS:
+            raise Fault("no such call", self.at)
+        name, kinds = CALLS[number]
+        values, count = [], 0
+        for kind in kinds:
+            value = self.unsigned(self.within_call(count), ROOM.get(kind, WORD - 1),
+                                  "too large" if kind == "n" else "a table too long")
+            count += 1
+            if kind != "n":
+                entries = []
+                for _ in range(value):
+                    entries.append(self.entry(kind, self.within_call(count)))
+                    count += 1
+                value = bytearray(entries) if kind == "b" else entries
+            values.append(value)
+        if count == MOST_NUMBERS:
+            raise Fault("a call too long", self.at)
+        return name, values
+
+
+# ---------------------------------------------------------------- The calls
+
+class Engine:
+    """Each call by its name: gives its values and changes the tables that it fills, or raises the reference's Refusal."""
+
+    def __init__(self, lagoon):
+        self.lagoon = lagoon
+
+    def lengths(self, tables):
+        return {position: len(table) for position, table in tables.items()}
+
+    def mesh_of(self, cells, faces, tables):
+        """Causes 1 to 5, with cause 2 for all the tables that are lent; the counted part of the mesh."""
+        L = self.lagoon
+        L.judge_counts(cells, faces, L.LIBRARY_LIMITS)
+        needs = {**L.mesh_needs(cells, faces), L.MASSES: cells}
+        L.judge_lengths(self.lengths(tables), {position: needs[position] for position in tables})
+        mesh = L.counted_mesh(cells, faces, tables)
+        L.judge_mesh(mesh)
+        return mesh
+
+    def counts_within(self, most_cells, most_faces, cells, faces):
+        self.lagoon.judge_counts(cells, faces, (most_cells, most_faces))
+        return ()
+
+    def check_mesh(self, cells, faces, *tables):
+        self.mesh_of(cells, faces, dict(enumerate(tables)))
+        return ()
+
+    def check_field(self, cells, faces, *tables):
+        mesh = self.mesh_of(cells, faces, dict(enumerate(tables)))
+        self.lagoon.judge_field(mesh, tables[self.lagoon.MASSES][:cells])
+        return ()
+
+    def check_cells(self, cells, volumes, masses):
+        self.lagoon.board_on_tables(cells, volumes, masses)
+        return ()
+
+    def total(self, cells, volumes, masses):
+        self.check_cells(cells, volumes, masses)
+        return (sum(masses[:cells]),)
+
+    def board(self, cells, volumes, masses):
+        return self.lagoon.board_on_tables(cells, volumes, masses)
+
+    def check_step(self, cells, faces, *tables):
+        self.lagoon.step_on_tables(cells, faces, [list(table) for table in tables])
+        return ()
+
+    def step(self, cells, faces, *tables):
+        return self.lagoon.step_on_tables(cells, faces, tables)
+
+    def limits(self, cells, faces):
+        """Limits that a caller sets do not widen document 01's."""
+        most = self.lagoon.LIBRARY_LIMITS
+        return min(cells, most[0]), min(faces, most[1])
+
+    def mesh_length(self, most_cells, most_faces, record):
+        L = self.lagoon
+        return (L.mesh_length(*L.mesh_head(record, self.limits(most_cells, most_faces))),)
+
+    def field_length(self, cells, record):
+        L = self.lagoon
+        L.field_head(record, cells, L.LIBRARY_LIMITS)
+        return (L.field_length(cells),)
+
+    def step_length(self, faces, seconds, record):
+        L = self.lagoon
+        L.step_head(record, faces, seconds, L.LIBRARY_LIMITS)
+        return (L.step_length(faces, seconds),)
+
+    def read_mesh(self, most_cells, most_faces, record, *tables):
+        mesh = self.lagoon.read_mesh(record, self.limits(most_cells, most_faces), self.lengths(dict(enumerate(tables))))
+        for table, column in zip(tables, mesh):
+            table[:len(column)] = column
+        return len(mesh.volumes), len(mesh.firsts)
+
+    def read_field(self, cells, record, masses):
+        L = self.lagoon
+        masses[:cells] = L.read_field(record, cells, lengths={L.MASSES: len(masses)})
+        return ()
+
+    def read_step(self, faces, seconds, record, fluxes, outsides):
+        L = self.lagoon
+        lent = {L.FLUXES: len(fluxes), L.OUTSIDES: len(outsides)}
+        fluxes[:faces], outsides[:faces] = L.read_step(record, faces, seconds, lengths=lent)
+        return ()
+
+    def put(self, record, room):
+        room[:len(record)] = record
+        return (len(record),)
+
+    def write_mesh(self, cells, faces, *lent):
+        *tables, room = lent
+        return self.put(self.lagoon.write_mesh(cells, faces, dict(enumerate(tables)), len(room)), room)
+
+    def write_field(self, cells, faces, *lent):
+        *tables, room = lent
+        return self.put(self.lagoon.write_field(cells, faces, dict(enumerate(tables)), len(room)), room)
+
+    def write_step(self, cells, faces, *lent):
+        L = self.lagoon
+        *mesh, fluxes, outsides, room = lent
+        tables = {**dict(enumerate(mesh)), L.FLUXES: fluxes, L.OUTSIDES: outsides}
+        return self.put(L.write_step(cells, faces, tables, len(room)), room)
+
+    def number_at(self, record, bit, width):
+        spelled = self.lagoon.number_at(record, bit, width)
+        return None if spelled is None else (spelled,)
+
+    def lagoon_step(self, mesh, field, step, room):
+        number, record = self.lagoon.host_step(bytes(mesh), bytes(field), bytes(step), len(room))
+        if record is not None:
+            self.put(record, room)
+        return number
+
+
+# ---------------------------------------------------------------- What is printed
+
+# The tables that a call may change, by their place among its arguments.
+CHANGED = {
+    "step": {10: "next", 11: "moved", 12: "work"},
+    "read_mesh": {3: "volumes", 4: "firsts", 5: "seconds", 6: "shares", 7: "reaches"},
+    "read_field": {2: "masses"},
+    "read_step": {3: "fluxes", 4: "outsides"},
+    "write_mesh": {7: "bytes"},
+    "write_field": {8: "bytes"},
+    "write_step": {9: "bytes"},
+    "lagoon_step": {3: "next"},
+}
+
+
+def spaced(values):
+    return "".join(f" {value}" for value in values)
+
+
+def answered(engine, name, arguments):
+    """The answer of one call in words."""
+    try:
+        values = getattr(engine, name)(*arguments)
+    except engine.lagoon.Refusal as refusal:
+        words = f" refused {refusal.cause} {refusal.place}"
+        return words + "; used 0; entries" + " 0" * 24 if name == "board" else words
+    if name == "lagoon_step":
+        return f" {values}"
+    if values is None:
+        return " past"
+    if name == "board":
+        used = min(8, arguments[0])
+        return f" accepted; used {used}; entries" + spaced(part for entry in values for part in entry)
+    return " accepted" + spaced(values)
+
+
+def line(engine, name, arguments):
+    words = f"{name}:" + answered(engine, name, arguments)
+    for place, title in CHANGED.get(name, {}).items():
+        words += f"; {title}" + spaced(arguments[place])
+    return words + "\n"
+
+
+def answer(text, lagoon=right_lagoon):
+    """What calls prints of a script."""
+    reader, engine, lines = Reader(text), Engine(lagoon), []
+    try:
+        while call := reader.call():
+            lines.append(line(engine, *call))
+    except Fault as fault:
+        number = 1 + text.count(b"\n", 0, fault.at)
+        lines.append(f"bad input: line {number}, byte {fault.at}: {fault.reason}\n")
+    return "".join(lines)
+
+
+# ---------------------------------------------------------------- Writing a script
+
+def spell(name, *arguments):
+    """A call as a script has it."""
+    words = [str(NUMBER_OF[name])]
+    for kind, value in zip(CALLS[NUMBER_OF[name]][1], arguments, strict=True):
+        words.append(str(value) if kind == "n" else " ".join(map(str, [len(value), *value])))
+    return "  ".join(words) + "\n"
+
+
+if __name__ == "__main__":
+    argparse.ArgumentParser(description=__doc__ + "\nReads a script from standard input and prints the answers.",
+                            formatter_class=argparse.RawDescriptionHelpFormatter).parse_args()
+    sys.stdout.write(answer(sys.stdin.buffer.read()))

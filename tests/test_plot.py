@@ -1,0 +1,167 @@
+#!/usr/bin/env python3
+"""tools/plot.py: the pictures' points worked out again from their axes, bands, refusals, profiles, tables, and bad options.
+
+    python3 tests/test_plot.py
+"""
+
+import csv
+import xml.etree.ElementTree as xml
+
+from toolcase import CHANNEL, ROOT, RUN, TIDE, breaks, command, equal, folder, holds, interrupted, known, refuses, run_all
+
+import lagoon
+import plot
+import sessiontext
+
+SVG = "{http://www.w3.org/2000/svg}"
+CONCENTRATION, TOTAL, RATES = "Concentration q after each step", "Total of all masses", "In-mass and out-mass of each step"
+
+
+def picture(*arguments, data):
+    status, out, said = command("plot.py", *arguments, data=data)
+    equal((status, said), (0, ""), f"{arguments}")
+    panels = [panel for panel in xml.fromstring(out).iter(f"{SVG}g") if panel.get("class") == "panel"]
+    return {panel.find(f"{SVG}title").text: panel for panel in panels}, out.decode()
+
+
+def heights(panel):
+    """What a height of the panel means, from the labels of its axis."""
+    labels = sorted((int(text.text.replace(",", "")), float(text.get("y")) - 4) for text in panel.iter(f"{SVG}text")
+                    if text.get("text-anchor") == "end")
+    power = {"thousand": 10 ** 9, "millions": 10 ** 6, "thousands": 10 ** 3}
+    unit = next(text.text for text in panel.iter(f"{SVG}text") if "rotate" in text.get("transform", ""))
+    (low, low_y), (high, high_y) = labels[0], labels[-1]
+    return lambda y: power.get(unit.split()[0], 1) * (low + (y - low_y) * (high - low) / (high_y - low_y))
+
+
+def drawn(panel, kind="line", shape="polyline"):
+    """The values of each line of a panel, worked out again from its points and the labels of its axis."""
+    value, lines = heights(panel), {}
+    for group in panel.iter(f"{SVG}g"):
+        if group.get("class") == kind:
+            points = [point.split(",") for point in group.find(f"{SVG}{shape}").get("points").split()]
+            lines[group.find(f"{SVG}title").text] = [value(float(y)) for _, y in points]
+    return lines
+
+
+def near(actual, expected, within, what):
+    equal(len(actual), len(expected), f"{what}, number of points")
+    for got, wanted in zip(actual, expected):
+        holds(abs(got - wanted) <= within, f"{what}: {got:.1f} near {wanted}")
+
+
+def marks(panel):
+    return [path.find(f"{SVG}title").text for path in panel.iter(f"{SVG}path")]
+
+
+def test_the_channel():
+    for data in (CHANNEL.encode(), sessiontext.pack(CHANNEL)[0]):
+        panels, _ = picture("--run", RUN, data=data)
+        cells = drawn(panels[CONCENTRATION])
+        equal(list(cells), ["cell 0", "cell 1", "cell 2"], "cells drawn")
+        near(cells["cell 0"], [1000, 1000, 1000], 1, "cell 0")
+        near(cells["cell 1"], [0, 499, 811], 1, "cell 1")
+        near(cells["cell 2"], [0, 0, 187], 1, "cell 2")
+        near(drawn(panels[TOTAL])["total"], [100000, 150000, 200000], 100, "total")
+        near(drawn(panels[RATES])["in"], [50000, 50000], 100, "in-mass")
+        near(drawn(panels[RATES])["out"], [0, 0], 100, "out-mass")
+
+
+def test_the_tide():
+    """The stored picture is that of its session: 49 steps, of which the 25th is refused."""
+    panels, out = picture("--cells", "0-7", "--title", "A lagoon between sea and river: two tides", data=TIDE.encode())
+    equal(out == (ROOT / "docs" / "tide.svg").read_text(), True, "docs/tide.svg is what tools/plot.py makes with these options")
+    equal([len(values) for values in drawn(panels[CONCENTRATION]).values()], [50] * 8, "points of the cells")
+    total = drawn(panels[TOTAL])["total"]
+    equal(total[24], total[25], "the total before and after the refused step")
+    equal(marks(panels[TOTAL]), ["step 25 refused: cell 0: 300 enters, 299 leaves (cause 9)", "1 refused"], "crosses")
+    holds("g per m3" in out and "1 step refused by cause 9: a cell whose inflow and outflow differ" in out, "unit and cause")
+    panels, _ = picture("--every", "20", data=TIDE.encode())
+    equal([len(values) for values in drawn(panels[CONCENTRATION]).values()], [4] * 8, "points of every 20th step and the last")
+
+
+def test_bands():
+    """A long session is drawn as bands whose edges are the least and greatest of each column of pixels; refusals are ticks."""
+    start = TIDE.index("step times 10")
+    data, _ = sessiontext.pack(TIDE[:start] + TIDE[start:] * 40)
+    panels, out = picture("--cells", "0,3", data=data)
+    lines = [line.split() for line in lagoon.run(data).splitlines() if line[0] != "B"]
+    totals = []
+    for line in lines:
+        totals.append(totals[-1] if line[1] == "R" else int(line[3]))
+    columns = {}
+    for step, total in enumerate(totals):
+        columns.setdefault(min(int(step * plot.PLOT / (len(totals) - 1)), plot.PLOT - 1), []).append(total)
+    edges = [max(columns[column]) for column in sorted(columns)] + [min(columns[column]) for column in sorted(columns, reverse=True)]
+    near(drawn(panels[TOTAL], "band", "polygon")["total"], edges, max(totals) / 500, "the band of the total")
+    equal(drawn(panels[TOTAL]), {}, "no line beside the band")
+    mean = drawn(panels[TOTAL], "band", "polyline")["total"]
+    holds(len(mean) == plot.PLOT // plot.MEAN_OVER and abs(mean[-1] - sum(totals[-1000:]) / 1000) < max(totals) / 20, f"the mean, {mean[-1]}")
+    equal(len(marks(panels[TOTAL])), 41, "a tick for each refused step, and one in the legend")
+    equal(marks(panels[TOTAL])[0], "step 25 refused: cell 0: 300 enters, 299 leaves (cause 9)", "its cause")
+    holds("40 refused" in out and len(out) < 200_000, f"{len(out)} bytes")
+
+
+def test_profile_and_table():
+    with folder() as made:
+        panels, _ = picture("--profile", "0,2,last", "--csv", f"{made}/q.csv", "--cells", "1", data=TIDE.replace("mesh", "name cell 1 Bay\nmesh", 1).encode())
+        with open(f"{made}/q.csv") as file:
+            rows = list(csv.reader(file))
+    profiles = drawn(panels["Concentration q over the cells"])
+    equal(list(profiles), ["after step 0", "after step 2", "after step 49"], "steps drawn")
+    near(profiles["after step 0"], [35000, 30000, 20000, 10000, 5000, 0, 0, 0], 200, "the first field")
+    equal(list(drawn(panels[CONCENTRATION])), ["1 Bay"], "the cell's name")
+    equal(rows[0], ["step", "q cell 1 (Bay)", "total", "in", "out", "cause"], "heading of the table")
+    equal([rows[1][:3], rows[-1][0], rows[26][5], len(rows)], [["0", "30000", "245000000"], "49", "9", 51], "its rows")
+    lines = [line.split() for line in lagoon.run(sessiontext.pack(TIDE)[0]).splitlines() if line[0] != "B"]
+    equal([row[3:5] + [row[2]] for row in rows[1:] if not row[5]], [line[1:] for line in lines if line[1] != "R"], "in, out and total")
+
+
+def test_titles():
+    """Any title makes a picture that can be read as XML: long, with control characters, with signs of XML, empty."""
+    for title in ("long " * 80, "wide" * 100, "\x1b[31mred\x07", "<b>&amp;\"'", "", "塩" * 90, "\udcff"):
+        panels, out = picture("--title", title, data=CHANNEL.encode())
+        lines = [text.text or "" for text in xml.fromstring(out).iter(f"{SVG}text") if text.get("font-size") == "18"]
+        holds(1 <= len(lines) <= 2 and all(plot.wide(line) <= plot.LINE_WIDE for line in lines), f"{title[:20]!r}: {lines}")
+
+
+def test_an_engine_that_differs():
+    data, _ = sessiontext.pack(CHANNEL)
+    with folder() as made:
+        program = f"{made}/run"
+        with open(program, "w") as file:
+            file.write("#!/bin/sh\ncat > /dev/null\necho 0 0 0 100000\n")
+        (ROOT / program).chmod(0o755)
+        refuses("line 2 of", "plot.py", "--run", program, data=data)
+
+
+def test_no_picture():
+    data, _ = sessiontext.pack(CHANNEL)
+    for arguments, given, words in (([], data[:20], "plot.py: the mesh is refused: the input ends in this mesh record, which needs 31 bytes and has 20 (cause 11)"),
+                                    ([], data[:31] + b"\x10" + data[32:], "plot.py: the field is refused: kind 0001 in binary"),
+                                    ([], b"mesh\ncell 0 volume x\n", "plot.py: <stdin>:2:15: a volume should be"),
+                                    ([], CHANNEL.replace("cell 1 mass 0", "cell 1 mass 100000100").encode(), "the field is refused: cell 1: mass 100,000,100"),
+                                    (["--cells", "3"], data, "plot.py: --cells: the mesh has cells 0 to 2, not '3'"),
+                                    (["--cells", "0-99999999999"], data, "--cells: the mesh has cells 0 to 2"),
+                                    (["--cells", "9" * 5000], data, "--cells: the mesh has cells 0 to 2"),
+                                    (["--cells", ""], data, "--cells: '' is neither a cell"), (["--cells", "2-1"], data, "'2-1' is no range"),
+                                    (["--cells", "0,x"], data, "plot.py: --cells: 'x' is neither"), (["--profile", "3"], data, "there is no step 3, the last is 2"),
+                                    (["--profile", "x"], data, "'x' is neither a step nor 'last'"), (["--profile", ""], data, "'' is neither a step"),
+                                    (["--csv", "-"], data, "cannot both be on standard output")):
+        refuses(words, "plot.py", *arguments, data=given)
+    for value in ("0", "x", "9" * 5000):
+        refuses("a whole number from 1", "plot.py", "--every", value, data=data, status=2)
+    equal(picture(data=data[:45])[0].keys(), {CONCENTRATION, TOTAL}, "a session without steps")
+
+
+def test_the_command():
+    known("plot.py")
+    breaks("plot.py", ROOT / "examples" / "channel.txt")
+    interrupted("plot.py")
+    channel = ROOT / "examples" / "channel.txt"
+    refuses("is read", "plot.py", channel, "-o", channel)
+    refuses("nowhere: No such file", "plot.py", "nowhere")
+
+
+if __name__ == "__main__":
+    run_all(globals(), "tools/plot.py")

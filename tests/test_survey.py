@@ -1,0 +1,101 @@
+#!/usr/bin/env python3
+"""tools/survey.py on the bay's tables and on bad ones; and docs/SURVEY-TO-SESSION.md, whose commands are run and print what it shows.
+
+    python3 tests/test_survey.py            tests
+    python3 tests/test_survey.py --write    puts into the page what its commands print
+"""
+
+import re
+import subprocess
+import sys
+
+from toolcase import ROOT, breaks, command, equal, folder, holds, interrupted, known, refuses, run_all, session_of
+
+PAGE = ROOT / "docs" / "SURVEY-TO-SESSION.md"
+CELLS, FACES = ROOT / "examples" / "bay-cells.csv", ROOT / "examples" / "bay-faces.csv"
+COMMANDS = 8
+
+
+def printed(block):
+    """A block with each command followed by what it prints, standard error included."""
+    lines = []
+    for line in block.splitlines():
+        if line.startswith("$ "):
+            done = subprocess.run(["bash", "-c", line[2:]], cwd=ROOT, stdout=subprocess.PIPE, stderr=subprocess.STDOUT, check=False)
+            equal(done.returncode, 0, f"{PAGE.name}: {line}\n{done.stdout.decode()}")
+            lines += [line, *done.stdout.decode().splitlines()]
+    return "".join(line + "\n" for line in lines)
+
+
+def worked(page):
+    return re.sub(r"(?<=^```\n)\$ .*?(?=^```$)", lambda found: printed(found[0]), page, flags=re.MULTILINE | re.DOTALL)
+
+
+def test_the_page():
+    page = PAGE.read_text()
+    equal(len(re.findall(r"^\$ ", page, re.MULTILINE)), COMMANDS, "commands of the page")
+    again = worked(page)
+    for number, (has, wanted) in enumerate(zip(page.splitlines(), again.splitlines()), 1):
+        equal(has, wanted, f"{PAGE.name}:{number}, shown and printed")
+    equal(again, page, "the page with what its commands print")
+    svg = (ROOT / "target" / "bay" / "bay.svg").read_text()
+    holds(all(name in svg for name in ("North basin", "River mouth", "g per m3")), "names and units in the picture")
+
+
+def whole(cells, faces, *options, wanted=0):
+    with folder() as made:
+        for name, text in (("cells", cells), ("faces", faces)):
+            with open(f"{made}/{name}", "w") as file:
+                file.write(text)
+        status, out, said = command("survey.py", f"{made}/cells", f"{made}/faces", *options)
+    equal(status, wanted, said)
+    return out.decode(), said
+
+
+TWO = "cell,volume,salt\na,1000,35000\nb,400,100.5\n"
+ONE = "face,from,to,area,way,distance\nf,a,b,10,30,40\ng,b,rim,,,\n"
+
+
+def test_figures():
+    """Volumes, shares, reaches and masses by the formulas of the page, with the unit given and with the unit chosen."""
+    text, said = whole(TWO, ONE, "--volume-unit", "2", "--salt-unit", "0.5")
+    session = session_of(text.encode())
+    equal((session.mesh.volumes, [tuple(face) for face in session.mesh.faces], session.masses),
+          ([500, 200], [(0, 1, 192, 200), (1, 4095, 0, 0)], [35000000, 40200]), "mesh and field")
+    equal((session.labels.of("cell", 1), session.labels.of("face", 1), session.labels.units), ("cell 1 (b)", "face 1 (g)", {"volume": "2 m3", "mass": "1 g"}), "labels")
+    holds("--outside-factor 2" in said and "--factor 0.5 times the seconds" in said, said)
+    for volume, unit in ((4095, 1), (4096, 2), (8191, 5), (20475, 5), (20476, 10)):
+        text, _ = whole(TWO.replace("1000", str(volume)), ONE)
+        holds(text.startswith(f"unit volume {unit} m3\n"), f"the unit for {volume}: {text[:20]}")
+    equal(whole(TWO.replace(",", ";").replace("100.5", "100,5"), ONE, "--volume-unit", "2")[0], whole(TWO, ONE, "--volume-unit", "2")[0], "semicolons")
+
+
+def test_bad_surveys():
+    for cells, faces, words in (("", ONE, "should have one column 'cell'"), (TWO.replace("salt", "sand"), ONE, "should have one column 'salt'"),
+                                ("cell,volume,salt\n", ONE, "no row under the heading"), (TWO.replace("\nb", "\na"), ONE, ":3: a second cell called 'a'"),
+                                (TWO.replace("400", "x"), ONE, ":3: volume should be a number above 0, not 'x'"),
+                                (TWO.replace("400", "0"), ONE, "volume should be a number above 0"), (TWO.replace("400", "0.1"), ONE, "take a smaller unit of volume"),
+                                (TWO.replace("35000", "2000000"), ONE, "take a larger unit of salt"), (TWO, ONE.replace("a,b", "a,c"), ":2: to: 'c' is no cell"),
+                                (TWO, ONE.replace("a,b", "rim,b"), "is no cell (the rim stands second)"), (TWO, ONE.replace("a,b", "a,a"), "it joins cell 0 to itself"),
+                                (TWO, ONE.replace("30,40", "40,40"), "should be less than the distance"), (TWO, ONE.replace("10,30", ",30"), "area should be a number"),
+                                (TWO, ONE.replace("10,30", "nan,30"), "area should be a number"), (TWO.replace("\nb", "\n\x1b#"), ONE, r"should be a name, not '\x1b#'")):
+        _, said = whole(cells, faces, wanted=1)
+        holds(words in said and said.count("\n") == 1, f"'{words}' should be in '{said}'")
+    _, said = whole(TWO, ONE, "--volume-unit", "0.2", wanted=1)
+    holds("take a larger unit of volume" in said, said)
+
+
+def test_the_command():
+    known("survey.py")
+    breaks("survey.py", CELLS, FACES)
+    interrupted("survey.py", CELLS, "-")
+    refuses("is read", "survey.py", CELLS, FACES, "-o", FACES)
+    refuses("nowhere: No such file", "survey.py", "nowhere", FACES)
+    refuses("a number above 0, not 'x'", "survey.py", CELLS, FACES, "--volume-unit", "x", status=2)
+
+
+if __name__ == "__main__":
+    if "--write" in sys.argv:
+        PAGE.write_text(worked(PAGE.read_text()))
+    else:
+        run_all(globals(), "tools/survey.py and docs/SURVEY-TO-SESSION.md")

@@ -1,0 +1,210 @@
+#!/usr/bin/env python3
+"""A survey's tables to a lagoon: mesh and field in whole units, from CSV files of the cells and of the faces."""
+
+import argparse
+import csv
+import io
+import math
+import sys
+
+import causes
+import command
+from command import Bad, count, shown
+from layout import MASS_BITS, RIM, Face, mesh_of, most
+from sessiontext import face_line
+
+HELP = """\
+Both tables are CSV with a heading; other columns are not read.
+
+  cells   cell (its name), volume (cubic metres), salt (grams per cubic metre)
+  faces   face (its name), from, to (names of cells; to is "rim" at the sea or a river), area (square metres),
+          way (metres from the first cell's centre to the face), distance (metres from centre to centre)
+
+Cells and faces are numbered in the order of their rows. What is written is text for tools/records.py, without steps:
+
+  V      volume divided by the unit of volume, to the nearest whole number, 1 to 4,095
+  share  256 times way divided by distance, 1 to 255
+  reach  area times distance divided by the unit of volume, 1 to 4,095
+  mass   V times the salt in units of salt; so q is the salt that was measured, in those units
+
+The unit of volume, unless given, is the least of 1, 2, 5, 10, 20, .. cubic metres with which every V and reach fits. The
+unit of salt is 1 gram per cubic metre unless given (0.1 makes q ten times finer; the greatest q is 1,000,000). The unit
+of mass is their product. The report says what rounding changed, and the factors that tools/fluxes.py needs.
+
+examples:
+  tools/survey.py examples/bay-cells.csv examples/bay-faces.csv -o bay.txt
+  tools/survey.py cells.csv faces.csv --volume-unit 250 --salt-unit 0.1 -o lagoon.txt
+"""
+
+LARGEST_UNIT = 10 ** 12
+
+
+class Rows:
+    """The rows of a table by the words of its heading."""
+
+    def __init__(self, path, wanted):
+        self.path = path
+        try:
+            with command.opened(path) as file:
+                text = file.read().decode("utf-8-sig", "replace")
+            comma = ";" if ";" in text.partition("\n")[0] else ","
+            rows = list(csv.reader(io.StringIO(text), delimiter=comma))
+        except csv.Error as error:
+            raise Bad(f"{path}: {error}") from None
+        heading = [words.strip().lower() for words in rows[0]] if rows else []
+        for words in wanted:
+            if heading.count(words) != 1:
+                raise Bad(f"{path}:1: the heading should have one column '{words}'")
+        self.comma, self.at = comma, {words: heading.index(words) for words in wanted}
+        self.rows = [(line, row) for line, row in enumerate(rows, 1) if line > 1 and any(word.strip() for word in row)]
+        if not self.rows:
+            raise Bad(f"{path}: there is no row under the heading")
+
+    def word(self, line, row, column):
+        return row[self.at[column]].strip() if self.at[column] < len(row) else ""
+
+    def name(self, line, row, column):
+        word = self.word(line, row, column)
+        if not word or "#" in word or not word.isprintable():
+            raise Bad(f"{self.path}:{line}: {column} should be a name, not {shown(word)}")
+        return " ".join(word.split())
+
+    def number(self, line, row, column, least=0.0):
+        word = self.word(line, row, column)
+        try:
+            value = float(word.replace(",", ".") if self.comma == ";" else word)
+        except ValueError:
+            value = math.nan
+        if not least <= value <= LARGEST_UNIT or "_" in word:
+            raise Bad(f"{self.path}:{line}: {column} should be a number{' above 0' if least else ''}, not {shown(word)}")
+        return value
+
+
+LEAST = 1e-9                    # a length, area or volume that counts as above 0
+
+
+class Survey:
+    """What was measured."""
+
+    def __init__(self, cells, faces):
+        self.names, self.volumes, self.salts = [], [], []
+        for line, row in cells.rows:
+            name = cells.name(line, row, "cell")
+            if name in self.names or name == "rim":
+                raise Bad(f"{cells.path}:{line}: a second cell called {shown(name)}" if name != "rim" else f"{cells.path}:{line}: 'rim' is no cell's name")
+            self.names.append(name)
+            self.volumes.append(cells.number(line, row, "volume", LEAST))
+            self.salts.append(cells.number(line, row, "salt"))
+        self.faces = [self.face(faces, line, row) for line, row in faces.rows]
+
+    def face(self, faces, line, row):
+        """Name, first, second, way over distance and area times distance."""
+        name = faces.name(line, row, "face")
+        first, second = self.cell(faces, line, row, "from"), self.cell(faces, line, row, "to")
+        if second == RIM:
+            return name, first, RIM, 0, 0
+        way, distance = faces.number(line, row, "way", LEAST), faces.number(line, row, "distance", LEAST)
+        if way >= distance:
+            raise Bad(f"{faces.path}:{line}: the way {way:g} to the face should be less than the distance {distance:g}")
+        return name, first, second, way / distance, faces.number(line, row, "area", LEAST) * distance
+
+    def cell(self, faces, line, row, column):
+        name = faces.name(line, row, column)
+        if name == "rim" and column == "to":
+            return RIM
+        if name not in self.names:
+            raise Bad(f"{faces.path}:{line}: {column}: {shown(name)} is no cell" + (" (the rim stands second)" if name == "rim" else ""))
+        return self.names.index(name)
+
+
+def chosen_unit(survey):
+    """The least round unit of volume with which every volume and reach fits."""
+    largest = max(survey.volumes + [face[4] for face in survey.faces])
+    unit = 1
+    while largest / unit > causes.MOST_VOLUME:
+        unit = unit * 5 // 2 if str(unit)[0] == "2" else unit * 2
+    return unit
+
+
+class Lagoon:
+    """The survey in whole units, and by how much that changed it."""
+
+    def __init__(self, survey, unit, salt_unit):
+        self.survey, self.unit, self.salt_unit, self.changed = survey, unit, salt_unit, {"volume": 0.0, "reach": 0.0}
+        volumes = [self.whole("volume", value, f"cell {shown(name)}") for name, value in zip(survey.names, survey.volumes)]
+        faces = []
+        for name, first, second, share, reach in survey.faces:
+            if second == RIM:
+                faces.append(Face(first, RIM, 0, 0))
+            else:
+                faces.append(Face(first, second, min(max(round(256 * share), 1), causes.MOST_SHARE), self.whole("reach", reach, f"face {shown(name)}")))
+        self.mesh = mesh_of(volumes, faces)
+        self.masses = [round(volume * salt / salt_unit) for volume, salt in zip(volumes, survey.salts)]
+        for name, salt, mass, volume in zip(survey.names, survey.salts, self.masses, volumes):
+            if mass // volume > causes.TOP or mass > most(MASS_BITS):
+                raise Bad(f"cell {shown(name)}: salt {salt:g} is a concentration above {causes.TOP:,}: take a larger unit of salt")
+        refusal = causes.mesh_refusal(self.mesh)
+        if refusal:
+            raise Bad(f"the run would refuse this mesh: {causes.told(refusal)}")
+
+    def whole(self, what, value, where):
+        found = round(value / self.unit)
+        if not 1 <= found <= causes.MOST_VOLUME:
+            size = "larger" if found else "smaller"
+            raise Bad(f"{where}: {what} {value:g} is {value / self.unit:.4g} units, outside 1 to {causes.MOST_VOLUME:,}: take a {size} unit of volume")
+        self.changed[what] = max(self.changed[what], abs(found * self.unit - value) / value)
+        return found
+
+    def text(self):
+        survey, unit = self.survey, self.unit
+        lines = [f"unit volume {unit:g} m3", f"unit mass {unit * self.salt_unit:g} g"]
+        lines += [f"name cell {cell} {name}" for cell, name in enumerate(survey.names)]
+        lines += [f"name face {face} {row[0]}" for face, row in enumerate(survey.faces)]
+        lines += ["", "mesh"] + [f"cell {cell} volume {volume}" for cell, volume in enumerate(self.mesh.volumes)]
+        lines += [face_line(number, face) for number, face in enumerate(self.mesh.faces)]
+        lines += ["", "field"] + [f"cell {cell} mass {mass}" for cell, mass in enumerate(self.masses)]
+        return "\n".join(lines) + "\n"
+
+    def report(self):
+        mesh = self.mesh
+        return [f"{count(len(mesh.volumes), 'cell')}, {count(len(mesh.faces), 'face')} ({len(mesh.rim):,} at the rim); a unit of volume is {self.unit:g} m3, "
+                f"of mass {self.unit * self.salt_unit:g} g, of concentration {self.salt_unit:g} g/m3",
+                f"made whole, a volume is changed by {100 * self.changed['volume']:.3g} % at most, a reach by {100 * self.changed['reach']:.3g} %",
+                f"for fluxes.py: --factor {1 / self.unit:.8g} times the seconds of a step, where the table has m3/s"
+                + (f"; --outside-factor {1 / self.salt_unit:.8g}" if self.salt_unit != 1 else "")]
+
+
+def amount(text):
+    try:
+        value = float(text)
+    except ValueError:
+        value = math.nan
+    if not LEAST <= value <= LARGEST_UNIT:
+        raise argparse.ArgumentTypeError(f"a number above 0, not {shown(text)}")
+    return value
+
+
+def arguments():
+    parser = command.parser("survey.py", __doc__, HELP)
+    parser.add_argument("cells", help="the table of the cells, CSV")
+    parser.add_argument("faces", help="the table of the faces, CSV")
+    parser.add_argument("-o", "--output", default="-", help="the text to write (default: standard output)")
+    parser.add_argument("--volume-unit", type=amount, metavar="M3", help="the unit of volume in cubic metres (default: the least round one that fits)")
+    parser.add_argument("--salt-unit", type=amount, default=1, metavar="G", help="the unit of concentration in grams per cubic metre (default: 1)")
+    return parser.parse_args()
+
+
+def main():
+    options = arguments()
+    command.apart(options.output, options.cells, options.faces)
+    if options.cells == options.faces == "-":
+        raise Bad("only one of the two can be standard input")
+    survey = Survey(Rows(options.cells, ("cell", "volume", "salt")), Rows(options.faces, ("face", "from", "to", "area", "way", "distance")))
+    lagoon = Lagoon(survey, options.volume_unit or chosen_unit(survey), options.salt_unit)
+    command.write_whole(options.output, lagoon.text().encode())
+    command.say("\n".join(lagoon.report()))
+    return 0
+
+
+if __name__ == "__main__":
+    sys.exit(command.finish("survey.py", main))
