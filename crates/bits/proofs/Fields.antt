@@ -2,10 +2,11 @@
 use mathlib.Core.Path.{_≡_, refl, sym, ap, _∙_}
 use mathlib.Core.List.{List}
 use Prim.Native.Nat.{ℕ, zero, suc, _+_, _-_, _*_, _/_, _%_, _^_, _≤_, _<_}
-use native.Mathlib.Nat.{pow-suc, pow-zero, mul-assoc, add-zero, mod-lt, add-suc, mod-one, zero-div, lt-of-lt-of-le}
+use native.Mathlib.Nat.{pow-suc, pow-zero, mul-assoc, add-zero, add-assoc, mod-lt, add-suc, mod-one, zero-div, lt-of-lt-of-le}
 use native.Mathlib.Numerals.{add-one}
 use native.Mathlib.Omega.{arith}
-use lib.ListN.{length, getD, List·getD-eq-default}
+use lib.ListN.{length, getD, drop, List·getD-eq-default}
+use lib.Seq.{getD-drop}
 use lib.Pow.{pow-mono, mod-pow-add, shr-shr, high}
 use Rattle.bits.specs.Field.{bitAt, bitsAt}
 
@@ -68,3 +69,33 @@ bits-bit bs at w i l =
     let a : bitsAt bs at w ≡ bitsAt bs at (suc i) * 2 ^ k + bitsAt bs (at + suc i) k = ap (λ (j : ℕ). bitsAt bs at j) (sym e) ∙ bits-split bs at (suc i) k in
     let b : bitsAt bs at w / 2 ^ k ≡ bitsAt bs at (suc i) = ap (λ (j : ℕ). j / 2 ^ k) a ∙ high (bitsAt bs at (suc i)) k (bits-lt bs (at + suc i) k) in
     rw b (omega (arith, bit-lt bs (at + i)))
+
+-- a field of one bit is that bit
+pub one-bit : (bs : List ℕ) (i : ℕ) → bitsAt bs i 1 ≡ bitAt bs i
+unfolding bitsAt
+one-bit bs i = rw (add-zero i) (omega arith)
+
+-- a field of 0 has no bit set, and a field without one is 0
+pub zero-bits : (bs : List ℕ) (at w : ℕ) → bitsAt bs at w ≡ 0 → (i : ℕ) → at ≤ i → i < at + w → bitAt bs i ≡ 0
+zero-bits bs at w e i l m =
+    let p : at + (i - at) ≡ i = omega arith in
+    ap (λ (k : ℕ). bitAt bs k) (sym p) ∙ sym (bits-bit bs at w (i - at) (omega arith)) ∙ ap (λ (x : ℕ). x / 2 ^ (w - suc (i - at)) % 2) e
+    ∙ ap (λ (x : ℕ). x % 2) (zero-div (2 ^ (w - suc (i - at))))
+
+pub zero-field : (bs : List ℕ) (at w : ℕ) → ((i : ℕ) → at ≤ i → i < at + w → bitAt bs i ≡ 0) → bitsAt bs at w ≡ 0
+unfolding bitsAt
+zero-field bs at zero h = refl
+zero-field bs at (suc w) h = rw (zero-field bs at w (λ i l m. h i l (omega arith)), h (at + w) (omega arith) (omega arith))
+
+-- fields of the bytes from byte n on
+bit-drop : (n : ℕ) (bs : List ℕ) (i : ℕ) → bitAt (drop n bs) i ≡ bitAt bs (8 * n + i)
+unfolding bitAt
+bit-drop n bs i =
+    let e : (8 * n + i) / 8 ≡ n + i / 8 = omega arith in
+    let m : (8 * n + i) % 8 ≡ i % 8 = omega arith in
+    rw (getD-drop n bs (i / 8) 0, e, m)
+
+pub bits-drop : (n : ℕ) (bs : List ℕ) (at w : ℕ) → bitsAt (drop n bs) at w ≡ bitsAt bs (8 * n + at) w
+unfolding bitsAt
+bits-drop n bs at zero = refl
+bits-drop n bs at (suc w) = rw (bits-drop n bs at w, bit-drop n bs (at + w), add-assoc (8 * n) at w)

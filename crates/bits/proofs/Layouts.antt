@@ -33,34 +33,25 @@ pub length-packed : (fs : List Field) → length (packed fs) ≡ bytesFor (width
 unfolding packed
 length-packed fs = length-table _ _
 
+-- whole bytes hold the bits, and 7 more at most
+pub bytes-hold : (n : ℕ) → n ≤ 8 * bytesFor n
+unfolding bytesFor
+bytes-hold n = omega arith
+
+pub bytes-most : (n : ℕ) → 8 * bytesFor n ≤ n + 7
+unfolding bytesFor
+bytes-most n = omega arith
+
 pub width-append : (a b : List Field) → widthOf (a ++ b) ≡ widthOf a + widthOf b
 unfolding widthOf
 width-append [] b = sym (zero-add (widthOf b))
 width-append (f ∷ a) b = omega (arith, width-append a b)
-
-pub width-rows : (n : ℕ) (g : ℕ → List Field) → widthOf (rows n g) ≡ sum n (λ i. widthOf (g i))
-unfolding widthOf rows sum
-width-rows zero g = refl
-width-rows (suc n) g = omega (arith, width-append (rows n g) (g n), width-rows n g)
 
 -- rows of one width
 pub width-rows-of : (w n : ℕ) (g : ℕ → List Field) → ((i : ℕ) → i < n → widthOf (g i) ≡ w) → widthOf (rows n g) ≡ n * w
 unfolding widthOf rows
 width-rows-of w zero g h = omega arith
 width-rows-of w (suc n) g h = omega (arith, width-append (rows n g) (g n), width-rows-of w n g (λ i l. h i (omega arith)), h n (omega arith))
-
-pub rows-more : (n : ℕ) (g : ℕ → List Field) → rows (n + 1) g ≡ rows n g ++ g n
-unfolding rows
-rows-more n g = rw (add-one n)
-
--- a writer's next row
-pub rows-next : (head : List Field) (n : ℕ) (g : ℕ → List Field) → head ++ rows n g ++ g n ≡ head ++ rows (n + 1) g
-rows-next head n g = rw (rows-more n g) (append-assoc head (rows n g) (g n))
-
-pub rows-cong : (n : ℕ) (g h : ℕ → List Field) → ((i : ℕ) → i < n → g i ≡ h i) → rows n g ≡ rows n h
-unfolding rows
-rows-cong zero g h e = refl
-rows-cong (suc n) g h e = rw (rows-cong n g h (λ i l. e i (omega arith)), e n (omega arith))
 
 -- bits
 
@@ -243,10 +234,6 @@ stands-row (suc n) g i {p} {w} {v} l s = go (eq-or-lt-of-le (le-of-suc-le-suc l)
     go (inl e) ih = let t : Stands (g n) p w v = rw e at s in rw e (stands-right (rows n g) t)
     go (inr m) ih = stands-left (g n) (ih m)
 
--- rows of k bits each
-pub stands-row-of : (k n : ℕ) (g : ℕ → List Field) (i : ℕ) {p w v : ℕ} → ((j : ℕ) → j < n → widthOf (g j) ≡ k) → i < n → Stands (g i) p w v → Stands (rows n g) (i * k + p) w v
-stands-row-of k n g i h l s = rw (width-rows-of k i g (λ j m. h j (omega arith))) at (stands-row n g i l s)
-
 pub read-packed : (fs : List Field) {p q w v : ℕ} → Stands fs p w v → q ≡ p → v < 2 ^ w → bitsAt (packed fs) q w ≡ v
 read-packed fs {p} {q} {w} {v} s e l =
     let at : q ≡ widthOf (s .ahead) = e ∙ sym (s .place) in
@@ -254,11 +241,3 @@ read-packed fs {p} {q} {w} {v} s e l =
     (number-of-bits (packed fs) (widthOf (s .ahead)) w v
     (λ i m. packed-bit fs (widthOf (s .ahead) + i) ∙ ap (λ (t : List Field). getD (bitsOf t) (widthOf (s .ahead) + i) 0) (s .whole) ∙ field-bit (s .ahead) (s .rest) w v i m)
     ∙ mod-eq-of-lt l)
-
--- the same, with the fields ahead and after written out, and for row i of rows between a head and a tail
-pub read-field : (pre post : List Field) (w v : ℕ) → v < 2 ^ w → bitsAt (packed (pre ++ field w v ∷ post)) (widthOf pre) w ≡ v
-read-field pre post w v l = read-packed (pre ++ field w v ∷ post) (record { ahead = pre; rest = post; whole = refl; place = refl }) refl l
-
-pub read-row : (head tail : List Field) (n : ℕ) (g : ℕ → List Field) (i : ℕ) {p w v : ℕ} → i < n → Stands (g i) p w v → v < 2 ^ w
-    → bitsAt (packed (head ++ (rows n g ++ tail))) (widthOf head + (widthOf (rows i g) + p)) w ≡ v
-read-row head tail n g i l s b = read-packed _ (stands-right head (stands-left tail (stands-row n g i l s))) refl b

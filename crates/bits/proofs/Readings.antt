@@ -11,16 +11,12 @@ use Rattle.bits.specs.Field.{bitAt, bitsAt}
 use Rattle.bits.specs.Layout.{Field, field, spelled, bitsOf, widthOf, bytesFor, packed, rows}
 use Rattle.bits.proofs.Fields.{bits-bit, bit-past}
 use Rattle.bits.proofs.Puts.{same-bits}
-use Rattle.bits.proofs.Layouts.{length-spelled, spelled-bit, length-bits, length-packed, packed-lt, packed-bit, width-rows-of}
+use Rattle.bits.proofs.Layouts.{length-spelled, spelled-bit, length-bits, length-packed, packed-lt, packed-bit}
 
 -- each field's value is what the bits at its place spell; the first place is `at`
 pub data ReadFrom (bs : List ℕ) : ℕ → List Field → Type 0 where
   read-none : {at : ℕ} → ReadFrom bs at []
   read-more : {at : ℕ} {f : Field} {fs : List Field} → f .value ≡ bitsAt bs at (f .width) → ReadFrom bs (at + f .width) fs → ReadFrom bs at (f ∷ fs)
-
--- a field read at p, where p is the place that it is due at
-pub read-more-at : (bs : List ℕ) {at w v : ℕ} {fs : List Field} (p : ℕ) → p ≡ at → v ≡ bitsAt bs p w → ReadFrom bs (at + w) fs → ReadFrom bs at (field w v ∷ fs)
-read-more-at bs p e d r = read-more (rw e at d) r
 
 pub read-append : {bs : List ℕ} {at : ℕ} {a : List Field} (b : List Field) → ReadFrom bs at a → ReadFrom bs (at + widthOf a) b → ReadFrom bs at (a ++ b)
 unfolding widthOf
@@ -31,10 +27,6 @@ pub read-rows : {bs : List ℕ} {at : ℕ} (n : ℕ) (g : ℕ → List Field) �
 unfolding rows
 read-rows zero g h = read-none
 read-rows (suc n) g h = read-append (g n) (read-rows n g (λ i l. h i (omega arith))) (h n (omega arith))
-
--- rows of k bits each
-pub read-rows-of : {bs : List ℕ} {at : ℕ} (k n : ℕ) (g : ℕ → List Field) → ((i : ℕ) → i < n → widthOf (g i) ≡ k) → ((i : ℕ) → i < n → ReadFrom bs (at + i * k) (g i)) → ReadFrom bs at (rows n g)
-read-rows-of k n g w h = read-rows n g (λ i l. rw (width-rows-of k i g (λ j m. w j (omega arith))) (h i l))
 
 -- the fields' bits are the bits there
 pub read-bit : {bs : List ℕ} {at : ℕ} {fs : List Field} → ReadFrom bs at fs → (i : ℕ) → i < widthOf fs → getD (bitsOf fs) i 0 ≡ bitAt bs (at + i)

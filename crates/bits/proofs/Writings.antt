@@ -1,19 +1,19 @@
 -- A writer's states: so many fields are written into the front of a list of bytes, and the rest is as it was.
-use mathlib.Core.Path.{_≡_, refl, sym, ap, _∙_}
-use mathlib.Core.List.{List, [], _∷_, _++_, append-nil}
+use mathlib.Core.Path.{_≡_, sym, ap, _∙_}
+use mathlib.Core.List.{List, _++_}
 use Prim.Native.Nat.{ℕ, suc, _+_, _-_, _*_, _/_, _%_, _^_, _≤_, _<_}
 use native.Mathlib.Nat.{zero-div}
 use native.Mathlib.Decide.{decLt}
 use native.Mathlib.Omega.{arith}
 use lib.ListN.{length, getD, drop, length-append, length-drop, List·getD-append}
-use lib.Seq.{getD-append-add, getD-drop, append-snoc}
+use lib.Seq.{getD-append-add, getD-drop}
 use Rattle.lists.specs.Table.{over}
 use Rattle.bits.specs.Field.{bitAt}
 use Rattle.bits.specs.Put.{Put}
-use Rattle.bits.specs.Layout.{Field, field, bitsOf, widthOf, bytesFor, packed, rows}
+use Rattle.bits.specs.Layout.{Field, field, bitsOf, widthOf, bytesFor, packed}
 use Rattle.bits.proofs.Fields.{bits-bit}
 use Rattle.bits.proofs.Puts.{same-bits}
-use Rattle.bits.proofs.Layouts.{width-append, rows-next, length-bits, length-packed, bits-append, field-bit, append-lt, packed-lt, packed-bit, packed-pad}
+use Rattle.bits.proofs.Layouts.{length-packed, append-lt, packed-lt, packed-bit, packed-pad}
 
 -- out is old with the bits of fs over its front
 pub record Begun (old : List ℕ) (fs : List Field) (out : List ℕ) : Type 0 where
@@ -21,56 +21,11 @@ pub record Begun (old : List ℕ) (fs : List Field) (out : List ℕ) : Type 0 wh
   pub written : (i : ℕ) → i < widthOf fs → bitAt out i ≡ getD (bitsOf fs) i 0
   pub kept : (i : ℕ) → widthOf fs ≤ i → bitAt out i ≡ bitAt old i
 
-pub begun-start : (old : List ℕ) → Begun old [] old
-unfolding widthOf
-begun-start old = record { same-length = refl; written = λ i l. absurd (omega arith); kept = λ i l. refl }
-
 -- bit i of a field just written, by its place
 put-bit : {mid out : List ℕ} {at w v : ℕ} → Put mid at w v out → (i : ℕ) → at ≤ i → i < at + w → bitAt out i ≡ v / 2 ^ (w - suc (i - at)) % 2
 put-bit {out = out} {at = at} {w = w} q i l m =
     let e : i ≡ at + (i - at) = omega arith in
     ap (λ (k : ℕ). bitAt out k) e ∙ sym (bits-bit out at w (i - at) (omega arith)) ∙ ap (λ (x : ℕ). x / 2 ^ (w - suc (i - at)) % 2) (q .inside)
-
-pub begun-field : {old mid out : List ℕ} (fs : List Field) {at w v : ℕ} → at ≡ widthOf fs → Begun old fs mid → Put mid at w v out → Begun old (fs ++ field w v ∷ []) out
-unfolding widthOf
-begun-field {old} {mid} {out} fs {at} {w} {v} e b q =
-    record {
-      same-length = q .same-length ∙ b .same-length;
-      written = λ i l. in-it i (omega (arith, wide)) (decLt i at);
-      kept = λ i l. q .above i (omega (arith, wide)) ∙ b .kept i (omega (arith, wide));
-    }
-  where
-    wide : widthOf (fs ++ field w v ∷ []) ≡ widthOf fs + (w + 0)
-    wide = width-append fs (field w v ∷ [])
-
-    in-it : (i : ℕ) → i < at + w → Dec (i < at) → bitAt out i ≡ getD (bitsOf (fs ++ field w v ∷ [])) i 0
-    in-it i l (yes m) =
-        q .below i m ∙ b .written i (omega arith)
-        ∙ sym (List·getD-append (bitsOf fs) (bitsOf (field w v ∷ [])) 0 i (omega (arith, length-bits fs)))
-        ∙ ap (λ (t : List ℕ). getD t i 0) (sym (bits-append fs (field w v ∷ [])))
-    in-it i l (no f) =
-        let p : widthOf fs + (i - at) ≡ i = omega arith in
-        put-bit q i (omega arith) l ∙ sym (field-bit fs [] w v (i - at) (omega arith)) ∙ ap (λ (k : ℕ). getD (bitsOf (fs ++ field w v ∷ [])) k 0) p
-
--- fields put one after another, the first at p
-pub data Puts : List ℕ → ℕ → List Field → List ℕ → Type 0 where
-  puts-none : {bs : List ℕ} {p : ℕ} → Puts bs p [] bs
-  puts-more : {bs mid out : List ℕ} {p : ℕ} {f : Field} {fs : List Field} → Put bs p (f .width) (f .value) mid → Puts mid (p + f .width) fs out → Puts bs p (f ∷ fs) out
-
--- a field put at q, where q is the place that it is due at
-pub puts-more-at : {bs mid out : List ℕ} {p q w v : ℕ} {fs : List Field} → q ≡ p → Put bs q w v mid → Puts mid (p + w) fs out → Puts bs p (field w v ∷ fs) out
-puts-more-at {bs = bs} {mid = mid} {w = w} {v = v} e h r = puts-more (rw e at h) r
-
-pub begun-fields : {old mid out : List ℕ} (fs gs : List Field) {at : ℕ} → at ≡ widthOf fs → Begun old fs mid → Puts mid at gs out → Begun old (fs ++ gs) out
-unfolding widthOf
-begun-fields fs gs e b puts-none = rw (append-nil fs) b
-begun-fields fs gs e b (puts-more {f = f} {fs = rest} h r) =
-    rw (append-snoc fs f rest) at (begun-fields (fs ++ f ∷ []) rest (omega (arith, width-append fs (f ∷ []))) (begun-field fs e b h) r)
-
--- the next row
-pub begun-row : {old mid out : List ℕ} (head : List Field) (n : ℕ) (g : ℕ → List Field) {at : ℕ} → at ≡ widthOf (head ++ rows n g) → Begun old (head ++ rows n g) mid → Puts mid at (g n) out
-    → Begun old (head ++ rows (n + 1) g) out
-begun-row head n g e b h = rw (rows-next head n g) at (begun-fields (head ++ rows n g) (g n) e b h)
 
 -- a bit of a list over the front of another, and one past it
 bit-front : (xs ys : List ℕ) (i : ℕ) → i < 8 * length xs → bitAt (xs ++ ys) i ≡ bitAt xs i

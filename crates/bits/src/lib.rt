@@ -1,7 +1,8 @@
 ghost use mathlib.Core.Path.{_≡_};
-ghost use Prim.Native.Nat.{ℕ, _≤_, _<_, _+_, _*_, _^_, _/_, _%_, min};
+ghost use Prim.Native.Nat.{_≤_, _<_, _+_, _*_, _^_, _/_, _%_, min};
 ghost use lib.ListN.{length};
 ghost use Rattle.bits.specs.Field.{bitAt, bitsAt};
+ghost use Rattle.bits.specs.Layout.{bytesFor};
 ghost use Rattle.bits.specs.Put.{Put};
 ghost use Rattle.bits.specs.Mixed.{mixed};
 
@@ -14,10 +15,18 @@ fn wide(x: u8) -> u64
     x as u64
 }
 
-fn least(a: usize, b: usize) -> usize
+pub fn least(a: usize, b: usize) -> usize
     ensures { λ r. ⌜ r ≡ min a b ⌝ }
 {
     if a < b { a } else { b }
+}
+
+// Whole bytes for so many bits.
+pub fn bytes_for(n: usize) -> usize
+    requires { ⌜ n + 7 < 2 ^ 64 ⌝ }
+    ensures { λ r. ⌜ r ≡ bytesFor n ⌝ }
+{
+    (n + 7) / 8
 }
 
 // 2^k.

@@ -3,14 +3,14 @@ use board::BOARD_SIZE;
 use board::BoardAnswer;
 use board::Entry;
 use checks::TotalAnswer;
+use heads::LengthAnswer;
+use heads::reader::Spelled;
 use model::Answer;
 use model::Refusal;
-use records::LengthAnswer;
-use records::MeshAnswer;
-use records::WriteAnswer;
-use records::reader::Spelled;
+use reading::MeshAnswer;
 use script::show;
 use transport::StepAnswer;
+use writing::WriteAnswer;
 
 fn accepted() {
     show::word(b" accepted");

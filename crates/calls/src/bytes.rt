@@ -14,21 +14,21 @@ pub fn mesh_length(words: &[u64]) {
     let mut record = [0u8; BYTES_ROOM];
     show::word(b"mesh_length:");
     let b = bytes(table(words, 2), &mut record);
-    answers::length(records::mesh_length(number(words, 0), number(words, 1), &record[..b]));
+    answers::length(heads::mesh_length(number(words, 0), number(words, 1), &record[..b]));
 }
 
 pub fn field_length(words: &[u64]) {
     let mut record = [0u8; BYTES_ROOM];
     show::word(b"field_length:");
     let b = bytes(table(words, 1), &mut record);
-    answers::length(records::field_length(number(words, 0), &record[..b]));
+    answers::length(heads::field_length(number(words, 0), &record[..b]));
 }
 
 pub fn step_length(words: &[u64]) {
     let mut record = [0u8; BYTES_ROOM];
     show::word(b"step_length:");
     let b = bytes(table(words, 2), &mut record);
-    answers::length(records::step_length(number(words, 0), table(words, 1), &record[..b]));
+    answers::length(heads::step_length(number(words, 0), table(words, 1), &record[..b]));
 }
 
 pub fn read_mesh(words: &[u64]) {
@@ -68,7 +68,7 @@ fn fill_mesh(
     let s = copy(given_seconds, &mut seconds);
     let h = copy(given_shares, &mut shares);
     let r = copy(given_reaches, &mut reaches);
-    answers::mesh(records::read_mesh(
+    answers::mesh(reading::read_mesh(
         most_cells,
         most_faces,
         record,
@@ -91,7 +91,7 @@ pub fn read_field(words: &[u64]) {
     show::word(b"read_field:");
     let b = bytes(table(words, 1), &mut record);
     let m = copy(table(words, 2), &mut masses);
-    answers::verdict(records::read_field(number(words, 0), &record[..b], &mut masses[..m]));
+    answers::verdict(reading::read_field(number(words, 0), &record[..b], &mut masses[..m]));
     show::numbers(b"; masses", m, &masses);
 }
 
@@ -119,7 +119,7 @@ fn fill_step(
     let mut outsides = [0u64; ROOM];
     let f = copy_amounts(given_fluxes, &mut fluxes);
     let o = copy(given_outsides, &mut outsides);
-    answers::verdict(records::read_step(
+    answers::verdict(reading::read_step(
         faces,
         seconds,
         record,
@@ -134,7 +134,7 @@ pub fn write_mesh(words: &[u64]) {
     let mut record = [0u8; BYTES_ROOM];
     show::word(b"write_mesh:");
     let b = bytes(table(words, 7), &mut record);
-    answers::written(records::write_mesh(
+    answers::written(writing::write_mesh(
         number(words, 0),
         number(words, 1),
         table(words, 2),
@@ -151,7 +151,7 @@ pub fn write_field(words: &[u64]) {
     let mut record = [0u8; BYTES_ROOM];
     show::word(b"write_field:");
     let b = bytes(table(words, 8), &mut record);
-    answers::written(records::write_field(
+    answers::written(writing::write_field(
         number(words, 0),
         number(words, 1),
         table(words, 2),
@@ -169,7 +169,7 @@ pub fn write_step(words: &[u64], ints: &[i64]) {
     let mut record = [0u8; BYTES_ROOM];
     show::word(b"write_step:");
     let b = bytes(table(words, 9), &mut record);
-    answers::written(records::write_step(
+    answers::written(writing::write_step(
         number(words, 0),
         number(words, 1),
         table(words, 2),
@@ -188,7 +188,7 @@ pub fn number_at(words: &[u64]) {
     let mut record = [0u8; BYTES_ROOM];
     show::word(b"number_at:");
     let b = bytes(table(words, 0), &mut record);
-    answers::spelled(records::reader::number_at(&record[..b], number(words, 1), number(words, 2)));
+    answers::spelled(heads::reader::number_at(&record[..b], number(words, 1), number(words, 2)));
 }
 
 pub fn lagoon_step(words: &[u64]) {

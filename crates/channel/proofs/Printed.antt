@@ -19,11 +19,12 @@ use Rattle.model.specs.Causes.{fieldTable, saltGood, fieldValues, meshFieldVerd
 use Rattle.model.proofs.Figures.{channel}
 use Rattle.bits.specs.Field.{bitAt, bitsAt}
 use Rattle.bits.specs.Layout.{bytesFor}
-use Rattle.records.specs.Layouts.{rimFaces, meshLength, fieldLength, stepLength}
-use Rattle.records.specs.Reading.{meshIn, volumesIn, firstsIn, secondsIn, sharesIn, reachesIn, massesIn, fluxesIn, outsidesIn, zeroBitGood, minusZero, meshBitGood, stepBitGood}
-use Rattle.records.specs.Reading.{meshHeadVerdict, fieldHeadVerdict, stepHeadVerdict, meshNeeds, fieldNeeds, stepNeeds, meshBodyVerdict, fieldBodyVerdict, stepBodyVerdict, fieldRead}
-use Rattle.records.specs.Reading.{stepRead}
-use Rattle.records.specs.declared.Counts.{Counts}
+use Rattle.heads.specs.Layouts.{rimFaces, meshLength, fieldLength, stepLength}
+use Rattle.reading.specs.Reading.{meshIn, volumesIn, firstsIn, secondsIn, sharesIn, reachesIn, massesIn, fluxesIn, outsidesIn, zeroBitGood, minusZero, meshBitGood, stepBitGood}
+use Rattle.heads.specs.Heads.{meshHeadVerdict, fieldHeadVerdict, stepHeadVerdict, meshNeeds, fieldNeeds, stepNeeds}
+use Rattle.reading.specs.Reading.{meshBodyVerdict, fieldBodyVerdict, stepBodyVerdict, fieldRead}
+use Rattle.reading.specs.Reading.{stepRead}
+use Rattle.reading.specs.declared.Counts.{Counts}
 use Rattle.board.specs.Board.{entryOf, comesBefore, insertInOrder, inOrder, entryAt, before, listed}
 use Rattle.taking.specs.Taking.{meshRecordFound, meshJudged, fieldJudged, stepJudged, stepIn, ownTables, blank, printedOf, massesAfter}
 use Rattle.taking.specs.declared.Printed.{Printed}

@@ -9,8 +9,8 @@ use Rattle.model.specs.Step.{StepInput, next}
 use Rattle.model.specs.Causes.{Verdict, _andThen_, taken, inputOf, bytesLong}
 use Rattle.model.specs.Answers.{said}
 use Rattle.model.specs.declared.Answer.{Answer}
-use Rattle.records.specs.Layouts.{fieldRecord, fieldLength}
-use Rattle.records.specs.Reading.{massesIn}
+use Rattle.heads.specs.Layouts.{fieldRecord, fieldLength}
+use Rattle.reading.specs.Reading.{massesIn}
 use Rattle.taking.specs.Taking.{fieldJudged, stepIn, stepJudged}
 use Rattle.lagoon.specs.Host.{hostInput, hostVerdict}
 

@@ -3,9 +3,9 @@ use checks::TotalAnswer;
 use model::Answer;
 use model::RUN_CELLS;
 use model::RUN_FACES;
-use records::MeshAnswer;
-use records::WriteAnswer;
+use reading::MeshAnswer;
 use taking::StepTaken;
+use writing::WriteAnswer;
 ghost use Rattle.model.specs.Mesh.{meshOf};
 ghost use Rattle.lagoon.specs.Inner.{MeshComes, HostComes};
 
@@ -46,7 +46,7 @@ fn on_mesh(
     if let StepTaken::Refused(refusal) = b {
         return Answer::Refused(refusal);
     }
-    let c = records::write_field(
+    let c = writing::write_field(
         cells,
         faces,
         volumes,

@@ -13,7 +13,8 @@ use Rattle.model.specs.Alike.{AgreeMesh, Agree}
 use Rattle.model.specs.Causes.{fine, long, cellsOnly, inputOf, counts, meshTables, fieldTable, stepTables, meshFieldVerdict}
 use Rattle.model.proofs.Verdicts.{both-fine, need-met}
 use Rattle.model.proofs.Agree.{mesh-values-agree, field-values-agree, verdict-agree}
-use Rattle.records.specs.Reading.{cellsIn, facesIn, volumesIn, firstsIn, secondsIn, sharesIn, reachesIn, meshIn, massesIn, outsidesIn}
+use Rattle.heads.specs.Heads.{cellsIn, facesIn}
+use Rattle.reading.specs.Reading.{volumesIn, firstsIn, secondsIn, sharesIn, reachesIn, meshIn, massesIn, outsidesIn}
 use Rattle.taking.specs.Taking.{meshJudged, fieldJudged, stepIn, stepJudged}
 use Rattle.taking.proofs.MeshLaws.{limits}
 use Rattle.lagoon.specs.Host.{meshTested, fieldTested, stepTested}

@@ -13,8 +13,10 @@ use Rattle.model.specs.Calls.{crossingOf, corrected, stepOnTables, nextTable, a
 use Rattle.model.proofs.Figures.{channel}
 use Rattle.bits.specs.Field.{bitAt, bitsAt}
 use Rattle.bits.specs.Layout.{spelled, bitsOf, widthOf, bytesFor, octet, packed, rows}
-use Rattle.records.specs.Layouts.{meshRecord, fieldRecord, rimFaces, meshLength, fieldLength, stepLength}
-use Rattle.records.specs.Reading.{meshIn, volumesIn, firstsIn, secondsIn, sharesIn, reachesIn, massesIn, fluxesIn, outsidesIn, zeroBitGood, minusZero, meshBitGood, stepBitGood, meshHeadVerdict, fieldHeadVerdict, stepHeadVerdict, meshBodyVerdict, fieldBodyVerdict, stepBodyVerdict, fieldRead, stepRead}
+use Rattle.sections.specs.Sections.{those, row, fieldsOf, recordOf}
+use Rattle.heads.specs.Layouts.{meshRecord, fieldRecord, meshLength, fieldLength, stepLength}
+use Rattle.heads.specs.Heads.{meshHeadVerdict, fieldHeadVerdict, stepHeadVerdict}
+use Rattle.reading.specs.Reading.{meshIn, volumesIn, firstsIn, secondsIn, sharesIn, reachesIn, massesIn, fluxesIn, outsidesIn, zeroBitGood, minusZero, meshBitGood, stepBitGood, meshBodyVerdict, fieldBodyVerdict, stepBodyVerdict, fieldRead, stepRead}
 use Rattle.taking.specs.Taking.{meshRecordFound, meshJudged, fieldJudged, blank, stepJudged}
 use Rattle.lagoon.specs.Host.{hostInput, hostVerdict, hostBytes}
 use Rattle.promises.specs.Demand3.{StepCall, onTables, onRecords, waterIn, lentMasses, stepOnRecords, comes}
@@ -24,7 +26,7 @@ figures : Unit {0}
 unfolding stepOnTables nextTable inMass outMass over verdict counts countsWithin meshTables fieldTable stepTables meshValues fieldValues saltGood stepValues volumeGood
     endsGood spacingGood outsideGood fluxGood balanceGood outflowGood need each _andThen_ table sum least greatest entering leaving incoming outgoing updated next moved
     concentration beyond upwind downwind carried low upwindShare correction adjacent lo hi maxGain maxLoss receiver giver limitedBy limited portion bitAt bitsAt spelled
-    bitsOf widthOf bytesFor octet packed rows meshRecord fieldRecord rimFaces meshLength fieldLength stepLength volumesIn firstsIn secondsIn sharesIn reachesIn massesIn
+    bitsOf widthOf bytesFor octet packed rows those row fieldsOf recordOf meshRecord fieldRecord meshLength fieldLength stepLength volumesIn firstsIn secondsIn sharesIn reachesIn massesIn
     fluxesIn outsidesIn zeroBitGood minusZero meshBitGood stepBitGood meshHeadVerdict fieldHeadVerdict stepHeadVerdict meshBodyVerdict fieldBodyVerdict stepBodyVerdict
     fieldRead stepRead meshFieldVerdict meshRecordFound meshJudged fieldJudged stepJudged blank
 figures = tt

@@ -15,14 +15,16 @@ use Rattle.model.specs.Causes.{Call, inputOf}
 use Rattle.model.specs.Calls.{massIn}
 use Rattle.model.proofs.Verdicts.{need-met, each-cong}
 use Rattle.bits.specs.Field.{bitsAt}
-use Rattle.records.specs.Layouts.{outsideBits, rimFaces, isRim, stepLength}
-use Rattle.records.specs.Reading.{outsidesIn, outsidePlace, stepBitGood, stepHeadVerdict, stepBodyVerdict, stepRead}
+use Rattle.sections.specs.Sections.{those}
+use Rattle.heads.specs.Layouts.{outsideBits, rimFaces, isRim, stepLength}
+use Rattle.heads.specs.Heads.{stepHeadVerdict}
+use Rattle.reading.specs.Reading.{outsidesIn, outsidePlace, stepBitGood, stepBodyVerdict, stepRead}
 use Rattle.promises.specs.Held.{cut, cutField}
 
 -- a step record on seconds that agree below the faces
 module _ (step : List ℕ) (faces : ℕ) (seconds other : List ℕ) (same : (f : ℕ) → f < faces → getD other f 0 ≡ getD seconds f 0) where
   rims-same : (f : ℕ) → f ≤ faces → rimFaces other f ≡ rimFaces seconds f
-  unfolding rimFaces
+  unfolding those
   rims-same f h = sum-cong f (λ g. cond (isRim other g) 1 0) (λ g. cond (isRim seconds g) 1 0) (λ g l. rw (same g (omega arith)))
 
   pub outsides-same : outsidesIn step faces other ≡ outsidesIn step faces seconds

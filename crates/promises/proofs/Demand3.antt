@@ -31,7 +31,7 @@ use Rattle.model.proofs.Accepted.{counted, mesh-fit}
 use Rattle.model.proofs.Agree.{field-agrees, fair-agree}
 use Rattle.model.proofs.Lists.{Fair, list-law, corrected-keeping, tables-fair}
 use Rattle.model.proofs.Figures.{Figures, figures}
-use Rattle.records.specs.Layouts.{meshRecord, fieldRecord}
+use Rattle.heads.specs.Layouts.{meshRecord, fieldRecord}
 use Rattle.lagoon.specs.Host.{hostVerdict, hostBytes}
 use Rattle.promises.specs.Demand3.{StepCall, onTables, onRecords, lentMasses, stepOnRecords, comes, Kept, Unchanged, EachRefused, Demand3}
 use Rattle.promises.proofs.Held.{within, passes}

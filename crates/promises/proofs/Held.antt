@@ -7,20 +7,19 @@ use Rattle.model.specs.Mesh.{Mesh, maxCells, maxFaces}
 use Rattle.model.specs.Causes.{fine, counts, meshValues, meshVerdict, fieldValues, fieldVerdict}
 use Rattle.model.proofs.Verdicts.{both-fine}
 use Rattle.bits.proofs.Layouts.{packed-lt}
-use Rattle.records.specs.Layouts.{meshFields, fieldFields, meshRecord, fieldRecord}
-use Rattle.records.specs.Reading.{meshIn}
-use Rattle.records.proofs.Packed.{mesh-cells, mesh-faces}
-use Rattle.records.proofs.WidthLaws.{spelled}
-use Rattle.records.proofs.RoundTrip.{mesh-read-back, volumes-read-back, firsts-read-back, seconds-read-back, shares-read-back, reaches-read-back, field-read-back, masses-read-back, mesh-written-back, field-written-back}
+use Rattle.sections.specs.Sections.{fieldsOf, recordOf}
+use Rattle.heads.specs.Layouts.{meshShape, meshValue, fieldShape, fieldValue, meshRecord, fieldRecord}
+use Rattle.reading.specs.Reading.{meshIn}
+use Rattle.writing.proofs.RoundTrip.{cells-read-back, faces-read-back, mesh-read-back, volumes-read-back, firsts-read-back, seconds-read-back, shares-read-back, reaches-read-back, field-read-back, masses-read-back, mesh-written-back, field-written-back}
 use Rattle.promises.specs.Held.{Bytes, cut, HoldsMesh, HoldsField}
 
 mesh-bytes : (M : Mesh) → Bytes (meshRecord M)
-unfolding meshRecord
-mesh-bytes M j = packed-lt (meshFields M) j
+unfolding meshRecord recordOf
+mesh-bytes M j = packed-lt (fieldsOf (meshShape (M .cells) (M .faces)) (meshValue M)) j
 
 field-bytes : (cells : ℕ) (field : List ℕ) → Bytes (fieldRecord cells field)
-unfolding fieldRecord
-field-bytes cells field j = packed-lt (fieldFields cells field) j
+unfolding fieldRecord recordOf
+field-bytes cells field j = packed-lt (fieldsOf (fieldShape cells) (fieldValue cells field)) j
 
 -- what an accepted mesh and field have passed
 module _ (M : Mesh) (mesh-fine : meshVerdict M ≡ fine) where
@@ -34,9 +33,8 @@ module _ (M : Mesh) (mesh-fine : meshVerdict M ≡ fine) where
 
   mesh-is : meshIn (meshRecord M) ≡ cut M
   mesh-is =
-      let s = spelled M within passes in
       rw
-      (mesh-cells M s, mesh-faces M s, volumes-read-back M within passes, firsts-read-back M within passes, seconds-read-back M within passes, shares-read-back M within passes, reaches-read-back M within passes)
+      (cells-read-back M within passes, faces-read-back M within passes, volumes-read-back M within passes, firsts-read-back M within passes, seconds-read-back M within passes, shares-read-back M within passes, reaches-read-back M within passes)
 
   pub mesh-holds : HoldsMesh M (meshRecord M)
   unfolding counts

@@ -1,6 +1,6 @@
 -- The host's call on records as a call of a list: what it owes where it is accepted. The records hold the counted entries, so the step is
 -- one on tables cut to the counts, which agrees with the step on the whole tables.
-use Prim.Native.Nat.{ℕ, _^_, _<_}
+use Prim.Native.Nat.{ℕ}
 use mathlib.Core.Path.{_≡_, refl, sym, ap, _∙_}
 use mathlib.Core.List.{List}
 use native.Mathlib.Omega.{arith}
@@ -18,11 +18,10 @@ use Rattle.model.proofs.Accepted.{ready, passed, counted, mesh-fit}
 use Rattle.model.proofs.Next.{moved-keeps}
 use Rattle.model.proofs.Lists.{Fair, amounts-fair}
 use Rattle.model.proofs.Agree.{in-agree, out-agree, fair-agree}
-use Rattle.records.specs.Layouts.{cellsBits, meshRecord, fieldRecord, fieldLength}
-use Rattle.records.specs.Reading.{meshIn, massesIn, fluxesIn, outsidesIn}
-use Rattle.records.proofs.Packed.{field-record-length}
-use Rattle.records.proofs.WidthLaws.{masses-fit}
-use Rattle.records.proofs.RoundTrip.{masses-read-back}
+use Rattle.heads.specs.Layouts.{meshRecord, fieldRecord, fieldLength}
+use Rattle.reading.specs.Reading.{meshIn, massesIn, fluxesIn, outsidesIn}
+use Rattle.writing.proofs.Back.{field-record-length}
+use Rattle.writing.proofs.RoundTrip.{masses-read-back}
 use Rattle.taking.specs.Taking.{ownTables, stepJudged}
 use Rattle.lagoon.specs.Host.{hostVerdict, hostBytes}
 use Rattle.promises.specs.Held.{cut, cutField}
@@ -78,14 +77,9 @@ module _ (M : Mesh) (mesh-fine : meshVerdict M ≡ fine) (field : List ℕ) (fie
     unfolding fieldVerdict
     after-salt = both-fine _ _ (part-fair .field-accepted) .1
 
-    few : M .cells < 2 ^ cellsBits
-    few = let n = counted M (within M mesh-fine) in omega (arith, n .few-cells)
-
     record-long : length (fieldRecord (M .cells) after) ≡ fieldLength (M .cells)
     unfolding fieldLength
-    record-long =
-        let p = passed (cut M) (cutField M field) _ found in
-        field-record-length (M .cells) after few (masses-fit (cut M) (p .mesh-values-fine) after after-salt)
+    record-long = field-record-length (M .cells) after
 
     read-back : massesIn (fieldRecord (M .cells) after) (M .cells) ≡ after
     read-back =

@@ -12,8 +12,8 @@ use Rattle.model.specs.Calls.{Crossing, Left, crossingOf, corrected, stepAnswer
 use Rattle.model.proofs.Verdicts.{out}
 use Rattle.transport.specs.Promise.{stepSaid, StepPromise}
 use Rattle.transport.specs.declared.StepAnswer.{StepAnswer}
-use Rattle.records.specs.Layouts.{meshRecord, fieldRecord, fieldLength}
-use Rattle.records.specs.Reading.{massesIn}
+use Rattle.heads.specs.Layouts.{meshRecord, fieldRecord, fieldLength}
+use Rattle.reading.specs.Reading.{massesIn}
 use Rattle.lagoon.specs.Host.{causeStep, hostVerdict, hostBytes, HostPromise}
 use Rattle.lagoon.proofs.Small.{taken-apart}
 use Rattle.promises.specs.Demand3.{onTables, onRecords, lentMasses, waterIn, stepOnRecords, comes}

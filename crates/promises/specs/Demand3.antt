@@ -8,8 +8,8 @@ use Rattle.model.specs.Mesh.{Mesh}
 use Rattle.model.specs.Step.{StepInput}
 use Rattle.model.specs.Causes.{Outcome, accepted, refused, fine, _andThen_, Call, inputOf, meshVerdict, fieldVerdict, waterOf}
 use Rattle.model.specs.Calls.{massIn, Bounded, Left, crossingOf, fieldAfter, corrected, nextTable, movedTable, workTable, stepOnTables, Claim}
-use Rattle.records.specs.Layouts.{meshRecord, fieldRecord, fieldLength}
-use Rattle.records.specs.Reading.{massesIn, fluxesIn, outsidesIn}
+use Rattle.heads.specs.Layouts.{meshRecord, fieldRecord, fieldLength}
+use Rattle.reading.specs.Reading.{massesIn, fluxesIn, outsidesIn}
 use Rattle.lagoon.specs.Host.{hostVerdict, hostBytes}
 
 -- A step call of a list, with what is lent to it besides mesh and field; of any values and of any length. On tables: what stands in the

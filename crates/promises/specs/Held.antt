@@ -7,7 +7,7 @@ use Rattle.lists.specs.Table.{table}
 use Rattle.model.specs.Mesh.{Mesh, meshOf, volume, first, second, share, reach, maxCells, maxFaces}
 use Rattle.model.specs.Causes.{accepted, fine}
 use Rattle.model.specs.Calls.{massIn}
-use Rattle.records.specs.Reading.{meshIn, massesIn, meshRead, fieldRead}
+use Rattle.reading.specs.Reading.{meshIn, massesIn, meshRead, fieldRead}
 
 -- a list of bytes, as a record is
 abbrev pub Bytes : List ℕ → Type 0

@@ -10,7 +10,7 @@ use libc::STDOUT_FILENO;
 use model::RUN_CELLS;
 use model::RUN_FACES;
 use model::Refusal;
-use records::MeshAnswer;
+use reading::MeshAnswer;
 use session::Line;
 use session::RECORD;
 use taking::StepTaken;

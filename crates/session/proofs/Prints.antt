@@ -12,9 +12,10 @@ use Rattle.lists.proofs.Tables.{length-table}
 use Rattle.model.specs.Mesh.{Mesh, meshOf, runCells, runFaces}
 use Rattle.model.specs.Causes.{Outcome, accepted, refused, Verdict, taken}
 use Rattle.bits.specs.Layout.{bytesFor}
-use Rattle.records.specs.Layouts.{stepHeadBits}
-use Rattle.records.specs.Reading.{stepNeeds, volumesIn, firstsIn, secondsIn, sharesIn, reachesIn, massesIn}
-use Rattle.records.specs.declared.Counts.{Counts}
+use Rattle.heads.specs.Layouts.{stepHeadBits}
+use Rattle.heads.specs.Heads.{stepNeeds}
+use Rattle.reading.specs.Reading.{volumesIn, firstsIn, secondsIn, sharesIn, reachesIn, massesIn}
+use Rattle.reading.specs.declared.Counts.{Counts}
 use Rattle.board.specs.Board.{entryAt, listed, boardVerdict, boardEntries, boardSize, unused}
 use Rattle.board.specs.declared.Entry.{Entry}
 use Rattle.board.proofs.Listed.{listed-count}

@@ -11,9 +11,9 @@ use Rattle.model.specs.Mesh.{runCells, runFaces}
 use Rattle.model.specs.Causes.{accepted, countsWithin}
 use Rattle.model.proofs.Verdicts.{both-fine, need-fine}
 use Rattle.bits.specs.Layout.{bytesFor}
-use Rattle.records.specs.Layouts.{meshBits, fieldBits, stepBits, meshLength, fieldLength, stepLength}
-use Rattle.records.specs.Reading.{cellsIn, facesIn, meshHeadVerdict, meshNeeds, fieldNeeds, stepNeeds}
-use Rattle.records.proofs.HeadLaws.{rim-le}
+use Rattle.heads.specs.Layouts.{meshBits, fieldBits, stepBits, meshLength, fieldLength, stepLength}
+use Rattle.heads.specs.Heads.{cellsIn, facesIn, meshHeadVerdict, meshNeeds, fieldNeeds, stepNeeds}
+use Rattle.heads.proofs.HeadLaws.{rim-le}
 use Rattle.session.specs.Session.{recordBytes}
 
 pub record-is : recordBytes ≡ 12792

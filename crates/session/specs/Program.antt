@@ -13,12 +13,12 @@ use Rattle.model.specs.Answers.{number}
 use Rattle.model.specs.declared.Refusal.{Refusal}
 use Rattle.checks.specs.declared.TotalAnswer.the-variants as total
 use Rattle.bits.specs.Layout.{bytesFor}
-use Rattle.records.specs.Layouts.{meshHeadBits, fieldHeadBits, stepHeadBits}
-use Rattle.records.specs.Reading.{meshNeeds, fieldNeeds, stepNeeds}
-use Rattle.records.specs.Answers.{lengthSaid}
-use Rattle.records.specs.declared.Counts.{Counts}
-use Rattle.records.specs.declared.LengthAnswer.{LengthAnswer}
-use Rattle.records.specs.declared.MeshAnswer.the-variants as mesh
+use Rattle.heads.specs.Layouts.{meshHeadBits, fieldHeadBits, stepHeadBits}
+use Rattle.heads.specs.Heads.{meshNeeds, fieldNeeds, stepNeeds}
+use Rattle.heads.specs.Heads.{lengthSaid}
+use Rattle.reading.specs.declared.Counts.{Counts}
+use Rattle.heads.specs.declared.LengthAnswer.{LengthAnswer}
+use Rattle.reading.specs.declared.MeshAnswer.the-variants as mesh
 use Rattle.board.specs.Board.{BoardIs}
 use Rattle.board.specs.declared.Entry.{Entry}
 use Rattle.board.specs.declared.BoardAnswer.{BoardAnswer}

@@ -8,9 +8,10 @@ use Rattle.model.specs.Mesh.{Mesh, meshOf, total, runCells, runFaces}
 use Rattle.model.specs.Causes.{Outcome, accepted, refused, _andThen_, taken, cellsOnly}
 use Rattle.model.specs.Calls.{massIn}
 use Rattle.bits.specs.Layout.{bytesFor}
-use Rattle.records.specs.Layouts.{meshHeadBits, fieldHeadBits, stepHeadBits}
-use Rattle.records.specs.Reading.{meshIn, countsIn, massesIn, meshNeeds, fieldNeeds, stepNeeds}
-use Rattle.records.specs.declared.Counts.{Counts}
+use Rattle.heads.specs.Layouts.{meshHeadBits, fieldHeadBits, stepHeadBits}
+use Rattle.reading.specs.Reading.{meshIn, countsIn, massesIn}
+use Rattle.heads.specs.Heads.{meshNeeds, fieldNeeds, stepNeeds}
+use Rattle.reading.specs.declared.Counts.{Counts}
 use Rattle.board.specs.Board.{entryAt, listed, boardVerdict}
 use Rattle.board.specs.declared.Entry.{Entry}
 use Rattle.taking.specs.Taking.{meshJudged, fieldJudged, stepJudged, stepIn, printedOf, massesAfter}

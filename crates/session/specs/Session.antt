@@ -10,7 +10,7 @@ use Rattle.model.specs.Mesh.{runCells, runFaces}
 use Rattle.model.specs.Causes.{Outcome, accepted, refused}
 use Rattle.model.specs.Answers.{number}
 use Rattle.model.specs.declared.Cause.{Cause}
-use Rattle.records.specs.Layouts.{meshLength}
+use Rattle.heads.specs.Layouts.{meshLength}
 use Rattle.session.specs.declared.Line.{Line}
 use Rattle.taking.specs.Taking.{takenSaid}
 use Rattle.taking.specs.declared.Printed.{Printed}

@@ -1,6 +1,10 @@
 // What the run program decides and prints, apart from its reading and writing.
 mod lines;
 
+use heads::CELL_BITS;
+use heads::FACE_BITS;
+use heads::LengthAnswer;
+use heads::MESH_HEAD;
 pub use lines::LINE;
 pub use lines::board_line;
 pub use lines::refusal_line;
@@ -8,14 +12,10 @@ pub use lines::step_line;
 use model::Cause;
 use model::RUN_CELLS;
 use model::RUN_FACES;
-use records::CELL_BITS;
-use records::FACE_BITS;
-use records::LengthAnswer;
-use records::MESH_HEAD;
 use taking::StepTaken;
 ghost use mathlib.Core.Path.{_≡_};
 ghost use Prim.Native.Nat.{_+_, _≤_, min};
-ghost use Rattle.records.specs.Answers.{lengthSaid};
+ghost use Rattle.heads.specs.Heads.{lengthSaid};
 ghost use Rattle.session.specs.Session.{recordBytes, Holds, endsRun, stillNeeded, lineOf, goesOn};
 
 // Bytes of the longest record within the run's limits, a mesh of all cells and faces. `rest` holds it to the layout.

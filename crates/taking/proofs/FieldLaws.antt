@@ -19,8 +19,8 @@ use Rattle.model.proofs.Verdicts.{both-fine, past, out, refused-of, accepted-of
 use Rattle.checks.specs.Total.{totalSaid}
 use Rattle.checks.specs.declared.TotalAnswer.{TotalAnswer}
 use Rattle.checks.specs.declared.TotalAnswer.the-variants as total-answer
-use Rattle.records.specs.Reading.{massesIn, fieldBodyVerdict, fieldRead}
-use Rattle.records.specs.Answers.{FieldReading}
+use Rattle.reading.specs.Reading.{massesIn, fieldBodyVerdict, fieldRead}
+use Rattle.reading.specs.Answers.{FieldReading}
 use Rattle.taking.specs.Taking.{fieldJudged, FieldTaking}
 use Rattle.taking.proofs.Parts.{PartRead, read-part}
 

@@ -16,11 +16,12 @@ use Rattle.model.specs.Answers.{number}
 use Rattle.model.specs.declared.Refusal.{Refusal}
 use Rattle.model.proofs.Verdicts.{both-fine, past, out, refused-of, accepted-of, need-fine, need-met}
 use Rattle.model.proofs.Accepted.{mesh-lent}
-use Rattle.records.specs.Reading.{cellsIn, facesIn, volumesIn, firstsIn, secondsIn, sharesIn, reachesIn, countsIn, meshIn, meshHeadVerdict, meshRead}
-use Rattle.records.specs.Answers.{meshSaid, MeshReading}
-use Rattle.records.specs.declared.MeshAnswer.{MeshAnswer}
-use Rattle.records.specs.declared.MeshAnswer.the-variants as mesh-answer
-use Rattle.records.specs.declared.Counts.{Counts}
+use Rattle.heads.specs.Heads.{cellsIn, facesIn, meshHeadVerdict}
+use Rattle.reading.specs.Reading.{volumesIn, firstsIn, secondsIn, sharesIn, reachesIn, countsIn, meshIn, meshRead}
+use Rattle.reading.specs.Answers.{meshSaid, MeshReading}
+use Rattle.reading.specs.declared.MeshAnswer.{MeshAnswer}
+use Rattle.reading.specs.declared.MeshAnswer.the-variants as mesh-answer
+use Rattle.reading.specs.declared.Counts.{Counts}
 use Rattle.taking.specs.Taking.{meshRecordFound, meshJudged, MeshKept, MeshTaking}
 use Rattle.taking.specs.Inner.{MeshCut, keptFound}
 use Rattle.taking.proofs.Parts.{PartRead, read-part}

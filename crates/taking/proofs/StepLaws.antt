@@ -26,8 +26,8 @@ use Rattle.transport.specs.Promise.{stepSaid, StepPromise}
 use Rattle.transport.specs.declared.StepAnswer.{StepAnswer}
 use Rattle.transport.specs.declared.StepAnswer.the-variants as step-answer
 use Rattle.transport.specs.declared.Crossing.{Crossing}
-use Rattle.records.specs.Reading.{fluxesIn, outsidesIn, stepBodyVerdict, stepRead}
-use Rattle.records.specs.Answers.{StepReading}
+use Rattle.reading.specs.Reading.{fluxesIn, outsidesIn, stepBodyVerdict, stepRead}
+use Rattle.reading.specs.Answers.{StepReading}
 use Rattle.taking.specs.declared.Printed.{Printed}
 use Rattle.taking.specs.declared.StepTaken.{StepTaken}
 use Rattle.taking.specs.declared.StepTaken.the-variants as step-taken

@@ -13,9 +13,10 @@ use Rattle.model.specs.Answers.{told}
 use Rattle.model.specs.Calls.{massIn}
 use Rattle.checks.specs.Total.{totalSaid}
 use Rattle.checks.specs.declared.TotalAnswer.{TotalAnswer}
-use Rattle.records.specs.Reading.{cellsIn, facesIn, meshIn, massesIn, fluxesIn, outsidesIn, meshHeadVerdict, meshBodyVerdict, fieldRead, stepRead}
-use Rattle.records.specs.Answers.{meshSaid}
-use Rattle.records.specs.declared.MeshAnswer.{MeshAnswer}
+use Rattle.heads.specs.Heads.{cellsIn, facesIn, meshHeadVerdict}
+use Rattle.reading.specs.Reading.{meshIn, massesIn, fluxesIn, outsidesIn, meshBodyVerdict, fieldRead, stepRead}
+use Rattle.reading.specs.Answers.{meshSaid}
+use Rattle.reading.specs.declared.MeshAnswer.{MeshAnswer}
 use Rattle.taking.specs.declared.Printed.{Printed}
 use Rattle.taking.specs.declared.StepTaken.{StepTaken}
 use Rattle.taking.specs.declared.StepTaken.the-variants.{Stepped, Refused}

@@ -12,7 +12,7 @@ pub fn take_field(cells: usize, bytes: &[u8], volumes: &[u64], masses: &mut [u64
     ensures { λ r. ⌜ FieldTaking cells (now (volumes .entry)) (now (bytes .entry)) (now (masses .entry)) r (now (masses .exit)) ⌝ }
 {
     let mut read = [0u64; RUN_CELLS];
-    let answer = records::read_field(cells, bytes, &mut read);
+    let answer = reading::read_field(cells, bytes, &mut read);
     let lent = model::needs::long(MASSES, cells, masses.len());
     let found = model::needs::and_then(answer, lent);
     if let Answer::Refused(refusal) = found {

@@ -2,8 +2,8 @@
 use model::Answer;
 use model::RUN_CELLS;
 use model::RUN_FACES;
-use records::Counts;
-use records::MeshAnswer;
+use reading::Counts;
+use reading::MeshAnswer;
 ghost use Rattle.model.specs.Mesh.{meshOf};
 ghost use Rattle.taking.specs.Taking.{MeshKept, MeshTaking};
 ghost use Rattle.taking.specs.Inner.{MeshCut, keptFound};
@@ -72,7 +72,7 @@ pub fn take_mesh(
     let mut read_seconds = [0u64; RUN_FACES];
     let mut read_shares = [0u64; RUN_FACES];
     let mut read_reaches = [0u64; RUN_FACES];
-    let answer = records::read_mesh(
+    let answer = reading::read_mesh(
         RUN_CELLS,
         RUN_FACES,
         bytes,

@@ -74,7 +74,7 @@ pub fn take_step(
 {
     let mut fluxes = [0i64; RUN_FACES];
     let mut outsides = [0u64; RUN_FACES];
-    let read = records::read_step(faces, seconds, bytes, &mut fluxes, &mut outsides);
+    let read = reading::read_step(faces, seconds, bytes, &mut fluxes, &mut outsides);
     if let Answer::Refused(refusal) = read {
         return StepTaken::Refused(refusal);
     }

@@ -1,0 +1,16 @@
+use native.Mathlib.Omega.{arith}
+use borrow.Author.Needs.{needs}
+use Rattle.heads.specs.Layouts.{stepLength}
+use Rattle.heads.proofs.HeadLaws.{rim-le}
+use Rattle.heads.proofs.lengths.step_bytes.Statement.{statement}
+use Rattle.heads.proofs.lengths.step_bytes.Tie as tie
+
+bytes-for-requires : tie.Need-bytes-for-requires
+bytes-for-requires c κs = let s = c .before .before in omega (arith, rim-le (s .args .seconds .now) (s .args .faces))
+
+returns : tie.Need-returns
+unfolding stepLength
+returns c = rw (c .bytes-for .ensures, c .before .step-bits .ensures)
+
+pub step-bytes-spec : {M : Type 1} → statement M
+step-bytes-spec = tie.close (tie.spec (search needs) bytes-for-requires returns)

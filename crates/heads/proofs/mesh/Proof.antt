@@ -1,0 +1,43 @@
+use mathlib.Core.Path.{sym}
+use native.Mathlib.Omega.{arith}
+use borrow.Author.Needs.{needs}
+use Rattle.model.specs.Causes.{_andThen_}
+use Rattle.model.proofs.Verdicts.{out, refuses, passes}
+use Rattle.bits.specs.Layout.{bytesFor}
+use Rattle.heads.specs.Heads.{meshHeadVerdict}
+use Rattle.heads.proofs.HeadLaws.{head-holds}
+use Rattle.heads.proofs.mesh.Statement.{statement}
+use Rattle.heads.proofs.mesh.Tie as tie
+
+returns : tie.Need-returns
+unfolding meshHeadVerdict bytesFor
+returns c = sym (out _ (out _ (refuses (c .before .before .before .need .ensures) (c .before .a .given .1))))
+
+kind-requires : tie.Need-kind-requires
+kind-requires c κs = head-holds 4 (omega arith) (c .before .before .need .ensures) (c .enum-told .given .1)
+
+cells-requires : tie.Need-cells-requires
+cells-requires c κs = let k = c .before .before in head-holds 4 (omega arith) (k .before .before .need .ensures) (k .enum-told .given .1)
+
+faces-requires : tie.Need-faces-requires
+faces-requires c κs = let k = c .before .before .before in head-holds 4 (omega arith) (k .before .before .need .ensures) (k .enum-told .given .1)
+
+returns-2 : tie.Need-returns-2
+unfolding meshHeadVerdict bytesFor _andThen_
+returns-2 c =
+    let l = c .before .before .before .before in
+    let k = l .before .before in
+    rw (
+      c .and-then .ensures,
+      c .before .counts-within .ensures,
+      c .before .before .faces .ensures,
+      c .before .before .before .cells .ensures,
+      l .need2 .ensures,
+      l .before .kind .ensures,
+      passes (k .before .before .need .ensures) (k .enum-told .given .1),
+    )
+
+pub mesh-spec : {M : Type 1} → statement M
+mesh-spec =
+    tie.close
+    (tie.spec (search needs) (search needs) returns (search needs) kind-requires (search needs) cells-requires faces-requires (search needs) (search needs) returns-2)

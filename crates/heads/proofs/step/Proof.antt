@@ -1,0 +1,44 @@
+use mathlib.Core.Path.{sym}
+use native.Mathlib.Omega.{arith}
+use borrow.Author.Needs.{needs}
+use Rattle.model.specs.Causes.{_andThen_}
+use Rattle.model.proofs.Verdicts.{out, refuses, passes}
+use Rattle.bits.specs.Layout.{bytesFor}
+use Rattle.heads.specs.Heads.{stepHeadVerdict}
+use Rattle.heads.proofs.HeadLaws.{head-holds}
+use Rattle.heads.proofs.step.Statement.{statement}
+use Rattle.heads.proofs.step.Tie as tie
+
+returns : tie.Need-returns
+unfolding stepHeadVerdict bytesFor
+returns c = sym (out _ (out _ (out _ (out _ (refuses (c .before .before .before .need .ensures) (c .before .a .given .1))))))
+
+kind-requires : tie.Need-kind-requires
+kind-requires c κs = head-holds 4 (omega arith) (c .before .before .need .ensures) (c .enum-told .given .1)
+
+step-faces-requires : tie.Need-step-faces-requires
+step-faces-requires c κs = let k = c .before .before in head-holds 4 (omega arith) (k .before .before .need .ensures) (k .enum-told .given .1)
+
+returns-2 : tie.Need-returns-2
+unfolding stepHeadVerdict bytesFor _andThen_
+returns-2 c =
+    let l = c .before .before .before .before in
+    let m = l .before .before .before in
+    let k = m .before in
+    rw (
+      c .and-then3 .ensures,
+      c .before .need5 .ensures,
+      c .before .before .and-then2 .ensures,
+      c .before .before .before .need4 .ensures,
+      l .and-then .ensures,
+      l .before .need3 .ensures,
+      l .before .before .step-faces .ensures,
+      m .need2 .ensures,
+      k .kind .ensures,
+      passes (k .before .before .before .need .ensures) (k .before .enum-told .given .1),
+    )
+
+pub step-spec : {M : Type 1} → statement M
+step-spec =
+    tie.close
+    (tie.spec (search needs) (search needs) returns (search needs) kind-requires (search needs) step-faces-requires (search needs) (search needs) (search needs) (search needs) (search needs) (search needs) returns-2)

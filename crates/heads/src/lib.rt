@@ -1,0 +1,184 @@
+// The three records of document 01 up to their bodies: where each field stands, how long a record is, and its head.
+pub mod body;
+pub mod lengths;
+pub mod reader;
+
+pub use lengths::FIELD_HEAD;
+pub use lengths::MESH_HEAD;
+pub use lengths::STEP_HEAD;
+use model::Answer;
+use model::Cause;
+use model::Refusal;
+use model::needs::and_then;
+use model::needs::between;
+use model::needs::need;
+use reader::Spelled;
+ghost use mathlib.Core.Path.{_≡_};
+ghost use Prim.Native.Nat.{_≤_, min};
+ghost use lib.ListN.{length};
+ghost use Rattle.model.specs.Mesh.{maxCells, maxFaces};
+ghost use Rattle.model.specs.Causes.{countsWithin};
+ghost use Rattle.model.specs.Answers.{said};
+ghost use Rattle.heads.specs.Numbers.{numberAt, numberOf};
+ghost use Rattle.heads.specs.Heads.{kindIn, cellsIn, facesIn, stepFacesIn, meshHeadVerdict, fieldHeadVerdict, stepHeadVerdict, meshNeeds, fieldNeeds, stepNeeds, lengthSaid};
+
+// The widths of a head's fields.
+pub const KIND: usize = 4;
+
+pub const CELLS: usize = 12;
+
+pub const FACES: usize = 13;
+
+// The zero bits that end a head.
+pub const MESH_ZEROS: usize = 3;
+
+pub const STEP_ZEROS: usize = 15;
+
+pub const MESH_KIND: u64 = 1;
+
+pub const FIELD_KIND: u64 = 2;
+
+pub const STEP_KIND: u64 = 3;
+
+// Bits of a cell and of a face in a mesh record.
+pub const CELL_BITS: usize = body::Body::VOLUME;
+
+pub const FACE_BITS: usize = body::Body::FACE;
+
+// How many bytes a record needs, or why its head is refused.
+pub enum LengthAnswer {
+    Needs(usize),
+    Refused(Refusal),
+}
+
+// Cause 1, with the lesser of the caller's limits and document 01's.
+pub fn counts_within(most_cells: usize, most_faces: usize, cells: usize, faces: usize) -> Answer
+    ensures { λ r. ⌜ said r ≡ countsWithin (min «most_cells» maxCells) (min «most_faces» maxFaces) cells faces ⌝ }
+{
+    let most = bits::least(most_cells, model::MAX_CELLS);
+    let few_cells = between(1, most as u64, cells as u64);
+    let few_faces = faces <= bits::least(most_faces, model::MAX_FACES);
+    and_then(
+        need(Cause::Limits, 0, few_cells),
+        need(Cause::Limits, 1, few_faces),
+    )
+}
+
+// A field of a head, read by a reader that moves on to it.
+fn field_after(bytes: &[u8], before: usize, width: usize) -> u64
+    ensures { λ r. ⌜ r ≡ numberOf (numberAt (now (bytes .entry)) before width) ⌝ }
+{
+    match reader::number_after(bytes, before, width) {
+        Spelled::Number(n) => n,
+        Spelled::Past => 0,
+    }
+}
+
+fn kind(bytes: &[u8]) -> u64
+    requires { ⌜ 2 ≤ length (now bytes) ⌝ }
+    ensures { λ r. ⌜ r ≡ kindIn (now (bytes .entry)) ⌝ }
+{
+    field_after(bytes, 0, KIND)
+}
+
+// The cells that the head of a mesh or a field says.
+pub fn cells(bytes: &[u8]) -> usize
+    requires { ⌜ 2 ≤ length (now bytes) ⌝ }
+    ensures { λ r. ⌜ r ≡ cellsIn (now (bytes .entry)) ⌝ }
+{
+    field_after(bytes, KIND, CELLS) as usize
+}
+
+// The faces that the head of a mesh says.
+pub fn faces(bytes: &[u8]) -> usize
+    requires { ⌜ 4 ≤ length (now bytes) ⌝ }
+    ensures { λ r. ⌜ r ≡ facesIn (now (bytes .entry)) ⌝ }
+{
+    field_after(bytes, KIND + CELLS, FACES) as usize
+}
+
+// The faces that the head of a step says.
+fn step_faces(bytes: &[u8]) -> usize
+    requires { ⌜ 4 ≤ length (now bytes) ⌝ }
+    ensures { λ r. ⌜ r ≡ stepFacesIn (now (bytes .entry)) ⌝ }
+{
+    field_after(bytes, KIND, FACES) as usize
+}
+
+// What the head of a mesh is refused for. No limit is above document 01's, whatever the caller sets.
+pub fn mesh(most_cells: usize, most_faces: usize, bytes: &[u8]) -> Answer
+    ensures { λ r. ⌜ said r ≡ meshHeadVerdict «most_cells» «most_faces» (now (bytes .entry)) ⌝ }
+{
+    let a = need(Cause::Length, 0, MESH_HEAD <= bytes.len());
+    if let Answer::Refused(r) = a {
+        return Answer::Refused(r);
+    }
+    let b = need(Cause::Head, 0, kind(bytes) == MESH_KIND);
+    and_then(
+        b,
+        counts_within(most_cells, most_faces, cells(bytes), faces(bytes)),
+    )
+}
+
+// What the head of a field on so many cells is refused for.
+pub fn field(expected: usize, bytes: &[u8]) -> Answer
+    ensures { λ r. ⌜ said r ≡ fieldHeadVerdict expected (now (bytes .entry)) ⌝ }
+{
+    let a = need(Cause::Length, 0, FIELD_HEAD <= bytes.len());
+    if let Answer::Refused(r) = a {
+        return Answer::Refused(r);
+    }
+    let b = need(Cause::Head, 0, kind(bytes) == FIELD_KIND);
+    let d = and_then(b, need(Cause::Head, 1, cells(bytes) == expected));
+    let few = between(1, model::MAX_CELLS as u64, expected as u64);
+    and_then(d, need(Cause::Limits, 0, few))
+}
+
+// What the head of a step through so many faces is refused for.
+pub fn step(expected: usize, seconds: &[u64], bytes: &[u8]) -> Answer
+    ensures { λ r. ⌜ said r ≡ stepHeadVerdict expected (now (seconds .entry)) (now (bytes .entry)) ⌝ }
+{
+    let a = need(Cause::Length, 0, STEP_HEAD <= bytes.len());
+    if let Answer::Refused(r) = a {
+        return Answer::Refused(r);
+    }
+    let b = need(Cause::Head, 0, kind(bytes) == STEP_KIND);
+    let d = and_then(b, need(Cause::Head, 1, step_faces(bytes) == expected));
+    let e = and_then(d, need(Cause::Limits, 1, expected <= model::MAX_FACES));
+    and_then(e, need(Cause::Table, 2, expected <= seconds.len()))
+}
+
+// How many bytes a mesh record needs, as its head says.
+pub fn mesh_length(most_cells: usize, most_faces: usize, bytes: &[u8]) -> LengthAnswer
+    ensures { λ r. ⌜ lengthSaid r ≡ meshNeeds «most_cells» «most_faces» (now (bytes .entry)) ⌝ }
+{
+    let a = mesh(most_cells, most_faces, bytes);
+    if let Answer::Refused(r) = a {
+        return LengthAnswer::Refused(r);
+    }
+    let c = cells(bytes);
+    let f = faces(bytes);
+    LengthAnswer::Needs(lengths::mesh_bytes(c, f))
+}
+
+// How many bytes the record of a field on so many cells needs.
+pub fn field_length(cells: usize, bytes: &[u8]) -> LengthAnswer
+    ensures { λ r. ⌜ lengthSaid r ≡ fieldNeeds cells (now (bytes .entry)) ⌝ }
+{
+    let a = field(cells, bytes);
+    if let Answer::Refused(r) = a {
+        return LengthAnswer::Refused(r);
+    }
+    LengthAnswer::Needs(lengths::field_bytes(cells))
+}
+
+// How many bytes the record of a step through these faces needs.
+pub fn step_length(faces: usize, seconds: &[u64], bytes: &[u8]) -> LengthAnswer
+    ensures { λ r. ⌜ lengthSaid r ≡ stepNeeds faces (now (seconds .entry)) (now (bytes .entry)) ⌝ }
+{
+    let a = step(faces, seconds, bytes);
+    if let Answer::Refused(r) = a {
+        return LengthAnswer::Refused(r);
+    }
+    LengthAnswer::Needs(lengths::step_bytes(faces, seconds))
+}

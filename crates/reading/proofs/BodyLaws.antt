@@ -1,0 +1,137 @@
+-- A record that passed its tests: its body holds what the tables are to take, and they then hold the record's columns.
+use Prim.Native.Nat.{ℕ, suc, _+_, _-_, _*_, _^_, _≤_, _<_}
+use mathlib.Core.Path.{_≡_, refl, ap, _∙_}
+use mathlib.Core.Bool.{cond}
+use mathlib.Core.List.{List}
+use native.Mathlib.Omega.{arith}
+use lib.Dec.{eqb}
+use lib.IntN.{ℤ, pos}
+use lib.ListN.{length}
+use Rattle.lists.specs.Table.{table, over}
+use Rattle.lists.proofs.Tables.{table-cong}
+use Rattle.signed.specs.Sign.{withSign}
+use Rattle.model.specs.Mesh.{maxCells, maxFaces}
+use Rattle.model.specs.Causes.{fine}
+use Rattle.model.proofs.Verdicts.{both-fine}
+use Rattle.bits.specs.Field.{bitsAt}
+use Rattle.bits.proofs.Layouts.{bytes-hold, bytes-most}
+use Rattle.sections.specs.Sections.{shapeBits, place, valueIn, columnIn}
+use Rattle.sections.proofs.Bodies.{bodyOf, body-length, body-value, body-column}
+use Rattle.heads.specs.Layouts.{sizeBits, fluxBits, outsideBits, isRim, rimFaces, meshHead, meshBody, fieldHead, fieldBody, stepHead, stepBody, stepShape, meshBits, fieldBits, stepBits}
+use Rattle.heads.specs.Heads.{cellsIn, facesIn}
+use Rattle.heads.proofs.Layouts.{mesh-most, field-most, step-most, outside-at}
+use Rattle.reading.specs.Reading.{shapeIn, massesIn, meshBodyVerdict, fieldBodyVerdict, stepBodyVerdict}
+use Rattle.reading.specs.Bodies.{MeshRoom, MeshFilled, StepRoom, StepFilled}
+use Rattle.reading.proofs.ReadLaws.{mesh-tables-say, field-tables-say, step-tables-say}
+
+-- heads in bytes
+abbrev pub meshHeadBytes : ℕ
+meshHeadBytes = 4
+
+abbrev pub fieldHeadBytes : ℕ
+fieldHeadBytes = 2
+
+abbrev pub stepHeadBytes : ℕ
+stepHeadBytes = 4
+
+-- a mesh
+module _ (bs : List ℕ) where
+  pub mesh-room : {v f s g k : ℕ} → cellsIn bs ≤ maxCells → facesIn bs ≤ maxFaces → meshBodyVerdict bs v f s g k ≡ fine
+      → (meshHeadBytes ≤ length bs) × MeshRoom (cellsIn bs) (facesIn bs) (bodyOf meshHeadBytes bs) v f s g k
+  unfolding meshBodyVerdict
+  mesh-room {v} {f} {s} {g} {k} few-cells few-faces passed =
+      let says = mesh-tables-say bs v f s g k (both-fine _ _ passed .0) in
+      let end = meshBits (cellsIn bs) (facesIn bs) in
+      let held = bytes-hold end in
+      let most = bytes-most end in
+      let small = mesh-most (cellsIn bs) (facesIn bs) few-cells few-faces in
+      let same = says .same-length in
+      let body = body-length meshHeadBytes bs in (
+        omega arith,
+        record {
+          small = omega arith;
+          holds = omega arith;
+          volumes-long = says .volumes-long;
+          firsts-long = says .firsts-long;
+          seconds-long = says .seconds-long;
+          shares-long = says .shares-long;
+          reaches-long = says .reaches-long;
+        },
+      )
+
+  full : (k j : ℕ) (ys : List ℕ) {zs : List ℕ} → zs ≡ over (columnIn (bodyOf meshHeadBytes bs) (meshBody (cellsIn bs) (facesIn bs)) k j) ys → zs ≡ over (columnIn bs (shapeIn bs) (suc k) j) ys
+  full k j ys e = e ∙ ap (λ xs. over xs ys) (body-column meshHeadBytes bs meshHead (meshBody (cellsIn bs) (facesIn bs)) k j refl)
+
+  pub mesh-filled : {v f s g k v′ f′ s′ g′ k′ : List ℕ} → MeshFilled (bodyOf meshHeadBytes bs) (meshBody (cellsIn bs) (facesIn bs)) 0 v f s g k v′ f′ s′ g′ k′ → MeshFilled bs (shapeIn bs) 1 v f s g k v′ f′ s′ g′ k′
+  mesh-filled {v} {f} {s} {g} {k} b = record {
+    volumes-full = full 0 0 v (b .volumes-full);
+    firsts-full = full 1 0 f (b .firsts-full);
+    seconds-full = full 1 1 s (b .seconds-full);
+    shares-full = full 1 2 g (b .shares-full);
+    reaches-full = full 1 3 k (b .reaches-full);
+  }
+
+-- a field
+module _ (cells : ℕ) (bs : List ℕ) where
+  pub field-room : {m : ℕ} → cells ≤ maxCells → fieldBodyVerdict cells bs m ≡ fine
+      → (fieldHeadBytes ≤ length bs) × ((8 * length (bodyOf fieldHeadBytes bs) < 2 ^ 64) × (shapeBits (fieldBody cells) ≤ 8 * length (bodyOf fieldHeadBytes bs)) × (cells ≤ m))
+  field-room {m} few passed =
+      let says = field-tables-say cells bs m passed in
+      let held = bytes-hold (fieldBits cells) in
+      let most = bytes-most (fieldBits cells) in
+      let small = field-most cells few in
+      let same = says .same-length in
+      let body = body-length fieldHeadBytes bs in
+      (omega arith, (omega arith, omega arith, says .masses-long))
+
+  pub field-filled : (ys : List ℕ) {zs : List ℕ} → zs ≡ over (columnIn (bodyOf fieldHeadBytes bs) (fieldBody cells) 0 0) ys → zs ≡ over (massesIn bs cells) ys
+  unfolding massesIn
+  field-filled ys e = e ∙ ap (λ xs. over xs ys) (body-column fieldHeadBytes bs fieldHead (fieldBody cells) 0 0 refl)
+
+-- a step: what its body's columns are, and that they are the record's
+module _ (body : List ℕ) (faces : ℕ) (seconds : List ℕ) where
+  pub fluxes-taken : table faces (λ f. withSign (eqb (bitsAt body (0 + f * (1 + sizeBits)) 1) 1) (bitsAt body (0 + f * (1 + sizeBits) + 1) sizeBits))
+      ≡ table faces (λ f. withSign (eqb (valueIn body (stepBody faces seconds) 0 0 f) 1) (valueIn body (stepBody faces seconds) 0 1 f))
+  fluxes-taken = table-cong (pos 0) faces _ _ (λ f l. one f)
+    where
+      one : (f : ℕ) → withSign (eqb (bitsAt body (0 + f * (1 + sizeBits)) 1) 1) (bitsAt body (0 + f * (1 + sizeBits) + 1) sizeBits)
+          ≡ withSign (eqb (valueIn body (stepBody faces seconds) 0 0 f) 1) (valueIn body (stepBody faces seconds) 0 1 f)
+      one f =
+          let p : 0 + f * (1 + sizeBits) ≡ place (stepBody faces seconds) 0 0 f = omega arith in
+          let q : 0 + f * (1 + sizeBits) + 1 ≡ place (stepBody faces seconds) 0 1 f = omega arith in
+          ap (λ (x : ℕ). withSign (eqb (bitsAt body x 1) 1) (bitsAt body (0 + f * (1 + sizeBits) + 1) sizeBits)) p
+          ∙ ap (λ (x : ℕ). withSign (eqb (valueIn body (stepBody faces seconds) 0 0 f) 1) (bitsAt body x sizeBits)) q
+
+  pub outsides-taken : {p : ℕ} → p ≡ faces * fluxBits
+      → table faces (λ f. cond (isRim seconds f) (bitsAt body (p + rimFaces seconds f * outsideBits) outsideBits) 0) ≡ columnIn body (stepBody faces seconds) 1 0
+  outsides-taken {p} e = table-cong {A = ℕ} 0 faces _ _ (λ f l. ap (λ (x : ℕ). cond (isRim seconds f) (bitsAt body x outsideBits) 0) (at f))
+    where
+      at : (f : ℕ) → p + rimFaces seconds f * outsideBits ≡ place (stepBody faces seconds) 1 0 f
+      at f = omega (arith, e, outside-at faces seconds f)
+
+module _ (faces : ℕ) (seconds bs : List ℕ) where
+  pub step-room : {u x : ℕ} → faces ≤ maxFaces → faces ≤ length seconds → stepBodyVerdict faces seconds bs u x ≡ fine
+      → (stepHeadBytes ≤ length bs) × StepRoom faces seconds (bodyOf stepHeadBytes bs) u x
+  unfolding stepBodyVerdict
+  step-room {u} {x} few lent passed =
+      let says = step-tables-say faces seconds bs u x (both-fine _ _ passed .0) in
+      let held = bytes-hold (stepBits faces seconds) in
+      let most = bytes-most (stepBits faces seconds) in
+      let small = step-most faces seconds few in
+      let same = says .same-length in
+      let body = body-length stepHeadBytes bs in (
+        omega arith,
+        record { small = omega arith; holds = omega arith; seconds-long = lent; fluxes-long = says .fluxes-long; outsides-long = says .outsides-long },
+      )
+
+  pub step-filled : {u u′ : List ℤ} {x x′ : List ℕ} → StepFilled faces (bodyOf stepHeadBytes bs) (stepBody faces seconds) 0 u x u′ x′ → StepFilled faces bs (stepShape faces seconds) 1 u x u′ x′
+  step-filled {u} {u′} {x} b = record {
+    fluxes-full = b .fluxes-full ∙ ap (λ zs. over zs u) (table-cong (pos 0) faces _ _ (λ f l. flux f));
+    outsides-full = b .outsides-full ∙ ap (λ xs. over xs x) (body-column stepHeadBytes bs stepHead (stepBody faces seconds) 1 0 refl);
+  }
+    where
+      flux : (f : ℕ) → withSign (eqb (valueIn (bodyOf stepHeadBytes bs) (stepBody faces seconds) 0 0 f) 1) (valueIn (bodyOf stepHeadBytes bs) (stepBody faces seconds) 0 1 f)
+          ≡ withSign (eqb (valueIn bs (stepShape faces seconds) 1 0 f) 1) (valueIn bs (stepShape faces seconds) 1 1 f)
+      flux f =
+          ap (λ (s : ℕ). withSign (eqb s 1) (valueIn (bodyOf stepHeadBytes bs) (stepBody faces seconds) 0 1 f)) (body-value stepHeadBytes bs stepHead (stepBody faces seconds) 0 0 f refl)
+          ∙ ap (λ (n : ℕ). withSign (eqb (valueIn bs (stepShape faces seconds) 1 0 f) 1) n) (body-value stepHeadBytes bs stepHead (stepBody faces seconds) 0 1 f refl)

@@ -1,0 +1,125 @@
+-- What a record that passed its tests says, and what a reading comes to where it is refused, at its head or after it, and where it is accepted.
+use Prim.Native.Nat.{ℕ, _≤_}
+use mathlib.Core.Path.{_≡_, sym, _∙_}
+use mathlib.Core.List.{List}
+use lib.IntN.{ℤ}
+use lib.ListN.{length}
+use borrow.Author.Tests.{leb-true, eqb-true}
+use Rattle.lists.specs.Table.{over}
+use Rattle.model.specs.Causes.{Outcome, accepted, refused, Verdict, fine, _andThen_, long}
+use Rattle.model.specs.Answers.{told}
+use Rattle.model.specs.declared.Answer.the-variants as call
+use Rattle.model.specs.declared.Refusal.{Refusal}
+use Rattle.model.proofs.Verdicts.{past, both-fine, need-fine}
+use Rattle.bits.specs.Layout.{bytesFor}
+use Rattle.heads.specs.Layouts.{meshBits, fieldBits, stepBits, meshLength, fieldLength, stepLength, stepShape}
+use Rattle.heads.specs.Heads.{cellsIn, facesIn, hasLength, meshHeadVerdict}
+use Rattle.heads.proofs.HeadLaws.{MeshHeadSays, mesh-head-says}
+use Rattle.reading.specs.Reading.{shapeIn, countsIn, volumesIn, firstsIn, secondsIn, sharesIn, reachesIn, massesIn, fluxesIn, outsidesIn, meshBodyVerdict, fieldBodyVerdict, meshRead}
+use Rattle.reading.specs.Answers.{MeshReading, FieldReading, StepReading}
+use Rattle.reading.specs.Bodies.{MeshFilled, StepFilled}
+use Rattle.reading.specs.declared.Counts.{Counts}
+use Rattle.reading.specs.declared.MeshAnswer.the-variants as mesh
+
+-- the second of two tests refuses, or both pass
+pub second-out : {u v : Verdict} {k i : ℕ} → u ≡ fine → v ≡ refused k i → (u andThen v) ≡ refused k i
+second-out e q = past _ e ∙ q
+
+pub both-past : {u v : Verdict} → u ≡ fine → v ≡ fine → (u andThen v) ≡ fine
+both-past e q = past _ e ∙ q
+
+-- what a record that passed its length and its tables says
+pub record MeshTablesSay (bs : List ℕ) (volumes firsts seconds shares reaches : ℕ) : Type 0 where
+  pub same-length : length bs ≡ bytesFor (meshBits (cellsIn bs) (facesIn bs))
+  pub volumes-long : cellsIn bs ≤ volumes
+  pub firsts-long : facesIn bs ≤ firsts
+  pub seconds-long : facesIn bs ≤ seconds
+  pub shares-long : facesIn bs ≤ shares
+  pub reaches-long : facesIn bs ≤ reaches
+
+pub mesh-tables-say : (bs : List ℕ) (volumes firsts seconds shares reaches : ℕ)
+    → (hasLength bs (meshLength (cellsIn bs) (facesIn bs)) andThen long 0 (cellsIn bs) volumes andThen long 1 (facesIn bs) firsts
+    andThen long 2 (facesIn bs) seconds andThen long 3 (facesIn bs) shares andThen long 4 (facesIn bs) reaches) ≡ fine
+    → MeshTablesSay bs volumes firsts seconds shares reaches
+unfolding meshLength
+mesh-tables-say bs volumes firsts seconds shares reaches e =
+    let a = both-fine _ _ e in
+    let b = both-fine _ _ (a .0) in
+    let c = both-fine _ _ (b .0) in
+    let d = both-fine _ _ (c .0) in
+    let g = both-fine _ _ (d .0) in
+    record {
+      same-length = eqb-true _ _ (need-fine 11 0 _ (g .0));
+      volumes-long = leb-true _ _ (need-fine 2 0 _ (g .1));
+      firsts-long = leb-true _ _ (need-fine 2 1 _ (d .1));
+      seconds-long = leb-true _ _ (need-fine 2 2 _ (c .1));
+      shares-long = leb-true _ _ (need-fine 2 3 _ (b .1));
+      reaches-long = leb-true _ _ (need-fine 2 4 _ (a .1));
+    }
+
+pub record FieldTablesSay (cells : ℕ) (bs : List ℕ) (masses : ℕ) : Type 0 where
+  pub same-length : length bs ≡ bytesFor (fieldBits cells)
+  pub masses-long : cells ≤ masses
+
+pub field-tables-say : (cells : ℕ) (bs : List ℕ) (masses : ℕ) → fieldBodyVerdict cells bs masses ≡ fine → FieldTablesSay cells bs masses
+unfolding fieldBodyVerdict fieldLength
+field-tables-say cells bs masses e =
+    let a = both-fine _ _ e in
+    record { same-length = eqb-true _ _ (need-fine 11 0 _ (a .0)); masses-long = leb-true _ _ (need-fine 2 5 _ (a .1)) }
+
+pub record StepTablesSay (faces : ℕ) (seconds bs : List ℕ) (fluxes outsides : ℕ) : Type 0 where
+  pub same-length : length bs ≡ bytesFor (stepBits faces seconds)
+  pub fluxes-long : faces ≤ fluxes
+  pub outsides-long : faces ≤ outsides
+
+pub step-tables-say : (faces : ℕ) (seconds bs : List ℕ) (fluxes outsides : ℕ)
+    → (hasLength bs (stepLength faces seconds) andThen long 6 faces fluxes andThen long 7 faces outsides) ≡ fine → StepTablesSay faces seconds bs fluxes outsides
+unfolding stepLength
+step-tables-say faces seconds bs fluxes outsides e =
+    let a = both-fine _ _ e in
+    let b = both-fine _ _ (a .0) in
+    record { same-length = eqb-true _ _ (need-fine 11 0 _ (b .0)); fluxes-long = leb-true _ _ (need-fine 2 6 _ (b .1)); outsides-long = leb-true _ _ (need-fine 2 7 _ (a .1)) }
+
+-- what a mesh reading that is accepted has passed
+pub record ReadSays (mostCells mostFaces : ℕ) (bs : List ℕ) (n : Counts) (v f s g k : ℕ) : Type 0 where
+  pub counts-are : n ≡ countsIn bs
+  pub head : MeshHeadSays mostCells mostFaces bs
+  pub body-fine : meshBodyVerdict bs v f s g k ≡ fine
+
+pub read-says : (mostCells mostFaces : ℕ) (bs : List ℕ) (v f s g k : ℕ) {n : Counts} → meshRead mostCells mostFaces bs v f s g k ≡ accepted n → ReadSays mostCells mostFaces bs n v f s g k
+unfolding meshRead _andThen_
+read-says mostCells mostFaces bs v f s g k e =
+    let a = both-fine (meshHeadVerdict mostCells mostFaces bs andThen meshBodyVerdict bs v f s g k) (accepted (countsIn bs)) e in
+    let b = both-fine (meshHeadVerdict mostCells mostFaces bs) (meshBodyVerdict bs v f s g k) (a .0) in
+    record { counts-are = cc; head = mesh-head-says mostCells mostFaces bs (b .0); body-fine = b .1 }
+
+-- the answer and the tables
+module _ {bs v f s w k : List ℕ} {o : Outcome Counts} where
+  pub mesh-refused : {r : Refusal} → o ≡ told r → MeshReading o bs v f s w k (mesh.Refused r) v f s w k
+  mesh-refused e = record { answer = sym e; volumes-read = rw e; firsts-read = rw e; seconds-read = rw e; shares-read = rw e; reaches-read = rw e }
+
+  pub mesh-accepted : {n : Counts} {v′ f′ s′ w′ k′ : List ℕ} → o ≡ accepted n → MeshFilled bs (shapeIn bs) 1 v f s w k v′ f′ s′ w′ k′ → MeshReading o bs v f s w k (mesh.Read n) v′ f′ s′ w′ k′
+  unfolding volumesIn firstsIn secondsIn sharesIn reachesIn
+  mesh-accepted e d = record {
+    answer = sym e;
+    volumes-read = rw e (d .volumes-full);
+    firsts-read = rw e (d .firsts-full);
+    seconds-read = rw e (d .seconds-full);
+    shares-read = rw e (d .shares-full);
+    reaches-read = rw e (d .reaches-full);
+  }
+
+module _ {cells : ℕ} {bs m : List ℕ} {o : Verdict} where
+  pub field-refused : {r : Refusal} → o ≡ told r → FieldReading o cells bs m (call.Refused r) m
+  field-refused e = record { answer = sym e; masses-read = rw e }
+
+  pub field-accepted : {m′ : List ℕ} → o ≡ fine → m′ ≡ over (massesIn bs cells) m → FieldReading o cells bs m call.Done m′
+  field-accepted e d = record { answer = sym e; masses-read = rw e d }
+
+module _ {faces : ℕ} {seconds bs : List ℕ} {u : List ℤ} {x : List ℕ} {o : Verdict} where
+  pub step-refused : {r : Refusal} → o ≡ told r → StepReading o faces seconds bs u x (call.Refused r) u x
+  step-refused e = record { answer = sym e; fluxes-read = rw e; outsides-read = rw e }
+
+  pub step-accepted : {u′ : List ℤ} {x′ : List ℕ} → o ≡ fine → StepFilled faces bs (stepShape faces seconds) 1 u x u′ x′ → StepReading o faces seconds bs u x call.Done u′ x′
+  unfolding fluxesIn outsidesIn
+  step-accepted e d = record { answer = sym e; fluxes-read = rw e (d .fluxes-full); outsides-read = rw e (d .outsides-full) }

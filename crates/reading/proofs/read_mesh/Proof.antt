@@ -1,0 +1,71 @@
+-- The tests answer with the counts; then the body's tables hold the record's columns (`mesh-filled`).
+use Prim.Native.Nat.{_≤_}
+use mathlib.Core.Path.{_≡_, sym, ap, _∙_}
+use borrow.Author.Needs.{needs}
+use lib.ListN.{length}
+use Rattle.model.specs.Causes.{accepted}
+use Rattle.heads.specs.Heads.{cellsIn, facesIn}
+use Rattle.sections.proofs.Bodies.{bodyOf}
+use Rattle.reading.specs.declared.Counts.{Counts}
+use Rattle.reading.specs.Reading.{meshRead}
+use Rattle.reading.specs.Answers.{meshSaid}
+use Rattle.reading.specs.Bodies.{MeshRoom}
+use Rattle.reading.proofs.ReadLaws.{ReadSays, read-says, mesh-refused, mesh-accepted}
+use Rattle.reading.proofs.BodyLaws.{meshHeadBytes, mesh-room, mesh-filled}
+use Rattle.reading.proofs.read_mesh.Statement.{statement}
+use Rattle.reading.proofs.read_mesh.Tie as tie
+
+abbrev comes : tie.Start → Counts → Type 0
+comes s n = meshRead (s .args .most-cells) (s .args .most-faces) (s .args .bytes .now)
+    (length (s .args .volumes .now)) (length (s .args .firsts .now)) (length (s .args .seconds .now)) (length (s .args .shares .now)) (length (s .args .reaches .now)) ≡ accepted n
+
+says : (s : tie.Start) {n : Counts} → comes s n → ReadSays (s .args .most-cells) (s .args .most-faces) (s .args .bytes .now) n
+    (length (s .args .volumes .now)) (length (s .args .firsts .now)) (length (s .args .seconds .now)) (length (s .args .shares .now)) (length (s .args .reaches .now))
+says s e = read-says _ _ _ _ _ _ _ _ e
+
+room : (s : tie.Start) {n : Counts} → comes s n → let bs = s .args .bytes .now in (meshHeadBytes ≤ length bs) × MeshRoom (cellsIn bs) (facesIn bs) (bodyOf meshHeadBytes bs)
+    (length (s .args .volumes .now)) (length (s .args .firsts .now)) (length (s .args .seconds .now)) (length (s .args .shares .now)) (length (s .args .reaches .now))
+room s e = let k = says s e in mesh-room (s .args .bytes .now) (k .head .few-cells) (k .head .few-faces) (k .body-fine)
+
+returns : tie.Need-returns
+returns c =
+    let p1 = c .before .before in
+    let e = c .enum-told .given .1 in rw e (mesh-refused (sym (p1 .mesh .ensures) ∙ ap meshSaid e))
+
+sub-mesh : tie.Need-sub-mesh
+sub-mesh c =
+    let p1 = c .before in
+    let p2 = p1 .before .before in
+    let s = p2 .before .before .before .before .before .before .before in
+    room s (sym (p2 .mesh .ensures) ∙ ap meshSaid (p1 .a .given .1)) .0
+
+part-mesh-start : tie.Need-part-mesh-start
+part-mesh-start c =
+    let p1 = c .before in
+    let p2 = p1 .before .before in
+    let s = p2 .before .before .before .before .before .before .before in
+    room s (sym (p2 .mesh .ensures) ∙ ap meshSaid (p1 .a .given .1)) .0
+
+mesh-requires-2 : tie.Need-mesh-requires-2
+mesh-requires-2 c κs =
+    let p1 = c .before .before .before .before .before .before .before in
+    let p2 = p1 .before .before in
+    let s = p2 .before .before .before .before .before .before .before in
+    let e = sym (p2 .mesh .ensures) ∙ ap meshSaid (p1 .a .given .1) in
+    rw (says s e .counts-are) (room s e .1)
+
+returns-2 : tie.Need-returns-2
+returns-2 c =
+    let p1 = c .before .before .before .before .before .before .before .before .before in
+    let p2 = p1 .before in
+    let p3 = p2 .before .before .before .before .before .before .before .before in
+    let p4 = p3 .before .before in
+    let s = p4 .before .before .before .before .before .before .before in
+    let e = sym (p4 .mesh .ensures) ∙ ap meshSaid (p3 .a .given .1) in
+    mesh-accepted e (mesh-filled (s .args .bytes .now) (rw (says s e .counts-are) at (p2 .mesh2 .ensures)))
+
+pub read-mesh-spec : {M : Type 1} → statement M
+read-mesh-spec =
+    tie.close
+    (tie.spec (search needs) (search needs) (search needs) returns sub-mesh part-mesh-start (search needs) mesh-requires-2
+    (search needs) (search needs) (search needs) (search needs) (search needs) returns-2)

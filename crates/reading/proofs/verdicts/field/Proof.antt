@@ -1,0 +1,29 @@
+use mathlib.Core.Path.{sym, _∙_}
+use borrow.Author.Needs.{needs}
+use Rattle.model.proofs.Verdicts.{out, past, refuses, passes}
+use Rattle.heads.proofs.HeadLaws.{field-head-says}
+use Rattle.reading.specs.Reading.{fieldRead}
+use Rattle.reading.proofs.verdicts.field.Statement.{statement}
+use Rattle.reading.proofs.verdicts.field.Tie as tie
+
+returns : tie.Need-returns
+unfolding fieldRead
+returns c =
+    let p1 = c .before in
+    let p2 = p1 .before .before in
+    sym (out _ (refuses (p2 .field .ensures) (p1 .a .given .1)))
+
+field-body-requires : tie.Need-field-body-requires
+field-body-requires c κs =
+    let p1 = c .before .before in
+    field-head-says _ _ (passes (p1 .field .ensures) (c .enum-told .given .1)) .few-cells
+
+returns-2 : tie.Need-returns-2
+unfolding fieldRead
+returns-2 c =
+    let p1 = c .before in
+    let p2 = p1 .before .before in
+    c .field-body .ensures ∙ sym (past _ (passes (p2 .field .ensures) (p1 .enum-told .given .1)))
+
+pub field-spec : {M : Type 1} → statement M
+field-spec = tie.close (tie.spec (search needs) (search needs) returns (search needs) field-body-requires returns-2)

@@ -1,0 +1,36 @@
+-- Document 01, "What form each place needs", of answers: what the answer of a reading says, and what each reading leaves.
+use Prim.Native.Nat.{ℕ}
+use mathlib.Core.Path.{_≡_}
+use mathlib.Core.List.{List}
+use lib.IntN.{ℤ}
+use Rattle.lists.specs.Table.{over}
+use Rattle.model.specs.Causes.{Outcome, accepted, Verdict, taken}
+use Rattle.model.specs.Answers.{told, said}
+use Rattle.model.specs.declared.Answer.{Answer}
+use Rattle.reading.specs.declared.Counts.{Counts}
+use Rattle.reading.specs.declared.MeshAnswer.{MeshAnswer}
+use Rattle.reading.specs.declared.MeshAnswer.the-variants as mesh
+use Rattle.reading.specs.Reading.{volumesIn, firstsIn, secondsIn, sharesIn, reachesIn, massesIn, fluxesIn, outsidesIn}
+
+abbrev pub meshSaid : MeshAnswer → Outcome Counts
+meshSaid (mesh.Read n) = accepted n
+meshSaid (mesh.Refused r) = told r
+
+-- Document 01, "Causes", of reading. A reading that comes to o: its answer, and each table afterwards. The counted entries are filled and
+-- no others; a refused reading fills nothing.
+pub record MeshReading (o : Outcome Counts) (bs volumes firsts seconds shares reaches : List ℕ) (r : MeshAnswer) (volumes′ firsts′ seconds′ shares′ reaches′ : List ℕ) : Type 0 where
+  pub answer : meshSaid r ≡ o
+  pub volumes-read : volumes′ ≡ taken o (over (volumesIn bs) volumes) volumes
+  pub firsts-read : firsts′ ≡ taken o (over (firstsIn bs) firsts) firsts
+  pub seconds-read : seconds′ ≡ taken o (over (secondsIn bs) seconds) seconds
+  pub shares-read : shares′ ≡ taken o (over (sharesIn bs) shares) shares
+  pub reaches-read : reaches′ ≡ taken o (over (reachesIn bs) reaches) reaches
+
+pub record FieldReading (o : Verdict) (cells : ℕ) (bs masses : List ℕ) (r : Answer) (masses′ : List ℕ) : Type 0 where
+  pub answer : said r ≡ o
+  pub masses-read : masses′ ≡ taken o (over (massesIn bs cells) masses) masses
+
+pub record StepReading (o : Verdict) (faces : ℕ) (seconds bs : List ℕ) (fluxes : List ℤ) (outsides : List ℕ) (r : Answer) (fluxes′ : List ℤ) (outsides′ : List ℕ) : Type 0 where
+  pub answer : said r ≡ o
+  pub fluxes-read : fluxes′ ≡ taken o (over (fluxesIn bs faces) fluxes) fluxes
+  pub outsides-read : outsides′ ≡ taken o (over (outsidesIn bs faces seconds) outsides) outsides

@@ -1,0 +1,42 @@
+-- Cited by the contracts of inner functions only: no promise of the crate rests on these. A body counts its bits from its own first.
+use mathlib.Core.Path.{_≡_}
+use mathlib.Core.List.{List}
+use Prim.Native.Nat.{ℕ, suc, _+_, _*_, _^_, _≤_, _<_}
+use lib.Dec.{eqb}
+use lib.IntN.{ℤ}
+use lib.ListN.{length}
+use Rattle.lists.specs.Table.{table, over}
+use Rattle.signed.specs.Sign.{withSign}
+use Rattle.sections.specs.Sections.{Section, shapeBits, valueIn, columnIn}
+use Rattle.heads.specs.Layouts.{faceBits, outsideBits, meshBody, stepBody}
+
+-- a mesh's body holds what its tables are to take
+pub record MeshRoom (cells faces : ℕ) (body : List ℕ) (volumes firsts seconds shares reaches : ℕ) : Type 0 where
+  pub small : 8 * length body + faceBits < 2 ^ 64
+  pub holds : shapeBits (meshBody cells faces) ≤ 8 * length body
+  pub volumes-long : cells ≤ volumes
+  pub firsts-long : faces ≤ firsts
+  pub seconds-long : faces ≤ seconds
+  pub shares-long : faces ≤ shares
+  pub reaches-long : faces ≤ reaches
+
+-- the tables hold the columns of the sections k and k + 1
+pub record MeshFilled (bs : List ℕ) (S : List Section) (k : ℕ) (volumes firsts seconds shares reaches volumes′ firsts′ seconds′ shares′ reaches′ : List ℕ) : Type 0 where
+  pub volumes-full : volumes′ ≡ over (columnIn bs S k 0) volumes
+  pub firsts-full : firsts′ ≡ over (columnIn bs S (suc k) 0) firsts
+  pub seconds-full : seconds′ ≡ over (columnIn bs S (suc k) 1) seconds
+  pub shares-full : shares′ ≡ over (columnIn bs S (suc k) 2) shares
+  pub reaches-full : reaches′ ≡ over (columnIn bs S (suc k) 3) reaches
+
+-- a step's body, likewise
+pub record StepRoom (faces : ℕ) (seconds body : List ℕ) (fluxes outsides : ℕ) : Type 0 where
+  pub small : 8 * length body + outsideBits < 2 ^ 64
+  pub holds : shapeBits (stepBody faces seconds) ≤ 8 * length body
+  pub seconds-long : faces ≤ length seconds
+  pub fluxes-long : faces ≤ fluxes
+  pub outsides-long : faces ≤ outsides
+
+-- the tables hold the fluxes of section k and the outside values of section k + 1
+pub record StepFilled (faces : ℕ) (bs : List ℕ) (S : List Section) (k : ℕ) (fluxes : List ℤ) (outsides : List ℕ) (fluxes′ : List ℤ) (outsides′ : List ℕ) : Type 0 where
+  pub fluxes-full : fluxes′ ≡ over (table faces (λ f. withSign (eqb (valueIn bs S k 0 f) 1) (valueIn bs S k 1 f))) fluxes
+  pub outsides-full : outsides′ ≡ over (columnIn bs S (suc k) 0) outsides

@@ -1,0 +1,107 @@
+-- Document 01, "Causes", of reading: what reading a record gives, and what it refuses.
+use Prim.Native.Nat.{ℕ, _+_, _-_, _*_, _%_}
+use mathlib.Core.Bool.{Bool, not, _&&_, _||_}
+use mathlib.Core.List.{List, [], _∷_}
+use lib.ListN.{length}
+use lib.Dec.{eqb, leb, ltb}
+use lib.IntN.{ℤ}
+use Rattle.lists.specs.Table.{table}
+use Rattle.signed.specs.Sign.{withSign}
+use Rattle.model.specs.Mesh.{Mesh, meshOf}
+use Rattle.model.specs.Causes.{Outcome, accepted, Verdict, _andThen_, each, long}
+use Rattle.bits.specs.Field.{bitAt, bitsAt}
+use Rattle.sections.specs.Sections.{Section, place, valueIn, columnIn}
+use Rattle.heads.specs.Layouts.{meshZeroBits, stepZeroBits, signBits, sizeBits, meshHeadBits, stepHeadBits, fluxBits, meshShape, fieldShape, stepHead, fluxSection, stepShape, meshBits, stepBits, meshLength, fieldLength, stepLength}
+use Rattle.heads.specs.Heads.{cellsIn, facesIn, hasLength, meshHeadVerdict, fieldHeadVerdict, stepHeadVerdict}
+use Rattle.reading.specs.declared.Counts.{Counts}
+
+-- Values: reading does not judge them. Each is the number that the bits at its place spell; places count from the record's first bit.
+module _ (bs : List ℕ) where
+  abbrev pub shapeIn : List Section
+  shapeIn = meshShape (cellsIn bs) (facesIn bs)
+
+  -- a mesh: section 1 has a row for each cell, section 2 one for each face
+  unfoldable pub volumesIn : List ℕ
+  volumesIn = columnIn bs shapeIn 1 0
+
+  unfoldable pub firstsIn : List ℕ
+  firstsIn = columnIn bs shapeIn 2 0
+
+  unfoldable pub secondsIn : List ℕ
+  secondsIn = columnIn bs shapeIn 2 1
+
+  unfoldable pub sharesIn : List ℕ
+  sharesIn = columnIn bs shapeIn 2 2
+
+  unfoldable pub reachesIn : List ℕ
+  reachesIn = columnIn bs shapeIn 2 3
+
+  abbrev pub countsIn : Counts
+  countsIn = record { cells = cellsIn bs; faces = facesIn bs }
+
+  abbrev pub meshIn : Mesh
+  meshIn = meshOf (cellsIn bs) (facesIn bs) volumesIn firstsIn secondsIn sharesIn reachesIn
+
+  -- a field
+  unfoldable pub massesIn : ℕ → List ℕ
+  massesIn cells = columnIn bs (fieldShape cells) 1 0
+
+  -- a step: the sign and the size of each face's U stand before the outside values, and do not rest on the seconds
+  abbrev pub minusIn : ℕ → ℕ → Bool
+  minusIn faces f = eqb (valueIn bs (stepHead ∷ fluxSection faces ∷ []) 1 0 f) 1
+
+  abbrev pub sizeIn : ℕ → ℕ → ℕ
+  sizeIn faces f = valueIn bs (stepHead ∷ fluxSection faces ∷ []) 1 1 f
+
+  unfoldable pub fluxesIn : ℕ → List ℤ
+  fluxesIn faces = table faces (λ f. withSign (minusIn faces f) (sizeIn faces f))
+
+  -- outside values away from the rim read 0: there is no row
+  abbrev pub outsidePlace : ℕ → List ℕ → ℕ → ℕ
+  outsidePlace faces seconds f = place (stepShape faces seconds) 2 0 f
+
+  unfoldable pub outsidesIn : ℕ → List ℕ → List ℕ
+  outsidesIn faces seconds = columnIn bs (stepShape faces seconds) 2 0
+
+-- Cause 12, by the bit at i. The zero bits are those that end the head, and those after the last field.
+unfoldable pub zeroBitGood : List ℕ → ℕ → ℕ → ℕ → ℕ → Bool
+zeroBitGood bs headZeros headEnd end i = not (eqb (bitAt bs i) 1 && ((leb (headEnd - headZeros) i && ltb i headEnd) || leb end i))
+
+-- the sign of a minus with size 0 stands at i
+unfoldable pub minusZero : List ℕ → ℕ → ℕ → Bool
+minusZero bs faces i =
+    leb stepHeadBits i && ltb i (stepHeadBits + faces * fluxBits) && eqb ((i - stepHeadBits) % fluxBits) 0
+    && eqb (bitsAt bs i signBits) 1 && eqb (bitsAt bs (i + signBits) sizeBits) 0
+
+unfoldable pub meshBitGood : List ℕ → ℕ → Bool
+meshBitGood bs i = zeroBitGood bs meshZeroBits meshHeadBits (meshBits (cellsIn bs) (facesIn bs)) i
+
+unfoldable pub stepBitGood : List ℕ → ℕ → List ℕ → ℕ → Bool
+stepBitGood bs faces seconds i = zeroBitGood bs stepZeroBits stepHeadBits (stepBits faces seconds) i && not (minusZero bs faces i)
+
+-- The order of reading past the head: length 11, then 2, then 12: what a record whose head is fine is refused for, read into tables of so
+-- many entries.
+unfoldable pub meshBodyVerdict : List ℕ → ℕ → ℕ → ℕ → ℕ → ℕ → Verdict
+meshBodyVerdict bs volumes firsts seconds shares reaches = hasLength bs (meshLength (cellsIn bs) (facesIn bs))
+    andThen long 0 (cellsIn bs) volumes andThen long 1 (facesIn bs) firsts andThen long 2 (facesIn bs) seconds
+    andThen long 3 (facesIn bs) shares andThen long 4 (facesIn bs) reaches
+    andThen each 12 (8 * length bs) (meshBitGood bs)
+
+unfoldable pub fieldBodyVerdict : ℕ → List ℕ → ℕ → Verdict
+fieldBodyVerdict cells bs masses = hasLength bs (fieldLength cells) andThen long 5 cells masses
+
+unfoldable pub stepBodyVerdict : ℕ → List ℕ → List ℕ → ℕ → ℕ → Verdict
+stepBodyVerdict faces seconds bs fluxes outsides = hasLength bs (stepLength faces seconds)
+    andThen long 6 faces fluxes andThen long 7 faces outsides
+    andThen each 12 (8 * length bs) (stepBitGood bs faces seconds)
+
+-- What each reading comes to.
+unfoldable pub meshRead : ℕ → ℕ → List ℕ → ℕ → ℕ → ℕ → ℕ → ℕ → Outcome Counts
+meshRead mostCells mostFaces bs volumes firsts seconds shares reaches =
+    meshHeadVerdict mostCells mostFaces bs andThen meshBodyVerdict bs volumes firsts seconds shares reaches andThen accepted (countsIn bs)
+
+unfoldable pub fieldRead : ℕ → List ℕ → ℕ → Verdict
+fieldRead cells bs masses = fieldHeadVerdict cells bs andThen fieldBodyVerdict cells bs masses
+
+unfoldable pub stepRead : ℕ → List ℕ → List ℕ → ℕ → ℕ → Verdict
+stepRead faces seconds bs fluxes outsides = stepHeadVerdict faces seconds bs andThen stepBodyVerdict faces seconds bs fluxes outsides

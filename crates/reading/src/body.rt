@@ -1,0 +1,64 @@
+// The body of a record, read from the part of the record that begins at the head's end, into the counted entries of the tables.
+use heads::body::Body;
+use sections::read_column;
+use sections::read_marked;
+use sections::read_signed;
+ghost use mathlib.Core.Path.{_≡_};
+ghost use Prim.Native.Nat.{_*_, _^_, _≤_, _<_};
+ghost use lib.ListN.{length};
+ghost use Rattle.lists.specs.Table.{over};
+ghost use Rattle.sections.specs.Sections.{shapeBits, columnIn};
+ghost use Rattle.heads.specs.Layouts.{meshBody, fieldBody, stepBody};
+ghost use Rattle.reading.specs.Bodies.{MeshRoom, MeshFilled, StepRoom, StepFilled};
+
+pub fn mesh(
+    cells: usize,
+    faces: usize,
+    body: &[u8],
+    volumes: &mut [u64],
+    firsts: &mut [u64],
+    seconds: &mut [u64],
+    shares: &mut [u64],
+    reaches: &mut [u64],
+)
+    requires { ⌜ MeshRoom cells faces (now body) (length (now volumes)) (length (now firsts)) (length (now seconds)) (length (now shares)) (length (now reaches)) ⌝ }
+    ensures { λ _. ⌜ MeshFilled (now (body .entry)) (meshBody cells faces) 0
+        (now (volumes .entry)) (now (firsts .entry)) (now (seconds .entry)) (now (shares .entry)) (now (reaches .entry))
+        (now (volumes .exit)) (now (firsts .exit)) (now (seconds .exit)) (now (shares .exit)) (now (reaches .exit)) ⌝ }
+{
+    let first = Body::new(cells * Body::VOLUME);
+    let second = first.past(Body::END);
+    let share = second.past(Body::END);
+    let reach = share.past(Body::SHARE);
+    read_column(body, 0, Body::VOLUME, Body::VOLUME, cells, volumes);
+    read_column(body, first.at, Body::FACE, Body::END, faces, firsts);
+    read_column(body, second.at, Body::FACE, Body::END, faces, seconds);
+    read_column(body, share.at, Body::FACE, Body::SHARE, faces, shares);
+    read_column(body, reach.at, Body::FACE, Body::REACH, faces, reaches);
+}
+
+pub fn field(cells: usize, body: &[u8], masses: &mut [u64])
+    requires { ⌜ (8 * length (now body) < 2 ^ 64) × (shapeBits (fieldBody cells) ≤ 8 * length (now body)) × (cells ≤ length (now masses)) ⌝ }
+    ensures { λ _. ⌜ now (masses .exit) ≡ over (columnIn (now (body .entry)) (fieldBody cells) 0 0) (now (masses .entry)) ⌝ }
+{
+    read_column(body, 0, Body::MASS, Body::MASS, cells, masses);
+}
+
+// The fluxes of all faces, then the outside values.
+pub fn step(faces: usize, seconds: &[u64], body: &[u8], fluxes: &mut [i64], outsides: &mut [u64])
+    requires { ⌜ StepRoom faces (now seconds) (now body) (length (now fluxes)) (length (now outsides)) ⌝ }
+    ensures { λ _. ⌜ StepFilled faces (now (body .entry)) (stepBody faces (now (seconds .entry))) 0
+        (now (fluxes .entry)) (now (outsides .entry)) (now (fluxes .exit)) (now (outsides .exit)) ⌝ }
+{
+    let first = Body::new(faces * Body::FLUX);
+    read_signed(body, 0, Body::SIZE, faces, fluxes);
+    read_marked(
+        body,
+        first.at,
+        Body::OUTSIDE,
+        model::RIM,
+        faces,
+        seconds,
+        outsides,
+    );
+}

@@ -1,0 +1,101 @@
+// The three records of document 01, read.
+mod body;
+mod verdicts;
+mod zeros;
+
+use model::Answer;
+use model::Refusal;
+ghost use lib.ListN.{length};
+ghost use Rattle.reading.specs.Reading.{meshRead, fieldRead, stepRead};
+ghost use Rattle.reading.specs.Answers.{MeshReading, FieldReading, StepReading};
+
+// The counts of a mesh that has been read.
+pub struct Counts {
+    pub cells: usize,
+    pub faces: usize,
+}
+
+pub enum MeshAnswer {
+    Read(Counts),
+    Refused(Refusal),
+}
+
+// A mesh record read into tables of at least its counts. No limit is above document 01's, whatever the caller sets.
+pub fn read_mesh(
+    most_cells: usize,
+    most_faces: usize,
+    bytes: &[u8],
+    volumes: &mut [u64],
+    firsts: &mut [u64],
+    seconds: &mut [u64],
+    shares: &mut [u64],
+    reaches: &mut [u64],
+) -> MeshAnswer
+    ensures { λ r. ⌜ MeshReading
+        (meshRead «most_cells» «most_faces» (now (bytes .entry))
+        (length (now (volumes .entry))) (length (now (firsts .entry))) (length (now (seconds .entry))) (length (now (shares .entry))) (length (now (reaches .entry))))
+        (now (bytes .entry))
+        (now (volumes .entry)) (now (firsts .entry)) (now (seconds .entry)) (now (shares .entry)) (now (reaches .entry))
+        r
+        (now (volumes .exit)) (now (firsts .exit)) (now (seconds .exit)) (now (shares .exit)) (now (reaches .exit)) ⌝ }
+{
+    let a = verdicts::mesh(
+        most_cells,
+        most_faces,
+        bytes,
+        volumes.len(),
+        firsts.len(),
+        seconds.len(),
+        shares.len(),
+        reaches.len(),
+    );
+    let MeshAnswer::Read(n) = a else {
+        return a;
+    };
+    body::mesh(
+        n.cells,
+        n.faces,
+        &bytes[heads::MESH_HEAD..],
+        volumes,
+        firsts,
+        seconds,
+        shares,
+        reaches,
+    );
+    MeshAnswer::Read(n)
+}
+
+// The record of a field on so many cells.
+pub fn read_field(cells: usize, bytes: &[u8], masses: &mut [u64]) -> Answer
+    ensures { λ r. ⌜ FieldReading
+        (fieldRead cells (now (bytes .entry)) (length (now (masses .entry))))
+        cells (now (bytes .entry)) (now (masses .entry)) r (now (masses .exit)) ⌝ }
+{
+    let a = verdicts::field(cells, bytes, masses.len());
+    if let Answer::Refused(r) = a {
+        return Answer::Refused(r);
+    }
+    body::field(cells, &bytes[heads::FIELD_HEAD..], masses);
+    Answer::Done
+}
+
+// The record of a step through these faces. Of the mesh only the seconds are looked at, for the rim.
+pub fn read_step(
+    faces: usize,
+    seconds: &[u64],
+    bytes: &[u8],
+    fluxes: &mut [i64],
+    outsides: &mut [u64],
+) -> Answer
+    ensures { λ r. ⌜ StepReading
+        (stepRead faces (now (seconds .entry)) (now (bytes .entry)) (length (now (fluxes .entry))) (length (now (outsides .entry))))
+        faces (now (seconds .entry)) (now (bytes .entry)) (now (fluxes .entry)) (now (outsides .entry))
+        r (now (fluxes .exit)) (now (outsides .exit)) ⌝ }
+{
+    let a = verdicts::step(faces, seconds, bytes, fluxes.len(), outsides.len());
+    if let Answer::Refused(r) = a {
+        return Answer::Refused(r);
+    }
+    body::step(faces, seconds, &bytes[heads::STEP_HEAD..], fluxes, outsides);
+    Answer::Done
+}

@@ -1,0 +1,101 @@
+-- What makes a reading accepted, and what an accepted one has passed.
+use Prim.Native.Nat.{ℕ, _*_, _≤_, _<_, min}
+use mathlib.Core.Path.{_≡_, refl}
+use mathlib.Core.Bool.{true, not, _&&_}
+use mathlib.Core.List.{List}
+use native.Mathlib.Omega.{arith}
+use lib.ListN.{length}
+use borrow.Author.Tests.{eq-eqb, le-leb}
+use Rattle.lists.proofs.Tests.{both-true}
+use Rattle.model.specs.Mesh.{maxCells, maxFaces}
+use Rattle.model.specs.Causes.{accepted, fine, countsWithin}
+use Rattle.model.proofs.Verdicts.{need-met, fine-each, each-fine, both-fine, past}
+use Rattle.bits.specs.Layout.{bytesFor}
+use Rattle.heads.specs.Layouts.{meshKind, fieldKind, stepKind, meshZeroBits, stepZeroBits, meshHeadBits, stepHeadBits, meshBits, fieldBits, stepBits, meshLength, fieldLength, stepLength}
+use Rattle.heads.specs.Heads.{kindIn, cellsIn, facesIn, stepFacesIn, meshHeadVerdict, fieldHeadVerdict, stepHeadVerdict}
+use Rattle.heads.proofs.HeadLaws.{field-head-says, step-head-says}
+use Rattle.reading.specs.Reading.{countsIn, zeroBitGood, minusZero, meshBitGood, stepBitGood, meshBodyVerdict, fieldBodyVerdict, stepBodyVerdict, meshRead, fieldRead, stepRead}
+use Rattle.reading.specs.declared.Counts.{Counts}
+use Rattle.reading.proofs.ReadLaws.{both-past, mesh-tables-say, field-tables-say, step-tables-say, read-says}
+
+module _ (bs : List ℕ) where
+  pub mesh-reads : (mostCells mostFaces v f s w k : ℕ) → kindIn bs ≡ meshKind
+      → countsWithin (min mostCells maxCells) (min mostFaces maxFaces) (cellsIn bs) (facesIn bs) ≡ fine → length bs ≡ bytesFor (meshBits (cellsIn bs) (facesIn bs))
+      → cellsIn bs ≤ v → facesIn bs ≤ f → facesIn bs ≤ s → facesIn bs ≤ w → facesIn bs ≤ k
+      → ((i : ℕ) → zeroBitGood bs meshZeroBits meshHeadBits (meshBits (cellsIn bs) (facesIn bs)) i ≡ true) → meshRead mostCells mostFaces bs v f s w k ≡ accepted (countsIn bs)
+  unfolding meshRead meshHeadVerdict meshBodyVerdict meshLength meshBitGood bytesFor
+  mesh-reads mostCells mostFaces v f s w k kind within len lv lf ls lw lk good =
+      past _
+      (both-past (both-past (both-past (need-met 11 0 (le-leb 4 (length bs) (omega (arith, len)))) (need-met 13 0 (eq-eqb _ _ kind))) within)
+      (both-past (both-past (both-past (both-past (both-past (both-past (need-met 11 0 (eq-eqb _ _ len)) (need-met 2 0 (le-leb _ _ lv))) (need-met 2 1 (le-leb _ _ lf))) (need-met 2 2 (le-leb _ _ ls)))
+      (need-met 2 3 (le-leb _ _ lw))) (need-met 2 4 (le-leb _ _ lk))) (fine-each 12 _ _ (λ i l. good i))))
+
+  pub field-reads : (cells m : ℕ) → kindIn bs ≡ fieldKind → cellsIn bs ≡ cells → 1 ≤ cells → cells ≤ maxCells → length bs ≡ bytesFor (fieldBits cells) → cells ≤ m → fieldRead cells bs m ≡ fine
+  unfolding fieldRead fieldHeadVerdict fieldBodyVerdict fieldLength bytesFor
+  field-reads cells m kind c some few len lm =
+      rw (kind, c)
+      (both-past (both-past (both-past (both-past (need-met 11 0 (le-leb 2 (length bs) (omega (arith, len)))) (need-met 13 0 refl)) (need-met 13 1 (eq-eqb cells cells refl)))
+      (need-met 1 0 (rw (le-leb 1 cells some) (le-leb cells maxCells few)))) (both-past (need-met 11 0 (eq-eqb _ _ len)) (need-met 2 5 (le-leb _ _ lm))))
+
+  pub step-reads : (faces : ℕ) (seconds : List ℕ) (u x : ℕ) → kindIn bs ≡ stepKind → stepFacesIn bs ≡ faces → faces ≤ maxFaces → faces ≤ length seconds → length bs ≡ bytesFor (stepBits faces seconds)
+      → faces ≤ u → faces ≤ x → ((i : ℕ) → (zeroBitGood bs stepZeroBits stepHeadBits (stepBits faces seconds) i && not (minusZero bs faces i)) ≡ true) → stepRead faces seconds bs u x ≡ fine
+  unfolding stepRead stepHeadVerdict stepBodyVerdict stepLength stepBitGood bytesFor
+  step-reads faces seconds u x kind n few lent len lu lx good =
+      rw (kind, n)
+      (both-past (both-past (both-past (both-past (both-past (need-met 11 0 (le-leb 4 (length bs) (omega (arith, len)))) (need-met 13 0 refl)) (need-met 13 1 (eq-eqb faces faces refl))) (need-met 1 1 (le-leb _ _ few)))
+      (need-met 2 2 (le-leb _ _ lent))) (both-past (both-past (both-past (need-met 11 0 (eq-eqb _ _ len)) (need-met 2 6 (le-leb _ _ lu))) (need-met 2 7 (le-leb _ _ lx))) (fine-each 12 _ _ (λ i l. good i))))
+
+-- an accepted mesh
+pub record MeshPassed (bs : List ℕ) (n : Counts) : Type 0 where
+  pub counts-are : n ≡ countsIn bs
+  pub kind : kindIn bs ≡ meshKind
+  pub same-length : length bs ≡ bytesFor (meshBits (cellsIn bs) (facesIn bs))
+  pub good : (i : ℕ) → i < 8 * length bs → zeroBitGood bs meshZeroBits meshHeadBits (meshBits (cellsIn bs) (facesIn bs)) i ≡ true
+
+pub mesh-passed : (mostCells mostFaces : ℕ) (bs : List ℕ) (v f s w k : ℕ) {n : Counts} → meshRead mostCells mostFaces bs v f s w k ≡ accepted n → MeshPassed bs n
+unfolding meshBodyVerdict meshBitGood
+mesh-passed mostCells mostFaces bs v f s w k e =
+    let r = read-says mostCells mostFaces bs v f s w k e in
+    let b = both-fine _ _ (r .body-fine) in
+    record {
+      counts-are = r .counts-are;
+      kind = r .head .kind;
+      same-length = mesh-tables-say bs v f s w k (b .0) .same-length;
+      good = each-fine 12 (8 * length bs) (λ i. zeroBitGood bs meshZeroBits meshHeadBits (meshBits (cellsIn bs) (facesIn bs)) i) (b .1);
+    }
+
+-- an accepted field
+pub record FieldPassed (cells : ℕ) (bs : List ℕ) : Type 0 where
+  pub kind : kindIn bs ≡ fieldKind
+  pub same-count : cellsIn bs ≡ cells
+  pub same-length : length bs ≡ bytesFor (fieldBits cells)
+
+pub field-passed : (cells : ℕ) (bs : List ℕ) (m : ℕ) → fieldRead cells bs m ≡ fine → FieldPassed cells bs
+unfolding fieldRead
+field-passed cells bs m e =
+    let a = both-fine _ _ e in
+    let h = field-head-says cells bs (a .0) in
+    record { kind = h .kind; same-count = h .same-count; same-length = field-tables-say cells bs m (a .1) .same-length }
+
+-- an accepted step
+pub record StepPassed (faces : ℕ) (seconds bs : List ℕ) : Type 0 where
+  pub kind : kindIn bs ≡ stepKind
+  pub same-count : stepFacesIn bs ≡ faces
+  pub same-length : length bs ≡ bytesFor (stepBits faces seconds)
+  pub good : (i : ℕ) → i < 8 * length bs → zeroBitGood bs stepZeroBits stepHeadBits (stepBits faces seconds) i ≡ true
+  pub plain : (i : ℕ) → i < 8 * length bs → not (minusZero bs faces i) ≡ true
+
+pub step-passed : (faces : ℕ) (seconds bs : List ℕ) (u x : ℕ) → stepRead faces seconds bs u x ≡ fine → StepPassed faces seconds bs
+unfolding stepRead stepBodyVerdict stepBitGood
+step-passed faces seconds bs u x e =
+    let a = both-fine _ _ e in
+    let b = both-fine _ _ (a .1) in
+    let h = step-head-says faces seconds bs (a .0) in
+    let both = each-fine 12 (8 * length bs) (λ i. zeroBitGood bs stepZeroBits stepHeadBits (stepBits faces seconds) i && not (minusZero bs faces i)) (b .1) in
+    record {
+      kind = h .kind;
+      same-count = h .same-count;
+      same-length = step-tables-say faces seconds bs u x (b .0) .same-length;
+      good = λ i l. both-true (zeroBitGood bs stepZeroBits stepHeadBits (stepBits faces seconds) i) _ (both i l) .0;
+      plain = λ i l. both-true (zeroBitGood bs stepZeroBits stepHeadBits (stepBits faces seconds) i) _ (both i l) .1;
+    }

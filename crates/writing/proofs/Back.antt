@@ -1,0 +1,292 @@
+-- Reading undoes packing and packing undoes reading, of the three records: instances of the laws of sections (`value-back`, `column-back`,
+-- `record-again`).
+use Prim.Native.Nat.{ℕ, zero, suc, _+_, _-_, _*_, _≤_, _<_}
+use mathlib.Core.Path.{_≡_, refl, sym, ap, _∙_}
+use mathlib.Core.Logic.{inl, inr}
+use mathlib.Core.Bool.{Bool, true, false, cond, not, _&&_, true≢false}
+use mathlib.Core.List.{List}
+use native.Mathlib.Decide.{decLt}
+use native.Mathlib.Omega.{arith}
+use borrow.Author.Tests.{not-true, ne-eqb}
+use lib.Dec.{eqb}
+use lib.IntN.{ℤ, pos, negsuc}
+use lib.ListN.{length, getD}
+use Rattle.lists.specs.Table.{table, over}
+use Rattle.lists.proofs.Tables.{getD-over, table-cong}
+use Rattle.signed.specs.Sign.{size, isNegative, withSign}
+use Rattle.signed.proofs.Laws.{size-withSign, withSign-of}
+use Rattle.model.specs.Mesh.{Mesh, meshOf, volume, first, second, share, reach}
+use Rattle.bits.specs.Field.{bitAt, bitsAt}
+use Rattle.bits.specs.Layout.{bytesFor}
+use Rattle.bits.proofs.Fields.{bits-lt, zero-field}
+use Rattle.bits.proofs.Layouts.{bytes-hold}
+use Rattle.sections.specs.Sections.{Section, Values, Has, rowsOf, sectionIn, shapeBits, place, fieldsOf, recordOf, Fits, valueIn, entryIn, columnIn}
+use Rattle.sections.proofs.Sections.{width-fields, length-record, value-back, column-back, record-again}
+use Rattle.sections.proofs.Bodies.{column-has}
+use Rattle.heads.specs.Layouts.{meshZeroBits, stepZeroBits, signBits, sizeBits, fluxBits, meshHeadBits, stepHeadBits, meshKind, fieldKind, stepKind, isRim, signOf, sizeOf, outsideOf, massOf, meshShape, meshValue, fieldShape, fieldValue, stepShape, stepValue, meshBits, fieldBits, stepBits, meshRecord, fieldRecord, stepRecord}
+use Rattle.heads.specs.Heads.{kindIn, cellsIn, facesIn, stepFacesIn}
+use Rattle.heads.proofs.Layouts.{mesh-kind-in, mesh-cells-in, mesh-faces-in, mesh-zeros-in, mesh-some, field-kind-in, field-cells-in, step-kind-in, step-faces-in, step-zeros-in, signs-in, sizes-in, step-some}
+use Rattle.reading.specs.Reading.{shapeIn, volumesIn, firstsIn, secondsIn, sharesIn, reachesIn, massesIn, minusIn, sizeIn, fluxesIn, outsidesIn, zeroBitGood, minusZero}
+use Rattle.reading.specs.declared.Counts.{Counts}
+use Rattle.reading.proofs.ZeroLaws.{good-clear, zeros-good, minus-at, no-minus}
+use Rattle.writing.proofs.Accepting.{MeshPassed, FieldPassed, StepPassed}
+
+-- a mesh that fits its record
+module _ (M : Mesh) (fits : Fits (meshShape (M .cells) (M .faces)) (meshValue M)) where
+  abbrev MS : List Section
+  MS = meshShape (M .cells) (M .faces)
+
+  pub mesh-kind-back : kindIn (meshRecord M) ≡ meshKind
+  unfolding meshRecord
+  mesh-kind-back = value-back MS (meshValue M) fits 0 0 0 (column-has (mesh-kind-in (M .cells) (M .faces)) 0 (omega arith))
+
+  pub mesh-cells-back : cellsIn (meshRecord M) ≡ M .cells
+  unfolding meshRecord
+  mesh-cells-back = value-back MS (meshValue M) fits 0 1 0 (column-has (mesh-cells-in (M .cells) (M .faces)) 0 (omega arith))
+
+  pub mesh-faces-back : facesIn (meshRecord M) ≡ M .faces
+  unfolding meshRecord
+  mesh-faces-back = value-back MS (meshValue M) fits 0 2 0 (column-has (mesh-faces-in (M .cells) (M .faces)) 0 (omega arith))
+
+  mesh-zeros-back : bitsAt (meshRecord M) (meshHeadBits - meshZeroBits) meshZeroBits ≡ 0
+  unfolding meshRecord
+  mesh-zeros-back = value-back MS (meshValue M) fits 0 3 0 (column-has (mesh-zeros-in (M .cells) (M .faces)) 0 (omega arith))
+
+  mesh-shape-back : shapeIn (meshRecord M) ≡ MS
+  mesh-shape-back = rw (mesh-cells-back, mesh-faces-back)
+
+  pub mesh-record-length : length (meshRecord M) ≡ bytesFor (meshBits (M .cells) (M .faces))
+  unfolding meshRecord
+  mesh-record-length = length-record MS (meshValue M)
+
+  pub mesh-bits-good : (i : ℕ) → zeroBitGood (meshRecord M) meshZeroBits meshHeadBits (meshBits (M .cells) (M .faces)) i ≡ true
+  unfolding meshRecord recordOf
+  mesh-bits-good = zeros-good (fieldsOf MS (meshValue M)) meshZeroBits meshHeadBits (shapeBits MS) (omega arith) (mesh-some (M .cells) (M .faces)) (width-fields MS (meshValue M)) mesh-zeros-back
+
+  pub volumes-back : volumesIn (meshRecord M) ≡ table (M .cells) (volume M)
+  unfolding volumesIn meshRecord
+  volumes-back = ap (λ T. columnIn (meshRecord M) T 1 0) mesh-shape-back ∙ column-back MS (meshValue M) fits 1 0 (omega arith)
+
+  pub firsts-back : firstsIn (meshRecord M) ≡ table (M .faces) (first M)
+  unfolding firstsIn meshRecord
+  firsts-back = ap (λ T. columnIn (meshRecord M) T 2 0) mesh-shape-back ∙ column-back MS (meshValue M) fits 2 0 (omega arith)
+
+  pub seconds-back : secondsIn (meshRecord M) ≡ table (M .faces) (second M)
+  unfolding secondsIn meshRecord
+  seconds-back = ap (λ T. columnIn (meshRecord M) T 2 1) mesh-shape-back ∙ column-back MS (meshValue M) fits 2 1 (omega arith)
+
+  pub shares-back : sharesIn (meshRecord M) ≡ table (M .faces) (share M)
+  unfolding sharesIn meshRecord
+  shares-back = ap (λ T. columnIn (meshRecord M) T 2 2) mesh-shape-back ∙ column-back MS (meshValue M) fits 2 2 (omega arith)
+
+  pub reaches-back : reachesIn (meshRecord M) ≡ table (M .faces) (reach M)
+  unfolding reachesIn meshRecord
+  reaches-back = ap (λ T. columnIn (meshRecord M) T 2 3) mesh-shape-back ∙ column-back MS (meshValue M) fits 2 3 (omega arith)
+
+-- a field
+module _ (cells : ℕ) (masses : List ℕ) where
+  pub field-record-length : length (fieldRecord cells masses) ≡ bytesFor (fieldBits cells)
+  unfolding fieldRecord
+  field-record-length = length-record (fieldShape cells) (fieldValue cells masses)
+
+  module _ (fits : Fits (fieldShape cells) (fieldValue cells masses)) where
+    pub field-kind-back : kindIn (fieldRecord cells masses) ≡ fieldKind
+    unfolding fieldRecord
+    field-kind-back = value-back (fieldShape cells) (fieldValue cells masses) fits 0 0 0 (column-has (field-kind-in cells) 0 (omega arith))
+
+    pub field-cells-back : cellsIn (fieldRecord cells masses) ≡ cells
+    unfolding fieldRecord
+    field-cells-back = value-back (fieldShape cells) (fieldValue cells masses) fits 0 1 0 (column-has (field-cells-in cells) 0 (omega arith))
+
+    pub masses-back : massesIn (fieldRecord cells masses) cells ≡ table cells (massOf masses)
+    unfolding massesIn fieldRecord
+    masses-back = column-back (fieldShape cells) (fieldValue cells masses) fits 1 0 (omega arith)
+
+-- a sign of 0 or 1, and its size
+sign-back : (b : Bool) → eqb (cond b 1 0) 1 ≡ b
+sign-back true = refl
+sign-back false = refl
+
+no-minus-zero : (z : ℤ) → (eqb (cond (isNegative z) 1 0) 1 && eqb (size z) 0) ≡ false
+no-minus-zero (pos n) = refl
+no-minus-zero (negsuc n) = ne-eqb (suc n) 0 (λ e. omega arith)
+
+-- a step
+module _ (faces : ℕ) (seconds : List ℕ) (fluxes : List ℤ) (outsides : List ℕ) where
+  abbrev TS : List Section
+  TS = stepShape faces seconds
+
+  abbrev TV : Values
+  TV = stepValue faces fluxes outsides
+
+  pub step-record-length : length (stepRecord faces seconds fluxes outsides) ≡ bytesFor (stepBits faces seconds)
+  unfolding stepRecord
+  step-record-length = length-record TS TV
+
+  module _ (fits : Fits (stepShape faces seconds) (stepValue faces fluxes outsides)) where
+    pub step-kind-back : kindIn (stepRecord faces seconds fluxes outsides) ≡ stepKind
+    unfolding stepRecord
+    step-kind-back = value-back TS TV fits 0 0 0 (column-has (step-kind-in faces seconds) 0 (omega arith))
+
+    pub step-faces-back : stepFacesIn (stepRecord faces seconds fluxes outsides) ≡ faces
+    unfolding stepRecord
+    step-faces-back = value-back TS TV fits 0 1 0 (column-has (step-faces-in faces seconds) 0 (omega arith))
+
+    step-zeros-back : bitsAt (stepRecord faces seconds fluxes outsides) (stepHeadBits - stepZeroBits) stepZeroBits ≡ 0
+    unfolding stepRecord
+    step-zeros-back = value-back TS TV fits 0 2 0 (column-has (step-zeros-in faces seconds) 0 (omega arith))
+
+    sign-read : (f : ℕ) → f < faces → valueIn (stepRecord faces seconds fluxes outsides) TS 1 0 f ≡ signOf fluxes f
+    unfolding stepRecord
+    sign-read f l = value-back TS TV fits 1 0 f (column-has (signs-in faces seconds) f l)
+
+    size-read : (f : ℕ) → f < faces → valueIn (stepRecord faces seconds fluxes outsides) TS 1 1 f ≡ sizeOf fluxes f
+    unfolding stepRecord
+    size-read f l = value-back TS TV fits 1 1 f (column-has (sizes-in faces seconds) f l)
+
+    pub fluxes-back : fluxesIn (stepRecord faces seconds fluxes outsides) faces ≡ table faces (λ f. getD fluxes f (pos 0))
+    unfolding fluxesIn
+    fluxes-back = table-cong (pos 0) faces _ (λ f. getD fluxes f (pos 0))
+        (λ f l. rw (sign-read f l, size-read f l, sign-back (isNegative (getD fluxes f (pos 0)))) (withSign-of (getD fluxes f (pos 0))))
+
+    pub outsides-back : ((f : ℕ) → f < faces → isRim seconds f ≡ false → outsideOf outsides f ≡ 0) → outsidesIn (stepRecord faces seconds fluxes outsides) faces seconds ≡ table faces (outsideOf outsides)
+    unfolding outsidesIn stepRecord
+    outsides-back none = column-back TS TV fits 2 0 (omega arith) ∙ table-cong {A = ℕ} 0 faces (λ f. cond (isRim seconds f) (outsideOf outsides f) 0) (outsideOf outsides) (λ f l. go f l (isRim seconds f) refl)
+      where
+        go : (f : ℕ) → f < faces → (b : Bool) → isRim seconds f ≡ b → cond b (outsideOf outsides f) 0 ≡ outsideOf outsides f
+        go f l true e = refl
+        go f l false e = sym (none f l e)
+
+    step-zeros-good : (i : ℕ) → zeroBitGood (stepRecord faces seconds fluxes outsides) stepZeroBits stepHeadBits (stepBits faces seconds) i ≡ true
+    unfolding stepRecord recordOf
+    step-zeros-good = zeros-good (fieldsOf TS TV) stepZeroBits stepHeadBits (shapeBits TS) (omega arith) (omega (arith, step-some faces seconds)) (width-fields TS TV) step-zeros-back
+
+    minus-read : (f : ℕ) → f < faces → minusZero (stepRecord faces seconds fluxes outsides) faces (stepHeadBits + f * fluxBits) ≡ false
+    minus-read f l =
+        let R = stepRecord faces seconds fluxes outsides in
+        let p : stepHeadBits + f * fluxBits ≡ place TS 1 0 f = omega arith in
+        let q : stepHeadBits + f * fluxBits + signBits ≡ place TS 1 1 f = omega arith in
+        minus-at R faces f l
+        ∙ ap (λ (x : ℕ). eqb (bitsAt R x signBits) 1 && eqb (bitsAt R (stepHeadBits + f * fluxBits + signBits) sizeBits) 0) p
+        ∙ ap (λ (x : ℕ). eqb (valueIn R TS 1 0 f) 1 && eqb (bitsAt R x sizeBits) 0) q
+        ∙ rw (sign-read f l, size-read f l) (no-minus-zero (getD fluxes f (pos 0)))
+
+    pub step-bits-good : (i : ℕ) → (zeroBitGood (stepRecord faces seconds fluxes outsides) stepZeroBits stepHeadBits (stepBits faces seconds) i && not (minusZero (stepRecord faces seconds fluxes outsides) faces i)) ≡ true
+    step-bits-good i = rw (step-zeros-good i, minus i (decLt i (stepHeadBits + faces * fluxBits)))
+      where
+        minus : (j : ℕ) → Dec (j < stepHeadBits + faces * fluxBits) → minusZero (stepRecord faces seconds fluxes outsides) faces j ≡ false
+        minus j (yes l) = no-minus (stepRecord faces seconds fluxes outsides) faces faces minus-read j (inl l)
+        minus j (no f) = no-minus (stepRecord faces seconds fluxes outsides) faces faces minus-read j (inr (omega arith))
+
+-- Packing undoes reading: tables that a reading filled, which may be longer, are packed into the same bytes.
+
+-- an entry of a column that was read into a table
+entry-over : (bs : List ℕ) (S : List Section) (k j i : ℕ) (ys : List ℕ) → Has S k j i → getD (over (columnIn bs S k j) ys) i 0 ≡ valueIn bs S k j i
+entry-over bs S k j i ys h = getD-over (rowsOf (sectionIn S k)) (entryIn bs S k j) ys 0 i (h .below) ∙ rw (h .there)
+
+-- the zero bits of a head that is good
+head-zeros : (bs : List ℕ) (z h e : ℕ) → z ≤ h → h ≤ e → e ≤ 8 * length bs → ((i : ℕ) → i < 8 * length bs → zeroBitGood bs z h e i ≡ true) → 0 ≡ bitsAt bs (h - z) z
+head-zeros bs z h e k m n good = sym (zero-field bs (h - z) z (λ i l q. good-clear bs z h e i (good i (omega arith)) (inl (l, omega arith))))
+
+module _ (bs : List ℕ) (bytes : (j : ℕ) → getD bs j 0 < 256) {n : Counts} (passed : MeshPassed bs n) (volumes firsts seconds shares reaches : List ℕ) where
+  abbrev MN : Mesh
+  MN = meshOf (cellsIn bs) (facesIn bs) (over (volumesIn bs) volumes) (over (firstsIn bs) firsts) (over (secondsIn bs) seconds) (over (sharesIn bs) shares) (over (reachesIn bs) reaches)
+
+  mesh-zeros : 0 ≡ bitsAt bs (meshHeadBits - meshZeroBits) meshZeroBits
+  mesh-zeros =
+      let end = meshBits (cellsIn bs) (facesIn bs) in
+      head-zeros bs meshZeroBits meshHeadBits end (omega arith) (mesh-some (cellsIn bs) (facesIn bs)) (omega (arith, passed .same-length, bytes-hold end)) (passed .good)
+
+  mesh-head : (j : ℕ) → j < 4 → meshValue MN 0 j 0 ≡ valueIn bs (shapeIn bs) 0 j 0
+  mesh-head zero l = sym (passed .kind)
+  mesh-head (suc zero) l = refl
+  mesh-head (suc (suc zero)) l = refl
+  mesh-head (suc (suc (suc zero))) l = mesh-zeros
+  mesh-head (suc (suc (suc (suc j)))) l = absurd (omega arith)
+
+  mesh-agrees : (k j i : ℕ) → Has (shapeIn bs) k j i → meshValue MN k j i ≡ valueIn bs (shapeIn bs) k j i
+  unfolding volumesIn firstsIn secondsIn sharesIn reachesIn
+  mesh-agrees zero j i h = let z : i ≡ 0 = omega (arith, h .below) in rw z (mesh-head j (h .among))
+  mesh-agrees (suc zero) zero i h = entry-over bs (shapeIn bs) 1 0 i volumes h
+  mesh-agrees (suc zero) (suc j) i h = absurd (omega (arith, h .among))
+  mesh-agrees (suc (suc zero)) zero i h = entry-over bs (shapeIn bs) 2 0 i firsts h
+  mesh-agrees (suc (suc zero)) (suc zero) i h = entry-over bs (shapeIn bs) 2 1 i seconds h
+  mesh-agrees (suc (suc zero)) (suc (suc zero)) i h = entry-over bs (shapeIn bs) 2 2 i shares h
+  mesh-agrees (suc (suc zero)) (suc (suc (suc zero))) i h = entry-over bs (shapeIn bs) 2 3 i reaches h
+  mesh-agrees (suc (suc zero)) (suc (suc (suc (suc j)))) i h = absurd (omega (arith, h .among))
+  mesh-agrees (suc (suc (suc k))) j i h = absurd (omega (arith, h .below))
+
+  pub mesh-again : meshRecord MN ≡ bs
+  unfolding meshRecord
+  mesh-again = record-again bs (shapeIn bs) (meshValue MN) (passed .same-length) bytes
+      (λ i l m. good-clear bs meshZeroBits meshHeadBits (meshBits (cellsIn bs) (facesIn bs)) i (passed .good i m) (inr l)) mesh-agrees
+
+-- a field: its bits fill whole bytes
+module _ (cells : ℕ) (bs : List ℕ) (bytes : (j : ℕ) → getD bs j 0 < 256) (passed : FieldPassed cells bs) (masses : List ℕ) where
+  field-agrees : (k j i : ℕ) → Has (fieldShape cells) k j i → fieldValue cells (over (massesIn bs cells) masses) k j i ≡ valueIn bs (fieldShape cells) k j i
+  unfolding massesIn
+  field-agrees zero zero i h = let z : i ≡ 0 = omega (arith, h .below) in rw z (sym (passed .kind))
+  field-agrees zero (suc zero) i h = let z : i ≡ 0 = omega (arith, h .below) in rw z (sym (passed .same-count))
+  field-agrees zero (suc (suc j)) i h = absurd (omega (arith, h .among))
+  field-agrees (suc zero) zero i h = entry-over bs (fieldShape cells) 1 0 i masses h
+  field-agrees (suc zero) (suc j) i h = absurd (omega (arith, h .among))
+  field-agrees (suc (suc k)) j i h = absurd (omega (arith, h .below))
+
+  full : (i : ℕ) → fieldBits cells ≤ i → i < 8 * length bs → bitAt bs i ≡ 0
+  unfolding bytesFor
+  full i l m = absurd (omega (arith, passed .same-length))
+
+  pub field-again : fieldRecord cells (over (massesIn bs cells) masses) ≡ bs
+  unfolding fieldRecord
+  field-again = record-again bs (fieldShape cells) (fieldValue cells (over (massesIn bs cells) masses)) (passed .same-length) bytes full field-agrees
+
+-- a sign and a size that are no minus with size 0
+sign-again : (s n : ℕ) → s < 2 → (eqb s 1 && eqb n 0) ≡ false → cond (isNegative (withSign (eqb s 1) n)) 1 0 ≡ s
+sign-again zero n l e = refl
+sign-again (suc zero) zero l e = absurd (true≢false e)
+sign-again (suc zero) (suc n) l e = refl
+sign-again (suc (suc s)) n l e = absurd (omega arith)
+
+module _ (faces : ℕ) (seconds bs : List ℕ) (bytes : (j : ℕ) → getD bs j 0 < 256) (passed : StepPassed faces seconds bs) (fluxes : List ℤ) (outsides : List ℕ) where
+  abbrev SN : List Section
+  SN = stepShape faces seconds
+
+  abbrev WN : Values
+  WN = stepValue faces (over (fluxesIn bs faces) fluxes) (over (outsidesIn bs faces seconds) outsides)
+
+  room : stepBits faces seconds ≤ 8 * length bs
+  room = omega (arith, passed .same-length, bytes-hold (stepBits faces seconds))
+
+  plain : (f : ℕ) → f < faces → (eqb (valueIn bs SN 1 0 f) 1 && eqb (valueIn bs SN 1 1 f) 0) ≡ false
+  plain f l =
+      let p : stepHeadBits + f * fluxBits ≡ place SN 1 0 f = omega arith in
+      let q : stepHeadBits + f * fluxBits + signBits ≡ place SN 1 1 f = omega arith in
+      sym (minus-at bs faces f l
+      ∙ ap (λ (x : ℕ). eqb (bitsAt bs x signBits) 1 && eqb (bitsAt bs (stepHeadBits + f * fluxBits + signBits) sizeBits) 0) p
+      ∙ ap (λ (x : ℕ). eqb (valueIn bs SN 1 0 f) 1 && eqb (bitsAt bs x sizeBits) 0) q)
+      ∙ not-true _ (passed .plain (stepHeadBits + f * fluxBits) (omega (arith, room, step-some faces seconds)))
+
+  flux-is : (f : ℕ) → f < faces → getD (over (fluxesIn bs faces) fluxes) f (pos 0) ≡ withSign (minusIn bs faces f) (sizeIn bs faces f)
+  unfolding fluxesIn
+  flux-is f l = getD-over faces (λ k. withSign (minusIn bs faces k) (sizeIn bs faces k)) fluxes (pos 0) f l
+
+  step-zeros : 0 ≡ bitsAt bs (stepHeadBits - stepZeroBits) stepZeroBits
+  step-zeros = head-zeros bs stepZeroBits stepHeadBits (stepBits faces seconds) (omega arith) (omega (arith, step-some faces seconds)) room (passed .good)
+
+  step-agrees : (k j i : ℕ) → Has SN k j i → WN k j i ≡ valueIn bs SN k j i
+  unfolding outsidesIn
+  step-agrees zero zero i h = let z : i ≡ 0 = omega (arith, h .below) in rw z (sym (passed .kind))
+  step-agrees zero (suc zero) i h = let z : i ≡ 0 = omega (arith, h .below) in rw z (sym (passed .same-count))
+  step-agrees zero (suc (suc zero)) i h = let z : i ≡ 0 = omega (arith, h .below) in rw z step-zeros
+  step-agrees zero (suc (suc (suc j))) i h = absurd (omega (arith, h .among))
+  step-agrees (suc zero) zero i h = ap (λ (z : ℤ). cond (isNegative z) 1 0) (flux-is i (h .below)) ∙ sign-again (valueIn bs SN 1 0 i) (valueIn bs SN 1 1 i) (bits-lt bs (place SN 1 0 i) signBits) (plain i (h .below))
+  step-agrees (suc zero) (suc zero) i h = ap size (flux-is i (h .below)) ∙ size-withSign (minusIn bs faces i) (sizeIn bs faces i)
+  step-agrees (suc zero) (suc (suc j)) i h = absurd (omega (arith, h .among))
+  step-agrees (suc (suc zero)) zero i h = entry-over bs SN 2 0 i outsides h
+  step-agrees (suc (suc zero)) (suc j) i h = absurd (omega (arith, h .among))
+  step-agrees (suc (suc (suc k))) j i h = absurd (omega (arith, h .below))
+
+  pub step-again : stepRecord faces seconds (over (fluxesIn bs faces) fluxes) (over (outsidesIn bs faces seconds) outsides) ≡ bs
+  unfolding stepRecord
+  step-again = record-again bs SN WN (passed .same-length) bytes
+      (λ i l m. good-clear bs stepZeroBits stepHeadBits (stepBits faces seconds) i (passed .good i m) (inr l)) step-agrees

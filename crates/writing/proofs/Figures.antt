@@ -1,0 +1,124 @@
+-- Document 01's two records, both ways, and each cause of reading on records that differ from them in one place.
+use Prim.Native.Nat.{ℕ}
+use mathlib.Core.Path.{_≡_, refl}
+use mathlib.Core.List.{List, [], _∷_}
+use lib.IntN.{negsuc}
+use Rattle.lists.specs.Fold.{sum}
+use Rattle.lists.specs.Table.{table}
+use Rattle.model.specs.Mesh.{meshOf}
+use Rattle.model.specs.Causes.{accepted, refused, fine, _andThen_, need, each, countsWithin}
+use Rattle.bits.specs.Field.{bitAt, bitsAt}
+use Rattle.bits.specs.Layout.{spelled, bitsOf, widthOf, bytesFor, octet, packed, rows}
+use Rattle.sections.specs.Sections.{those, row, fieldsOf, recordOf}
+use Rattle.heads.specs.Layouts.{meshRecord, fieldRecord, stepRecord, meshLength, fieldLength, stepLength}
+use Rattle.heads.specs.Heads.{meshHeadVerdict, fieldHeadVerdict, stepHeadVerdict}
+use Rattle.reading.specs.Reading.{volumesIn, massesIn, fluxesIn, outsidesIn, zeroBitGood, minusZero, meshBitGood, stepBitGood, meshBodyVerdict, fieldBodyVerdict, stepBodyVerdict, meshRead, fieldRead, stepRead}
+
+-- the definitions that a figure computes
+everything : Unit {0}
+unfolding sum table _andThen_ need each countsWithin bitAt bitsAt spelled bitsOf widthOf bytesFor octet packed rows those row fieldsOf recordOf meshRecord fieldRecord stepRecord meshLength fieldLength stepLength volumesIn massesIn fluxesIn outsidesIn zeroBitGood minusZero meshBitGood stepBitGood meshHeadVerdict fieldHeadVerdict stepHeadVerdict meshBodyVerdict fieldBodyVerdict stepBodyVerdict meshRead fieldRead stepRead
+everything = tt
+
+-- one cell of V 100 and no faces, and its field with m = 99
+abbrev mesh : List ℕ
+mesh = 0x10 ∷ 0x01 ∷ 0x00 ∷ 0x00 ∷ 0x06 ∷ 0x40 ∷ []
+
+abbrev field : List ℕ
+field = 0x20 ∷ 0x01 ∷ 0x00 ∷ 0x00 ∷ 0x00 ∷ 0x63 ∷ []
+
+pub mesh-written : meshRecord (meshOf 1 0 (100 ∷ []) [] [] [] []) ≡ mesh
+unfolding everything
+mesh-written = refl
+
+pub mesh-is-read : meshRead 1023 2046 mesh 1 0 0 0 0 ≡ accepted (record { cells = 1; faces = 0 })
+unfolding everything
+mesh-is-read = refl
+
+pub volume-is-read : volumesIn mesh ≡ 100 ∷ []
+unfolding everything
+volume-is-read = refl
+
+pub field-written : fieldRecord 1 (99 ∷ []) ≡ field
+unfolding everything
+field-written = refl
+
+pub field-is-read : fieldRead 1 field 1 ≡ fine
+unfolding everything
+field-is-read = refl
+
+pub mass-is-read : massesIn field 1 ≡ 99 ∷ []
+unfolding everything
+mass-is-read = refl
+
+-- one face at the rim with U −50 and outside value 1000
+abbrev step : List ℕ
+step = 0x30 ∷ 0x00 ∷ 0x80 ∷ 0x00 ∷ 0x81 ∷ 0x90 ∷ 0x01 ∷ 0xf4 ∷ 0x00 ∷ []
+
+pub step-written : stepRecord 1 (4095 ∷ []) (negsuc 49 ∷ []) (1000 ∷ []) ≡ step
+unfolding everything
+step-written = refl
+
+pub step-is-read : stepRead 1 (4095 ∷ []) step 1 1 ≡ fine
+unfolding everything
+step-is-read = refl
+
+pub flux-is-read : fluxesIn step 1 ≡ negsuc 49 ∷ []
+unfolding everything
+flux-is-read = refl
+
+pub outside-is-read : outsidesIn step 1 (4095 ∷ []) ≡ 1000 ∷ []
+unfolding everything
+outside-is-read = refl
+
+-- 11 before 13: three bytes, whatever they say
+pub too-short : meshRead 1023 2046 (0x20 ∷ 0x01 ∷ 0x00 ∷ []) 1 0 0 0 0 ≡ refused 11 0
+unfolding everything
+too-short = refl
+
+pub another-kind : meshRead 1023 2046 (0x20 ∷ 0x01 ∷ 0x00 ∷ 0x00 ∷ 0x06 ∷ 0x40 ∷ []) 1 0 0 0 0 ≡ refused 13 0
+unfolding everything
+another-kind = refl
+
+pub another-count : fieldRead 2 field 2 ≡ refused 13 1
+unfolding everything
+another-count = refl
+
+-- 1 before the length: no cells, and 8,191 faces
+pub no-cells : meshRead 4095 8190 (0x10 ∷ 0x00 ∷ 0x00 ∷ 0x00 ∷ []) 0 0 0 0 0 ≡ refused 1 0
+unfolding everything
+no-cells = refl
+
+pub many-faces : meshRead 9000 9000 (0x10 ∷ 0x01 ∷ 0xff ∷ 0xf8 ∷ []) 1 0 0 0 0 ≡ refused 1 1
+unfolding everything
+many-faces = refl
+
+-- 11: a byte too few, and one too many
+pub a-byte-less : meshRead 1023 2046 (0x10 ∷ 0x01 ∷ 0x00 ∷ 0x00 ∷ 0x06 ∷ []) 1 0 0 0 0 ≡ refused 11 0
+unfolding everything
+a-byte-less = refl
+
+pub a-byte-more : meshRead 1023 2046 (0x10 ∷ 0x01 ∷ 0x00 ∷ 0x00 ∷ 0x06 ∷ 0x40 ∷ 0x00 ∷ []) 1 0 0 0 0 ≡ refused 11 0
+unfolding everything
+a-byte-more = refl
+
+-- 2 before 12, and the seconds before a step's length
+pub no-table : meshRead 1023 2046 (0x10 ∷ 0x01 ∷ 0x00 ∷ 0x01 ∷ 0x06 ∷ 0x40 ∷ []) 0 0 0 0 0 ≡ refused 2 0
+unfolding everything
+no-table = refl
+
+pub no-seconds : stepRead 1 [] (0x30 ∷ 0x00 ∷ 0x80 ∷ 0x00 ∷ []) 1 1 ≡ refused 2 2
+unfolding everything
+no-seconds = refl
+
+-- 12: the head's last bit, a bit of the padding, and the minus of a flux of size 0
+pub head-bit : meshRead 1023 2046 (0x10 ∷ 0x01 ∷ 0x00 ∷ 0x01 ∷ 0x06 ∷ 0x41 ∷ []) 1 0 0 0 0 ≡ refused 12 31
+unfolding everything
+head-bit = refl
+
+pub padding-bit : meshRead 1023 2046 (0x10 ∷ 0x01 ∷ 0x00 ∷ 0x00 ∷ 0x06 ∷ 0x41 ∷ []) 1 0 0 0 0 ≡ refused 12 47
+unfolding everything
+padding-bit = refl
+
+pub minus-bit : stepRead 1 (0 ∷ []) (0x30 ∷ 0x00 ∷ 0x80 ∷ 0x00 ∷ 0x80 ∷ 0x00 ∷ []) 1 1 ≡ refused 12 32
+unfolding everything
+minus-bit = refl

@@ -1,0 +1,6 @@
+pub mod WidthLaws
+pub mod WriteLaws
+pub mod Accepting
+pub mod Back
+pub mod RoundTrip
+pub mod Figures

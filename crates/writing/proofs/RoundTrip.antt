@@ -1,0 +1,251 @@
+-- Records and back again, for every mesh, field and step and for every record, in tables that may be longer than the counts.
+--
+-- Reading undoes writing: whatever a writer that accepted left in the bytes, read at the answered length by a reader into tables that are
+-- long enough, is accepted, and fills exactly the counted entries with the values that were written (`mesh-joined`, `field-joined`,
+-- `step-joined`). Below them the same of the records alone (`mesh-read-back` and so on).
+--
+-- Writing undoes reading: the tables that a reader that accepted filled, written by a writer that accepts them, give the same bytes and
+-- their length (`mesh-rejoined`, `field-rejoined`, `step-rejoined`); above them the same of the records alone. (`bytes` says that the list is one of bytes.)
+use Prim.Native.Nat.{ℕ, _≤_, _<_, min}
+use mathlib.Core.Path.{_≡_, sym, ap, _∙_}
+use mathlib.Core.List.{List, [], _++_, append-nil}
+use native.Mathlib.Omega.{arith}
+use lib.IntN.{ℤ, pos}
+use lib.ListN.{length, getD, take, drop, drop-of-length-le}
+use lib.Seq.{take-at}
+use Rattle.lists.specs.Table.{table, over}
+use Rattle.model.specs.Mesh.{Mesh, meshOf, volume, first, second, share, reach, maxCells, maxFaces}
+use Rattle.model.specs.Causes.{accepted, Verdict, fine, _andThen_, each, Call, counts, countsWithin, meshValues, fieldValues, outsideGood, fluxGood, waterOf}
+use Rattle.model.specs.Answers.{said}
+use Rattle.model.specs.declared.Answer.{Answer}
+use Rattle.model.proofs.Verdicts.{both-fine}
+use Rattle.model.proofs.Accepted.{counted}
+use Rattle.heads.specs.Layouts.{massOf, outsideOf, meshRecord, fieldRecord, stepRecord, meshLength, fieldLength, stepLength}
+use Rattle.heads.specs.Heads.{cellsIn, facesIn}
+use Rattle.reading.specs.Reading.{meshIn, countsIn, volumesIn, firstsIn, secondsIn, sharesIn, reachesIn, massesIn, fluxesIn, outsidesIn, meshRead, fieldRead, stepRead}
+use Rattle.reading.specs.Answers.{meshSaid, MeshReading, FieldReading, StepReading}
+use Rattle.reading.specs.declared.Counts.{Counts}
+use Rattle.reading.specs.declared.MeshAnswer.{MeshAnswer}
+use Rattle.writing.specs.declared.WriteAnswer.{WriteAnswer}
+use Rattle.writing.specs.Writing.{meshWriteVerdict, fieldWriteVerdict, stepWriteVerdict, writeSaid, Writing, MeshWriting, FieldWriting, StepWriting}
+use Rattle.writing.proofs.WidthLaws.{mesh-fits, masses-fit, field-fits, step-fits, none-inside}
+use Rattle.writing.proofs.Accepting.{mesh-reads, field-reads, step-reads, mesh-passed, field-passed, step-passed}
+use Rattle.writing.proofs.Back.{mesh-kind-back, mesh-cells-back, mesh-faces-back, mesh-record-length, mesh-bits-good, volumes-back, firsts-back, seconds-back, shares-back, reaches-back, field-kind-back, field-cells-back, field-record-length, masses-back, step-kind-back, step-faces-back, step-record-length, step-bits-good, fluxes-back, outsides-back, mesh-again, field-again, step-again}
+
+-- Reading undoes writing: a mesh.
+module _ (M : Mesh) (within : counts M ≡ fine) (passes : meshValues M ≡ fine) where
+  pub cells-read-back : cellsIn (meshRecord M) ≡ M .cells
+  cells-read-back = mesh-cells-back M (mesh-fits M within passes)
+
+  pub faces-read-back : facesIn (meshRecord M) ≡ M .faces
+  faces-read-back = mesh-faces-back M (mesh-fits M within passes)
+
+  pub mesh-read-back : (mostCells mostFaces volumes firsts seconds shares reaches : ℕ) → countsWithin (min mostCells maxCells) (min mostFaces maxFaces) (M .cells) (M .faces) ≡ fine
+      → M .cells ≤ volumes → M .faces ≤ firsts → M .faces ≤ seconds → M .faces ≤ shares → M .faces ≤ reaches
+      → meshRead mostCells mostFaces (meshRecord M) volumes firsts seconds shares reaches ≡ accepted (record { cells = M .cells; faces = M .faces })
+  mesh-read-back mostCells mostFaces volumes firsts seconds shares reaches limits lv lf ls lw lk =
+      let s = mesh-fits M within passes in
+      let c = mesh-cells-back M s in
+      let n = mesh-faces-back M s in
+      let same-counts : countsIn (meshRecord M) ≡ record { cells = M .cells; faces = M .faces } = rw (c, n) in
+      mesh-reads (meshRecord M) mostCells mostFaces volumes firsts seconds shares reaches (mesh-kind-back M s) (rw (c, n) limits) (rw (c, n) (mesh-record-length M s))
+      (rw c lv) (rw n lf) (rw n ls) (rw n lw) (rw n lk) (λ i. rw (c, n) (mesh-bits-good M s i)) ∙ ap accepted same-counts
+
+  pub volumes-read-back : volumesIn (meshRecord M) ≡ table (M .cells) (volume M)
+  volumes-read-back = volumes-back M (mesh-fits M within passes)
+
+  pub firsts-read-back : firstsIn (meshRecord M) ≡ table (M .faces) (first M)
+  firsts-read-back = firsts-back M (mesh-fits M within passes)
+
+  pub seconds-read-back : secondsIn (meshRecord M) ≡ table (M .faces) (second M)
+  seconds-read-back = seconds-back M (mesh-fits M within passes)
+
+  pub shares-read-back : sharesIn (meshRecord M) ≡ table (M .faces) (share M)
+  shares-read-back = shares-back M (mesh-fits M within passes)
+
+  pub reaches-read-back : reachesIn (meshRecord M) ≡ table (M .faces) (reach M)
+  reaches-read-back = reaches-back M (mesh-fits M within passes)
+
+-- A field on it.
+module _ (M : Mesh) (within : counts M ≡ fine) (passes : meshValues M ≡ fine) (field : List ℕ) (salt : fieldValues M field ≡ fine) where
+  pub field-read-back : (masses : ℕ) → M .cells ≤ masses → fieldRead (M .cells) (fieldRecord (M .cells) field) masses ≡ fine
+  field-read-back masses l =
+      let n = counted M within in
+      let s = field-fits (M .cells) field (n .few-cells) (masses-fit M passes field salt) in
+      field-reads (fieldRecord (M .cells) field) (M .cells) masses (field-kind-back (M .cells) field s) (field-cells-back (M .cells) field s) (n .some) (n .few-cells) (field-record-length (M .cells) field) l
+
+  pub masses-read-back : massesIn (fieldRecord (M .cells) field) (M .cells) ≡ table (M .cells) (λ c. getD field c 0)
+  masses-read-back = masses-back (M .cells) field (field-fits (M .cells) field (counted M within .few-cells) (masses-fit M passes field salt))
+
+-- A step through its faces.
+module _ (M : Mesh) (within : counts M ≡ fine) (passes : meshValues M ≡ fine) (field : List ℕ) (k : Call)
+    (outsides-pass : each 7 (M .faces) (outsideGood M field k) ≡ fine) (fluxes-pass : each 8 (M .faces) (fluxGood M field k) ≡ fine) where
+  pub step-read-back : (fluxes outsides : ℕ) → M .faces ≤ length (M .seconds) → M .faces ≤ fluxes → M .faces ≤ outsides
+      → stepRead (M .faces) (M .seconds) (stepRecord (M .faces) (M .seconds) (k .fluxes) (k .outsides)) fluxes outsides ≡ fine
+  step-read-back fluxes outsides ls lu lx =
+      let n = counted M within in
+      let s = step-fits M passes field k outsides-pass fluxes-pass (n .few-faces) in
+      step-reads (stepRecord (M .faces) (M .seconds) (k .fluxes) (k .outsides)) (M .faces) (M .seconds) fluxes outsides
+      (step-kind-back (M .faces) (M .seconds) (k .fluxes) (k .outsides) s) (step-faces-back (M .faces) (M .seconds) (k .fluxes) (k .outsides) s) (n .few-faces) ls
+      (step-record-length (M .faces) (M .seconds) (k .fluxes) (k .outsides)) lu lx (step-bits-good (M .faces) (M .seconds) (k .fluxes) (k .outsides) s)
+
+  pub fluxes-read-back : fluxesIn (stepRecord (M .faces) (M .seconds) (k .fluxes) (k .outsides)) (M .faces) ≡ table (M .faces) (λ f. getD (k .fluxes) f (pos 0))
+  fluxes-read-back = fluxes-back (M .faces) (M .seconds) (k .fluxes) (k .outsides) (step-fits M passes field k outsides-pass fluxes-pass (counted M within .few-faces))
+
+  pub outsides-read-back : outsidesIn (stepRecord (M .faces) (M .seconds) (k .fluxes) (k .outsides)) (M .faces) (M .seconds) ≡ table (M .faces) (λ f. getD (k .outsides) f 0)
+  outsides-read-back =
+      outsides-back (M .faces) (M .seconds) (k .fluxes) (k .outsides) (step-fits M passes field k outsides-pass fluxes-pass (counted M within .few-faces))
+      (none-inside M passes field k outsides-pass fluxes-pass)
+
+-- A writing that answered a length: its causes found nothing, and the bytes up to that length are the record's.
+wrote : {v : Verdict} {N : ℕ} {rec bytes bytes′ : List ℕ} {r : WriteAnswer} {n : ℕ} → Writing v N rec bytes r bytes′ → writeSaid r ≡ accepted n → length rec ≡ N → (v ≡ fine) × (take n bytes′ ≡ rec)
+unfolding over _andThen_
+wrote {v} {N} {rec} {bytes} {bytes′} {r} {n} w e len =
+    let p = both-fine v (accepted N) (sym (w .answer) ∙ e) in
+    let q = p .1 in
+    let d : N ≡ n = cc in
+    let b : bytes′ ≡ rec ++ drop (length rec) bytes = rw (p .0) at (w .bytes-written) in
+    (p .0, rw (b, ← d) (take-at rec (drop (length rec) bytes) N len))
+
+mesh-causes : (M : Mesh) (room : ℕ) → meshWriteVerdict M room ≡ fine → (counts M ≡ fine) × (meshValues M ≡ fine)
+unfolding meshWriteVerdict
+mesh-causes M room e = let a = both-fine _ _ e in (both-fine _ _ (both-fine _ _ (a .0) .0) .0, a .1)
+
+-- The writer's contract and the reader's, joined: a mesh.
+pub mesh-joined : (M : Mesh) {bytes bytes′ : List ℕ} {r : WriteAnswer} {n : ℕ} → MeshWriting M bytes r bytes′ → writeSaid r ≡ accepted n
+    → (mostCells mostFaces : ℕ) {volumes firsts seconds shares reaches : List ℕ} {a : MeshAnswer} {volumes′ firsts′ seconds′ shares′ reaches′ : List ℕ}
+    → countsWithin (min mostCells maxCells) (min mostFaces maxFaces) (M .cells) (M .faces) ≡ fine
+    → M .cells ≤ length volumes → M .faces ≤ length firsts → M .faces ≤ length seconds → M .faces ≤ length shares → M .faces ≤ length reaches
+    → MeshReading (meshRead mostCells mostFaces (take n bytes′) (length volumes) (length firsts) (length seconds) (length shares) (length reaches)) (take n bytes′)
+    volumes firsts seconds shares reaches a volumes′ firsts′ seconds′ shares′ reaches′
+    → (meshSaid a ≡ accepted (record { cells = M .cells; faces = M .faces }))
+    × (volumes′ ≡ over (table (M .cells) (volume M)) volumes) × (firsts′ ≡ over (table (M .faces) (first M)) firsts) × (seconds′ ≡ over (table (M .faces) (second M)) seconds)
+    × (shares′ ≡ over (table (M .faces) (share M)) shares) × (reaches′ ≡ over (table (M .faces) (reach M)) reaches)
+unfolding meshLength
+mesh-joined M {bytes} {bytes′} {r} {n} w e mostCells mostFaces {volumes} {firsts} {seconds} {shares} {reaches} {a} {volumes′} {firsts′} {seconds′} {shares′} {reaches′} limits lv lf ls lw lk read =
+    let v : meshWriteVerdict M (length bytes) ≡ fine = both-fine _ _ (sym (w .answer) ∙ e) .0 in
+    let p = mesh-causes M (length bytes) v in
+    let t = wrote w e (mesh-record-length M (mesh-fits M (p .0) (p .1))) .1 in
+    let back = mesh-read-back M (p .0) (p .1) mostCells mostFaces (length volumes) (length firsts) (length seconds) (length shares) (length reaches) limits lv lf ls lw lk in
+    let q : MeshReading (accepted (record { cells = M .cells; faces = M .faces })) (meshRecord M) volumes firsts seconds shares reaches a volumes′ firsts′ seconds′ shares′ reaches′ = rw back at (rw t at read) in (
+      q .answer,
+      q .volumes-read ∙ ap (λ xs. over xs volumes) (volumes-read-back M (p .0) (p .1)),
+      q .firsts-read ∙ ap (λ xs. over xs firsts) (firsts-read-back M (p .0) (p .1)),
+      q .seconds-read ∙ ap (λ xs. over xs seconds) (seconds-read-back M (p .0) (p .1)),
+      q .shares-read ∙ ap (λ xs. over xs shares) (shares-read-back M (p .0) (p .1)),
+      q .reaches-read ∙ ap (λ xs. over xs reaches) (reaches-read-back M (p .0) (p .1)),
+    )
+
+-- A field.
+field-causes : (M : Mesh) (masses : List ℕ) (room : ℕ) → fieldWriteVerdict M masses room ≡ fine → (counts M ≡ fine) × (meshValues M ≡ fine) × (fieldValues M masses ≡ fine)
+unfolding fieldWriteVerdict
+field-causes M masses room e =
+    let a = both-fine _ _ e in
+    let b = both-fine _ _ (a .0) in
+    (both-fine _ _ (both-fine _ _ (both-fine _ _ (b .0) .0) .0) .0, b .1, a .1)
+
+pub field-joined : (M : Mesh) (field : List ℕ) {bytes bytes′ : List ℕ} {r : WriteAnswer} {n : ℕ} → FieldWriting M field bytes r bytes′ → writeSaid r ≡ accepted n
+    → {masses masses′ : List ℕ} {a : Answer} → M .cells ≤ length masses
+    → FieldReading (fieldRead (M .cells) (take n bytes′) (length masses)) (M .cells) (take n bytes′) masses a masses′
+    → (said a ≡ fine) × (masses′ ≡ over (table (M .cells) (massOf field)) masses)
+unfolding fieldLength
+field-joined M field {bytes} {bytes′} {r} {n} w e {masses} {masses′} {a} lm read =
+    let v : fieldWriteVerdict M field (length bytes) ≡ fine = both-fine _ _ (sym (w .answer) ∙ e) .0 in
+    let p = field-causes M field (length bytes) v in
+    let t = wrote w e (field-record-length (M .cells) field) .1 in
+    let back = field-read-back M (p .0) (p .1) field (p .2) (length masses) lm in
+    let q : FieldReading fine (M .cells) (fieldRecord (M .cells) field) masses a masses′ = rw back at (rw t at read) in
+    (q .answer, q .masses-read ∙ ap (λ xs. over xs masses) (masses-read-back M (p .0) (p .1) field (p .2)))
+
+-- A step: its reader is lent the seconds that its writer was lent.
+step-causes : (M : Mesh) (fluxes : List ℤ) (outsides : List ℕ) (room : ℕ) → stepWriteVerdict M fluxes outsides room ≡ fine
+    → (counts M ≡ fine) × (meshValues M ≡ fine) × (each 7 (M .faces) (outsideGood M [] (waterOf fluxes outsides)) ≡ fine) × (each 8 (M .faces) (fluxGood M [] (waterOf fluxes outsides)) ≡ fine)
+unfolding stepWriteVerdict
+step-causes M fluxes outsides room e =
+    let a = both-fine _ _ e in
+    let b = both-fine _ _ (a .0) in
+    let d = both-fine _ _ (b .0) in
+    let f = both-fine _ _ (d .0) in
+    (both-fine _ _ (both-fine _ _ (both-fine _ _ (f .0) .0) .0) .0, d .1, b .1, a .1)
+
+pub step-joined : (M : Mesh) (fluxes : List ℤ) (outsides : List ℕ) {bytes bytes′ : List ℕ} {r : WriteAnswer} {n : ℕ} → StepWriting M fluxes outsides bytes r bytes′ → writeSaid r ≡ accepted n
+    → {us us′ : List ℤ} {xs xs′ : List ℕ} {a : Answer} → M .faces ≤ length (M .seconds) → M .faces ≤ length us → M .faces ≤ length xs
+    → StepReading (stepRead (M .faces) (M .seconds) (take n bytes′) (length us) (length xs)) (M .faces) (M .seconds) (take n bytes′) us xs a us′ xs′
+    → (said a ≡ fine) × (us′ ≡ over (table (M .faces) (λ f. getD fluxes f (pos 0))) us) × (xs′ ≡ over (table (M .faces) (outsideOf outsides)) xs)
+unfolding stepLength
+step-joined M fluxes outsides {bytes} {bytes′} {r} {n} w e {us} {us′} {xs} {xs′} {a} ls lu lx read =
+    let v : stepWriteVerdict M fluxes outsides (length bytes) ≡ fine = both-fine _ _ (sym (w .answer) ∙ e) .0 in
+    let p = step-causes M fluxes outsides (length bytes) v in
+    let k : Call = waterOf fluxes outsides in
+    let t = wrote w e (step-record-length (M .faces) (M .seconds) fluxes outsides) .1 in
+    let back = step-read-back M (p .0) (p .1) [] k (p .2) (p .3) (length us) (length xs) ls lu lx in
+    let q : StepReading fine (M .faces) (M .seconds) (stepRecord (M .faces) (M .seconds) fluxes outsides) us xs a us′ xs′ = rw back at (rw t at read) in (
+      q .answer,
+      q .fluxes-read ∙ ap (λ zs. over zs us) (fluxes-read-back M (p .0) (p .1) [] k (p .2) (p .3)),
+      q .outsides-read ∙ ap (λ zs. over zs xs) (outsides-read-back M (p .0) (p .1) [] k (p .2) (p .3)),
+    )
+
+-- a table that was written over none
+over-nil : {A : Type 0} (xs : List A) → over xs [] ≡ xs
+unfolding over
+over-nil {A} xs = let l : length {A = A} [] ≤ length xs = omega arith in ap (λ (ys : List A). xs ++ ys) (drop-of-length-le [] l) ∙ append-nil xs
+
+-- Writing undoes reading. Nothing is asked of the values here: they fit their fields, from which they were read. A writer asks 3 to 8.
+module _ (bs : List ℕ) (bytes : (j : ℕ) → getD bs j 0 < 256) where
+  pub mesh-written-back : {n : Counts} (mostCells mostFaces v f s w k : ℕ) → meshRead mostCells mostFaces bs v f s w k ≡ accepted n → meshRecord (meshIn bs) ≡ bs
+  mesh-written-back mostCells mostFaces v f s w k e =
+      rw (over-nil (volumesIn bs), over-nil (firstsIn bs), over-nil (secondsIn bs), over-nil (sharesIn bs), over-nil (reachesIn bs)) at
+      (mesh-again bs bytes (mesh-passed mostCells mostFaces bs v f s w k e) [] [] [] [] [])
+
+  pub field-written-back : (cells m : ℕ) → fieldRead cells bs m ≡ fine → fieldRecord cells (massesIn bs cells) ≡ bs
+  field-written-back cells m e = rw (over-nil (massesIn bs cells)) at (field-again cells bs bytes (field-passed cells bs m e) [])
+
+  pub step-written-back : (faces : ℕ) (seconds : List ℕ) (u x : ℕ) → stepRead faces seconds bs u x ≡ fine → stepRecord faces seconds (fluxesIn bs faces) (outsidesIn bs faces seconds) ≡ bs
+  step-written-back faces seconds u x e =
+      rw (over-nil (fluxesIn bs faces), over-nil (outsidesIn bs faces seconds)) at (step-again faces seconds bs bytes (step-passed faces seconds bs u x e) [] [])
+
+  -- A writing of what was read: it answers the length of the record, and leaves its bytes.
+  rewrote : {v : Verdict} {N : ℕ} {rec old new : List ℕ} {r : WriteAnswer} {k : ℕ} → Writing v N rec old r new → writeSaid r ≡ accepted k → rec ≡ bs → length rec ≡ N → (k ≡ length bs) × (new ≡ over bs old)
+  unfolding _andThen_
+  rewrote {v} {N} {rec} {old} {new} {r} {k} w e same len =
+      let p = both-fine v (accepted N) (sym (w .answer) ∙ e) in
+      let q = p .1 in
+      let d : N ≡ k = cc in
+      let b : new ≡ over rec old = rw (p .0) at (w .bytes-written) in
+      (sym d ∙ sym len ∙ ap length same, b ∙ ap (λ xs. over xs old) same)
+
+  -- The reader's contract and the writer's, joined.
+  pub mesh-rejoined : (mostCells mostFaces : ℕ) {volumes firsts seconds shares reaches volumes′ firsts′ seconds′ shares′ reaches′ : List ℕ} {a : MeshAnswer} {n : Counts} {old new : List ℕ} {r : WriteAnswer} {k : ℕ}
+      → MeshReading (meshRead mostCells mostFaces bs (length volumes) (length firsts) (length seconds) (length shares) (length reaches)) bs volumes firsts seconds shares reaches a volumes′ firsts′ seconds′ shares′ reaches′
+      → meshSaid a ≡ accepted n → MeshWriting (meshOf (n .cells) (n .faces) volumes′ firsts′ seconds′ shares′ reaches′) old r new → writeSaid r ≡ accepted k
+      → (k ≡ length bs) × (new ≡ over bs old)
+  unfolding meshLength
+  mesh-rejoined mostCells mostFaces {volumes} {firsts} {seconds} {shares} {reaches} {volumes′} {firsts′} {seconds′} {shares′} {reaches′} {a} {n} {old} {new} {r} {k} read told w e =
+      let came = sym (read .answer) ∙ told in
+      let passed = mesh-passed mostCells mostFaces bs (length volumes) (length firsts) (length seconds) (length shares) (length reaches) came in
+      let q : MeshReading (accepted n) bs volumes firsts seconds shares reaches a volumes′ firsts′ seconds′ shares′ reaches′ = rw came at read in
+      let N : Mesh = meshOf (n .cells) (n .faces) volumes′ firsts′ seconds′ shares′ reaches′ in
+      let same : meshRecord N ≡ bs = rw (passed .counts-are, q .volumes-read, q .firsts-read, q .seconds-read, q .shares-read, q .reaches-read) (mesh-again bs bytes passed volumes firsts seconds shares reaches) in
+      let p = mesh-causes N (length old) (both-fine _ _ (sym (w .answer) ∙ e) .0) in
+      rewrote w e same (mesh-record-length N (mesh-fits N (p .0) (p .1)))
+
+  pub field-rejoined : (M : Mesh) {masses masses′ : List ℕ} {a : Answer} {old new : List ℕ} {r : WriteAnswer} {k : ℕ}
+      → FieldReading (fieldRead (M .cells) bs (length masses)) (M .cells) bs masses a masses′ → said a ≡ fine → FieldWriting M masses′ old r new → writeSaid r ≡ accepted k
+      → (k ≡ length bs) × (new ≡ over bs old)
+  unfolding fieldLength
+  field-rejoined M {masses} {masses′} {a} {old} {new} {r} {k} read told w e =
+      let came = sym (read .answer) ∙ told in
+      let q : FieldReading fine (M .cells) bs masses a masses′ = rw came at read in
+      let same : fieldRecord (M .cells) masses′ ≡ bs = rw (q .masses-read) (field-again (M .cells) bs bytes (field-passed (M .cells) bs (length masses) came) masses) in
+      rewrote w e same (field-record-length (M .cells) masses′)
+
+  pub step-rejoined : (M : Mesh) {us us′ : List ℤ} {xs xs′ : List ℕ} {a : Answer} {old new : List ℕ} {r : WriteAnswer} {k : ℕ}
+      → StepReading (stepRead (M .faces) (M .seconds) bs (length us) (length xs)) (M .faces) (M .seconds) bs us xs a us′ xs′ → said a ≡ fine → StepWriting M us′ xs′ old r new → writeSaid r ≡ accepted k
+      → (k ≡ length bs) × (new ≡ over bs old)
+  unfolding stepLength
+  step-rejoined M {us} {us′} {xs} {xs′} {a} {old} {new} {r} {k} read told w e =
+      let came = sym (read .answer) ∙ told in
+      let q : StepReading fine (M .faces) (M .seconds) bs us xs a us′ xs′ = rw came at read in
+      let same : stepRecord (M .faces) (M .seconds) us′ xs′ ≡ bs =
+      rw (q .fluxes-read, q .outsides-read) (step-again (M .faces) (M .seconds) bs bytes (step-passed (M .faces) (M .seconds) bs (length us) (length xs) came) us xs) in
+      rewrote w e same (step-record-length (M .faces) (M .seconds) us′ xs′)

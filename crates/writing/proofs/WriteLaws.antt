@@ -1,0 +1,107 @@
+-- What a writing that is accepted has passed, that its record fits its bytes, and what the writer answers.
+use Prim.Native.Nat.{ℕ, _≤_}
+use mathlib.Core.Path.{_≡_}
+use mathlib.Core.List.{List, []}
+use lib.ListN.{length}
+use lib.IntN.{ℤ}
+use borrow.Author.Tests.{leb-true}
+use Rattle.model.specs.Mesh.{Mesh}
+use Rattle.model.specs.Causes.{Verdict, fine, _andThen_, each, long, counts, meshTables, meshValues, outsideGood, fluxGood, bytesLong, waterOf}
+use Rattle.model.specs.Answers.{told}
+use Rattle.model.specs.declared.Refusal.{Refusal}
+use Rattle.model.proofs.Verdicts.{both-fine, need-fine, past, andThen-assoc}
+use Rattle.model.proofs.Accepted.{counted, mesh-lent, field-lent}
+use Rattle.heads.specs.Layouts.{stepLength}
+use Rattle.writing.specs.declared.WriteAnswer.the-variants as write
+use Rattle.writing.specs.Writing.{meshWriteVerdict, fieldWriteVerdict, stepWriteVerdict, Writing}
+use Rattle.writing.specs.Putting.{MeshWhole, FieldWhole, StepWhole, Wrote}
+use Rattle.writing.proofs.WidthLaws.{mesh-fits, masses-fit, field-fits, outsides-fit, step-fits}
+
+-- the answer, and the bytes
+
+module _ {v : Verdict} {n : ℕ} {written bytes : List ℕ} where
+  pub writing-refused : {r : Refusal} → v ≡ told r → Writing v n written bytes (write.Refused r) bytes
+  unfolding _andThen_
+  writing-refused e = record { answer = rw e; bytes-written = rw e }
+
+  pub writing-accepted : {k : ℕ} {bytes′ : List ℕ} → v ≡ fine → Wrote bytes written n bytes′ k → Writing v n written bytes (write.Written k) bytes′
+  unfolding _andThen_
+  writing-accepted e q = record { answer = rw (e, q .takes); bytes-written = rw e (q .written) }
+
+-- a test of the bytes, where the length was reckoned
+pub bytes-said : {v : Verdict} {n m : ℕ} (room : ℕ) → v ≡ bytesLong n room → n ≡ m → v ≡ bytesLong m room
+bytes-said room e d = rw d at e
+
+-- two tests after one that is fine
+pub past-first : {u : Verdict} (v w : Verdict) → u ≡ fine → (u andThen v andThen w) ≡ (v andThen w)
+past-first v w e = rw (past v e)
+
+-- the tables of a step that are long enough
+pub water-long : (n a b : ℕ) (w : Verdict) → (long 6 n a andThen long 7 n b andThen w) ≡ fine → (n ≤ a) × (n ≤ b)
+water-long n a b w e =
+    let p = both-fine _ _ (both-fine _ _ e .0) in
+    (leb-true _ _ (need-fine 2 6 _ (p .0)), leb-true _ _ (need-fine 2 7 _ (p .1)))
+
+-- what a record that is put has passed
+pub mesh-whole : (M : Mesh) {bs : List ℕ} → meshWriteVerdict M (length bs) ≡ fine → MeshWhole M bs
+unfolding meshWriteVerdict
+mesh-whole M e =
+    let a = both-fine _ _ e in
+    let b = both-fine _ _ (a .0) in
+    let d = both-fine _ _ (b .0) in
+    let n = counted M (d .0) in
+    record {
+      few-cells = n .few-cells;
+      few-faces = n .few-faces;
+      lent = mesh-lent M (d .1);
+      fits = mesh-fits M (d .0) (a .1);
+      enough = leb-true _ _ (need-fine 2 11 _ (b .1));
+    }
+
+pub field-whole : (M : Mesh) (masses : List ℕ) {bs : List ℕ} → fieldWriteVerdict M masses (length bs) ≡ fine → FieldWhole (M .cells) masses bs
+unfolding fieldWriteVerdict
+field-whole M masses e =
+    let a = both-fine _ _ e in
+    let b = both-fine _ _ (a .0) in
+    let d = both-fine _ _ (b .0) in
+    let f = both-fine _ _ (d .0) in
+    let n = counted M (both-fine _ _ (f .0) .0) in
+    record {
+      few-cells = n .few-cells;
+      masses-long = field-lent M masses (f .1);
+      fits = field-fits (M .cells) masses (n .few-cells) (masses-fit M (b .1) masses (a .1));
+      enough = leb-true _ _ (need-fine 2 11 _ (d .1));
+    }
+
+module _ (M : Mesh) (fluxes : List ℤ) (outsides : List ℕ) where
+  pub step-whole : {bs : List ℕ} → stepWriteVerdict M fluxes outsides (length bs) ≡ fine → StepWhole (M .faces) (M .seconds) fluxes outsides bs
+  unfolding stepWriteVerdict
+  step-whole e =
+      let a = both-fine _ _ e in
+      let b = both-fine _ _ (a .0) in
+      let d = both-fine _ _ (b .0) in
+      let f = both-fine _ _ (d .0) in
+      let g = both-fine _ _ (f .0) in
+      let h = both-fine _ _ (g .0) in
+      let i = both-fine _ _ (h .0) in
+      let n = counted M (i .0) in
+      record {
+        few-faces = n .few-faces;
+        seconds-long = mesh-lent M (i .1) .seconds-long;
+        fluxes-long = leb-true _ _ (need-fine 2 6 _ (h .1));
+        outsides-long = leb-true _ _ (need-fine 2 7 _ (g .1));
+        fits = step-fits M (d .1) [] (waterOf fluxes outsides) (b .1) (a .1) (n .few-faces);
+        outsides-fit = outsides-fit M (d .1) [] (waterOf fluxes outsides) (b .1) (a .1);
+        enough = leb-true _ _ (need-fine 2 11 _ (f .1));
+      }
+
+  -- the causes of a step as the writer tests them: those that rest on nothing together
+  regroup : (u p q r m s t : Verdict) → (u andThen p andThen q andThen r andThen m andThen s andThen t) ≡ (u andThen (p andThen q andThen r) andThen (m andThen (s andThen t)))
+  regroup u p q r m s t = simp andThen-assoc
+
+  pub step-groups : (room : ℕ) → stepWriteVerdict M fluxes outsides room ≡ (counts M andThen meshTables M
+      andThen (long 6 (M .faces) (length fluxes) andThen long 7 (M .faces) (length outsides) andThen bytesLong (stepLength (M .faces) (M .seconds)) room)
+      andThen (meshValues M andThen (each 7 (M .faces) (outsideGood M [] (waterOf fluxes outsides)) andThen each 8 (M .faces) (fluxGood M [] (waterOf fluxes outsides)))))
+  unfolding stepWriteVerdict
+  step-groups room = regroup (counts M andThen meshTables M) (long 6 (M .faces) (length fluxes)) (long 7 (M .faces) (length outsides)) (bytesLong (stepLength (M .faces) (M .seconds)) room)
+      (meshValues M) (each 7 (M .faces) (outsideGood M [] (waterOf fluxes outsides))) (each 8 (M .faces) (fluxGood M [] (waterOf fluxes outsides)))

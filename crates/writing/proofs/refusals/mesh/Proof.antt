@@ -1,0 +1,33 @@
+use mathlib.Core.Path.{sym, _∙_}
+use borrow.Author.Needs.{needs}
+use Rattle.model.proofs.Verdicts.{both-fine, out, both-are, refuses, passes}
+use Rattle.model.proofs.Accepted.{counted, mesh-long}
+use Rattle.writing.specs.Writing.{meshWriteVerdict}
+use Rattle.writing.proofs.WriteLaws.{bytes-said, past-first}
+use Rattle.writing.proofs.refusals.mesh.Statement.{statement}
+use Rattle.writing.proofs.refusals.mesh.Tie as tie
+
+returns : tie.Need-returns
+unfolding meshWriteVerdict
+returns c = sym (out _ (out _ (refuses (c .before .before .before .mesh-lent .ensures) (c .before .lent .given .1))))
+
+mesh-bytes-requires : tie.Need-mesh-bytes-requires
+mesh-bytes-requires c κs =
+    let n = counted _ (both-fine _ _ (passes (c .before .before .mesh-lent .ensures) (c .enum-told .given .1)) .0) in
+    (n .few-cells, n .few-faces)
+
+values-requires : tie.Need-values-requires
+values-requires c κs = mesh-long _ (passes (c .before .before .before .before .mesh-lent .ensures) (c .before .before .enum-told .given .1))
+
+returns-2 : tie.Need-returns-2
+unfolding meshWriteVerdict
+returns-2 c =
+    let long = c .before .before in
+    let told = long .before .before in
+    let bytes = bytes-said (c .before .before .before .before .before .before .before .before .before .before .before .before .args .room) (long .long .ensures) (long .before .mesh-bytes .ensures) in
+    both-are (c .and-then .ensures) bytes (c .before .values .ensures) ∙ sym (past-first _ _ (passes (told .before .before .mesh-lent .ensures) (told .enum-told .given .1)))
+
+pub mesh-spec : {M : Type 1} → statement M
+mesh-spec =
+    tie.close
+    (tie.spec (search needs) (search needs) returns (search needs) mesh-bytes-requires (search needs) values-requires (search needs) returns-2)

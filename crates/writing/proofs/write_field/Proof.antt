@@ -1,0 +1,17 @@
+use borrow.Author.Needs.{needs}
+use Rattle.model.proofs.Verdicts.{refuses, passes}
+use Rattle.writing.proofs.WriteLaws.{writing-refused, writing-accepted, field-whole}
+use Rattle.writing.proofs.write_field.Statement.{statement}
+use Rattle.writing.proofs.write_field.Tie as tie
+
+returns : tie.Need-returns
+returns c = writing-refused (refuses (c .before .before .before .field .ensures) (c .before .a .given .1))
+
+field-requires-2 : tie.Need-field-requires-2
+field-requires-2 c κs = field-whole _ _ (passes (c .before .before .before .field .ensures) (c .before .enum-told .given .1))
+
+returns-2 : tie.Need-returns-2
+returns-2 c = writing-accepted (passes (c .before .before .before .before .before .before .field .ensures) (c .before .before .before .before .enum-told .given .1)) (c .before .before .field2 .ensures)
+
+pub write-field-spec : {M : Type 1} → statement M
+write-field-spec = tie.close (tie.spec (search needs) (search needs) returns (search needs) field-requires-2 (search needs) returns-2)

@@ -1,0 +1,17 @@
+use borrow.Author.Needs.{needs}
+use Rattle.model.proofs.Verdicts.{refuses, passes}
+use Rattle.writing.proofs.WriteLaws.{writing-refused, writing-accepted, step-whole}
+use Rattle.writing.proofs.write_step.Statement.{statement}
+use Rattle.writing.proofs.write_step.Tie as tie
+
+returns : tie.Need-returns
+returns c = writing-refused (refuses (c .before .before .before .step .ensures) (c .before .a .given .1))
+
+step-requires-2 : tie.Need-step-requires-2
+step-requires-2 c κs = step-whole _ _ _ (passes (c .before .before .before .step .ensures) (c .before .enum-told .given .1))
+
+returns-2 : tie.Need-returns-2
+returns-2 c = writing-accepted (passes (c .before .before .before .before .before .before .step .ensures) (c .before .before .before .before .enum-told .given .1)) (c .before .before .step2 .ensures)
+
+pub write-step-spec : {M : Type 1} → statement M
+write-step-spec = tie.close (tie.spec (search needs) (search needs) returns (search needs) step-requires-2 (search needs) returns-2)

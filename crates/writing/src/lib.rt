@@ -1,0 +1,125 @@
+// The three records of document 01, written. What is refused is refused before the first byte is touched.
+mod put;
+mod refusals;
+
+use model::Answer;
+use model::Refusal;
+ghost use Rattle.model.specs.Mesh.{meshOf};
+ghost use Rattle.writing.specs.Writing.{MeshWriting, FieldWriting, StepWriting};
+
+// How many bytes have been written.
+pub enum WriteAnswer {
+    Written(u64),
+    Refused(Refusal),
+}
+
+// The record of a mesh.
+pub fn write_mesh(
+    cells: usize,
+    faces: usize,
+    volumes: &[u64],
+    firsts: &[u64],
+    seconds: &[u64],
+    shares: &[u64],
+    reaches: &[u64],
+    bytes: &mut [u8],
+) -> WriteAnswer
+    ensures { λ r. ⌜ MeshWriting
+        (meshOf cells faces (now (volumes .entry)) (now (firsts .entry)) (now (seconds .entry)) (now (shares .entry)) (now (reaches .entry)))
+        (now (bytes .entry)) r (now (bytes .exit)) ⌝ }
+{
+    let a = refusals::mesh(
+        cells,
+        faces,
+        volumes,
+        firsts,
+        seconds,
+        shares,
+        reaches,
+        bytes.len(),
+    );
+    if let Answer::Refused(r) = a {
+        return WriteAnswer::Refused(r);
+    }
+    let length = put::mesh(
+        cells,
+        faces,
+        volumes,
+        firsts,
+        seconds,
+        shares,
+        reaches,
+        bytes,
+    );
+    WriteAnswer::Written(length as u64)
+}
+
+// The record of a field. The mesh is lent for the causes alone.
+pub fn write_field(
+    cells: usize,
+    faces: usize,
+    volumes: &[u64],
+    firsts: &[u64],
+    seconds: &[u64],
+    shares: &[u64],
+    reaches: &[u64],
+    masses: &[u64],
+    bytes: &mut [u8],
+) -> WriteAnswer
+    ensures { λ r. ⌜ FieldWriting
+        (meshOf cells faces (now (volumes .entry)) (now (firsts .entry)) (now (seconds .entry)) (now (shares .entry)) (now (reaches .entry)))
+        (now (masses .entry)) (now (bytes .entry)) r (now (bytes .exit)) ⌝ }
+{
+    let a = refusals::field(
+        cells,
+        faces,
+        volumes,
+        firsts,
+        seconds,
+        shares,
+        reaches,
+        masses,
+        bytes.len(),
+    );
+    if let Answer::Refused(r) = a {
+        return WriteAnswer::Refused(r);
+    }
+    let length = put::field(cells, masses, bytes);
+    WriteAnswer::Written(length as u64)
+}
+
+// The record of a step.
+pub fn write_step(
+    cells: usize,
+    faces: usize,
+    volumes: &[u64],
+    firsts: &[u64],
+    seconds: &[u64],
+    shares: &[u64],
+    reaches: &[u64],
+    fluxes: &[i64],
+    outsides: &[u64],
+    bytes: &mut [u8],
+) -> WriteAnswer
+    ensures { λ r. ⌜ StepWriting
+        (meshOf cells faces (now (volumes .entry)) (now (firsts .entry)) (now (seconds .entry)) (now (shares .entry)) (now (reaches .entry)))
+        (now (fluxes .entry)) (now (outsides .entry)) (now (bytes .entry)) r (now (bytes .exit)) ⌝ }
+{
+    let a = refusals::step(
+        cells,
+        faces,
+        volumes,
+        firsts,
+        seconds,
+        shares,
+        reaches,
+        fluxes,
+        outsides,
+        bytes.len(),
+    );
+    if let Answer::Refused(r) = a {
+        return WriteAnswer::Refused(r);
+    }
+    let length = put::step(faces, seconds, fluxes, outsides, bytes);
+    WriteAnswer::Written(length as u64)
+}

@@ -1,0 +1,106 @@
+// What a writing is refused for, before the first byte is touched.
+use heads::lengths;
+use model::Answer;
+use model::needs::and_then;
+use model::needs::long;
+ghost use mathlib.Core.Path.{_≡_};
+ghost use Rattle.model.specs.Mesh.{meshOf};
+ghost use Rattle.model.specs.Answers.{said};
+ghost use Rattle.writing.specs.Writing.{meshWriteVerdict, fieldWriteVerdict, stepWriteVerdict};
+
+// The position of the record's bytes among the tables of cause 2.
+const RECORD_BYTES: u64 = 11;
+
+// What writing a mesh into so many bytes is refused for.
+pub fn mesh(
+    cells: usize,
+    faces: usize,
+    volumes: &[u64],
+    firsts: &[u64],
+    seconds: &[u64],
+    shares: &[u64],
+    reaches: &[u64],
+    room: usize,
+) -> Answer
+    ensures { λ r. ⌜ said r ≡ meshWriteVerdict
+        (meshOf cells faces (now (volumes .entry)) (now (firsts .entry)) (now (seconds .entry)) (now (shares .entry)) (now (reaches .entry)))
+        room ⌝ }
+{
+    let lent = lent::mesh_lent(cells, faces, volumes, firsts, seconds, shares, reaches);
+    if let Answer::Refused(r) = lent {
+        return Answer::Refused(r);
+    }
+    let space = long(RECORD_BYTES, lengths::mesh_bytes(cells, faces), room);
+    let values = shape::values(cells, faces, volumes, firsts, seconds, shares, reaches);
+    and_then(space, values)
+}
+
+// What writing a field into so many bytes is refused for.
+pub fn field(
+    cells: usize,
+    faces: usize,
+    volumes: &[u64],
+    firsts: &[u64],
+    seconds: &[u64],
+    shares: &[u64],
+    reaches: &[u64],
+    masses: &[u64],
+    room: usize,
+) -> Answer
+    ensures { λ r. ⌜ said r ≡ fieldWriteVerdict
+        (meshOf cells faces (now (volumes .entry)) (now (firsts .entry)) (now (seconds .entry)) (now (shares .entry)) (now (reaches .entry)))
+        (now (masses .entry)) room ⌝ }
+{
+    let lent = lent::field_lent(
+        cells,
+        faces,
+        volumes,
+        firsts,
+        seconds,
+        shares,
+        reaches,
+        masses,
+    );
+    if let Answer::Refused(r) = lent {
+        return Answer::Refused(r);
+    }
+    let space = long(RECORD_BYTES, lengths::field_bytes(cells), room);
+    let values = shape::values(cells, faces, volumes, firsts, seconds, shares, reaches);
+    let fit = and_then(space, values);
+    if let Answer::Refused(r) = fit {
+        return Answer::Refused(r);
+    }
+    checks::field::values(cells, volumes, masses)
+}
+
+// What writing a step into so many bytes is refused for. Its length rests on the seconds as they stand.
+pub fn step(
+    cells: usize,
+    faces: usize,
+    volumes: &[u64],
+    firsts: &[u64],
+    seconds: &[u64],
+    shares: &[u64],
+    reaches: &[u64],
+    fluxes: &[i64],
+    outsides: &[u64],
+    room: usize,
+) -> Answer
+    ensures { λ r. ⌜ said r ≡ stepWriteVerdict
+        (meshOf cells faces (now (volumes .entry)) (now (firsts .entry)) (now (seconds .entry)) (now (shares .entry)) (now (reaches .entry)))
+        (now (fluxes .entry)) (now (outsides .entry)) room ⌝ }
+{
+    let lent = lent::mesh_lent(cells, faces, volumes, firsts, seconds, shares, reaches);
+    if let Answer::Refused(r) = lent {
+        return Answer::Refused(r);
+    }
+    let water = and_then(long(6, faces, fluxes.len()), long(7, faces, outsides.len()));
+    let space = long(RECORD_BYTES, lengths::step_bytes(faces, seconds), room);
+    let tables = and_then(water, space);
+    if let Answer::Refused(r) = tables {
+        return Answer::Refused(r);
+    }
+    let mesh = shape::values(cells, faces, volumes, firsts, seconds, shares, reaches);
+    let values = water::values(faces, seconds, reaches, fluxes, outsides);
+    and_then(mesh, values)
+}
