@@ -19,7 +19,8 @@ use Rattle.model.specs.Causes.{fieldTable, saltGood, fieldValues, meshFieldVerd
 use Rattle.model.proofs.Figures.{channel}
 use Rattle.bits.specs.Field.{bitAt, bitsAt}
 use Rattle.bits.specs.Layout.{bytesFor}
-use Rattle.heads.specs.Layouts.{rimFaces, meshLength, fieldLength, stepLength}
+use Rattle.sections.specs.Sections.{those}
+use Rattle.heads.specs.Layouts.{meshLength, fieldLength, stepLength}
 use Rattle.reading.specs.Reading.{meshIn, volumesIn, firstsIn, secondsIn, sharesIn, reachesIn, massesIn, fluxesIn, outsidesIn, zeroBitGood, minusZero, meshBitGood, stepBitGood}
 use Rattle.heads.specs.Heads.{meshHeadVerdict, fieldHeadVerdict, stepHeadVerdict, meshNeeds, fieldNeeds, stepNeeds}
 use Rattle.reading.specs.Reading.{meshBodyVerdict, fieldBodyVerdict, stepBodyVerdict, fieldRead}
@@ -86,7 +87,7 @@ unfolding stepTables outsideGood fluxGood balanceGood outflowGood stepValues ver
 of-step-causes = tt
 
 of-bits : Unit {0}
-unfolding bitAt bitsAt bytesFor rimFaces meshLength fieldLength stepLength
+unfolding bitAt bitsAt bytesFor those meshLength fieldLength stepLength
 of-bits = tt
 
 of-values : Unit {0}
