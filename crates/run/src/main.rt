@@ -1,8 +1,11 @@
-// The run program of document 01: a mesh, a field and steps from standard input, a line for each, and the board.
+// The run program of document 01: a mesh, a field and steps from standard input, a line for each, and the board, in the order of
+// `printed` in session/specs/Run.antt. After a failed read or write it prints nothing more, so that no part of a session looks whole.
 mod board_lines;
 mod reading;
 
 use checks::TotalAnswer;
+use libc::STDERR_FILENO;
+use libc::STDIN_FILENO;
 use libc::STDOUT_FILENO;
 use model::RUN_CELLS;
 use model::RUN_FACES;
@@ -15,12 +18,24 @@ ghost use Prim.Native.Nat.{_≤_};
 ghost use lib.ListN.{length};
 ghost use Rattle.io.specs.Counts.{Counts};
 
+// What follows a step: another, the board, or nothing, since something is lost.
+enum Next {
+    Step,
+    Board,
+    Nothing,
+}
+
+// A line on standard output, or a word on standard error where it is lost.
 fn print(line: Line) -> bool
     requires { ⌜ Counts (line .used) (line .bytes) ⌝ }
 {
     let bytes = line.bytes;
     let used = line.used;
-    io::write_all(STDOUT_FILENO, &bytes[..used])
+    if io::write_all(STDOUT_FILENO, &bytes[..used]) {
+        return true;
+    }
+    os::fail(b"run: standard output");
+    false
 }
 
 // The one line of a refused mesh or field.
@@ -29,15 +44,19 @@ fn print_refusal(letter: u8, refusal: Refusal) {
     print(session::refusal_line(letter, model::number(cause), refusal.place));
 }
 
-// The line of a step. A refused one is skipped, unless it ends the run. Answers whether another may follow.
-fn print_step(step: u64, taken: StepTaken) -> bool {
-    let StepTaken::Stepped(printed) = taken else {
-        return print(session::taken_line(step, taken)) && session::goes_on(taken);
-    };
-    print(session::step_line(step, printed.entered, printed.gone, printed.total))
+// The line of a step, accepted or refused.
+fn print_step(step: u64, taken: StepTaken) -> Next {
+    if !print(session::taken_line(step, taken)) {
+        return Next::Nothing;
+    }
+    if session::goes_on(taken) {
+        Next::Step
+    } else {
+        Next::Board
+    }
 }
 
-// Reads one step, takes it and prints its line. Answers whether another may follow.
+// Reads one step, takes it and prints its line. Where no byte is left, the board follows.
 fn step_once(
     step: u64,
     cells: usize,
@@ -49,12 +68,16 @@ fn step_once(
     shares: &[u64],
     reaches: &[u64],
     masses: &mut [u64],
-) -> bool
+) -> Next
     requires { do ⌜ (← ⟦session::RECORD⟧) ≤ length (now buffer) ⌝ }
 {
-    let got = reading::step(faces, seconds, buffer);
+    let read = reading::step(faces, seconds, buffer);
+    if read.failed {
+        return Next::Nothing;
+    }
+    let got = read.count;
     if got == 0 {
-        return false;
+        return Next::Board;
     }
     let taken = taking::take_step(
         cells,
@@ -82,13 +105,13 @@ fn steps(
     shares: &[u64],
     reaches: &[u64],
     masses: &mut [u64],
-)
+) -> Next
     requires { do ⌜ (← ⟦session::RECORD⟧) ≤ length (now buffer) ⌝ }
 {
     let mut step: u64 = 0;
     while step < u64::MAX {
         step += 1;
-        let more = step_once(
+        let next = step_once(
             step,
             cells,
             faces,
@@ -100,10 +123,11 @@ fn steps(
             reaches,
             masses,
         );
-        if !more {
-            return;
-        }
+        let Next::Step = next else {
+            return next;
+        };
     }
+    Next::Board
 }
 
 // Field, steps and board on an accepted mesh.
@@ -120,7 +144,11 @@ fn run_on(
     requires { do ⌜ (← ⟦session::RECORD⟧) ≤ length (now buffer) ⌝ }
 {
     let mut masses = [0u64; RUN_CELLS];
-    let got = reading::field(cells, buffer);
+    let read = reading::field(cells, buffer);
+    if read.failed {
+        return;
+    }
+    let got = read.count;
     let answer = taking::take_field(cells, &buffer[..got], volumes, &mut masses);
     let TotalAnswer::Total(total) = answer else {
         if let TotalAnswer::Refused(refusal) = answer {
@@ -128,8 +156,10 @@ fn run_on(
         }
         return;
     };
-    print_start(total);
-    steps(
+    if !print_start(total) {
+        return;
+    }
+    let next = steps(
         cells,
         faces,
         buffer,
@@ -140,22 +170,41 @@ fn run_on(
         reaches,
         &mut masses,
     );
-    board_lines::print_board(cells, volumes, &masses);
+    if let Next::Board = next {
+        board_lines::print_board(cells, volumes, &masses);
+    }
 }
 
 // Step 0, the first field.
-fn print_start(total: u64) {
-    print(session::step_line(0, 0, 0, total));
+fn print_start(total: u64) -> bool {
+    print(session::step_line(0, 0, 0, total))
+}
+
+// A word to whoever gives arguments or sits at a terminal and does not know that a session is awaited.
+fn greet() {
+    let asked = os::arg_count() > 1;
+    let terminal = libc::isatty(STDIN_FILENO) == 1;
+    if asked || terminal {
+        io::write_all(
+            STDERR_FILENO,
+            b"run: reads a session from standard input; see README.md\n",
+        );
+    }
 }
 
 fn main() {
+    greet();
     let mut buffer = [0u8; RECORD];
     let mut volumes = [0u64; RUN_CELLS];
     let mut firsts = [0u64; RUN_FACES];
     let mut seconds = [0u64; RUN_FACES];
     let mut shares = [0u64; RUN_FACES];
     let mut reaches = [0u64; RUN_FACES];
-    let got = reading::mesh(&mut buffer);
+    let read = reading::mesh(&mut buffer);
+    if read.failed {
+        return;
+    }
+    let got = read.count;
     let answer = taking::take_mesh(
         &buffer[..got],
         &mut volumes,

@@ -1,2 +1,4 @@
 pub mod Lines
 pub mod Session
+pub mod Run
+pub mod Program

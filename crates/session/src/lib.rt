@@ -14,7 +14,6 @@ use records::LengthAnswer;
 use records::MESH_HEAD;
 use taking::StepTaken;
 ghost use mathlib.Core.Path.{_≡_};
-ghost use mathlib.Core.Bool.{not};
 ghost use Prim.Native.Nat.{_+_, _≤_, min};
 ghost use Rattle.records.specs.Answers.{lengthSaid};
 ghost use Rattle.session.specs.Session.{recordBytes, Holds, endsRun, stillNeeded, lineOf, goesOn};
@@ -28,20 +27,14 @@ pub struct Line {
     pub used: usize,
 }
 
-// Document 01's numbers of the causes that end a run.
-const WRONG_LENGTH: u64 = 11;
-
-const WRONG_HEAD: u64 = 13;
-
-// Whether a refusal of a step ends the run.
+// Whether a refusal of a step ends the run: causes 11 and 13.
 pub fn ends(cause: Cause) -> bool
     ensures { λ r. ⌜ r ≡ endsRun cause ⌝ }
 {
-    let number = model::number(cause);
-    if number == WRONG_LENGTH {
-        return true;
+    match cause {
+        Cause::Length | Cause::Head => true,
+        _ => false,
     }
-    number == WRONG_HEAD
 }
 
 // Whether another step may follow.
