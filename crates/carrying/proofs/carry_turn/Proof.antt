@@ -1,9 +1,7 @@
 -- What the code reads of face f are the step's own values there, and the concentrations in work those before the step: then the law of one face gives the turn.
 use Prim.Native.Nat.{_≤_}
-use mathlib.Core.Path.{_≡_}
 use native.Mathlib.Nat.{lt-of-lt-of-le}
 use borrow.Author.Needs.{needs}
-use Rattle.signed.specs.Sign.{size}
 use Rattle.model.specs.Mesh.{maxFaces}
 use Rattle.model.specs.Step.{StepInput}
 use Rattle.face.proofs.Places.{face-bytes}

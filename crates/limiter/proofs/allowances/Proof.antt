@@ -1,7 +1,10 @@
-use Prim.Native.Nat.{_≤_, _-_, _+_, _*_}
+use Prim.Native.Nat.{_≤_, _<_, _-_, _+_, _*_}
 use mathlib.Core.Path.{_≡_, _∙_}
+use native.Mathlib.Nat.{lt-of-lt-of-le}
 use native.Mathlib.Omega.{arith}
+use borrow.Author.Count.{falls}
 use borrow.Author.Needs.{needs}
+use Rattle.face.proofs.Places.{cell-bytes, cell-next}
 use Rattle.cell.specs.Work.{allowancesOf}
 use Rattle.cell.proofs.Filling.{filling-start, filling-turn}
 use Rattle.limiter.specs.Limiter.{Allowances}
@@ -21,6 +24,13 @@ start c = c .before .before .before .before .before
 abbrev start-after : tie.After-loop Inv-loop μ-loop → tie.Start Inv-loop μ-loop
 start-after c = c .before .before .before .before .before
 
+below : (c : tie.In-loop Inv-loop μ-loop) → c .before .loop .c < start c .args .cells
+below c = c .loop-test .taken
+
+-- the turn is done
+abbrev turned : tie.After-allowance-at Inv-loop μ-loop → tie.In-loop Inv-loop μ-loop
+turned c = c .before .before .before .before
+
 allowance-at-requires : tie.Need-allowance-at-requires Inv-loop μ-loop
 allowance-at-requires c κs =
     let w = c .before .before .before in
@@ -33,7 +43,7 @@ allowance-at-requires c κs =
 loop-again : tie.Need-loop-again Inv-loop μ-loop
 unfolding allowancesOf
 loop-again c =
-    let w = c .before .before .before .before .before .before in
+    let w = turned (c .before .before) in
     let l = w .before .loop in
     let s = start w in (
       search needs,
@@ -47,5 +57,9 @@ returns c = let e : c .before .loop .c ≡ start-after c .args .cells = omega ar
 pub allowances-spec : {M : Type 1} → statement M
 allowances-spec =
     tie.close
-    (tie.spec Inv-loop μ-loop (λ c. (search needs, filling-start _ _ _ _ _)) (search needs) (search needs) (search needs) (search needs) allowance-at-requires (search needs)
-    (search needs) loop-again (λ c. c .before .loop .inv .1 .same-length) returns)
+    (tie.spec Inv-loop μ-loop (λ c. (search needs, filling-start _ _ _ _ _))
+    (λ c. cell-bytes (below (c .before)) (start (c .before) .pre .0 .0)) (λ c. lt-of-lt-of-le (below (c .before .before)) (start (c .before .before) .pre .0 .1))
+    (λ c. cell-bytes (below (c .before .before)) (start (c .before .before) .pre .0 .0)) (λ c. lt-of-lt-of-le (below (c .before .before .before)) (start (c .before .before .before) .pre .0 .2))
+    allowance-at-requires
+    (λ c. let w = turned (c .before .before) in cell-next (below w) (start w .pre .0 .0)) (λ c. falls _ _ (below (turned (c .before .before)))) loop-again
+    (λ c. c .before .loop .inv .1 .same-length) returns)

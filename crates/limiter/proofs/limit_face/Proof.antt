@@ -53,7 +53,8 @@ cut-requires c κs =
     )
 
 -- the amount is what the limiter says, and no more than the correction
-amount-is : (c : tie.After-cut) → let s = at-cut c in c .cut .result ≡ cutOf (s .args .work .now) (s .args .code) (enters (s .args .code) (s .args .first) (s .args .second)) (leaves (s .args .code) (s .args .first) (s .args .second))
+amount-is : (c : tie.After-cut) → let s = at-cut c in
+    c .cut .result ≡ cutOf (s .args .work .now) (s .args .code) (enters (s .args .code) (s .args .first) (s .args .second)) (leaves (s .args .code) (s .args .first) (s .args .second))
 amount-is c = rw (c .before .before .end-to .ensures, c .before .end-to2 .ensures) at (c .cut .ensures)
 
 amount-small : (c : tie.After-cut) → c .cut .result ≤ maxCarried
