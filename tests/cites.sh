@@ -12,7 +12,7 @@ found() { # PAGE SED-EXPRESSION: the page changed by it has to be refused
   if python3 tests/cites.py "$made/page.md" > "$made/said" 2>&1; then echo "$2 in $1 is not found"; exit 1; fi
 }
 found docs/PROMISES.md 's/`refused-promise`/`refused-promises`/'
-found docs/PROMISES.md 's,`transport/must-fail/plain_upwind.edit`,`transport/must-fail/plain.edit`,'
+found docs/PROMISES.md 's,`limiter/must-fail/plain_upwind.edit`,`transport/must-fail/plain.edit`,'
 found docs/PROMISES.md 's,`transport/specs/Promise.antt`,`transport/specs/Promise.antt` †,'
 found docs/PROMISES.md 's/: `_andThen_` and `each`/: `_andThen_` and `eachOf`/'
 found docs/CALLS.md 's/^total: accepted 200000/total: accepted 200001/'

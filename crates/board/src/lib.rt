@@ -83,7 +83,8 @@ fn displaces(moving: bool, a: Entry, b: Entry) -> bool
 // One entry inserted among those used; the last of eight falls out where a ninth comes in.
 fn insert(ranking: Ranking, entry: Entry) -> Ranking
     requires { ⌜ ranking .used ≤ boardSize ⌝ }
-    ensures { λ r. ⌜ (r .used ≡ min boardSize (ranking .used + 1)) × (r .entries ≡ over (take boardSize (insertInOrder comesBefore entry (take (ranking .used) (ranking .entries)))) (ranking .entries)) ⌝ }
+    ensures { λ r. ⌜ (r .used ≡ min boardSize (ranking .used + 1))
+        × (r .entries ≡ over (take boardSize (insertInOrder comesBefore entry (take (ranking .used) (ranking .entries)))) (ranking .entries)) ⌝ }
 {
     let used = ranking.used;
     let mut entries = ranking.entries;
@@ -116,7 +117,8 @@ fn insert(ranking: Ranking, entry: Entry) -> Ranking
 fn rank(cells: usize, volumes: &[u64], masses: &[u64]) -> Ranking
     requires { ⌜ (cells ≤ length (now volumes)) × (cells ≤ length (now masses)) ⌝ }
     requires { ⌜ ((c : ℕ) → c < cells → 1 ≤ getD (now volumes) c 0) ⌝ }
-    ensures { λ r. ⌜ (r .used ≡ min boardSize cells) × (r .entries ≡ boardEntries (now (volumes .entry)) (now (masses .entry)) cells) ⌝ }
+    ensures { λ r. ⌜ (r .used ≡ min boardSize cells)
+        × (r .entries ≡ boardEntries (now (volumes .entry)) (now (masses .entry)) cells) ⌝ }
 {
     let mut ranking = empty_ranking();
     let mut c = 0;

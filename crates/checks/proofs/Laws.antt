@@ -1,6 +1,6 @@
 -- What the tests of this crate come to, over numbers and verdicts.
 use Prim.Native.Nat.{ℕ, _+_, _*_, _/_, _^_, _≤_, _<_}
-use mathlib.Core.Path.{_≡_}
+use mathlib.Core.Path.{_≡_, sym, ap, _∙_}
 use mathlib.Core.Bool.{Bool, true, false}
 use mathlib.Core.List.{List}
 use native.Mathlib.Nat.{div-lt-iff-lt-mul, div-mul-le-self, mul-le-mul-right}
@@ -11,15 +11,15 @@ use lib.ListN.{length}
 use Rattle.lists.specs.Fold.{sum}
 use Rattle.lists.proofs.Tests.{Fits, fits, exceeds, fits?}
 use Rattle.signed.specs.Sign.{size}
-use Rattle.model.specs.Mesh.{Mesh, volume, first, second, total, rim, maxCells, maxFaces, maxConcentration, maxRimFlux}
+use Rattle.model.specs.Mesh.{Mesh, maxVolume, volume, first, second, total, rim, maxCells, maxFaces, maxConcentration, maxRimFlux}
 use Rattle.model.specs.Step.{flux}
-use Rattle.model.specs.Causes.{Verdict, fine, _andThen_, each, counts, meshTables, fieldTable, meshValues, fieldValues, meshFieldVerdict, Call, inputOf, stepTables, outsideGood, fluxGood, balanceGood, outflowGood, stepValues, verdict}
+use Rattle.model.specs.Causes.{Verdict, waterOf, valuesVerdict, fine, _andThen_, each, counts, meshTables, fieldTable, meshValues, fieldValues, meshFieldVerdict, Call, inputOf, stepTables, outsideGood, fluxGood, balanceGood, outflowGood, stepValues, verdict}
+use Rattle.model.specs.Accepted.{StepLent, MeshFit}
 use Rattle.model.specs.Calls.{massIn}
 use Rattle.model.proofs.Verdicts.{both-fine, andThen-assoc}
 use Rattle.model.proofs.Accepted.{counted, mesh-lent, field-lent, call-lent, mesh-fit, field-fit, water-fit, mass-small, second-most, flux-small}
 use Rattle.model.proofs.Sizes.{total-most}
-pub use Rattle.model.proofs.Verdicts.{refuses, passes, both-are, each-cong}
-pub use Rattle.model.proofs.Accepted.{FieldPassed, field-passed, mesh-long, salt-asks, few}
+use Rattle.model.proofs.Accepted.{field-passed}
 
 -- cause 6 without a division
 pub salt-test : (m v : ℕ) → 1 ≤ v → ltb m ((maxConcentration + 1) * v) ≡ leb (m / v) maxConcentration
@@ -44,33 +44,59 @@ sum-asks M field e =
       ),
     )
 
-module _ (M : Mesh) (field : List ℕ) (k : Call) where
-  regroup : (a f p q r s : Verdict) → (a andThen f andThen (p andThen q andThen r andThen s)) ≡ (a andThen (f andThen (p andThen q)) andThen (r andThen s))
-  regroup a f p q r s = simp andThen-assoc
+regroup : (m f p q r s : Verdict) → (m andThen f andThen (p andThen q andThen r andThen s)) ≡ (m andThen (f andThen (p andThen q)) andThen (r andThen s))
+regroup m f p q r s = simp andThen-assoc
 
-  -- the causes of a step as the call tests them: those that rest on nothing together
-  pub in-groups : verdict M field k ≡ (counts M andThen meshTables M andThen fieldTable M field andThen stepTables M field k andThen meshValues M
+after-lengths : (t m f s : Verdict) → (t andThen m andThen f andThen s) ≡ (t andThen (m andThen f andThen s))
+after-lengths t m f s = simp andThen-assoc
+
+module _ (M : Mesh) (field : List ℕ) (k : Call) where
+  -- all causes: those of lengths, then those of values, which rest on the water alone
+  pub lengths-first : verdict M field k ≡ (counts M andThen meshTables M andThen fieldTable M field andThen stepTables M field k
+      andThen valuesVerdict M field (waterOf (k .fluxes) (k .outsides)))
+  unfolding verdict valuesVerdict stepValues outsideGood fluxGood balanceGood outflowGood
+  lengths-first = after-lengths (counts M andThen meshTables M andThen fieldTable M field andThen stepTables M field k) (meshValues M) (fieldValues M field) (stepValues M field k)
+
+  -- causes of values as they are tested: those that rest on nothing together
+  pub in-groups : valuesVerdict M field k ≡ (meshValues M
       andThen (fieldValues M field andThen (each 7 (M .faces) (outsideGood M field k) andThen each 8 (M .faces) (fluxGood M field k)))
       andThen (each 9 (M .cells) (balanceGood M field k) andThen each 10 (M .cells) (outflowGood M field k)))
-  unfolding verdict stepValues
-  in-groups = regroup (counts M andThen meshTables M andThen fieldTable M field andThen stepTables M field k andThen meshValues M) (fieldValues M field)
+  unfolding valuesVerdict stepValues
+  in-groups = regroup (meshValues M) (fieldValues M field)
       (each 7 (M .faces) (outsideGood M field k)) (each 8 (M .faces) (fluxGood M field k)) (each 9 (M .cells) (balanceGood M field k)) (each 10 (M .cells) (outflowGood M field k))
 
-  -- what causes 7 and 8 ask for
-  module _ (e : (counts M andThen meshTables M andThen fieldTable M field) ≡ fine) (d : stepTables M field k ≡ fine) where
-    pub water-asks : (M .faces ≤ length (M .seconds)) × (M .faces ≤ length (M .reaches)) × (M .faces ≤ length (k .fluxes)) × (M .faces ≤ length (k .outsides))
-    water-asks =
-        let m = mesh-lent M (both-fine _ _ (both-fine _ _ e .0) .1) in
-        let l = call-lent M field k d in
-        (m .seconds-long, m .reaches-long, l .fluxes-long, l .outsides-long)
+  -- what the tests of values ask for
+  pub step-lent : (counts M andThen meshTables M andThen fieldTable M field) ≡ fine → stepTables M field k ≡ fine → StepLent M field (waterOf (k .fluxes) (k .outsides))
+  step-lent e d =
+      let f = both-fine _ _ e in
+      let m = both-fine _ _ (f .0) in
+      let l = call-lent M field k d in
+      record { counts-fit = counted M (m .0); lent = mesh-lent M (m .1); masses-long = field-lent M field (f .1); fluxes-long = l .fluxes-long; outsides-long = l .outsides-long }
 
-    -- what causes 9 and 10 ask for
-    module _ (m : meshValues M ≡ fine) (v : (fieldValues M field andThen (each 7 (M .faces) (outsideGood M field k) andThen each 8 (M .faces) (fluxGood M field k))) ≡ fine) where
-      pub flows-ask : ((M .cells ≤ maxCells) × (M .faces ≤ maxFaces) × (M .cells ≤ length (M .volumes)) × (M .faces ≤ length (M .firsts)) × (M .faces ≤ length (M .seconds)) × (M .faces ≤ length (k .fluxes)))
+  module _ (l : StepLent M field k) where
+    pub shape-asks : (M .cells ≤ length (M .volumes)) × (M .faces ≤ length (M .firsts)) × (M .faces ≤ length (M .seconds)) × (M .faces ≤ length (M .shares)) × (M .faces ≤ length (M .reaches))
+    shape-asks = let m = l .lent in (m .volumes-long, m .firsts-long, m .seconds-long, m .shares-long, m .reaches-long)
+
+    pub water-asks : (M .faces ≤ length (M .seconds)) × (M .faces ≤ length (M .reaches)) × (M .faces ≤ length (k .fluxes)) × (M .faces ≤ length (k .outsides))
+    water-asks = (l .lent .seconds-long, l .lent .reaches-long, l .fluxes-long, l .outsides-long)
+
+    module _ (m : meshValues M ≡ fine) where
+      fit : MeshFit M
+      fit = mesh-fit M m
+
+      pub field-asks : ((M .cells ≤ length (M .volumes)) × (M .cells ≤ length field)) × ((c : ℕ) → c < M .cells → (1 ≤ volume M c) × (volume M c ≤ maxVolume))
+      field-asks = ((l .lent .volumes-long, l .masses-long), λ c h. (fit .volume-some c h, fit .volume-most c h))
+
+      pub flows-ask : (fieldValues M field andThen (each 7 (M .faces) (outsideGood M field k) andThen each 8 (M .faces) (fluxGood M field k))) ≡ fine
+          → ((M .cells ≤ maxCells) × (M .faces ≤ maxFaces) × (M .cells ≤ length (M .volumes)) × (M .faces ≤ length (M .firsts)) × (M .faces ≤ length (M .seconds)) × (M .faces ≤ length (k .fluxes)))
           × ((f : ℕ) → f < M .faces → (first M f ≤ rim) × (second M f ≤ rim) × (size (flux (inputOf M field k) f) ≤ maxRimFlux))
-      flows-ask =
+      flows-ask v =
           let w = both-fine _ _ (both-fine _ _ v .1) in
-          let l = mesh-lent M (both-fine _ _ (both-fine _ _ e .0) .1) in (
-            (few M field e .0, few M field e .1, l .volumes-long, l .firsts-long, l .seconds-long, call-lent M field k d .fluxes-long),
-            λ f h. (omega (arith, mesh-fit M m .first-in f h, few M field e .0), second-most M (few M field e .0) (mesh-fit M m) f h, flux-small (inputOf M field k) (mesh-fit M m) (water-fit M field k (w .0) (w .1)) f h),
+          let few = l .counts-fit .few-cells in (
+            (few, l .counts-fit .few-faces, l .lent .volumes-long, l .lent .firsts-long, l .lent .seconds-long, l .fluxes-long),
+            λ f h. (
+              omega (arith, fit .first-in f h),
+              second-most M few fit f h,
+              flux-small (inputOf M field k) fit (water-fit M field k (w .0) (w .1)) f h,
+            ),
           )

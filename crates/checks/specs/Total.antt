@@ -1,7 +1,6 @@
 -- What the total of a field answers.
 use Prim.Native.Nat.{ℕ}
 use Rattle.model.specs.Causes.{Outcome, accepted}
-pub use Rattle.model.specs.Causes.{cellsOnly}
 use Rattle.model.specs.Answers.{told}
 use Rattle.checks.specs.declared.TotalAnswer.{TotalAnswer}
 use Rattle.checks.specs.declared.TotalAnswer.the-variants.{Total, Refused}

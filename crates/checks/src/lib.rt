@@ -1,20 +1,14 @@
 // Causes 1 to 10 of document 01 on lent tables. No table is written.
 pub mod field;
-mod flows;
-pub mod lengths;
-pub mod mesh;
-pub mod water;
 
 use model::Answer;
-use model::Cause;
 use model::Refusal;
 use model::needs::and_then;
-use model::needs::between;
-use model::needs::need;
 ghost use mathlib.Core.Path.{_≡_};
 ghost use Rattle.lists.specs.Fold.{sum};
 ghost use Rattle.model.specs.Mesh.{meshOf};
-ghost use Rattle.model.specs.Causes.{accepted, _andThen_, callOf, countsWithin, meshVerdict, meshFieldVerdict, verdict, cellsOnly};
+ghost use Rattle.model.specs.Causes.{accepted, _andThen_, callOf, waterOf, countsWithin, meshVerdict, meshFieldVerdict, valuesVerdict, verdict, cellsOnly};
+ghost use Rattle.model.specs.Accepted.{StepLent};
 ghost use Rattle.model.specs.Answers.{said};
 ghost use Rattle.model.specs.Calls.{massIn};
 ghost use Rattle.checks.specs.Total.{totalSaid};
@@ -29,14 +23,7 @@ pub enum TotalAnswer {
 pub fn counts_within(most_cells: usize, most_faces: usize, cells: usize, faces: usize) -> Answer
     ensures { λ r. ⌜ said r ≡ countsWithin «most_cells» «most_faces» cells faces ⌝ }
 {
-    and_then(
-        need(
-            Cause::Limits,
-            0,
-            between(1, most_cells as u64, cells as u64),
-        ),
-        need(Cause::Limits, 1, faces <= most_faces),
-    )
+    lent::counts_within(most_cells, most_faces, cells, faces)
 }
 
 // Causes 1 to 5.
@@ -49,13 +36,14 @@ pub fn check_mesh(
     shares: &[u64],
     reaches: &[u64],
 ) -> Answer
-    ensures { λ r. ⌜ said r ≡ meshVerdict (meshOf cells faces (now (volumes .entry)) (now (firsts .entry)) (now (seconds .entry)) (now (shares .entry)) (now (reaches .entry))) ⌝ }
+    ensures { λ r. ⌜ said r ≡ meshVerdict
+        (meshOf cells faces (now (volumes .entry)) (now (firsts .entry)) (now (seconds .entry)) (now (shares .entry)) (now (reaches .entry))) ⌝ }
 {
-    let a = lengths::mesh_lent(cells, faces, volumes, firsts, seconds, shares, reaches);
+    let a = lent::mesh_lent(cells, faces, volumes, firsts, seconds, shares, reaches);
     if let Answer::Refused(r) = a {
         return Answer::Refused(r);
     }
-    mesh::values(cells, faces, volumes, firsts, seconds, shares, reaches)
+    shape::values(cells, faces, volumes, firsts, seconds, shares, reaches)
 }
 
 // Causes 1 to 6.
@@ -69,9 +57,11 @@ pub fn check_field(
     reaches: &[u64],
     masses: &[u64],
 ) -> Answer
-    ensures { λ r. ⌜ said r ≡ meshFieldVerdict (meshOf cells faces (now (volumes .entry)) (now (firsts .entry)) (now (seconds .entry)) (now (shares .entry)) (now (reaches .entry))) (now (masses .entry)) ⌝ }
+    ensures { λ r. ⌜ said r ≡ meshFieldVerdict
+        (meshOf cells faces (now (volumes .entry)) (now (firsts .entry)) (now (seconds .entry)) (now (shares .entry)) (now (reaches .entry)))
+        (now (masses .entry)) ⌝ }
 {
-    let a = lengths::field_lent(
+    let a = lent::field_lent(
         cells,
         faces,
         volumes,
@@ -84,7 +74,7 @@ pub fn check_field(
     if let Answer::Refused(r) = a {
         return Answer::Refused(r);
     }
-    let b = mesh::values(cells, faces, volumes, firsts, seconds, shares, reaches);
+    let b = shape::values(cells, faces, volumes, firsts, seconds, shares, reaches);
     if let Answer::Refused(r) = b {
         return Answer::Refused(r);
     }
@@ -101,13 +91,52 @@ pub fn check_cells(cells: usize, volumes: &[u64], masses: &[u64]) -> Answer
 
 // The sum of a field's masses.
 pub fn total(cells: usize, volumes: &[u64], masses: &[u64]) -> TotalAnswer
-    ensures { λ r. ⌜ totalSaid r ≡ (meshFieldVerdict (cellsOnly cells (now (volumes .entry))) (now (masses .entry)) andThen accepted (sum cells (massIn (now (masses .entry))))) ⌝ }
+    ensures { λ r. ⌜ totalSaid r ≡ (
+        meshFieldVerdict (cellsOnly cells (now (volumes .entry))) (now (masses .entry))
+        andThen accepted (sum cells (massIn (now (masses .entry))))
+        ) ⌝ }
 {
     let a = check_cells(cells, volumes, masses);
     if let Answer::Refused(r) = a {
         return TotalAnswer::Refused(r);
     }
     TotalAnswer::Total(field::sum_of(cells, masses))
+}
+
+// Causes 3 to 10, of tables that are long enough.
+fn step_values(
+    cells: usize,
+    faces: usize,
+    volumes: &[u64],
+    firsts: &[u64],
+    seconds: &[u64],
+    shares: &[u64],
+    reaches: &[u64],
+    masses: &[u64],
+    fluxes: &[i64],
+    outsides: &[u64],
+) -> Answer
+    requires { ⌜ StepLent
+        (meshOf cells faces (now volumes) (now firsts) (now seconds) (now shares) (now reaches))
+        (now masses)
+        (waterOf (now fluxes) (now outsides)) ⌝ }
+    ensures { λ r. ⌜ said r ≡ valuesVerdict
+        (meshOf cells faces (now (volumes .entry)) (now (firsts .entry)) (now (seconds .entry)) (now (shares .entry)) (now (reaches .entry)))
+        (now (masses .entry))
+        (waterOf (now (fluxes .entry)) (now (outsides .entry))) ⌝ }
+{
+    let a = shape::values(cells, faces, volumes, firsts, seconds, shares, reaches);
+    if let Answer::Refused(r) = a {
+        return Answer::Refused(r);
+    }
+    let b = and_then(
+        field::values(cells, volumes, masses),
+        water::values(faces, seconds, reaches, fluxes, outsides),
+    );
+    if let Answer::Refused(r) = b {
+        return Answer::Refused(r);
+    }
+    flows::values(cells, faces, volumes, firsts, seconds, fluxes)
 }
 
 // Causes 1 to 10.
@@ -126,9 +155,12 @@ pub fn check_step(
     moved: &[i64],
     work: &[u64],
 ) -> Answer
-    ensures { λ r. ⌜ said r ≡ verdict (meshOf cells faces (now (volumes .entry)) (now (firsts .entry)) (now (seconds .entry)) (now (shares .entry)) (now (reaches .entry))) (now (masses .entry)) (callOf (now (fluxes .entry)) (now (outsides .entry)) (now (next .entry)) (now (moved .entry)) (now (work .entry))) ⌝ }
+    ensures { λ r. ⌜ said r ≡ verdict
+        (meshOf cells faces (now (volumes .entry)) (now (firsts .entry)) (now (seconds .entry)) (now (shares .entry)) (now (reaches .entry)))
+        (now (masses .entry))
+        (callOf (now (fluxes .entry)) (now (outsides .entry)) (now (next .entry)) (now (moved .entry)) (now (work .entry))) ⌝ }
 {
-    let a = lengths::field_lent(
+    let a = lent::field_lent(
         cells,
         faces,
         volumes,
@@ -141,20 +173,20 @@ pub fn check_step(
     if let Answer::Refused(r) = a {
         return Answer::Refused(r);
     }
-    let b = lengths::step_lent(cells, faces, fluxes, outsides, next, moved, work);
+    let b = lent::step_lent(cells, faces, fluxes, outsides, next, moved, work);
     if let Answer::Refused(r) = b {
         return Answer::Refused(r);
     }
-    let d = mesh::values(cells, faces, volumes, firsts, seconds, shares, reaches);
-    if let Answer::Refused(r) = d {
-        return Answer::Refused(r);
-    }
-    let e = and_then(
-        field::values(cells, volumes, masses),
-        water::values(faces, seconds, reaches, fluxes, outsides),
-    );
-    if let Answer::Refused(r) = e {
-        return Answer::Refused(r);
-    }
-    flows::values(cells, faces, volumes, firsts, seconds, fluxes)
+    step_values(
+        cells,
+        faces,
+        volumes,
+        firsts,
+        seconds,
+        shares,
+        reaches,
+        masses,
+        fluxes,
+        outsides,
+    )
 }

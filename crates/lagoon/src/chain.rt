@@ -1,176 +1,15 @@
-// The host's call from its last stage back to its first. Each function has the tables of its stage and hands the rest on.
+// The host's call, record by record: what the run does with them, and the next field written.
+use checks::TotalAnswer;
 use model::Answer;
 use model::RUN_CELLS;
 use model::RUN_FACES;
 use records::MeshAnswer;
 use records::WriteAnswer;
-use transport::StepAnswer;
-ghost use mathlib.Core.Path.{_≡_};
-ghost use lib.ListN.{length};
-ghost use Rattle.model.specs.Mesh.{meshOf, runCells};
-ghost use Rattle.lagoon.specs.Inner.{WaterComes, StepComes, FieldComes, MeshComes, HostComes, MeshScratch, WaterScratch, StepLent, MeshRead, MeshFine, FieldFine};
+use taking::StepTaken;
+ghost use Rattle.model.specs.Mesh.{meshOf};
+ghost use Rattle.lagoon.specs.Inner.{MeshComes, HostComes};
 
-// The step on tables as long as the counts, and its next masses written.
-fn stepped(
-    cells: usize,
-    faces: usize,
-    volumes: &[u64],
-    firsts: &[u64],
-    seconds: &[u64],
-    shares: &[u64],
-    reaches: &[u64],
-    masses: &[u64],
-    fluxes: &[i64],
-    outsides: &[u64],
-    nexts: &mut [u64],
-    moveds: &mut [i64],
-    work: &mut [u64],
-    bytes: &mut [u8],
-) -> Answer
-    requires { ⌜ FieldFine (meshOf cells faces (now volumes) (now firsts) (now seconds) (now shares) (now reaches)) (now masses) ⌝ }
-    requires { ⌜ StepLent (meshOf cells faces (now volumes) (now firsts) (now seconds) (now shares) (now reaches)) (now fluxes) (now outsides) (now nexts) (now moveds) (now work) ⌝ }
-    ensures { λ r. ⌜ WaterComes (meshOf cells faces (now (volumes .entry)) (now (firsts .entry)) (now (seconds .entry)) (now (shares .entry)) (now (reaches .entry))) (now (masses .entry)) (now (fluxes .entry)) (now (outsides .entry)) (now (bytes .entry)) r (now (bytes .exit)) ⌝ }
-{
-    let a = transport::step(
-        cells,
-        faces,
-        volumes,
-        firsts,
-        seconds,
-        shares,
-        reaches,
-        masses,
-        fluxes,
-        outsides,
-        nexts,
-        moveds,
-        work,
-    );
-    if let StepAnswer::Refused(refusal) = a {
-        return Answer::Refused(refusal);
-    }
-    let b = records::write_field(
-        cells,
-        faces,
-        volumes,
-        firsts,
-        seconds,
-        shares,
-        reaches,
-        nexts,
-        bytes,
-    );
-    if let WriteAnswer::Refused(refusal) = b {
-        return Answer::Refused(refusal);
-    }
-    Answer::Done
-}
-
-// From the step record on: the mesh and the field are accepted.
-fn on_step(
-    cells: usize,
-    faces: usize,
-    volumes: &[u64],
-    firsts: &[u64],
-    seconds: &[u64],
-    shares: &[u64],
-    reaches: &[u64],
-    masses: &[u64],
-    step: &[u8],
-    fluxes: &mut [i64],
-    outsides: &mut [u64],
-    nexts: &mut [u64],
-    moveds: &mut [i64],
-    work: &mut [u64],
-    bytes: &mut [u8],
-) -> Answer
-    requires { ⌜ FieldFine (meshOf cells faces (now volumes) (now firsts) (now seconds) (now shares) (now reaches)) (now masses) ⌝ }
-    requires { ⌜ WaterScratch (now fluxes) (now outsides) (now nexts) (now moveds) (now work) ⌝ }
-    ensures { λ r. ⌜ StepComes (meshOf cells faces (now (volumes .entry)) (now (firsts .entry)) (now (seconds .entry)) (now (shares .entry)) (now (reaches .entry))) (now (masses .entry)) (now (step .entry)) (now (bytes .entry)) r (now (bytes .exit)) ⌝ }
-{
-    let a = records::read_step(faces, seconds, step, fluxes, outsides);
-    if let Answer::Refused(refusal) = a {
-        return Answer::Refused(refusal);
-    }
-    stepped(
-        cells,
-        faces,
-        volumes,
-        firsts,
-        seconds,
-        shares,
-        reaches,
-        masses,
-        &fluxes[..faces],
-        &outsides[..faces],
-        &mut nexts[..cells],
-        &mut moveds[..faces],
-        &mut work[..4 * cells + faces],
-        bytes,
-    )
-}
-
-// From the field record on: the mesh is accepted.
-fn on_field(
-    cells: usize,
-    faces: usize,
-    volumes: &[u64],
-    firsts: &[u64],
-    seconds: &[u64],
-    shares: &[u64],
-    reaches: &[u64],
-    field: &[u8],
-    step: &[u8],
-    masses: &mut [u64],
-    fluxes: &mut [i64],
-    outsides: &mut [u64],
-    nexts: &mut [u64],
-    moveds: &mut [i64],
-    work: &mut [u64],
-    bytes: &mut [u8],
-) -> Answer
-    requires { ⌜ MeshFine (meshOf cells faces (now volumes) (now firsts) (now seconds) (now shares) (now reaches)) × (length (now masses) ≡ runCells) ⌝ }
-    requires { ⌜ WaterScratch (now fluxes) (now outsides) (now nexts) (now moveds) (now work) ⌝ }
-    ensures { λ r. ⌜ FieldComes (meshOf cells faces (now (volumes .entry)) (now (firsts .entry)) (now (seconds .entry)) (now (shares .entry)) (now (reaches .entry))) (now (field .entry)) (now (step .entry)) (now (bytes .entry)) r (now (bytes .exit)) ⌝ }
-{
-    let a = records::read_field(cells, field, masses);
-    if let Answer::Refused(refusal) = a {
-        return Answer::Refused(refusal);
-    }
-    let counted = &masses[..cells];
-    let b = checks::check_field(
-        cells,
-        faces,
-        volumes,
-        firsts,
-        seconds,
-        shares,
-        reaches,
-        counted,
-    );
-    if let Answer::Refused(refusal) = b {
-        return Answer::Refused(refusal);
-    }
-    on_step(
-        cells,
-        faces,
-        volumes,
-        firsts,
-        seconds,
-        shares,
-        reaches,
-        counted,
-        step,
-        fluxes,
-        outsides,
-        nexts,
-        moveds,
-        work,
-        bytes,
-    )
-}
-
-// From the values of the mesh on: its record is read.
+// From the field record on.
 fn on_mesh(
     cells: usize,
     faces: usize,
@@ -181,23 +20,33 @@ fn on_mesh(
     reaches: &[u64],
     field: &[u8],
     step: &[u8],
-    masses: &mut [u64],
-    fluxes: &mut [i64],
-    outsides: &mut [u64],
-    nexts: &mut [u64],
-    moveds: &mut [i64],
-    work: &mut [u64],
     bytes: &mut [u8],
 ) -> Answer
-    requires { ⌜ MeshRead (meshOf cells faces (now volumes) (now firsts) (now seconds) (now shares) (now reaches)) × (length (now masses) ≡ runCells) ⌝ }
-    requires { ⌜ WaterScratch (now fluxes) (now outsides) (now nexts) (now moveds) (now work) ⌝ }
-    ensures { λ r. ⌜ MeshComes (meshOf cells faces (now (volumes .entry)) (now (firsts .entry)) (now (seconds .entry)) (now (shares .entry)) (now (reaches .entry))) (now (field .entry)) (now (step .entry)) (now (bytes .entry)) r (now (bytes .exit)) ⌝ }
+    ensures { λ r. ⌜ MeshComes
+        (meshOf cells faces (now (volumes .entry)) (now (firsts .entry)) (now (seconds .entry)) (now (shares .entry)) (now (reaches .entry)))
+        (now (field .entry)) (now (step .entry)) (now (bytes .entry)) r (now (bytes .exit)) ⌝ }
 {
-    let a = checks::check_mesh(cells, faces, volumes, firsts, seconds, shares, reaches);
-    if let Answer::Refused(refusal) = a {
+    let mut masses = [0u64; RUN_CELLS];
+    let a = taking::take_field(cells, field, volumes, &mut masses);
+    if let TotalAnswer::Refused(refusal) = a {
         return Answer::Refused(refusal);
     }
-    on_field(
+    let counted = &mut masses[..cells];
+    let b = taking::take_step(
+        cells,
+        faces,
+        step,
+        volumes,
+        firsts,
+        seconds,
+        shares,
+        reaches,
+        counted,
+    );
+    if let StepTaken::Refused(refusal) = b {
+        return Answer::Refused(refusal);
+    }
+    let c = records::write_field(
         cells,
         faces,
         volumes,
@@ -205,49 +54,31 @@ fn on_mesh(
         seconds,
         shares,
         reaches,
-        field,
-        step,
-        masses,
-        fluxes,
-        outsides,
-        nexts,
-        moveds,
-        work,
+        counted,
         bytes,
-    )
+    );
+    if let WriteAnswer::Refused(refusal) = c {
+        return Answer::Refused(refusal);
+    }
+    Answer::Done
 }
 
-// The three records in their order, into tables as long as the run's limits.
-pub fn on_records(
-    mesh: &[u8],
-    field: &[u8],
-    step: &[u8],
-    volumes: &mut [u64],
-    firsts: &mut [u64],
-    seconds: &mut [u64],
-    shares: &mut [u64],
-    reaches: &mut [u64],
-    masses: &mut [u64],
-    fluxes: &mut [i64],
-    outsides: &mut [u64],
-    nexts: &mut [u64],
-    moveds: &mut [i64],
-    work: &mut [u64],
-    bytes: &mut [u8],
-) -> Answer
-    requires { ⌜ MeshScratch (now volumes) (now firsts) (now seconds) (now shares) (now reaches) × (length (now masses) ≡ runCells) ⌝ }
-    requires { ⌜ WaterScratch (now fluxes) (now outsides) (now nexts) (now moveds) (now work) ⌝ }
+// The three records in their order.
+pub fn on_records(mesh: &[u8], field: &[u8], step: &[u8], bytes: &mut [u8]) -> Answer
     ensures { λ r. ⌜ HostComes (now (mesh .entry)) (now (field .entry)) (now (step .entry)) (now (bytes .entry)) r (now (bytes .exit)) ⌝ }
 {
-    let a = records::read_mesh(
-        RUN_CELLS,
-        RUN_FACES,
+    let mut volumes = [0u64; RUN_CELLS];
+    let mut firsts = [0u64; RUN_FACES];
+    let mut seconds = [0u64; RUN_FACES];
+    let mut shares = [0u64; RUN_FACES];
+    let mut reaches = [0u64; RUN_FACES];
+    let a = taking::take_mesh(
         mesh,
-        volumes,
-        firsts,
-        seconds,
-        shares,
-        reaches,
+        &mut volumes,
+        &mut firsts,
+        &mut seconds,
+        &mut shares,
+        &mut reaches,
     );
     match a {
         MeshAnswer::Refused(refusal) => Answer::Refused(refusal),
@@ -264,12 +95,6 @@ pub fn on_records(
                 &reaches[..faces],
                 field,
                 step,
-                masses,
-                fluxes,
-                outsides,
-                nexts,
-                moveds,
-                work,
                 bytes,
             )
         }

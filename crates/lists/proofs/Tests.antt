@@ -5,7 +5,6 @@ use mathlib.Core.Logic.{_≢_}
 use mathlib.Core.Bool.{Bool, true, false, cond, _&&_, _||_, true≢false}
 use borrow.Author.Tests.{eqb-true, eqb-false, leb-true, leb-false, eq-eqb, ne-eqb}
 use lib.Dec.{eqb, leb}
-pub use borrow.Author.Tests.{eq-eqb as eqb-yes, ne-eqb as eqb-no, eqb-true as eqb-eq, eqb-false as eqb-ne, leb-true as leb-le, le-leb, lt-leb}
 
 pub data Same (m n : ℕ) : Bool → Type 0 where
   same : m ≡ n → Same m n true

@@ -9,16 +9,15 @@ use native.Mathlib.Omega.{arith}
 use borrow.Author.Tests.{not-true, ne-eqb, leb-true, le-leb, eqb-true, eqb-false}
 use lib.ListN.{length, getD}
 use lib.Dec.{eqb, leb, ltb}
-use lib.IntN.{ℤ}
-use Rattle.signed.specs.Sign.{size, isZero, isNegative}
+use Rattle.signed.specs.Sign.{size, isNegative}
 use Rattle.lists.proofs.Tests.{Same, same, other, same?, both-true, either-true}
 use Rattle.lists.proofs.Sums.{greatest-le}
 use Rattle.model.specs.Mesh.{Mesh, volume, first, second, share, reach, atRim, rim, incoming, outgoing, maxCells, maxFaces, maxVolume, maxShare, maxReach, maxConcentration, maxRimFlux}
 use Rattle.model.specs.Step.{StepInput, flux, outside, concentration, adjacent, hi}
-use Rattle.model.specs.Causes.{fine, _andThen_, each, between, Call, inputOf, countsWithin, counts, meshTables, volumeGood, endsGood, spacingGood, meshValues, fieldTable, fieldValues, saltGood, fieldVerdict, stepTables, outsideGood, fluxGood, balanceGood, outflowGood, stepValues, verdict, meshFieldVerdict}
-pub use Rattle.model.specs.Accepted.{Counted, MeshLent, CallLent, MeshFit, WaterFit, Ready}
-use Rattle.model.specs.Accepted.{maxMass}
-use Rattle.model.proofs.Verdicts.{both-fine, need-fine, need-met, each-fine, fine-each}
+use Rattle.model.specs.Causes.{meshLengths, stepLengths, meshCauses, waterCauses, stepCauses, fine, _andThen_, each, between, Call, inputOf, countsWithin, counts, meshTables, volumeGood, endsGood, spacingGood, meshValues, fieldTable, fieldValues, saltGood, fieldVerdict, stepTables, outsideGood, fluxGood, balanceGood, outflowGood, stepValues, verdict, meshFieldVerdict}
+use Rattle.model.specs.Accepted.{Counted, MeshLent, CallLent, MeshFit, WaterFit, Ready, maxMass}
+use Rattle.model.proofs.Verdicts.{both-fine, all-fine, need-fine, need-met, long-fine, each-fine, fine-each}
+use Rattle.model.proofs.Low.{met-any}
 
 -- past cause 1
 pub counted : (M : Mesh) → counts M ≡ fine → Counted M
@@ -32,35 +31,29 @@ counted M e =
 pub mesh-lent : (M : Mesh) → meshTables M ≡ fine → MeshLent M
 unfolding meshTables
 mesh-lent M e =
-    let a = both-fine _ _ e in
-    let b = both-fine _ _ (a .0) in
-    let c = both-fine _ _ (b .0) in
-    let d = both-fine _ _ (c .0) in
+    let p = all-fine (meshLengths M) e in
     record {
-      volumes-long = leb-true _ _ (need-fine 2 0 _ (d .0));
-      firsts-long = leb-true _ _ (need-fine 2 1 _ (d .1));
-      seconds-long = leb-true _ _ (need-fine 2 2 _ (c .1));
-      shares-long = leb-true _ _ (need-fine 2 3 _ (b .1));
-      reaches-long = leb-true _ _ (need-fine 2 4 _ (a .1));
+      volumes-long = long-fine _ _ _ (p .0);
+      firsts-long = long-fine _ _ _ (p .1 .0);
+      seconds-long = long-fine _ _ _ (p .1 .1 .0);
+      shares-long = long-fine _ _ _ (p .1 .1 .1 .0);
+      reaches-long = long-fine _ _ _ (p .1 .1 .1 .1 .0);
     }
 
 pub field-lent : (M : Mesh) (field : List ℕ) → fieldTable M field ≡ fine → M .cells ≤ length field
 unfolding fieldTable
-field-lent M field e = leb-true _ _ (need-fine 2 5 _ e)
+field-lent M field e = long-fine _ _ _ e
 
 pub call-lent : (M : Mesh) (field : List ℕ) (k : Call) → stepTables M field k ≡ fine → CallLent M k
 unfolding stepTables
 call-lent M field k e =
-    let a = both-fine _ _ e in
-    let b = both-fine _ _ (a .0) in
-    let c = both-fine _ _ (b .0) in
-    let d = both-fine _ _ (c .0) in
+    let p = all-fine (stepLengths (M .cells) (M .faces) k) e in
     record {
-      fluxes-long = leb-true _ _ (need-fine 2 6 _ (d .0));
-      outsides-long = leb-true _ _ (need-fine 2 7 _ (d .1));
-      nexts-long = leb-true _ _ (need-fine 2 8 _ (c .1));
-      moveds-long = leb-true _ _ (need-fine 2 9 _ (b .1));
-      work-long = leb-true _ _ (need-fine 2 10 _ (a .1));
+      fluxes-long = long-fine _ _ _ (p .0);
+      outsides-long = long-fine _ _ _ (p .1 .0);
+      nexts-long = long-fine _ _ _ (p .1 .1 .0);
+      moveds-long = long-fine _ _ _ (p .1 .1 .1 .0);
+      work-long = long-fine _ _ _ (p .1 .1 .1 .1 .0);
     }
 
 -- past causes 3 to 5
@@ -85,16 +78,16 @@ module _ (M : Mesh) (e : meshValues M ≡ fine) where
   volumes-say : (c : ℕ) → c < M .cells → (1 ≤ volume M c) × (volume M c ≤ maxVolume)
   unfolding meshValues volumeGood
   volumes-say c h =
-      let p = both-true (leb 1 (volume M c)) (leb (volume M c) maxVolume) (each-fine 3 (M .cells) (volumeGood M) (both-fine _ _ (both-fine _ _ e .0) .0) c h) in
+      let p = both-true (leb 1 (volume M c)) (leb (volume M c) maxVolume) (each-fine 3 (M .cells) (volumeGood M) (all-fine (meshCauses M) e .0) c h) in
       (leb-true _ _ (p .0), leb-true _ _ (p .1))
 
   joins : (f : ℕ) → f < M .faces → (first M f < M .cells) × (second M f ≢ rim → second M f < M .cells) × (first M f ≢ second M f)
   unfolding meshValues endsGood
-  joins f h = ends-say (M .cells) (first M f) (second M f) (each-fine 4 (M .faces) (endsGood M) (both-fine _ _ (both-fine _ _ e .0) .1) f h)
+  joins f h = ends-say (M .cells) (first M f) (second M f) (each-fine 4 (M .faces) (endsGood M) (all-fine (meshCauses M) e .1 .0) f h)
 
   spaced : (f : ℕ) → f < M .faces → (share M f ≤ maxShare) × (reach M f ≤ maxReach) × (second M f ≢ rim → 1 ≤ reach M f)
   unfolding meshValues spacingGood
-  spaced f h = spacing-says (second M f) (share M f) (reach M f) (each-fine 5 (M .faces) (spacingGood M) (both-fine _ _ e .1) f h)
+  spaced f h = spacing-says (second M f) (share M f) (reach M f) (each-fine 5 (M .faces) (spacingGood M) (all-fine (meshCauses M) e .1 .1 .0) f h)
 
   pub mesh-fit : MeshFit M
   mesh-fit = record {
@@ -206,13 +199,17 @@ module _ (M : Mesh) (field : List ℕ) (k : Call) where
   pub passed : verdict M field k ≡ fine → Passed M field k
   unfolding verdict
   passed e =
-      let a = both-fine _ (stepValues M field k) e in
-      let b = both-fine _ (fieldValues M field) (a .0) in
-      let c = both-fine _ (meshValues M) (b .0) in
-      let d = both-fine _ (stepTables M field k) (c .0) in
-      let g = both-fine _ (fieldTable M field) (d .0) in
-      let h = both-fine _ (meshTables M) (g .0) in
-      record { counts-fine = h .0; mesh-tables-fine = h .1; field-table-fine = g .1; step-tables-fine = d .1; mesh-values-fine = c .1; field-values-fine = b .1; step-values-fine = a .1 }
+      let p = all-fine (stepCauses M field k) e in
+      let values = p .1 .1 .1 .1 in
+      record {
+        counts-fine = p .0;
+        mesh-tables-fine = p .1 .0;
+        field-table-fine = p .1 .1 .0;
+        step-tables-fine = p .1 .1 .1 .0;
+        mesh-values-fine = values .0;
+        field-values-fine = values .1 .0;
+        step-values-fine = values .1 .1 .0;
+      }
 
   pub ready-of : Passed M field k → Ready (inputOf M field k)
   unfolding stepValues concentration
@@ -220,9 +217,7 @@ module _ (M : Mesh) (field : List ℕ) (k : Call) where
       let c = counted M (p .counts-fine) in
       let m = mesh-fit M (p .mesh-values-fine) in
       let l = call-lent M field k (p .step-tables-fine) in
-      let t = both-fine _ _ (p .step-values-fine) in
-      let n = both-fine _ _ (t .0) in
-      let w = both-fine _ _ (n .0) in
+      let w = all-fine (waterCauses M field k) (p .step-values-fine) in
       record {
         counts-fit = c;
         lent = mesh-lent M (p .mesh-tables-fine);
@@ -231,33 +226,25 @@ module _ (M : Mesh) (field : List ℕ) (k : Call) where
         fluxes-long = l .fluxes-long;
         outsides-long = l .outsides-long;
         salt-most = field-fit M field (p .field-values-fine);
-        water = water-fit M field k (w .0) (w .1);
-        sound = record { joined = record { few = c .few-cells; first-in = m .first-in; second-in = m .second-in }; roomy = m .volume-some; level = level M field k (n .1); courant = courant M field k (t .1) };
+        water = water-fit M field k (w .0) (w .1 .0);
+        sound = record {
+          joined = record { few = c .few-cells; first-in = m .first-in; second-in = m .second-in };
+          roomy = m .volume-some;
+          level = level M field k (w .1 .1 .0);
+          courant = courant M field k (w .1 .1 .1 .0);
+        };
       }
 
   pub ready : verdict M field k ≡ fine → Ready (inputOf M field k)
   ready e = ready-of (passed e)
 
 -- the greatest concentration around a cell is within the ceiling
-met-le : (z : ℤ) (k l c o : ℕ) (q : ℕ → ℕ) (B : ℕ) → q c ≤ B → q l ≤ B → o ≤ B → (k ≢ rim → q k ≤ B)
-    → cond (isZero z) (q c) (cond (eqb l c) (cond (eqb k rim) (cond (isNegative z) o (q c)) (q k)) (cond (eqb k c) (q l) (q c))) ≤ B
-met-le z k l c o q B hc hl ho hk = go (isZero z) (eqb l c) (eqb k rim) (same? k rim) (isNegative z) (eqb k c)
-  where
-    go : (a s r : Bool) → Same k rim r → (n t : Bool) → cond a (q c) (cond s (cond r (cond n o (q c)) (q k)) (cond t (q l) (q c))) ≤ B
-    go true s r rr n t = hc
-    go false true true rr true t = ho
-    go false true true rr false t = hc
-    go false true false (other d) n t = hk d
-    go false false r rr n true = hl
-    go false false r rr n false = hc
-
 module _ (S : StepInput) (r : Ready S) where
   open StepInput S using (mesh as M)
 
   pub adjacent-most : (c f : ℕ) → c < M .cells → f < M .faces → adjacent S c f ≤ maxConcentration
-  unfolding adjacent
-  adjacent-most c f h l = met-le (flux S f) (second M f) (first M f) c (outside S f) (concentration S) maxConcentration
-      (r .salt-most c h) (r .salt-most (first M f) (r .fit .first-in f l)) (r .water .outside-most f l) (λ d. r .salt-most (second M f) (r .fit .second-in f l d))
+  adjacent-most c f h l = met-any (λ q. q ≤ maxConcentration) S c f (r .salt-most c h) (r .salt-most (first M f) (r .fit .first-in f l)) (λ d e. r .water .outside-most f l)
+      (λ d. r .salt-most (second M f) (r .fit .second-in f l d))
 
   pub hi-most : (c : ℕ) → c < M .cells → hi S c ≤ maxConcentration
   unfolding hi

@@ -12,7 +12,7 @@ use Rattle.signed.specs.Sign.{forward, backward}
 use Rattle.model.specs.Mesh.{Mesh, first, second, atRim, rim, entering, leaving, incoming, outgoing, updated, total}
 use Rattle.lists.proofs.Tests.{Same, same, other, same?}
 use Rattle.lists.proofs.Sums.{sum-cong, sum-add, sum-swap, sum-none, sum-pick}
-pub use Rattle.model.specs.Accepted.{Joined}
+use Rattle.model.specs.Accepted.{Joined}
 
 -- what crosses the rim outward and inward
 unfoldable pub outward : Mesh → (ℕ → ℤ) → ℕ

@@ -205,6 +205,12 @@ unfolding everything
 session-in = refl
 
 -- all V 7, all m 30, outside 4, on the channel
-all-30 : table 3 (next (record { mesh = record { cells = 3; faces = 4; volumes = 7 ∷ 7 ∷ 7 ∷ []; firsts = 0 ∷ 0 ∷ 1 ∷ 2 ∷ []; seconds = rim ∷ 1 ∷ 2 ∷ rim ∷ []; shares = 0 ∷ 128 ∷ 128 ∷ 0 ∷ []; reaches = 0 ∷ 7 ∷ 7 ∷ 0 ∷ [] }; masses = 30 ∷ 30 ∷ 30 ∷ []; fluxes = negsuc 4 ∷ pos 5 ∷ pos 5 ∷ pos 5 ∷ []; outsides = 4 ∷ 0 ∷ 0 ∷ 0 ∷ [] })) ≡ 30 ∷ 30 ∷ 30 ∷ []
+all-30 : table 3 (next (record {
+  mesh = record { cells = 3; faces = 4; volumes = 7 ∷ 7 ∷ 7 ∷ []; firsts = 0 ∷ 0 ∷ 1 ∷ 2 ∷ []; seconds = rim ∷ 1 ∷ 2 ∷ rim ∷ []; shares = 0 ∷ 128 ∷ 128 ∷ 0 ∷ []; reaches = 0 ∷ 7 ∷ 7 ∷ 0 ∷ [] };
+  masses = 30 ∷ 30 ∷ 30 ∷ [];
+  fluxes = negsuc 4 ∷ pos 5 ∷ pos 5 ∷ pos 5 ∷ [];
+  outsides = 4 ∷ 0 ∷ 0 ∷ 0 ∷ [];
+}))
+    ≡ 30 ∷ 30 ∷ 30 ∷ []
 unfolding everything
 all-30 = refl

@@ -4,6 +4,9 @@ pub mod Low
 pub mod Limit
 pub mod Next
 pub mod Accepted
+pub mod AlikeFaces
+pub mod AlikeStages
+pub mod Agree
 pub mod Lists
 pub mod Uniform
 pub mod Sizes

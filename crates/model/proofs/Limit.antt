@@ -40,7 +40,8 @@ portion-zero g p = go (leb p g)
 
 -- through a face from l to k whose correction z is cut to w
 brought : (z : ℤ) (w k l c : ℕ) (G P : ℕ → ℕ) → w ≤ portion (size z) (G (cond (isNegative z) l k)) (P (cond (isNegative z) l k))
-    → cond (eqb k c) (forward (withSign (isNegative z) w)) 0 + cond (eqb l c) (backward (withSign (isNegative z) w)) 0 ≤ portion (cond (eqb k c) (forward z) 0 + cond (eqb l c) (backward z) 0) (G c) (P c)
+    → cond (eqb k c) (forward (withSign (isNegative z) w)) 0 + cond (eqb l c) (backward (withSign (isNegative z) w)) 0
+    ≤ portion (cond (eqb k c) (forward z) 0 + cond (eqb l c) (backward z) 0) (G c) (P c)
 brought z w k l c G P h = go z h (eqb k c) (same? k c) (eqb l c) (same? l c)
   where
     go : (z : ℤ) → w ≤ portion (size z) (G (cond (isNegative z) l k)) (P (cond (isNegative z) l k)) → (s : Bool) → Same k c s → (t : Bool) → Same l c t

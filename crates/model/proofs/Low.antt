@@ -8,12 +8,12 @@ use native.Mathlib.Omega.{arith}
 use lib.Dec.{eqb}
 use lib.IntN.{ℤ, pos, negsuc, _*ℤ_}
 use Rattle.signed.specs.Sign.{forward, backward, isZero, isNegative}
-use Rattle.model.specs.Mesh.{volume, first, second, rim, entering, leaving, incoming, outgoing, updated}
+use Rattle.model.specs.Mesh.{volume, first, second, atRim, rim, entering, leaving, incoming, outgoing, updated}
 use Rattle.model.specs.Step.{StepInput, flux, outside, mass, concentration, beyond, upwind, carried, low, adjacent, lo, hi}
 use Rattle.lists.proofs.Tests.{Same, same, other, same?}
 use Rattle.lists.proofs.Sums.{sum-cong, sum-mono, sum-scale, least-start, least-each, greatest-start, greatest-each}
 use Rattle.signed.proofs.Laws.{forward-scale, backward-scale}
-pub use Rattle.model.specs.Accepted.{Sound}
+use Rattle.model.specs.Accepted.{Sound}
 
 pub upwind-forward : (z : ℤ) (u v : ℕ) → forward (z *ℤ pos (cond (isNegative z) u v)) ≡ forward z * v
 upwind-forward (pos n) u v = refl
@@ -63,6 +63,24 @@ mixed : (O D q m G lo hi low : ℕ) → lo ≤ q → q ≤ hi → (O + D) * q �
     → ((O + D) * lo ≤ low) × (low ≤ (O + D) * hi + (O + D) - 1)
 mixed O D q m G lo hi low a b c d e f g = omega (arith, mul-le-mul-left D a, mul-le-mul-left D b)
 
+-- what holds of q in a cell, in the first cell of a face, of what flows in there and of q beyond it, holds of what the cell meets at the face
+pub met-any : (P : ℕ → Type 0) (S : StepInput) (c f : ℕ) → P (concentration S c) → P (concentration S (first (S .mesh) f))
+    → (second (S .mesh) f ≡ rim → isNegative (flux S f) ≡ true → P (outside S f))
+    → (second (S .mesh) f ≢ rim → P (concentration S (second (S .mesh) f))) → P (adjacent S c f)
+unfolding adjacent
+met-any P S c f own near inflow across = go (isZero (flux S f)) (eqb (first (S .mesh) f) c)
+    (atRim (S .mesh) f) (same? (second (S .mesh) f) rim) (isNegative (flux S f)) refl (eqb (second (S .mesh) f) c)
+  where
+    go : (a s r : Bool) → Same (second (S .mesh) f) rim r → (n : Bool) → isNegative (flux S f) ≡ n → (t : Bool)
+        → P (cond a (concentration S c) (cond s (cond r (cond n (outside S f) (concentration S c)) (concentration S (second (S .mesh) f)))
+        (cond t (concentration S (first (S .mesh) f)) (concentration S c))))
+    go true s r rr n e t = own
+    go false true true (same d) true e t = inflow d e
+    go false true true rr false e t = own
+    go false true false (other d) n e t = across d
+    go false false r rr n e true = near
+    go false false r rr n e false = own
+
 module _ (S : StepInput) where
   open StepInput S using (mesh as M)
 
@@ -82,7 +100,8 @@ module _ (S : StepInput) (ok : Sound S) where
 
   pub outgoing-carried : (c : ℕ) → c < M .cells → outgoing M (carried S) c ≡ outgoing M (flux S) c * concentration S c
   unfolding outgoing
-  outgoing-carried c h = sum-cong (M .faces) (leaving M (carried S) c) (λ f. leaving M (flux S) c f * concentration S c) (λ f l. leaving-carried S c f (not-rim c h)) ∙ sum-scale (M .faces) (concentration S c) (leaving M (flux S) c)
+  outgoing-carried c h = sum-cong (M .faces) (leaving M (carried S) c) (λ f. leaving M (flux S) c f * concentration S c) (λ f l. leaving-carried S c f (not-rim c h))
+      ∙ sum-scale (M .faces) (concentration S c) (leaving M (flux S) c)
 
   incoming-lo : (c : ℕ) → c < M .cells → incoming M (flux S) c * lo S c ≤ incoming M (carried S) c
   unfolding incoming lo

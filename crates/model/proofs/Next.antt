@@ -44,7 +44,8 @@ module _ (S : StepInput) where
     sum-add (M .faces) (λ f. entering M (moved S) c f + leaving M (carried S) c f) (leaving M (limited S) c),
     sum-add (M .faces) (leaving M (moved S) c) (entering M (carried S) c),
     sum-add (M .faces) (λ f. leaving M (moved S) c f + entering M (carried S) c f) (entering M (limited S) c),
-    sum-cong (M .faces) (λ f. entering M (moved S) c f + leaving M (carried S) c f + leaving M (limited S) c f) (λ f. leaving M (moved S) c f + entering M (carried S) c f + entering M (limited S) c f) (λ f l. through c f),
+    sum-cong (M .faces) (λ f. entering M (moved S) c f + leaving M (carried S) c f + leaving M (limited S) c f)
+        (λ f. leaving M (moved S) c f + entering M (carried S) c f + entering M (limited S) c f) (λ f l. through c f),
   )
 
 module _ (S : StepInput) where

@@ -10,11 +10,11 @@ use Rattle.signed.specs.Sign.{forward, backward, size, isZero, isNegative}
 use Rattle.signed.proofs.Laws.{size-mul, size-quot, size-diff, forward-le, backward-le}
 use Rattle.lists.proofs.Tests.{Same, other, same?, Fits, exceeds, fits?}
 use Rattle.lists.proofs.Sums.{sum-bound}
-use Rattle.model.specs.Mesh.{Mesh, first, second, share, reach, atRim, rim, entering, leaving, incoming, outgoing, total, maxCells, maxFaces, maxVolume, maxConcentration, maxRimFlux}
+use Rattle.model.specs.Mesh.{Mesh, first, second, share, reach, atRim, rim, entering, leaving, incoming, outgoing, total, maxCells, maxFaces, maxConcentration}
 use Rattle.model.specs.Step.{StepInput, portion, flux, outside, mass, concentration, beyond, upwind, downwind, upwindShare, carried, low, correction, maxGain, maxLoss, next, inMass, outMass}
 use Rattle.model.proofs.Low.{low-bounds}
 use Rattle.model.proofs.Next.{next-bounds}
-pub use Rattle.model.specs.Accepted.{maxCarried, maxMass}
+use Rattle.model.specs.Accepted.{maxCarried, maxMass}
 use Rattle.model.specs.Accepted.{Ready}
 use Rattle.model.proofs.Accepted.{hi-most, flux-few, flux-reach}
 
@@ -35,13 +35,15 @@ module _ (M : Mesh) (x : ℕ → ℤ) (B : ℕ) (few : M .faces ≤ maxFaces) (s
   pub incoming-most : incoming M x c ≤ maxFaces * (B + B)
   unfolding incoming entering
   incoming-most = le-trans
-      (sum-bound (M .faces) (B + B) (entering M x c) (λ f l. either (eqb (second M f) c) (eqb (first M f) c) (forward (x f)) (backward (x f)) B (le-trans (forward-le (x f)) (small f l)) (le-trans (backward-le (x f)) (small f l))))
+      (sum-bound (M .faces) (B + B) (entering M x c)
+      (λ f l. either (eqb (second M f) c) (eqb (first M f) c) (forward (x f)) (backward (x f)) B (le-trans (forward-le (x f)) (small f l)) (le-trans (backward-le (x f)) (small f l))))
       (mul-le-mul-right (B + B) few)
 
   pub outgoing-most : outgoing M x c ≤ maxFaces * (B + B)
   unfolding outgoing leaving
   outgoing-most = le-trans
-      (sum-bound (M .faces) (B + B) (leaving M x c) (λ f l. either (eqb (first M f) c) (eqb (second M f) c) (forward (x f)) (backward (x f)) B (le-trans (forward-le (x f)) (small f l)) (le-trans (backward-le (x f)) (small f l))))
+      (sum-bound (M .faces) (B + B) (leaving M x c)
+      (λ f l. either (eqb (first M f) c) (eqb (second M f) c) (forward (x f)) (backward (x f)) B (le-trans (forward-le (x f)) (small f l)) (le-trans (backward-le (x f)) (small f l))))
       (mul-le-mul-right (B + B) few)
 
 pub portion-le : (a g p : ℕ) → portion a g p ≤ a
@@ -98,7 +100,8 @@ module _ (S : StepInput) (r : Ready S) where
   unfolding correction
   correction-size f h = go (atRim M f) (same? (second M f) rim) (isZero (flux S f))
     where
-      go : (b : Bool) → Same (second M f) rim b → (z : Bool) → size (cond (b || z) (pos 0) (quotZ (flux S f *ℤ (pos (downwind S f) -ℤ pos (upwind S f)) *ℤ (pos (upwindShare S f * reach M f) -ℤ pos (128 * size (flux S f)))) (pos (256 * reach M f)))) ≤ maxCarried
+      go : (b : Bool) → Same (second M f) rim b → (z : Bool)
+          → size (cond (b || z) (pos 0) (quotZ (flux S f *ℤ (pos (downwind S f) -ℤ pos (upwind S f)) *ℤ (pos (upwindShare S f * reach M f) -ℤ pos (128 * size (flux S f)))) (pos (256 * reach M f)))) ≤ maxCarried
       go true s z = omega arith
       go false s true = omega arith
       go false (other d) false = le-trans

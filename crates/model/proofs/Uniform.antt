@@ -1,7 +1,6 @@
 -- Where every cell and every inflow has the same concentration, no mass changes; nor does one where there are no faces.
 use Prim.Native.Nat.{ℕ, _+_, _*_, _/_, _<_}
 use mathlib.Core.Path.{_≡_, refl, ap, _∙_}
-use mathlib.Core.Logic.{_≢_}
 use mathlib.Core.Bool.{Bool, true, false, cond, _||_}
 use native.Mathlib.Nat.{zero-mul, mul-zero, zero-div}
 use native.Mathlib.Omega.{arith}
@@ -11,21 +10,18 @@ use lib.Signed.{quotZ}
 use Rattle.signed.specs.Sign.{size, isZero, isNegative}
 use Rattle.signed.proofs.Laws.{size-mul, size-quot, size-zero, diff-self}
 use Rattle.lists.specs.Fold.{sum}
-use Rattle.lists.proofs.Tests.{Same, same, other, same?}
+use Rattle.lists.proofs.Tests.{Same, other, same?, cond-same}
 use Rattle.lists.proofs.Sums.{sum-cong, sum-scale, sum-zeros, sum-zero}
 use Rattle.model.specs.Mesh.{Mesh, first, second, reach, atRim, rim, entering, leaving, incoming, outgoing, updated}
 use Rattle.model.specs.Step.{StepInput, flux, outside, mass, concentration, beyond, upwind, downwind, upwindShare, carried, low, correction, adjacent, maxGain, maxLoss, limited, moved, next}
-use Rattle.model.proofs.Low.{entering-carried, outgoing-carried, low-is}
+use Rattle.model.proofs.Low.{met-any, entering-carried, outgoing-carried, low-is}
 use Rattle.model.proofs.Limit.{limited-zero}
 use Rattle.model.proofs.Next.{next-is}
 use Rattle.model.specs.Accepted.{Sound}
 
 -- amounts of 0 bring nothing and take nothing
 nothing : (s t : Bool) → cond s 0 0 + cond t 0 0 ≡ 0
-nothing true true = refl
-nothing true false = refl
-nothing false true = refl
-nothing false false = refl
+nothing s t = rw (cond-same {A = ℕ} s 0, cond-same {A = ℕ} t 0)
 
 still : (M : Mesh) (x : ℕ → ℤ) → ((f : ℕ) → f < M .faces → x f ≡ pos 0) → (c : ℕ) → (incoming M x c ≡ 0) × (outgoing M x c ≡ 0)
 unfolding incoming outgoing entering leaving
@@ -40,25 +36,12 @@ no-difference u w k K = size-zero _ (size-quot (u *ℤ (pos k -ℤ pos k) *ℤ w
     none : size (u *ℤ (pos k -ℤ pos k) *ℤ w) ≡ 0
     none = size-mul (u *ℤ (pos k -ℤ pos k)) w ∙ ap (λ (n : ℕ). n * size w) (size-mul u (pos k -ℤ pos k) ∙ ap (λ (z : ℤ). size u * size z) (diff-self k) ∙ mul-zero (size u)) ∙ zero-mul (size w)
 
-met : (z : ℤ) (k l c o q₀ : ℕ) (q : ℕ → ℕ) → q c ≡ q₀ → q l ≡ q₀ → (k ≡ rim → isNegative z ≡ true → o ≡ q₀) → (k ≢ rim → q k ≡ q₀)
-    → cond (isZero z) (q c) (cond (eqb l c) (cond (eqb k rim) (cond (isNegative z) o (q c)) (q k)) (cond (eqb k c) (q l) (q c))) ≡ q₀
-met z k l c o q₀ q hc hl ho hk = go (isZero z) (eqb l c) (eqb k rim) (same? k rim) (isNegative z) refl (eqb k c)
-  where
-    go : (a s r : Bool) → Same k rim r → (n : Bool) → isNegative z ≡ n → (t : Bool) → cond a (q c) (cond s (cond r (cond n o (q c)) (q k)) (cond t (q l) (q c))) ≡ q₀
-    go true s r rr n e t = hc
-    go false true true (same d) true e t = ho d e
-    go false true true rr false e t = hc
-    go false true false (other d) n e t = hk d
-    go false false r rr n e true = hl
-    go false false r rr n e false = hc
-
 module _ (S : StepInput) (ok : Sound S) (q₀ : ℕ) (alike : (c : ℕ) → c < S .mesh .cells → concentration S c ≡ q₀)
     (outside-alike : (f : ℕ) → f < S .mesh .faces → second (S .mesh) f ≡ rim → isNegative (flux S f) ≡ true → outside S f ≡ q₀) where
   open StepInput S using (mesh as M)
 
   met-alike : (c f : ℕ) → c < M .cells → f < M .faces → adjacent S c f ≡ q₀
-  unfolding adjacent
-  met-alike c f h l = met (flux S f) (second M f) (first M f) c (outside S f) q₀ (concentration S) (alike c h) (alike (first M f) (ok .joined .first-in f l)) (outside-alike f l) (λ d. alike (second M f) (ok .joined .second-in f l d))
+  met-alike c f h l = met-any (λ q. q ≡ q₀) S c f (alike c h) (alike (first M f) (ok .joined .first-in f l)) (outside-alike f l) (λ d. alike (second M f) (ok .joined .second-in f l d))
 
   incoming-alike : (c : ℕ) → c < M .cells → incoming M (carried S) c ≡ incoming M (flux S) c * q₀
   unfolding incoming
@@ -75,7 +58,9 @@ module _ (S : StepInput) (ok : Sound S) (q₀ : ℕ) (alike : (c : ℕ) → c < 
     where
       go : (r : Bool) → Same (second M f) rim r → (z n : Bool)
           → cond (r || z) (pos 0)
-          (quotZ (flux S f *ℤ (pos (cond n (concentration S (first M f)) (cond r (outside S f) (concentration S (second M f)))) -ℤ pos (cond n (cond r (outside S f) (concentration S (second M f))) (concentration S (first M f)))) *ℤ (pos (upwindShare S f * reach M f) -ℤ pos (128 * size (flux S f)))) (pos (256 * reach M f)))
+          (quotZ (flux S f *ℤ (pos (cond n (concentration S (first M f)) (cond r (outside S f) (concentration S (second M f))))
+          -ℤ pos (cond n (cond r (outside S f) (concentration S (second M f))) (concentration S (first M f))))
+          *ℤ (pos (upwindShare S f * reach M f) -ℤ pos (128 * size (flux S f)))) (pos (256 * reach M f)))
           ≡ pos 0
       go true s z n = refl
       go false s true n = refl
@@ -92,4 +77,10 @@ module _ (S : StepInput) (ok : Sound S) (q₀ : ℕ) (alike : (c : ℕ) → c < 
 -- no faces, no change
 pub no-faces : (S : StepInput) → S .mesh .faces ≡ 0 → (c : ℕ) → next S c ≡ mass S c
 unfolding next updated incoming outgoing
-no-faces S e c = omega (arith, ap (λ (n : ℕ). sum n (entering (S .mesh) (moved S) c)) e, sum-zero (entering (S .mesh) (moved S) c), ap (λ (n : ℕ). sum n (leaving (S .mesh) (moved S) c)) e, sum-zero (leaving (S .mesh) (moved S) c))
+no-faces S e c = omega (
+  arith,
+  ap (λ (n : ℕ). sum n (entering (S .mesh) (moved S) c)) e,
+  sum-zero (entering (S .mesh) (moved S) c),
+  ap (λ (n : ℕ). sum n (leaving (S .mesh) (moved S) c)) e,
+  sum-zero (leaving (S .mesh) (moved S) c),
+)

@@ -4,9 +4,11 @@ use mathlib.Core.Path.{_≡_, refl, sym, ap, _∙_}
 use mathlib.Core.Bool.{Bool, true, false}
 use native.Mathlib.Numerals.{add-one}
 use native.Mathlib.Omega.{arith}
-use lib.Dec.{eqb}
+use mathlib.Core.List.{List, [], _∷_}
+use borrow.Author.Tests.{leb-true}
+use lib.Dec.{eqb, leb}
 use Rattle.lists.proofs.Tests.{Same, same, other, same?}
-use Rattle.model.specs.Causes.{Outcome, accepted, refused, Verdict, fine, _andThen_, need, each}
+use Rattle.model.specs.Causes.{Outcome, accepted, refused, Verdict, fine, _andThen_, firstOf, inTurn, need, each, long}
 use Rattle.model.specs.Answers.{told, said}
 use Rattle.model.specs.declared.Answer.{Answer}
 use Rattle.model.specs.declared.Answer.the-variants.{Done, Refused}
@@ -33,6 +35,19 @@ past w e = rw e
 pub out : {A : Type 0} {v : Verdict} {k i : ℕ} (w : Outcome A) → v ≡ refused k i → (v andThen w) ≡ refused k i
 unfolding _andThen_
 out w e = rw e
+
+-- all of a list are fine, as one product
+abbrev pub AllFine : List Verdict → Type 0
+AllFine [] = Unit {0}
+AllFine (v ∷ vs) = (v ≡ fine) × AllFine vs
+
+first-fine : (v : Verdict) (vs : List Verdict) → firstOf v vs ≡ fine → (v ≡ fine) × AllFine vs
+first-fine v [] e = (e, tt)
+first-fine v (w ∷ ws) e = let p = first-fine (v andThen w) ws e in let q = both-fine v w (p .0) in (q .0, (q .1, p .1))
+
+pub all-fine : (vs : List Verdict) → inTurn vs ≡ fine → AllFine vs
+all-fine [] e = tt
+all-fine (v ∷ vs) e = first-fine v vs e
 
 -- what a call that gives x has found, by its answer
 pub refused-of : {A : Type 0} (v : Verdict) (x : A) (k i : ℕ) → refused k i ≡ (v andThen accepted x) → v ≡ refused k i
@@ -64,6 +79,9 @@ need-met k i e = rw e
 pub need-unmet : (k i : ℕ) {b : Bool} → b ≡ false → need k i b ≡ refused k i
 unfolding need
 need-unmet k i e = rw e
+
+pub long-fine : (position wanted has : ℕ) → long position wanted has ≡ fine → wanted ≤ has
+long-fine position wanted has e = leb-true wanted has (need-fine 2 position (leb wanted has) e)
 
 pub each-fine : (k n : ℕ) (good : ℕ → Bool) → each k n good ≡ fine → (i : ℕ) → i < n → good i ≡ true
 unfolding each

@@ -3,6 +3,7 @@ use Prim.Native.Nat.{ℕ, _+_, _-_, _*_, _≤_, _<_}
 use mathlib.Core.Path.{_≡_}
 use mathlib.Core.Logic.{_≢_}
 use mathlib.Core.Bool.{cond}
+use mathlib.Core.List.{List}
 use lib.ListN.{length}
 use Rattle.signed.specs.Sign.{size}
 use Rattle.model.specs.Mesh.{Mesh, volume, first, second, share, reach, atRim, rim, incoming, outgoing, maxCells, maxFaces, maxVolume, maxShare, maxReach, maxConcentration, maxRimFlux}
@@ -36,6 +37,14 @@ pub record CallLent (M : Mesh) (k : Call) : Type 0 where
   pub nexts-long : M .cells ≤ length (k .nexts)
   pub moveds-long : M .faces ≤ length (k .moveds)
   pub work-long : workLength M ≤ length (k .work)
+
+-- as far as the tests of a step's values read tables, past causes 1 and 2
+pub record StepLent (M : Mesh) (field : List ℕ) (k : Call) : Type 0 where
+  pub counts-fit : Counted M
+  pub lent : MeshLent M
+  pub masses-long : M .cells ≤ length field
+  pub fluxes-long : M .faces ≤ length (k .fluxes)
+  pub outsides-long : M .faces ≤ length (k .outsides)
 
 -- past causes 3 to 5
 pub record MeshFit (M : Mesh) : Type 0 where

@@ -1,7 +1,7 @@
 -- Document 01, "Causes", 1 to 10: what each tests, and which of them a call answers.
 use Prim.Native.Nat.{ℕ, zero, suc, _+_, _*_, _/_}
 use mathlib.Core.Bool.{Bool, not, cond, _&&_, _||_}
-use mathlib.Core.List.{List, []}
+use mathlib.Core.List.{List, [], _∷_}
 use lib.ListN.{length, getD}
 use lib.Dec.{eqb, leb, ltb}
 use lib.IntN.{ℤ}
@@ -26,6 +26,15 @@ infixl 20 _andThen_
 unfoldable pub _andThen_ : {A : Type 0} → Verdict → Outcome A → Outcome A
 accepted _ andThen w = w
 refused k i andThen w = refused k i
+
+-- The same of a list: the first that refuses.
+abbrev pub firstOf : Verdict → List Verdict → Verdict
+firstOf v [] = v
+firstOf v (w ∷ ws) = firstOf (v andThen w) ws
+
+abbrev pub inTurn : List Verdict → Verdict
+inTurn [] = fine
+inTurn (v ∷ vs) = firstOf v vs
 
 -- x after acceptance, y after a refusal
 abbrev pub taken {ℓ} : {A : Type 0} {B : Type ℓ} → Outcome A → B → B → B
@@ -72,12 +81,12 @@ abbrev pub saltFit : (v m : ℕ) → Bool
 saltFit v m = leb (m / v) maxConcentration
 
 -- 7: an outside value within the same ceiling, and 0 elsewhere than at a rim inflow.
-abbrev pub outsideFit : (second : ℕ) (u : ℤ) (outside : ℕ) → Bool
-outsideFit second u outside = leb outside (cond (eqb second rim && isNegative u) maxConcentration 0)
+abbrev pub outsideFit : (second : ℕ) (inward : Bool) (outside : ℕ) → Bool
+outsideFit second inward outside = leb outside (cond (eqb second rim && inward) maxConcentration 0)
 
 -- 8: the size of U within K, and within 4,095 at the rim.
-abbrev pub fluxFit : (second K : ℕ) (u : ℤ) → Bool
-fluxFit second K u = leb (size u) (cond (eqb second rim) maxRimFlux K)
+abbrev pub fluxFit : (second K amount : ℕ) → Bool
+fluxFit second K amount = leb amount (cond (eqb second rim) maxRimFlux K)
 
 -- "Tables lent to a step", besides mesh and masses.
 pub record Call : Type 0 where
@@ -101,9 +110,26 @@ workEntries cells faces = 4 * cells + faces
 abbrev pub workLength : Mesh → ℕ
 workLength M = workEntries (M .cells) (M .faces)
 
+-- Cause 2 of those tables.
+abbrev pub stepLengths : (cells faces : ℕ) → Call → List Verdict
+stepLengths cells faces k =
+    long 6 faces (length (k .fluxes))
+    ∷ long 7 faces (length (k .outsides))
+    ∷ long 8 cells (length (k .nexts))
+    ∷ long 9 faces (length (k .moveds))
+    ∷ long 10 (workEntries cells faces) (length (k .work))
+    ∷ []
+
+abbrev pub stepLong : (cells faces : ℕ) → Call → Verdict
+stepLong cells faces k = inTurn (stepLengths cells faces k)
+
 -- a mesh of which a call is lent the cells alone: one without faces
 abbrev pub cellsOnly : ℕ → List ℕ → Mesh
 cellsOnly cells volumes = meshOf cells 0 volumes [] [] [] []
+
+-- a mesh of which the ends of the faces alone are read: inflow and outflow rest on nothing else
+abbrev pub facesOnly : ℕ → List ℕ → List ℕ → Mesh
+facesOnly faces firsts seconds = meshOf 0 faces [] firsts seconds [] []
 
 abbrev pub inputOf : Mesh → List ℕ → Call → StepInput
 inputOf M field k = record { mesh = M; masses = field; fluxes = k .fluxes; outsides = k .outsides }
@@ -113,9 +139,17 @@ module _ (M : Mesh) where
   unfoldable pub counts : Verdict
   counts = countsWithin maxCells maxFaces (M .cells) (M .faces)
 
+  abbrev pub meshLengths : List Verdict
+  meshLengths =
+      long 0 (M .cells) (length (M .volumes))
+      ∷ long 1 (M .faces) (length (M .firsts))
+      ∷ long 2 (M .faces) (length (M .seconds))
+      ∷ long 3 (M .faces) (length (M .shares))
+      ∷ long 4 (M .faces) (length (M .reaches))
+      ∷ []
+
   unfoldable pub meshTables : Verdict
-  meshTables = long 0 (M .cells) (length (M .volumes)) andThen long 1 (M .faces) (length (M .firsts))
-      andThen long 2 (M .faces) (length (M .seconds)) andThen long 3 (M .faces) (length (M .shares)) andThen long 4 (M .faces) (length (M .reaches))
+  meshTables = inTurn meshLengths
 
   unfoldable pub volumeGood : ℕ → Bool
   volumeGood c = volumeFits (volume M c)
@@ -126,11 +160,14 @@ module _ (M : Mesh) where
   unfoldable pub spacingGood : ℕ → Bool
   spacingGood f = spacingFit (second M f) (share M f) (reach M f)
 
+  abbrev pub meshCauses : List Verdict
+  meshCauses = each 3 (M .cells) volumeGood ∷ each 4 (M .faces) endsGood ∷ each 5 (M .faces) spacingGood ∷ []
+
   unfoldable pub meshValues : Verdict
-  meshValues = each 3 (M .cells) volumeGood andThen each 4 (M .faces) endsGood andThen each 5 (M .faces) spacingGood
+  meshValues = inTurn meshCauses
 
   unfoldable pub meshVerdict : Verdict
-  meshVerdict = counts andThen meshTables andThen meshValues
+  meshVerdict = inTurn (counts ∷ meshTables ∷ meshValues ∷ [])
 
   module _ (field : List ℕ) where
     unfoldable pub fieldTable : Verdict
@@ -147,18 +184,17 @@ module _ (M : Mesh) where
 
     -- of a call that is lent the mesh and a field
     unfoldable pub meshFieldVerdict : Verdict
-    meshFieldVerdict = counts andThen meshTables andThen fieldTable andThen meshValues andThen fieldValues
+    meshFieldVerdict = inTurn (counts ∷ meshTables ∷ fieldTable ∷ meshValues ∷ fieldValues ∷ [])
 
     module _ (k : Call) where
       unfoldable pub stepTables : Verdict
-      stepTables = long 6 (M .faces) (length (k .fluxes)) andThen long 7 (M .faces) (length (k .outsides))
-          andThen long 8 (M .cells) (length (k .nexts)) andThen long 9 (M .faces) (length (k .moveds)) andThen long 10 (workLength M) (length (k .work))
+      stepTables = stepLong (M .cells) (M .faces) k
 
       unfoldable pub outsideGood : ℕ → Bool
-      outsideGood f = outsideFit (second M f) (flux (inputOf M field k) f) (outside (inputOf M field k) f)
+      outsideGood f = outsideFit (second M f) (isNegative (flux (inputOf M field k) f)) (outside (inputOf M field k) f)
 
       unfoldable pub fluxGood : ℕ → Bool
-      fluxGood f = fluxFit (second M f) (reach M f) (flux (inputOf M field k) f)
+      fluxGood f = fluxFit (second M f) (reach M f) (size (flux (inputOf M field k) f))
 
       -- 9: a cell's inflow is its outflow; 10: its outflow is within V.
       unfoldable pub balanceGood : ℕ → Bool
@@ -167,8 +203,18 @@ module _ (M : Mesh) where
       unfoldable pub outflowGood : ℕ → Bool
       outflowGood c = leb (outgoing M (flux (inputOf M field k)) c) (volume M c)
 
+      abbrev pub waterCauses : List Verdict
+      waterCauses = each 7 (M .faces) outsideGood ∷ each 8 (M .faces) fluxGood ∷ each 9 (M .cells) balanceGood ∷ each 10 (M .cells) outflowGood ∷ []
+
       unfoldable pub stepValues : Verdict
-      stepValues = each 7 (M .faces) outsideGood andThen each 8 (M .faces) fluxGood andThen each 9 (M .cells) balanceGood andThen each 10 (M .cells) outflowGood
+      stepValues = inTurn waterCauses
+
+      -- of tables that are long enough
+      unfoldable pub valuesVerdict : Verdict
+      valuesVerdict = inTurn (meshValues ∷ fieldValues ∷ stepValues ∷ [])
+
+      abbrev pub stepCauses : List Verdict
+      stepCauses = counts ∷ meshTables ∷ fieldTable ∷ stepTables ∷ meshValues ∷ fieldValues ∷ stepValues ∷ []
 
       unfoldable pub verdict : Verdict
-      verdict = counts andThen meshTables andThen fieldTable andThen stepTables andThen meshValues andThen fieldValues andThen stepValues
+      verdict = inTurn stepCauses

@@ -1,5 +1,6 @@
 pub mod Mesh
 pub mod Step
+pub mod Alike
 pub mod Causes
 pub mod Accepted
 pub mod Answers

@@ -1,137 +1,153 @@
--- "The three records are tested in that order, each as the run tests it, then the step": the host's call and the run come to the same of
--- each record, in tables as long as the run's limits.
-use Prim.Native.Nat.{ℕ, _+_, _*_, _≤_}
-use mathlib.Core.Path.{_≡_, refl, sym}
-use mathlib.Core.Bool.{Bool, true, _&&_}
+-- Document 01, "Tables lent to a step": the host's call judges each record as the run does, in the tables that the run lends. Those are as
+-- long as its limits and hold the mesh and the field in their first entries; what stands past the counts means nothing.
+use Prim.Native.Nat.{ℕ, _≤_, _<_}
+use mathlib.Core.Path.{_≡_, refl, sym, _∙_}
 use mathlib.Core.List.{List}
 use native.Mathlib.Omega.{arith}
-use lib.Dec.{leb}
-use lib.ListN.{length}
-use Rattle.lists.proofs.Tests.{leb-le, le-leb, both-true}
-use Rattle.lists.proofs.Tables.{length-table}
-use Rattle.model.specs.Mesh.{Mesh, total, runCells, runFaces, maxCells, maxFaces}
-use Rattle.model.specs.Causes.{accepted, fine, _andThen_, each, long, Call, workLength, countsWithin, counts, meshTables, volumeGood, meshValues, fieldTable, saltGood, fieldValues, meshFieldVerdict, stepTables, outsideGood, fluxGood, balanceGood, outflowGood, stepValues, verdict, cellsOnly, waterOf}
-use Rattle.model.specs.Calls.{massIn}
-use Rattle.model.proofs.Verdicts.{both-fine, andThen-assoc, need-fine, need-met}
-use Rattle.records.specs.Reading.{countsIn, cellsIn, facesIn, volumesIn, firstsIn, secondsIn, sharesIn, reachesIn, meshIn, massesIn, fluxesIn, outsidesIn, meshHeadVerdict, stepRead}
+use borrow.Author.Tests.{le-leb}
+use lib.ListN.{length, getD}
+use Rattle.lists.specs.Table.{table, over}
+use Rattle.lists.proofs.Tables.{length-table, getD-table, length-over, getD-over}
+use Rattle.model.specs.Mesh.{Mesh, meshOf, runCells, runFaces}
+use Rattle.model.specs.Alike.{AgreeMesh, Agree}
+use Rattle.model.specs.Causes.{fine, long, cellsOnly, inputOf, counts, meshTables, fieldTable, stepTables, meshFieldVerdict}
+use Rattle.model.proofs.Verdicts.{both-fine, need-met}
+use Rattle.model.proofs.Agree.{mesh-values-agree, field-values-agree, verdict-agree}
+use Rattle.records.specs.Reading.{cellsIn, facesIn, volumesIn, firstsIn, secondsIn, sharesIn, reachesIn, meshIn, massesIn, outsidesIn}
+use Rattle.taking.specs.Taking.{meshJudged, fieldJudged, stepIn, stepJudged}
+use Rattle.taking.proofs.MeshLaws.{limits}
 use Rattle.lagoon.specs.Host.{meshTested, fieldTested, stepTested}
-use Rattle.session.specs.Taking.{meshTaken, fieldTaken, printedOf, stepTo, stepReadIn, callIn}
+use Rattle.promises.proofs.Counted.{outsides-same, read-same}
 
--- a table of at least so many entries
-enough : (i n m : ℕ) → n ≤ m → long i n m ≡ fine
-enough i n m l = need-met 2 i (le-leb n m l)
+-- a table read into a longer one: its length, and its counted entries
+held-long : (n : ℕ) (f : ℕ → ℕ) (ys : List ℕ) → n ≤ length ys → n ≤ length (over (table n f) ys)
+held-long n f ys l = omega (arith, length-over n f ys l)
 
-both : {a b : Bool} → a ≡ true → b ≡ true → (a && b) ≡ true
-both e d = rw (e, d)
+held-same : (n : ℕ) (f : ℕ → ℕ) (ys : List ℕ) (i : ℕ) → i < n → getD (over (table n f) ys) i 0 ≡ getD (table n f) i 0
+held-same n f ys i h = getD-over n f ys 0 i h ∙ sym (getD-table n f 0 i h)
 
--- what is read is as long as its count
-volumes-long : (mesh : List ℕ) → length (volumesIn mesh) ≡ cellsIn mesh
-unfolding volumesIn
-volumes-long mesh = length-table (cellsIn mesh) _
+enough : (i : ℕ) {n m k : ℕ} → (n ≤ k) × (n ≤ m) → long i n m ≡ long i n k
+enough i {n = n} {m = m} {k = k} l = need-met 2 i (le-leb n m (l .1)) ∙ sym (need-met 2 i (le-leb n k (l .0)))
 
-firsts-long : (mesh : List ℕ) → length (firstsIn mesh) ≡ facesIn mesh
-unfolding firstsIn
-firsts-long mesh = length-table (facesIn mesh) _
+full : (n : ℕ) (f : ℕ → ℕ) → n ≤ length (table n f)
+full n f = omega (arith, length-table n f)
 
-seconds-long : (mesh : List ℕ) → length (secondsIn mesh) ≡ facesIn mesh
-unfolding secondsIn
-seconds-long mesh = length-table (facesIn mesh) _
+-- the run's tables, whatever they held
+module _ (mesh field step volumes firsts seconds shares reaches masses : List ℕ)
+    (lv : length volumes ≡ runCells) (lf : length firsts ≡ runFaces) (ls : length seconds ≡ runFaces) (lw : length shares ≡ runFaces) (lk : length reaches ≡ runFaces)
+    (lm : length masses ≡ runCells) where
+  pub mesh-as-the-run : meshJudged mesh (length volumes) (length firsts) (length seconds) (length shares) (length reaches) ≡ meshTested mesh field step
+  mesh-as-the-run = rw (lv, lf, ls, lw, lk)
 
-shares-long : (mesh : List ℕ) → length (sharesIn mesh) ≡ facesIn mesh
-unfolding sharesIn
-shares-long mesh = length-table (facesIn mesh) _
+  -- what they hold of an accepted mesh, and of a field on it
+  abbrev lent : Mesh
+  lent = meshOf (cellsIn mesh) (facesIn mesh) (over (volumesIn mesh) volumes) (over (firstsIn mesh) firsts) (over (secondsIn mesh) seconds) (over (sharesIn mesh) shares)
+      (over (reachesIn mesh) reaches)
 
-reaches-long : (mesh : List ℕ) → length (reachesIn mesh) ≡ facesIn mesh
-unfolding reachesIn
-reaches-long mesh = length-table (facesIn mesh) _
+  abbrev lentField : List ℕ
+  lentField = over (massesIn field (cellsIn mesh)) masses
 
-masses-long : (field : List ℕ) (cells : ℕ) → length (massesIn field cells) ≡ cells
-unfolding massesIn
-masses-long field cells = length-table cells _
-
-fluxes-long : (step : List ℕ) (faces : ℕ) → length (fluxesIn step faces) ≡ faces
-unfolding fluxesIn
-fluxes-long step faces = length-table faces _
-
-outsides-long : (step : List ℕ) (faces : ℕ) (seconds : List ℕ) → length (outsidesIn step faces seconds) ≡ faces
-unfolding outsidesIn
-outsides-long step faces seconds = length-table faces _
-
-module _ (mesh field step : List ℕ) where
-  abbrev M : Mesh
-  M = meshIn mesh
-
-  abbrev masses : List ℕ
-  masses = massesIn field (M .cells)
-
-  pub mesh-as-the-run : meshTaken mesh runCells runFaces runFaces runFaces runFaces ≡ (meshTested mesh field step andThen accepted (countsIn mesh))
-  unfolding meshTaken meshTested
-  mesh-as-the-run = refl
-
-  -- on an accepted mesh
   module _ (mesh-fine : meshTested mesh field step ≡ fine) where
-    values-fine : meshValues M ≡ fine
-    unfolding meshTested
-    values-fine = both-fine _ _ mesh-fine .1
+    within : (cellsIn mesh ≤ runCells) × (facesIn mesh ≤ runFaces)
+    unfolding meshJudged
+    within = let l = limits mesh (both-fine _ _ (both-fine _ _ mesh-fine .0) .0) in (l .few-cells, l .few-faces)
 
-    limits : (1 ≤ M .cells) × (M .cells ≤ runCells) × (M .faces ≤ runFaces)
-    unfolding meshTested meshHeadVerdict countsWithin
-    limits =
-        let h = both-fine _ _ (both-fine _ _ mesh-fine .0) .0 in
-        let c = both-fine _ _ (both-fine _ _ h .1) in
-        let b = both-true (leb 1 (M .cells)) (leb (M .cells) runCells) (need-fine 1 0 _ (c .0)) in
-        (leb-le 1 (M .cells) (b .0), leb-le (M .cells) runCells (b .1), leb-le (M .faces) runFaces (need-fine 1 1 _ (c .1)))
+    agrees : AgreeMesh (meshIn mesh) lent
+    unfolding volumesIn firstsIn secondsIn sharesIn reachesIn
+    agrees = record {
+      cells-same = refl;
+      faces-same = refl;
+      volumes = held-same _ _ volumes;
+      firsts = held-same _ _ firsts;
+      seconds = held-same _ _ seconds;
+      shares = held-same _ _ shares;
+      reaches = held-same _ _ reaches;
+    }
 
-    cells-judged : meshFieldVerdict (cellsOnly (M .cells) (M .volumes)) masses ≡ fieldValues M masses
-    unfolding meshFieldVerdict counts countsWithin meshTables fieldTable meshValues fieldValues volumeGood saltGood each _andThen_
-    cells-judged =
-        let l = limits in
-        rw (
-          need-met 1 0 (both (le-leb 1 (M .cells) (l .0)) (le-leb (M .cells) maxCells (omega (arith, l .1)))),
-          need-met 1 1 (le-leb 0 maxFaces (omega arith)),
-          enough 0 (M .cells) (length (volumesIn mesh)) (omega (arith, volumes-long mesh)),
-          enough 1 0 0 (omega arith),
-          enough 2 0 0 (omega arith),
-          enough 3 0 0 (omega arith),
-          enough 4 0 0 (omega arith),
-          enough 5 (M .cells) (length masses) (omega (arith, masses-long field (M .cells))),
-          both-fine (each 3 (M .cells) (volumeGood M)) _ (both-fine _ _ values-fine .0) .0,
-        )
+    volumes-long : (cellsIn mesh ≤ length (volumesIn mesh)) × (cellsIn mesh ≤ length (over (volumesIn mesh) volumes))
+    unfolding volumesIn
+    volumes-long = (full _ _, held-long _ _ volumes (omega (arith, lv, within)))
 
-    pub field-as-the-run : fieldTaken (M .cells) (M .volumes) field runCells ≡ (fieldTested mesh field step andThen accepted (total (cellsOnly (M .cells) (M .volumes)) (massIn masses)))
-    unfolding fieldTaken fieldTested
-    field-as-the-run = rw cells-judged
+    firsts-long : (facesIn mesh ≤ length (firstsIn mesh)) × (facesIn mesh ≤ length (over (firstsIn mesh) firsts))
+    unfolding firstsIn
+    firsts-long = (full _ _, held-long _ _ firsts (omega (arith, lf, within)))
 
-    -- and an accepted field
-    module _ (field-fine : fieldTested mesh field step ≡ fine) (k : Call) (fluxes-run : length (k .fluxes) ≡ runFaces) (outsides-run : length (k .outsides) ≡ runFaces)
-        (nexts-run : length (k .nexts) ≡ runCells) (moveds-run : length (k .moveds) ≡ runFaces) (work-run : length (k .work) ≡ 4 * runCells + runFaces) where
-      salt-fine : fieldValues M masses ≡ fine
-      unfolding fieldTested
-      salt-fine = both-fine _ _ field-fine .1
+    seconds-long : (facesIn mesh ≤ length (secondsIn mesh)) × (facesIn mesh ≤ length (over (secondsIn mesh) seconds))
+    unfolding secondsIn
+    seconds-long = (full _ _, held-long _ _ seconds (omega (arith, ls, within)))
 
-      step-judged : verdict M masses (callIn M step k) ≡ stepValues M masses (waterOf (fluxesIn step (M .faces)) (outsidesIn step (M .faces) (M .seconds)))
-      unfolding verdict counts countsWithin meshTables fieldTable stepTables stepValues outsideGood fluxGood balanceGood outflowGood _andThen_
-      step-judged =
-          let l = limits in
-          rw (
-            need-met 1 0 (both (le-leb 1 (M .cells) (l .0)) (le-leb (M .cells) maxCells (omega (arith, l .1)))),
-            need-met 1 1 (le-leb (M .faces) maxFaces (omega (arith, l .2))),
-            enough 0 (M .cells) (length (volumesIn mesh)) (omega (arith, volumes-long mesh)),
-            enough 1 (M .faces) (length (firstsIn mesh)) (omega (arith, firsts-long mesh)),
-            enough 2 (M .faces) (length (secondsIn mesh)) (omega (arith, seconds-long mesh)),
-            enough 3 (M .faces) (length (sharesIn mesh)) (omega (arith, shares-long mesh)),
-            enough 4 (M .faces) (length (reachesIn mesh)) (omega (arith, reaches-long mesh)),
-            enough 5 (M .cells) (length masses) (omega (arith, masses-long field (M .cells))),
-            enough 6 (M .faces) (length (fluxesIn step (M .faces))) (omega (arith, fluxes-long step (M .faces))),
-            enough 7 (M .faces) (length (outsidesIn step (M .faces) (M .seconds))) (omega (arith, outsides-long step (M .faces) (M .seconds))),
-            enough 8 (M .cells) (length (k .nexts)) (omega (arith, l .1)),
-            enough 9 (M .faces) (length (k .moveds)) (omega (arith, l .2)),
-            enough 10 (workLength M) (length (k .work)) (omega (arith, l .1, l .2)),
-            values-fine,
-            salt-fine,
-          )
+    shares-long : (facesIn mesh ≤ length (sharesIn mesh)) × (facesIn mesh ≤ length (over (sharesIn mesh) shares))
+    unfolding sharesIn
+    shares-long = (full _ _, held-long _ _ shares (omega (arith, lw, within)))
 
-      pub step-as-the-run : (stepReadIn M step k andThen stepTo M masses (callIn M step k)) ≡ (stepTested mesh field step andThen accepted (printedOf M masses (callIn M step k)))
-      unfolding stepTo stepTested
-      step-as-the-run = rw (fluxes-run, outsides-run, step-judged)
-          (sym (andThen-assoc (stepRead (M .faces) (M .seconds) step runFaces runFaces) (stepValues M masses (waterOf (fluxesIn step (M .faces)) (outsidesIn step (M .faces) (M .seconds)))) (accepted (printedOf M masses (callIn M step k)))))
+    reaches-long : (facesIn mesh ≤ length (reachesIn mesh)) × (facesIn mesh ≤ length (over (reachesIn mesh) reaches))
+    unfolding reachesIn
+    reaches-long = (full _ _, held-long _ _ reaches (omega (arith, lk, within)))
+
+    masses-long : (cellsIn mesh ≤ length (massesIn field (cellsIn mesh))) × (cellsIn mesh ≤ length lentField)
+    unfolding massesIn
+    masses-long = (full _ _, held-long _ _ masses (omega (arith, lm, within)))
+
+    tables-same : meshTables lent ≡ meshTables (meshIn mesh)
+    unfolding meshTables
+    tables-same = rw (
+      enough 0 volumes-long,
+      enough 1 firsts-long,
+      enough 2 seconds-long,
+      enough 3 shares-long,
+      enough 4 reaches-long,
+    )
+
+    cells-agree : AgreeMesh (cellsOnly (cellsIn mesh) (volumesIn mesh)) (cellsOnly (cellsIn mesh) (over (volumesIn mesh) volumes))
+    cells-agree = record {
+      cells-same = refl;
+      faces-same = refl;
+      volumes = agrees .volumes;
+      firsts = λ f l. refl;
+      seconds = λ f l. refl;
+      shares = λ f l. refl;
+      reaches = λ f l. refl;
+    }
+
+    cells-tables : meshTables (cellsOnly (cellsIn mesh) (over (volumesIn mesh) volumes)) ≡ meshTables (cellsOnly (cellsIn mesh) (volumesIn mesh))
+    unfolding meshTables
+    cells-tables = rw (enough 0 volumes-long)
+
+    pub field-as-the-run : fieldJudged (cellsIn mesh) (over (volumesIn mesh) volumes) field (length masses) ≡ fieldTested mesh field step
+    unfolding fieldJudged meshFieldVerdict counts fieldTable
+    field-as-the-run = rw (
+      lm,
+      cells-tables,
+      mesh-values-agree _ _ cells-agree,
+      field-values-agree _ _ cells-agree (massesIn field (cellsIn mesh)) (massesIn field (cellsIn mesh)) (λ c h. refl),
+    )
+
+    seconds-same : (f : ℕ) → f < facesIn mesh → getD (over (secondsIn mesh) seconds) f 0 ≡ getD (secondsIn mesh) f 0
+    seconds-same = agrees .seconds
+
+    outsides-are : outsidesIn step (facesIn mesh) (over (secondsIn mesh) seconds) ≡ outsidesIn step (facesIn mesh) (secondsIn mesh)
+    outsides-are = outsides-same step (facesIn mesh) (secondsIn mesh) (over (secondsIn mesh) seconds) seconds-same
+
+    step-agrees : Agree (inputOf (meshIn mesh) (massesIn field (cellsIn mesh)) (stepIn (meshIn mesh) step)) (inputOf lent lentField (stepIn lent step))
+    unfolding massesIn
+    step-agrees = record {
+      mesh-agrees = agrees;
+      masses = held-same _ _ masses;
+      fluxes = λ f l. refl;
+      outsides = λ f l. rw outsides-are;
+    }
+
+    field-lent : fieldTable lent lentField ≡ fieldTable (meshIn mesh) (massesIn field (cellsIn mesh))
+    unfolding fieldTable
+    field-lent = enough 5 masses-long
+
+    call-lent : stepTables lent lentField (stepIn lent step) ≡ stepTables (meshIn mesh) (massesIn field (cellsIn mesh)) (stepIn (meshIn mesh) step)
+    unfolding stepTables
+    call-lent = rw outsides-are
+
+    pub step-as-the-run : stepJudged lent lentField step ≡ stepTested mesh field step
+    unfolding stepJudged
+    step-as-the-run = rw (
+      read-same step (facesIn mesh) (secondsIn mesh) (over (secondsIn mesh) seconds) seconds-same (seconds-long .0) (seconds-long .1),
+      verdict-agree (meshIn mesh) lent (massesIn field (cellsIn mesh)) lentField (stepIn (meshIn mesh) step) (stepIn lent step) step-agrees tables-same field-lent call-lent,
+    )

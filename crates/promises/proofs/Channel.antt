@@ -1,38 +1,94 @@
 -- The channel session as a mixed list: its first step on tables, its second on records.
 use Prim.Native.Nat.{ℕ}
 use mathlib.Core.Path.{_≡_, refl}
-use mathlib.Core.List.{List, [], _∷_, _++_}
+use mathlib.Core.List.{List, [], _∷_}
 use lib.IntN.{pos, negsuc}
-use lib.ListN.{replicate}
+use lib.ListN.{take, replicate}
 use Rattle.lists.specs.Fold.{sum, least, greatest}
 use Rattle.lists.specs.Table.{table, over}
 use Rattle.model.specs.Mesh.{entering, leaving, incoming, outgoing, updated}
 use Rattle.model.specs.Step.{inMass, outMass, next, moved, concentration, beyond, upwind, downwind, carried, low, upwindShare, correction, adjacent, lo, hi, maxGain, maxLoss, receiver, giver, limitedBy, limited, portion}
-use Rattle.model.specs.Causes.{_andThen_, need, each, countsWithin, counts, meshTables, volumeGood, endsGood, spacingGood, meshValues, fieldTable, saltGood, fieldValues, stepTables, outsideGood, fluxGood, balanceGood, outflowGood, stepValues, verdict, callOf}
-use Rattle.model.specs.Calls.{stepOnTables, nextTable, afterAll, totalIn, totalOut}
+use Rattle.model.specs.Causes.{accepted, fine, _andThen_, Call, inputOf, need, each, countsWithin, counts, meshTables, volumeGood, endsGood, spacingGood, meshValues, fieldTable, saltGood, fieldValues, meshFieldVerdict, stepTables, outsideGood, fluxGood, balanceGood, outflowGood, stepValues, verdict, callOf}
+use Rattle.model.specs.Calls.{crossingOf, corrected, stepOnTables, nextTable, afterAll, totalIn}
 use Rattle.model.proofs.Figures.{channel}
 use Rattle.bits.specs.Field.{bitAt, bitsAt}
 use Rattle.bits.specs.Layout.{spelled, bitsOf, widthOf, bytesFor, octet, packed, rows}
 use Rattle.records.specs.Layouts.{meshRecord, fieldRecord, rimFaces, meshLength, fieldLength, stepLength}
-use Rattle.records.specs.Reading.{volumesIn, firstsIn, secondsIn, sharesIn, reachesIn, massesIn, fluxesIn, outsidesIn, zeroBitGood, minusZero, meshBitGood, stepBitGood, meshHeadVerdict, fieldHeadVerdict, stepHeadVerdict, meshBodyVerdict, fieldBodyVerdict, stepBodyVerdict, fieldRead, stepRead}
-use Rattle.lagoon.specs.Host.{meshTested, fieldTested, stepTested, hostVerdict, hostBytes}
-use Rattle.promises.specs.Demand3.{StepCall, onTables, onRecords, stepOnRecords, comes}
+use Rattle.records.specs.Reading.{meshIn, volumesIn, firstsIn, secondsIn, sharesIn, reachesIn, massesIn, fluxesIn, outsidesIn, zeroBitGood, minusZero, meshBitGood, stepBitGood, meshHeadVerdict, fieldHeadVerdict, stepHeadVerdict, meshBodyVerdict, fieldBodyVerdict, stepBodyVerdict, fieldRead, stepRead}
+use Rattle.taking.specs.Taking.{meshRecordFound, meshJudged, fieldJudged, blank, stepJudged}
+use Rattle.lagoon.specs.Host.{hostInput, hostVerdict, hostBytes}
+use Rattle.promises.specs.Demand3.{StepCall, onTables, onRecords, waterIn, lentMasses, stepOnRecords, comes}
 
 -- the definitions that the figures compute
-everything : Unit {0}
-unfolding afterAll totalIn totalOut stepOnTables stepOnRecords nextTable inMass outMass over verdict counts countsWithin meshTables fieldTable stepTables meshValues fieldValues saltGood stepValues volumeGood endsGood spacingGood outsideGood fluxGood balanceGood outflowGood need each _andThen_ table sum least greatest entering leaving incoming outgoing updated next moved concentration beyond upwind downwind carried low upwindShare correction adjacent lo hi maxGain maxLoss receiver giver limitedBy limited portion bitAt bitsAt spelled bitsOf widthOf bytesFor octet packed rows meshRecord fieldRecord rimFaces meshLength fieldLength stepLength volumesIn firstsIn secondsIn sharesIn reachesIn massesIn fluxesIn outsidesIn zeroBitGood minusZero meshBitGood stepBitGood meshHeadVerdict fieldHeadVerdict stepHeadVerdict meshBodyVerdict fieldBodyVerdict stepBodyVerdict fieldRead stepRead meshTested fieldTested stepTested hostVerdict hostBytes
-everything = tt
+figures : Unit {0}
+unfolding stepOnTables nextTable inMass outMass over verdict counts countsWithin meshTables fieldTable stepTables meshValues fieldValues saltGood stepValues volumeGood
+    endsGood spacingGood outsideGood fluxGood balanceGood outflowGood need each _andThen_ table sum least greatest entering leaving incoming outgoing updated next moved
+    concentration beyond upwind downwind carried low upwindShare correction adjacent lo hi maxGain maxLoss receiver giver limitedBy limited portion bitAt bitsAt spelled
+    bitsOf widthOf bytesFor octet packed rows meshRecord fieldRecord rimFaces meshLength fieldLength stepLength volumesIn firstsIn secondsIn sharesIn reachesIn massesIn
+    fluxesIn outsidesIn zeroBitGood minusZero meshBitGood stepBitGood meshHeadVerdict fieldHeadVerdict stepHeadVerdict meshBodyVerdict fieldBodyVerdict stepBodyVerdict
+    fieldRead stepRead meshFieldVerdict meshRecordFound meshJudged fieldJudged stepJudged blank
+figures = tt
+
+-- the fields of the session
+abbrev before : List ℕ
+before = 100000 ∷ 0 ∷ 0 ∷ []
+
+abbrev between : List ℕ
+between = 100099 ∷ 49901 ∷ 0 ∷ []
+
+abbrev after : List ℕ
+after = 100099 ∷ 81188 ∷ 18713 ∷ []
 
 -- one step on tables with two entries more in the masses, one from its record with a byte more for the next field
+abbrev water : Call
+water = callOf (negsuc 49 ∷ pos 50 ∷ pos 50 ∷ pos 50 ∷ []) (1000 ∷ 0 ∷ 0 ∷ 0 ∷ []) (7 ∷ 7 ∷ 7 ∷ []) (pos 0 ∷ pos 0 ∷ pos 0 ∷ pos 0 ∷ []) (replicate 16 7)
+
+abbrev step : List ℕ
+step = 0x30 ∷ 0x02 ∷ 0x00 ∷ 0x00 ∷ 0x81 ∷ 0x90 ∷ 0x0c ∷ 0x80 ∷ 0x64 ∷ 0x03 ∷ 0x20 ∷ 0x03 ∷ 0xe8 ∷ 0x00 ∷ 0x00 ∷ 0x00 ∷ []
+
+abbrev room : List ℕ
+room = replicate 15 7
+
 abbrev calls : List StepCall
-calls = onTables (7 ∷ 7 ∷ []) (callOf (negsuc 49 ∷ pos 50 ∷ pos 50 ∷ pos 50 ∷ []) (1000 ∷ 0 ∷ 0 ∷ 0 ∷ []) (7 ∷ 7 ∷ 7 ∷ []) (pos 0 ∷ pos 0 ∷ pos 0 ∷ pos 0 ∷ []) (replicate 16 7))
-    ∷ onRecords (0x30 ∷ 0x02 ∷ 0x00 ∷ 0x00 ∷ 0x81 ∷ 0x90 ∷ 0x0c ∷ 0x80 ∷ 0x64 ∷ 0x03 ∷ 0x20 ∷ 0x03 ∷ 0xe8 ∷ 0x00 ∷ 0x00 ∷ 0x00 ∷ []) (replicate 15 7)
-    ∷ []
+calls = onTables (7 ∷ 7 ∷ []) water ∷ onRecords step room ∷ []
 
-pub session : afterAll (comes channel) (100000 ∷ 0 ∷ 0 ∷ []) calls ≡ 100099 ∷ 81188 ∷ 18713 ∷ []
-unfolding everything
-session = refl
+on-tables : stepOnTables corrected channel water (lentMasses channel (7 ∷ 7 ∷ []) before) ≡ accepted (record { field = between; crossing = record { entered = 50000; gone = 0 } })
+unfolding figures
+on-tables = refl
 
-pub session-in : totalIn (comes channel) (100000 ∷ 0 ∷ 0 ∷ []) calls ≡ 100000
-unfolding everything
-session-in = refl
+-- the call on records: what it finds, the next field and its bytes, each computed once
+found : hostVerdict (meshRecord channel) (fieldRecord 3 between) step 15 ≡ fine
+unfolding figures hostVerdict
+found = refl
+
+cells-are : meshIn (meshRecord channel) .cells ≡ 3
+unfolding figures
+cells-are = refl
+
+next-are : table (meshIn (meshRecord channel) .cells) (next (hostInput (meshRecord channel) (fieldRecord 3 between) step)) ≡ after
+unfolding figures
+next-are = refl
+
+bytes-are : hostBytes (meshRecord channel) (fieldRecord 3 between) step room ≡ over (fieldRecord 3 after) room
+unfolding hostBytes
+bytes-are = rw (found, next-are, cells-are)
+
+read-back : massesIn (take (fieldLength 3) (over (fieldRecord 3 after) room)) 3 ≡ after
+unfolding figures
+read-back = refl
+
+crossed : crossingOf (inputOf channel between (waterIn channel step)) ≡ record { entered = 50000; gone = 0 }
+unfolding figures
+crossed = refl
+
+on-records : stepOnRecords channel step room between ≡ accepted (record { field = after; crossing = record { entered = 50000; gone = 0 } })
+unfolding stepOnRecords _andThen_
+on-records = rw (found, bytes-are, read-back, crossed)
+
+pub session : afterAll (comes channel) before calls ≡ after
+unfolding afterAll
+session = rw (on-tables, on-records)
+
+pub session-in : totalIn (comes channel) before calls ≡ 100000
+unfolding totalIn
+session-in = rw (on-tables, on-records)

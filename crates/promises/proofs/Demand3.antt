@@ -17,35 +17,31 @@
 -- that the contract of `transport::step` (`StepPromise`) equates its answer and tables with; a call on records comes to `hostVerdict` and
 -- `hostBytes`, with which the contract of `lagoon_step` (`HostPromise`) equates its number and its bytes. Ties.antt proves both.
 use Prim.Native.Nat.{ℕ, _<_}
-use mathlib.Core.Path.{_≡_, _∙_}
+use mathlib.Core.Path.{_≡_, sym, _∙_}
 use mathlib.Core.List.{List, [], _∷_}
 use native.Mathlib.Omega.{arith}
 use lib.ListN.{length, List·getD-append}
 use Rattle.lists.specs.Table.{table}
 use Rattle.lists.proofs.Tables.{length-table, getD-table}
 use Rattle.model.specs.Mesh.{Mesh}
-use Rattle.model.specs.Causes.{accepted, refused, Verdict, fine, _andThen_, Call, meshValues, meshVerdict, fieldVerdict, verdict}
+use Rattle.model.specs.Causes.{accepted, refused, fine, Call, meshVerdict, fieldVerdict, verdict}
 use Rattle.model.specs.Calls.{massIn, Left, fieldAfter, corrected, nextTable, movedTable, workTable, stepOnTables}
-use Rattle.model.proofs.Verdicts.{both-fine}
-use Rattle.model.proofs.Accepted.{mesh-fit}
+use Rattle.model.proofs.Verdicts.{both-fine, refused-of}
+use Rattle.model.proofs.Accepted.{counted, mesh-fit}
+use Rattle.model.proofs.Agree.{field-agrees, fair-agree}
 use Rattle.model.proofs.Lists.{Fair, list-law, corrected-keeping, tables-fair}
 use Rattle.model.proofs.Figures.{Figures, figures}
 use Rattle.records.specs.Layouts.{meshRecord, fieldRecord}
 use Rattle.lagoon.specs.Host.{hostVerdict, hostBytes}
 use Rattle.promises.specs.Demand3.{StepCall, onTables, onRecords, lentMasses, stepOnRecords, comes, Kept, Unchanged, EachRefused, Demand3}
-use Rattle.promises.proofs.Counted.{fair-other}
+use Rattle.promises.proofs.Held.{within, passes}
 use Rattle.promises.proofs.OnRecords.{records-fair}
 
 -- A refused call.
-pub refused-first : {A : Type 0} (v : Verdict) (x : A) {i j : ℕ} → (v andThen accepted x) ≡ refused i j → v ≡ refused i j
-unfolding _andThen_
-refused-first (accepted t) x e = let z : _≡_ {A = ℕ} 0 1 = cc in absurd (omega arith)
-refused-first (refused a b) x e = cc
-
 unchanged : (M : Mesh) (call : StepCall) (field : List ℕ) (i j : ℕ) → comes M call field ≡ refused i j → Unchanged M call field
 unfolding stepOnTables stepOnRecords nextTable movedTable workTable hostBytes
-unchanged M (onTables past k) field i j e = let r = refused-first (verdict M (lentMasses M past field) k) _ e in (rw r, rw r, rw r)
-unchanged M (onRecords step next) field i j e = rw (refused-first (hostVerdict (meshRecord M) (fieldRecord (M .cells) field) step (length next)) _ e)
+unchanged M (onTables past k) field i j e = let r = refused-of (verdict M (lentMasses M past field) k) _ i j (sym e) in (rw r, rw r, rw r)
+unchanged M (onRecords step next) field i j e = rw (refused-of (hostVerdict (meshRecord M) (fieldRecord (M .cells) field) step (length next)) _ i j (sym e))
 
 all-unchanged : (M : Mesh) (field : List ℕ) (calls : List StepCall) → EachRefused M field calls
 all-unchanged M field [] = tt
@@ -56,10 +52,6 @@ lent-same : (M : Mesh) (past field : List ℕ) (c : ℕ) → c < M .cells → ma
 lent-same M past field c h =
     List·getD-append (table (M .cells) (massIn field)) past 0 c (omega (arith, length-table (M .cells) (massIn field))) ∙ getD-table (M .cells) (massIn field) 0 c h
 
-mesh-values : (M : Mesh) → meshVerdict M ≡ fine → meshValues M ≡ fine
-unfolding meshVerdict
-mesh-values M e = both-fine _ _ e .1
-
 module _ (M : Mesh) (mesh-fine : meshVerdict M ≡ fine) (past : List ℕ) (k : Call) (field : List ℕ) (l : Left) (e : stepOnTables corrected M k (lentMasses M past field) ≡ accepted l) where
   table-stands : nextTable corrected M k (lentMasses M past field) ≡ l .field
   unfolding stepOnTables
@@ -67,7 +59,8 @@ module _ (M : Mesh) (mesh-fine : meshVerdict M ≡ fine) (past : List ℕ) (k : 
 
   on-tables : Fair M (Kept M (onTables past k) field l) field l
   on-tables =
-      let f = fair-other M (mesh-fit M (mesh-values M mesh-fine)) field (lentMasses M past field) (lent-same M past field) k l (tables-fair corrected corrected-keeping M k (lentMasses M past field) l e) in
+      let f = fair-agree M M field (lentMasses M past field) k k (field-agrees M k field (lentMasses M past field) (lent-same M past field)) (counted M (within M mesh-fine) .few-cells) (mesh-fit M (passes M mesh-fine)) l
+      (tables-fair corrected corrected-keeping M k (lentMasses M past field) l e) in
       record { budget = f .budget; holds = (f .holds, table-stands); field-accepted = f .field-accepted }
 
 -- Every list of calls.

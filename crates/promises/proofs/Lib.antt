@@ -1,3 +1,4 @@
+pub mod Held
 pub mod Counted
 pub mod OnRecords
 pub mod Demand3

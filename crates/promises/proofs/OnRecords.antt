@@ -1,163 +1,96 @@
--- The host's call on records as a call of a list: what it owes where it is accepted.
-use Prim.Native.Nat.{ℕ, _≤_, _<_}
+-- The host's call on records as a call of a list: what it owes where it is accepted. The records hold the counted entries, so the step is
+-- one on tables cut to the counts, which agrees with the step on the whole tables.
+use Prim.Native.Nat.{ℕ, _^_, _<_}
 use mathlib.Core.Path.{_≡_, refl, sym, ap, _∙_}
-use mathlib.Core.Bool.{cond}
 use mathlib.Core.List.{List}
 use native.Mathlib.Omega.{arith}
-use lib.IntN.{ℤ, pos}
 use lib.ListN.{length, drop}
 use lib.Seq.{take-at}
 use Rattle.lists.specs.Table.{table, over}
-use Rattle.lists.proofs.Tests.{le-leb}
-use Rattle.lists.proofs.Sums.{sum-cong}
 use Rattle.lists.proofs.Tables.{length-table, getD-table, table-cong}
-use Rattle.model.specs.Mesh.{Mesh, volume, first, second, share, reach}
+use Rattle.model.specs.Mesh.{Mesh, second}
 use Rattle.model.specs.Step.{StepInput, moved, next}
-use Rattle.model.specs.Causes.{accepted, fine, long, Call, callOf, inputOf, workLength, counts, meshTables, meshValues, meshVerdict, fieldTable, fieldValues, fieldVerdict, stepTables, outsideGood, fluxGood, balanceGood, outflowGood, stepValues, waterOf}
+use Rattle.model.specs.Accepted.{Ready}
+use Rattle.model.specs.Causes.{accepted, fine, inputOf, meshVerdict, fieldValues, fieldVerdict, verdict, waterOf}
 use Rattle.model.specs.Calls.{massIn, Bounded, Left, crossingOf}
-use Rattle.model.proofs.Verdicts.{both-fine, need-met}
-use Rattle.model.proofs.Accepted.{ready-of, counted, mesh-fit}
+use Rattle.model.proofs.Verdicts.{both-fine}
+use Rattle.model.proofs.Accepted.{ready, passed, counted, mesh-fit}
 use Rattle.model.proofs.Next.{moved-keeps}
 use Rattle.model.proofs.Lists.{Fair, amounts-fair}
-use Rattle.bits.specs.Field.{bitsAt}
-use Rattle.model.specs.Accepted.{Ready}
-use Rattle.records.specs.Layouts.{meshRecord, fieldRecord, fieldLength, outsideBits, rimFaces, isRim}
-use Rattle.records.specs.Reading.{meshIn, massesIn, fluxesIn, outsidesIn, outsidePlace}
-use Rattle.records.proofs.Packed.{mesh-cells, mesh-faces, field-record-length}
-use Rattle.records.proofs.WidthLaws.{spelled, masses-fit}
-use Rattle.records.proofs.RoundTrip.{volumes-read-back, firsts-read-back, seconds-read-back, shares-read-back, reaches-read-back, masses-read-back}
-use Rattle.lagoon.specs.Host.{meshTested, fieldTested, stepTested, hostVerdict, hostBytes}
+use Rattle.model.proofs.Agree.{in-agree, out-agree, fair-agree}
+use Rattle.records.specs.Layouts.{cellsBits, meshRecord, fieldRecord, fieldLength}
+use Rattle.records.specs.Reading.{meshIn, massesIn, fluxesIn, outsidesIn}
+use Rattle.records.proofs.Packed.{field-record-length}
+use Rattle.records.proofs.WidthLaws.{masses-fit}
+use Rattle.records.proofs.RoundTrip.{masses-read-back}
+use Rattle.taking.specs.Taking.{ownTables, stepJudged}
+use Rattle.lagoon.specs.Host.{hostVerdict, hostBytes}
+use Rattle.promises.specs.Held.{cut, cutField}
 use Rattle.promises.specs.Demand3.{onRecords, waterIn, nextRecord, stepOnRecords, Kept}
-use Rattle.promises.proofs.Counted.{cut, cutField, in-same, out-same, fair-whole}
-
--- the outside values in a step record rest on the counted seconds alone
-faces-cut : (M : Mesh) (f : ℕ) → f ≤ M .faces → rimFaces (table (M .faces) (second M)) f ≡ rimFaces (M .seconds) f
-unfolding rimFaces
-faces-cut M f h = sum-cong f (λ g. cond (isRim (table (M .faces) (second M)) g) 1 0) (λ g. cond (isRim (M .seconds) g) 1 0)
-    (λ g l. let below : g < M .faces = omega arith in rw (getD-table (M .faces) (second M) 0 g below))
-
-outsides-cut : (M : Mesh) (step : List ℕ) → outsidesIn step (M .faces) (table (M .faces) (second M)) ≡ outsidesIn step (M .faces) (M .seconds)
-unfolding outsidesIn
-outsides-cut M step = table-cong 0 (M .faces)
-    (λ f. cond (isRim (table (M .faces) (second M)) f) (bitsAt step (outsidePlace step (M .faces) (table (M .faces) (second M)) f) outsideBits) 0)
-    (λ f. cond (isRim (M .seconds) f) (bitsAt step (outsidePlace step (M .faces) (M .seconds) f) outsideBits) 0)
-    (λ f h. rw (getD-table (M .faces) (second M) 0 f h, faces-cut M f (omega arith)))
-
--- a table of its count is long enough
-full : {A : Type 0} (i n : ℕ) (f : ℕ → A) → long i n (length (table n f)) ≡ fine
-full i n f = need-met 2 i (le-leb n (length (table n f)) (omega (arith, length-table n f)))
-
-fluxes-full : (step : List ℕ) (n : ℕ) → long 6 n (length (fluxesIn step n)) ≡ fine
-unfolding fluxesIn
-fluxes-full step n = full 6 n _
-
-outsides-full : (step : List ℕ) (n : ℕ) (seconds : List ℕ) → long 7 n (length (outsidesIn step n seconds)) ≡ fine
-unfolding outsidesIn
-outsides-full step n seconds = full 7 n _
-
-mesh-parts : (M : Mesh) → meshVerdict M ≡ fine → (counts M ≡ fine) × (meshValues M ≡ fine)
-unfolding meshVerdict
-mesh-parts M e = let p = both-fine _ _ e in (both-fine _ _ (p .0) .0, p .1)
-
-salt-part : (M : Mesh) (field : List ℕ) → fieldVerdict M field ≡ fine → fieldValues M field ≡ fine
-unfolding fieldVerdict
-salt-part M field e = both-fine _ _ e .1
+use Rattle.promises.proofs.Counted.{outsides-same, cut-agrees}
+use Rattle.promises.proofs.Held.{within, passes, mesh-holds, field-holds}
 
 module _ (M : Mesh) (mesh-fine : meshVerdict M ≡ fine) (field : List ℕ) (field-fine : fieldVerdict M field ≡ fine) (step : List ℕ) where
-  within : counts M ≡ fine
-  within = mesh-parts M mesh-fine .0
-
-  passes : meshValues M ≡ fine
-  passes = mesh-parts M mesh-fine .1
-
-  salt : fieldValues M field ≡ fine
-  salt = salt-part M field field-fine
-
-  -- the records hold the counted entries
-  mesh-is : meshIn (meshRecord M) ≡ cut M
-  mesh-is =
-      let s = spelled M within passes in
-      rw (mesh-cells M s, mesh-faces M s, volumes-read-back M within passes, firsts-read-back M within passes, seconds-read-back M within passes, shares-read-back M within passes, reaches-read-back M within passes)
-
-  -- so whatever is said of what they hold is said of these
+  -- whatever is said of what the records hold is said of the counted entries
   carry : {A : Type 0} (F : Mesh → List ℕ → List ℕ → A)
       → F (meshIn (meshRecord M)) (massesIn (fieldRecord (M .cells) field) (meshIn (meshRecord M) .cells)) (outsidesIn step (meshIn (meshRecord M) .faces) (meshIn (meshRecord M) .seconds))
       ≡ F (cut M) (cutField M field) (outsidesIn step (M .faces) (M .seconds))
-  carry F = ap (λ (N : Mesh). F N (massesIn (fieldRecord (M .cells) field) (N .cells)) (outsidesIn step (N .faces) (N .seconds))) mesh-is
-      ∙ ap (λ (m : List ℕ). F (cut M) m (outsidesIn step (M .faces) (table (M .faces) (second M)))) (masses-read-back M within passes field salt)
-      ∙ ap (λ (o : List ℕ). F (cut M) (cutField M field) o) (outsides-cut M step)
+  carry F = ap (λ (N : Mesh). F N (massesIn (fieldRecord (M .cells) field) (N .cells)) (outsidesIn step (N .faces) (N .seconds))) (mesh-holds M mesh-fine .mesh-held)
+      ∙ ap (λ (m : List ℕ). F (cut M) m (outsidesIn step (M .faces) (table (M .faces) (second M)))) (field-holds M mesh-fine field field-fine .field-held)
+      ∙ ap (λ (o : List ℕ). F (cut M) (cutField M field) o) (outsides-same step (M .faces) (M .seconds) (table (M .faces) (second M)) (getD-table (M .faces) (second M) 0))
 
   -- the step that the records hold, and the masses after it
   abbrev part : StepInput
   part = inputOf (cut M) (cutField M field) (waterIn M step)
 
+  abbrev whole : StepInput
+  whole = inputOf M field (waterIn M step)
+
   abbrev after : List ℕ
   after = table (M .cells) (next part)
 
-  abbrev padded : Call
-  padded = callOf (fluxesIn step (M .faces)) (outsidesIn step (M .faces) (M .seconds)) (table (M .cells) (λ c. 0)) (table (M .faces) (λ f. pos 0)) (table (workLength M) (λ i. 0))
+  abbrev left : Left
+  left = record { field = after; crossing = crossingOf whole }
 
   module _ (room : ℕ) (ok : hostVerdict (meshRecord M) (fieldRecord (M .cells) field) step room ≡ fine) where
-    values-pass : (meshValues (cut M) ≡ fine) × (fieldValues (cut M) (cutField M field) ≡ fine) × (stepValues (cut M) (cutField M field) (waterIn M step) ≡ fine)
-    unfolding hostVerdict meshTested fieldTested stepTested
-    values-pass =
-        let a = both-fine _ _ ok in
-        let b = both-fine _ _ (a .0) in
-        let c = both-fine _ _ (b .0) in (
-          sym (carry (λ N m o. meshValues N)) ∙ both-fine _ _ (c .0) .1,
-          sym (carry (λ N m o. fieldValues N m)) ∙ both-fine _ _ (c .1) .1,
-          sym (carry (λ N m o. stepValues N m (waterOf (fluxesIn step (N .faces)) o))) ∙ both-fine _ _ (b .1) .1,
-        )
-
-    counts-pass : counts (cut M) ≡ fine
-    unfolding counts
-    counts-pass = within
-
-    tables-pass : (meshTables (cut M) ≡ fine) × (fieldTable (cut M) (cutField M field) ≡ fine) × (stepTables (cut M) (cutField M field) padded ≡ fine)
-    unfolding meshTables fieldTable stepTables _andThen_
-    tables-pass = (
-      rw (full 0 (M .cells) (volume M), full 1 (M .faces) (first M), full 2 (M .faces) (second M), full 3 (M .faces) (share M), full 4 (M .faces) (reach M)),
-      full 5 (M .cells) (massIn field),
-      rw (fluxes-full step (M .faces), outsides-full step (M .faces) (M .seconds), full {A = ℕ} 8 (M .cells) (λ c. 0), full {A = ℤ} 9 (M .faces) (λ f. pos 0), full {A = ℕ} 10 (workLength M) (λ i. 0)),
-    )
+    found : verdict (cut M) (cutField M field) (ownTables (fluxesIn step (M .faces)) (outsidesIn step (M .faces) (M .seconds))) ≡ fine
+    unfolding hostVerdict stepJudged
+    found = sym (carry (λ N m o. verdict N m (ownTables (fluxesIn step (N .faces)) o))) ∙ both-fine _ _ (both-fine _ _ (both-fine _ _ ok .0) .1) .1
 
     part-ready : Ready part
-    unfolding stepValues outsideGood fluxGood balanceGood outflowGood
-    part-ready = ready-of (cut M) (cutField M field) padded (record {
-      counts-fine = counts-pass;
-      mesh-tables-fine = tables-pass .0;
-      field-table-fine = tables-pass .1;
-      step-tables-fine = tables-pass .2;
-      mesh-values-fine = values-pass .0;
-      field-values-fine = values-pass .1;
-      step-values-fine = values-pass .2;
-    })
-
-    abbrev left : Left
-    left = record { field = after; crossing = crossingOf (inputOf M field (waterIn M step)) }
+    part-ready = ready (cut M) (cutField M field) (ownTables (fluxesIn step (M .faces)) (outsidesIn step (M .faces) (M .seconds))) found
 
     part-fair : Fair (cut M) (Bounded part after) (cutField M field) left
     unfolding next
     part-fair =
-        let fit = mesh-fit M passes in
-        amounts-fair part part-ready (moved part) (moved-keeps part (part-ready .sound)) after (omega (arith, length-table (M .cells) (next part))) (λ c h. getD-table (M .cells) (next part) 0 c h)
-        left refl (rw (in-same M fit field (waterIn M step), out-same M fit field (waterIn M step)))
+        let few-cells = counted M (within M mesh-fine) .few-cells in
+        let fit = mesh-fit M (passes M mesh-fine) in
+        let g = cut-agrees M field (waterIn M step) in
+        amounts-fair part part-ready (moved part) (moved-keeps part (part-ready .sound)) after (omega (arith, length-table (M .cells) (next part)))
+        (λ c h. getD-table (M .cells) (next part) 0 c h)
+        left refl (rw (in-agree whole part few-cells fit g, out-agree whole part few-cells fit g))
 
-    left-fair : Fair M (Bounded (inputOf M field (waterIn M step)) after) field left
-    left-fair = fair-whole M (mesh-fit M passes) field (waterIn M step) left (omega (arith, length-table (M .cells) (next part))) part-fair
+    left-fair : Fair M (Bounded whole after) field left
+    left-fair = fair-agree M (cut M) field (cutField M field) (waterIn M step) (waterIn M step) (cut-agrees M field (waterIn M step))
+        (counted M (within M mesh-fine) .few-cells) (mesh-fit M (passes M mesh-fine)) left part-fair
 
     after-salt : fieldValues (cut M) after ≡ fine
-    after-salt = salt-part (cut M) after (part-fair .field-accepted)
+    unfolding fieldVerdict
+    after-salt = both-fine _ _ (part-fair .field-accepted) .1
 
-    few : M .cells < 4096
-    few = let n = counted M within in omega (arith, n .few-cells)
+    few : M .cells < 2 ^ cellsBits
+    few = let n = counted M (within M mesh-fine) in omega (arith, n .few-cells)
 
     record-long : length (fieldRecord (M .cells) after) ≡ fieldLength (M .cells)
     unfolding fieldLength
-    record-long = field-record-length (M .cells) after few (masses-fit (cut M) (values-pass .0) after after-salt)
+    record-long =
+        let p = passed (cut M) (cutField M field) _ found in
+        field-record-length (M .cells) after few (masses-fit (cut M) (p .mesh-values-fine) after after-salt)
 
     read-back : massesIn (fieldRecord (M .cells) after) (M .cells) ≡ after
-    read-back = masses-read-back (cut M) counts-pass (values-pass .0) after after-salt
+    read-back =
+        let p = passed (cut M) (cutField M field) _ found in
+        masses-read-back (cut M) (p .counts-fine) (p .mesh-values-fine) after after-salt
         ∙ table-cong 0 (M .cells) (massIn after) (next part) (λ c h. getD-table (M .cells) (next part) 0 c h)
 
   module _ (bytes : List ℕ) (ok : hostVerdict (meshRecord M) (fieldRecord (M .cells) field) step (length bytes) ≡ fine) where
@@ -171,10 +104,10 @@ module _ (M : Mesh) (mesh-fine : meshVerdict M ≡ fine) (field : List ℕ) (fie
     masses-are : massesIn (nextRecord M step bytes field) (M .cells) ≡ after
     masses-are = ap (λ (r : List ℕ). massesIn r (M .cells)) next-record-is ∙ read-back (length bytes) ok
 
-    left-kept : Fair M (Kept M (onRecords step bytes) field (left (length bytes) ok)) field (left (length bytes) ok)
+    left-kept : Fair M (Kept M (onRecords step bytes) field left) field left
     left-kept = let f = left-fair (length bytes) ok in record { budget = f .budget; holds = (f .holds, next-record-is); field-accepted = f .field-accepted }
 
-    left-is : {l : Left} → stepOnRecords M step bytes field ≡ accepted l → left (length bytes) ok ≡ l
+    left-is : {l : Left} → stepOnRecords M step bytes field ≡ accepted l → left ≡ l
     unfolding stepOnRecords
     left-is e = let d = both-fine _ _ e .1 in let m = masses-are in cc
 

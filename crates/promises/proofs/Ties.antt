@@ -1,13 +1,15 @@
 -- What ties demand 3 to the code: the contracts of the two calls, taken as they stand, give what a list says of a call.
-use Prim.Native.Nat.{ℕ, _+_, _*_}
+use Prim.Native.Nat.{ℕ, _+_, _*_, _<_}
 use mathlib.Core.Path.{_≡_, refl, _∙_}
+use mathlib.Core.Logic.{_≢_}
 use mathlib.Core.List.{List}
 use native.Mathlib.Omega.{arith}
 use lib.IntN.{ℤ}
 use lib.ListN.{length, take}
 use Rattle.model.specs.Mesh.{Mesh}
-use Rattle.model.specs.Causes.{Outcome, accepted, refused, Verdict, fine, _andThen_, Call, inputOf, verdict}
+use Rattle.model.specs.Causes.{Outcome, accepted, refused, Verdict, fine, _andThen_, Call, inputOf, meshVerdict, fieldVerdict, verdict}
 use Rattle.model.specs.Calls.{Crossing, Left, crossingOf, corrected, stepAnswer, stepOnTables}
+use Rattle.model.proofs.Verdicts.{out}
 use Rattle.transport.specs.Promise.{stepSaid, StepPromise}
 use Rattle.transport.specs.declared.StepAnswer.{StepAnswer}
 use Rattle.records.specs.Layouts.{meshRecord, fieldRecord, fieldLength}
@@ -15,7 +17,8 @@ use Rattle.records.specs.Reading.{massesIn}
 use Rattle.lagoon.specs.Host.{causeStep, hostVerdict, hostBytes, HostPromise}
 use Rattle.lagoon.proofs.Small.{taken-apart}
 use Rattle.promises.specs.Demand3.{onTables, onRecords, lentMasses, waterIn, stepOnRecords, comes}
-use Rattle.promises.proofs.Demand3.{refused-first}
+use Rattle.promises.specs.Held.{Bytes, HoldsMesh, HoldsField}
+use Rattle.promises.proofs.Held.{mesh-alone, field-alone}
 
 -- an answer with the table of next masses afterwards
 abbrev pub leftBy : Outcome Crossing → List ℕ → Outcome Left
@@ -34,10 +37,15 @@ pub step-comes : (M : Mesh) (past : List ℕ) (k : Call) (field : List ℕ) (r :
 unfolding stepOnTables stepAnswer
 step-comes M past k field r next moved work p = joined (verdict M (lentMasses M past field) k) _ (stepSaid r) next _ (p .answer) (p .next-masses)
 
--- The host's call on the records of a mesh and a field: from its number and the bytes that it leaves.
-module _ (M : Mesh) (step next field : List ℕ) (r : ℕ) (next′ : List ℕ) (p : HostPromise (meshRecord M) (fieldRecord (M .cells) field) step next r next′) where
+-- The host's call on records that hold a mesh and a field.
+module _ (M : Mesh) (mesh-fine : meshVerdict M ≡ fine) (field : List ℕ) (field-fine : fieldVerdict M field ≡ fine)
+    (mesh masses : List ℕ) (mesh-bytes : Bytes mesh) (masses-bytes : Bytes masses) (mesh-holds : HoldsMesh M mesh) (field-holds : HoldsField M field masses)
+    (step next : List ℕ) (r : ℕ) (next′ : List ℕ) (p : HostPromise mesh masses step next r next′) where
   abbrev found : Verdict
   found = hostVerdict (meshRecord M) (fieldRecord (M .cells) field) step (length next)
+
+  promised : HostPromise (meshRecord M) (fieldRecord (M .cells) field) step next r next′
+  promised = rw (mesh-alone M mesh-fine mesh mesh-bytes mesh-holds, field-alone M mesh-fine field field-fine masses masses-bytes field-holds) at p
 
   zero-is-fine : r ≡ 0 → found ≡ fine
   zero-is-fine z = go found refl
@@ -45,16 +53,38 @@ module _ (M : Mesh) (step next field : List ℕ) (r : ℕ) (next′ : List ℕ) 
       go : (v : Verdict) → found ≡ v → found ≡ fine
       go (accepted t) e = e
       go (refused i j) e =
-          let n : r ≡ causeStep * i + j = p .number ∙ rw e in
+          let n : r ≡ causeStep * i + j = promised .number ∙ rw e in
           absurd (omega (arith, n, z, taken-apart (meshRecord M) (fieldRecord (M .cells) field) step (length next) i j e))
 
-  -- 0: the next field record holds the field
+  -- 0: the call is accepted, with the field that the next field record holds
   pub host-accepted : r ≡ 0
       → comes M (onRecords step next) field ≡ accepted (record { field = massesIn (take (fieldLength (M .cells)) next′) (M .cells); crossing = crossingOf (inputOf M field (waterIn M step)) })
   unfolding stepOnRecords _andThen_
-  host-accepted z = rw (zero-is-fine z, p .next-field)
+  host-accepted z = rw (zero-is-fine z, promised .next-field)
 
-  -- any other number: cause and place of the refusal, and the bytes as they were
-  pub host-refused : (i j : ℕ) → comes M (onRecords step next) field ≡ refused i j → (r ≡ causeStep * i + j) × (next′ ≡ next)
+  -- any other number: the call is refused by the cause and the place that it tells, and the bytes are as they were
+  pub record HostRefused : Type 0 where
+    pub cause : ℕ
+    pub place : ℕ
+    pub refused-by : comes M (onRecords step next) field ≡ refused cause place
+    pub number-is : r ≡ causeStep * cause + place
+    pub place-fits : place < causeStep
+    pub bytes-kept : next′ ≡ next
+
+  refused-at : (i j : ℕ) → found ≡ refused i j → HostRefused
   unfolding stepOnRecords hostBytes
-  host-refused i j e = let f = refused-first found _ e in (p .number ∙ rw f, p .next-field ∙ rw f)
+  refused-at i j e = record {
+    cause = i;
+    place = j;
+    refused-by = out _ e;
+    number-is = promised .number ∙ rw e;
+    place-fits = taken-apart (meshRecord M) (fieldRecord (M .cells) field) step (length next) i j e .2;
+    bytes-kept = promised .next-field ∙ rw e;
+  }
+
+  pub host-refused : r ≢ 0 → HostRefused
+  host-refused n = go found refl
+    where
+      go : (v : Verdict) → found ≡ v → HostRefused
+      go (accepted t) e = let z : r ≡ 0 = promised .number ∙ rw e in absurd (n z)
+      go (refused i j) e = refused-at i j e

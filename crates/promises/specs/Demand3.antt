@@ -12,9 +12,9 @@ use Rattle.records.specs.Layouts.{meshRecord, fieldRecord, fieldLength}
 use Rattle.records.specs.Reading.{massesIn, fluxesIn, outsidesIn}
 use Rattle.lagoon.specs.Host.{hostVerdict, hostBytes}
 
--- A step call of a list, with what is lent to it besides mesh and field. "The other tables may be filled anew each time, from records
--- or otherwise, with any values and of any length". On tables: what stands in the table of masses past the counts, and all other tables
--- of a step. On records: the bytes of a step record, and the bytes lent for the next field record.
+-- A step call of a list, with what is lent to it besides mesh and field; of any values and of any length. On tables: what stands in the
+-- table of masses past the counts, and all other tables of a step. On records: the bytes of a step record, and the bytes lent for the next
+-- field record.
 pub data StepCall : Type 0 where
   onTables : List ℕ → Call → StepCall
   onRecords : List ℕ → List ℕ → StepCall
@@ -34,21 +34,21 @@ module _ (M : Mesh) where
   workedOn (onRecords step next) field = inputOf M field (waterIn step)
 
   module _ (step next field : List ℕ) where
-    -- "its mesh and field records hold the mesh and the field". No other bytes do: what reading accepts is the record of what was read
-    -- (`mesh-written-back`, `field-written-back`). The bytes lent for the next field record, after the call:
+    -- The mesh and field records of the call hold the mesh and the field. These do, and no other bytes (Held.antt). The bytes lent for the
+    -- next field record, after the call:
     abbrev pub bytesAfter : List ℕ
     bytesAfter = hostBytes (meshRecord M) (fieldRecord (M .cells) field) step next
 
-    -- "the next field record"
+    -- the next field record
     abbrev pub nextRecord : List ℕ
     nextRecord = take (fieldLength (M .cells)) bytesAfter
 
-    -- The host's call as one of a list. "after an accepted step the next field record holds the field"
+    -- The host's call as one of a list: after an accepted step the field is what the next field record holds.
     unfoldable pub stepOnRecords : Outcome Left
     stepOnRecords = hostVerdict (meshRecord M) (fieldRecord (M .cells) field) step (length next) andThen
         accepted (record { field = massesIn nextRecord (M .cells); crossing = crossingOf (inputOf M field (waterIn step)) })
 
-  -- "Each call is lent the mesh and, as masses, the field": what it comes to, refused or accepted with the field that it leaves
+  -- what a call comes to that is lent the mesh and, as masses, the field: refused, or accepted with the field that it leaves
   abbrev pub comes : StepCall → List ℕ → Outcome Left
   comes (onTables past k) field = stepOnTables corrected M k (lentMasses past field)
   comes (onRecords step next) field = stepOnRecords step next field
@@ -58,11 +58,11 @@ module _ (M : Mesh) where
   Stands (onTables past k) field l = nextTable corrected M k (lentMasses past field) ≡ l .field
   Stands (onRecords step next) field l = nextRecord step next field ≡ fieldRecord (M .cells) (l .field)
 
-  -- What is owed of each accepted call: "every concentration stays between the least and greatest of its neighbourhood before the step"
+  -- What is owed of each accepted call: the bounds, and where the field stands.
   abbrev pub Kept : StepCall → List ℕ → Left → Type 0
   Kept call field l = Bounded (workedOn call field) (l .field) × Stands call field l
 
-  -- "a refused step changes nothing": of a refused call, what is lent to be filled is as it was; that the field is, `fieldAfter` says
+  -- What is owed of a refused call: what is lent to be filled is as it was. That the field is, `fieldAfter` says.
   abbrev pub Unchanged : StepCall → List ℕ → Type 0
   Unchanged (onTables past k) field =
       (nextTable corrected M k (lentMasses past field) ≡ k .nexts) × (movedTable corrected M k (lentMasses past field) ≡ k .moveds) × (workTable corrected M k (lentMasses past field) ≡ k .work)
@@ -72,12 +72,11 @@ module _ (M : Mesh) where
   EachRefused field [] = Unit {0}
   EachRefused field (call ∷ calls) = ((cause place : ℕ) → comes call field ≡ refused cause place → Unchanged call field) × EachRefused (fieldAfter (comes call field) field) calls
 
-  -- "total = first total + in-masses − out-masses of the accepted ones; a refused step changes nothing; every concentration stays
-  -- between the least and greatest of its neighbourhood before the step"
+  -- the budget and what is owed of each call
   pub record Budgeted (field : List ℕ) (calls : List StepCall) : Type 0 where
     pub claim : Claim M comes Kept field calls
     pub refused-unchanged : EachRefused field calls
 
--- DEMAND 3. "From any accepted mesh and first field, after any list of calls, on tables and on records, whichever are refused"
+-- DEMAND 3: from any accepted mesh and first field, after any list of calls on tables and on records, whichever of them are refused
 abbrev pub Demand3 : Type 0
 Demand3 = (M : Mesh) → meshVerdict M ≡ fine → (field : List ℕ) → fieldVerdict M field ≡ fine → (calls : List StepCall) → Budgeted M field calls

@@ -5,10 +5,11 @@ use mathlib.Core.Bool.{Bool, true, false, cond}
 use mathlib.Core.List.{List}
 use native.Mathlib.Nat.{le-trans}
 use native.Mathlib.Omega.{arith}
+use borrow.Author.Tests.{leb-true, eqb-true}
 use lib.ListN.{length}
 use lib.Dec.{leb}
 use Rattle.lists.proofs.Sums.{sum-zero, sum-more, sum-part, sum-bound}
-use Rattle.lists.proofs.Tests.{leb-le, eqb-eq, both-true}
+use Rattle.lists.proofs.Tests.{both-true}
 use Rattle.model.specs.Mesh.{maxCells, maxFaces}
 use Rattle.model.specs.Causes.{fine, _andThen_, need, long, countsWithin}
 use Rattle.model.specs.Answers.{said}
@@ -21,7 +22,7 @@ use Rattle.records.specs.Reading.{kindIn, cellsIn, facesIn, stepFacesIn,
 
 -- a record that is as long as its head
 pub head-holds : {a : Answer} {j m : ℕ} (n : ℕ) → j ≤ n → said a ≡ need 11 0 (leb n m) → a ≡ Done → j ≤ m
-head-holds {m = m} n l e q = le-trans l (leb-le n m (need-fine 11 0 _ (passes e q)))
+head-holds {m = m} n l e q = le-trans l (leb-true n m (need-fine 11 0 _ (passes e q)))
 
 pub record MeshHeadSays (bs : List ℕ) : Type 0 where
   pub long : 4 ≤ length bs
@@ -38,11 +39,11 @@ mesh-head-says mostCells mostFaces bs e =
     let c = both-fine _ _ (a .1) in
     let d = both-true (leb 1 (cellsIn bs)) (leb (cellsIn bs) (min mostCells maxCells)) (need-fine 1 0 _ (c .0)) in
     record {
-      long = leb-le _ _ (need-fine 11 0 _ (b .0));
-      kind = eqb-eq _ _ (need-fine 13 0 _ (b .1));
-      some-cells = leb-le _ _ (d .0);
-      few-cells = omega (arith, leb-le (cellsIn bs) (min mostCells maxCells) (d .1));
-      few-faces = omega (arith, leb-le (facesIn bs) (min mostFaces maxFaces) (need-fine 1 1 _ (c .1)));
+      long = leb-true _ _ (need-fine 11 0 _ (b .0));
+      kind = eqb-true _ _ (need-fine 13 0 _ (b .1));
+      some-cells = leb-true _ _ (d .0);
+      few-cells = omega (arith, leb-true (cellsIn bs) (min mostCells maxCells) (d .1));
+      few-faces = omega (arith, leb-true (facesIn bs) (min mostFaces maxFaces) (need-fine 1 1 _ (c .1)));
     }
 
 pub record FieldHeadSays (cells : ℕ) (bs : List ℕ) : Type 0 where
@@ -60,11 +61,11 @@ field-head-says cells bs e =
     let c = both-fine _ _ (b .0) in
     let d = both-true (leb 1 cells) (leb cells maxCells) (need-fine 1 0 _ (a .1)) in
     record {
-      long = leb-le _ _ (need-fine 11 0 _ (c .0));
-      kind = eqb-eq _ _ (need-fine 13 0 _ (c .1));
-      same-count = eqb-eq _ _ (need-fine 13 1 _ (b .1));
-      some-cells = leb-le _ _ (d .0);
-      few-cells = leb-le _ _ (d .1);
+      long = leb-true _ _ (need-fine 11 0 _ (c .0));
+      kind = eqb-true _ _ (need-fine 13 0 _ (c .1));
+      same-count = eqb-true _ _ (need-fine 13 1 _ (b .1));
+      some-cells = leb-true _ _ (d .0);
+      few-cells = leb-true _ _ (d .1);
     }
 
 pub record StepHeadSays (faces : ℕ) (seconds bs : List ℕ) : Type 0 where
@@ -82,11 +83,11 @@ step-head-says faces seconds bs e =
     let c = both-fine _ _ (b .0) in
     let d = both-fine _ _ (c .0) in
     record {
-      long = leb-le _ _ (need-fine 11 0 _ (d .0));
-      kind = eqb-eq _ _ (need-fine 13 0 _ (d .1));
-      same-count = eqb-eq _ _ (need-fine 13 1 _ (c .1));
-      few-faces = leb-le _ _ (need-fine 1 1 _ (b .1));
-      lent = leb-le _ _ (need-fine 2 2 _ (a .1));
+      long = leb-true _ _ (need-fine 11 0 _ (d .0));
+      kind = eqb-true _ _ (need-fine 13 0 _ (d .1));
+      same-count = eqb-true _ _ (need-fine 13 1 _ (c .1));
+      few-faces = leb-true _ _ (need-fine 1 1 _ (b .1));
+      lent = leb-true _ _ (need-fine 2 2 _ (a .1));
     }
 
 -- faces at the rim, counted one after another
@@ -148,12 +149,12 @@ mesh-tables-say bs volumes firsts seconds shares reaches e =
     let d = both-fine _ _ (c .0) in
     let g = both-fine _ _ (d .0) in
     record {
-      same-length = eqb-eq _ _ (need-fine 11 0 _ (g .0));
-      volumes-long = leb-le _ _ (need-fine 2 0 _ (g .1));
-      firsts-long = leb-le _ _ (need-fine 2 1 _ (d .1));
-      seconds-long = leb-le _ _ (need-fine 2 2 _ (c .1));
-      shares-long = leb-le _ _ (need-fine 2 3 _ (b .1));
-      reaches-long = leb-le _ _ (need-fine 2 4 _ (a .1));
+      same-length = eqb-true _ _ (need-fine 11 0 _ (g .0));
+      volumes-long = leb-true _ _ (need-fine 2 0 _ (g .1));
+      firsts-long = leb-true _ _ (need-fine 2 1 _ (d .1));
+      seconds-long = leb-true _ _ (need-fine 2 2 _ (c .1));
+      shares-long = leb-true _ _ (need-fine 2 3 _ (b .1));
+      reaches-long = leb-true _ _ (need-fine 2 4 _ (a .1));
     }
 
 pub record FieldTablesSay (cells : ℕ) (bs : List ℕ) (masses : ℕ) : Type 0 where
@@ -164,7 +165,7 @@ pub field-tables-say : (cells : ℕ) (bs : List ℕ) (masses : ℕ) → fieldBod
 unfolding fieldBodyVerdict fieldLength
 field-tables-say cells bs masses e =
     let a = both-fine _ _ e in
-    record { same-length = eqb-eq _ _ (need-fine 11 0 _ (a .0)); masses-long = leb-le _ _ (need-fine 2 5 _ (a .1)) }
+    record { same-length = eqb-true _ _ (need-fine 11 0 _ (a .0)); masses-long = leb-true _ _ (need-fine 2 5 _ (a .1)) }
 
 pub record StepTablesSay (faces : ℕ) (seconds bs : List ℕ) (fluxes outsides : ℕ) : Type 0 where
   pub same-length : length bs ≡ bytesFor (stepBits faces seconds)
@@ -177,4 +178,4 @@ unfolding stepLength
 step-tables-say faces seconds bs fluxes outsides e =
     let a = both-fine _ _ e in
     let b = both-fine _ _ (a .0) in
-    record { same-length = eqb-eq _ _ (need-fine 11 0 _ (b .0)); fluxes-long = leb-le _ _ (need-fine 2 6 _ (b .1)); outsides-long = leb-le _ _ (need-fine 2 7 _ (a .1)) }
+    record { same-length = eqb-true _ _ (need-fine 11 0 _ (b .0)); fluxes-long = leb-true _ _ (need-fine 2 6 _ (b .1)); outsides-long = leb-true _ _ (need-fine 2 7 _ (a .1)) }

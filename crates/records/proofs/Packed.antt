@@ -8,12 +8,12 @@ use native.Mathlib.Nat.{zero-div, add-zero}
 use native.Mathlib.Numerals.{add-one}
 use native.Mathlib.Decide.{decLt}
 use native.Mathlib.Omega.{arith}
+use borrow.Author.Tests.{eq-eqb, ne-eqb, le-leb}
 use lib.Dec.{eqb}
 use lib.IntN.{ℤ, pos, negsuc}
 use lib.ListN.{length, getD}
 use Rattle.lists.specs.Table.{table}
 use Rattle.lists.proofs.Tables.{table-cong}
-use Rattle.lists.proofs.Tests.{eqb-yes, eqb-no, le-leb}
 use Rattle.signed.specs.Sign.{size, isNegative}
 use Rattle.signed.proofs.Laws.{withSign-of}
 use Rattle.model.specs.Mesh.{Mesh, volume, first, second, share, reach, maxCells, maxFaces}
@@ -45,24 +45,24 @@ module _ (bs : List ℕ) where
   unfolding meshRead meshHeadVerdict meshBodyVerdict meshLength meshBitGood bytesFor
   mesh-reads mostCells mostFaces v f s w k kind within len lv lf ls lw lk good =
       past _
-      (both-past (both-past (both-past (need-met 11 0 (le-leb 4 (length bs) (omega (arith, len)))) (need-met 13 0 (eqb-yes _ _ kind))) within)
-      (both-past (both-past (both-past (both-past (both-past (both-past (need-met 11 0 (eqb-yes _ _ len)) (need-met 2 0 (le-leb _ _ lv))) (need-met 2 1 (le-leb _ _ lf))) (need-met 2 2 (le-leb _ _ ls)))
+      (both-past (both-past (both-past (need-met 11 0 (le-leb 4 (length bs) (omega (arith, len)))) (need-met 13 0 (eq-eqb _ _ kind))) within)
+      (both-past (both-past (both-past (both-past (both-past (both-past (need-met 11 0 (eq-eqb _ _ len)) (need-met 2 0 (le-leb _ _ lv))) (need-met 2 1 (le-leb _ _ lf))) (need-met 2 2 (le-leb _ _ ls)))
       (need-met 2 3 (le-leb _ _ lw))) (need-met 2 4 (le-leb _ _ lk))) (fine-each 12 _ _ (λ i l. good i))))
 
   pub field-reads : (cells m : ℕ) → kindIn bs ≡ fieldKind → cellsIn bs ≡ cells → 1 ≤ cells → cells ≤ maxCells → length bs ≡ bytesFor (fieldBits cells) → cells ≤ m → fieldRead cells bs m ≡ fine
   unfolding fieldRead fieldHeadVerdict fieldBodyVerdict fieldLength bytesFor
   field-reads cells m kind c some few len lm =
       rw (kind, c)
-      (both-past (both-past (both-past (both-past (need-met 11 0 (le-leb 2 (length bs) (omega (arith, len)))) (need-met 13 0 refl)) (need-met 13 1 (eqb-yes cells cells refl)))
-      (need-met 1 0 (rw (le-leb 1 cells some) (le-leb cells maxCells few)))) (both-past (need-met 11 0 (eqb-yes _ _ len)) (need-met 2 5 (le-leb _ _ lm))))
+      (both-past (both-past (both-past (both-past (need-met 11 0 (le-leb 2 (length bs) (omega (arith, len)))) (need-met 13 0 refl)) (need-met 13 1 (eq-eqb cells cells refl)))
+      (need-met 1 0 (rw (le-leb 1 cells some) (le-leb cells maxCells few)))) (both-past (need-met 11 0 (eq-eqb _ _ len)) (need-met 2 5 (le-leb _ _ lm))))
 
   pub step-reads : (faces : ℕ) (seconds : List ℕ) (u x : ℕ) → kindIn bs ≡ stepKind → stepFacesIn bs ≡ faces → faces ≤ maxFaces → faces ≤ length seconds → length bs ≡ bytesFor (stepBits faces seconds)
       → faces ≤ u → faces ≤ x → ((i : ℕ) → (zeroBitGood bs stepZeroBits stepHeadBits (stepBits faces seconds) i && not (minusZero bs faces i)) ≡ true) → stepRead faces seconds bs u x ≡ fine
   unfolding stepRead stepHeadVerdict stepBodyVerdict stepLength stepBitGood bytesFor
   step-reads faces seconds u x kind n few lent len lu lx good =
       rw (kind, n)
-      (both-past (both-past (both-past (both-past (both-past (need-met 11 0 (le-leb 4 (length bs) (omega (arith, len)))) (need-met 13 0 refl)) (need-met 13 1 (eqb-yes faces faces refl))) (need-met 1 1 (le-leb _ _ few)))
-      (need-met 2 2 (le-leb _ _ lent))) (both-past (both-past (both-past (need-met 11 0 (eqb-yes _ _ len)) (need-met 2 6 (le-leb _ _ lu))) (need-met 2 7 (le-leb _ _ lx))) (fine-each 12 _ _ (λ i l. good i))))
+      (both-past (both-past (both-past (both-past (both-past (need-met 11 0 (le-leb 4 (length bs) (omega (arith, len)))) (need-met 13 0 refl)) (need-met 13 1 (eq-eqb faces faces refl))) (need-met 1 1 (le-leb _ _ few)))
+      (need-met 2 2 (le-leb _ _ lent))) (both-past (both-past (both-past (need-met 11 0 (eq-eqb _ _ len)) (need-met 2 6 (le-leb _ _ lu))) (need-met 2 7 (le-leb _ _ lx))) (fine-each 12 _ _ (λ i l. good i))))
 
 -- zero bits in the head and padding after the fields
 pub zeros-good : (fs : List Field) (z h e : ℕ) → z ≤ h → h ≤ e → widthOf fs ≡ e → bitsAt (packed fs) (h - z) z ≡ 0 → (i : ℕ) → zeroBitGood (packed fs) z h e i ≡ true
@@ -223,7 +223,7 @@ sign-back false = refl
 
 no-minus-zero : (z : ℤ) → (eqb (cond (isNegative z) 1 0) 1 && eqb (size z) 0) ≡ false
 no-minus-zero (pos n) = refl
-no-minus-zero (negsuc n) = eqb-no (suc n) 0 (λ e. omega arith)
+no-minus-zero (negsuc n) = ne-eqb (suc n) 0 (λ e. omega arith)
 
 pub fluxes-width : (faces : ℕ) (fluxes : List ℤ) → widthOf (stepHead faces ++ rows faces (fluxRow fluxes)) ≡ stepHeadBits + faces * fluxBits
 unfolding widthOf

@@ -5,9 +5,10 @@ use mathlib.Core.Bool.{Bool, true, false, cond, _&&_}
 use mathlib.Core.List.{List}
 use native.Mathlib.Nat.{div-lt-iff-lt-mul}
 use native.Mathlib.Omega.{arith}
+use borrow.Author.Tests.{leb-true}
 use lib.IntN.{pos}
 use lib.ListN.{getD}
-use Rattle.lists.proofs.Tests.{Same, same, other, same?, leb-le}
+use Rattle.lists.proofs.Tests.{Same, same, other, same?}
 use Rattle.signed.specs.Sign.{size, isNegative}
 use Rattle.model.specs.Mesh.{Mesh, volume, second, reach, atRim, rim, maxVolume, maxConcentration, maxRimFlux}
 use Rattle.model.specs.Step.{outside}
@@ -58,6 +59,6 @@ module _ (M : Mesh) (passes : meshValues M ≡ fine) (field : List ℕ) (k : Cal
   pub none-inside : (f : ℕ) → f < M .faces → isRim (M .seconds) f ≡ false → getD (k .outsides) f 0 ≡ 0
   unfolding outsideGood
   none-inside f l e =
-      let g : getD (k .outsides) f 0 ≤ cond (atRim M f && isNegative (getD (k .fluxes) f (pos 0))) maxConcentration 0 = leb-le _ _ (each-fine 7 (M .faces) (outsideGood M field k) outsides-pass f l) in
+      let g : getD (k .outsides) f 0 ≤ cond (atRim M f && isNegative (getD (k .fluxes) f (pos 0))) maxConcentration 0 = leb-true _ _ (each-fine 7 (M .faces) (outsideGood M field k) outsides-pass f l) in
       let h : getD (k .outsides) f 0 ≤ 0 = rw e at g in
       omega arith

@@ -4,9 +4,9 @@ use mathlib.Core.Path.{_≡_, ap, _∙_}
 use mathlib.Core.Bool.{Bool, true, false, cond}
 use mathlib.Core.List.{List, [], _∷_, _++_}
 use native.Mathlib.Omega.{arith}
+use borrow.Author.Tests.{leb-true}
 use lib.ListN.{length, getD}
 use lib.IntN.{ℤ, pos}
-use Rattle.lists.proofs.Tests.{leb-le}
 use Rattle.signed.specs.Sign.{isNegative}
 use Rattle.model.specs.Mesh.{Mesh, maxFaces}
 use Rattle.model.specs.Causes.{Verdict, fine, _andThen_, each, long, counts, meshTables, meshValues, outsideGood, fluxGood, bytesLong, waterOf}
@@ -49,7 +49,7 @@ past-first v w e = rw (past v e)
 pub water-long : (n a b : ℕ) (w : Verdict) → (long 6 n a andThen long 7 n b andThen w) ≡ fine → (n ≤ a) × (n ≤ b)
 water-long n a b w e =
     let p = both-fine _ _ (both-fine _ _ e .0) in
-    (leb-le _ _ (need-fine 2 6 _ (p .0)), leb-le _ _ (need-fine 2 7 _ (p .1)))
+    (leb-true _ _ (need-fine 2 6 _ (p .0)), leb-true _ _ (need-fine 2 7 _ (p .1)))
 
 -- the bytes hold the parts of a record, one after another, and its padding
 
@@ -112,7 +112,7 @@ module _ (M : Mesh) where
       let n = counted M (d .0) in (
         mesh-lent M (d .1),
         record {
-          enough = rw (mesh-width M) (leb-le _ _ (need-fine 2 11 _ (b .1)));
+          enough = rw (mesh-width M) (leb-true _ _ (need-fine 2 11 _ (b .1)));
           few = rw (mesh-width M) (omega (arith, n .few-cells, n .few-faces));
           fit = mesh-fits (d .0) (a .1);
         },
@@ -142,7 +142,7 @@ field-whole M masses e =
     let n = counted M (both-fine _ _ (f .0) .0) in (
       field-lent M masses (f .1),
       record {
-        enough = rw (field-width (M .cells) masses) (leb-le _ _ (need-fine 2 11 _ (d .1)));
+        enough = rw (field-width (M .cells) masses) (leb-true _ _ (need-fine 2 11 _ (d .1)));
         few = rw (field-width (M .cells) masses) (omega (arith, n .few-cells));
         fit = fit-append (fieldHead (M .cells)) (rows (M .cells) (massRow masses)) (omega arith, (omega (arith, n .few-cells), tt))
             (fit-rows (M .cells) (massRow masses) (λ c l. (masses-fit M (b .1) masses (a .1) c l, tt)));
@@ -198,10 +198,10 @@ module _ (M : Mesh) (fluxes : List ℤ) (outsides : List ℕ) where
       let i = both-fine _ _ (h .0) in
       let n = counted M (i .0) in (
         mesh-lent M (i .1) .seconds-long,
-        leb-le _ _ (need-fine 2 6 _ (h .1)),
-        leb-le _ _ (need-fine 2 7 _ (g .1)),
+        leb-true _ _ (need-fine 2 6 _ (h .1)),
+        leb-true _ _ (need-fine 2 7 _ (g .1)),
         record {
-          enough = rw (step-width (M .faces) (M .seconds) fluxes outsides) (leb-le _ _ (need-fine 2 11 _ (f .1)));
+          enough = rw (step-width (M .faces) (M .seconds) fluxes outsides) (leb-true _ _ (need-fine 2 11 _ (f .1)));
           few = rw (step-width (M .faces) (M .seconds) fluxes outsides) (omega (arith, n .few-faces, rim-le (M .seconds) (M .faces)));
           fit = step-fits (n .few-faces) (d .1) (b .1) (a .1);
         },

@@ -7,9 +7,9 @@ use mathlib.Core.List.{List}
 use native.Mathlib.Omega.{arith}
 use native.Mathlib.Decide.{decLt}
 use native.Mathlib.Nat.{add-zero}
-use borrow.Author.Tests.{lt-ltb, le-ltb}
+use borrow.Author.Tests.{lt-ltb, le-ltb, le-leb, lt-leb}
 use lib.Dec.{eqb, leb, ltb}
-use Rattle.lists.proofs.Tests.{Same, same, other, same?, Fits, fits, fits?, le-leb, lt-leb}
+use Rattle.lists.proofs.Tests.{Same, same, other, same?, Fits, fits, fits?}
 use Rattle.model.specs.Causes.{refused, fine, each}
 use Rattle.model.proofs.Verdicts.{fine-each, scan-hit}
 use Rattle.bits.specs.Field.{bitAt, bitsAt}

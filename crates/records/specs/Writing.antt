@@ -8,7 +8,7 @@ use lib.IntN.{ℤ}
 use Rattle.lists.specs.Table.{over}
 use Rattle.model.specs.Mesh.{Mesh}
 use Rattle.model.specs.Causes.{accepted, Verdict, _andThen_, taken, each, long, counts, meshTables, meshValues, fieldTable, fieldValues, outsideGood, fluxGood}
-pub use Rattle.model.specs.Causes.{waterOf, bytesLong}
+use Rattle.model.specs.Causes.{waterOf, bytesLong}
 use Rattle.records.specs.declared.WriteAnswer.{WriteAnswer}
 use Rattle.records.specs.Layouts.{meshRecord, fieldRecord, stepRecord, meshLength, fieldLength, stepLength}
 use Rattle.records.specs.Answers.{writeSaid}

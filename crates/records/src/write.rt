@@ -32,12 +32,12 @@ fn mesh_refused(
 ) -> Answer
     ensures { λ r. ⌜ said r ≡ meshWriteVerdict (meshOf cells faces (now (volumes .entry)) (now (firsts .entry)) (now (seconds .entry)) (now (shares .entry)) (now (reaches .entry))) room ⌝ }
 {
-    let lent = checks::lengths::mesh_lent(cells, faces, volumes, firsts, seconds, shares, reaches);
+    let lent = lent::mesh_lent(cells, faces, volumes, firsts, seconds, shares, reaches);
     if let Answer::Refused(r) = lent {
         return Answer::Refused(r);
     }
     let space = long(RECORD_BYTES, lengths::mesh_length(cells, faces), room);
-    let values = checks::mesh::values(cells, faces, volumes, firsts, seconds, shares, reaches);
+    let values = shape::values(cells, faces, volumes, firsts, seconds, shares, reaches);
     and_then(space, values)
 }
 
@@ -114,7 +114,7 @@ fn field_refused(
 ) -> Answer
     ensures { λ r. ⌜ said r ≡ fieldWriteVerdict (meshOf cells faces (now (volumes .entry)) (now (firsts .entry)) (now (seconds .entry)) (now (shares .entry)) (now (reaches .entry))) (now (masses .entry)) room ⌝ }
 {
-    let lent = checks::lengths::field_lent(
+    let lent = lent::field_lent(
         cells,
         faces,
         volumes,
@@ -128,7 +128,7 @@ fn field_refused(
         return Answer::Refused(r);
     }
     let space = long(RECORD_BYTES, lengths::field_length(cells), room);
-    let values = checks::mesh::values(cells, faces, volumes, firsts, seconds, shares, reaches);
+    let values = shape::values(cells, faces, volumes, firsts, seconds, shares, reaches);
     let fit = and_then(space, values);
     if let Answer::Refused(r) = fit {
         return Answer::Refused(r);
@@ -193,7 +193,7 @@ fn step_refused(
 ) -> Answer
     ensures { λ r. ⌜ said r ≡ stepWriteVerdict (meshOf cells faces (now (volumes .entry)) (now (firsts .entry)) (now (seconds .entry)) (now (shares .entry)) (now (reaches .entry))) (now (fluxes .entry)) (now (outsides .entry)) room ⌝ }
 {
-    let lent = checks::lengths::mesh_lent(cells, faces, volumes, firsts, seconds, shares, reaches);
+    let lent = lent::mesh_lent(cells, faces, volumes, firsts, seconds, shares, reaches);
     if let Answer::Refused(r) = lent {
         return Answer::Refused(r);
     }
@@ -203,8 +203,8 @@ fn step_refused(
     if let Answer::Refused(r) = tables {
         return Answer::Refused(r);
     }
-    let mesh = checks::mesh::values(cells, faces, volumes, firsts, seconds, shares, reaches);
-    let values = checks::water::values(faces, seconds, reaches, fluxes, outsides);
+    let mesh = shape::values(cells, faces, volumes, firsts, seconds, shares, reaches);
+    let values = water::values(faces, seconds, reaches, fluxes, outsides);
     and_then(mesh, values)
 }
 

@@ -1,8 +1,11 @@
-// The run program of document 01: a mesh, a field and steps from standard input, a line for each, and the board.
+// The run program of document 01: a mesh, a field and steps from standard input, a line for each, and the board, in the order of
+// `printed` in session/specs/Run.antt. After a failed read or write it prints nothing more, so that no part of a session looks whole.
 mod board_lines;
 mod reading;
 
 use checks::TotalAnswer;
+use libc::STDERR_FILENO;
+use libc::STDIN_FILENO;
 use libc::STDOUT_FILENO;
 use model::RUN_CELLS;
 use model::RUN_FACES;
@@ -10,17 +13,29 @@ use model::Refusal;
 use records::MeshAnswer;
 use session::Line;
 use session::RECORD;
-use session::StepTaken;
+use taking::StepTaken;
 ghost use Prim.Native.Nat.{_≤_};
 ghost use lib.ListN.{length};
 ghost use Rattle.io.specs.Counts.{Counts};
 
+// What follows a step: another, the board, or nothing, since something is lost.
+enum Next {
+    Step,
+    Board,
+    Nothing,
+}
+
+// A line on standard output, or a word on standard error where it is lost.
 fn print(line: Line) -> bool
     requires { ⌜ Counts (line .used) (line .bytes) ⌝ }
 {
     let bytes = line.bytes;
     let used = line.used;
-    io::write_all(STDOUT_FILENO, &bytes[..used])
+    if io::write_all(STDOUT_FILENO, &bytes[..used]) {
+        return true;
+    }
+    os::fail(b"run: standard output");
+    false
 }
 
 // The one line of a refused mesh or field.
@@ -29,15 +44,19 @@ fn print_refusal(letter: u8, refusal: Refusal) {
     print(session::refusal_line(letter, model::number(cause), refusal.place));
 }
 
-// The line of a step. A refused one is skipped, unless it ends the run. Answers whether another may follow.
-fn print_step(step: u64, taken: StepTaken) -> bool {
-    let StepTaken::Stepped(printed) = taken else {
-        return print(session::taken_line(step, taken)) && session::goes_on(taken);
-    };
-    print(session::step_line(step, printed.entered, printed.gone, printed.total))
+// The line of a step, accepted or refused.
+fn print_step(step: u64, taken: StepTaken) -> Next {
+    if !print(session::taken_line(step, taken)) {
+        return Next::Nothing;
+    }
+    if session::goes_on(taken) {
+        Next::Step
+    } else {
+        Next::Board
+    }
 }
 
-// Reads one step, takes it and prints its line. Answers whether another may follow.
+// Reads one step, takes it and prints its line. Where no byte is left, the board follows.
 fn step_once(
     step: u64,
     cells: usize,
@@ -49,19 +68,18 @@ fn step_once(
     shares: &[u64],
     reaches: &[u64],
     masses: &mut [u64],
-    fluxes: &mut [i64],
-    outsides: &mut [u64],
-    next: &mut [u64],
-    moved: &mut [i64],
-    work: &mut [u64],
-) -> bool
+) -> Next
     requires { do ⌜ (← ⟦session::RECORD⟧) ≤ length (now buffer) ⌝ }
 {
-    let got = reading::step(faces, seconds, buffer);
-    if got == 0 {
-        return false;
+    let read = reading::step(faces, seconds, buffer);
+    if read.failed {
+        return Next::Nothing;
     }
-    let taken = session::take_step(
+    let got = read.count;
+    if got == 0 {
+        return Next::Board;
+    }
+    let taken = taking::take_step(
         cells,
         faces,
         &buffer[..got],
@@ -71,11 +89,6 @@ fn step_once(
         shares,
         reaches,
         masses,
-        fluxes,
-        outsides,
-        next,
-        moved,
-        work,
     );
     print_step(step, taken)
 }
@@ -92,18 +105,13 @@ fn steps(
     shares: &[u64],
     reaches: &[u64],
     masses: &mut [u64],
-    fluxes: &mut [i64],
-    outsides: &mut [u64],
-    next: &mut [u64],
-    moved: &mut [i64],
-    work: &mut [u64],
-)
+) -> Next
     requires { do ⌜ (← ⟦session::RECORD⟧) ≤ length (now buffer) ⌝ }
 {
     let mut step: u64 = 0;
     while step < u64::MAX {
         step += 1;
-        let more = step_once(
+        let next = step_once(
             step,
             cells,
             faces,
@@ -114,16 +122,12 @@ fn steps(
             shares,
             reaches,
             masses,
-            fluxes,
-            outsides,
-            next,
-            moved,
-            work,
         );
-        if !more {
-            return;
-        }
+        let Next::Step = next else {
+            return next;
+        };
     }
+    Next::Board
 }
 
 // Field, steps and board on an accepted mesh.
@@ -136,25 +140,26 @@ fn run_on(
     seconds: &[u64],
     shares: &[u64],
     reaches: &[u64],
-    masses: &mut [u64],
-    fluxes: &mut [i64],
-    outsides: &mut [u64],
-    next: &mut [u64],
-    moved: &mut [i64],
-    work: &mut [u64],
 )
     requires { do ⌜ (← ⟦session::RECORD⟧) ≤ length (now buffer) ⌝ }
 {
-    let got = reading::field(cells, buffer);
-    let answer = session::take_field(cells, &buffer[..got], volumes, masses);
+    let mut masses = [0u64; RUN_CELLS];
+    let read = reading::field(cells, buffer);
+    if read.failed {
+        return;
+    }
+    let got = read.count;
+    let answer = taking::take_field(cells, &buffer[..got], volumes, &mut masses);
     let TotalAnswer::Total(total) = answer else {
         if let TotalAnswer::Refused(refusal) = answer {
             print_refusal(b'F', refusal);
         }
         return;
     };
-    print_start(total);
-    steps(
+    if !print_start(total) {
+        return;
+    }
+    let next = steps(
         cells,
         faces,
         buffer,
@@ -163,35 +168,51 @@ fn run_on(
         seconds,
         shares,
         reaches,
-        masses,
-        fluxes,
-        outsides,
-        next,
-        moved,
-        work,
+        &mut masses,
     );
-    board_lines::print_board(cells, volumes, masses);
+    if let Next::Board = next {
+        board_lines::print_board(cells, volumes, &masses);
+    }
 }
 
-// The whole run, in tables that are lent.
-fn run(
-    buffer: &mut [u8],
-    volumes: &mut [u64],
-    firsts: &mut [u64],
-    seconds: &mut [u64],
-    shares: &mut [u64],
-    reaches: &mut [u64],
-    masses: &mut [u64],
-    fluxes: &mut [i64],
-    outsides: &mut [u64],
-    next: &mut [u64],
-    moved: &mut [i64],
-    work: &mut [u64],
-)
-    requires { do ⌜ (← ⟦session::RECORD⟧) ≤ length (now buffer) ⌝ }
-{
-    let got = reading::mesh(buffer);
-    let answer = session::take_mesh(&buffer[..got], volumes, firsts, seconds, shares, reaches);
+// Step 0, the first field.
+fn print_start(total: u64) -> bool {
+    print(session::step_line(0, 0, 0, total))
+}
+
+// A word to whoever gives arguments or sits at a terminal and does not know that a session is awaited.
+fn greet() {
+    let asked = os::arg_count() > 1;
+    let terminal = libc::isatty(STDIN_FILENO) == 1;
+    if asked || terminal {
+        io::write_all(
+            STDERR_FILENO,
+            b"run: reads a session from standard input; see README.md\n",
+        );
+    }
+}
+
+fn main() {
+    greet();
+    let mut buffer = [0u8; RECORD];
+    let mut volumes = [0u64; RUN_CELLS];
+    let mut firsts = [0u64; RUN_FACES];
+    let mut seconds = [0u64; RUN_FACES];
+    let mut shares = [0u64; RUN_FACES];
+    let mut reaches = [0u64; RUN_FACES];
+    let read = reading::mesh(&mut buffer);
+    if read.failed {
+        return;
+    }
+    let got = read.count;
+    let answer = taking::take_mesh(
+        &buffer[..got],
+        &mut volumes,
+        &mut firsts,
+        &mut seconds,
+        &mut shares,
+        &mut reaches,
+    );
     let MeshAnswer::Read(counts) = answer else {
         if let MeshAnswer::Refused(refusal) = answer {
             print_refusal(b'M', refusal);
@@ -201,51 +222,11 @@ fn run(
     run_on(
         counts.cells,
         counts.faces,
-        buffer,
-        volumes,
-        firsts,
-        seconds,
-        shares,
-        reaches,
-        masses,
-        fluxes,
-        outsides,
-        next,
-        moved,
-        work,
-    );
-}
-
-// Step 0, the first field.
-fn print_start(total: u64) {
-    print(session::step_line(0, 0, 0, total));
-}
-
-fn main() {
-    let mut buffer = [0u8; RECORD];
-    let mut volumes = [0u64; RUN_CELLS];
-    let mut firsts = [0u64; RUN_FACES];
-    let mut seconds = [0u64; RUN_FACES];
-    let mut shares = [0u64; RUN_FACES];
-    let mut reaches = [0u64; RUN_FACES];
-    let mut masses = [0u64; RUN_CELLS];
-    let mut fluxes = [0i64; RUN_FACES];
-    let mut outsides = [0u64; RUN_FACES];
-    let mut next = [0u64; RUN_CELLS];
-    let mut moved = [0i64; RUN_FACES];
-    let mut work = [0u64; session::WORK];
-    run(
         &mut buffer,
-        &mut volumes,
-        &mut firsts,
-        &mut seconds,
-        &mut shares,
-        &mut reaches,
-        &mut masses,
-        &mut fluxes,
-        &mut outsides,
-        &mut next,
-        &mut moved,
-        &mut work,
+        &volumes,
+        &firsts,
+        &seconds,
+        &shares,
+        &reaches,
     );
 }

@@ -1,3 +1,4 @@
-pub mod Spelling
-pub mod Records
+pub mod Endings
+pub mod Held
 pub mod Room
+pub mod Prints

@@ -4,8 +4,9 @@ use mathlib.Core.Path.{_≡_, refl}
 use mathlib.Core.List.{List}
 use native.Mathlib.Nat.{div-mul-le-self}
 use native.Mathlib.Omega.{arith}
+use borrow.Author.Tests.{leb-true}
 use lib.Dec.{leb}
-use Rattle.lists.proofs.Tests.{leb-le, both-true}
+use Rattle.lists.proofs.Tests.{both-true}
 use Rattle.model.specs.Mesh.{runCells, runFaces}
 use Rattle.model.specs.Causes.{accepted, countsWithin}
 use Rattle.model.proofs.Verdicts.{both-fine, need-fine}
@@ -30,7 +31,7 @@ mesh-fits bs n e =
     let h = both-fine _ _ (both-fine _ _ (p .0) .1) in
     let c = both-true (leb 1 (cellsIn bs)) (leb (cellsIn bs) 1023) (need-fine 1 0 _ (h .0)) in
     let q : bytesFor (meshBits (cellsIn bs) (facesIn bs)) ≡ n = cc in
-    rw record-is (omega (arith, q, bytes-of (meshBits (cellsIn bs) (facesIn bs)), leb-le (cellsIn bs) 1023 (c .1), leb-le (facesIn bs) 2046 (need-fine 1 1 _ (h .1))))
+    rw record-is (omega (arith, q, bytes-of (meshBits (cellsIn bs) (facesIn bs)), leb-true (cellsIn bs) 1023 (c .1), leb-true (facesIn bs) 2046 (need-fine 1 1 _ (h .1))))
 
 pub field-fits : (cells : ℕ) (bs : List ℕ) (n : ℕ) → cells ≤ runCells → fieldNeeds cells bs ≡ accepted n → n ≤ recordBytes
 unfolding fieldNeeds fieldLength

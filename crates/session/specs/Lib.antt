@@ -1,3 +1,4 @@
 pub mod Lines
 pub mod Session
-pub mod Taking
+pub mod Run
+pub mod Program

@@ -1,43 +1,33 @@
 -- Document 01, "The board and the run": the lines that the run program prints, as bytes.
-use Prim.Native.Nat.{ℕ, zero, suc, _+_, _/_, _%_}
-use mathlib.Core.Bool.{cond}
-use mathlib.Core.List.{List, [], _∷_, _++_}
-use lib.Dec.{ltb}
+use Prim.Native.Nat.{ℕ}
+use mathlib.Core.List.{List, _++_}
+use Rattle.text.specs.Lines.{word, mark, space, newline}
 
--- A number below 10 ^ fuel in decimal digits, with no zero in front. 48 is the code of the digit 0.
-unfoldable pub spelled : ℕ → ℕ → List ℕ
-spelled zero n = []
-spelled (suc fuel) n = cond (ltb n 10) ((48 + n) ∷ []) (spelled fuel (n / 10) ++ ((48 + n % 10) ∷ []))
+-- The letters before the numbers of a refused mesh, field and step, and of the board.
+abbrev pub letterM : ℕ
+letterM = 77
 
--- 20 digits hold every 64-bit number.
-abbrev pub mostDigits : ℕ
-mostDigits = 20
+abbrev pub letterF : ℕ
+letterF = 70
 
-abbrev pub space : ℕ
-space = 32
+abbrev pub letterR : ℕ
+letterR = 82
 
-abbrev pub newline : ℕ
-newline = 10
+abbrev pub letterB : ℕ
+letterB = 66
 
--- A number, or a letter, and the byte after it.
-unfoldable pub word : ℕ → ℕ → List ℕ
-word n after = spelled mostDigits n ++ (after ∷ [])
-
-unfoldable pub mark : ℕ → List ℕ
-mark letter = letter ∷ space ∷ []
-
--- "`M` or `F`, number, place for a refused mesh or field"
+-- A refused mesh or field: its letter, the number of the cause, the place.
 unfoldable pub refusalLine : ℕ → ℕ → ℕ → List ℕ
 refusalLine letter number place = mark letter ++ (word number space ++ word place newline)
 
--- "step number, in-mass, out-mass, total"
+-- An accepted step: its number, in-mass, out-mass, total.
 unfoldable pub stepLine : ℕ → ℕ → ℕ → ℕ → List ℕ
 stepLine step entered gone total = word step space ++ (word entered space ++ (word gone space ++ word total newline))
 
--- "step number, `R`, number, place"
+-- A refused step: its number, the letter, the number of the cause, the place.
 unfoldable pub refusedStepLine : ℕ → ℕ → ℕ → List ℕ
-refusedStepLine step number place = word step space ++ refusalLine 82 number place
+refusedStepLine step number place = word step space ++ refusalLine letterR number place
 
--- "`B`, cell, q, rest"
+-- An entry of the board: the letter, cell, q, rest.
 unfoldable pub boardLine : ℕ → ℕ → ℕ → List ℕ
-boardLine cell q rest = mark 66 ++ (word cell space ++ (word q space ++ word rest newline))
+boardLine cell q rest = mark letterB ++ (word cell space ++ (word q space ++ word rest newline))

@@ -8,22 +8,25 @@ use lib.ListN.{take}
 use Rattle.io.specs.Counts.{Counts}
 use Rattle.model.specs.Mesh.{runCells, runFaces}
 use Rattle.model.specs.Causes.{Outcome, accepted, refused}
-use Rattle.model.specs.Answers.{number, told}
+use Rattle.model.specs.Answers.{number}
 use Rattle.model.specs.declared.Cause.{Cause}
 use Rattle.records.specs.Layouts.{meshLength}
 use Rattle.session.specs.declared.Line.{Line}
-use Rattle.session.specs.declared.StepTaken.{StepTaken}
-use Rattle.session.specs.declared.StepTaken.the-variants.{Stepped, Refused}
-use Rattle.session.specs.declared.Printed.{Printed}
+use Rattle.taking.specs.Taking.{takenSaid}
+use Rattle.taking.specs.declared.Printed.{Printed}
+use Rattle.taking.specs.declared.StepTaken.{StepTaken}
 use Rattle.session.specs.Lines.{stepLine, refusedStepLine}
 
 -- A line by value: its first bytes are the text. What the bytes after them are is left open; nobody prints them.
 abbrev pub Holds : Line → List ℕ → Type 0
 Holds line text = Counts (line .used) (line .bytes) × (take (line .used) (line .bytes) ≡ text)
 
--- "A record that is refused ends the run only by 11 or 13"
+-- A refusal ends the run by causes 11 and 13 alone.
+abbrev pub endsBy : ℕ → Bool
+endsBy cause = eqb cause 11 || eqb cause 13
+
 abbrev pub endsRun : Cause → Bool
-endsRun c = eqb (number c) 11 || eqb (number c) 13
+endsRun c = endsBy (number c)
 
 -- The longest record within the run's limits: a mesh of all cells and faces.
 abbrev pub recordBytes : ℕ
@@ -35,17 +38,18 @@ abbrev pub stillNeeded : Outcome ℕ → ℕ → ℕ
 stillNeeded (accepted n) got = min n recordBytes - got
 stillNeeded (refused _ _) got = 0
 
--- "a definition gives this paper's number and values for each of its cases"
-abbrev pub takenSaid : StepTaken → Outcome Printed
-takenSaid (Stepped p) = accepted p
-takenSaid (Refused r) = told r
+-- A step's line: its number and what is printed of it, or why it is refused.
+abbrev pub stepText : ℕ → Outcome Printed → List ℕ
+stepText step (accepted p) = stepLine step (p .entered) (p .gone) (p .total)
+stepText step (refused cause place) = refusedStepLine step cause place
 
--- "for each step: step number, in-mass, out-mass, total; or step number, `R`, number, place"
 abbrev pub lineOf : ℕ → StepTaken → List ℕ
-lineOf step (Stepped p) = stepLine step (p .entered) (p .gone) (p .total)
-lineOf step (Refused r) = refusedStepLine step (number (r .cause)) (r .place)
+lineOf step taken = stepText step (takenSaid taken)
 
 -- Whether another step may follow.
+abbrev pub goesOnAfter : Outcome Printed → Bool
+goesOnAfter (accepted p) = true
+goesOnAfter (refused cause place) = not (endsBy cause)
+
 abbrev pub goesOn : StepTaken → Bool
-goesOn (Stepped p) = true
-goesOn (Refused r) = not (endsRun (r .cause))
+goesOn taken = goesOnAfter (takenSaid taken)

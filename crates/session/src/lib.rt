@@ -1,6 +1,5 @@
 // What the run program decides and prints, apart from its reading and writing.
 mod lines;
-mod taking;
 
 pub use lines::LINE;
 pub use lines::board_line;
@@ -9,16 +8,12 @@ pub use lines::step_line;
 use model::Cause;
 use model::RUN_CELLS;
 use model::RUN_FACES;
-use model::Refusal;
 use records::CELL_BITS;
 use records::FACE_BITS;
 use records::LengthAnswer;
 use records::MESH_HEAD;
-pub use taking::take_field;
-pub use taking::take_mesh;
-pub use taking::take_step;
+use taking::StepTaken;
 ghost use mathlib.Core.Path.{_≡_};
-ghost use mathlib.Core.Bool.{not};
 ghost use Prim.Native.Nat.{_+_, _≤_, min};
 ghost use Rattle.records.specs.Answers.{lengthSaid};
 ghost use Rattle.session.specs.Session.{recordBytes, Holds, endsRun, stillNeeded, lineOf, goesOn};
@@ -26,42 +21,20 @@ ghost use Rattle.session.specs.Session.{recordBytes, Holds, endsRun, sti
 // Bytes of the longest record within the run's limits, a mesh of all cells and faces. `rest` holds it to the layout.
 pub const RECORD: usize = MESH_HEAD + (RUN_CELLS * CELL_BITS + RUN_FACES * FACE_BITS + 7) / 8;
 
-// Entries of a step's work: four for each cell and one for each face.
-pub const WORK: usize = 4 * RUN_CELLS + RUN_FACES;
-
 // A line of at most LINE bytes, of which the first `used` count.
 pub struct Line {
     pub bytes: [u8; LINE],
     pub used: usize,
 }
 
-// What is printed of an accepted step.
-pub struct Printed {
-    pub entered: u64,
-    pub gone: u64,
-    pub total: u64,
-}
-
-// What a step record comes to.
-pub enum StepTaken {
-    Stepped(Printed),
-    Refused(Refusal),
-}
-
-// Document 01's numbers of the causes that end a run.
-const WRONG_LENGTH: u64 = 11;
-
-const WRONG_HEAD: u64 = 13;
-
-// Whether a refusal of a step ends the run.
+// Whether a refusal of a step ends the run: causes 11 and 13.
 pub fn ends(cause: Cause) -> bool
     ensures { λ r. ⌜ r ≡ endsRun cause ⌝ }
 {
-    let number = model::number(cause);
-    if number == WRONG_LENGTH {
-        return true;
+    match cause {
+        Cause::Length | Cause::Head => true,
+        _ => false,
     }
-    number == WRONG_HEAD
 }
 
 // Whether another step may follow.

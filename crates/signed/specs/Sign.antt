@@ -29,3 +29,8 @@ backward (negsuc n) = suc n
 abbrev pub withSign : Bool → ℕ → ℤ
 withSign false n = pos n
 withSign true n = negℤ (pos n)
+
+-- an amount through a face that is turned round, or not
+abbrev pub turn : Bool → ℤ → ℤ
+turn false z = z
+turn true z = negℤ z

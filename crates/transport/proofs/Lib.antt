@@ -1,11 +1,2 @@
-pub mod Corrections
-pub mod BoundLaws
-pub mod Transfers
-pub mod ConcentrationLaws
-pub mod Flows
-pub mod CarryLaws
-pub mod AllowanceLaws
-pub mod SumLaws
-pub mod LimiterLaws
 pub mod Advances
 pub mod Promises

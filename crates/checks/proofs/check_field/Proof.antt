@@ -1,3 +1,4 @@
+-- Lengths, then the mesh, then the field: each part that is fine is passed, and the first that refuses is the answer.
 use mathlib.Core.Path.{sym, _∙_}
 use borrow.Author.Needs.{needs}
 use Rattle.model.specs.Causes.{meshFieldVerdict, fieldValues, saltGood}

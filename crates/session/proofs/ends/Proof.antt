@@ -1,14 +1,12 @@
-use mathlib.Core.Path.{sym, _∙_}
-use borrow.Author.Needs.{needs}
-use Rattle.lists.proofs.Tests.{eqb-yes, eqb-no}
+use Rattle.session.proofs.Endings.{ends-run, run-goes-on}
 use Rattle.session.proofs.ends.Statement.{statement}
 use Rattle.session.proofs.ends.Tie as tie
 
 returns : tie.Need-returns
-returns c = rw (eqb-yes _ _ (sym (c .before .number .ensures) ∙ c .if1 .taken))
+returns c = ends-run (c .before .args .cause) (c .match .keys1)
 
 returns-2 : tie.Need-returns-2
-returns-2 c = rw (← c .before .number .ensures, eqb-no _ _ (c .if1 .left))
+returns-2 c = run-goes-on (c .before .args .cause) (c .match .keys2)
 
 pub ends-spec : {M : Type 1} → statement M
-ends-spec = tie.close (tie.spec (search needs) returns returns-2)
+ends-spec = tie.close (tie.spec returns returns-2)

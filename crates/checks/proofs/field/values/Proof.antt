@@ -1,16 +1,16 @@
+-- A scan for the first cell whose concentration is above the ceiling.
 use Prim.Native.Nat.{_≤_, _-_}
 use mathlib.Core.Path.{_≡_}
-use mathlib.Core.List.{[]}
 use borrow.Author.Needs.{needs}
 use borrow.Author.Tests.{not-true, not-false}
-use Rattle.model.specs.Mesh.{meshOf}
-use Rattle.model.specs.Causes.{fine, each, fieldValues, saltGood}
+use lib.ListN.{getD}
+use Rattle.model.specs.Causes.{fine, each, saltFit}
 use Rattle.model.proofs.Verdicts.{scan-start, scan-pass, scan-hit, scan-end}
 use Rattle.checks.proofs.field.values.Statement.{statement}
 use Rattle.checks.proofs.field.values.Tie as tie
 
 abbrev Inv-loop : tie.InvT-loop
-Inv-loop cells volumes masses c₀ c = (c ≤ cells) × (each 6 c (saltGood (meshOf cells 0 volumes [] [] [] []) masses) ≡ fine)
+Inv-loop cells volumes masses c₀ c = (c ≤ cells) × (each 6 c (λ k. saltFit (getD volumes k 0) (getD masses k 0)) ≡ fine)
 
 abbrev μ-loop : tie.MeasureT-loop
 μ-loop cells volumes masses c₀ c = cells - c
@@ -19,15 +19,12 @@ salt-fits-requires : tie.Need-salt-fits-requires Inv-loop μ-loop
 salt-fits-requires c κs = c .before .before .before .before .before .before .pre .1 (c .before .before .before .loop .c) (search needs)
 
 returns : tie.Need-returns Inv-loop μ-loop
-unfolding fieldValues saltGood
 returns c = scan-hit _ _ _ _ (search needs) (c .before .before .before .before .before .loop .inv .1) (c .before .salt-fits .ensures) (not-true _ (c .if1 .taken))
 
 loop-again : tie.Need-loop-again Inv-loop μ-loop
-unfolding saltGood
 loop-again c = (search needs, scan-pass _ _ _ (c .before .before .before .before .before .loop .inv .1) (c .before .salt-fits .ensures) (not-false _ (c .if1 .left)))
 
 returns-2 : tie.Need-returns-2 Inv-loop μ-loop
-unfolding fieldValues
 returns-2 c = scan-end _ _ _ _ (search needs) (search needs) (c .before .loop .inv .1)
 
 pub values-spec : {M : Type 1} → statement M

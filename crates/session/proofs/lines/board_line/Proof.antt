@@ -1,9 +1,27 @@
+use mathlib.Core.Path.{refl}
 use borrow.Author.Needs.{needs}
+use Rattle.text.proofs.Lines.{both}
+use Rattle.session.specs.Lines.{boardLine}
+use Rattle.session.proofs.Held.{board-held}
 use Rattle.session.proofs.lines.board_line.Statement.{statement}
 use Rattle.session.proofs.lines.board_line.Tie as tie
 
 returns : tie.Need-returns
-returns c = c .before .put-entry .ensures
+unfolding boardLine
+returns c =
+    let rest = c .before in
+    let q = rest .before .before .before in
+    let cell = q .before .before .before in
+    let letter = cell .before .before .before in
+    let args = letter .before .before .args in
+    board-held refl (args .cell) (args .q) (args .rest) (both _ (letter .mark .ensures) (both _ (cell .word .ensures) (both _ (q .word2 .ensures) (rest .word3 .ensures))))
 
 pub board-line-spec : {M : Type 1} → statement M
-board-line-spec = tie.close (tie.spec (search needs) (search needs) returns)
+board-line-spec =
+    tie.close
+    (tie.spec
+    (λ c. search needs) (λ c κs. search needs)
+    (λ c. search needs) (λ c κs. search needs)
+    (λ c. search needs) (λ c κs. search needs)
+    (λ c. search needs) (λ c κs. search needs)
+    returns)

@@ -1,11 +1,25 @@
-use native.Mathlib.Omega.{arith}
+use mathlib.Core.Path.{refl}
 use borrow.Author.Needs.{needs}
-use Rattle.io.proofs.Counting.{counts}
+use Rattle.text.proofs.Lines.{both}
+use Rattle.session.specs.Lines.{refusalLine}
+use Rattle.session.proofs.Held.{refusal-held}
 use Rattle.session.proofs.lines.refusal_line.Statement.{statement}
 use Rattle.session.proofs.lines.refusal_line.Tie as tie
 
 returns : tie.Need-returns
-returns c = (counts _ _ (omega (arith, c .before .refusal .ensures .0)), c .before .refusal .ensures .1)
+unfolding refusalLine
+returns c =
+    let place = c .before in
+    let number = place .before .before .before in
+    let letter = number .before .before .before in
+    let args = letter .before .before .args in
+    refusal-held refl (args .letter) (args .number) (args .place) (both _ (letter .mark .ensures) (both _ (number .word .ensures) (place .word2 .ensures)))
 
 pub refusal-line-spec : {M : Type 1} → statement M
-refusal-line-spec = tie.close (tie.spec (search needs) (search needs) returns)
+refusal-line-spec =
+    tie.close
+    (tie.spec
+    (λ c. search needs) (λ c κs. search needs)
+    (λ c. search needs) (λ c κs. search needs)
+    (λ c. search needs) (λ c κs. search needs)
+    returns)

@@ -1,9 +1,27 @@
+use mathlib.Core.Path.{refl}
 use borrow.Author.Needs.{needs}
+use Rattle.text.proofs.Lines.{both}
+use Rattle.session.specs.Lines.{stepLine}
+use Rattle.session.proofs.Held.{step-held}
 use Rattle.session.proofs.lines.step_line.Statement.{statement}
 use Rattle.session.proofs.lines.step_line.Tie as tie
 
 returns : tie.Need-returns
-returns c = c .before .put-step .ensures
+unfolding stepLine
+returns c =
+    let total = c .before in
+    let gone = total .before .before .before in
+    let entered = gone .before .before .before in
+    let step = entered .before .before .before in
+    let args = step .before .before .args in
+    step-held refl (args .step) (args .entered) (args .gone) (args .total) (both _ (step .word .ensures) (both _ (entered .word2 .ensures) (both _ (gone .word3 .ensures) (total .word4 .ensures))))
 
 pub step-line-spec : {M : Type 1} → statement M
-step-line-spec = tie.close (tie.spec (search needs) (search needs) returns)
+step-line-spec =
+    tie.close
+    (tie.spec
+    (λ c. search needs) (λ c κs. search needs)
+    (λ c. search needs) (λ c κs. search needs)
+    (λ c. search needs) (λ c κs. search needs)
+    (λ c. search needs) (λ c κs. search needs)
+    returns)

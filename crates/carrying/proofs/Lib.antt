@@ -1,0 +1,2 @@
+pub mod ConcentrationLaws
+pub mod CarryLaws

@@ -1,0 +1,122 @@
+// The four entries of a cell in the table lent as work, and what the passes do with them.
+use model::RIM;
+ghost use mathlib.Core.Path.{_≡_};
+ghost use mathlib.Core.Logic.{_≢_};
+ghost use Prim.Native.Nat.{_≤_, _<_, _+_, _-_, _*_, _^_, min, max};
+ghost use lib.ListN.{length, getD, set};
+ghost use Rattle.signed.specs.Sign.{withSign};
+ghost use Rattle.lists.specs.Table.{table};
+ghost use Rattle.model.specs.Mesh.{rim, maxCells};
+ghost use Rattle.cell.specs.Work.{ofCell, filled, widened, widenedAcross, allowancesOf, CellAsks};
+
+// In passes 1 and 2: the cell's concentration, and the least and the greatest in its neighbourhood.
+pub const Q: usize = 0;
+
+pub const LO: usize = 1;
+
+pub const HI: usize = 2;
+
+// From pass 3 on: the sum of corrections that enter, what the cell may lose and gain, the sum of those that leave.
+pub const P: usize = 0;
+
+pub const L: usize = 1;
+
+pub const G: usize = 2;
+
+pub const N: usize = 3;
+
+pub fn least_of(a: u64, b: u64) -> u64
+    ensures { λ r. ⌜ r ≡ min a b ⌝ }
+{
+    if a < b { a } else { b }
+}
+
+pub fn greatest_of(a: u64, b: u64) -> u64
+    ensures { λ r. ⌜ r ≡ max a b ⌝ }
+{
+    if a < b { b } else { a }
+}
+
+// The four entries of a cell written.
+pub fn fill(work: &mut [u64], c: usize, p: u64, l: u64, g: u64, n: u64)
+    requires { ⌜ (4 * c + 3 < length (now work)) × (c < maxCells) ⌝ }
+    ensures { λ _. ⌜ now (work .exit) ≡ filled (now (work .entry)) c p l g n ⌝ }
+{
+    let at = 4 * c;
+    work[at + P] = p;
+    work[at + L] = l;
+    work[at + G] = g;
+    work[at + N] = n;
+}
+
+// Cell c meets the concentration q: its least and greatest are widened.
+pub fn widen(work: &mut [u64], c: usize, q: u64)
+    requires { ⌜ (4 * c + 3 < length (now work)) × (c < maxCells) ⌝ }
+    ensures { λ _. ⌜ now (work .exit) ≡ widened (now (work .entry)) c q ⌝ }
+{
+    let at = 4 * c;
+    let least = at + LO;
+    let greatest = at + HI;
+    let lo = least_of(work[least], q);
+    let hi = greatest_of(work[greatest], q);
+    work[least] = lo;
+    work[greatest] = hi;
+}
+
+// Both cells of a face meet across it; a is the concentration of the first, b the one beyond the face.
+pub fn widen_across(
+    work: &mut [u64],
+    first: u64,
+    second: u64,
+    negative: bool,
+    size: u64,
+    a: u64,
+    b: u64,
+)
+    requires { ⌜ (4 * first + 3 < length (now work)) × (first < maxCells) ⌝ }
+    requires { ⌜ (second ≢ rim → (4 * second + 3 < length (now work)) × (second < maxCells)) ⌝ }
+    ensures { λ _. ⌜ now (work .exit) ≡ widenedAcross (now (work .entry)) first second (withSign negative size) a b ⌝ }
+{
+    if size == 0 {
+        return;
+    }
+    if second != RIM {
+        widen(work, first as usize, b);
+        widen(work, second as usize, a);
+        return;
+    }
+    if negative {
+        widen(work, first as usize, b);
+    }
+}
+
+// What a cell may lose and gain, from its bounds and its low-order mass; the sums of corrections start at 0.
+pub fn allowance_at(work: &mut [u64], c: usize, volume: u64, low: u64)
+    requires { ⌜ (4 * c + 3 < length (now work)) × (c < maxCells) ⌝ }
+    requires { ⌜ CellAsks volume low (ofCell (now work) c 1) (ofCell (now work) c 2) ⌝ }
+    ensures { λ _. ⌜ now (work .exit) ≡ allowancesOf (now (work .entry)) c volume low ⌝ }
+{
+    let at = 4 * c;
+    let loss = low - volume * work[at + LO];
+    let gain = volume * work[at + HI] + volume - 1 - low;
+    fill(work, c, 0, loss, gain, 0);
+}
+
+// An entry raised.
+pub fn raise(work: &mut [u64], at: usize, amount: u64)
+    requires { ⌜ (at < length (now work)) × (getD (now work) at 0 + amount < 2 ^ 64) ⌝ }
+    ensures { λ _. ⌜ now (work .exit) ≡ set (now (work .entry)) at (getD (now (work .entry)) at 0 + amount) ⌝ }
+{
+    work[at] = work[at] + amount;
+}
+
+// All entries 0.
+pub fn clear(work: &mut [u64])
+    ensures { λ _. ⌜ now (work .exit) ≡ table (length (now (work .entry))) (λ i. 0) ⌝ }
+{
+    let mut i = 0;
+    while i < work.len() {
+        work[i] = 0;
+        i += 1;
+    }
+}

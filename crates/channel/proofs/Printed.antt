@@ -1,0 +1,379 @@
+-- Document 01, "The board and the run", the channel session: its bytes, and what a run prints of them. Each record, each answer and each
+-- field is computed from the definitions; the laws before them put the parts together as `printed` does.
+use Prim.Native.Nat.{ℕ, suc, _+_, _≤_}
+use mathlib.Core.Path.{_≡_, refl, ap, _∙_}
+use mathlib.Core.Bool.{cond}
+use mathlib.Core.List.{List, [], _∷_, _++_}
+use lib.IntN.{ℤ, pos, negsuc}
+use native.Mathlib.Omega.{arith}
+use lib.ListN.{length, drop, length-append, length-drop, length-replicate}
+use lib.Seq.{drop-append-seam}
+use Rattle.lists.specs.Fold.{sum, least, greatest}
+use Rattle.lists.specs.Table.{table, over}
+use Rattle.lists.proofs.Tables.{length-table}
+use Rattle.model.specs.Mesh.{Mesh, runCells, runFaces, entering, leaving, incoming, outgoing, updated, total}
+use Rattle.model.specs.Step.{StepInput, portion, receiver, giver, limitedBy, concentration, beyond, upwind, downwind, carried, low, upwindShare, correction, adjacent, lo, hi, maxGain}
+use Rattle.model.specs.Step.{maxLoss, limited, moved, next, inMass, outMass}
+use Rattle.model.specs.Causes.{Outcome, accepted, Verdict, fine, Call, inputOf, workEntries, _andThen_, need, each, countsWithin, counts, meshTables, volumeGood, endsGood, spacingGood, meshValues}
+use Rattle.model.specs.Causes.{fieldTable, saltGood, fieldValues, meshFieldVerdict, stepTables, outsideGood, fluxGood, balanceGood, outflowGood, stepValues, verdict}
+use Rattle.model.proofs.Figures.{channel}
+use Rattle.bits.specs.Field.{bitAt, bitsAt}
+use Rattle.bits.specs.Layout.{bytesFor}
+use Rattle.records.specs.Layouts.{rimFaces, meshLength, fieldLength, stepLength}
+use Rattle.records.specs.Reading.{meshIn, volumesIn, firstsIn, secondsIn, sharesIn, reachesIn, massesIn, fluxesIn, outsidesIn, zeroBitGood, minusZero, meshBitGood, stepBitGood}
+use Rattle.records.specs.Reading.{meshHeadVerdict, fieldHeadVerdict, stepHeadVerdict, meshNeeds, fieldNeeds, stepNeeds, meshBodyVerdict, fieldBodyVerdict, stepBodyVerdict, fieldRead}
+use Rattle.records.specs.Reading.{stepRead}
+use Rattle.records.specs.declared.Counts.{Counts}
+use Rattle.board.specs.Board.{entryOf, comesBefore, insertInOrder, inOrder, entryAt, before, listed}
+use Rattle.taking.specs.Taking.{meshRecordFound, meshJudged, fieldJudged, stepJudged, stepIn, ownTables, blank, printedOf, massesAfter}
+use Rattle.taking.specs.declared.Printed.{Printed}
+use Rattle.text.specs.Digits.{digits}
+use Rattle.text.specs.Lines.{word, mark}
+use Rattle.session.specs.Lines.{refusalLine, stepLine, refusedStepLine, boardLine}
+use Rattle.session.specs.Session.{stepText, goesOnAfter}
+use Rattle.session.specs.Run.{recordAt, meshAt, fieldAt, stepAt, after, inTable, inTables, runMesh, boardLines, boardPrinted, stepSaid, fieldThen, stepsPrinted, fieldSaid, fromField}
+use Rattle.session.specs.Run.{fieldPrinted, meshSaidOf, fromMesh, printed}
+
+-- an accepted mesh, an accepted field and an accepted step: what is printed after them
+from-mesh : (input bs rest text : List ℕ) (counts : Counts) → meshAt input ≡ bs → after bs input ≡ rest → meshSaidOf bs ≡ accepted counts
+    → fieldPrinted (runMesh bs) rest ≡ text → printed input ≡ text
+unfolding printed
+from-mesh input bs rest text counts a r s e =
+    ap (λ (x : List ℕ). fromMesh (meshSaidOf x) (runMesh x) (after x input)) a ∙ ap (λ (x : List ℕ). fromMesh (meshSaidOf bs) (runMesh bs) x) r
+    ∙ ap (λ (o : Outcome Counts). fromMesh o (runMesh bs) rest) s ∙ e
+
+module _ (M : Mesh) where
+  from-field : (input bs rest text : List ℕ) (sum : ℕ) → fieldAt M input ≡ bs → after bs input ≡ rest → fieldSaid M bs ≡ accepted sum
+      → stepsPrinted M (length rest) 1 (inTable runCells (massesIn bs (M .cells))) rest ≡ text → fieldPrinted M input ≡ stepLine 0 0 0 sum ++ text
+  unfolding fieldPrinted
+  from-field input bs rest text sum a r s e =
+      ap (λ (x : List ℕ). fromField M (fieldSaid M x) (inTable runCells (massesIn x (M .cells))) (after x input)) a
+      ∙ ap (λ (x : List ℕ). fromField M (fieldSaid M bs) (inTable runCells (massesIn bs (M .cells))) x) r
+      ∙ ap (λ (o : Outcome ℕ). fromField M o (inTable runCells (massesIn bs (M .cells))) rest) s ∙ ap (λ (x : List ℕ). stepLine 0 0 0 sum ++ x) e
+
+  from-step : (most step b : ℕ) (masses masses′ input bs rest text : List ℕ) (p : Printed) → stepAt M (b ∷ input) ≡ bs → after bs (b ∷ input) ≡ rest
+      → stepSaid M masses bs ≡ accepted p → fieldThen M masses bs ≡ masses′ → stepsPrinted M most (step + 1) masses′ rest ≡ text
+      → stepsPrinted M (suc most) step masses (b ∷ input) ≡ stepLine step (p .entered) (p .gone) (p .total) ++ text
+  unfolding stepsPrinted
+  from-step most step b masses masses′ input bs rest text p a r s m e =
+      ap (λ (x : List ℕ). stepText step (stepSaid M masses x)
+      ++ cond (goesOnAfter (stepSaid M masses x)) (stepsPrinted M most (step + 1) (fieldThen M masses x) (after x (b ∷ input))) (boardPrinted M (fieldThen M masses x))) a
+      ∙ ap (λ (o : Outcome Printed). stepText step o ++ cond (goesOnAfter o) (stepsPrinted M most (step + 1) (fieldThen M masses bs) (after bs (b ∷ input))) (boardPrinted M (fieldThen M masses bs))) s
+      ∙ ap (λ (x : List ℕ). stepLine step (p .entered) (p .gone) (p .total) ++ stepsPrinted M most (step + 1) x (after bs (b ∷ input))) m
+      ∙ ap (λ (x : List ℕ). stepLine step (p .entered) (p .gone) (p .total) ++ stepsPrinted M most (step + 1) masses′ x) r
+      ∙ ap (λ (x : List ℕ). stepLine step (p .entered) (p .gone) (p .total) ++ x) e
+
+-- names for all that is computed through: to unfold one is to unfold what it names
+of-sums : Unit {0}
+unfolding sum least greatest table over
+of-sums = tt
+
+of-faces : Unit {0}
+unfolding entering leaving incoming outgoing updated total
+of-faces = tt
+
+of-step : Unit {0}
+unfolding portion receiver giver limitedBy concentration beyond upwind downwind carried low upwindShare correction adjacent lo hi maxGain maxLoss limited moved next inMass outMass
+of-step = tt
+
+of-causes : Unit {0}
+unfolding _andThen_ need each countsWithin counts meshTables volumeGood endsGood spacingGood meshValues fieldTable saltGood fieldValues meshFieldVerdict
+of-causes = tt
+
+of-step-causes : Unit {0}
+unfolding stepTables outsideGood fluxGood balanceGood outflowGood stepValues verdict
+of-step-causes = tt
+
+of-bits : Unit {0}
+unfolding bitAt bitsAt bytesFor rimFaces meshLength fieldLength stepLength
+of-bits = tt
+
+of-values : Unit {0}
+unfolding volumesIn firstsIn secondsIn sharesIn reachesIn massesIn fluxesIn outsidesIn zeroBitGood minusZero meshBitGood stepBitGood
+of-values = tt
+
+of-reading : Unit {0}
+unfolding meshHeadVerdict fieldHeadVerdict stepHeadVerdict meshNeeds fieldNeeds stepNeeds meshBodyVerdict fieldBodyVerdict stepBodyVerdict fieldRead stepRead
+of-reading = tt
+
+of-board : Unit {0}
+unfolding entryOf comesBefore insertInOrder inOrder entryAt before listed
+of-board = tt
+
+of-taking : Unit {0}
+unfolding meshRecordFound meshJudged fieldJudged stepJudged
+of-taking = tt
+
+of-lines : Unit {0}
+unfolding digits word mark refusalLine stepLine refusedStepLine boardLine
+of-lines = tt
+
+of-run : Unit {0}
+unfolding recordAt boardLines boardPrinted stepsPrinted fieldPrinted printed
+of-run = tt
+
+everything : Unit {0}
+unfolding of-sums of-faces of-step of-causes of-step-causes of-bits of-values of-reading of-board of-taking of-lines of-run
+everything = tt
+
+-- three cells of V 100; faces 0 to rim, 0 to 1, 1 to 2, 2 to rim; s 128, K 100
+abbrev pub channelMesh : List ℕ
+channelMesh = 16 ∷ 3 ∷ 0 ∷ 32 ∷ 6 ∷ 64 ∷ 100 ∷ 6 ∷ 64 ∷ 0 ∷ 255 ∷ 240 ∷ 0 ∷ 0 ∷ 0 ∷ 0 ∷ 1 ∷ 128 ∷ 6 ∷ 64 ∷ 1 ∷ 0 ∷ 40 ∷ 0 ∷ 100 ∷ 0 ∷ 47 ∷ 255 ∷ 0 ∷ 0 ∷ 0 ∷ []
+
+-- masses 100000, 0, 0
+abbrev pub channelField : List ℕ
+channelField = 32 ∷ 3 ∷ 0 ∷ 1 ∷ 134 ∷ 160 ∷ 0 ∷ 0 ∷ 0 ∷ 0 ∷ 0 ∷ 0 ∷ 0 ∷ 0 ∷ []
+
+-- U −50, 50, 50, 50; outside value 1000 at face 0
+abbrev pub channelStep : List ℕ
+channelStep = 48 ∷ 2 ∷ 0 ∷ 0 ∷ 129 ∷ 144 ∷ 12 ∷ 128 ∷ 100 ∷ 3 ∷ 32 ∷ 3 ∷ 232 ∷ 0 ∷ 0 ∷ 0 ∷ []
+
+abbrev pub channelInput : List ℕ
+channelInput = channelMesh ++ (channelField ++ (channelStep ++ channelStep))
+
+abbrev M : Mesh
+M = inTables channel
+
+-- the field at first, after step 1 and after step 2
+abbrev field₀ : List ℕ
+field₀ = inTable runCells (100000 ∷ 0 ∷ 0 ∷ [])
+
+abbrev field₁ : List ℕ
+field₁ = inTable runCells (100099 ∷ 49901 ∷ 0 ∷ [])
+
+abbrev field₂ : List ℕ
+field₂ = inTable runCells (100099 ∷ 81188 ∷ 18713 ∷ [])
+
+mesh-is : meshIn channelMesh ≡ channel
+unfolding everything
+mesh-is = refl
+
+mesh-said : meshSaidOf channelMesh ≡ accepted (record { cells = 3; faces = 4 })
+unfolding everything
+mesh-said = refl
+
+mesh-front : meshAt channelInput ≡ channelMesh
+unfolding everything
+mesh-front = refl
+
+field-front : fieldAt M (channelField ++ (channelStep ++ channelStep)) ≡ channelField
+unfolding everything
+field-front = refl
+
+field-is : massesIn channelField 3 ≡ 100000 ∷ 0 ∷ 0 ∷ []
+unfolding everything
+field-is = refl
+
+field-said : fieldSaid M channelField ≡ accepted 100000
+unfolding everything
+field-said = refl
+
+step-front₁ : stepAt M (channelStep ++ channelStep) ≡ channelStep
+unfolding everything
+step-front₁ = refl
+
+step-front₂ : stepAt M channelStep ≡ channelStep
+unfolding everything
+step-front₂ = refl
+
+-- the call that the step record makes
+abbrev call : Call
+call = ownTables (negsuc 49 ∷ pos 50 ∷ pos 50 ∷ pos 50 ∷ []) (1000 ∷ 0 ∷ 0 ∷ 0 ∷ [])
+
+fluxes-are : fluxesIn channelStep 4 ≡ negsuc 49 ∷ pos 50 ∷ pos 50 ∷ pos 50 ∷ []
+unfolding everything
+fluxes-are = refl
+
+outsides-are : outsidesIn channelStep 4 (M .seconds) ≡ 1000 ∷ 0 ∷ 0 ∷ 0 ∷ []
+unfolding everything
+outsides-are = refl
+
+read-fine : stepRead 4 (M .seconds) channelStep runFaces runFaces ≡ fine
+unfolding everything
+read-fine = refl
+
+call-is : stepIn M channelStep ≡ call
+call-is = rw (fluxes-are, outsides-are)
+
+-- a step of this call on a field of three masses over zeros
+module _ (masses masses′ : List ℕ) (p : Printed) (v : verdict M masses call ≡ fine) (said : printedOf M masses call ≡ p)
+    (moves : over (table 3 (next (inputOf M masses call))) masses ≡ masses′) where
+  judged : stepJudged M masses channelStep ≡ fine
+  unfolding stepJudged _andThen_
+  judged =
+      ap (λ (w : Verdict). w andThen verdict M masses (stepIn M channelStep)) read-fine ∙ ap (λ (k : Call). verdict M masses k) call-is ∙ v
+
+  step-said : stepSaid M masses channelStep ≡ accepted p
+  unfolding _andThen_
+  step-said =
+      ap (λ (w : Verdict). w andThen accepted (printedOf M masses (stepIn M channelStep))) judged
+      ∙ ap (λ (k : Call). accepted (printedOf M masses k)) call-is ∙ ap (λ (x : Printed). accepted x) said
+
+  field-then : fieldThen M masses channelStep ≡ masses′
+  field-then =
+      ap (λ (w : Verdict). massesAfter M masses w (stepIn M channelStep)) judged
+      ∙ ap (λ (k : Call). over (table 3 (next (inputOf M masses k))) masses) call-is ∙ moves
+
+-- a field written over another of as many cells
+over-field : (xs ys : List ℕ) → length xs ≡ length ys → over xs (inTable runCells ys) ≡ inTable runCells xs
+unfolding over
+over-field xs ys e = ap (λ (t : List ℕ). xs ++ t) (rw e (drop-append-seam ys (drop (length ys) (table runCells (λ i. 0)))))
+
+abbrev S₁ : StepInput
+S₁ = inputOf M field₀ call
+
+abbrev S₂ : StepInput
+S₂ = inputOf M field₁ call
+
+-- the tables are long enough: their lengths by law, since to count their entries takes long
+table-long : (n : ℕ) (xs : List ℕ) → length xs ≤ n → length (inTable n xs) ≡ n
+unfolding over
+table-long n xs h = rw (length-append, length-drop, length-table {A = ℕ} n (λ i. 0)) (omega arith)
+
+mesh-tables : meshTables M ≡ fine
+unfolding meshTables need _andThen_
+mesh-tables =
+    rw (
+      table-long runCells (channel .volumes) (omega arith),
+      table-long runFaces (channel .firsts) (omega arith),
+      table-long runFaces (channel .seconds) (omega arith),
+      table-long runFaces (channel .shares) (omega arith),
+      table-long runFaces (channel .reaches) (omega arith),
+    )
+
+blank-long : {A : Type 0} (n : ℕ) (x : A) → length (blank n x) ≡ n
+unfolding blank
+blank-long n x = length-replicate n x
+
+step-tables : (field : List ℕ) → stepTables M field call ≡ fine
+unfolding stepTables need _andThen_
+step-tables field = rw (blank-long {A = ℕ} runCells 0, blank-long {A = ℤ} runFaces (pos 0), blank-long {A = ℕ} (workEntries runCells runFaces) 0)
+
+counts-fine : counts M ≡ fine
+unfolding everything
+counts-fine = refl
+
+mesh-values : meshValues M ≡ fine
+unfolding everything
+mesh-values = refl
+
+field-table : (a b c : ℕ) → fieldTable M (inTable runCells (a ∷ b ∷ c ∷ [])) ≡ fine
+unfolding fieldTable need
+field-table a b c = rw (table-long runCells (a ∷ b ∷ c ∷ []) (omega arith))
+
+field-values₁ : fieldValues M field₀ ≡ fine
+unfolding everything
+field-values₁ = refl
+
+field-values₂ : fieldValues M field₁ ≡ fine
+unfolding everything
+field-values₂ = refl
+
+step-values₁ : stepValues M field₀ call ≡ fine
+unfolding everything
+step-values₁ = refl
+
+step-values₂ : stepValues M field₁ call ≡ fine
+unfolding everything
+step-values₂ = refl
+
+verdict₁ : verdict M field₀ call ≡ fine
+unfolding verdict _andThen_
+verdict₁ = rw (counts-fine, mesh-tables, field-table 100000 0 0, step-tables field₀, mesh-values, field-values₁, step-values₁)
+
+verdict₂ : verdict M field₁ call ≡ fine
+unfolding verdict _andThen_
+verdict₂ = rw (counts-fine, mesh-tables, field-table 100099 49901 0, step-tables field₁, mesh-values, field-values₂, step-values₂)
+
+next₁ : table 3 (next S₁) ≡ 100099 ∷ 49901 ∷ 0 ∷ []
+unfolding everything
+next₁ = refl
+
+next₂ : table 3 (next S₂) ≡ 100099 ∷ 81188 ∷ 18713 ∷ []
+unfolding everything
+next₂ = refl
+
+total₁ : total M (next S₁) ≡ 150000
+unfolding everything
+total₁ = refl
+
+total₂ : total M (next S₂) ≡ 200000
+unfolding everything
+total₂ = refl
+
+in₁ : inMass S₁ ≡ 50000
+unfolding everything
+in₁ = refl
+
+in₂ : inMass S₂ ≡ 50000
+unfolding everything
+in₂ = refl
+
+out₁ : outMass S₁ ≡ 0
+unfolding everything
+out₁ = refl
+
+out₂ : outMass S₂ ≡ 0
+unfolding everything
+out₂ = refl
+
+printed₁ : printedOf M field₀ call ≡ record { entered = 50000; gone = 0; total = 150000 }
+printed₁ = rw (in₁, out₁, total₁)
+
+printed₂ : printedOf M field₁ call ≡ record { entered = 50000; gone = 0; total = 200000 }
+printed₂ = rw (in₂, out₂, total₂)
+
+moves₁ : over (table 3 (next S₁)) field₀ ≡ field₁
+moves₁ = ap (λ (xs : List ℕ). over xs field₀) next₁ ∙ over-field (100099 ∷ 49901 ∷ 0 ∷ []) (100000 ∷ 0 ∷ 0 ∷ []) refl
+
+moves₂ : over (table 3 (next S₂)) field₁ ≡ field₂
+moves₂ = ap (λ (xs : List ℕ). over xs field₁) next₂ ∙ over-field (100099 ∷ 81188 ∷ 18713 ∷ []) (100099 ∷ 49901 ∷ 0 ∷ []) refl
+
+board-is : boardPrinted M field₂ ≡ boardLine 0 1000 99 ++ (boardLine 1 811 88 ++ boardLine 2 187 13)
+unfolding everything
+board-is = refl
+
+board-last : (most step : ℕ) → stepsPrinted M (suc most) step field₂ [] ≡ boardPrinted M field₂
+unfolding stepsPrinted
+board-last most step = refl
+
+abbrev channelLines : List ℕ
+channelLines = stepLine 0 0 0 100000 ++ (stepLine 1 50000 0 150000 ++ (stepLine 2 50000 0 200000 ++ (boardLine 0 1000 99 ++ (boardLine 1 811 88 ++ boardLine 2 187 13))))
+
+lines : printed channelInput ≡ channelLines
+lines =
+    let steps = channelStep ++ channelStep in
+    let said₂ = step-said field₁ field₂ _ verdict₂ printed₂ moves₂ in
+    let then₂ = field-then field₁ field₂ _ verdict₂ printed₂ moves₂ in
+    let step₂ = from-step M 30 2 48 field₁ field₂ _ channelStep [] _ _ step-front₂ refl said₂ then₂ (board-last 29 3 ∙ board-is) in
+    let said₁ = step-said field₀ field₁ _ verdict₁ printed₁ moves₁ in
+    let then₁ = field-then field₀ field₁ _ verdict₁ printed₁ moves₁ in
+    let step₁ = from-step M 31 1 48 field₀ field₁ _ channelStep channelStep _ _ step-front₁ refl said₁ then₁ step₂ in
+    let first = ap (λ (ms : List ℕ). stepsPrinted M 32 1 (inTable runCells ms) (channelStep ++ channelStep)) field-is ∙ step₁ in
+    let field = from-field M (channelField ++ steps) channelField steps _ 100000 field-front refl field-said first in
+    from-mesh channelInput channelMesh (channelField ++ steps) _ _ mesh-front refl mesh-said
+    (ap (λ (N : Mesh). fieldPrinted (inTables N) (channelField ++ steps)) mesh-is ∙ field)
+
+-- the six lines, byte by byte
+abbrev pub channelText : List ℕ
+channelText =
+    -- 0 0 0 100000
+    48 ∷ 32 ∷ 48 ∷ 32 ∷ 48 ∷ 32 ∷ 49 ∷ 48 ∷ 48 ∷ 48 ∷ 48 ∷ 48 ∷ 10 ∷
+    -- 1 50000 0 150000
+    49 ∷ 32 ∷ 53 ∷ 48 ∷ 48 ∷ 48 ∷ 48 ∷ 32 ∷ 48 ∷ 32 ∷ 49 ∷ 53 ∷ 48 ∷ 48 ∷ 48 ∷ 48 ∷ 10 ∷
+    -- 2 50000 0 200000
+    50 ∷ 32 ∷ 53 ∷ 48 ∷ 48 ∷ 48 ∷ 48 ∷ 32 ∷ 48 ∷ 32 ∷ 50 ∷ 48 ∷ 48 ∷ 48 ∷ 48 ∷ 48 ∷ 10 ∷
+    -- B 0 1000 99
+    66 ∷ 32 ∷ 48 ∷ 32 ∷ 49 ∷ 48 ∷ 48 ∷ 48 ∷ 32 ∷ 57 ∷ 57 ∷ 10 ∷
+    -- B 1 811 88
+    66 ∷ 32 ∷ 49 ∷ 32 ∷ 56 ∷ 49 ∷ 49 ∷ 32 ∷ 56 ∷ 56 ∷ 10 ∷
+    -- B 2 187 13
+    66 ∷ 32 ∷ 50 ∷ 32 ∷ 49 ∷ 56 ∷ 55 ∷ 32 ∷ 49 ∷ 51 ∷ 10 ∷
+    []
+
+text-is : channelLines ≡ channelText
+unfolding everything
+text-is = refl
+
+pub channel-printed : printed channelInput ≡ channelText
+channel-printed = lines ∙ text-is

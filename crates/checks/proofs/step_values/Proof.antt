@@ -1,0 +1,55 @@
+-- As `check_step`, of the causes of values: each group asks for what those before it have found.
+use mathlib.Core.Path.{sym, _∙_}
+use borrow.Author.Needs.{needs}
+use Rattle.model.specs.Mesh.{incoming, outgoing, entering, leaving}
+use Rattle.model.specs.Causes.{fieldValues, saltGood, outsideGood, fluxGood, balanceGood, outflowGood}
+use Rattle.model.proofs.Verdicts.{past, out, refuses, passes, both-are}
+use Rattle.checks.proofs.Laws.{in-groups, shape-asks, water-asks, field-asks, flows-ask}
+use Rattle.checks.proofs.step_values.Statement.{statement}
+use Rattle.checks.proofs.step_values.Tie as tie
+
+values-requires : tie.Need-values-requires
+values-requires c κs = shape-asks _ _ _ (c .before .before .before .before .before .before .before .pre)
+
+returns : tie.Need-returns
+returns c = sym (in-groups _ _ _ ∙ out _ (out _ (refuses (c .before .before .before .values .ensures) (c .before .a .given .1))))
+
+values-requires-2 : tie.Need-values-requires-2
+values-requires-2 c κs =
+    let s = c .before .before .before .before .before .before .before .before .before .before in
+    field-asks _ _ _ (s .pre) (passes (c .before .before .values .ensures) (c .enum-told .given .1))
+
+values-requires-3 : tie.Need-values-requires-3
+values-requires-3 c κs = water-asks _ _ _ (c .before .before .before .before .before .before .before .before .before .before .before .pre)
+
+returns-2 : tie.Need-returns-2
+unfolding fieldValues saltGood outsideGood fluxGood
+returns-2 c =
+    let tested = c .before .before .before in
+    let shaped = tested .before .before .before in
+    let mesh = passes (shaped .before .before .values .ensures) (shaped .enum-told .given .1) in
+    let water = both-are (tested .and-then .ensures) (tested .before .before .values2 .ensures) (tested .before .values3 .ensures) in
+    sym (in-groups _ _ _ ∙ out _ (past _ mesh ∙ refuses water (c .before .b .given .1)))
+
+values-requires-4 : tie.Need-values-requires-4
+unfolding fieldValues saltGood outsideGood fluxGood
+values-requires-4 c κs =
+    let tested = c .before .before in
+    let shaped = tested .before .before .before in
+    let mesh = passes (shaped .before .before .values .ensures) (shaped .enum-told .given .1) in
+    let water = both-are (tested .and-then .ensures) (tested .before .before .values2 .ensures) (tested .before .values3 .ensures) in
+    flows-ask _ _ _ (shaped .before .before .before .before .before .before .before .before .before .before .pre) mesh (passes water (c .enum-told2 .given .1))
+
+returns-3 : tie.Need-returns-3
+unfolding fieldValues saltGood outsideGood fluxGood balanceGood outflowGood incoming outgoing entering leaving
+returns-3 c =
+    let tested = c .before .before .before in
+    let shaped = tested .before .before .before in
+    let mesh = passes (shaped .before .before .values .ensures) (shaped .enum-told .given .1) in
+    let water = both-are (tested .and-then .ensures) (tested .before .before .values2 .ensures) (tested .before .values3 .ensures) in
+    c .values4 .ensures ∙ sym (in-groups _ _ _ ∙ past _ (past _ mesh ∙ passes water (c .before .enum-told2 .given .1)))
+
+pub step-values-spec : {M : Type 1} → statement M
+step-values-spec =
+    tie.close
+    (tie.spec values-requires (search needs) returns (search needs) values-requires-2 values-requires-3 (search needs) (search needs) returns-2 (search needs) values-requires-4 returns-3)

@@ -1,0 +1,4 @@
+pub mod Places
+pub mod Corrections
+pub mod Transfers
+pub mod Flows

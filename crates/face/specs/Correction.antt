@@ -1,0 +1,25 @@
+-- Document 01, "One step", stage 2, for one face, and the one number in which a pass keeps a correction.
+use Prim.Native.Nat.{ℕ, _+_, _-_, _*_, _/_, _%_}
+use mathlib.Core.Bool.{cond}
+use lib.Dec.{eqb}
+use lib.IntN.{ℤ, pos, _-ℤ_, _*ℤ_}
+use lib.Signed.{quotZ}
+use Rattle.signed.specs.Sign.{size, isNegative, withSign}
+
+-- the way between two numbers
+abbrev pub gap : ℕ → ℕ → ℕ
+gap a b = (a - b) + (b - a)
+
+-- Stage 2: the correction of an interior face with flux z, share s and reach k, between concentrations a of its first and b of its second cell
+unfoldable pub correctionOf : ℤ → ℕ → ℕ → ℕ → ℕ → ℤ
+correctionOf z a b s k =
+    quotZ
+    (z *ℤ (pos (cond (isNegative z) a b) -ℤ pos (cond (isNegative z) b a)) *ℤ (pos (cond (isNegative z) (256 - s) s * k) -ℤ pos (128 * size z)))
+    (pos (256 * k))
+
+-- a correction in one entry: twice its size, and one more where it is below 0
+abbrev pub coded : ℤ → ℕ
+coded z = 2 * size z + cond (isNegative z) 1 0
+
+abbrev pub decoded : ℕ → ℤ
+decoded n = withSign (eqb (n % 2) 1) (n / 2)

@@ -1,0 +1,84 @@
+// The antidiffusive correction of a face, stage 2, in one number.
+use model::RIM;
+ghost use mathlib.Core.Path.{_≡_};
+ghost use mathlib.Core.Bool.{cond};
+ghost use mathlib.Core.Logic.{_≢_};
+ghost use Prim.Native.Nat.{_≤_, _<_, _+_, _-_, _*_, _/_};
+ghost use lib.Dec.{eqb, leb, ltb};
+ghost use Rattle.signed.specs.Sign.{withSign};
+ghost use Rattle.model.specs.Mesh.{rim, maxShare, maxReach, maxConcentration};
+ghost use Rattle.model.specs.Accepted.{maxCarried};
+ghost use Rattle.face.specs.Correction.{coded, gap, correctionOf};
+
+// The way between two numbers.
+pub fn gap_of(a: u64, b: u64) -> u64
+    ensures { λ r. ⌜ r ≡ gap a b ⌝ }
+{
+    if a < b { b - a } else { a - b }
+}
+
+// The way from the upwind centre to the face, in 1/256 of the way between centres.
+pub fn upwind_share(negative: bool, share: u64) -> u64
+    requires { ⌜ share ≤ maxShare ⌝ }
+    ensures { λ r. ⌜ r ≡ cond negative (256 - share) share ⌝ }
+{
+    if negative { 256 - share } else { share }
+}
+
+// Whether a correction runs from the second cell to the first: the product of the signs of its factors.
+pub fn runs_back(a: u64, b: u64, way: u64, drift: u64) -> bool
+    ensures { λ r. ⌜ r ≡ cond (ltb b a) (leb drift way) (ltb way drift) ⌝ }
+{
+    if b < a { drift <= way } else { way < drift }
+}
+
+// The size of a correction, where the flux is at most the reach.
+pub fn correction_size(size: u64, a: u64, b: u64, way: u64, reach: u64) -> u64
+    requires { ⌜ (size ≤ reach) × (a ≤ maxConcentration) × (b ≤ maxConcentration) × (way ≤ 256 * reach) × (1 ≤ reach) × (reach ≤ maxReach) ⌝ }
+    ensures { λ r. ⌜ (r ≡ size * gap a b * gap way (128 * size) / (256 * reach)) × (r ≤ maxCarried) ⌝ }
+{
+    let drop = gap_of(a, b);
+    let rest = gap_of(way, 128 * size);
+    size * drop * rest / (256 * reach)
+}
+
+// A signed amount in one number.
+pub fn code(negative: bool, amount: u64) -> u64
+    requires { ⌜ amount ≤ maxCarried ⌝ }
+    ensures { λ r. ⌜ r ≡ coded (withSign negative amount) ⌝ }
+{
+    if amount == 0 {
+        return 0;
+    }
+    if negative { 2 * amount + 1 } else { 2 * amount }
+}
+
+// The correction of an interior face, in one number.
+pub fn correction_code(negative: bool, size: u64, a: u64, b: u64, share: u64, reach: u64) -> u64
+    requires { ⌜ (size ≤ reach) × (a ≤ maxConcentration) × (b ≤ maxConcentration) × (share ≤ maxShare) × (1 ≤ reach) × (reach ≤ maxReach) ⌝ }
+    ensures { λ r. ⌜ r ≡ coded (correctionOf (withSign negative size) a b share reach) ⌝ }
+{
+    let way = upwind_share(negative, share) * reach;
+    let amount = correction_size(size, a, b, way, reach);
+    let back = runs_back(a, b, way, 128 * size);
+    code(back, amount)
+}
+
+// A face's correction in one number; there is none at the rim.
+pub fn face_code(
+    second: u64,
+    negative: bool,
+    size: u64,
+    a: u64,
+    b: u64,
+    share: u64,
+    reach: u64,
+) -> u64
+    requires { ⌜ (a ≤ maxConcentration) × (b ≤ maxConcentration) × (share ≤ maxShare) × (reach ≤ maxReach) × (second ≢ rim → size ≤ reach) × (second ≢ rim → 1 ≤ reach) ⌝ }
+    ensures { λ r. ⌜ r ≡ cond (eqb second rim) 0 (coded (correctionOf (withSign negative size) a b share reach)) ⌝ }
+{
+    if second == RIM {
+        return 0;
+    }
+    correction_code(negative, size, a, b, share, reach)
+}

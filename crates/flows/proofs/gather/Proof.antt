@@ -1,0 +1,74 @@
+-- Each turn adds a face's flux at the end that the water reaches and at the end that it leaves: the tables stay sums over the faces passed.
+use Prim.Native.Nat.{_+_, _-_, _≤_, _<_}
+use mathlib.Core.Path.{_≡_, sym, ap, _∙_}
+use native.Mathlib.Omega.{arith}
+use borrow.Author.Needs.{needs}
+use lib.IntN.{pos}
+use lib.ListN.{length, getD}
+use Rattle.lists.specs.Fold.{sum}
+use Rattle.lists.specs.Table.{table}
+use Rattle.lists.proofs.Tables.{length-table}
+use Rattle.model.specs.Mesh.{maxCells, entering, leaving, incoming, outgoing}
+use Rattle.model.specs.Causes.{facesOnly}
+use Rattle.flows.proofs.Gathering.{in-asks, in-turn, out-asks, out-turn}
+use Rattle.flows.proofs.gather.Statement.{statement}
+use Rattle.flows.proofs.gather.Tie as tie
+
+abbrev Inv-loop : tie.InvT-loop
+Inv-loop faces firsts seconds fluxes inflow₀ outflow₀ f₀ inflow outflow f =
+    (f ≤ faces)
+    × (inflow ≡ table (maxCells + 1) (λ c. sum f (entering (facesOnly faces firsts seconds) (λ k. getD fluxes k (pos 0)) c)))
+    × (outflow ≡ table (maxCells + 1) (λ c. sum f (leaving (facesOnly faces firsts seconds) (λ k. getD fluxes k (pos 0)) c)))
+
+abbrev μ-loop : tie.MeasureT-loop
+μ-loop faces firsts seconds fluxes inflow₀ outflow₀ f₀ inflow outflow f = faces - f
+
+loop-holds : tie.Need-loop-holds Inv-loop μ-loop
+unfolding sum
+loop-holds c = let s = c .before .before .before .before in (search needs, s .pre .1 .1 .0, s .pre .1 .1 .1)
+
+add-at-requires : tie.Need-add-at-requires Inv-loop μ-loop
+add-at-requires c κs =
+    let s = c .before .before .before .before .before .before .before .before .before .before .before .before in
+    let l = c .before .before .before .before .before .before .before .loop in
+    in-asks (s .args .faces) (s .args .firsts .now) (s .args .seconds .now) (s .args .fluxes .now) (s .pre .0 .0) (s .pre .1 .0) (l .f) (search needs)
+    _ _ (c .before .before .before .before .before .is-negative-at .ensures) (c .before .before .before .before .size-at .ensures) _ _ (c .receiver .ensures) (l .inv .1)
+
+add-at-requires-2 : tie.Need-add-at-requires-2 Inv-loop μ-loop
+add-at-requires-2 c κs =
+    let s = c .before .before .before .before .before .before .before .before .before .before .before .before .before .before .before .before .before in
+    let l = c .before .before .before .before .before .before .before .before .before .before .before .before .loop in
+    out-asks (s .args .faces) (s .args .firsts .now) (s .args .seconds .now) (s .args .fluxes .now) (s .pre .0 .0) (s .pre .1 .0) (l .f) (search needs)
+    _ _ (c .before .before .before .before .before .before .before .before .before .before .is-negative-at .ensures) (c .before .before .before .before .before .before .before .before .before .size-at .ensures) _ _ (c .giver .ensures) (l .inv .2)
+
+loop-again : tie.Need-loop-again Inv-loop μ-loop
+loop-again c =
+    let s = c .before .before .before .before .before .before .before .before .before .before .before .before .before .before .before .before .before .before .before .before in
+    let l = c .before .before .before .before .before .before .before .before .before .before .before .before .before .before .before .loop in
+    let less : l .f < s .args .faces = omega arith in
+    let n = c .before .before .before .before .before .before .before .before .before .before .before .before .before .is-negative-at .ensures in
+    let z = c .before .before .before .before .before .before .before .before .before .before .before .before .size-at .ensures in (
+      search needs,
+      in-turn (s .args .faces) (s .args .firsts .now) (s .args .seconds .now) (s .args .fluxes .now) (s .pre .0 .0) (s .pre .1 .0) (l .f) less
+          _ _ n z _ _ (c .before .before .before .before .before .before .before .before .receiver .ensures) (l .inv .1) _ (c .before .before .before .before .before .before .before .add-at .ensures),
+      out-turn (s .args .faces) (s .args .firsts .now) (s .args .seconds .now) (s .args .fluxes .now) (s .pre .0 .0) (s .pre .1 .0) (l .f) less
+          _ _ n z _ _ (c .before .before .before .giver .ensures) (l .inv .2) _ (c .before .before .add-at2 .ensures),
+    )
+
+same-length : tie.Need-same-length Inv-loop μ-loop
+same-length c = ap length (c .before .loop .inv .1) ∙ length-table _ _ ∙ sym (ap length (c .before .before .before .before .before .before .pre .1 .1 .0) ∙ length-table _ _)
+
+same-length-2 : tie.Need-same-length-2 Inv-loop μ-loop
+same-length-2 c = ap length (c .before .loop .inv .2) ∙ length-table _ _ ∙ sym (ap length (c .before .before .before .before .before .before .pre .1 .1 .1) ∙ length-table _ _)
+
+returns : tie.Need-returns Inv-loop μ-loop
+unfolding incoming outgoing
+returns c =
+    let e : c .before .loop .f ≡ c .before .before .before .before .before .before .args .faces = omega arith in
+    (rw e at (c .before .loop .inv .1), rw e at (c .before .loop .inv .2))
+
+pub gather-spec : {M : Type 1} → statement M
+gather-spec =
+    tie.close
+    (tie.spec Inv-loop μ-loop loop-holds (search needs) (search needs) (search needs) (search needs) (search needs) (search needs) (search needs)
+    add-at-requires (search needs) add-at-requires-2 (search needs) (search needs) loop-again same-length same-length-2 returns)

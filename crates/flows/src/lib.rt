@@ -1,0 +1,199 @@
+// Causes 9 and 10: the inflow and the outflow of each cell, gathered in arrays of their own.
+use model::Answer;
+use model::Cause;
+use model::Refusal;
+use model::needs::and_then;
+use signed::is_negative_at;
+use signed::size_at;
+ghost use mathlib.Core.Path.{_≡_};
+ghost use mathlib.Core.Bool.{cond};
+ghost use Prim.Native.Nat.{ℕ, _+_, _≤_, _<_, _^_};
+ghost use lib.Dec.{eqb, leb};
+ghost use lib.IntN.{pos};
+ghost use lib.ListN.{length, getD, set};
+ghost use Rattle.lists.specs.Table.{table};
+ghost use Rattle.signed.specs.Sign.{size as sizeOf};
+ghost use Rattle.model.specs.Mesh.{maxCells, maxFaces, rim, maxRimFlux, incoming, outgoing};
+ghost use Rattle.model.specs.Causes.{_andThen_, each, facesOnly};
+ghost use Rattle.model.specs.Answers.{said};
+
+// One entry for each cell, and one at the rim's mark: a rim face needs no case of its own.
+const ENDS: usize = model::MAX_CELLS + 1;
+
+// The end of a face that the water reaches.
+pub fn receiver(negative: bool, first: u64, second: u64) -> u64
+    ensures { λ r. ⌜ r ≡ cond negative first second ⌝ }
+{
+    if negative {
+        return first;
+    }
+    second
+}
+
+// The end of a face that the water leaves.
+pub fn giver(negative: bool, first: u64, second: u64) -> u64
+    ensures { λ r. ⌜ r ≡ cond negative second first ⌝ }
+{
+    if negative {
+        return second;
+    }
+    first
+}
+
+// x added to one entry.
+pub fn add_at(xs: &mut [u64], i: u64, x: u64)
+    requires { ⌜ (i < length (now xs)) × (getD (now xs) i 0 + x < 2 ^ 64) ⌝ }
+    ensures { λ _. ⌜ now (xs .exit) ≡ set (now (xs .entry)) i (getD (now (xs .entry)) i 0 + x) ⌝ }
+{
+    let k = i as usize;
+    xs[k] = xs[k] + x;
+}
+
+// What each face lets into one end and out of the other.
+pub fn gather(
+    faces: usize,
+    firsts: &[u64],
+    seconds: &[u64],
+    fluxes: &[i64],
+    inflow: &mut [u64],
+    outflow: &mut [u64],
+)
+    requires { ⌜ (faces ≤ maxFaces)
+        × (faces ≤ length (now firsts))
+        × (faces ≤ length (now seconds))
+        × (faces ≤ length (now fluxes)) ⌝ }
+    requires { ⌜ ((f : ℕ) → f < faces
+        → (getD (now firsts) f 0 ≤ rim)
+        × (getD (now seconds) f 0 ≤ rim)
+        × (sizeOf (getD (now fluxes) f (pos 0)) ≤ maxRimFlux)) ⌝ }
+    requires { ⌜ (now inflow ≡ table (maxCells + 1) (λ c. 0)) × (now outflow ≡ table (maxCells + 1) (λ c. 0)) ⌝ }
+    ensures { λ _. ⌜
+        (now (inflow .exit) ≡ table (maxCells + 1) (incoming (facesOnly faces (now (firsts .entry)) (now (seconds .entry))) (λ f. getD (now (fluxes .entry)) f (pos 0))))
+        × (now (outflow .exit) ≡ table (maxCells + 1) (outgoing (facesOnly faces (now (firsts .entry)) (now (seconds .entry))) (λ f. getD (now (fluxes .entry)) f (pos 0))))
+        ⌝ }
+{
+    let mut f = 0;
+    while f < faces {
+        let negative = is_negative_at(fluxes, f);
+        let size = size_at(fluxes, f);
+        let first = firsts[f];
+        let second = seconds[f];
+        add_at(inflow, receiver(negative, first, second), size);
+        add_at(outflow, giver(negative, first, second), size);
+        f += 1;
+    }
+}
+
+// Cause 9.
+pub fn balanced(cells: usize, inflow: &[u64], outflow: &[u64]) -> Answer
+    requires { ⌜ (cells ≤ length (now inflow)) × (cells ≤ length (now outflow)) ⌝ }
+    ensures { λ r. ⌜ said r ≡ each 9 cells (λ c. eqb (getD (now (inflow .entry)) c 0) (getD (now (outflow .entry)) c 0)) ⌝ }
+{
+    let mut c = 0;
+    while c < cells {
+        if inflow[c] != outflow[c] {
+            return Answer::Refused(Refusal {
+                cause: Cause::Balance,
+                place: c as u64,
+            });
+        }
+        c += 1;
+    }
+    Answer::Done
+}
+
+// Cause 10.
+pub fn outflow_fits(cells: usize, volumes: &[u64], outflow: &[u64]) -> Answer
+    requires { ⌜ (cells ≤ length (now volumes)) × (cells ≤ length (now outflow)) ⌝ }
+    ensures { λ r. ⌜ said r ≡ each 10 cells (λ c. leb (getD (now (outflow .entry)) c 0) (getD (now (volumes .entry)) c 0)) ⌝ }
+{
+    let mut c = 0;
+    while c < cells {
+        if volumes[c] < outflow[c] {
+            return Answer::Refused(Refusal {
+                cause: Cause::Outflow,
+                place: c as u64,
+            });
+        }
+        c += 1;
+    }
+    Answer::Done
+}
+
+// Causes 9 and 10 in their order, on arrays of zeros.
+pub fn values_in(
+    cells: usize,
+    faces: usize,
+    volumes: &[u64],
+    firsts: &[u64],
+    seconds: &[u64],
+    fluxes: &[i64],
+    inflow: &mut [u64],
+    outflow: &mut [u64],
+) -> Answer
+    requires { ⌜ (cells ≤ maxCells)
+        × (faces ≤ maxFaces)
+        × (cells ≤ length (now volumes))
+        × (faces ≤ length (now firsts))
+        × (faces ≤ length (now seconds))
+        × (faces ≤ length (now fluxes)) ⌝ }
+    requires { ⌜ ((f : ℕ) → f < faces
+        → (getD (now firsts) f 0 ≤ rim)
+        × (getD (now seconds) f 0 ≤ rim)
+        × (sizeOf (getD (now fluxes) f (pos 0)) ≤ maxRimFlux)) ⌝ }
+    requires { ⌜ (now inflow ≡ table (maxCells + 1) (λ c. 0)) × (now outflow ≡ table (maxCells + 1) (λ c. 0)) ⌝ }
+    ensures { λ r. ⌜ said r ≡ (
+        each 9 cells (λ c. eqb
+        (incoming (facesOnly faces (now (firsts .entry)) (now (seconds .entry))) (λ f. getD (now (fluxes .entry)) f (pos 0)) c)
+        (outgoing (facesOnly faces (now (firsts .entry)) (now (seconds .entry))) (λ f. getD (now (fluxes .entry)) f (pos 0)) c))
+        andThen each 10 cells (λ c. leb
+        (outgoing (facesOnly faces (now (firsts .entry)) (now (seconds .entry))) (λ f. getD (now (fluxes .entry)) f (pos 0)) c)
+        (getD (now (volumes .entry)) c 0))
+        ) ⌝ }
+{
+    gather(faces, firsts, seconds, fluxes, inflow, outflow);
+    let a = balanced(cells, inflow, outflow);
+    and_then(a, outflow_fits(cells, volumes, outflow))
+}
+
+// The same: the arrays are this function's own, so that no lent table is written.
+pub fn values(
+    cells: usize,
+    faces: usize,
+    volumes: &[u64],
+    firsts: &[u64],
+    seconds: &[u64],
+    fluxes: &[i64],
+) -> Answer
+    requires { ⌜ (cells ≤ maxCells)
+        × (faces ≤ maxFaces)
+        × (cells ≤ length (now volumes))
+        × (faces ≤ length (now firsts))
+        × (faces ≤ length (now seconds))
+        × (faces ≤ length (now fluxes)) ⌝ }
+    requires { ⌜ ((f : ℕ) → f < faces
+        → (getD (now firsts) f 0 ≤ rim)
+        × (getD (now seconds) f 0 ≤ rim)
+        × (sizeOf (getD (now fluxes) f (pos 0)) ≤ maxRimFlux)) ⌝ }
+    ensures { λ r. ⌜ said r ≡ (
+        each 9 cells (λ c. eqb
+        (incoming (facesOnly faces (now (firsts .entry)) (now (seconds .entry))) (λ f. getD (now (fluxes .entry)) f (pos 0)) c)
+        (outgoing (facesOnly faces (now (firsts .entry)) (now (seconds .entry))) (λ f. getD (now (fluxes .entry)) f (pos 0)) c))
+        andThen each 10 cells (λ c. leb
+        (outgoing (facesOnly faces (now (firsts .entry)) (now (seconds .entry))) (λ f. getD (now (fluxes .entry)) f (pos 0)) c)
+        (getD (now (volumes .entry)) c 0))
+        ) ⌝ }
+{
+    let mut inflow = [0u64; ENDS];
+    let mut outflow = [0u64; ENDS];
+    values_in(
+        cells,
+        faces,
+        volumes,
+        firsts,
+        seconds,
+        fluxes,
+        &mut inflow,
+        &mut outflow,
+    )
+}

@@ -1,0 +1,3 @@
+pub mod CorrectionLaws
+pub mod SumLaws
+pub mod LimiterLaws

@@ -1,0 +1,203 @@
+-- Entries past the counts mean nothing: steps that agree below their counts are alike, each cell and face with its own number, and so
+-- have the same stages; scans of tests that agree find the same, so they have the same verdicts and answers.
+use Prim.Native.Nat.{ℕ, _≤_, _<_}
+use mathlib.Core.Path.{_≡_, refl, sym, ap, ap₂, _∙_}
+use mathlib.Core.Bool.{Bool, true, false, cond}
+use mathlib.Core.List.{List}
+use native.Mathlib.Omega.{arith}
+use lib.Dec.{eqb}
+use lib.IntN.{ℤ, pos}
+use Rattle.lists.specs.Fold.{sum}
+use Rattle.lists.specs.Renumbering.{unmoved}
+use Rattle.lists.specs.Table.{table, over}
+use Rattle.lists.proofs.Tests.{Same, same, same?}
+use Rattle.lists.proofs.Sums.{sum-cong}
+use Rattle.lists.proofs.Tables.{table-cong}
+use Rattle.model.specs.Mesh.{Mesh, first, second, rim, entering, leaving, incoming, outgoing, total}
+use Rattle.model.specs.Step.{StepInput, flux, lo, hi, moved, next, inMass, outMass}
+use Rattle.model.specs.Alike.{straight, AlikeEnds, Alike, AgreeMesh, Agree}
+use Rattle.model.specs.Causes.{accepted, refused, Verdict, fine, _andThen_, taken, each, Call, inputOf, counts, meshTables, fieldTable, stepTables, meshValues, volumeGood, endsGood, spacingGood, fieldValues, fieldVerdict, saltGood, stepValues, outsideGood, fluxGood, balanceGood, outflowGood, verdict}
+use Rattle.model.specs.Calls.{massIn, Bounded, Left, crossingOf, corrected, stepAnswer, nextTable, movedTable}
+use Rattle.model.specs.Accepted.{MeshFit}
+use Rattle.model.proofs.Verdicts.{each-cong}
+use Rattle.model.proofs.Accepted.{ready}
+use Rattle.model.proofs.Lists.{Fair}
+use Rattle.model.proofs.AlikeStages.{lo-alike, hi-alike, moved-alike, next-alike, in-mass-alike, out-mass-alike}
+
+whole : (k : ℕ) → k ≡ cond (eqb k rim) rim k
+whole k = go (eqb k rim) (same? k rim)
+  where
+    go : (b : Bool) → Same k rim b → k ≡ cond b rim k
+    go true (same e) = e
+    go false s = refl
+
+-- faces that join the same cells
+pub same-ends : (M M′ : Mesh) → M′ .cells ≡ M .cells → M′ .faces ≡ M .faces → ((f : ℕ) → f < M .faces → (first M′ f ≡ first M f) × (second M′ f ≡ second M f))
+    → AlikeEnds M M′ (unmoved (M .cells)) (unmoved (M .faces)) (λ f. false)
+same-ends M M′ c n ends = record { cells-same = c; faces-same = n; facing = λ f l. straight (ends f l .0) (ends f l .1 ∙ whole (second M f)) }
+
+agree-alike : (S S′ : StepInput) → Agree S S′ → Alike S S′ (unmoved (S .mesh .cells)) (unmoved (S .mesh .faces)) (λ f. false)
+agree-alike S S′ g = let m = g .mesh-agrees in record {
+  mesh-alike = record {
+    ends-alike = same-ends (S .mesh) (S′ .mesh) (m .cells-same) (m .faces-same) (λ f l. (m .firsts f l, m .seconds f l));
+    volume-same = m .volumes;
+    share-same = m .shares;
+    reach-same = m .reaches;
+  };
+  mass-same = g .masses;
+  flux-same = g .fluxes;
+  outside-same = g .outsides;
+}
+
+-- the stages
+module _ (S S′ : StepInput) (few : S .mesh .cells ≤ rim) (fit : MeshFit (S .mesh)) (g : Agree S S′) where
+  pub lo-agree : (c : ℕ) → c < S .mesh .cells → lo S′ c ≡ lo S c
+  lo-agree = lo-alike S S′ few fit _ _ _ (agree-alike S S′ g)
+
+  pub hi-agree : (c : ℕ) → c < S .mesh .cells → hi S′ c ≡ hi S c
+  hi-agree = hi-alike S S′ few fit _ _ _ (agree-alike S S′ g)
+
+  pub moved-agree : (f : ℕ) → f < S .mesh .faces → moved S′ f ≡ moved S f
+  moved-agree = moved-alike S S′ few fit _ _ _ (agree-alike S S′ g)
+
+  pub next-agree : (c : ℕ) → c < S .mesh .cells → next S′ c ≡ next S c
+  next-agree = next-alike S S′ few fit _ _ _ (agree-alike S S′ g)
+
+  pub in-agree : inMass S′ ≡ inMass S
+  in-agree = in-mass-alike S S′ few fit _ _ _ (agree-alike S S′ g)
+
+  pub out-agree : outMass S′ ≡ outMass S
+  out-agree = out-mass-alike S S′ few fit _ _ _ (agree-alike S S′ g)
+
+-- what enters and leaves rests on the faces' ends and amounts alone, of any mesh
+module _ (M M′ : Mesh) (same-faces : M′ .faces ≡ M .faces)
+    (ends : (f : ℕ) → f < M .faces → (first M′ f ≡ first M f) × (second M′ f ≡ second M f))
+    (x x′ : ℕ → ℤ) (same-amounts : (f : ℕ) → f < M .faces → x′ f ≡ x f) where
+  pub incoming-agree : (c : ℕ) → incoming M′ x′ c ≡ incoming M x c
+  unfolding incoming entering
+  incoming-agree c = ap (λ (n : ℕ). sum n (entering M′ x′ c)) same-faces ∙ sum-cong (M .faces) _ _ (λ f l. rw (ends f l .0, ends f l .1, same-amounts f l))
+
+  pub outgoing-agree : (c : ℕ) → outgoing M′ x′ c ≡ outgoing M x c
+  unfolding outgoing leaving
+  outgoing-agree c = ap (λ (n : ℕ). sum n (leaving M′ x′ c)) same-faces ∙ sum-cong (M .faces) _ _ (λ f l. rw (ends f l .0, ends f l .1, same-amounts f l))
+
+-- a scan of tests that agree finds the same, at the same place
+each-agree : (k n : ℕ) {n′ : ℕ} (good good′ : ℕ → Bool) → n′ ≡ n → ((i : ℕ) → i < n → good′ i ≡ good i) → each k n′ good′ ≡ each k n good
+each-agree k n good good′ e h = ap (λ (m : ℕ). each k m good′) e ∙ each-cong k n good′ good h
+
+-- causes 3 to 5
+module _ (M M′ : Mesh) (g : AgreeMesh M M′) where
+  pub mesh-values-agree : meshValues M′ ≡ meshValues M
+  unfolding meshValues volumeGood endsGood spacingGood
+  mesh-values-agree = rw (
+    each-agree 3 (M .cells) (volumeGood M) (volumeGood M′) (g .cells-same) (λ c h. rw (g .volumes c h)),
+    each-agree 4 (M .faces) (endsGood M) (endsGood M′) (g .faces-same) (λ f l. rw (g .cells-same, g .firsts f l, g .seconds f l)),
+    each-agree 5 (M .faces) (spacingGood M) (spacingGood M′) (g .faces-same) (λ f l. rw (g .seconds f l, g .shares f l, g .reaches f l)),
+  )
+
+  -- cause 6
+  pub field-values-agree : (field field′ : List ℕ) → ((c : ℕ) → c < M .cells → massIn field′ c ≡ massIn field c) → fieldValues M′ field′ ≡ fieldValues M field
+  unfolding fieldValues saltGood
+  field-values-agree field field′ same-masses =
+      each-agree 6 (M .cells) (saltGood M field) (saltGood M′ field′) (g .cells-same) (λ c h. rw (same-masses c h, g .volumes c h))
+
+  pub field-verdict-agree : (field : List ℕ) → fieldVerdict M′ field ≡ fieldVerdict M field
+  unfolding fieldVerdict fieldTable
+  field-verdict-agree field = rw (field-values-agree field field (λ c h. refl), g .cells-same)
+
+  total-agree : (m m′ : ℕ → ℕ) → ((c : ℕ) → c < M .cells → m′ c ≡ m c) → total M′ m′ ≡ total M m
+  unfolding total
+  total-agree m m′ same-masses = ap (λ (n : ℕ). sum n m′) (g .cells-same) ∙ sum-cong (M .cells) m′ m same-masses
+
+-- the same mesh and water, with another field
+pub field-agrees : (M : Mesh) (k : Call) (field field′ : List ℕ) → ((c : ℕ) → c < M .cells → massIn field′ c ≡ massIn field c) → Agree (inputOf M field k) (inputOf M field′ k)
+field-agrees M k field field′ same-masses = record {
+  mesh-agrees = record {
+    cells-same = refl;
+    faces-same = refl;
+    volumes = λ c h. refl;
+    firsts = λ f l. refl;
+    seconds = λ f l. refl;
+    shares = λ f l. refl;
+    reaches = λ f l. refl;
+  };
+  masses = same-masses;
+  fluxes = λ f l. refl;
+  outsides = λ f l. refl;
+}
+
+module _ (M M′ : Mesh) (field field′ : List ℕ) (k k′ : Call) (g : Agree (inputOf M field k) (inputOf M′ field′ k′)) where
+  abbrev S : StepInput
+  S = inputOf M field k
+
+  abbrev S′ : StepInput
+  S′ = inputOf M′ field′ k′
+
+  abbrev m : AgreeMesh M M′
+  m = g .mesh-agrees
+
+  inflow-agree : (c : ℕ) → incoming M′ (flux S′) c ≡ incoming M (flux S) c
+  inflow-agree = incoming-agree M M′ (m .faces-same) (λ f l. (m .firsts f l, m .seconds f l)) (flux S) (flux S′) (g .fluxes)
+
+  outflow-agree : (c : ℕ) → outgoing M′ (flux S′) c ≡ outgoing M (flux S) c
+  outflow-agree = outgoing-agree M M′ (m .faces-same) (λ f l. (m .firsts f l, m .seconds f l)) (flux S) (flux S′) (g .fluxes)
+
+  -- causes 7 to 10
+  pub step-values-agree : stepValues M′ field′ k′ ≡ stepValues M field k
+  unfolding stepValues outsideGood fluxGood balanceGood outflowGood
+  step-values-agree = rw (
+    each-agree 7 (M .faces) (outsideGood M field k) (outsideGood M′ field′ k′) (m .faces-same) (λ f l. rw (m .seconds f l, g .fluxes f l, g .outsides f l)),
+    each-agree 8 (M .faces) (fluxGood M field k) (fluxGood M′ field′ k′) (m .faces-same) (λ f l. rw (m .seconds f l, m .reaches f l, g .fluxes f l)),
+    each-agree 9 (M .cells) (balanceGood M field k) (balanceGood M′ field′ k′) (m .cells-same) (λ c h. rw (inflow-agree c, outflow-agree c)),
+    each-agree 10 (M .cells) (outflowGood M field k) (outflowGood M′ field′ k′) (m .cells-same) (λ c h. rw (outflow-agree c, m .volumes c h)),
+  )
+
+  -- where cause 2 finds the same too, as in tables that are all long enough
+  module _ (mesh-lent : meshTables M′ ≡ meshTables M) (field-lent : fieldTable M′ field′ ≡ fieldTable M field) (call-lent : stepTables M′ field′ k′ ≡ stepTables M field k) where
+    pub verdict-agree : verdict M′ field′ k′ ≡ verdict M field k
+    unfolding verdict counts
+    verdict-agree = rw (mesh-lent, field-lent, call-lent, mesh-values-agree M M′ m, field-values-agree M M′ m field field′ (g .masses), step-values-agree, m .cells-same, m .faces-same)
+
+    -- what an accepted call makes of the stages is the same; a refused one makes nothing of them
+    after-agree : {A : Type 0} (x x′ y y′ : A) → (verdict M field k ≡ fine → x′ ≡ x) → y′ ≡ y → taken (verdict M′ field′ k′) x′ y′ ≡ taken (verdict M field k) x y
+    after-agree x x′ y y′ d q = rw (verdict-agree, q) (go (verdict M field k) refl)
+      where
+        go : (v : Verdict) → verdict M field k ≡ v → taken v x′ y ≡ taken v x y
+        go (accepted t) e = d e
+        go (refused i j) e = refl
+
+    pub answer-agree : stepAnswer corrected M′ k′ field′ ≡ stepAnswer corrected M k field
+    unfolding stepAnswer _andThen_
+    answer-agree = rw verdict-agree (go (verdict M field k) refl)
+      where
+        go : (v : Verdict) → verdict M field k ≡ v → (v andThen accepted (crossingOf S′)) ≡ (v andThen accepted (crossingOf S))
+        go (accepted t) e = let r = ready M field k e in rw (in-agree S S′ (r .counts-fit .few-cells) (r .fit) g, out-agree S S′ (r .counts-fit .few-cells) (r .fit) g)
+        go (refused i j) e = refl
+
+    pub next-table-agree : k′ .nexts ≡ k .nexts → nextTable corrected M′ k′ field′ ≡ nextTable corrected M k field
+    unfolding nextTable next
+    next-table-agree e = after-agree _ _ _ _ (λ v. ap₂ (λ (t ys : List ℕ). over t ys) (nexts v) e) e
+      where
+        nexts : verdict M field k ≡ fine → table (M′ .cells) (next S′) ≡ table (M .cells) (next S)
+        nexts v = let r = ready M field k v in
+            ap (λ (n : ℕ). table n (next S′)) (m .cells-same) ∙ table-cong 0 (M .cells) (next S′) (next S) (next-agree S S′ (r .counts-fit .few-cells) (r .fit) g)
+
+    pub moved-table-agree : k′ .moveds ≡ k .moveds → movedTable corrected M′ k′ field′ ≡ movedTable corrected M k field
+    unfolding movedTable
+    moved-table-agree e = after-agree _ _ _ _ (λ v. ap₂ (λ (t ys : List ℤ). over t ys) (moveds v) e) e
+      where
+        moveds : verdict M field k ≡ fine → table (M′ .faces) (moved S′) ≡ table (M .faces) (moved S)
+        moveds v = let r = ready M field k v in
+            ap (λ (n : ℕ). table n (moved S′)) (m .faces-same) ∙ table-cong (pos 0) (M .faces) (moved S′) (moved S) (moved-agree S S′ (r .counts-fit .few-cells) (r .fit) g)
+
+  -- what an accepted call owes of the one, it owes of the other
+  module _ (few : M .cells ≤ rim) (fit : MeshFit M) where
+    bounded-agree : (after : List ℕ) → Bounded S′ after → Bounded S after
+    bounded-agree after b c h = let p = b c (rw (m .cells-same) h) in rw (m .volumes c h, lo-agree S S′ few fit g c h, hi-agree S S′ few fit g c h) at p
+
+    pub fair-agree : (l : Left) → Fair M′ (Bounded S′ (l .field)) field′ l → Fair M (Bounded S (l .field)) field l
+    fair-agree l f = record {
+      budget = omega (arith, f .budget, total-agree M M′ m (massIn field) (massIn field′) (g .masses), total-agree M M′ m (massIn (l .field)) (massIn (l .field)) (λ c h. refl));
+      holds = bounded-agree (l .field) (f .holds);
+      field-accepted = sym (field-verdict-agree M M′ m (l .field)) ∙ f .field-accepted;
+    }

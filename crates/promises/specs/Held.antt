@@ -1,0 +1,31 @@
+-- Document 01, "A list of steps": records that hold a mesh and a field.
+use Prim.Native.Nat.{ℕ, _<_}
+use mathlib.Core.Path.{_≡_}
+use mathlib.Core.List.{List}
+use lib.ListN.{getD}
+use Rattle.lists.specs.Table.{table}
+use Rattle.model.specs.Mesh.{Mesh, meshOf, volume, first, second, share, reach, maxCells, maxFaces}
+use Rattle.model.specs.Causes.{accepted, fine}
+use Rattle.model.specs.Calls.{massIn}
+use Rattle.records.specs.Reading.{meshIn, massesIn, meshRead, fieldRead}
+
+-- a list of bytes, as a record is
+abbrev pub Bytes : List ℕ → Type 0
+Bytes bs = (j : ℕ) → getD bs j 0 < 256
+
+-- a mesh and a field with their tables cut to the counts
+abbrev pub cut : Mesh → Mesh
+cut M = meshOf (M .cells) (M .faces) (table (M .cells) (volume M)) (table (M .faces) (first M)) (table (M .faces) (second M)) (table (M .faces) (share M)) (table (M .faces) (reach M))
+
+abbrev pub cutField : Mesh → List ℕ → List ℕ
+cutField M field = table (M .cells) (massIn field)
+
+-- A record holds a mesh: reading accepts it, into tables of its counts, and what is read are the counted entries.
+pub record HoldsMesh (M : Mesh) (bs : List ℕ) : Type 0 where
+  pub mesh-read : meshRead maxCells maxFaces bs (M .cells) (M .faces) (M .faces) (M .faces) (M .faces) ≡ accepted (record { cells = M .cells; faces = M .faces })
+  pub mesh-held : meshIn bs ≡ cut M
+
+-- and so a field on it
+pub record HoldsField (M : Mesh) (field bs : List ℕ) : Type 0 where
+  pub field-read : fieldRead (M .cells) bs (M .cells) ≡ fine
+  pub field-held : massesIn bs (M .cells) ≡ cutField M field

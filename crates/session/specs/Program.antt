@@ -1,0 +1,85 @@
+-- What the run program does, call by call. Each fact is the contract of the call that run/src makes at that place; the order is the
+-- program's. Of reading and writing no contract can speak: it is taken here that a read gives the next bytes of the input, fewer only where
+-- it ends, and that a write prints what it is lent.
+use Prim.Native.Nat.{ℕ, _+_, _<_}
+use mathlib.Core.Path.{_≡_}
+use mathlib.Core.Bool.{true, false}
+use mathlib.Core.List.{List, [], _∷_, _++_}
+use lib.ListN.{length, take, drop}
+use Rattle.lists.specs.Table.{table}
+use Rattle.model.specs.Mesh.{Mesh, meshOf, runCells, runFaces}
+use Rattle.model.specs.Causes.{Outcome}
+use Rattle.model.specs.Answers.{number}
+use Rattle.model.specs.declared.Refusal.{Refusal}
+use Rattle.checks.specs.declared.TotalAnswer.the-variants as total
+use Rattle.bits.specs.Layout.{bytesFor}
+use Rattle.records.specs.Layouts.{meshHeadBits, fieldHeadBits, stepHeadBits}
+use Rattle.records.specs.Reading.{meshNeeds, fieldNeeds, stepNeeds}
+use Rattle.records.specs.Answers.{lengthSaid}
+use Rattle.records.specs.declared.Counts.{Counts}
+use Rattle.records.specs.declared.LengthAnswer.{LengthAnswer}
+use Rattle.records.specs.declared.MeshAnswer.the-variants as mesh
+use Rattle.board.specs.Board.{BoardIs}
+use Rattle.board.specs.declared.Entry.{Entry}
+use Rattle.board.specs.declared.BoardAnswer.{BoardAnswer}
+use Rattle.taking.specs.Taking.{MeshTaking, FieldTaking, StepTaking}
+use Rattle.taking.specs.declared.StepTaken.{StepTaken}
+use Rattle.session.specs.Lines.{letterM, letterF, refusalLine, stepLine, boardLine}
+use Rattle.session.specs.Session.{Holds, stillNeeded, lineOf, goesOn}
+use Rattle.session.specs.declared.Line.{Line}
+
+-- reading.rt: the head, what `records` says of it, what `session::rest` says is still to come.
+pub record Reads (head : ℕ) (needs : List ℕ → Outcome ℕ) (input bs : List ℕ) : Type 0 where
+  pub answer : LengthAnswer
+  pub more : ℕ
+  pub asked : lengthSaid answer ≡ needs (take head input)
+  pub rest : more ≡ stillNeeded (lengthSaid answer) (length (take head input))
+  pub read : bs ≡ take head input ++ take more (drop (length (take head input)) input)
+
+-- `print`: the counted bytes of a line.
+abbrev pub shown : Line → List ℕ
+shown line = take (line .used) (line .bytes)
+
+-- board_lines.rt: what `board` answers, and a line for each entry used.
+pub data EntriesPrint : List Entry → List ℕ → Type 0 where
+  none : EntriesPrint [] []
+  one : (line : Line) {e : Entry} {es : List Entry} {out : List ℕ} → Holds line (boardLine (e .cell) (e .q) (e .rest)) → EntriesPrint es out
+      → EntriesPrint (e ∷ es) (shown line ++ out)
+
+pub record BoardPrints (M : Mesh) (masses out : List ℕ) : Type 0 where
+  pub answer : BoardAnswer
+  pub board : BoardIs (M .cells) (M .volumes) masses answer
+  pub lines : EntriesPrint (take (answer .used) (answer .entries)) out
+
+-- `steps`: a record is read; where no byte came, or after a refusal that ends the run, the board; else another step.
+pub data StepsPrint (M : Mesh) : ℕ → List ℕ → List ℕ → List ℕ → Type 0 where
+  no-byte : {step : ℕ} {masses input out : List ℕ} (bs : List ℕ) → Reads (bytesFor stepHeadBits) (stepNeeds (M .faces) (M .seconds)) input bs
+      → length bs ≡ 0 → BoardPrints M masses out → StepsPrint M step masses input out
+  step-ends : {step : ℕ} {masses input masses′ out : List ℕ} (bs : List ℕ) (r : StepTaken) (line : Line)
+      → Reads (bytesFor stepHeadBits) (stepNeeds (M .faces) (M .seconds)) input bs → 0 < length bs
+      → StepTaking M masses bs r masses′ → Holds line (lineOf step r) → false ≡ goesOn r
+      → BoardPrints M masses′ out → StepsPrint M step masses input (shown line ++ out)
+  step-goes-on : {step : ℕ} {masses input masses′ out : List ℕ} (bs : List ℕ) (r : StepTaken) (line : Line)
+      → Reads (bytesFor stepHeadBits) (stepNeeds (M .faces) (M .seconds)) input bs → 0 < length bs
+      → StepTaking M masses bs r masses′ → Holds line (lineOf step r) → true ≡ goesOn r
+      → StepsPrint M (step + 1) masses′ (drop (length bs) input) out → StepsPrint M step masses input (shown line ++ out)
+
+-- `run_on`: the field, in a table of zeros; refused, it has the only line; else the line of step 0 and the steps.
+pub data FieldPrints (M : Mesh) (input : List ℕ) : List ℕ → Type 0 where
+  field-refused : (bs masses : List ℕ) (refusal : Refusal) (line : Line) → Reads (bytesFor fieldHeadBits) (fieldNeeds (M .cells)) input bs
+      → FieldTaking (M .cells) (M .volumes) bs (table runCells (λ i. 0)) (total.Refused refusal) masses
+      → Holds line (refusalLine letterF (number (refusal .cause)) (refusal .place)) → FieldPrints M input (shown line)
+  field-accepted : {out : List ℕ} (bs masses : List ℕ) (sum : ℕ) (line : Line) → Reads (bytesFor fieldHeadBits) (fieldNeeds (M .cells)) input bs
+      → FieldTaking (M .cells) (M .volumes) bs (table runCells (λ i. 0)) (total.Total sum) masses
+      → Holds line (stepLine 0 0 0 sum) → StepsPrint M 1 masses (drop (length bs) input) out → FieldPrints M input (shown line ++ out)
+
+-- `main`: the mesh, in tables of zeros; refused, it has the only line.
+pub data Prints (input : List ℕ) : List ℕ → Type 0 where
+  mesh-refused : (bs volumes firsts seconds shares reaches : List ℕ) (refusal : Refusal) (line : Line) → Reads (bytesFor meshHeadBits) (meshNeeds runCells runFaces) input bs
+      → MeshTaking bs (table runCells (λ i. 0)) (table runFaces (λ i. 0)) (table runFaces (λ i. 0)) (table runFaces (λ i. 0)) (table runFaces (λ i. 0))
+      (mesh.Refused refusal) volumes firsts seconds shares reaches
+      → Holds line (refusalLine letterM (number (refusal .cause)) (refusal .place)) → Prints input (shown line)
+  mesh-accepted : {out : List ℕ} (bs volumes firsts seconds shares reaches : List ℕ) (counts : Counts) → Reads (bytesFor meshHeadBits) (meshNeeds runCells runFaces) input bs
+      → MeshTaking bs (table runCells (λ i. 0)) (table runFaces (λ i. 0)) (table runFaces (λ i. 0)) (table runFaces (λ i. 0)) (table runFaces (λ i. 0))
+      (mesh.Read counts) volumes firsts seconds shares reaches
+      → FieldPrints (meshOf (counts .cells) (counts .faces) volumes firsts seconds shares reaches) (drop (length bs) input) out → Prints input out

@@ -1,0 +1,95 @@
+-- Document 01, "The board and the run": what a run prints of the bytes that it reads.
+use Prim.Native.Nat.{ℕ, zero, suc, _+_}
+use mathlib.Core.Bool.{cond}
+use mathlib.Core.List.{List, [], _∷_, _++_, map}
+use lib.ListN.{length, take, drop}
+use Rattle.lists.specs.Table.{table, over}
+use Rattle.model.specs.Mesh.{Mesh, meshOf, total, runCells, runFaces}
+use Rattle.model.specs.Causes.{Outcome, accepted, refused, _andThen_, taken, cellsOnly}
+use Rattle.model.specs.Calls.{massIn}
+use Rattle.bits.specs.Layout.{bytesFor}
+use Rattle.records.specs.Layouts.{meshHeadBits, fieldHeadBits, stepHeadBits}
+use Rattle.records.specs.Reading.{meshIn, countsIn, massesIn, meshNeeds, fieldNeeds, stepNeeds}
+use Rattle.records.specs.declared.Counts.{Counts}
+use Rattle.board.specs.Board.{entryAt, listed, boardVerdict}
+use Rattle.board.specs.declared.Entry.{Entry}
+use Rattle.taking.specs.Taking.{meshJudged, fieldJudged, stepJudged, stepIn, printedOf, massesAfter}
+use Rattle.taking.specs.declared.Printed.{Printed}
+use Rattle.session.specs.Lines.{letterM, letterF, refusalLine, stepLine, boardLine}
+use Rattle.session.specs.Session.{stillNeeded, stepText, goesOnAfter}
+
+-- The run's tables are as long as its limits and 0 at first. Entries past the counts mean nothing.
+abbrev pub inTable : ℕ → List ℕ → List ℕ
+inTable n xs = over xs (table n (λ i. 0))
+
+-- READING. A record is its head and as many bytes as that asks for; where the input ends before, what there is, which is cause 11.
+unfoldable pub recordAt : ℕ → (List ℕ → Outcome ℕ) → List ℕ → List ℕ
+recordAt head needs input = take (length (take head input) + stillNeeded (needs (take head input)) (length (take head input))) input
+
+abbrev pub meshAt : List ℕ → List ℕ
+meshAt input = recordAt (bytesFor meshHeadBits) (meshNeeds runCells runFaces) input
+
+abbrev pub fieldAt : Mesh → List ℕ → List ℕ
+fieldAt M input = recordAt (bytesFor fieldHeadBits) (fieldNeeds (M .cells)) input
+
+abbrev pub stepAt : Mesh → List ℕ → List ℕ
+stepAt M input = recordAt (bytesFor stepHeadBits) (stepNeeds (M .faces) (M .seconds)) input
+
+-- what is left of the input after a record
+abbrev pub after : List ℕ → List ℕ → List ℕ
+after bs input = drop (length bs) input
+
+-- THE BOARD: a line for each entry used.
+unfoldable pub boardLines : List Entry → List ℕ
+boardLines [] = []
+boardLines (e ∷ es) = boardLine (e .cell) (e .q) (e .rest) ++ boardLines es
+
+module _ (M : Mesh) where
+  unfoldable pub boardPrinted : List ℕ → List ℕ
+  boardPrinted masses = taken (boardVerdict (M .volumes) masses (M .cells)) (boardLines (map (entryAt (M .volumes) masses) (listed (M .volumes) masses (M .cells)))) []
+
+  -- THE STEPS, until no byte is left. A refused one is numbered too, and moves nothing; 11 and 13 end the run. The board comes last.
+  -- There are no more steps than the input has bytes.
+  abbrev pub stepSaid : List ℕ → List ℕ → Outcome Printed
+  stepSaid masses bs = stepJudged M masses bs andThen accepted (printedOf M masses (stepIn M bs))
+
+  abbrev pub fieldThen : List ℕ → List ℕ → List ℕ
+  fieldThen masses bs = massesAfter M masses (stepJudged M masses bs) (stepIn M bs)
+
+  unfoldable pub stepsPrinted : ℕ → ℕ → List ℕ → List ℕ → List ℕ
+  stepsPrinted zero step masses input = boardPrinted masses
+  stepsPrinted (suc most) step masses [] = boardPrinted masses
+  stepsPrinted (suc most) step masses (b ∷ bs) =
+      stepText step (stepSaid masses (stepAt M (b ∷ bs)))
+      ++ cond (goesOnAfter (stepSaid masses (stepAt M (b ∷ bs))))
+      (stepsPrinted most (step + 1) (fieldThen masses (stepAt M (b ∷ bs))) (after (stepAt M (b ∷ bs)) (b ∷ bs)))
+      (boardPrinted (fieldThen masses (stepAt M (b ∷ bs))))
+
+  -- THE FIELD. Refused, it has the only line; else its total is the line of step 0.
+  abbrev pub fieldSaid : List ℕ → Outcome ℕ
+  fieldSaid bs = fieldJudged (M .cells) (M .volumes) bs runCells andThen accepted (total (cellsOnly (M .cells) (M .volumes)) (massIn (massesIn bs (M .cells))))
+
+  abbrev pub fromField : Outcome ℕ → List ℕ → List ℕ → List ℕ
+  fromField (accepted sum) masses input = stepLine 0 0 0 sum ++ stepsPrinted (length input) 1 masses input
+  fromField (refused i j) masses input = refusalLine letterF i j
+
+  unfoldable pub fieldPrinted : List ℕ → List ℕ
+  fieldPrinted input = fromField (fieldSaid (fieldAt M input)) (inTable runCells (massesIn (fieldAt M input) (M .cells))) (after (fieldAt M input) input)
+
+-- THE MESH. Refused, it has the only line.
+abbrev pub inTables : Mesh → Mesh
+inTables M = meshOf (M .cells) (M .faces) (inTable runCells (M .volumes)) (inTable runFaces (M .firsts)) (inTable runFaces (M .seconds))
+    (inTable runFaces (M .shares)) (inTable runFaces (M .reaches))
+
+abbrev pub runMesh : List ℕ → Mesh
+runMesh bs = inTables (meshIn bs)
+
+abbrev pub meshSaidOf : List ℕ → Outcome Counts
+meshSaidOf bs = meshJudged bs runCells runFaces runFaces runFaces runFaces andThen accepted (countsIn bs)
+
+abbrev pub fromMesh : Outcome Counts → Mesh → List ℕ → List ℕ
+fromMesh (accepted counts) M input = fieldPrinted M input
+fromMesh (refused i j) M input = refusalLine letterM i j
+
+unfoldable pub printed : List ℕ → List ℕ
+printed input = fromMesh (meshSaidOf (meshAt input)) (runMesh (meshAt input)) (after (meshAt input) input)

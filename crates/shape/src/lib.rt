@@ -1,0 +1,122 @@
+// Causes 3 to 5: the values of the mesh tables.
+use model::Answer;
+use model::Cause;
+use model::Refusal;
+use model::needs::and_then;
+use model::needs::between;
+ghost use mathlib.Core.Path.{_≡_};
+ghost use Prim.Native.Nat.{_≤_};
+ghost use lib.ListN.{length, getD};
+ghost use Rattle.model.specs.Mesh.{meshOf};
+ghost use Rattle.model.specs.Causes.{each, volumeFits, endsFit, spacingFit, meshValues};
+ghost use Rattle.model.specs.Answers.{said};
+
+// Cause 3.
+fn volumes_good(cells: usize, volumes: &[u64]) -> Answer
+    requires { ⌜ cells ≤ length (now volumes) ⌝ }
+    ensures { λ r. ⌜ said r ≡ each 3 cells (λ c. volumeFits (getD (now (volumes .entry)) c 0)) ⌝ }
+{
+    let mut c = 0;
+    while c < cells {
+        if !between(1, model::MAX_VOLUME, volumes[c]) {
+            return Answer::Refused(Refusal {
+                cause: Cause::Volume,
+                place: c as u64,
+            });
+        }
+        c += 1;
+    }
+    Answer::Done
+}
+
+// One face's ends: the first a cell, the second a cell or the rim, and not the same.
+fn ends_fit(cells: u64, first: u64, second: u64) -> bool
+    ensures { λ r. ⌜ r ≡ endsFit cells first second ⌝ }
+{
+    if cells <= first {
+        return false;
+    }
+    if first == second {
+        return false;
+    }
+    if second < cells {
+        return true;
+    }
+    second == model::RIM
+}
+
+// Cause 4.
+fn ends_good(cells: usize, faces: usize, firsts: &[u64], seconds: &[u64]) -> Answer
+    requires { ⌜ (faces ≤ length (now firsts)) × (faces ≤ length (now seconds)) ⌝ }
+    ensures { λ r. ⌜ said r ≡ each 4 faces (λ f. endsFit cells (getD (now (firsts .entry)) f 0) (getD (now (seconds .entry)) f 0)) ⌝ }
+{
+    let mut f = 0;
+    while f < faces {
+        if !ends_fit(cells as u64, firsts[f], seconds[f]) {
+            return Answer::Refused(Refusal {
+                cause: Cause::Ends,
+                place: f as u64,
+            });
+        }
+        f += 1;
+    }
+    Answer::Done
+}
+
+// One face's share and reach: both 0 at the rim, both in their ranges inside.
+fn spacing_fits(second: u64, share: u64, reach: u64) -> bool
+    ensures { λ r. ⌜ r ≡ spacingFit second share reach ⌝ }
+{
+    if second == model::RIM {
+        if share == 0 {
+            return reach == 0;
+        }
+        return false;
+    }
+    if between(1, model::MAX_SHARE, share) {
+        return between(1, model::MAX_REACH, reach);
+    }
+    false
+}
+
+// Cause 5.
+fn spacing_good(faces: usize, seconds: &[u64], shares: &[u64], reaches: &[u64]) -> Answer
+    requires { ⌜ (faces ≤ length (now seconds)) × (faces ≤ length (now shares)) × (faces ≤ length (now reaches)) ⌝ }
+    ensures { λ r. ⌜ said r ≡ each 5 faces
+        (λ f. spacingFit (getD (now (seconds .entry)) f 0) (getD (now (shares .entry)) f 0) (getD (now (reaches .entry)) f 0)) ⌝ }
+{
+    let mut f = 0;
+    while f < faces {
+        if !spacing_fits(seconds[f], shares[f], reaches[f]) {
+            return Answer::Refused(Refusal {
+                cause: Cause::Spacing,
+                place: f as u64,
+            });
+        }
+        f += 1;
+    }
+    Answer::Done
+}
+
+// Causes 3 to 5 in their order.
+pub fn values(
+    cells: usize,
+    faces: usize,
+    volumes: &[u64],
+    firsts: &[u64],
+    seconds: &[u64],
+    shares: &[u64],
+    reaches: &[u64],
+) -> Answer
+    requires { ⌜ (cells ≤ length (now volumes))
+        × (faces ≤ length (now firsts))
+        × (faces ≤ length (now seconds))
+        × (faces ≤ length (now shares))
+        × (faces ≤ length (now reaches)) ⌝ }
+    ensures { λ r. ⌜ said r ≡ meshValues
+        (meshOf cells faces (now (volumes .entry)) (now (firsts .entry)) (now (seconds .entry)) (now (shares .entry)) (now (reaches .entry))) ⌝ }
+{
+    let a = volumes_good(cells, volumes);
+    let a = and_then(a, ends_good(cells, faces, firsts, seconds));
+    and_then(a, spacing_good(faces, seconds, shares, reaches))
+}

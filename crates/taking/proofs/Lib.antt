@@ -1,0 +1,4 @@
+pub mod Parts
+pub mod MeshLaws
+pub mod FieldLaws
+pub mod StepLaws

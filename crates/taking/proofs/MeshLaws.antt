@@ -1,0 +1,163 @@
+-- What a mesh record comes to, from what the calls that `take_mesh` and `keep` make promise. What is read has tables as long as its counts,
+-- within the run's limits; so of the verdict on it only the values are left.
+use Prim.Native.Nat.{ℕ, _≤_}
+use mathlib.Core.Path.{_≡_, refl, sym, ap, _∙_}
+use mathlib.Core.List.{List}
+use native.Mathlib.Omega.{arith}
+use borrow.Author.Tests.{leb-true, le-leb}
+use lib.Dec.{leb}
+use lib.ListN.{length, take}
+use Rattle.lists.specs.Table.{over}
+use Rattle.lists.proofs.Tests.{both-true, true-both}
+use Rattle.lists.proofs.Tables.{length-table}
+use Rattle.model.specs.Mesh.{Mesh, meshOf, runCells, runFaces, maxCells, maxFaces}
+use Rattle.model.specs.Causes.{accepted, refused, Verdict, fine, _andThen_, countsWithin, counts, meshTables, meshValues, meshVerdict}
+use Rattle.model.specs.Answers.{number}
+use Rattle.model.specs.declared.Refusal.{Refusal}
+use Rattle.model.proofs.Verdicts.{both-fine, past, out, refused-of, accepted-of, need-fine, need-met}
+use Rattle.model.proofs.Accepted.{mesh-lent}
+use Rattle.records.specs.Reading.{cellsIn, facesIn, volumesIn, firstsIn, secondsIn, sharesIn, reachesIn, countsIn, meshIn, meshHeadVerdict, meshRead}
+use Rattle.records.specs.Answers.{meshSaid, MeshReading}
+use Rattle.records.specs.declared.MeshAnswer.{MeshAnswer}
+use Rattle.records.specs.declared.MeshAnswer.the-variants as mesh-answer
+use Rattle.records.specs.declared.Counts.{Counts}
+use Rattle.taking.specs.Taking.{meshRecordFound, meshJudged, MeshKept, MeshTaking}
+use Rattle.taking.specs.Inner.{MeshCut, keptFound}
+use Rattle.taking.proofs.Parts.{PartRead, read-part}
+
+-- a mesh of which v is found: refused, and accepted
+pub kept-refused : {v : Verdict} (M : Mesh) (volumes firsts seconds shares reaches : List ℕ) (a : MeshAnswer) (k i : ℕ) → v ≡ refused k i → meshSaid a ≡ refused k i
+    → MeshKept v M volumes firsts seconds shares reaches a volumes firsts seconds shares reaches
+kept-refused M volumes firsts seconds shares reaches a k i e s =
+    record { answer = s ∙ sym (out _ e); volumes-after = rw e; firsts-after = rw e; seconds-after = rw e; shares-after = rw e; reaches-after = rw e }
+
+pub kept-accepted : {v : Verdict} (M : Mesh) (volumes firsts seconds shares reaches volumes′ firsts′ seconds′ shares′ reaches′ : List ℕ) → v ≡ fine
+    → volumes′ ≡ over (M .volumes) volumes → firsts′ ≡ over (M .firsts) firsts → seconds′ ≡ over (M .seconds) seconds → shares′ ≡ over (M .shares) shares → reaches′ ≡ over (M .reaches) reaches
+    → MeshKept v M volumes firsts seconds shares reaches (mesh-answer.Read (record { cells = M .cells; faces = M .faces })) volumes′ firsts′ seconds′ shares′ reaches′
+kept-accepted M volumes firsts seconds shares reaches volumes′ firsts′ seconds′ shares′ reaches′ e a b c d f =
+    record { answer = sym (past _ e); volumes-after = rw e a; firsts-after = rw e b; seconds-after = rw e c; shares-after = rw e d; reaches-after = rw e f }
+
+-- the lent tables hold a mesh of which nothing is found
+pub record Room (M : Mesh) (volumes firsts seconds shares reaches : List ℕ) : Type 0 where
+  pub volumes-room : length (M .volumes) ≤ length volumes
+  pub firsts-room : length (M .firsts) ≤ length firsts
+  pub seconds-room : length (M .seconds) ≤ length seconds
+  pub shares-room : length (M .shares) ≤ length shares
+  pub reaches-room : length (M .reaches) ≤ length reaches
+
+pub room : (M : Mesh) (volumes firsts seconds shares reaches : List ℕ) → MeshCut M → keptFound (meshOf (M .cells) (M .faces) volumes firsts seconds shares reaches) M ≡ fine
+    → Room M volumes firsts seconds shares reaches
+room M volumes firsts seconds shares reaches c e =
+    let l = mesh-lent (meshOf (M .cells) (M .faces) volumes firsts seconds shares reaches) (both-fine _ _ (both-fine _ _ e .0) .1) in record {
+      volumes-room = omega (arith, c .volumes-cut, l .volumes-long);
+      firsts-room = omega (arith, c .firsts-cut, l .firsts-long);
+      seconds-room = omega (arith, c .seconds-cut, l .seconds-long);
+      shares-room = omega (arith, c .shares-cut, l .shares-long);
+      reaches-room = omega (arith, c .reaches-cut, l .reaches-long);
+    }
+
+-- a record that reading accepts
+pub record Limits (bs : List ℕ) : Type 0 where
+  pub some-cells : 1 ≤ cellsIn bs
+  pub few-cells : cellsIn bs ≤ runCells
+  pub few-faces : facesIn bs ≤ runFaces
+
+pub mesh-cut : (bs : List ℕ) → MeshCut (meshIn bs)
+unfolding volumesIn firstsIn secondsIn sharesIn reachesIn
+mesh-cut bs = record { volumes-cut = length-table _ _; firsts-cut = length-table _ _; seconds-cut = length-table _ _; shares-cut = length-table _ _; reaches-cut = length-table _ _ }
+
+module _ (bs : List ℕ) (e : meshRecordFound bs ≡ fine) where
+  pub limits : Limits bs
+  unfolding meshRecordFound meshHeadVerdict countsWithin
+  limits =
+      let n = both-fine _ _ (both-fine _ _ (both-fine _ _ e .0) .1) in
+      let c = both-true (leb 1 (cellsIn bs)) (leb (cellsIn bs) runCells) (need-fine 1 0 _ (n .0)) in
+      record { some-cells = leb-true _ _ (c .0); few-cells = leb-true _ _ (c .1); few-faces = leb-true _ _ (need-fine 1 1 _ (n .1)) }
+
+  counts-pass : countsWithin maxCells maxFaces (cellsIn bs) (facesIn bs) ≡ fine
+  unfolding countsWithin _andThen_
+  counts-pass =
+      let m = limits in
+      rw
+      (need-met 1 0 (true-both (le-leb 1 (cellsIn bs) (m .some-cells)) (le-leb (cellsIn bs) maxCells (omega (arith, m .few-cells)))), need-met 1 1 (le-leb (facesIn bs) maxFaces (omega (arith, m .few-faces))))
+
+  tables-pass : meshTables (meshIn bs) ≡ fine
+  unfolding meshTables _andThen_
+  tables-pass = let c = mesh-cut bs in rw (
+    need-met 2 0 (le-leb (cellsIn bs) (length (volumesIn bs)) (omega (arith, c .volumes-cut))),
+    need-met 2 1 (le-leb (facesIn bs) (length (firstsIn bs)) (omega (arith, c .firsts-cut))),
+    need-met 2 2 (le-leb (facesIn bs) (length (secondsIn bs)) (omega (arith, c .seconds-cut))),
+    need-met 2 3 (le-leb (facesIn bs) (length (sharesIn bs)) (omega (arith, c .shares-cut))),
+    need-met 2 4 (le-leb (facesIn bs) (length (reachesIn bs)) (omega (arith, c .reaches-cut))),
+  )
+
+  values-left : meshVerdict (meshIn bs) ≡ meshValues (meshIn bs)
+  unfolding meshVerdict counts _andThen_
+  values-left = rw (counts-pass, tables-pass)
+
+  found-is : (volumes firsts seconds shares reaches : List ℕ)
+      → keptFound (meshOf (cellsIn bs) (facesIn bs) volumes firsts seconds shares reaches) (meshIn bs) ≡ meshJudged bs (length volumes) (length firsts) (length seconds)
+      (length shares) (length reaches)
+  unfolding meshJudged counts meshTables _andThen_
+  found-is volumes firsts seconds shares reaches = rw (counts-pass, values-left, e)
+
+-- the tables read into, and the mesh of their parts
+pub record MeshIsRead (bs : List ℕ) (n : Counts) (volumes′ firsts′ seconds′ shares′ reaches′ : List ℕ) : Type 0 where
+  pub passed : meshRecordFound bs ≡ fine
+  pub counts-are : n ≡ countsIn bs
+  pub volumes-part : PartRead (n .cells) (volumesIn bs) volumes′
+  pub firsts-part : PartRead (n .faces) (firstsIn bs) firsts′
+  pub seconds-part : PartRead (n .faces) (secondsIn bs) seconds′
+  pub shares-part : PartRead (n .faces) (sharesIn bs) shares′
+  pub reaches-part : PartRead (n .faces) (reachesIn bs) reaches′
+
+-- the tables read into are as long as the run's limits
+module _ {bs volumes firsts seconds shares reaches : List ℕ} {a : MeshAnswer} {volumes′ firsts′ seconds′ shares′ reaches′ : List ℕ}
+    (s : MeshReading (meshRead runCells runFaces bs (length volumes) (length firsts) (length seconds) (length shares) (length reaches)) bs volumes firsts seconds shares reaches a volumes′ firsts′ seconds′ shares′ reaches′)
+    (lv : length volumes ≡ runCells) (lf : length firsts ≡ runFaces) (ls : length seconds ≡ runFaces) (lw : length shares ≡ runFaces) (lk : length reaches ≡ runFaces) where
+  read-said : meshSaid a ≡ (meshRecordFound bs andThen accepted (countsIn bs))
+  unfolding meshRead meshRecordFound
+  read-said = rw (lv, lf, ls, lw, lk) at (s .answer)
+
+  pub mesh-unread : {r : Refusal} → a ≡ mesh-answer.Refused r → (v f s w k : List ℕ) → MeshTaking bs v f s w k a v f s w k
+  unfolding meshJudged
+  mesh-unread {r = r} d v f s w k =
+      kept-refused (meshIn bs) v f s w k a _ _ (out _ (out _ (refused-of (meshRecordFound bs) (countsIn bs) (number (r .cause)) (r .place) (sym (ap meshSaid d) ∙ read-said)))) (ap meshSaid d)
+
+  pub mesh-read : {n : Counts} → a ≡ mesh-answer.Read n → MeshIsRead bs n volumes′ firsts′ seconds′ shares′ reaches′
+  unfolding volumesIn firstsIn secondsIn sharesIn reachesIn
+  mesh-read {n = n} d =
+      let o = sym (s .answer) ∙ ap meshSaid d in
+      let p = accepted-of (meshRecordFound bs) (countsIn bs) n (sym (ap meshSaid d) ∙ read-said) in
+      let k = limits bs (p .0) in
+      rw (p .1) (record {
+        passed = p .0;
+        counts-are = refl;
+        volumes-part = read-part (cellsIn bs) _ volumes volumes′ o (omega (arith, lv, k .few-cells)) (s .volumes-read);
+        firsts-part = read-part (facesIn bs) _ firsts firsts′ o (omega (arith, lf, k .few-faces)) (s .firsts-read);
+        seconds-part = read-part (facesIn bs) _ seconds seconds′ o (omega (arith, ls, k .few-faces)) (s .seconds-read);
+        shares-part = read-part (facesIn bs) _ shares shares′ o (omega (arith, lw, k .few-faces)) (s .shares-read);
+        reaches-part = read-part (facesIn bs) _ reaches reaches′ o (omega (arith, lk, k .few-faces)) (s .reaches-read);
+      })
+
+module _ {bs : List ℕ} {n : Counts} {volumes′ firsts′ seconds′ shares′ reaches′ : List ℕ} (m : MeshIsRead bs n volumes′ firsts′ seconds′ shares′ reaches′) where
+  abbrev R : Mesh
+  R = meshOf (n .cells) (n .faces) (take (n .cells) volumes′) (take (n .faces) firsts′) (take (n .faces) seconds′) (take (n .faces) shares′) (take (n .faces) reaches′)
+
+  pub same : R ≡ meshIn bs
+  same =
+      let q : R ≡ meshOf (n .cells) (n .faces) (volumesIn bs) (firstsIn bs) (secondsIn bs) (sharesIn bs) (reachesIn bs) = rw
+      (m .volumes-part .part, m .firsts-part .part, m .seconds-part .part, m .shares-part .part, m .reaches-part .part) in
+      q ∙ rw (m .counts-are)
+
+  pub keep-asks : MeshCut R
+  keep-asks = rw same (mesh-cut bs)
+
+  pub mesh-done : {volumes firsts seconds shares reaches : List ℕ} {r : MeshAnswer} {v f s w k : List ℕ}
+      → MeshKept (keptFound (meshOf (n .cells) (n .faces) volumes firsts seconds shares reaches) R) R volumes firsts seconds shares reaches r v f s w k
+      → MeshTaking bs volumes firsts seconds shares reaches r v f s w k
+  mesh-done {volumes = volumes} {firsts = firsts} {seconds = seconds} {shares = shares} {reaches = reaches} {r = r} {v = v} {f = f} {s = s} {w = w} {k = k} t =
+      let x : MeshKept (keptFound (meshOf (n .cells) (n .faces) volumes firsts seconds shares reaches) (meshIn bs)) (meshIn bs) volumes firsts seconds shares reaches r v f s w k = rw same at t in
+      let y : MeshKept (keptFound (meshOf (cellsIn bs) (facesIn bs) volumes firsts seconds shares reaches) (meshIn bs)) (meshIn bs) volumes firsts seconds shares reaches
+      r v f s w k = rw (m .counts-are) at x in
+      rw (found-is bs (m .passed) volumes firsts seconds shares reaches) at y

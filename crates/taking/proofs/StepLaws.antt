@@ -1,0 +1,145 @@
+-- What a step record comes to, from what the calls that `take_step` and `stepped` make promise.
+use Prim.Native.Nat.{ℕ, _^_, _≤_, _<_}
+use mathlib.Core.Path.{_≡_, sym, ap, _∙_}
+use mathlib.Core.List.{List}
+use native.Mathlib.Omega.{arith}
+use borrow.Author.Tests.{leb-true}
+use lib.IntN.{ℤ, pos}
+use lib.ListN.{length, take, length-replicate}
+use Rattle.lists.specs.Table.{table, over}
+use Rattle.lists.specs.Fold.{sum}
+use Rattle.lists.proofs.Tables.{length-table, length-over, getD-over}
+use Rattle.lists.proofs.Sums.{sum-cong}
+use Rattle.model.specs.Mesh.{Mesh, total, runCells, runFaces}
+use Rattle.model.specs.Step.{StepInput, next, inMass, outMass}
+use Rattle.model.specs.Causes.{accepted, Verdict, fine, Call, callOf, workEntries, inputOf, stepTables, stepValues, outsideGood, fluxGood, balanceGood, outflowGood, verdict}
+use Rattle.model.specs.Answers.{number, told, said}
+use Rattle.model.specs.Calls.{Crossing as Crossed, massIn, corrected, stepAnswer, nextTable}
+use Rattle.model.specs.declared.Answer.{Answer}
+use Rattle.model.specs.declared.Answer.the-variants.{Done, Refused}
+use Rattle.model.specs.declared.Refusal.{Refusal}
+use Rattle.model.proofs.Verdicts.{both-fine, past, out, refused-of, accepted-of, need-fine}
+use Rattle.model.proofs.Accepted.{ready, passed, call-lent}
+use Rattle.model.proofs.Sizes.{next-most, total-most}
+use Rattle.model.specs.Accepted.{Ready}
+use Rattle.transport.specs.Promise.{stepSaid, StepPromise}
+use Rattle.transport.specs.declared.StepAnswer.{StepAnswer}
+use Rattle.transport.specs.declared.StepAnswer.the-variants as step-answer
+use Rattle.transport.specs.declared.Crossing.{Crossing}
+use Rattle.records.specs.Reading.{fluxesIn, outsidesIn, stepBodyVerdict, stepRead}
+use Rattle.records.specs.Answers.{StepReading}
+use Rattle.taking.specs.declared.Printed.{Printed}
+use Rattle.taking.specs.declared.StepTaken.{StepTaken}
+use Rattle.taking.specs.declared.StepTaken.the-variants as step-taken
+use Rattle.taking.specs.Taking.{blank, ownTables, printedOf, Stepping, stepIn, stepJudged, StepTaking}
+use Rattle.taking.specs.Inner.{SteppedIn}
+use Rattle.taking.proofs.Parts.{PartRead, part-of, read-part}
+
+stepping-refused : (M : Mesh) (masses : List ℕ) {v : Verdict} (k : Call) (r : Refusal) → v ≡ told r → Stepping M masses v k (step-taken.Refused r) masses
+stepping-refused M masses k r e = record { answer = sym (out _ e); masses-after = rw e }
+
+length-blank : {A : Type 0} (n : ℕ) (x : A) → length (blank n x) ≡ n
+unfolding blank
+length-blank n x = length-replicate n x
+
+-- of the tables of results and work only the lengths matter
+own-verdict : (M : Mesh) (masses : List ℕ) (fluxes : List ℤ) (outsides next : List ℕ) (moved : List ℤ) (work : List ℕ)
+    → length next ≡ runCells → length moved ≡ runFaces → length work ≡ workEntries runCells runFaces
+    → verdict M masses (callOf fluxes outsides next moved work) ≡ verdict M masses (ownTables fluxes outsides)
+unfolding verdict stepTables stepValues outsideGood fluxGood balanceGood outflowGood
+own-verdict M masses fluxes outsides next moved work n m w =
+    rw (n, m, w, length-blank {A = ℕ} runCells 0, length-blank {A = ℤ} runFaces (pos 0), length-blank {A = ℕ} (workEntries runCells runFaces) 0)
+
+-- the step on tables
+module _ {M : Mesh} {masses : List ℕ} {fluxes : List ℤ} {outsides nexts : List ℕ} {moveds : List ℤ} {work : List ℕ} {a : StepAnswer} {nexts′ : List ℕ} {moveds′ : List ℤ} {work′ : List ℕ}
+    (p : StepPromise corrected M masses (callOf fluxes outsides nexts moveds work) a nexts′ moveds′ work′)
+    (nl : length nexts ≡ runCells) (ml : length moveds ≡ runFaces) (wl : length work ≡ workEntries runCells runFaces) where
+  abbrev k : Call
+  k = callOf fluxes outsides nexts moveds work
+
+  abbrev S : StepInput
+  S = inputOf M masses k
+
+  own : verdict M masses k ≡ verdict M masses (ownTables fluxes outsides)
+  own = own-verdict M masses fluxes outsides nexts moveds work nl ml wl
+
+  pub step-refused : {r : Refusal} → a ≡ step-answer.Refused r → SteppedIn M masses fluxes outsides (step-taken.Refused r) masses
+  unfolding stepAnswer
+  step-refused {r = r} d = stepping-refused M masses (ownTables fluxes outsides) r (sym own ∙ refused-of (verdict M masses k) _ (number (r .cause)) (r .place) (sym (ap stepSaid d) ∙ p .answer))
+
+  module _ {b : Crossing} (d : a ≡ step-answer.Stepped b) where
+    crossed : (verdict M masses k ≡ fine) × (_≡_ {A = Crossed} (record { entered = b .entered; gone = b .gone }) (record { entered = inMass S; gone = outMass S }))
+    unfolding stepAnswer
+    crossed = accepted-of (verdict M masses k) _ _ (sym (ap stepSaid d) ∙ p .answer)
+
+    stepped-ready : Ready S
+    stepped-ready = ready M masses k (crossed .0)
+
+    nexts-are : nexts′ ≡ over (table (M .cells) (next S)) nexts
+    unfolding nextTable next
+    nexts-are = let q = p .next-masses in rw (crossed .0) at q
+
+    pub nexts-part : PartRead (M .cells) (table (M .cells) (next S)) nexts′
+    nexts-part =
+        let l = call-lent M masses k (passed M masses k (crossed .0) .step-tables-fine) .nexts-long in
+        record { fits = rw nexts-are (omega (arith, length-over (M .cells) (next S) nexts l)); part = rw nexts-are (part-of (M .cells) (next S) nexts) }
+
+    masses-fit : M .cells ≤ length masses
+    masses-fit = stepped-ready .masses-long
+
+    pub copy-asks : length (take (M .cells) nexts′) ≤ length masses
+    copy-asks = rw (nexts-part .part) (omega (arith, length-table (M .cells) (next S), masses-fit))
+
+    module _ {masses′ : List ℕ} (e : masses′ ≡ over (take (M .cells) nexts′) masses) where
+      masses-are : masses′ ≡ over (table (M .cells) (next S)) masses
+      masses-are = e ∙ ap (λ (t : List ℕ). over t masses) (nexts-part .part)
+
+      sum-is : sum (M .cells) (massIn masses′) ≡ total M (next S)
+      unfolding total
+      sum-is = rw masses-are (sum-cong (M .cells) (massIn (over (table (M .cells) (next S)) masses)) (next S) (λ c h. getD-over (M .cells) (next S) masses 0 c h))
+
+      -- the total fits, since each next mass is one of an accepted field
+      pub sum-asks : (M .cells ≤ length masses′) × (sum (M .cells) (massIn masses′) < 2 ^ 64)
+      sum-asks =
+          (rw masses-are (omega (arith, length-over (M .cells) (next S) masses masses-fit, masses-fit)), omega (arith, sum-is, total-most M (next S) (stepped-ready .counts-fit .few-cells) (next-most S stepped-ready)))
+
+      pub step-done : {t : ℕ} → t ≡ sum (M .cells) (massIn masses′) → SteppedIn M masses fluxes outsides (step-taken.Stepped (record { entered = b .entered; gone = b .gone; total = t })) masses′
+      step-done {t = t} h =
+          let v = sym own ∙ crossed .0 in
+          let i : b .entered ≡ inMass S = ap (λ (x : Crossed). x .entered) (crossed .1) in
+          let o : b .gone ≡ outMass S = ap (λ (x : Crossed). x .gone) (crossed .1) in
+          let q : _≡_ {A = Printed} (record { entered = b .entered; gone = b .gone; total = t }) (printedOf M masses (ownTables fluxes outsides)) = rw (i, o, h, sum-is) in
+          record { answer = ap accepted q ∙ sym (past _ v); masses-after = rw v masses-are }
+
+-- the step of a record
+module _ (M : Mesh) (masses : List ℕ) {bs : List ℕ} {fluxes : List ℤ} {outsides : List ℕ} {a : Answer} {fluxes′ : List ℤ} {outsides′ : List ℕ}
+    (s : StepReading (stepRead (M .faces) (M .seconds) bs (length fluxes) (length outsides)) (M .faces) (M .seconds) bs fluxes outsides a fluxes′ outsides′)
+    (fl : length fluxes ≡ runFaces) (ol : length outsides ≡ runFaces) where
+  read-said : said a ≡ stepRead (M .faces) (M .seconds) bs runFaces runFaces
+  read-said = rw (fl, ol) at (s .answer)
+
+  pub step-unread : {r : Refusal} → a ≡ Refused r → StepTaking M masses bs (step-taken.Refused r) masses
+  unfolding stepJudged
+  step-unread {r = r} d = stepping-refused M masses (stepIn M bs) r (out _ (sym read-said ∙ ap said d))
+
+  module _ (d : a ≡ Done) where
+    step-read : stepRead (M .faces) (M .seconds) bs runFaces runFaces ≡ fine
+    step-read = sym read-said ∙ ap said d
+
+    few : M .faces ≤ runFaces
+    unfolding stepRead stepBodyVerdict
+    few = leb-true _ _ (need-fine 2 7 _ (both-fine _ _ (both-fine _ _ (both-fine _ _ step-read .1) .0) .1))
+
+    pub fluxes-part : PartRead (M .faces) (fluxesIn bs (M .faces)) fluxes′
+    unfolding fluxesIn
+    fluxes-part = read-part (M .faces) _ fluxes fluxes′ (sym (s .answer) ∙ ap said d) (omega (arith, few, fl)) (s .fluxes-read)
+
+    pub outsides-part : PartRead (M .faces) (outsidesIn bs (M .faces) (M .seconds)) outsides′
+    unfolding outsidesIn
+    outsides-part = read-part (M .faces) _ outsides outsides′ (sym (s .answer) ∙ ap said d) (omega (arith, few, ol)) (s .outsides-read)
+
+    pub step-took : {r : StepTaken} {masses′ : List ℕ} → SteppedIn M masses (take (M .faces) fluxes′) (take (M .faces) outsides′) r masses′ → StepTaking M masses bs r masses′
+    unfolding stepJudged
+    step-took {r = r} {masses′ = masses′} t =
+        let u : SteppedIn M masses (fluxesIn bs (M .faces)) (outsidesIn bs (M .faces) (M .seconds)) r masses′ = rw (fluxes-part .part, outsides-part .part) at t in
+        rw (past (verdict M masses (stepIn M bs)) step-read) u

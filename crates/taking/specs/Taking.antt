@@ -1,0 +1,94 @@
+-- Document 01, "The board and the run" and "Tables lent to a step": what a mesh, a field and a step record come to. Each is read, then
+-- judged by the causes of its values; a step is taken. A refusal leaves every lent table as it was.
+use Prim.Native.Nat.{ℕ}
+use mathlib.Core.Path.{_≡_}
+use mathlib.Core.List.{List}
+use lib.ListN.{length, replicate}
+use lib.IntN.{ℤ, pos}
+use Rattle.lists.specs.Table.{table, over}
+use Rattle.model.specs.Mesh.{Mesh, total, runCells, runFaces}
+use Rattle.model.specs.Step.{next, inMass, outMass}
+use Rattle.model.specs.Causes.{Outcome, accepted, Verdict, _andThen_, taken, long, Call, callOf, workEntries, cellsOnly, inputOf, meshValues, meshFieldVerdict, verdict}
+use Rattle.model.specs.Answers.{told}
+use Rattle.model.specs.Calls.{massIn}
+use Rattle.checks.specs.Total.{totalSaid}
+use Rattle.checks.specs.declared.TotalAnswer.{TotalAnswer}
+use Rattle.records.specs.Reading.{cellsIn, facesIn, meshIn, massesIn, fluxesIn, outsidesIn, meshHeadVerdict, meshBodyVerdict, fieldRead, stepRead}
+use Rattle.records.specs.Answers.{meshSaid}
+use Rattle.records.specs.declared.MeshAnswer.{MeshAnswer}
+use Rattle.taking.specs.declared.Printed.{Printed}
+use Rattle.taking.specs.declared.StepTaken.{StepTaken}
+use Rattle.taking.specs.declared.StepTaken.the-variants.{Stepped, Refused}
+
+-- A MESH. "The board and the run", limits: 1,023 cells and 2,046 faces; of a larger mesh cause 1 is found. It is read into tables of the
+-- call's own, as long as these limits.
+unfoldable pub meshRecordFound : List ℕ → Verdict
+meshRecordFound bs = meshHeadVerdict runCells runFaces bs andThen meshBodyVerdict bs runCells runFaces runFaces runFaces runFaces
+
+-- "Causes", 2: the lent tables, of so many entries, have to hold it. Then 3 to 5.
+unfoldable pub meshJudged : List ℕ → ℕ → ℕ → ℕ → ℕ → ℕ → Verdict
+meshJudged bs volumes firsts seconds shares reaches = meshRecordFound bs
+    andThen (long 0 (cellsIn bs) volumes andThen long 1 (facesIn bs) firsts andThen long 2 (facesIn bs) seconds andThen long 3 (facesIn bs) shares
+    andThen long 4 (facesIn bs) reaches)
+    andThen meshValues (meshIn bs)
+
+-- A mesh of which v is found: the answer, and each lent table. The counted entries are filled where it is accepted; no other entry is, and
+-- after a refusal none.
+pub record MeshKept (v : Verdict) (M : Mesh) (volumes firsts seconds shares reaches : List ℕ) (r : MeshAnswer) (volumes′ firsts′ seconds′ shares′ reaches′ : List ℕ) : Type 0 where
+  pub answer : meshSaid r ≡ (v andThen accepted (record { cells = M .cells; faces = M .faces }))
+  pub volumes-after : volumes′ ≡ taken v (over (M .volumes) volumes) volumes
+  pub firsts-after : firsts′ ≡ taken v (over (M .firsts) firsts) firsts
+  pub seconds-after : seconds′ ≡ taken v (over (M .seconds) seconds) seconds
+  pub shares-after : shares′ ≡ taken v (over (M .shares) shares) shares
+  pub reaches-after : reaches′ ≡ taken v (over (M .reaches) reaches) reaches
+
+abbrev pub MeshTaking : List ℕ → List ℕ → List ℕ → List ℕ → List ℕ → List ℕ → MeshAnswer → List ℕ → List ℕ → List ℕ → List ℕ → List ℕ → Type 0
+MeshTaking bs volumes firsts seconds shares reaches =
+    MeshKept (meshJudged bs (length volumes) (length firsts) (length seconds) (length shares) (length reaches)) (meshIn bs) volumes firsts seconds shares reaches
+
+-- A FIELD on so many cells of these volumes. It is read into a table of the call's own, of 1,023 entries; the lent one, of so many, has to
+-- hold it. Then come the causes that the total of a field has.
+unfoldable pub fieldJudged : ℕ → List ℕ → List ℕ → ℕ → Verdict
+fieldJudged cells volumes bs masses = fieldRead cells bs runCells andThen long 5 cells masses andThen meshFieldVerdict (cellsOnly cells volumes) (massesIn bs cells)
+
+-- "The board and the run", step 0: the total of the first field is printed.
+pub record FieldTaking (cells : ℕ) (volumes bs masses : List ℕ) (r : TotalAnswer) (masses′ : List ℕ) : Type 0 where
+  pub answer : totalSaid r ≡ (fieldJudged cells volumes bs (length masses) andThen accepted (total (cellsOnly cells volumes) (massIn (massesIn bs cells))))
+  pub masses-after : masses′ ≡ taken (fieldJudged cells volumes bs (length masses)) (over (massesIn bs cells) masses) masses
+
+-- A STEP. What is printed of it, or why it is refused.
+abbrev pub takenSaid : StepTaken → Outcome Printed
+takenSaid (Stepped p) = accepted p
+takenSaid (Refused r) = told r
+
+-- a table of n entries x
+unfoldable pub blank : {A : Type 0} → ℕ → A → List A
+blank n x = replicate n x
+
+-- "Tables lent to a step": the tables of results and work are the call's own, as long as the run's limits. What they held is no matter.
+abbrev pub ownTables : List ℤ → List ℕ → Call
+ownTables fluxes outsides = callOf fluxes outsides (blank runCells 0) (blank runFaces (pos 0)) (blank (workEntries runCells runFaces) 0)
+
+-- the step that a record holds
+abbrev pub stepIn : Mesh → List ℕ → Call
+stepIn M bs = ownTables (fluxesIn bs (M .faces)) (outsidesIn bs (M .faces) (M .seconds))
+
+module _ (M : Mesh) (masses : List ℕ) where
+  -- "The board and the run": in-mass, out-mass, and the total of the field that the step leaves
+  abbrev pub printedOf : Call → Printed
+  printedOf k = record { entered = inMass (inputOf M masses k); gone = outMass (inputOf M masses k); total = total M (next (inputOf M masses k)) }
+
+  -- "A list of steps": the field after a step of which v is found
+  abbrev pub massesAfter : Verdict → Call → List ℕ
+  massesAfter v k = taken v (over (table (M .cells) (next (inputOf M masses k))) masses) masses
+
+  pub record Stepping (v : Verdict) (k : Call) (r : StepTaken) (masses′ : List ℕ) : Type 0 where
+    pub answer : takenSaid r ≡ (v andThen accepted (printedOf k))
+    pub masses-after : masses′ ≡ massesAfter v k
+
+  -- The causes of reading, then those of the step.
+  unfoldable pub stepJudged : List ℕ → Verdict
+  stepJudged bs = stepRead (M .faces) (M .seconds) bs runFaces runFaces andThen verdict M masses (stepIn M bs)
+
+  abbrev pub StepTaking : List ℕ → StepTaken → List ℕ → Type 0
+  StepTaking bs = Stepping (stepJudged bs) (stepIn M bs)

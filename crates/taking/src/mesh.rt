@@ -1,0 +1,104 @@
+// A mesh record.
+use model::Answer;
+use model::RUN_CELLS;
+use model::RUN_FACES;
+use records::Counts;
+use records::MeshAnswer;
+ghost use Rattle.model.specs.Mesh.{meshOf};
+ghost use Rattle.taking.specs.Taking.{MeshKept, MeshTaking};
+ghost use Rattle.taking.specs.Inner.{MeshCut, keptFound};
+
+// A mesh that has been read, judged by 3 to 5 and copied into the lent tables.
+fn keep(
+    cells: usize,
+    faces: usize,
+    read_volumes: &[u64],
+    read_firsts: &[u64],
+    read_seconds: &[u64],
+    read_shares: &[u64],
+    read_reaches: &[u64],
+    volumes: &mut [u64],
+    firsts: &mut [u64],
+    seconds: &mut [u64],
+    shares: &mut [u64],
+    reaches: &mut [u64],
+) -> MeshAnswer
+    requires { ⌜ MeshCut (meshOf cells faces (now «read_volumes») (now «read_firsts») (now «read_seconds») (now «read_shares») (now «read_reaches»)) ⌝ }
+    ensures { λ r. ⌜ MeshKept
+        (keptFound
+        (meshOf cells faces (now (volumes .entry)) (now (firsts .entry)) (now (seconds .entry)) (now (shares .entry)) (now (reaches .entry)))
+        (meshOf cells faces (now («read_volumes» .entry)) (now («read_firsts» .entry)) (now («read_seconds» .entry)) (now («read_shares» .entry)) (now («read_reaches» .entry))))
+        (meshOf cells faces (now («read_volumes» .entry)) (now («read_firsts» .entry)) (now («read_seconds» .entry)) (now («read_shares» .entry)) (now («read_reaches» .entry)))
+        (now (volumes .entry)) (now (firsts .entry)) (now (seconds .entry)) (now (shares .entry)) (now (reaches .entry)) r
+        (now (volumes .exit)) (now (firsts .exit)) (now (seconds .exit)) (now (shares .exit)) (now (reaches .exit)) ⌝ }
+{
+    let lent = lent::mesh_lent(cells, faces, volumes, firsts, seconds, shares, reaches);
+    let judged = checks::check_mesh(
+        cells,
+        faces,
+        read_volumes,
+        read_firsts,
+        read_seconds,
+        read_shares,
+        read_reaches,
+    );
+    let found = model::needs::and_then(lent, judged);
+    if let Answer::Refused(refusal) = found {
+        return MeshAnswer::Refused(refusal);
+    }
+    crate::copy(read_volumes, volumes);
+    crate::copy(read_firsts, firsts);
+    crate::copy(read_seconds, seconds);
+    crate::copy(read_shares, shares);
+    crate::copy(read_reaches, reaches);
+    MeshAnswer::Read(Counts { cells, faces })
+}
+
+// A mesh within the run's limits.
+pub fn take_mesh(
+    bytes: &[u8],
+    volumes: &mut [u64],
+    firsts: &mut [u64],
+    seconds: &mut [u64],
+    shares: &mut [u64],
+    reaches: &mut [u64],
+) -> MeshAnswer
+    ensures { λ r. ⌜ MeshTaking (now (bytes .entry))
+        (now (volumes .entry)) (now (firsts .entry)) (now (seconds .entry)) (now (shares .entry)) (now (reaches .entry)) r
+        (now (volumes .exit)) (now (firsts .exit)) (now (seconds .exit)) (now (shares .exit)) (now (reaches .exit)) ⌝ }
+{
+    let mut read_volumes = [0u64; RUN_CELLS];
+    let mut read_firsts = [0u64; RUN_FACES];
+    let mut read_seconds = [0u64; RUN_FACES];
+    let mut read_shares = [0u64; RUN_FACES];
+    let mut read_reaches = [0u64; RUN_FACES];
+    let answer = records::read_mesh(
+        RUN_CELLS,
+        RUN_FACES,
+        bytes,
+        &mut read_volumes,
+        &mut read_firsts,
+        &mut read_seconds,
+        &mut read_shares,
+        &mut read_reaches,
+    );
+    let MeshAnswer::Read(counts) = answer else {
+        return answer;
+    };
+    let cells = counts.cells;
+    let faces = counts.faces;
+    keep(
+        cells,
+        faces,
+        &read_volumes[..cells],
+        &read_firsts[..faces],
+        &read_seconds[..faces],
+        &read_shares[..faces],
+        &read_reaches[..faces],
+        volumes,
+        firsts,
+        seconds,
+        shares,
+        reaches,
+    )
+}
