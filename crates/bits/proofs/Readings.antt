@@ -8,7 +8,7 @@ use native.Mathlib.Omega.{arith}
 use lib.ListN.{length, getD, List·getD-append, List·getD-eq-default}
 use lib.Seq.{getD-append-add}
 use Rattle.bits.specs.Field.{bitAt, bitsAt}
-use Rattle.bits.specs.Layout.{Field, field, spelled, bitsOf, widthOf, bytesFor, packed, rows}
+use Rattle.bits.specs.Layout.{Field, spelled, bitsOf, widthOf, bytesFor, packed, rows}
 use Rattle.bits.proofs.Fields.{bits-bit, bit-past}
 use Rattle.bits.proofs.Puts.{same-bits}
 use Rattle.bits.proofs.Layouts.{length-spelled, spelled-bit, length-bits, length-packed, packed-lt, packed-bit}

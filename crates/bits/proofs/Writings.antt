@@ -10,7 +10,7 @@ use lib.Seq.{getD-append-add, getD-drop}
 use Rattle.lists.specs.Table.{over}
 use Rattle.bits.specs.Field.{bitAt}
 use Rattle.bits.specs.Put.{Put}
-use Rattle.bits.specs.Layout.{Field, field, bitsOf, widthOf, bytesFor, packed}
+use Rattle.bits.specs.Layout.{Field, bitsOf, widthOf, bytesFor, packed}
 use Rattle.bits.proofs.Fields.{bits-bit}
 use Rattle.bits.proofs.Puts.{same-bits}
 use Rattle.bits.proofs.Layouts.{length-packed, append-lt, packed-lt, packed-bit, packed-pad}

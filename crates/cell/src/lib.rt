@@ -2,7 +2,7 @@
 use model::RIM;
 ghost use mathlib.Core.Path.{_≡_};
 ghost use mathlib.Core.Logic.{_≢_};
-ghost use Prim.Native.Nat.{_≤_, _<_, _+_, _-_, _*_, _^_, min, max};
+ghost use Prim.Native.Nat.{_<_, _+_, _-_, _*_, _^_, min, max};
 ghost use lib.ListN.{length, getD, set};
 ghost use Rattle.signed.specs.Sign.{withSign};
 ghost use Rattle.lists.specs.Table.{table};

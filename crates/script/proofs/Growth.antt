@@ -5,7 +5,6 @@ use mathlib.Core.Bool.{Bool}
 use lib.Dec.{ltb}
 use borrow.Author.Tests.{lt-ltb, le-ltb}
 use Rattle.script.specs.Text.{sized}
-use Rattle.script.specs.declared.text.Token.{Token}
 use Rattle.script.specs.declared.text.Token.the-variants.{Digits, TooLarge}
 
 module _ (minus : Bool) (size digit : ℕ) where

@@ -3,7 +3,6 @@ use crate::text;
 use crate::text::Number;
 use crate::text::Token;
 use libc::STDIN_FILENO;
-ghost use Rattle.io.specs.Counts.{Counts};
 
 // A shape is sixteen hexadecimal digits, one for each argument from the left and 0 after the last.
 pub const NUMBER: u64 = 1;

@@ -4,8 +4,6 @@ use crate::input::Fault;
 use crate::input::Input;
 use crate::input::ROOM;
 use libc::STDOUT_FILENO;
-ghost use Prim.Native.Nat.{_≤_};
-ghost use lib.ListN.{length};
 
 pub fn word(text: &[u8]) {
     io::write_all(STDOUT_FILENO, text);

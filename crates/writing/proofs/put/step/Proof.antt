@@ -11,7 +11,7 @@ use Rattle.bits.proofs.Layouts.{bytes-hold}
 use Rattle.sections.specs.Sections.{Section, Values, shapeBits}
 use Rattle.sections.proofs.Columns.{Written, none, and, written-none, written-column, written-all}
 use Rattle.sections.proofs.Bodies.{Column, column-rooms, column-fits, column-small, column-written, head-written}
-use Rattle.heads.specs.Layouts.{kindBits, facesBits, stepZeroBits, fluxBits, outsideBits, stepHeadBits, rimFaces, stepShape, stepValue, stepLength, stepRecord}
+use Rattle.heads.specs.Layouts.{kindBits, facesBits, stepZeroBits, outsideBits, stepHeadBits, rimFaces, stepShape, stepValue, stepLength, stepRecord}
 use Rattle.heads.proofs.HeadLaws.{rim-le}
 use Rattle.heads.proofs.Layouts.{rimPlace, stepMost, step-is, step-some, step-most, step-kind-in, step-faces-in, step-zeros-in, signs-in, sizes-in, outside-in}
 use Rattle.writing.proofs.put.step.Statement.{statement}
