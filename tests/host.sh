@@ -21,6 +21,7 @@ done
 [ "$(grep -c '^    LAGOON_[A-Z]* = ' include/lagoon.h)" = "$(grep -c '^number .* = ' crates/model/specs/Answers.antt)" ] \
   || { echo "include/lagoon.h: causes and the model's do not match"; exit 1; }
 says "#define LAGOON_VERSION \"$(cat VERSION)\""
+grep -q "^Version $(cat VERSION);" README.md || { echo "README.md does not name version $(cat VERSION)"; exit 1; }
 grep -q "^## $(cat VERSION), " CHANGES.md || { echo "CHANGES.md has no version $(cat VERSION)"; exit 1; }
 
 out=target/host

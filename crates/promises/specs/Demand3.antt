@@ -54,13 +54,13 @@ module _ (M : Mesh) where
   comes (onRecords step next) field = stepOnRecords step next field
 
   -- where the field of an accepted call stands: in the table of next masses, or as the next field record
-  abbrev pub Stands : StepCall → List ℕ → Left → Type 0
-  Stands (onTables past k) field l = nextTable corrected M k (lentMasses past field) ≡ l .field
-  Stands (onRecords step next) field l = nextRecord step next field ≡ fieldRecord (M .cells) (l .field)
+  abbrev pub NextHolds : StepCall → List ℕ → Left → Type 0
+  NextHolds (onTables past k) field l = nextTable corrected M k (lentMasses past field) ≡ l .field
+  NextHolds (onRecords step next) field l = nextRecord step next field ≡ fieldRecord (M .cells) (l .field)
 
   -- What is owed of each accepted call: the bounds, and where the field stands.
   abbrev pub Kept : StepCall → List ℕ → Left → Type 0
-  Kept call field l = Bounded (workedOn call field) (l .field) × Stands call field l
+  Kept call field l = Bounded (workedOn call field) (l .field) × NextHolds call field l
 
   -- What is owed of a refused call: what is lent to be filled is as it was. That the field is, `fieldAfter` says.
   abbrev pub Unchanged : StepCall → List ℕ → Type 0

@@ -14,7 +14,7 @@ use model::RUN_CELLS;
 use model::RUN_FACES;
 use taking::StepTaken;
 ghost use mathlib.Core.Path.{_≡_};
-ghost use Prim.Native.Nat.{_+_, _≤_, min};
+ghost use Prim.Native.Nat.{_+_, _≤_};
 ghost use Rattle.heads.specs.Heads.{lengthSaid};
 ghost use Rattle.session.specs.Session.{recordBytes, Holds, endsRun, stillNeeded, lineOf, goesOn};
 
@@ -65,12 +65,6 @@ pub fn taken_line(step: u64, taken: StepTaken) -> Line
     }
 }
 
-fn least(a: usize, b: usize) -> usize
-    ensures { λ r. ⌜ r ≡ min a b ⌝ }
-{
-    if a < b { a } else { b }
-}
-
 // How many bytes of a record are still to be read, of which so many have come.
 pub fn rest(answer: LengthAnswer, got: usize) -> usize
     ensures { λ r. ⌜ (r ≡ stillNeeded (lengthSaid answer) got) × (got ≤ recordBytes → got + r ≤ recordBytes) ⌝ }
@@ -78,7 +72,7 @@ pub fn rest(answer: LengthAnswer, got: usize) -> usize
     let LengthAnswer::Needs(needed) = answer else {
         return 0;
     };
-    let end = least(needed, RECORD);
+    let end = bits::least(needed, RECORD);
     if end < got {
         return 0;
     }
