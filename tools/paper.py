@@ -93,7 +93,8 @@ def parts(lines):
 
 def page(path):
     text = path.read_text()
-    title = re.search(r"^# (.*)$", text, re.MULTILINE)[1]
+    heading_found = re.search(r"^# (.*)$", text, re.MULTILINE)
+    title = heading_found[1] if heading_found else path.stem
     version = (ROOT / "VERSION").read_text().strip()
     style = STYLE % {"foot": f"{title}, version {version}"}
     shown = list(parts(text.splitlines()))
