@@ -16,7 +16,8 @@ use Rattle.bits.specs.Layout.{spelled, bitsOf, widthOf, bytesFor, octet, packed
 use Rattle.sections.specs.Sections.{those, row, fieldsOf, recordOf}
 use Rattle.heads.specs.Layouts.{meshRecord, fieldRecord, meshLength, fieldLength, stepLength}
 use Rattle.heads.specs.Heads.{meshHeadVerdict, fieldHeadVerdict, stepHeadVerdict}
-use Rattle.reading.specs.Reading.{meshIn, volumesIn, firstsIn, secondsIn, sharesIn, reachesIn, massesIn, fluxesIn, outsidesIn, zeroBitGood, minusZero, meshBitGood, stepBitGood, meshBodyVerdict, fieldBodyVerdict, stepBodyVerdict, fieldRead, stepRead}
+use Rattle.zeros.specs.Zeros.{zeroBitGood, minusZero}
+use Rattle.reading.specs.Reading.{meshIn, volumesIn, firstsIn, secondsIn, sharesIn, reachesIn, massesIn, fluxesIn, outsidesIn, meshBitGood, stepBitGood, meshBodyVerdict, fieldBodyVerdict, stepBodyVerdict, fieldRead, stepRead}
 use Rattle.taking.specs.Taking.{meshRecordFound, meshJudged, fieldJudged, blank, stepJudged}
 use Rattle.lagoon.specs.Host.{hostInput, hostVerdict, hostBytes}
 use Rattle.promises.specs.Demand3.{StepCall, onTables, onRecords, waterIn, lentMasses, stepOnRecords, comes}

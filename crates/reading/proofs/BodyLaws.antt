@@ -62,7 +62,8 @@ module _ (bs : List ℕ) where
   full : (k j : ℕ) (ys : List ℕ) {zs : List ℕ} → zs ≡ over (columnIn (bodyOf meshHeadBytes bs) (meshBody (cellsIn bs) (facesIn bs)) k j) ys → zs ≡ over (columnIn bs (shapeIn bs) (suc k) j) ys
   full k j ys e = e ∙ ap (λ xs. over xs ys) (body-column meshHeadBytes bs meshHead (meshBody (cellsIn bs) (facesIn bs)) k j refl)
 
-  pub mesh-filled : {v f s g k v′ f′ s′ g′ k′ : List ℕ} → MeshFilled (bodyOf meshHeadBytes bs) (meshBody (cellsIn bs) (facesIn bs)) 0 v f s g k v′ f′ s′ g′ k′ → MeshFilled bs (shapeIn bs) 1 v f s g k v′ f′ s′ g′ k′
+  pub mesh-filled : {v f s g k v′ f′ s′ g′ k′ : List ℕ} → MeshFilled (bodyOf meshHeadBytes bs) (meshBody (cellsIn bs) (facesIn bs)) 0 v f s g k v′ f′ s′ g′ k′
+      → MeshFilled bs (shapeIn bs) 1 v f s g k v′ f′ s′ g′ k′
   mesh-filled {v} {f} {s} {g} {k} b = record {
     volumes-full = full 0 0 v (b .volumes-full);
     firsts-full = full 1 0 f (b .firsts-full);

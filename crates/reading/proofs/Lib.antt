@@ -1,3 +1,2 @@
-pub mod ZeroLaws
 pub mod ReadLaws
 pub mod BodyLaws

@@ -1,18 +1,18 @@
 -- Document 01, "Causes", of reading: what reading a record gives, and what it refuses.
-use Prim.Native.Nat.{ℕ, _+_, _-_, _*_, _%_}
-use mathlib.Core.Bool.{Bool, not, _&&_, _||_}
+use Prim.Native.Nat.{ℕ, _*_}
+use mathlib.Core.Bool.{Bool, not, _&&_}
 use mathlib.Core.List.{List, [], _∷_}
 use lib.ListN.{length}
-use lib.Dec.{eqb, leb, ltb}
+use lib.Dec.{eqb}
 use lib.IntN.{ℤ}
 use Rattle.lists.specs.Table.{table}
 use Rattle.signed.specs.Sign.{withSign}
 use Rattle.model.specs.Mesh.{Mesh, meshOf}
 use Rattle.model.specs.Causes.{Outcome, accepted, Verdict, _andThen_, each, long}
-use Rattle.bits.specs.Field.{bitAt, bitsAt}
 use Rattle.sections.specs.Sections.{Section, place, valueIn, columnIn}
-use Rattle.heads.specs.Layouts.{meshZeroBits, stepZeroBits, signBits, sizeBits, meshHeadBits, stepHeadBits, fluxBits, meshShape, fieldShape, stepHead, fluxSection, stepShape, meshBits, stepBits, meshLength, fieldLength, stepLength}
+use Rattle.heads.specs.Layouts.{meshZeroBits, stepZeroBits, meshHeadBits, stepHeadBits, meshShape, fieldShape, stepHead, fluxSection, stepShape, meshBits, stepBits, meshLength, fieldLength, stepLength}
 use Rattle.heads.specs.Heads.{cellsIn, facesIn, hasLength, meshHeadVerdict, fieldHeadVerdict, stepHeadVerdict}
+use Rattle.zeros.specs.Zeros.{zeroBitGood, minusZero}
 use Rattle.reading.specs.declared.Counts.{Counts}
 
 -- Values: reading does not judge them. Each is the number that the bits at its place spell; places count from the record's first bit.
@@ -63,16 +63,7 @@ module _ (bs : List ℕ) where
   unfoldable pub outsidesIn : ℕ → List ℕ → List ℕ
   outsidesIn faces seconds = columnIn bs (stepShape faces seconds) 2 0
 
--- Cause 12, by the bit at i. The zero bits are those that end the head, and those after the last field.
-unfoldable pub zeroBitGood : List ℕ → ℕ → ℕ → ℕ → ℕ → Bool
-zeroBitGood bs headZeros headEnd end i = not (eqb (bitAt bs i) 1 && ((leb (headEnd - headZeros) i && ltb i headEnd) || leb end i))
-
--- the sign of a minus with size 0 stands at i
-unfoldable pub minusZero : List ℕ → ℕ → ℕ → Bool
-minusZero bs faces i =
-    leb stepHeadBits i && ltb i (stepHeadBits + faces * fluxBits) && eqb ((i - stepHeadBits) % fluxBits) 0
-    && eqb (bitsAt bs i signBits) 1 && eqb (bitsAt bs (i + signBits) sizeBits) 0
-
+-- Cause 12, by the bit at i: the zero bits, and in a step the minus with size 0.
 unfoldable pub meshBitGood : List ℕ → ℕ → Bool
 meshBitGood bs i = zeroBitGood bs meshZeroBits meshHeadBits (meshBits (cellsIn bs) (facesIn bs)) i
 

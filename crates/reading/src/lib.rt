@@ -1,7 +1,6 @@
 // The three records of document 01, read.
 mod body;
 mod verdicts;
-mod zeros;
 
 use model::Answer;
 use model::Refusal;

@@ -1,7 +1,6 @@
 // What a reading comes to, for tables of so many entries: the head's causes, then 11, 2 and 12.
 use crate::Counts;
 use crate::MeshAnswer;
-use crate::zeros;
 use heads::lengths;
 use model::Answer;
 use model::Cause;

@@ -14,7 +14,8 @@ use Rattle.bits.specs.Layout.{bytesFor}
 use Rattle.heads.specs.Layouts.{meshKind, fieldKind, stepKind, meshZeroBits, stepZeroBits, meshHeadBits, stepHeadBits, meshBits, fieldBits, stepBits, meshLength, fieldLength, stepLength}
 use Rattle.heads.specs.Heads.{kindIn, cellsIn, facesIn, stepFacesIn, meshHeadVerdict, fieldHeadVerdict, stepHeadVerdict}
 use Rattle.heads.proofs.HeadLaws.{field-head-says, step-head-says}
-use Rattle.reading.specs.Reading.{countsIn, zeroBitGood, minusZero, meshBitGood, stepBitGood, meshBodyVerdict, fieldBodyVerdict, stepBodyVerdict, meshRead, fieldRead, stepRead}
+use Rattle.zeros.specs.Zeros.{zeroBitGood, minusZero}
+use Rattle.reading.specs.Reading.{countsIn, meshBitGood, stepBitGood, meshBodyVerdict, fieldBodyVerdict, stepBodyVerdict, meshRead, fieldRead, stepRead}
 use Rattle.reading.specs.declared.Counts.{Counts}
 use Rattle.reading.proofs.ReadLaws.{both-past, mesh-tables-say, field-tables-say, step-tables-say, read-says}
 
@@ -42,8 +43,10 @@ module _ (bs : List ℕ) where
   unfolding stepRead stepHeadVerdict stepBodyVerdict stepLength stepBitGood bytesFor
   step-reads faces seconds u x kind n few lent len lu lx good =
       rw (kind, n)
-      (both-past (both-past (both-past (both-past (both-past (need-met 11 0 (le-leb 4 (length bs) (omega (arith, len)))) (need-met 13 0 refl)) (need-met 13 1 (eq-eqb faces faces refl))) (need-met 1 1 (le-leb _ _ few)))
-      (need-met 2 2 (le-leb _ _ lent))) (both-past (both-past (both-past (need-met 11 0 (eq-eqb _ _ len)) (need-met 2 6 (le-leb _ _ lu))) (need-met 2 7 (le-leb _ _ lx))) (fine-each 12 _ _ (λ i l. good i))))
+      (both-past
+      (both-past (both-past (both-past (both-past (need-met 11 0 (le-leb 4 (length bs) (omega (arith, len)))) (need-met 13 0 refl)) (need-met 13 1 (eq-eqb faces faces refl)))
+      (need-met 1 1 (le-leb _ _ few))) (need-met 2 2 (le-leb _ _ lent)))
+      (both-past (both-past (both-past (need-met 11 0 (eq-eqb _ _ len)) (need-met 2 6 (le-leb _ _ lu))) (need-met 2 7 (le-leb _ _ lx))) (fine-each 12 _ _ (λ i l. good i))))
 
 -- an accepted mesh
 pub record MeshPassed (bs : List ℕ) (n : Counts) : Type 0 where

@@ -26,9 +26,10 @@ use Rattle.sections.proofs.Bodies.{column-has}
 use Rattle.heads.specs.Layouts.{meshZeroBits, stepZeroBits, signBits, sizeBits, fluxBits, meshHeadBits, stepHeadBits, meshKind, fieldKind, stepKind, isRim, signOf, sizeOf, outsideOf, massOf, meshShape, meshValue, fieldShape, fieldValue, stepShape, stepValue, meshBits, fieldBits, stepBits, meshRecord, fieldRecord, stepRecord}
 use Rattle.heads.specs.Heads.{kindIn, cellsIn, facesIn, stepFacesIn}
 use Rattle.heads.proofs.Layouts.{mesh-kind-in, mesh-cells-in, mesh-faces-in, mesh-zeros-in, mesh-some, field-kind-in, field-cells-in, step-kind-in, step-faces-in, step-zeros-in, signs-in, sizes-in, step-some}
-use Rattle.reading.specs.Reading.{shapeIn, volumesIn, firstsIn, secondsIn, sharesIn, reachesIn, massesIn, minusIn, sizeIn, fluxesIn, outsidesIn, zeroBitGood, minusZero}
+use Rattle.zeros.specs.Zeros.{zeroBitGood, minusZero}
+use Rattle.zeros.proofs.ZeroLaws.{good-clear, zeros-good, minus-at, no-minus}
+use Rattle.reading.specs.Reading.{shapeIn, volumesIn, firstsIn, secondsIn, sharesIn, reachesIn, massesIn, minusIn, sizeIn, fluxesIn, outsidesIn}
 use Rattle.reading.specs.declared.Counts.{Counts}
-use Rattle.reading.proofs.ZeroLaws.{good-clear, zeros-good, minus-at, no-minus}
 use Rattle.writing.proofs.Accepting.{MeshPassed, FieldPassed, StepPassed}
 
 -- a mesh that fits its record
@@ -149,9 +150,12 @@ module _ (faces : ℕ) (seconds : List ℕ) (fluxes : List ℤ) (outsides : List
     fluxes-back = table-cong (pos 0) faces _ (λ f. getD fluxes f (pos 0))
         (λ f l. rw (sign-read f l, size-read f l, sign-back (isNegative (getD fluxes f (pos 0)))) (withSign-of (getD fluxes f (pos 0))))
 
-    pub outsides-back : ((f : ℕ) → f < faces → isRim seconds f ≡ false → outsideOf outsides f ≡ 0) → outsidesIn (stepRecord faces seconds fluxes outsides) faces seconds ≡ table faces (outsideOf outsides)
+    pub outsides-back : ((f : ℕ) → f < faces → isRim seconds f ≡ false → outsideOf outsides f ≡ 0)
+        → outsidesIn (stepRecord faces seconds fluxes outsides) faces seconds ≡ table faces (outsideOf outsides)
     unfolding outsidesIn stepRecord
-    outsides-back none = column-back TS TV fits 2 0 (omega arith) ∙ table-cong {A = ℕ} 0 faces (λ f. cond (isRim seconds f) (outsideOf outsides f) 0) (outsideOf outsides) (λ f l. go f l (isRim seconds f) refl)
+    outsides-back none =
+        column-back TS TV fits 2 0 (omega arith)
+        ∙ table-cong {A = ℕ} 0 faces (λ f. cond (isRim seconds f) (outsideOf outsides f) 0) (outsideOf outsides) (λ f l. go f l (isRim seconds f) refl)
       where
         go : (f : ℕ) → f < faces → (b : Bool) → isRim seconds f ≡ b → cond b (outsideOf outsides f) 0 ≡ outsideOf outsides f
         go f l true e = refl
@@ -171,7 +175,8 @@ module _ (faces : ℕ) (seconds : List ℕ) (fluxes : List ℤ) (outsides : List
         ∙ ap (λ (x : ℕ). eqb (valueIn R TS 1 0 f) 1 && eqb (bitsAt R x sizeBits) 0) q
         ∙ rw (sign-read f l, size-read f l) (no-minus-zero (getD fluxes f (pos 0)))
 
-    pub step-bits-good : (i : ℕ) → (zeroBitGood (stepRecord faces seconds fluxes outsides) stepZeroBits stepHeadBits (stepBits faces seconds) i && not (minusZero (stepRecord faces seconds fluxes outsides) faces i)) ≡ true
+    pub step-bits-good : (i : ℕ) → let R = stepRecord faces seconds fluxes outsides in
+        (zeroBitGood R stepZeroBits stepHeadBits (stepBits faces seconds) i && not (minusZero R faces i)) ≡ true
     step-bits-good i = rw (step-zeros-good i, minus i (decLt i (stepHeadBits + faces * fluxBits)))
       where
         minus : (j : ℕ) → Dec (j < stepHeadBits + faces * fluxBits) → minusZero (stepRecord faces seconds fluxes outsides) faces j ≡ false
@@ -279,7 +284,9 @@ module _ (faces : ℕ) (seconds bs : List ℕ) (bytes : (j : ℕ) → getD bs j 
   step-agrees zero (suc zero) i h = let z : i ≡ 0 = omega (arith, h .below) in rw z (sym (passed .same-count))
   step-agrees zero (suc (suc zero)) i h = let z : i ≡ 0 = omega (arith, h .below) in rw z step-zeros
   step-agrees zero (suc (suc (suc j))) i h = absurd (omega (arith, h .among))
-  step-agrees (suc zero) zero i h = ap (λ (z : ℤ). cond (isNegative z) 1 0) (flux-is i (h .below)) ∙ sign-again (valueIn bs SN 1 0 i) (valueIn bs SN 1 1 i) (bits-lt bs (place SN 1 0 i) signBits) (plain i (h .below))
+  step-agrees (suc zero) zero i h =
+      ap (λ (z : ℤ). cond (isNegative z) 1 0) (flux-is i (h .below))
+      ∙ sign-again (valueIn bs SN 1 0 i) (valueIn bs SN 1 1 i) (bits-lt bs (place SN 1 0 i) signBits) (plain i (h .below))
   step-agrees (suc zero) (suc zero) i h = ap size (flux-is i (h .below)) ∙ size-withSign (minusIn bs faces i) (sizeIn bs faces i)
   step-agrees (suc zero) (suc (suc j)) i h = absurd (omega (arith, h .among))
   step-agrees (suc (suc zero)) zero i h = entry-over bs SN 2 0 i outsides h

@@ -12,11 +12,14 @@ use Rattle.bits.specs.Layout.{spelled, bitsOf, widthOf, bytesFor, octet, packed
 use Rattle.sections.specs.Sections.{those, row, fieldsOf, recordOf}
 use Rattle.heads.specs.Layouts.{meshRecord, fieldRecord, stepRecord, meshLength, fieldLength, stepLength}
 use Rattle.heads.specs.Heads.{meshHeadVerdict, fieldHeadVerdict, stepHeadVerdict}
-use Rattle.reading.specs.Reading.{volumesIn, massesIn, fluxesIn, outsidesIn, zeroBitGood, minusZero, meshBitGood, stepBitGood, meshBodyVerdict, fieldBodyVerdict, stepBodyVerdict, meshRead, fieldRead, stepRead}
+use Rattle.zeros.specs.Zeros.{zeroBitGood, minusZero}
+use Rattle.reading.specs.Reading.{volumesIn, massesIn, fluxesIn, outsidesIn, meshBitGood, stepBitGood, meshBodyVerdict, fieldBodyVerdict, stepBodyVerdict, meshRead, fieldRead, stepRead}
 
 -- the definitions that a figure computes
 everything : Unit {0}
-unfolding sum table _andThen_ need each countsWithin bitAt bitsAt spelled bitsOf widthOf bytesFor octet packed rows those row fieldsOf recordOf meshRecord fieldRecord stepRecord meshLength fieldLength stepLength volumesIn massesIn fluxesIn outsidesIn zeroBitGood minusZero meshBitGood stepBitGood meshHeadVerdict fieldHeadVerdict stepHeadVerdict meshBodyVerdict fieldBodyVerdict stepBodyVerdict meshRead fieldRead stepRead
+unfolding sum table _andThen_ need each countsWithin bitAt bitsAt spelled bitsOf widthOf bytesFor octet packed rows those row fieldsOf recordOf
+    meshRecord fieldRecord stepRecord meshLength fieldLength stepLength volumesIn massesIn fluxesIn outsidesIn zeroBitGood minusZero meshBitGood stepBitGood
+    meshHeadVerdict fieldHeadVerdict stepHeadVerdict meshBodyVerdict fieldBodyVerdict stepBodyVerdict meshRead fieldRead stepRead
 everything = tt
 
 -- one cell of V 100 and no faces, and its field with m = 99

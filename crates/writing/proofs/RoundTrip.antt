@@ -72,7 +72,8 @@ module _ (M : Mesh) (within : counts M ≡ fine) (passes : meshValues M ≡ fine
   field-read-back masses l =
       let n = counted M within in
       let s = field-fits (M .cells) field (n .few-cells) (masses-fit M passes field salt) in
-      field-reads (fieldRecord (M .cells) field) (M .cells) masses (field-kind-back (M .cells) field s) (field-cells-back (M .cells) field s) (n .some) (n .few-cells) (field-record-length (M .cells) field) l
+      field-reads (fieldRecord (M .cells) field) (M .cells) masses (field-kind-back (M .cells) field s) (field-cells-back (M .cells) field s)
+      (n .some) (n .few-cells) (field-record-length (M .cells) field) l
 
   pub masses-read-back : massesIn (fieldRecord (M .cells) field) (M .cells) ≡ table (M .cells) (λ c. getD field c 0)
   masses-read-back = masses-back (M .cells) field (field-fits (M .cells) field (counted M within .few-cells) (masses-fit M passes field salt))
@@ -127,7 +128,8 @@ mesh-joined M {bytes} {bytes′} {r} {n} w e mostCells mostFaces {volumes} {firs
     let p = mesh-causes M (length bytes) v in
     let t = wrote w e (mesh-record-length M (mesh-fits M (p .0) (p .1))) .1 in
     let back = mesh-read-back M (p .0) (p .1) mostCells mostFaces (length volumes) (length firsts) (length seconds) (length shares) (length reaches) limits lv lf ls lw lk in
-    let q : MeshReading (accepted (record { cells = M .cells; faces = M .faces })) (meshRecord M) volumes firsts seconds shares reaches a volumes′ firsts′ seconds′ shares′ reaches′ = rw back at (rw t at read) in (
+    let same : Counts = record { cells = M .cells; faces = M .faces } in
+    let q : MeshReading (accepted same) (meshRecord M) volumes firsts seconds shares reaches a volumes′ firsts′ seconds′ shares′ reaches′ = rw back at (rw t at read) in (
       q .answer,
       q .volumes-read ∙ ap (λ xs. over xs volumes) (volumes-read-back M (p .0) (p .1)),
       q .firsts-read ∙ ap (λ xs. over xs firsts) (firsts-read-back M (p .0) (p .1)),
@@ -205,7 +207,8 @@ module _ (bs : List ℕ) (bytes : (j : ℕ) → getD bs j 0 < 256) where
       rw (over-nil (fluxesIn bs faces), over-nil (outsidesIn bs faces seconds)) at (step-again faces seconds bs bytes (step-passed faces seconds bs u x e) [] [])
 
   -- A writing of what was read: it answers the length of the record, and leaves its bytes.
-  rewrote : {v : Verdict} {N : ℕ} {rec old new : List ℕ} {r : WriteAnswer} {k : ℕ} → Writing v N rec old r new → writeSaid r ≡ accepted k → rec ≡ bs → length rec ≡ N → (k ≡ length bs) × (new ≡ over bs old)
+  rewrote : {v : Verdict} {N : ℕ} {rec old new : List ℕ} {r : WriteAnswer} {k : ℕ} → Writing v N rec old r new → writeSaid r ≡ accepted k
+      → rec ≡ bs → length rec ≡ N → (k ≡ length bs) × (new ≡ over bs old)
   unfolding _andThen_
   rewrote {v} {N} {rec} {old} {new} {r} {k} w e same len =
       let p = both-fine v (accepted N) (sym (w .answer) ∙ e) in
@@ -215,8 +218,10 @@ module _ (bs : List ℕ) (bytes : (j : ℕ) → getD bs j 0 < 256) where
       (sym d ∙ sym len ∙ ap length same, b ∙ ap (λ xs. over xs old) same)
 
   -- The reader's contract and the writer's, joined.
-  pub mesh-rejoined : (mostCells mostFaces : ℕ) {volumes firsts seconds shares reaches volumes′ firsts′ seconds′ shares′ reaches′ : List ℕ} {a : MeshAnswer} {n : Counts} {old new : List ℕ} {r : WriteAnswer} {k : ℕ}
-      → MeshReading (meshRead mostCells mostFaces bs (length volumes) (length firsts) (length seconds) (length shares) (length reaches)) bs volumes firsts seconds shares reaches a volumes′ firsts′ seconds′ shares′ reaches′
+  pub mesh-rejoined : (mostCells mostFaces : ℕ) {volumes firsts seconds shares reaches volumes′ firsts′ seconds′ shares′ reaches′ : List ℕ} {a : MeshAnswer} {n : Counts}
+      {old new : List ℕ} {r : WriteAnswer} {k : ℕ}
+      → MeshReading (meshRead mostCells mostFaces bs (length volumes) (length firsts) (length seconds) (length shares) (length reaches)) bs
+      volumes firsts seconds shares reaches a volumes′ firsts′ seconds′ shares′ reaches′
       → meshSaid a ≡ accepted n → MeshWriting (meshOf (n .cells) (n .faces) volumes′ firsts′ seconds′ shares′ reaches′) old r new → writeSaid r ≡ accepted k
       → (k ≡ length bs) × (new ≡ over bs old)
   unfolding meshLength
@@ -225,7 +230,8 @@ module _ (bs : List ℕ) (bytes : (j : ℕ) → getD bs j 0 < 256) where
       let passed = mesh-passed mostCells mostFaces bs (length volumes) (length firsts) (length seconds) (length shares) (length reaches) came in
       let q : MeshReading (accepted n) bs volumes firsts seconds shares reaches a volumes′ firsts′ seconds′ shares′ reaches′ = rw came at read in
       let N : Mesh = meshOf (n .cells) (n .faces) volumes′ firsts′ seconds′ shares′ reaches′ in
-      let same : meshRecord N ≡ bs = rw (passed .counts-are, q .volumes-read, q .firsts-read, q .seconds-read, q .shares-read, q .reaches-read) (mesh-again bs bytes passed volumes firsts seconds shares reaches) in
+      let same : meshRecord N ≡ bs =
+      rw (passed .counts-are, q .volumes-read, q .firsts-read, q .seconds-read, q .shares-read, q .reaches-read) (mesh-again bs bytes passed volumes firsts seconds shares reaches) in
       let p = mesh-causes N (length old) (both-fine _ _ (sym (w .answer) ∙ e) .0) in
       rewrote w e same (mesh-record-length N (mesh-fits N (p .0) (p .1)))
 
@@ -240,7 +246,8 @@ module _ (bs : List ℕ) (bytes : (j : ℕ) → getD bs j 0 < 256) where
       rewrote w e same (field-record-length (M .cells) masses′)
 
   pub step-rejoined : (M : Mesh) {us us′ : List ℤ} {xs xs′ : List ℕ} {a : Answer} {old new : List ℕ} {r : WriteAnswer} {k : ℕ}
-      → StepReading (stepRead (M .faces) (M .seconds) bs (length us) (length xs)) (M .faces) (M .seconds) bs us xs a us′ xs′ → said a ≡ fine → StepWriting M us′ xs′ old r new → writeSaid r ≡ accepted k
+      → StepReading (stepRead (M .faces) (M .seconds) bs (length us) (length xs)) (M .faces) (M .seconds) bs us xs a us′ xs′
+      → said a ≡ fine → StepWriting M us′ xs′ old r new → writeSaid r ≡ accepted k
       → (k ≡ length bs) × (new ≡ over bs old)
   unfolding stepLength
   step-rejoined M {us} {us′} {xs} {xs′} {a} {old} {new} {r} {k} read told w e =

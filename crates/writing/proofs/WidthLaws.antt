@@ -69,7 +69,8 @@ module _ (M : Mesh) (passes : meshValues M ≡ fine) (field : List ℕ) (k : Cal
   pub none-inside : (f : ℕ) → f < M .faces → isRim (M .seconds) f ≡ false → outsideOf (k .outsides) f ≡ 0
   unfolding outsideGood
   none-inside f l e =
-      let g : getD (k .outsides) f 0 ≤ cond (atRim M f && isNegative (getD (k .fluxes) f (pos 0))) maxConcentration 0 = leb-true _ _ (each-fine 7 (M .faces) (outsideGood M field k) outsides-pass f l) in
+      let g : getD (k .outsides) f 0 ≤ cond (atRim M f && isNegative (getD (k .fluxes) f (pos 0))) maxConcentration 0 =
+      leb-true _ _ (each-fine 7 (M .faces) (outsideGood M field k) outsides-pass f l) in
       let h : getD (k .outsides) f 0 ≤ 0 = rw e at g in
       omega arith
 

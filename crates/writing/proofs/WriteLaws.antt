@@ -14,7 +14,7 @@ use Rattle.model.proofs.Accepted.{counted, mesh-lent, field-lent}
 use Rattle.heads.specs.Layouts.{stepLength}
 use Rattle.writing.specs.declared.WriteAnswer.the-variants as write
 use Rattle.writing.specs.Writing.{meshWriteVerdict, fieldWriteVerdict, stepWriteVerdict, Writing}
-use Rattle.writing.specs.Putting.{MeshWhole, FieldWhole, StepWhole, Wrote}
+use Rattle.putting.specs.Putting.{MeshWhole, FieldWhole, StepWhole, Wrote}
 use Rattle.writing.proofs.WidthLaws.{mesh-fits, masses-fit, field-fits, outsides-fit, step-fits}
 
 -- the answer, and the bytes

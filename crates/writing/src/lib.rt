@@ -1,5 +1,4 @@
 // The three records of document 01, written. What is refused is refused before the first byte is touched.
-mod put;
 mod refusals;
 
 use model::Answer;
@@ -41,7 +40,7 @@ pub fn write_mesh(
     if let Answer::Refused(r) = a {
         return WriteAnswer::Refused(r);
     }
-    let length = put::mesh(
+    let length = putting::mesh(
         cells,
         faces,
         volumes,
@@ -84,7 +83,7 @@ pub fn write_field(
     if let Answer::Refused(r) = a {
         return WriteAnswer::Refused(r);
     }
-    let length = put::field(cells, masses, bytes);
+    let length = putting::field(cells, masses, bytes);
     WriteAnswer::Written(length as u64)
 }
 
@@ -120,6 +119,6 @@ pub fn write_step(
     if let Answer::Refused(r) = a {
         return WriteAnswer::Refused(r);
     }
-    let length = put::step(faces, seconds, fluxes, outsides, bytes);
+    let length = putting::step(faces, seconds, fluxes, outsides, bytes);
     WriteAnswer::Written(length as u64)
 }

@@ -11,7 +11,10 @@ step-requires-2 : tie.Need-step-requires-2
 step-requires-2 c κs = step-whole _ _ _ (passes (c .before .before .before .step .ensures) (c .before .enum-told .given .1))
 
 returns-2 : tie.Need-returns-2
-returns-2 c = writing-accepted (passes (c .before .before .before .before .before .before .step .ensures) (c .before .before .before .before .enum-told .given .1)) (c .before .before .step2 .ensures)
+returns-2 c =
+    let p1 = c .before .before in
+    let p2 = p1 .before .before in
+    writing-accepted (passes (p2 .before .before .step .ensures) (p2 .enum-told .given .1)) (p1 .step2 .ensures)
 
 pub write-step-spec : {M : Type 1} → statement M
 write-step-spec = tie.close (tie.spec (search needs) (search needs) returns (search needs) step-requires-2 (search needs) returns-2)

@@ -26,7 +26,8 @@ asks s c l e = ((omega (arith, s .pre .small), l, e), λ i h. column-room c (s .
 within : (s : tie.Start) → s .args .cells * volumeBits + faceBits < 18446744073709551616
 within s = let p = s .pre in omega (arith, p .small, p .holds)
 
-taken : (s : tie.Start) {k j n first stride w : ℕ} → Column (shape s) k j n first stride w → (ys : List ℕ) {zs : List ℕ} → zs ≡ over (table n (λ i. bitsAt (s .args .body .now) (first + i * stride) w)) ys
+taken : (s : tie.Start) {k j n first stride w : ℕ} → Column (shape s) k j n first stride w → (ys : List ℕ) {zs : List ℕ}
+    → zs ≡ over (table n (λ i. bitsAt (s .args .body .now) (first + i * stride) w)) ys
     → zs ≡ over (columnIn (s .args .body .now) (shape s) k j) ys
 taken s c ys e = e ∙ ap (λ xs. over xs ys) (column-is c (s .args .body .now))
 
@@ -90,7 +91,8 @@ read-column-requires-5 c κs =
     let p4 = p3 .before in
     let p5 = p4 .before in
     let s = p5 .before .before .before .before .before .before .before in
-    asks s (reaches-at (s .args .cells) (s .args .faces) {p = p2 .past3 .result .at} (omega (arith, p5 .new .ensures, p4 .past .ensures, p3 .past2 .ensures, p2 .past3 .ensures))) (omega arith) (s .pre .reaches-long)
+    asks s (reaches-at (s .args .cells) (s .args .faces) {p = p2 .past3 .result .at}
+    (omega (arith, p5 .new .ensures, p4 .past .ensures, p3 .past2 .ensures, p2 .past3 .ensures))) (omega arith) (s .pre .reaches-long)
 
 returns : tie.Need-returns
 returns c =
@@ -111,7 +113,8 @@ returns c =
       firsts-full = taken s (firsts-at n f {p = p9 .new .result .at} (p9 .new .ensures)) (s .args .firsts .now) (p4 .read-column2 .ensures);
       seconds-full = taken s (seconds-at n f {p = p8 .past .result .at} (omega (arith, p9 .new .ensures, p8 .past .ensures))) (s .args .seconds .now) (p3 .read-column3 .ensures);
       shares-full = taken s (shares-at n f {p = p7 .past2 .result .at} (omega (arith, p9 .new .ensures, p8 .past .ensures, p7 .past2 .ensures))) (s .args .shares .now) (p2 .read-column4 .ensures);
-      reaches-full = taken s (reaches-at n f {p = p6 .past3 .result .at} (omega (arith, p9 .new .ensures, p8 .past .ensures, p7 .past2 .ensures, p6 .past3 .ensures))) (s .args .reaches .now) (p1 .read-column5 .ensures);
+      reaches-full = taken s (reaches-at n f {p = p6 .past3 .result .at}
+          (omega (arith, p9 .new .ensures, p8 .past .ensures, p7 .past2 .ensures, p6 .past3 .ensures))) (s .args .reaches .now) (p1 .read-column5 .ensures);
     }
 
 pub mesh-spec : {M : Type 1} → statement M

@@ -15,7 +15,8 @@ use Rattle.reading.proofs.verdicts.step_body.Tie as tie
 
 -- the length and the tables
 lent : (c : tie.After-then-long2) → let s = c .before .before .before .before .before .before .before in
-    said (c .then-long2 .result) ≡ (hasLength (s .args .bytes .now) (stepLength (s .args .faces) (s .args .seconds .now)) andThen long 6 (s .args .faces) (s .args .fluxes) andThen long 7 (s .args .faces) (s .args .outsides))
+    said (c .then-long2 .result) ≡ (hasLength (s .args .bytes .now) (stepLength (s .args .faces) (s .args .seconds .now))
+    andThen long 6 (s .args .faces) (s .args .fluxes) andThen long 7 (s .args .faces) (s .args .outsides))
 unfolding stepLength
 lent c =
     let n = c .before .before in

@@ -1,12 +1,33 @@
-use mathlib.Core.Path.{sym, _∙_}
+use mathlib.Core.Path.{_≡_, sym, _∙_}
 use borrow.Author.Needs.{needs}
-use Rattle.model.specs.Causes.{fieldValues, saltGood}
+use Rattle.model.specs.Mesh.{Mesh, meshOf}
+use Rattle.model.specs.Answers.{said}
+use Rattle.model.specs.Causes.{fine, _andThen_, bytesLong, counts, meshTables, meshValues, fieldTable, fieldValues, saltGood}
 use Rattle.model.proofs.Verdicts.{both-fine, past, out, both-are, refuses, passes}
 use Rattle.model.proofs.Accepted.{few, mesh-long, salt-asks}
+use Rattle.heads.specs.Layouts.{fieldLength}
 use Rattle.writing.specs.Writing.{fieldWriteVerdict}
 use Rattle.writing.proofs.WriteLaws.{bytes-said, past-first}
 use Rattle.writing.proofs.refusals.field.Statement.{statement}
 use Rattle.writing.proofs.refusals.field.Tie as tie
+
+abbrev mesh : tie.Start → Mesh
+mesh s = meshOf (s .args .cells) (s .args .faces) (s .args .volumes .now) (s .args .firsts .now) (s .args .seconds .now) (s .args .shares .now) (s .args .reaches .now)
+
+-- the start, and where the tables' lengths were tested, from where the bytes and the mesh's values were
+abbrev tested : tie.After-and-then → tie.After-field-lent
+tested c = c .before .before .before .before .before .before
+
+abbrev start : tie.After-and-then → tie.Start
+start c = tested c .before .before .before .before .before .before .before
+
+lent : (c : tie.After-and-then) → let s = start c in (counts (mesh s) andThen meshTables (mesh s) andThen fieldTable (mesh s) (s .args .masses .now)) ≡ fine
+lent c = let told = c .before .before .before .before in passes (tested c .field-lent .ensures) (told .enum-told .given .1)
+
+fit : (c : tie.After-and-then) → let s = start c in said (c .and-then .result) ≡ (bytesLong (fieldLength (s .args .cells)) (s .args .room) andThen meshValues (mesh s))
+fit c =
+    let long = c .before .before in
+    both-are (c .and-then .ensures) (bytes-said (start c .args .room) (long .long .ensures) (long .before .field-bytes .ensures)) (c .before .values .ensures)
 
 returns : tie.Need-returns
 unfolding fieldWriteVerdict
@@ -21,29 +42,19 @@ values-requires c κs = mesh-long _ (both-fine _ _ (passes (c .before .before .b
 returns-2 : tie.Need-returns-2
 unfolding fieldWriteVerdict
 returns-2 c =
-    let long = c .before .before .before .before .before in
-    let told = long .before .before in
-    let bytes = bytes-said (c .before .before .before .before .before .before .before .before .before .before .before .before .before .before .before .before .args .room) (long .long .ensures) (long .before .field-bytes .ensures) in
-    let lent = passes (told .before .before .field-lent .ensures) (told .enum-told .given .1) in
-    sym (out _ (past-first _ _ lent ∙ refuses (both-are (c .before .before .before .and-then .ensures) bytes (c .before .before .before .before .values .ensures)) (c .before .fit .given .1)))
+    let k = c .before .before .before in
+    sym (out _ (past-first _ _ (lent k) ∙ refuses (fit k) (c .before .fit .given .1)))
 
 values-requires-2 : tie.Need-values-requires-2
 values-requires-2 c κs =
-    let long = c .before .before .before .before in
-    let told = long .before .before in
-    let bytes = bytes-said (c .before .before .before .before .before .before .before .before .before .before .before .before .before .before .before .args .room) (long .long .ensures) (long .before .field-bytes .ensures) in
-    let fit = passes (both-are (c .before .before .and-then .ensures) bytes (c .before .before .before .values .ensures)) (c .enum-told2 .given .1) in
-    salt-asks _ _ (passes (told .before .before .field-lent .ensures) (told .enum-told .given .1)) (both-fine _ _ fit .1)
+    let k = c .before .before in
+    salt-asks _ _ (lent k) (both-fine _ _ (passes (fit k) (c .enum-told2 .given .1)) .1)
 
 returns-3 : tie.Need-returns-3
 unfolding fieldWriteVerdict fieldValues saltGood
 returns-3 c =
-    let long = c .before .before .before .before .before in
-    let told = long .before .before in
-    let bytes = bytes-said (c .before .before .before .before .before .before .before .before .before .before .before .before .before .before .before .before .args .room) (long .long .ensures) (long .before .field-bytes .ensures) in
-    let lent = passes (told .before .before .field-lent .ensures) (told .enum-told .given .1) in
-    let fit = passes (both-are (c .before .before .before .and-then .ensures) bytes (c .before .before .before .before .values .ensures)) (c .before .enum-told2 .given .1) in
-    c .values2 .ensures ∙ sym (past _ (past-first _ _ lent ∙ fit))
+    let k = c .before .before .before in
+    c .values2 .ensures ∙ sym (past _ (past-first _ _ (lent k) ∙ passes (fit k) (c .before .enum-told2 .given .1)))
 
 pub field-spec : {M : Type 1} → statement M
 field-spec =

@@ -24,7 +24,8 @@ unfolding meshWriteVerdict
 returns-2 c =
     let long = c .before .before in
     let told = long .before .before in
-    let bytes = bytes-said (c .before .before .before .before .before .before .before .before .before .before .before .before .args .room) (long .long .ensures) (long .before .mesh-bytes .ensures) in
+    let s = told .before .before .before .before .before .before .before .before in
+    let bytes = bytes-said (s .args .room) (long .long .ensures) (long .before .mesh-bytes .ensures) in
     both-are (c .and-then .ensures) bytes (c .before .values .ensures) ∙ sym (past-first _ _ (passes (told .before .before .mesh-lent .ensures) (told .enum-told .given .1)))
 
 pub mesh-spec : {M : Type 1} → statement M

@@ -1,0 +1,128 @@
+-- As the mesh is put: field by field of the head, then the column of masses.
+use Prim.Native.Nat.{ℕ, _+_, _*_}
+use mathlib.Core.Path.{_≡_, refl, ap, _∙_}
+use mathlib.Core.Bool.{Bool}
+use mathlib.Core.List.{List}
+use native.Mathlib.Omega.{arith}
+use borrow.Author.Needs.{needs}
+use Rattle.bits.specs.Layout.{bytesFor}
+use Rattle.bits.proofs.Layouts.{bytes-hold}
+use Rattle.sections.specs.Sections.{Section, Values, shapeBits}
+use Rattle.sections.proofs.Columns.{Written, none, and, written-none, written-all}
+use Rattle.sections.proofs.Bodies.{column-written, head-written}
+use Rattle.heads.specs.Layouts.{kindBits, cellsBits, massBits, fieldHeadBits, fieldShape, fieldValue, fieldLength, fieldRecord}
+use Rattle.heads.proofs.Layouts.{field-some, field-most, field-kind-in, field-cells-in, masses-in}
+use Rattle.putting.proofs.PutLaws.{Room, field-asks, column-asks}
+use Rattle.putting.proofs.field.Statement.{statement}
+use Rattle.putting.proofs.field.Tie as tie
+
+abbrev shape : tie.Start → List Section
+shape s = fieldShape (s .args .cells)
+
+abbrev value : tie.Start → Values
+value s = fieldValue (s .args .cells) (s .args .masses .now)
+
+-- the bytes with some of the record's columns put
+abbrev Some : tie.Start → (ℕ → ℕ → Bool) → List ℕ → Type 0
+Some s put out = Written (shape s) (value s) put (s .args .bytes .now) out
+
+holds : (s : tie.Start) → Room (shape s) fieldHeadBits (s .args .bytes .now)
+unfolding fieldLength
+holds s =
+    let most = field-most (s .args .cells) (s .pre .few-cells) in
+    record {
+      short = omega arith;
+      some = field-some (s .args .cells);
+      held = omega (arith, bytes-hold (shapeBits (shape s)), s .pre .enough);
+      small = omega (arith, most);
+    }
+
+ends : (s : tie.Start) → fieldHeadBits + s .args .cells * massBits ≡ shapeBits (shape s)
+ends s = omega arith
+
+-- the start, from each place
+abbrev from-one : tie.After-write-bits → tie.Start
+from-one c = c .before .before .before .before
+
+abbrev from-two : tie.After-write-bits2 → tie.Start
+from-two c = from-one (c .before .before .before .before)
+
+abbrev from-three : tie.After-put-column → tie.Start
+from-three c = from-two (c .before .before .before .before)
+
+one : (c : tie.After-write-bits) → Some (from-one c) (and none 0 0) (c .write-bits .last .0)
+one c =
+    let s = from-one c in
+    head-written (field-kind-in (s .args .cells)) (value s) (s .pre .fits) (written-none (shape s) (value s) _) (c .write-bits .ensures) refl
+
+two : (c : tie.After-write-bits2) → Some (from-two c) (and (and none 0 0) 0 1) (c .write-bits2 .last .0)
+two c =
+    let p1 = c .before .before .before .before in
+    let s = from-two c in
+    head-written (field-cells-in (s .args .cells)) (value s) (s .pre .fits) (one p1) (c .write-bits2 .ensures) refl
+
+three : (c : tie.After-put-column) → Some (from-three c) (and (and (and none 0 0) 0 1) 1 0) (c .put-column .last .0)
+three c =
+    let p1 = c .before .before .before .before in
+    let s = from-three c in
+    column-written (masses-in (s .args .cells)) (value s) (s .pre .fits) (two p1) (c .put-column .ensures) (λ i l. refl)
+
+write-bits-requires : tie.Need-write-bits-requires
+write-bits-requires c κs =
+    let s = c .before .before .before in
+    field-asks (holds s) (written-none (shape s) (value s) _) 0 kindBits _ (omega arith) (omega arith)
+
+write-bits-requires-2 : tie.Need-write-bits-requires-2
+write-bits-requires-2 c κs =
+    let p1 = c .before .before .before in
+    let s = from-one p1 in
+    field-asks (holds s) (one p1) kindBits cellsBits _ (omega arith) (omega (arith, s .pre .few-cells))
+
+put-column-requires : tie.Need-put-column-requires
+put-column-requires c κs =
+    let p1 = c .before .before .before in
+    let s = from-two p1 in
+    column-asks (holds s) (two p1) (masses-in (s .args .cells)) (s .pre .fits) (s .args .masses .now) (omega arith) (s .pre .masses-long) (λ i l. refl)
+
+mul-pad : tie.Need-mul-pad
+mul-pad c =
+    let p1 = c .before .before .before .before .before .before .before .before .before in
+    let s = p1 .before .before .before .before .before .before in
+    let p = s .pre in omega (arith, p .few-cells)
+
+add-pad : tie.Need-add-pad
+add-pad c =
+    let p1 = c .before .before .before .before .before .before .before .before .before in
+    let s = p1 .before .before .before .before .before .before in
+    omega (arith, ends s, holds s .small)
+
+pad-requires : tie.Need-pad-requires
+unfolding fieldLength
+pad-requires c κs =
+    let p1 = c .before .before .before in
+    let s = from-three p1 in
+    rw (ends s) (rw (three p1 .same-length) (s .pre .enough), omega (arith, holds s .small))
+
+same-length : tie.Need-same-length
+same-length c =
+    let p1 = c .before .before in
+    let p2 = p1 .before .before .before .before in
+    p1 .pad .ensures .1 .same-length ∙ three p2 .same-length
+
+returns : tie.Need-returns
+unfolding fieldLength fieldRecord
+returns c =
+    let p1 = c .before .before in
+    let p2 = p1 .before .before .before .before in
+    let p3 = p2 .before .before .before .before .before .before .before .before .before in
+    let p4 = p3 .before in
+    let s = from-three p2 in
+    let e = ends s in
+    record {
+      takes = p1 .pad .ensures .0 ∙ ap bytesFor e;
+      written = written-all (shape s) (value s) (three p2) refl e (rw e (omega (arith, bytes-hold (shapeBits (shape s))))) (s .pre .enough)
+          (λ j. omega (arith, p4 .slice-known .given j)) (λ j. omega (arith, c .slice-known5 .given j)) (p1 .pad .ensures .1);
+    }
+
+pub field-spec : {M : Type 1} → statement M
+field-spec = tie.close (tie.spec (search needs) write-bits-requires write-bits-requires-2 put-column-requires mul-pad add-pad pad-requires same-length returns)

@@ -1,0 +1,238 @@
+-- Head field by head field and column by column: each puts bits as the record has them (`head-written`, `column-written`), and when every
+-- column is put the bytes hold the record (`written-all`).
+use Prim.Native.Nat.{ℕ, _+_, _*_}
+use mathlib.Core.Path.{_≡_, refl, ap, _∙_}
+use mathlib.Core.Bool.{Bool}
+use mathlib.Core.List.{List}
+use native.Mathlib.Omega.{arith}
+use borrow.Author.Needs.{needs}
+use Rattle.model.specs.Mesh.{Mesh, meshOf}
+use Rattle.bits.specs.Layout.{bytesFor}
+use Rattle.bits.proofs.Layouts.{bytes-hold}
+use Rattle.sections.specs.Sections.{Section, Values, shapeBits}
+use Rattle.sections.proofs.Columns.{Written, none, and, written-none, written-all}
+use Rattle.sections.proofs.Bodies.{column-written, head-written}
+use Rattle.heads.specs.Layouts.{kindBits, cellsBits, facesBits, meshZeroBits, volumeBits, faceBits, meshHeadBits, meshShape, meshValue, meshLength, meshRecord}
+use Rattle.heads.proofs.Layouts.{mesh-some, mesh-most, mesh-kind-in, mesh-cells-in, mesh-faces-in, mesh-zeros-in, volumes-in, firsts-in, seconds-in, shares-in, reaches-in}
+use Rattle.putting.proofs.PutLaws.{Room, field-asks, column-asks}
+use Rattle.putting.proofs.mesh.Statement.{statement}
+use Rattle.putting.proofs.mesh.Tie as tie
+
+abbrev mesh : tie.Start → Mesh
+mesh s = meshOf (s .args .cells) (s .args .faces) (s .args .volumes .now) (s .args .firsts .now) (s .args .seconds .now) (s .args .shares .now) (s .args .reaches .now)
+
+abbrev shape : tie.Start → List Section
+shape s = meshShape (s .args .cells) (s .args .faces)
+
+abbrev value : tie.Start → Values
+value s = meshValue (mesh s)
+
+-- the bytes with some of the record's columns put
+abbrev Some : tie.Start → (ℕ → ℕ → Bool) → List ℕ → Type 0
+Some s put out = Written (shape s) (value s) put (s .args .bytes .now) out
+
+holds : (s : tie.Start) → Room (shape s) meshHeadBits (s .args .bytes .now)
+unfolding meshLength
+holds s =
+    let most = mesh-most (s .args .cells) (s .args .faces) (s .pre .few-cells) (s .pre .few-faces) in
+    record {
+      short = omega arith;
+      some = mesh-some (s .args .cells) (s .args .faces);
+      held = omega (arith, bytes-hold (shapeBits (shape s)), s .pre .enough);
+      small = omega (arith, most);
+    }
+
+ends : (s : tie.Start) → meshHeadBits + s .args .cells * volumeBits + s .args .faces * faceBits ≡ shapeBits (shape s)
+ends s = omega arith
+
+abbrev Head : ℕ → ℕ → Bool
+Head = and (and (and (and none 0 0) 0 1) 0 2) 0 3
+
+-- the start, from each place
+abbrev from-one : tie.After-write-bits → tie.Start
+from-one c = c .before .before .before .before .before .before .before .before
+
+abbrev from-two : tie.After-write-bits2 → tie.Start
+from-two c = from-one (c .before .before .before .before)
+
+abbrev from-three : tie.After-write-bits3 → tie.Start
+from-three c = from-two (c .before .before .before .before)
+
+abbrev from-four : tie.After-write-bits4 → tie.Start
+from-four c = from-three (c .before .before .before .before)
+
+abbrev from-five : tie.After-put-column → tie.Start
+from-five c = from-four (c .before .before .before .before)
+
+abbrev from-six : tie.After-put-column2 → tie.Start
+from-six c = from-five (c .before .before .before .before)
+
+abbrev from-seven : tie.After-put-column3 → tie.Start
+from-seven c = from-six (c .before .before .before .before)
+
+abbrev from-eight : tie.After-put-column4 → tie.Start
+from-eight c = from-seven (c .before .before .before .before)
+
+abbrev from-nine : tie.After-put-column5 → tie.Start
+from-nine c = from-eight (c .before .before .before .before)
+
+one : (c : tie.After-write-bits) → Some (from-one c) (and none 0 0) (c .write-bits .last .0)
+one c =
+    let s = from-one c in
+    head-written (mesh-kind-in (s .args .cells) (s .args .faces)) (value s) (s .pre .fits) (written-none (shape s) (value s) _) (c .write-bits .ensures) refl
+
+two : (c : tie.After-write-bits2) → Some (from-two c) (and (and none 0 0) 0 1) (c .write-bits2 .last .0)
+two c =
+    let p1 = c .before .before .before .before in
+    let s = from-two c in
+    head-written (mesh-cells-in (s .args .cells) (s .args .faces)) (value s) (s .pre .fits) (one p1) (c .write-bits2 .ensures) refl
+
+three : (c : tie.After-write-bits3) → Some (from-three c) (and (and (and none 0 0) 0 1) 0 2) (c .write-bits3 .last .0)
+three c =
+    let p1 = c .before .before .before .before in
+    let s = from-three c in
+    head-written (mesh-faces-in (s .args .cells) (s .args .faces)) (value s) (s .pre .fits) (two p1) (c .write-bits3 .ensures) refl
+
+four : (c : tie.After-write-bits4) → Some (from-four c) Head (c .write-bits4 .last .0)
+four c =
+    let p1 = c .before .before .before .before in
+    let s = from-four c in
+    head-written (mesh-zeros-in (s .args .cells) (s .args .faces)) (value s) (s .pre .fits) (three p1) (c .write-bits4 .ensures) refl
+
+five : (c : tie.After-put-column) → Some (from-five c) (and Head 1 0) (c .put-column .last .0)
+five c =
+    let p1 = c .before .before .before .before in
+    let s = from-five c in
+    column-written (volumes-in (s .args .cells) (s .args .faces)) (value s) (s .pre .fits) (four p1) (c .put-column .ensures) (λ i l. refl)
+
+six : (c : tie.After-put-column2) → Some (from-six c) (and (and Head 1 0) 2 0) (c .put-column2 .last .0)
+six c =
+    let p1 = c .before .before .before .before in
+    let s = from-six c in
+    column-written (firsts-in (s .args .cells) (s .args .faces) refl) (value s) (s .pre .fits) (five p1) (c .put-column2 .ensures) (λ i l. refl)
+
+seven : (c : tie.After-put-column3) → Some (from-seven c) (and (and (and Head 1 0) 2 0) 2 1) (c .put-column3 .last .0)
+seven c =
+    let p1 = c .before .before .before .before in
+    let s = from-seven c in
+    column-written (seconds-in (s .args .cells) (s .args .faces) refl) (value s) (s .pre .fits) (six p1) (c .put-column3 .ensures) (λ i l. refl)
+
+eight : (c : tie.After-put-column4) → Some (from-eight c) (and (and (and (and Head 1 0) 2 0) 2 1) 2 2) (c .put-column4 .last .0)
+eight c =
+    let p1 = c .before .before .before .before in
+    let s = from-eight c in
+    column-written (shares-in (s .args .cells) (s .args .faces) refl) (value s) (s .pre .fits) (seven p1) (c .put-column4 .ensures) (λ i l. refl)
+
+nine : (c : tie.After-put-column5) → Some (from-nine c) (and (and (and (and (and Head 1 0) 2 0) 2 1) 2 2) 2 3) (c .put-column5 .last .0)
+nine c =
+    let p1 = c .before .before .before .before in
+    let s = from-nine c in
+    column-written (reaches-in (s .args .cells) (s .args .faces) refl) (value s) (s .pre .fits) (eight p1) (c .put-column5 .ensures) (λ i l. refl)
+
+write-bits-requires : tie.Need-write-bits-requires
+write-bits-requires c κs =
+    let s = c .before .before .before .before .before .before .before in
+    field-asks (holds s) (written-none (shape s) (value s) _) 0 kindBits _ (omega arith) (omega arith)
+
+write-bits-requires-2 : tie.Need-write-bits-requires-2
+write-bits-requires-2 c κs =
+    let p1 = c .before .before .before in
+    let s = from-one p1 in
+    field-asks (holds s) (one p1) kindBits cellsBits _ (omega arith) (omega (arith, s .pre .few-cells))
+
+write-bits-requires-3 : tie.Need-write-bits-requires-3
+write-bits-requires-3 c κs =
+    let p1 = c .before .before .before in
+    let s = from-two p1 in
+    field-asks (holds s) (two p1) (kindBits + cellsBits) facesBits _ (omega arith) (omega (arith, s .pre .few-faces))
+
+write-bits-requires-4 : tie.Need-write-bits-requires-4
+write-bits-requires-4 c κs =
+    let p1 = c .before .before .before in
+    let s = from-three p1 in
+    field-asks (holds s) (three p1) (kindBits + cellsBits + facesBits) meshZeroBits _ (omega arith) (omega arith)
+
+put-column-requires : tie.Need-put-column-requires
+put-column-requires c κs =
+    let p1 = c .before .before .before in
+    let s = from-four p1 in
+    column-asks (holds s) (four p1) (volumes-in (s .args .cells) (s .args .faces)) (s .pre .fits) (s .args .volumes .now) (omega arith) (s .pre .lent .volumes-long) (λ i l. refl)
+
+put-column-requires-2 : tie.Need-put-column-requires-2
+put-column-requires-2 c κs =
+    let p1 = c .before .before .before in
+    let s = from-five p1 in
+    column-asks (holds s) (five p1) (firsts-in (s .args .cells) (s .args .faces) refl) (s .pre .fits) (s .args .firsts .now) (omega arith) (s .pre .lent .firsts-long) (λ i l. refl)
+
+put-column-requires-3 : tie.Need-put-column-requires-3
+put-column-requires-3 c κs =
+    let p1 = c .before .before .before in
+    let s = from-six p1 in
+    column-asks (holds s) (six p1) (seconds-in (s .args .cells) (s .args .faces) refl) (s .pre .fits) (s .args .seconds .now) (omega arith) (s .pre .lent .seconds-long) (λ i l. refl)
+
+put-column-requires-4 : tie.Need-put-column-requires-4
+put-column-requires-4 c κs =
+    let p1 = c .before .before .before in
+    let s = from-seven p1 in
+    column-asks (holds s) (seven p1) (shares-in (s .args .cells) (s .args .faces) refl) (s .pre .fits) (s .args .shares .now) (omega arith) (s .pre .lent .shares-long) (λ i l. refl)
+
+put-column-requires-5 : tie.Need-put-column-requires-5
+put-column-requires-5 c κs =
+    let p1 = c .before .before .before in
+    let s = from-eight p1 in
+    column-asks (holds s) (eight p1) (reaches-in (s .args .cells) (s .args .faces) refl) (s .pre .fits) (s .args .reaches .now) (omega arith) (s .pre .lent .reaches-long) (λ i l. refl)
+
+mul-pad : tie.Need-mul-pad
+mul-pad c =
+    let p1 = c .before .before .before .before .before .before .before .before .before in
+    let p2 = p1 .before .before .before .before .before .before .before .before .before in
+    let p3 = p2 .before .before .before .before .before .before .before .before .before in
+    let p4 = p3 .before .before .before .before .before .before .before .before .before in
+    let s = p4 .before .before .before .before .before .before .before in
+    let p = s .pre in omega (arith, p .few-faces)
+
+add-pad : tie.Need-add-pad
+add-pad c =
+    let p1 = c .before .before .before .before .before .before .before .before .before in
+    let p2 = p1 .before .before .before .before .before .before .before .before .before in
+    let p3 = p2 .before .before .before .before .before .before .before .before .before in
+    let p4 = p3 .before .before .before .before .before .before .before .before .before in
+    let s = p4 .before .before .before .before .before .before .before in
+    omega (arith, ends s, holds s .small)
+
+pad-requires : tie.Need-pad-requires
+unfolding meshLength
+pad-requires c κs =
+    let p1 = c .before .before .before in
+    let s = from-nine p1 in
+    rw (ends s) (rw (nine p1 .same-length) (s .pre .enough), omega (arith, holds s .small))
+
+same-length : tie.Need-same-length
+same-length c =
+    let p1 = c .before .before in
+    let p2 = p1 .before .before .before .before in
+    p1 .pad .ensures .1 .same-length ∙ nine p2 .same-length
+
+returns : tie.Need-returns
+unfolding meshLength meshRecord
+returns c =
+    let p1 = c .before .before in
+    let p2 = p1 .before .before .before .before in
+    let p3 = p2 .before .before .before .before .before .before .before .before .before in
+    let p4 = p3 .before .before .before .before .before .before .before .before .before in
+    let p5 = p4 .before .before .before .before .before .before .before .before .before in
+    let p6 = p5 .before .before .before .before .before .before .before in
+    let s = from-nine p2 in
+    let e = ends s in
+    record {
+      takes = p1 .pad .ensures .0 ∙ ap bytesFor e;
+      written = written-all (shape s) (value s) (nine p2) refl e (rw e (omega (arith, bytes-hold (shapeBits (shape s))))) (s .pre .enough)
+          (λ j. omega (arith, p6 .slice-known .given j)) (λ j. omega (arith, c .slice-known11 .given j)) (p1 .pad .ensures .1);
+    }
+
+pub mesh-spec : {M : Type 1} → statement M
+mesh-spec =
+    tie.close
+    (tie.spec (search needs) (search needs) (search needs) (search needs) (search needs) (search needs) (search needs)
+    write-bits-requires write-bits-requires-2 (search needs) write-bits-requires-3 write-bits-requires-4
+    put-column-requires put-column-requires-2 put-column-requires-3 put-column-requires-4 put-column-requires-5 mul-pad add-pad pad-requires same-length returns)

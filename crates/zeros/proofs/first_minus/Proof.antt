@@ -1,0 +1,35 @@
+use Prim.Native.Nat.{ℕ, _≤_, _<_, _-_, _+_, _*_}
+use mathlib.Core.Path.{_≡_, sym, _∙_}
+use mathlib.Core.Bool.{false}
+use native.Mathlib.Omega.{arith}
+use borrow.Author.Needs.{needs}
+use borrow.Author.Count.{below-more}
+use Rattle.heads.specs.Layouts.{stepHeadBits, fluxBits}
+use Rattle.zeros.specs.Zeros.{minusZero}
+use Rattle.zeros.proofs.ZeroLaws.{minus-at}
+use Rattle.zeros.proofs.first_minus.Statement.{statement}
+use Rattle.zeros.proofs.first_minus.Tie as tie
+
+abbrev Inv-loop : tie.InvT-loop
+Inv-loop bytes faces f₀ f = (f ≤ faces) × ((k : ℕ) → k < f → minusZero bytes faces (stepHeadBits + k * fluxBits) ≡ false)
+
+abbrev μ-loop : tie.MeasureT-loop
+μ-loop bytes faces f₀ f = faces - f
+
+returns : tie.Need-returns Inv-loop μ-loop
+returns c =
+    let l = c .before .before .before .loop in
+    record { end = l .inv .0; plain = l .inv .1; minus = λ m. minus-at _ _ _ m ∙ sym (c .before .minus-zero .ensures) ∙ c .if1 .taken }
+
+loop-again : tie.Need-loop-again Inv-loop μ-loop
+loop-again c =
+    let l = c .before .before .before .loop in
+    (search needs, below-more _ _ (l .inv .1) (minus-at _ _ _ (search needs) ∙ sym (c .before .minus-zero .ensures) ∙ c .if1 .left))
+
+returns-2 : tie.Need-returns-2 Inv-loop μ-loop
+returns-2 c = let l = c .before .loop in record { end = l .inv .0; plain = l .inv .1; minus = λ m. absurd (omega arith) }
+
+pub first-minus-spec : {M : Type 1} → statement M
+first-minus-spec =
+    tie.close
+    (tie.spec Inv-loop μ-loop (λ c. (search needs, λ k l. absurd (omega arith))) (search needs) (search needs) (search needs) (search needs) returns (search needs) (search needs) loop-again returns-2)

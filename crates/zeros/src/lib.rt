@@ -1,0 +1,105 @@
+// Cause 12: zero bits that are set, and a minus with size 0. Only the bits that can break the rule are looked at, in the order of their places.
+use heads::body::Body;
+use heads::lengths;
+use model::Answer;
+use model::Cause;
+use model::needs::need;
+ghost use mathlib.Core.Path.{_≡_};
+ghost use Prim.Native.Nat.{_+_, _*_, _^_, _≤_, _<_};
+ghost use mathlib.Core.Bool.{not, _&&_};
+ghost use lib.ListN.{length};
+ghost use lib.Dec.{eqb};
+ghost use Rattle.model.specs.Causes.{each, refused as refusedAs};
+ghost use Rattle.model.specs.Answers.{said};
+ghost use Rattle.bits.specs.Field.{bitsAt};
+ghost use Rattle.heads.specs.Layouts.{meshZeroBits, stepZeroBits, meshHeadBits, stepHeadBits, fluxBits, signBits, sizeBits};
+ghost use Rattle.zeros.specs.Zeros.{zeroBitGood, minusZero};
+ghost use Rattle.zeros.specs.Scans.{FirstSet, FirstMinus};
+
+// The first bit set from `from` on, or `to`.
+fn first_set(bytes: &[u8], from: usize, to: usize) -> usize
+    requires { ⌜ (from ≤ to) × (to ≤ 8 * length (now bytes)) × (to < 2 ^ 64) ⌝ }
+    ensures { λ r. ⌜ FirstSet (now (bytes .entry)) from to r ⌝ }
+{
+    let mut i = from;
+    while i < to {
+        if bits::read_bits(bytes, i, 1) == 1 {
+            return i;
+        }
+        i += 1;
+    }
+    i
+}
+
+// Whether the sign at a place is a minus of size 0.
+fn minus_zero(bytes: &[u8], at: usize) -> bool
+    requires { ⌜ (at + fluxBits ≤ 8 * length (now bytes)) × (at + fluxBits < 2 ^ 64) ⌝ }
+    ensures { λ r. ⌜ r ≡ (eqb (bitsAt (now (bytes .entry)) at signBits) 1 && eqb (bitsAt (now (bytes .entry)) (at + signBits) sizeBits) 0) ⌝ }
+{
+    let sign = bits::read_bits(bytes, at, Body::SIGN);
+    let size = bits::read_bits(bytes, at + Body::SIGN, Body::SIZE);
+    if sign == 1 {
+        return size == 0;
+    }
+    false
+}
+
+// The first face with a minus and size 0, or `faces`.
+fn first_minus(bytes: &[u8], faces: usize) -> usize
+    requires { ⌜ (stepHeadBits + faces * fluxBits ≤ 8 * length (now bytes)) × (8 * length (now bytes) < 2 ^ 64) ⌝ }
+    ensures { λ r. ⌜ FirstMinus (now (bytes .entry)) faces r ⌝ }
+{
+    let mut f = 0;
+    while f < faces {
+        if minus_zero(bytes, 8 * lengths::STEP_HEAD + f * Body::FLUX) {
+            return f;
+        }
+        f += 1;
+    }
+    f
+}
+
+fn refused(place: usize) -> Answer
+    ensures { λ r. ⌜ said r ≡ refusedAs 12 place ⌝ }
+{
+    need(Cause::Bit, place as u64, false)
+}
+
+// The fields end at `end`.
+pub fn mesh(bytes: &[u8], end: usize) -> Answer
+    requires { ⌜ (8 * length (now bytes) < 2 ^ 64) × (meshHeadBits ≤ end) × (end ≤ 8 * length (now bytes)) ⌝ }
+    ensures { λ r. ⌜ said r ≡ each 12 (8 * length (now (bytes .entry))) (zeroBitGood (now (bytes .entry)) meshZeroBits meshHeadBits end) ⌝ }
+{
+    let head = 8 * lengths::MESH_HEAD;
+    let a = first_set(bytes, head - heads::MESH_ZEROS, head);
+    if a < head {
+        return refused(a);
+    }
+    let all = 8 * bytes.len();
+    let b = first_set(bytes, end, all);
+    if b < all {
+        return refused(b);
+    }
+    Answer::Done
+}
+
+pub fn step(bytes: &[u8], faces: usize, end: usize) -> Answer
+    requires { ⌜ (8 * length (now bytes) < 2 ^ 64) × (stepHeadBits + faces * fluxBits ≤ end) × (end ≤ 8 * length (now bytes)) ⌝ }
+    ensures { λ r. ⌜ said r ≡ each 12 (8 * length (now (bytes .entry))) (λ i. zeroBitGood (now (bytes .entry)) stepZeroBits stepHeadBits end i && not (minusZero (now (bytes .entry)) faces i)) ⌝ }
+{
+    let head = 8 * lengths::STEP_HEAD;
+    let a = first_set(bytes, head - heads::STEP_ZEROS, head);
+    if a < head {
+        return refused(a);
+    }
+    let m = first_minus(bytes, faces);
+    if m < faces {
+        return refused(head + m * Body::FLUX);
+    }
+    let all = 8 * bytes.len();
+    let pad = first_set(bytes, end, all);
+    if pad < all {
+        return refused(pad);
+    }
+    Answer::Done
+}
