@@ -1,7 +1,6 @@
 -- A record that passed its tests: its body holds what the tables are to take, and they then hold the record's columns.
 use Prim.Native.Nat.{ℕ, suc, _+_, _-_, _*_, _^_, _≤_, _<_}
 use mathlib.Core.Path.{_≡_, refl, ap, _∙_}
-use mathlib.Core.Bool.{cond}
 use mathlib.Core.List.{List}
 use native.Mathlib.Omega.{arith}
 use lib.Dec.{eqb}
@@ -13,15 +12,14 @@ use Rattle.signed.specs.Sign.{withSign}
 use Rattle.model.specs.Mesh.{maxCells, maxFaces}
 use Rattle.model.specs.Causes.{fine}
 use Rattle.model.proofs.Verdicts.{both-fine}
-use Rattle.bits.specs.Field.{bitsAt}
 use Rattle.bits.proofs.Layouts.{bytes-hold, bytes-most}
-use Rattle.sections.specs.Sections.{shapeBits, place, valueIn, columnIn}
+use Rattle.sections.specs.Sections.{shapeBits, valueIn, columnIn}
 use Rattle.sections.proofs.Bodies.{bodyOf, body-length, body-value, body-column}
-use Rattle.heads.specs.Layouts.{sizeBits, fluxBits, outsideBits, isRim, rimFaces, meshHead, meshBody, fieldHead, fieldBody, stepHead, stepBody, stepShape, meshBits, fieldBits, stepBits}
+use Rattle.heads.specs.Layouts.{meshHead, meshBody, fieldHead, fieldBody, stepHead, stepBody, stepShape, meshBits, fieldBits, stepBits}
 use Rattle.heads.specs.Heads.{cellsIn, facesIn}
-use Rattle.heads.proofs.Layouts.{mesh-most, field-most, step-most, outside-at}
+use Rattle.heads.proofs.Layouts.{mesh-most, field-most, step-most}
 use Rattle.reading.specs.Reading.{shapeIn, massesIn, meshBodyVerdict, fieldBodyVerdict, stepBodyVerdict}
-use Rattle.reading.specs.Bodies.{MeshRoom, MeshFilled, StepRoom, StepFilled}
+use Rattle.bodies.specs.Bodies.{MeshRoom, MeshFilled, StepRoom, StepFilled}
 use Rattle.reading.proofs.ReadLaws.{mesh-tables-say, field-tables-say, step-tables-say}
 
 -- heads in bytes
@@ -89,27 +87,7 @@ module _ (cells : ℕ) (bs : List ℕ) where
   unfolding massesIn
   field-filled ys e = e ∙ ap (λ xs. over xs ys) (body-column fieldHeadBytes bs fieldHead (fieldBody cells) 0 0 refl)
 
--- a step: what its body's columns are, and that they are the record's
-module _ (body : List ℕ) (faces : ℕ) (seconds : List ℕ) where
-  pub fluxes-taken : table faces (λ f. withSign (eqb (bitsAt body (0 + f * (1 + sizeBits)) 1) 1) (bitsAt body (0 + f * (1 + sizeBits) + 1) sizeBits))
-      ≡ table faces (λ f. withSign (eqb (valueIn body (stepBody faces seconds) 0 0 f) 1) (valueIn body (stepBody faces seconds) 0 1 f))
-  fluxes-taken = table-cong (pos 0) faces _ _ (λ f l. one f)
-    where
-      one : (f : ℕ) → withSign (eqb (bitsAt body (0 + f * (1 + sizeBits)) 1) 1) (bitsAt body (0 + f * (1 + sizeBits) + 1) sizeBits)
-          ≡ withSign (eqb (valueIn body (stepBody faces seconds) 0 0 f) 1) (valueIn body (stepBody faces seconds) 0 1 f)
-      one f =
-          let p : 0 + f * (1 + sizeBits) ≡ place (stepBody faces seconds) 0 0 f = omega arith in
-          let q : 0 + f * (1 + sizeBits) + 1 ≡ place (stepBody faces seconds) 0 1 f = omega arith in
-          ap (λ (x : ℕ). withSign (eqb (bitsAt body x 1) 1) (bitsAt body (0 + f * (1 + sizeBits) + 1) sizeBits)) p
-          ∙ ap (λ (x : ℕ). withSign (eqb (valueIn body (stepBody faces seconds) 0 0 f) 1) (bitsAt body x sizeBits)) q
-
-  pub outsides-taken : {p : ℕ} → p ≡ faces * fluxBits
-      → table faces (λ f. cond (isRim seconds f) (bitsAt body (p + rimFaces seconds f * outsideBits) outsideBits) 0) ≡ columnIn body (stepBody faces seconds) 1 0
-  outsides-taken {p} e = table-cong {A = ℕ} 0 faces _ _ (λ f l. ap (λ (x : ℕ). cond (isRim seconds f) (bitsAt body x outsideBits) 0) (at f))
-    where
-      at : (f : ℕ) → p + rimFaces seconds f * outsideBits ≡ place (stepBody faces seconds) 1 0 f
-      at f = omega (arith, e, outside-at faces seconds f)
-
+-- a step
 module _ (faces : ℕ) (seconds bs : List ℕ) where
   pub step-room : {u x : ℕ} → faces ≤ maxFaces → faces ≤ length seconds → stepBodyVerdict faces seconds bs u x ≡ fine
       → (stepHeadBytes ≤ length bs) × StepRoom faces seconds (bodyOf stepHeadBytes bs) u x

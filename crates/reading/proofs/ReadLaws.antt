@@ -17,7 +17,7 @@ use Rattle.heads.specs.Heads.{cellsIn, facesIn, hasLength, meshHeadVerdict}
 use Rattle.heads.proofs.HeadLaws.{MeshHeadSays, mesh-head-says}
 use Rattle.reading.specs.Reading.{shapeIn, countsIn, volumesIn, firstsIn, secondsIn, sharesIn, reachesIn, massesIn, fluxesIn, outsidesIn, meshBodyVerdict, fieldBodyVerdict, meshRead}
 use Rattle.reading.specs.Answers.{MeshReading, FieldReading, StepReading}
-use Rattle.reading.specs.Bodies.{MeshFilled, StepFilled}
+use Rattle.bodies.specs.Bodies.{MeshFilled, StepFilled}
 use Rattle.reading.specs.declared.Counts.{Counts}
 use Rattle.reading.specs.declared.MeshAnswer.the-variants as mesh
 

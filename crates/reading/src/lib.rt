@@ -1,5 +1,4 @@
 // The three records of document 01, read.
-mod body;
 mod verdicts;
 
 use model::Answer;
@@ -51,7 +50,7 @@ pub fn read_mesh(
     let MeshAnswer::Read(n) = a else {
         return a;
     };
-    body::mesh(
+    bodies::mesh(
         n.cells,
         n.faces,
         &bytes[heads::MESH_HEAD..],
@@ -74,7 +73,7 @@ pub fn read_field(cells: usize, bytes: &[u8], masses: &mut [u64]) -> Answer
     if let Answer::Refused(r) = a {
         return Answer::Refused(r);
     }
-    body::field(cells, &bytes[heads::FIELD_HEAD..], masses);
+    bodies::field(cells, &bytes[heads::FIELD_HEAD..], masses);
     Answer::Done
 }
 
@@ -95,6 +94,6 @@ pub fn read_step(
     if let Answer::Refused(r) = a {
         return Answer::Refused(r);
     }
-    body::step(faces, seconds, &bytes[heads::STEP_HEAD..], fluxes, outsides);
+    bodies::step(faces, seconds, &bytes[heads::STEP_HEAD..], fluxes, outsides);
     Answer::Done
 }

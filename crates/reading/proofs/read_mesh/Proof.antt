@@ -9,7 +9,7 @@ use Rattle.sections.proofs.Bodies.{bodyOf}
 use Rattle.reading.specs.declared.Counts.{Counts}
 use Rattle.reading.specs.Reading.{meshRead}
 use Rattle.reading.specs.Answers.{meshSaid}
-use Rattle.reading.specs.Bodies.{MeshRoom}
+use Rattle.bodies.specs.Bodies.{MeshRoom}
 use Rattle.reading.proofs.ReadLaws.{ReadSays, read-says, mesh-refused, mesh-accepted}
 use Rattle.reading.proofs.BodyLaws.{meshHeadBytes, mesh-room, mesh-filled}
 use Rattle.reading.proofs.read_mesh.Statement.{statement}

@@ -8,7 +8,7 @@ use Rattle.model.proofs.Verdicts.{both-fine, refuses, passes}
 use Rattle.sections.proofs.Bodies.{bodyOf}
 use Rattle.heads.proofs.HeadLaws.{step-head-says}
 use Rattle.reading.specs.Reading.{stepRead}
-use Rattle.reading.specs.Bodies.{StepRoom}
+use Rattle.bodies.specs.Bodies.{StepRoom}
 use Rattle.reading.proofs.BodyLaws.{stepHeadBytes, step-room, step-filled}
 use Rattle.reading.proofs.ReadLaws.{step-refused, step-accepted}
 use Rattle.reading.proofs.read_step.Statement.{statement}

@@ -4,8 +4,8 @@ use borrow.Author.Needs.{needs}
 use Rattle.lists.specs.Table.{over}
 use Rattle.sections.proofs.Bodies.{column-is, column-room}
 use Rattle.heads.proofs.Layouts.{masses-at}
-use Rattle.reading.proofs.body.field.Statement.{statement}
-use Rattle.reading.proofs.body.field.Tie as tie
+use Rattle.bodies.proofs.field.Statement.{statement}
+use Rattle.bodies.proofs.field.Tie as tie
 
 read-column-requires : tie.Need-read-column-requires
 read-column-requires c κs =

@@ -11,8 +11,8 @@ use Rattle.sections.specs.Sections.{Section, columnIn}
 use Rattle.sections.proofs.Bodies.{Column, column-is, column-room}
 use Rattle.heads.specs.Layouts.{volumeBits, faceBits, meshBody}
 use Rattle.heads.proofs.Layouts.{volumes-at, firsts-at, seconds-at, shares-at, reaches-at}
-use Rattle.reading.proofs.body.mesh.Statement.{statement}
-use Rattle.reading.proofs.body.mesh.Tie as tie
+use Rattle.bodies.proofs.mesh.Statement.{statement}
+use Rattle.bodies.proofs.mesh.Tie as tie
 
 abbrev shape : tie.Start → List Section
 shape s = meshBody (s .args .cells) (s .args .faces)

@@ -4,9 +4,9 @@ use borrow.Author.Needs.{needs}
 use Rattle.lists.specs.Table.{over}
 use Rattle.sections.proofs.Bodies.{column-room}
 use Rattle.heads.proofs.Layouts.{sizes-at}
-use Rattle.reading.proofs.BodyLaws.{fluxes-taken, outsides-taken}
-use Rattle.reading.proofs.body.step.Statement.{statement}
-use Rattle.reading.proofs.body.step.Tie as tie
+use Rattle.bodies.proofs.StepLaws.{fluxes-taken, outsides-taken}
+use Rattle.bodies.proofs.step.Statement.{statement}
+use Rattle.bodies.proofs.step.Tie as tie
 
 mul-new : tie.Need-mul-new
 mul-new c =

@@ -9,7 +9,7 @@ ghost use lib.ListN.{length};
 ghost use Rattle.lists.specs.Table.{over};
 ghost use Rattle.sections.specs.Sections.{shapeBits, columnIn};
 ghost use Rattle.heads.specs.Layouts.{meshBody, fieldBody, stepBody};
-ghost use Rattle.reading.specs.Bodies.{MeshRoom, MeshFilled, StepRoom, StepFilled};
+ghost use Rattle.bodies.specs.Bodies.{MeshRoom, MeshFilled, StepRoom, StepFilled};
 
 pub fn mesh(
     cells: usize,
