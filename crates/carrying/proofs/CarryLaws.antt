@@ -178,32 +178,32 @@ module _ (S : StepInput) (r : Ready S) (f : ℕ) (h : f < S .mesh .faces) (enter
       go false = ap coded (inside (flux S f) (concentration S (first M f)) (beyond S f) (share M f) (reach M f))
 
   -- work after the cells have met
-  after : List ℕ
-  after = widenedAcross work (first M f) (second M f) (flux S f) near far
+  widened : List ℕ
+  widened = widenedAcross work (first M f) (second M f) (flux S f) near far
 
-  after-long : length after ≡ length work
-  unfolding after
-  after-long = length-across work (first M f) (second M f) near far (flux S f)
+  widened-long : length widened ≡ length work
+  unfolding widened
+  widened-long = length-across work (first M f) (second M f) near far (flux S f)
 
-  after-q : (c : ℕ) → c < M .cells → ofCell after c 0 ≡ concentration S c
-  unfolding after
-  after-q c l = across-q work (first M f) (second M f) (flux S f) near far c in-first in-second ∙ s .q-at c l
+  widened-q : (c : ℕ) → c < M .cells → ofCell widened c 0 ≡ concentration S c
+  unfolding widened
+  widened-q c l = across-q work (first M f) (second M f) (flux S f) near far c in-first in-second ∙ s .q-at c l
 
-  after-face : (g : ℕ) → ofFace after (M .cells) g ≡ ofFace work (M .cells) g
-  unfolding after
-  after-face g = across-face work (first M f) (second M f) near far (flux S f) (M .cells) g (r .fit .first-in f h) (r .fit .second-in f h)
+  widened-face : (g : ℕ) → ofFace widened (M .cells) g ≡ ofFace work (M .cells) g
+  unfolding widened
+  widened-face g = across-face work (first M f) (second M f) near far (flux S f) (M .cells) g (r .fit .first-in f h) (r .fit .second-in f h)
 
-  after-lo : (c : ℕ) → c < M .cells → ofCell after c 1 ≡ least (f + 1) (concentration S c) (adjacent S c)
-  unfolding after adjacent beyond
-  after-lo c l =
+  widened-lo : (c : ℕ) → c < M .cells → ofCell widened c 1 ≡ least (f + 1) (concentration S c) (adjacent S c)
+  unfolding widened adjacent beyond
+  widened-lo c l =
       across-lo work (first M f) (second M f) (flux S f) near far c in-first in-second
       ∙ rw (s .lo-at c l, near-is, far-is, least-more f (concentration S c) (adjacent S c))
       (across-adjacent min (least f (concentration S c) (adjacent S c)) (flux S f) (first M f) (second M f) c (outside S f) (concentration S)
       (omega (arith, least-start f (concentration S c) (adjacent S c))) (r .fit .apart f h) (cell-not-mark S r c l))
 
-  after-hi : (c : ℕ) → c < M .cells → ofCell after c 2 ≡ greatest (f + 1) (concentration S c) (adjacent S c)
-  unfolding after adjacent beyond
-  after-hi c l =
+  widened-hi : (c : ℕ) → c < M .cells → ofCell widened c 2 ≡ greatest (f + 1) (concentration S c) (adjacent S c)
+  unfolding widened adjacent beyond
+  widened-hi c l =
       across-hi work (first M f) (second M f) (flux S f) near far c in-first in-second
       ∙ rw (s .hi-at c l, near-is, far-is, greatest-more f (concentration S c) (adjacent S c))
       (across-adjacent max (greatest f (concentration S c) (adjacent S c)) (flux S f) (first M f) (second M f) c (outside S f) (concentration S)
@@ -265,8 +265,8 @@ module _ (S : StepInput) (r : Ready S) (f : ℕ) (h : f < S .mesh .faces) (enter
     pub gone-fits : (o : ℕ) → o ≡ cond (eqb (second M f) rim) (cond p 0 amount) 0 → gone + o < 2 ^ 64
     gone-fits o e = out-mass-fits (gone + o) (out-is o e)
 
-    worked : work′ ≡ set after (4 * M .cells + f) code
-    unfolding after
+    worked : work′ ≡ set widened (4 * M .cells + f) code
+    unfolding widened
     worked = rw (withSign-of (flux S f)) at (there .worked)
 
     -- the turn of the second pass
@@ -279,11 +279,11 @@ module _ (S : StepInput) (r : Ready S) (f : ℕ) (h : f < S .mesh .faces) (enter
       moved-long = rw (there .carries) (length-set moved f _ ∙ s .moved-long);
       moved-at = rw (there .carries, through-is) (below-more (λ g. getD (set moved f (carried S f)) g (pos 0) ≡ carried S g) f
           (λ g l. getD-set-other moved f g (carried S f) (pos 0) (λ (e : g ≡ f). omega arith) ∙ s .moved-at g l) (getD-set-same moved f (carried S f) (pos 0) (rw (s .moved-long) h)));
-      work-long = rw worked (length-set after (4 * M .cells + f) code ∙ after-long ∙ s .work-long);
-      q-at = λ c l. rw worked (face-slot after (M .cells) f code c 0 refl l ∙ after-q c l);
-      lo-at = λ c l. rw worked (face-slot after (M .cells) f code c 1 refl l ∙ after-lo c l);
-      hi-at = λ c l. rw worked (face-slot after (M .cells) f code c 2 refl l ∙ after-hi c l);
-      code-at = rw worked (below-more (λ g. ofFace (set after (4 * M .cells + f) code) (M .cells) g ≡ coded (correction S g)) f
-          (λ g l. getD-set-other after (4 * M .cells + f) (4 * M .cells + g) code 0 (λ (e : 4 * M .cells + g ≡ 4 * M .cells + f). omega arith) ∙ after-face g ∙ s .code-at g l)
-          (getD-set-same after (4 * M .cells + f) code 0 (rw after-long (face-in f (M .cells) (M .faces) (length work) h (s .work-long))) ∙ code-is));
+      work-long = rw worked (length-set widened (4 * M .cells + f) code ∙ widened-long ∙ s .work-long);
+      q-at = λ c l. rw worked (face-slot widened (M .cells) f code c 0 refl l ∙ widened-q c l);
+      lo-at = λ c l. rw worked (face-slot widened (M .cells) f code c 1 refl l ∙ widened-lo c l);
+      hi-at = λ c l. rw worked (face-slot widened (M .cells) f code c 2 refl l ∙ widened-hi c l);
+      code-at = rw worked (below-more (λ g. ofFace (set widened (4 * M .cells + f) code) (M .cells) g ≡ coded (correction S g)) f
+          (λ g l. getD-set-other widened (4 * M .cells + f) (4 * M .cells + g) code 0 (λ (e : 4 * M .cells + g ≡ 4 * M .cells + f). omega arith) ∙ widened-face g ∙ s .code-at g l)
+          (getD-set-same widened (4 * M .cells + f) code 0 (rw widened-long (face-in f (M .cells) (M .faces) (length work) h (s .work-long))) ∙ code-is));
     }

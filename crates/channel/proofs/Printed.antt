@@ -26,7 +26,7 @@ use Rattle.reading.specs.Reading.{meshIn, volumesIn, firstsIn, secondsIn, share
 use Rattle.heads.specs.Heads.{meshHeadVerdict, fieldHeadVerdict, stepHeadVerdict, meshNeeds, fieldNeeds, stepNeeds}
 use Rattle.reading.specs.Reading.{meshBodyVerdict, fieldBodyVerdict, stepBodyVerdict, fieldRead}
 use Rattle.reading.specs.Reading.{stepRead}
-use Rattle.reading.specs.declared.Counts.{Counts}
+use Rattle.reading.specs.declared.MeshCounts.{MeshCounts}
 use Rattle.board.specs.Board.{entryOf, comesBefore, insertInOrder, inOrder, entryAt, before, listed}
 use Rattle.taking.specs.Taking.{meshRecordFound, meshJudged, fieldJudged, stepJudged, stepIn, ownTables, blank, printedOf, massesAfter}
 use Rattle.taking.specs.declared.Printed.{Printed}
@@ -34,35 +34,35 @@ use Rattle.text.specs.Digits.{digits}
 use Rattle.text.specs.Lines.{word, mark}
 use Rattle.session.specs.Lines.{refusalLine, stepLine, refusedStepLine, boardLine}
 use Rattle.session.specs.Session.{stepText, goesOnAfter}
-use Rattle.session.specs.Run.{recordAt, meshAt, fieldAt, stepAt, after, inTable, inTables, runMesh, boardLines, boardPrinted, stepSaid, fieldThen, stepsPrinted, fieldSaid, fromField}
+use Rattle.session.specs.Run.{recordAt, meshAt, fieldAt, stepAt, following, inTable, inTables, runMesh, boardLines, boardPrinted, stepSaid, fieldThen, stepsPrinted, fieldSaid, fromField}
 use Rattle.session.specs.Run.{fieldPrinted, meshSaidOf, fromMesh, printed}
 
 -- an accepted mesh, an accepted field and an accepted step: what is printed after them
-from-mesh : (input bs rest text : List ℕ) (counts : Counts) → meshAt input ≡ bs → after bs input ≡ rest → meshSaidOf bs ≡ accepted counts
+from-mesh : (input bs rest text : List ℕ) (counts : MeshCounts) → meshAt input ≡ bs → following bs input ≡ rest → meshSaidOf bs ≡ accepted counts
     → fieldPrinted (runMesh bs) rest ≡ text → printed input ≡ text
 unfolding printed
 from-mesh input bs rest text counts a r s e =
-    ap (λ (x : List ℕ). fromMesh (meshSaidOf x) (runMesh x) (after x input)) a ∙ ap (λ (x : List ℕ). fromMesh (meshSaidOf bs) (runMesh bs) x) r
-    ∙ ap (λ (o : Outcome Counts). fromMesh o (runMesh bs) rest) s ∙ e
+    ap (λ (x : List ℕ). fromMesh (meshSaidOf x) (runMesh x) (following x input)) a ∙ ap (λ (x : List ℕ). fromMesh (meshSaidOf bs) (runMesh bs) x) r
+    ∙ ap (λ (o : Outcome MeshCounts). fromMesh o (runMesh bs) rest) s ∙ e
 
 module _ (M : Mesh) where
-  from-field : (input bs rest text : List ℕ) (sum : ℕ) → fieldAt M input ≡ bs → after bs input ≡ rest → fieldSaid M bs ≡ accepted sum
+  from-field : (input bs rest text : List ℕ) (sum : ℕ) → fieldAt M input ≡ bs → following bs input ≡ rest → fieldSaid M bs ≡ accepted sum
       → stepsPrinted M (length rest) 1 (inTable runCells (massesIn bs (M .cells))) rest ≡ text → fieldPrinted M input ≡ stepLine 0 0 0 sum ++ text
   unfolding fieldPrinted
   from-field input bs rest text sum a r s e =
-      ap (λ (x : List ℕ). fromField M (fieldSaid M x) (inTable runCells (massesIn x (M .cells))) (after x input)) a
+      ap (λ (x : List ℕ). fromField M (fieldSaid M x) (inTable runCells (massesIn x (M .cells))) (following x input)) a
       ∙ ap (λ (x : List ℕ). fromField M (fieldSaid M bs) (inTable runCells (massesIn bs (M .cells))) x) r
       ∙ ap (λ (o : Outcome ℕ). fromField M o (inTable runCells (massesIn bs (M .cells))) rest) s ∙ ap (λ (x : List ℕ). stepLine 0 0 0 sum ++ x) e
 
-  from-step : (most step b : ℕ) (masses masses′ input bs rest text : List ℕ) (p : Printed) → stepAt M (b ∷ input) ≡ bs → after bs (b ∷ input) ≡ rest
+  from-step : (most step b : ℕ) (masses masses′ input bs rest text : List ℕ) (p : Printed) → stepAt M (b ∷ input) ≡ bs → following bs (b ∷ input) ≡ rest
       → stepSaid M masses bs ≡ accepted p → fieldThen M masses bs ≡ masses′ → stepsPrinted M most (step + 1) masses′ rest ≡ text
       → stepsPrinted M (suc most) step masses (b ∷ input) ≡ stepLine step (p .entered) (p .gone) (p .total) ++ text
   unfolding stepsPrinted
   from-step most step b masses masses′ input bs rest text p a r s m e =
       ap (λ (x : List ℕ). stepText step (stepSaid M masses x)
-      ++ cond (goesOnAfter (stepSaid M masses x)) (stepsPrinted M most (step + 1) (fieldThen M masses x) (after x (b ∷ input))) (boardPrinted M (fieldThen M masses x))) a
-      ∙ ap (λ (o : Outcome Printed). stepText step o ++ cond (goesOnAfter o) (stepsPrinted M most (step + 1) (fieldThen M masses bs) (after bs (b ∷ input))) (boardPrinted M (fieldThen M masses bs))) s
-      ∙ ap (λ (x : List ℕ). stepLine step (p .entered) (p .gone) (p .total) ++ stepsPrinted M most (step + 1) x (after bs (b ∷ input))) m
+      ++ cond (goesOnAfter (stepSaid M masses x)) (stepsPrinted M most (step + 1) (fieldThen M masses x) (following x (b ∷ input))) (boardPrinted M (fieldThen M masses x))) a
+      ∙ ap (λ (o : Outcome Printed). stepText step o ++ cond (goesOnAfter o) (stepsPrinted M most (step + 1) (fieldThen M masses bs) (following bs (b ∷ input))) (boardPrinted M (fieldThen M masses bs))) s
+      ∙ ap (λ (x : List ℕ). stepLine step (p .entered) (p .gone) (p .total) ++ stepsPrinted M most (step + 1) x (following bs (b ∷ input))) m
       ∙ ap (λ (x : List ℕ). stepLine step (p .entered) (p .gone) (p .total) ++ stepsPrinted M most (step + 1) masses′ x) r
       ∙ ap (λ (x : List ℕ). stepLine step (p .entered) (p .gone) (p .total) ++ x) e
 

@@ -55,13 +55,9 @@ pub enum LengthAnswer {
 pub fn counts_within(most_cells: usize, most_faces: usize, cells: usize, faces: usize) -> Answer
     ensures { λ r. ⌜ said r ≡ countsWithin (min «most_cells» maxCells) (min «most_faces» maxFaces) cells faces ⌝ }
 {
-    let most = bits::least(most_cells, model::MAX_CELLS);
-    let few_cells = between(1, most as u64, cells as u64);
-    let few_faces = faces <= bits::least(most_faces, model::MAX_FACES);
-    and_then(
-        need(Cause::Limits, 0, few_cells),
-        need(Cause::Limits, 1, few_faces),
-    )
+    let most_cells = bits::least(most_cells, model::MAX_CELLS);
+    let most_faces = bits::least(most_faces, model::MAX_FACES);
+    lent::counts_within(most_cells, most_faces, cells, faces)
 }
 
 // A field of a head, read by a reader that moves on to it.

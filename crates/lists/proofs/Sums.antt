@@ -56,15 +56,15 @@ sum-bound zero b f h = omega arith
 sum-bound (suc n) b f h = rw (suc-mul n b) (omega (arith, sum-bound n b f (λ i l. h i (omega arith)), h n (omega arith)))
 
 -- the first terms of a sum are at most the sum, and so are they with the next one
-pub sum-part : (m n : ℕ) (f : ℕ → ℕ) → m ≤ n → sum m f ≤ sum n f
+pub sum-fewer : (m n : ℕ) (f : ℕ → ℕ) → m ≤ n → sum m f ≤ sum n f
 unfolding sum
-sum-part m zero f l = let e : m ≡ 0 = omega arith in rw e (omega arith)
-sum-part m (suc n) f l =
-    let ih : m ≤ n → sum m f ≤ sum n f = sum-part m n f in
+sum-fewer m zero f l = let e : m ≡ 0 = omega arith in rw e (omega arith)
+sum-fewer m (suc n) f l =
+    let ih : m ≤ n → sum m f ≤ sum n f = sum-fewer m n f in
     ⊎-elim (λ (e : m ≡ suc n). rw e (omega arith)) (λ lt. omega (arith, ih (le-of-suc-le-suc lt))) (eq-or-lt-of-le l)
 
 pub sum-term : (k n : ℕ) (f : ℕ → ℕ) → k < n → sum k f + f k ≤ sum n f
-sum-term k n f l = rw (← sum-more k f) (sum-part (k + 1) n f (omega arith))
+sum-term k n f l = rw (← sum-more k f) (sum-fewer (k + 1) n f (omega arith))
 
 -- what lands at place k is counted once, or not at all where k is past the count
 pub sum-none : (n k a : ℕ) → n ≤ k → sum n (λ c. cond (eqb k c) a 0) ≡ 0

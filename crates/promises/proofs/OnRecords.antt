@@ -39,14 +39,14 @@ module _ (M : Mesh) (mesh-fine : meshVerdict M ≡ fine) (field : List ℕ) (fie
       ∙ ap (λ (o : List ℕ). F (cut M) (cutField M field) o) (outsides-same step (M .faces) (M .seconds) (table (M .faces) (second M)) (getD-table (M .faces) (second M) 0))
 
   -- the step that the records hold, and the masses after it
-  abbrev part : StepInput
-  part = inputOf (cut M) (cutField M field) (waterIn M step)
+  abbrev cutStep : StepInput
+  cutStep = inputOf (cut M) (cutField M field) (waterIn M step)
 
   abbrev whole : StepInput
   whole = inputOf M field (waterIn M step)
 
   abbrev after : List ℕ
-  after = table (M .cells) (next part)
+  after = table (M .cells) (next cutStep)
 
   abbrev left : Left
   left = record { field = after; crossing = crossingOf whole }
@@ -56,26 +56,26 @@ module _ (M : Mesh) (mesh-fine : meshVerdict M ≡ fine) (field : List ℕ) (fie
     unfolding hostVerdict stepJudged
     found = sym (carry (λ N m o. verdict N m (ownTables (fluxesIn step (N .faces)) o))) ∙ both-fine _ _ (both-fine _ _ (both-fine _ _ ok .0) .1) .1
 
-    part-ready : Ready part
-    part-ready = ready (cut M) (cutField M field) (ownTables (fluxesIn step (M .faces)) (outsidesIn step (M .faces) (M .seconds))) found
+    cut-ready : Ready cutStep
+    cut-ready = ready (cut M) (cutField M field) (ownTables (fluxesIn step (M .faces)) (outsidesIn step (M .faces) (M .seconds))) found
 
-    part-fair : Fair (cut M) (Bounded part after) (cutField M field) left
+    cut-fair : Fair (cut M) (Bounded cutStep after) (cutField M field) left
     unfolding next
-    part-fair =
+    cut-fair =
         let few-cells = counted M (within M mesh-fine) .few-cells in
         let fit = mesh-fit M (passes M mesh-fine) in
         let g = cut-agrees M field (waterIn M step) in
-        amounts-fair part part-ready (moved part) (moved-keeps part (part-ready .sound)) after (omega (arith, length-table (M .cells) (next part)))
-        (λ c h. getD-table (M .cells) (next part) 0 c h)
-        left refl (rw (in-agree whole part few-cells fit g, out-agree whole part few-cells fit g))
+        amounts-fair cutStep cut-ready (moved cutStep) (moved-keeps cutStep (cut-ready .sound)) after (omega (arith, length-table (M .cells) (next cutStep)))
+        (λ c h. getD-table (M .cells) (next cutStep) 0 c h)
+        left refl (rw (in-agree whole cutStep few-cells fit g, out-agree whole cutStep few-cells fit g))
 
     left-fair : Fair M (Bounded whole after) field left
     left-fair = fair-agree M (cut M) field (cutField M field) (waterIn M step) (waterIn M step) (cut-agrees M field (waterIn M step))
-        (counted M (within M mesh-fine) .few-cells) (mesh-fit M (passes M mesh-fine)) left part-fair
+        (counted M (within M mesh-fine) .few-cells) (mesh-fit M (passes M mesh-fine)) left cut-fair
 
     after-salt : fieldValues (cut M) after ≡ fine
     unfolding fieldVerdict
-    after-salt = both-fine _ _ (part-fair .field-accepted) .1
+    after-salt = both-fine _ _ (cut-fair .field-accepted) .1
 
     record-long : length (fieldRecord (M .cells) after) ≡ fieldLength (M .cells)
     unfolding fieldLength
@@ -85,7 +85,7 @@ module _ (M : Mesh) (mesh-fine : meshVerdict M ≡ fine) (field : List ℕ) (fie
     read-back =
         let p = passed (cut M) (cutField M field) _ found in
         masses-read-back (cut M) (p .counts-fine) (p .mesh-values-fine) after after-salt
-        ∙ table-cong 0 (M .cells) (massIn after) (next part) (λ c h. getD-table (M .cells) (next part) 0 c h)
+        ∙ table-cong 0 (M .cells) (massIn after) (next cutStep) (λ c h. getD-table (M .cells) (next cutStep) 0 c h)
 
   module _ (bytes : List ℕ) (ok : hostVerdict (meshRecord M) (fieldRecord (M .cells) field) step (length bytes) ≡ fine) where
     -- the next field record is that of the masses after the step

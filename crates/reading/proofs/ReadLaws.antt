@@ -18,7 +18,7 @@ use Rattle.heads.proofs.HeadLaws.{MeshHeadSays, mesh-head-says}
 use Rattle.reading.specs.Reading.{shapeIn, countsIn, volumesIn, firstsIn, secondsIn, sharesIn, reachesIn, massesIn, fluxesIn, outsidesIn, meshBodyVerdict, fieldBodyVerdict, meshRead}
 use Rattle.reading.specs.Answers.{MeshReading, FieldReading, StepReading}
 use Rattle.bodies.specs.Bodies.{MeshFilled, StepFilled}
-use Rattle.reading.specs.declared.Counts.{Counts}
+use Rattle.reading.specs.declared.MeshCounts.{MeshCounts}
 use Rattle.reading.specs.declared.MeshAnswer.the-variants as mesh
 
 -- the second of two tests refuses, or both pass
@@ -81,12 +81,12 @@ step-tables-say faces seconds bs fluxes outsides e =
     record { same-length = eqb-true _ _ (need-fine 11 0 _ (b .0)); fluxes-long = leb-true _ _ (need-fine 2 6 _ (b .1)); outsides-long = leb-true _ _ (need-fine 2 7 _ (a .1)) }
 
 -- what a mesh reading that is accepted has passed
-pub record ReadSays (mostCells mostFaces : ℕ) (bs : List ℕ) (n : Counts) (v f s g k : ℕ) : Type 0 where
+pub record ReadSays (mostCells mostFaces : ℕ) (bs : List ℕ) (n : MeshCounts) (v f s g k : ℕ) : Type 0 where
   pub counts-are : n ≡ countsIn bs
   pub head : MeshHeadSays mostCells mostFaces bs
   pub body-fine : meshBodyVerdict bs v f s g k ≡ fine
 
-pub read-says : (mostCells mostFaces : ℕ) (bs : List ℕ) (v f s g k : ℕ) {n : Counts} → meshRead mostCells mostFaces bs v f s g k ≡ accepted n → ReadSays mostCells mostFaces bs n v f s g k
+pub read-says : (mostCells mostFaces : ℕ) (bs : List ℕ) (v f s g k : ℕ) {n : MeshCounts} → meshRead mostCells mostFaces bs v f s g k ≡ accepted n → ReadSays mostCells mostFaces bs n v f s g k
 unfolding meshRead _andThen_
 read-says mostCells mostFaces bs v f s g k e =
     let a = both-fine (meshHeadVerdict mostCells mostFaces bs andThen meshBodyVerdict bs v f s g k) (accepted (countsIn bs)) e in
@@ -94,11 +94,11 @@ read-says mostCells mostFaces bs v f s g k e =
     record { counts-are = cc; head = mesh-head-says mostCells mostFaces bs (b .0); body-fine = b .1 }
 
 -- the answer and the tables
-module _ {bs v f s w k : List ℕ} {o : Outcome Counts} where
+module _ {bs v f s w k : List ℕ} {o : Outcome MeshCounts} where
   pub mesh-refused : {r : Refusal} → o ≡ told r → MeshReading o bs v f s w k (mesh.Refused r) v f s w k
   mesh-refused e = record { answer = sym e; volumes-read = rw e; firsts-read = rw e; seconds-read = rw e; shares-read = rw e; reaches-read = rw e }
 
-  pub mesh-accepted : {n : Counts} {v′ f′ s′ w′ k′ : List ℕ} → o ≡ accepted n → MeshFilled bs (shapeIn bs) 1 v f s w k v′ f′ s′ w′ k′ → MeshReading o bs v f s w k (mesh.Read n) v′ f′ s′ w′ k′
+  pub mesh-accepted : {n : MeshCounts} {v′ f′ s′ w′ k′ : List ℕ} → o ≡ accepted n → MeshFilled bs (shapeIn bs) 1 v f s w k v′ f′ s′ w′ k′ → MeshReading o bs v f s w k (mesh.Read n) v′ f′ s′ w′ k′
   unfolding volumesIn firstsIn secondsIn sharesIn reachesIn
   mesh-accepted e d = record {
     answer = sym e;

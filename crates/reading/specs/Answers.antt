@@ -7,18 +7,18 @@ use Rattle.lists.specs.Table.{over}
 use Rattle.model.specs.Causes.{Outcome, accepted, Verdict, taken}
 use Rattle.model.specs.Answers.{told, said}
 use Rattle.model.specs.declared.Answer.{Answer}
-use Rattle.reading.specs.declared.Counts.{Counts}
+use Rattle.reading.specs.declared.MeshCounts.{MeshCounts}
 use Rattle.reading.specs.declared.MeshAnswer.{MeshAnswer}
 use Rattle.reading.specs.declared.MeshAnswer.the-variants as mesh
 use Rattle.reading.specs.Reading.{volumesIn, firstsIn, secondsIn, sharesIn, reachesIn, massesIn, fluxesIn, outsidesIn}
 
-abbrev pub meshSaid : MeshAnswer → Outcome Counts
+abbrev pub meshSaid : MeshAnswer → Outcome MeshCounts
 meshSaid (mesh.Read n) = accepted n
 meshSaid (mesh.Refused r) = told r
 
 -- Document 01, "Causes", of reading. A reading that comes to o: its answer, and each table afterwards. The counted entries are filled and
 -- no others; a refused reading fills nothing.
-pub record MeshReading (o : Outcome Counts) (bs volumes firsts seconds shares reaches : List ℕ) (r : MeshAnswer) (volumes′ firsts′ seconds′ shares′ reaches′ : List ℕ) : Type 0 where
+pub record MeshReading (o : Outcome MeshCounts) (bs volumes firsts seconds shares reaches : List ℕ) (r : MeshAnswer) (volumes′ firsts′ seconds′ shares′ reaches′ : List ℕ) : Type 0 where
   pub answer : meshSaid r ≡ o
   pub volumes-read : volumes′ ≡ taken o (over (volumesIn bs) volumes) volumes
   pub firsts-read : firsts′ ≡ taken o (over (firstsIn bs) firsts) firsts

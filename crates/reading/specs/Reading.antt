@@ -13,7 +13,7 @@ use Rattle.sections.specs.Sections.{Section, place, valueIn, columnIn}
 use Rattle.heads.specs.Layouts.{meshZeroBits, stepZeroBits, meshHeadBits, stepHeadBits, meshShape, fieldShape, stepHead, fluxSection, stepShape, meshBits, stepBits, meshLength, fieldLength, stepLength}
 use Rattle.heads.specs.Heads.{cellsIn, facesIn, hasLength, meshHeadVerdict, fieldHeadVerdict, stepHeadVerdict}
 use Rattle.zeros.specs.Zeros.{zeroBitGood, minusZero}
-use Rattle.reading.specs.declared.Counts.{Counts}
+use Rattle.reading.specs.declared.MeshCounts.{MeshCounts}
 
 -- Values: reading does not judge them. Each is the number that the bits at its place spell; places count from the record's first bit.
 module _ (bs : List ℕ) where
@@ -36,7 +36,7 @@ module _ (bs : List ℕ) where
   unfoldable pub reachesIn : List ℕ
   reachesIn = columnIn bs shapeIn 2 3
 
-  abbrev pub countsIn : Counts
+  abbrev pub countsIn : MeshCounts
   countsIn = record { cells = cellsIn bs; faces = facesIn bs }
 
   abbrev pub meshIn : Mesh
@@ -87,7 +87,7 @@ stepBodyVerdict faces seconds bs fluxes outsides = hasLength bs (stepLength face
     andThen each 12 (8 * length bs) (stepBitGood bs faces seconds)
 
 -- What each reading comes to.
-unfoldable pub meshRead : ℕ → ℕ → List ℕ → ℕ → ℕ → ℕ → ℕ → ℕ → Outcome Counts
+unfoldable pub meshRead : ℕ → ℕ → List ℕ → ℕ → ℕ → ℕ → ℕ → ℕ → Outcome MeshCounts
 meshRead mostCells mostFaces bs volumes firsts seconds shares reaches =
     meshHeadVerdict mostCells mostFaces bs andThen meshBodyVerdict bs volumes firsts seconds shares reaches andThen accepted (countsIn bs)
 

@@ -8,13 +8,13 @@ ghost use Rattle.reading.specs.Reading.{meshRead, fieldRead, stepRead};
 ghost use Rattle.reading.specs.Answers.{MeshReading, FieldReading, StepReading};
 
 // The counts of a mesh that has been read.
-pub struct Counts {
+pub struct MeshCounts {
     pub cells: usize,
     pub faces: usize,
 }
 
 pub enum MeshAnswer {
-    Read(Counts),
+    Read(MeshCounts),
     Refused(Refusal),
 }
 

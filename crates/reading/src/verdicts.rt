@@ -1,6 +1,6 @@
 // What a reading comes to, for tables of so many entries: the head's causes, then 11, 2 and 12.
-use crate::Counts;
 use crate::MeshAnswer;
+use crate::MeshCounts;
 use heads::lengths;
 use model::Answer;
 use model::Cause;
@@ -103,7 +103,7 @@ pub fn mesh(
     if let Answer::Refused(r) = b {
         return MeshAnswer::Refused(r);
     }
-    MeshAnswer::Read(Counts { cells, faces })
+    MeshAnswer::Read(MeshCounts { cells, faces })
 }
 
 pub fn field(cells: usize, bytes: &[u8], masses: usize) -> Answer

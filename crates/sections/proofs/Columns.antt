@@ -12,7 +12,7 @@ use lib.Dec.{eqb}
 use lib.ListN.{length, getD}
 use Rattle.signed.specs.Sign.{withSign}
 use Rattle.lists.specs.Table.{table, over}
-use Rattle.lists.proofs.Sums.{sum-zero, sum-more, sum-part, sum-bound}
+use Rattle.lists.proofs.Sums.{sum-zero, sum-more, sum-fewer, sum-bound}
 use Rattle.lists.proofs.Tests.{Same, same, other, same?, both-true}
 use Rattle.bits.specs.Field.{bitAt, bitsAt}
 use Rattle.bits.specs.Put.{Put}
@@ -77,9 +77,9 @@ pub those-more : (test : ℕ → Bool) (i : ℕ) → those test (i + 1) ≡ thos
 unfolding those
 those-more test i = sum-more i (λ k. cond (test k) 1 0)
 
-pub those-part : (test : ℕ → Bool) (i n : ℕ) → i ≤ n → those test i ≤ those test n
+pub those-fewer : (test : ℕ → Bool) (i n : ℕ) → i ≤ n → those test i ≤ those test n
 unfolding those
-those-part test i n l = sum-part i n (λ k. cond (test k) 1 0) l
+those-fewer test i n l = sum-fewer i n (λ k. cond (test k) 1 0) l
 
 pub those-next : (test : ℕ → Bool) (first w i : ℕ) → first + those test i * w + cond (test i) 1 0 * w ≡ first + those test (i + 1) * w
 those-next test first w i = let e = add-mul (those test i) (cond (test i) 1 0) w in rw (those-more test i) (omega arith)
@@ -87,7 +87,7 @@ those-next test first w i = let e = add-mul (those test i) (cond (test i) 1 0) w
 pub those-apart : (test : ℕ → Bool) (first w i n : ℕ) → i < n → test i ≡ true → first + those test i * w + w ≤ first + those test n * w
 those-apart test first w i n l t =
     let e : first + those test i * w + 1 * w ≡ first + those test (i + 1) * w = rw t at (those-next test first w i) in
-    let m = mul-le-mul-right w (those-part test (i + 1) n (omega arith)) in
+    let m = mul-le-mul-right w (those-fewer test (i + 1) n (omega arith)) in
     omega (arith, one-mul w)
 
 -- room for a row that is there or not
@@ -96,10 +96,10 @@ those-room test first w i n {room} l h = go (test i) refl
   where
     go : (b : Bool) → test i ≡ b → first + those test i * w + cond b w 0 ≤ room
     go true t = omega (arith, those-apart test first w i n l t)
-    go false t = let m = mul-le-mul-right w (those-part test i n (omega arith)) in omega arith
+    go false t = let m = mul-le-mul-right w (those-fewer test i n (omega arith)) in omega arith
 
 pub those-most : (test : ℕ → Bool) (first w i n : ℕ) {room : ℕ} → i ≤ n → first + those test n * w ≤ room → first + those test i * w ≤ room
-those-most test first w i n l h = let m = mul-le-mul-right w (those-part test i n l) in omega arith
+those-most test first w i n l h = let m = mul-le-mul-right w (those-fewer test i n l) in omega arith
 
 pub first-at : (first w : ℕ) → first + 0 * w ≡ first
 first-at first w = omega (arith, zero-mul w)

@@ -15,7 +15,7 @@ use Rattle.bits.specs.Layout.{bytesFor}
 use Rattle.heads.specs.Layouts.{stepHeadBits}
 use Rattle.heads.specs.Heads.{stepNeeds}
 use Rattle.reading.specs.Reading.{volumesIn, firstsIn, secondsIn, sharesIn, reachesIn, massesIn}
-use Rattle.reading.specs.declared.Counts.{Counts}
+use Rattle.reading.specs.declared.MeshCounts.{MeshCounts}
 use Rattle.board.specs.Board.{entryAt, listed, boardVerdict, boardEntries, boardSize, unused}
 use Rattle.board.specs.declared.Entry.{Entry}
 use Rattle.board.proofs.Listed.{listed-count}
@@ -25,7 +25,7 @@ use Rattle.taking.specs.declared.StepTaken.{StepTaken}
 use Rattle.model.proofs.Verdicts.{accepted-of}
 use Rattle.session.specs.Lines.{stepLine, boardLine}
 use Rattle.session.specs.Session.{Holds, stillNeeded, stepText, lineOf, goesOn, goesOnAfter}
-use Rattle.session.specs.Run.{recordAt, meshAt, fieldAt, stepAt, after, inTable, boardLines, boardPrinted, stepSaid, fieldThen, stepsPrinted}
+use Rattle.session.specs.Run.{recordAt, meshAt, fieldAt, stepAt, following, inTable, boardLines, boardPrinted, stepSaid, fieldThen, stepsPrinted}
 use Rattle.session.specs.Run.{fromField, fieldPrinted, runMesh, fromMesh, printed}
 use Rattle.session.specs.Program.{Reads, shown, EntriesPrint, none, one, BoardPrints, StepsPrint, no-byte, step-ends, step-goes-on}
 use Rattle.session.specs.Program.{FieldPrints, field-refused, field-accepted, Prints, mesh-refused, mesh-accepted}
@@ -104,7 +104,7 @@ module _ (M : Mesh) where
   turn : (most step : ℕ) (masses input : List ℕ) → 0 < length (stepAt M input)
       → stepText step (stepSaid M masses (stepAt M input))
       ++ cond (goesOnAfter (stepSaid M masses (stepAt M input)))
-      (stepsPrinted M most (step + 1) (fieldThen M masses (stepAt M input)) (after (stepAt M input) input))
+      (stepsPrinted M most (step + 1) (fieldThen M masses (stepAt M input)) (following (stepAt M input) input))
       (boardPrinted M (fieldThen M masses (stepAt M input)))
       ≡ stepsPrinted M (suc most) step masses input
   unfolding stepsPrinted
@@ -140,7 +140,7 @@ module _ (M : Mesh) where
   unfolding fieldPrinted
   field-printed {input} (field-refused bs masses refusal line g t h) =
       let said = rw (is-read _ _ g, cells-long) at (t .answer) in
-      h .1 ∙ ap (λ (o : Outcome ℕ). fromField M o (inTable runCells (massesIn (fieldAt M input) cells)) (after (fieldAt M input) input)) said
+      h .1 ∙ ap (λ (o : Outcome ℕ). fromField M o (inTable runCells (massesIn (fieldAt M input) cells)) (following (fieldAt M input) input)) said
   field-printed {input} (field-accepted {out} bs masses sum line g t h p) =
       let q = is-read _ _ g in
       let said = rw (q, cells-long) at (t .answer) in
@@ -150,14 +150,14 @@ module _ (M : Mesh) where
       ap (λ (x : List ℕ). x ++ out) (h .1)
       ∙ ap (λ (x : List ℕ). stepLine 0 0 0 sum ++ x) (rest ∙ ap (λ (x : List ℕ). stepsPrinted M (length (drop (length bs) input)) 1 x (drop (length bs) input)) held
       ∙ ap (λ (x : List ℕ). stepsPrinted M (length (drop (length x) input)) 1 (inTable runCells (massesIn (fieldAt M input) cells)) (drop (length x) input)) q)
-      ∙ ap (λ (o : Outcome ℕ). fromField M o (inTable runCells (massesIn (fieldAt M input) cells)) (after (fieldAt M input) input)) said
+      ∙ ap (λ (o : Outcome ℕ). fromField M o (inTable runCells (massesIn (fieldAt M input) cells)) (following (fieldAt M input) input)) said
 
 -- What the program prints is what the definition says of the bytes that it reads.
 pub prints : {input out : List ℕ} → Prints input out → out ≡ printed input
 unfolding printed
 prints {input} (mesh-refused bs volumes firsts seconds shares reaches refusal line g t h) =
     let said = rw (is-read _ _ g, cells-long, faces-long) at (t .answer) in
-    h .1 ∙ ap (λ (o : Outcome Counts). fromMesh o (runMesh (meshAt input)) (after (meshAt input) input)) said
+    h .1 ∙ ap (λ (o : Outcome MeshCounts). fromMesh o (runMesh (meshAt input)) (following (meshAt input) input)) said
 prints {input} (mesh-accepted {out} bs volumes firsts seconds shares reaches counts g t p) =
     let q = is-read _ _ g in
     let said = rw (q, cells-long, faces-long) at (t .answer) in
@@ -171,4 +171,4 @@ prints {input} (mesh-accepted {out} bs volumes firsts seconds shares reaches cou
     rw (v .1, volumes-held, firsts-held, seconds-held, shares-held, reaches-held) in
     field-printed _ p ∙ ap (λ (M : Mesh). fieldPrinted M (drop (length bs) input)) same
     ∙ ap (λ (x : List ℕ). fieldPrinted (runMesh (meshAt input)) (drop (length x) input)) q
-    ∙ ap (λ (o : Outcome Counts). fromMesh o (runMesh (meshAt input)) (after (meshAt input) input)) said
+    ∙ ap (λ (o : Outcome MeshCounts). fromMesh o (runMesh (meshAt input)) (following (meshAt input) input)) said

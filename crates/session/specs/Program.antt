@@ -16,7 +16,7 @@ use Rattle.bits.specs.Layout.{bytesFor}
 use Rattle.heads.specs.Layouts.{meshHeadBits, fieldHeadBits, stepHeadBits}
 use Rattle.heads.specs.Heads.{meshNeeds, fieldNeeds, stepNeeds}
 use Rattle.heads.specs.Heads.{lengthSaid}
-use Rattle.reading.specs.declared.Counts.{Counts}
+use Rattle.reading.specs.declared.MeshCounts.{MeshCounts}
 use Rattle.heads.specs.declared.LengthAnswer.{LengthAnswer}
 use Rattle.reading.specs.declared.MeshAnswer.the-variants as mesh
 use Rattle.board.specs.Board.{BoardIs}
@@ -79,7 +79,7 @@ pub data Prints (input : List ℕ) : List ℕ → Type 0 where
       → MeshTaking bs (table runCells (λ i. 0)) (table runFaces (λ i. 0)) (table runFaces (λ i. 0)) (table runFaces (λ i. 0)) (table runFaces (λ i. 0))
       (mesh.Refused refusal) volumes firsts seconds shares reaches
       → Holds line (refusalLine letterM (number (refusal .cause)) (refusal .place)) → Prints input (shown line)
-  mesh-accepted : {out : List ℕ} (bs volumes firsts seconds shares reaches : List ℕ) (counts : Counts) → Reads (bytesFor meshHeadBits) (meshNeeds runCells runFaces) input bs
+  mesh-accepted : {out : List ℕ} (bs volumes firsts seconds shares reaches : List ℕ) (counts : MeshCounts) → Reads (bytesFor meshHeadBits) (meshNeeds runCells runFaces) input bs
       → MeshTaking bs (table runCells (λ i. 0)) (table runFaces (λ i. 0)) (table runFaces (λ i. 0)) (table runFaces (λ i. 0)) (table runFaces (λ i. 0))
       (mesh.Read counts) volumes firsts seconds shares reaches
       → FieldPrints (meshOf (counts .cells) (counts .faces) volumes firsts seconds shares reaches) (drop (length bs) input) out → Prints input out

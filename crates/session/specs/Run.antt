@@ -11,7 +11,7 @@ use Rattle.bits.specs.Layout.{bytesFor}
 use Rattle.heads.specs.Layouts.{meshHeadBits, fieldHeadBits, stepHeadBits}
 use Rattle.reading.specs.Reading.{meshIn, countsIn, massesIn}
 use Rattle.heads.specs.Heads.{meshNeeds, fieldNeeds, stepNeeds}
-use Rattle.reading.specs.declared.Counts.{Counts}
+use Rattle.reading.specs.declared.MeshCounts.{MeshCounts}
 use Rattle.board.specs.Board.{entryAt, listed, boardVerdict}
 use Rattle.board.specs.declared.Entry.{Entry}
 use Rattle.taking.specs.Taking.{meshJudged, fieldJudged, stepJudged, stepIn, printedOf, massesAfter}
@@ -37,8 +37,8 @@ abbrev pub stepAt : Mesh → List ℕ → List ℕ
 stepAt M input = recordAt (bytesFor stepHeadBits) (stepNeeds (M .faces) (M .seconds)) input
 
 -- what is left of the input after a record
-abbrev pub after : List ℕ → List ℕ → List ℕ
-after bs input = drop (length bs) input
+abbrev pub following : List ℕ → List ℕ → List ℕ
+following bs input = drop (length bs) input
 
 -- THE BOARD: a line for each entry used.
 unfoldable pub boardLines : List Entry → List ℕ
@@ -63,7 +63,7 @@ module _ (M : Mesh) where
   stepsPrinted (suc most) step masses (b ∷ bs) =
       stepText step (stepSaid masses (stepAt M (b ∷ bs)))
       ++ cond (goesOnAfter (stepSaid masses (stepAt M (b ∷ bs))))
-      (stepsPrinted most (step + 1) (fieldThen masses (stepAt M (b ∷ bs))) (after (stepAt M (b ∷ bs)) (b ∷ bs)))
+      (stepsPrinted most (step + 1) (fieldThen masses (stepAt M (b ∷ bs))) (following (stepAt M (b ∷ bs)) (b ∷ bs)))
       (boardPrinted (fieldThen masses (stepAt M (b ∷ bs))))
 
   -- THE FIELD. Refused, it has the only line; else its total is the line of step 0.
@@ -75,7 +75,7 @@ module _ (M : Mesh) where
   fromField (refused i j) masses input = refusalLine letterF i j
 
   unfoldable pub fieldPrinted : List ℕ → List ℕ
-  fieldPrinted input = fromField (fieldSaid (fieldAt M input)) (inTable runCells (massesIn (fieldAt M input) (M .cells))) (after (fieldAt M input) input)
+  fieldPrinted input = fromField (fieldSaid (fieldAt M input)) (inTable runCells (massesIn (fieldAt M input) (M .cells))) (following (fieldAt M input) input)
 
 -- THE MESH. Refused, it has the only line.
 abbrev pub inTables : Mesh → Mesh
@@ -85,12 +85,12 @@ inTables M = meshOf (M .cells) (M .faces) (inTable runCells (M .volumes)) (inTab
 abbrev pub runMesh : List ℕ → Mesh
 runMesh bs = inTables (meshIn bs)
 
-abbrev pub meshSaidOf : List ℕ → Outcome Counts
+abbrev pub meshSaidOf : List ℕ → Outcome MeshCounts
 meshSaidOf bs = meshJudged bs runCells runFaces runFaces runFaces runFaces andThen accepted (countsIn bs)
 
-abbrev pub fromMesh : Outcome Counts → Mesh → List ℕ → List ℕ
+abbrev pub fromMesh : Outcome MeshCounts → Mesh → List ℕ → List ℕ
 fromMesh (accepted counts) M input = fieldPrinted M input
 fromMesh (refused i j) M input = refusalLine letterM i j
 
 unfoldable pub printed : List ℕ → List ℕ
-printed input = fromMesh (meshSaidOf (meshAt input)) (runMesh (meshAt input)) (after (meshAt input) input)
+printed input = fromMesh (meshSaidOf (meshAt input)) (runMesh (meshAt input)) (following (meshAt input) input)

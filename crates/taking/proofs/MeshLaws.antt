@@ -21,7 +21,7 @@ use Rattle.reading.specs.Reading.{volumesIn, firstsIn, secondsIn, sharesIn, rea
 use Rattle.reading.specs.Answers.{meshSaid, MeshReading}
 use Rattle.reading.specs.declared.MeshAnswer.{MeshAnswer}
 use Rattle.reading.specs.declared.MeshAnswer.the-variants as mesh-answer
-use Rattle.reading.specs.declared.Counts.{Counts}
+use Rattle.reading.specs.declared.MeshCounts.{MeshCounts}
 use Rattle.taking.specs.Taking.{meshRecordFound, meshJudged, MeshKept, MeshTaking}
 use Rattle.taking.specs.Inner.{MeshCut, keptFound}
 use Rattle.taking.proofs.Parts.{PartRead, read-part}
@@ -103,7 +103,7 @@ module _ (bs : List ℕ) (e : meshRecordFound bs ≡ fine) where
   found-is volumes firsts seconds shares reaches = rw (counts-pass, values-left, e)
 
 -- the tables read into, and the mesh of their parts
-pub record MeshIsRead (bs : List ℕ) (n : Counts) (volumes′ firsts′ seconds′ shares′ reaches′ : List ℕ) : Type 0 where
+pub record MeshIsRead (bs : List ℕ) (n : MeshCounts) (volumes′ firsts′ seconds′ shares′ reaches′ : List ℕ) : Type 0 where
   pub passed : meshRecordFound bs ≡ fine
   pub counts-are : n ≡ countsIn bs
   pub volumes-part : PartRead (n .cells) (volumesIn bs) volumes′
@@ -125,7 +125,7 @@ module _ {bs volumes firsts seconds shares reaches : List ℕ} {a : MeshAnswer} 
   mesh-unread {r = r} d v f s w k =
       kept-refused (meshIn bs) v f s w k a _ _ (out _ (out _ (refused-of (meshRecordFound bs) (countsIn bs) (number (r .cause)) (r .place) (sym (ap meshSaid d) ∙ read-said)))) (ap meshSaid d)
 
-  pub mesh-read : {n : Counts} → a ≡ mesh-answer.Read n → MeshIsRead bs n volumes′ firsts′ seconds′ shares′ reaches′
+  pub mesh-read : {n : MeshCounts} → a ≡ mesh-answer.Read n → MeshIsRead bs n volumes′ firsts′ seconds′ shares′ reaches′
   unfolding volumesIn firstsIn secondsIn sharesIn reachesIn
   mesh-read {n = n} d =
       let o = sym (s .answer) ∙ ap meshSaid d in
@@ -141,7 +141,7 @@ module _ {bs volumes firsts seconds shares reaches : List ℕ} {a : MeshAnswer} 
         reaches-part = read-part (facesIn bs) _ reaches reaches′ o (omega (arith, lk, k .few-faces)) (s .reaches-read);
       })
 
-module _ {bs : List ℕ} {n : Counts} {volumes′ firsts′ seconds′ shares′ reaches′ : List ℕ} (m : MeshIsRead bs n volumes′ firsts′ seconds′ shares′ reaches′) where
+module _ {bs : List ℕ} {n : MeshCounts} {volumes′ firsts′ seconds′ shares′ reaches′ : List ℕ} (m : MeshIsRead bs n volumes′ firsts′ seconds′ shares′ reaches′) where
   abbrev R : Mesh
   R = meshOf (n .cells) (n .faces) (take (n .cells) volumes′) (take (n .faces) firsts′) (take (n .faces) seconds′) (take (n .faces) shares′) (take (n .faces) reaches′)
 

@@ -14,7 +14,7 @@ use Rattle.model.specs.Mesh.{Mesh, total, runCells, runFaces}
 use Rattle.model.specs.Step.{StepInput, next, inMass, outMass}
 use Rattle.model.specs.Causes.{accepted, Verdict, fine, Call, callOf, workEntries, inputOf, stepTables, stepValues, outsideGood, fluxGood, balanceGood, outflowGood, verdict}
 use Rattle.model.specs.Answers.{number, told, said}
-use Rattle.model.specs.Calls.{Crossing as Crossed, massIn, corrected, stepAnswer, nextTable}
+use Rattle.model.specs.Calls.{Crossing, massIn, corrected, stepAnswer, nextTable}
 use Rattle.model.specs.declared.Answer.{Answer}
 use Rattle.model.specs.declared.Answer.the-variants.{Done, Refused}
 use Rattle.model.specs.declared.Refusal.{Refusal}
@@ -25,7 +25,7 @@ use Rattle.model.specs.Accepted.{Ready}
 use Rattle.transport.specs.Promise.{stepSaid, StepPromise}
 use Rattle.transport.specs.declared.StepAnswer.{StepAnswer}
 use Rattle.transport.specs.declared.StepAnswer.the-variants as step-answer
-use Rattle.transport.specs.declared.Crossing.{Crossing}
+use Rattle.transport.specs.declared.Crossed.{Crossed}
 use Rattle.reading.specs.Reading.{fluxesIn, outsidesIn, stepBodyVerdict, stepRead}
 use Rattle.reading.specs.Answers.{StepReading}
 use Rattle.taking.specs.declared.Printed.{Printed}
@@ -67,8 +67,8 @@ module _ {M : Mesh} {masses : List ℕ} {fluxes : List ℤ} {outsides nexts : Li
   unfolding stepAnswer
   step-refused {r = r} d = stepping-refused M masses (ownTables fluxes outsides) r (sym own ∙ refused-of (verdict M masses k) _ (number (r .cause)) (r .place) (sym (ap stepSaid d) ∙ p .answer))
 
-  module _ {b : Crossing} (d : a ≡ step-answer.Stepped b) where
-    crossed : (verdict M masses k ≡ fine) × (_≡_ {A = Crossed} (record { entered = b .entered; gone = b .gone }) (record { entered = inMass S; gone = outMass S }))
+  module _ {b : Crossed} (d : a ≡ step-answer.Stepped b) where
+    crossed : (verdict M masses k ≡ fine) × (_≡_ {A = Crossing} (record { entered = b .entered; gone = b .gone }) (record { entered = inMass S; gone = outMass S }))
     unfolding stepAnswer
     crossed = accepted-of (verdict M masses k) _ _ (sym (ap stepSaid d) ∙ p .answer)
 
@@ -106,8 +106,8 @@ module _ {M : Mesh} {masses : List ℕ} {fluxes : List ℤ} {outsides nexts : Li
       pub step-done : {t : ℕ} → t ≡ sum (M .cells) (massIn masses′) → SteppedIn M masses fluxes outsides (step-taken.Stepped (record { entered = b .entered; gone = b .gone; total = t })) masses′
       step-done {t = t} h =
           let v = sym own ∙ crossed .0 in
-          let i : b .entered ≡ inMass S = ap (λ (x : Crossed). x .entered) (crossed .1) in
-          let o : b .gone ≡ outMass S = ap (λ (x : Crossed). x .gone) (crossed .1) in
+          let i : b .entered ≡ inMass S = ap (λ (x : Crossing). x .entered) (crossed .1) in
+          let o : b .gone ≡ outMass S = ap (λ (x : Crossing). x .gone) (crossed .1) in
           let q : _≡_ {A = Printed} (record { entered = b .entered; gone = b .gone; total = t }) (printedOf M masses (ownTables fluxes outsides)) = rw (i, o, h, sum-is) in
           record { answer = ap accepted q ∙ sym (past _ v); masses-after = rw v masses-are }
 

@@ -2,8 +2,8 @@
 use model::Answer;
 use model::RUN_CELLS;
 use model::RUN_FACES;
-use reading::Counts;
 use reading::MeshAnswer;
+use reading::MeshCounts;
 ghost use Rattle.model.specs.Mesh.{meshOf};
 ghost use Rattle.taking.specs.Taking.{MeshKept, MeshTaking};
 ghost use Rattle.taking.specs.Inner.{MeshCut, keptFound};
@@ -51,7 +51,7 @@ fn keep(
     crate::copy(read_seconds, seconds);
     crate::copy(read_shares, shares);
     crate::copy(read_reaches, reaches);
-    MeshAnswer::Read(Counts { cells, faces })
+    MeshAnswer::Read(MeshCounts { cells, faces })
 }
 
 // A mesh within the run's limits.

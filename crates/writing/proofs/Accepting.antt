@@ -16,7 +16,7 @@ use Rattle.heads.specs.Heads.{kindIn, cellsIn, facesIn, stepFacesIn, meshHeadVe
 use Rattle.heads.proofs.HeadLaws.{field-head-says, step-head-says}
 use Rattle.zeros.specs.Zeros.{zeroBitGood, minusZero}
 use Rattle.reading.specs.Reading.{countsIn, meshBitGood, stepBitGood, meshBodyVerdict, fieldBodyVerdict, stepBodyVerdict, meshRead, fieldRead, stepRead}
-use Rattle.reading.specs.declared.Counts.{Counts}
+use Rattle.reading.specs.declared.MeshCounts.{MeshCounts}
 use Rattle.reading.proofs.ReadLaws.{both-past, mesh-tables-say, field-tables-say, step-tables-say, read-says}
 
 module _ (bs : List ℕ) where
@@ -49,13 +49,13 @@ module _ (bs : List ℕ) where
       (both-past (both-past (both-past (need-met 11 0 (eq-eqb _ _ len)) (need-met 2 6 (le-leb _ _ lu))) (need-met 2 7 (le-leb _ _ lx))) (fine-each 12 _ _ (λ i l. good i))))
 
 -- an accepted mesh
-pub record MeshPassed (bs : List ℕ) (n : Counts) : Type 0 where
+pub record MeshPassed (bs : List ℕ) (n : MeshCounts) : Type 0 where
   pub counts-are : n ≡ countsIn bs
   pub kind : kindIn bs ≡ meshKind
   pub same-length : length bs ≡ bytesFor (meshBits (cellsIn bs) (facesIn bs))
   pub good : (i : ℕ) → i < 8 * length bs → zeroBitGood bs meshZeroBits meshHeadBits (meshBits (cellsIn bs) (facesIn bs)) i ≡ true
 
-pub mesh-passed : (mostCells mostFaces : ℕ) (bs : List ℕ) (v f s w k : ℕ) {n : Counts} → meshRead mostCells mostFaces bs v f s w k ≡ accepted n → MeshPassed bs n
+pub mesh-passed : (mostCells mostFaces : ℕ) (bs : List ℕ) (v f s w k : ℕ) {n : MeshCounts} → meshRead mostCells mostFaces bs v f s w k ≡ accepted n → MeshPassed bs n
 unfolding meshBodyVerdict meshBitGood
 mesh-passed mostCells mostFaces bs v f s w k e =
     let r = read-says mostCells mostFaces bs v f s w k e in

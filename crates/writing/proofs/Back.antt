@@ -29,7 +29,7 @@ use Rattle.heads.proofs.Layouts.{mesh-kind-in, mesh-cells-in, mesh-faces-in, me
 use Rattle.zeros.specs.Zeros.{zeroBitGood, minusZero}
 use Rattle.zeros.proofs.ZeroLaws.{good-clear, zeros-good, minus-at, no-minus}
 use Rattle.reading.specs.Reading.{shapeIn, volumesIn, firstsIn, secondsIn, sharesIn, reachesIn, massesIn, minusIn, sizeIn, fluxesIn, outsidesIn}
-use Rattle.reading.specs.declared.Counts.{Counts}
+use Rattle.reading.specs.declared.MeshCounts.{MeshCounts}
 use Rattle.writing.proofs.Accepting.{MeshPassed, FieldPassed, StepPassed}
 
 -- a mesh that fits its record
@@ -193,7 +193,7 @@ entry-over bs S k j i ys h = getD-over (rowsOf (sectionIn S k)) (entryIn bs S k 
 head-zeros : (bs : List ℕ) (z h e : ℕ) → z ≤ h → h ≤ e → e ≤ 8 * length bs → ((i : ℕ) → i < 8 * length bs → zeroBitGood bs z h e i ≡ true) → 0 ≡ bitsAt bs (h - z) z
 head-zeros bs z h e k m n good = sym (zero-field bs (h - z) z (λ i l q. good-clear bs z h e i (good i (omega arith)) (inl (l, omega arith))))
 
-module _ (bs : List ℕ) (bytes : (j : ℕ) → getD bs j 0 < 256) {n : Counts} (passed : MeshPassed bs n) (volumes firsts seconds shares reaches : List ℕ) where
+module _ (bs : List ℕ) (bytes : (j : ℕ) → getD bs j 0 < 256) {n : MeshCounts} (passed : MeshPassed bs n) (volumes firsts seconds shares reaches : List ℕ) where
   abbrev MN : Mesh
   MN = meshOf (cellsIn bs) (facesIn bs) (over (volumesIn bs) volumes) (over (firstsIn bs) firsts) (over (secondsIn bs) seconds) (over (sharesIn bs) shares) (over (reachesIn bs) reaches)
 

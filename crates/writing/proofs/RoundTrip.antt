@@ -24,7 +24,7 @@ use Rattle.heads.specs.Layouts.{massOf, outsideOf, meshRecord, fieldRecord, ste
 use Rattle.heads.specs.Heads.{cellsIn, facesIn}
 use Rattle.reading.specs.Reading.{meshIn, countsIn, volumesIn, firstsIn, secondsIn, sharesIn, reachesIn, massesIn, fluxesIn, outsidesIn, meshRead, fieldRead, stepRead}
 use Rattle.reading.specs.Answers.{meshSaid, MeshReading, FieldReading, StepReading}
-use Rattle.reading.specs.declared.Counts.{Counts}
+use Rattle.reading.specs.declared.MeshCounts.{MeshCounts}
 use Rattle.reading.specs.declared.MeshAnswer.{MeshAnswer}
 use Rattle.writing.specs.declared.WriteAnswer.{WriteAnswer}
 use Rattle.writing.specs.Writing.{meshWriteVerdict, fieldWriteVerdict, stepWriteVerdict, writeSaid, Writing, MeshWriting, FieldWriting, StepWriting}
@@ -128,7 +128,7 @@ mesh-joined M {bytes} {bytes′} {r} {n} w e mostCells mostFaces {volumes} {firs
     let p = mesh-causes M (length bytes) v in
     let t = wrote w e (mesh-record-length M (mesh-fits M (p .0) (p .1))) .1 in
     let back = mesh-read-back M (p .0) (p .1) mostCells mostFaces (length volumes) (length firsts) (length seconds) (length shares) (length reaches) limits lv lf ls lw lk in
-    let same : Counts = record { cells = M .cells; faces = M .faces } in
+    let same : MeshCounts = record { cells = M .cells; faces = M .faces } in
     let q : MeshReading (accepted same) (meshRecord M) volumes firsts seconds shares reaches a volumes′ firsts′ seconds′ shares′ reaches′ = rw back at (rw t at read) in (
       q .answer,
       q .volumes-read ∙ ap (λ xs. over xs volumes) (volumes-read-back M (p .0) (p .1)),
@@ -194,7 +194,7 @@ over-nil {A} xs = let l : length {A = A} [] ≤ length xs = omega arith in ap (�
 
 -- Writing undoes reading. Nothing is asked of the values here: they fit their fields, from which they were read. A writer asks 3 to 8.
 module _ (bs : List ℕ) (bytes : (j : ℕ) → getD bs j 0 < 256) where
-  pub mesh-written-back : {n : Counts} (mostCells mostFaces v f s w k : ℕ) → meshRead mostCells mostFaces bs v f s w k ≡ accepted n → meshRecord (meshIn bs) ≡ bs
+  pub mesh-written-back : {n : MeshCounts} (mostCells mostFaces v f s w k : ℕ) → meshRead mostCells mostFaces bs v f s w k ≡ accepted n → meshRecord (meshIn bs) ≡ bs
   mesh-written-back mostCells mostFaces v f s w k e =
       rw (over-nil (volumesIn bs), over-nil (firstsIn bs), over-nil (secondsIn bs), over-nil (sharesIn bs), over-nil (reachesIn bs)) at
       (mesh-again bs bytes (mesh-passed mostCells mostFaces bs v f s w k e) [] [] [] [] [])
@@ -218,7 +218,7 @@ module _ (bs : List ℕ) (bytes : (j : ℕ) → getD bs j 0 < 256) where
       (sym d ∙ sym len ∙ ap length same, b ∙ ap (λ xs. over xs old) same)
 
   -- The reader's contract and the writer's, joined.
-  pub mesh-rejoined : (mostCells mostFaces : ℕ) {volumes firsts seconds shares reaches volumes′ firsts′ seconds′ shares′ reaches′ : List ℕ} {a : MeshAnswer} {n : Counts}
+  pub mesh-rejoined : (mostCells mostFaces : ℕ) {volumes firsts seconds shares reaches volumes′ firsts′ seconds′ shares′ reaches′ : List ℕ} {a : MeshAnswer} {n : MeshCounts}
       {old new : List ℕ} {r : WriteAnswer} {k : ℕ}
       → MeshReading (meshRead mostCells mostFaces bs (length volumes) (length firsts) (length seconds) (length shares) (length reaches)) bs
       volumes firsts seconds shares reaches a volumes′ firsts′ seconds′ shares′ reaches′

@@ -8,6 +8,10 @@ use Rattle.checks.proofs.Laws.{in-groups, shape-asks, water-asks, field
 use Rattle.checks.proofs.step_values.Statement.{statement}
 use Rattle.checks.proofs.step_values.Tie as tie
 
+-- the call's start, from where the mesh was tested
+abbrev start : tie.After-values → tie.Start
+start c = c .before .before .before .before .before .before .before .before
+
 values-requires : tie.Need-values-requires
 values-requires c κs = shape-asks _ _ _ (c .before .before .before .before .before .before .before .pre)
 
@@ -16,11 +20,10 @@ returns c = sym (in-groups _ _ _ ∙ out _ (out _ (refuses (c .before .before .b
 
 values-requires-2 : tie.Need-values-requires-2
 values-requires-2 c κs =
-    let s = c .before .before .before .before .before .before .before .before .before .before in
-    field-asks _ _ _ (s .pre) (passes (c .before .before .values .ensures) (c .enum-told .given .1))
+    field-asks _ _ _ (start (c .before .before) .pre) (passes (c .before .before .values .ensures) (c .enum-told .given .1))
 
 values-requires-3 : tie.Need-values-requires-3
-values-requires-3 c κs = water-asks _ _ _ (c .before .before .before .before .before .before .before .before .before .before .before .pre)
+values-requires-3 c κs = water-asks _ _ _ (start (c .before .before .before) .pre)
 
 returns-2 : tie.Need-returns-2
 unfolding fieldValues saltGood outsideGood fluxGood
@@ -38,7 +41,7 @@ values-requires-4 c κs =
     let shaped = tested .before .before .before in
     let mesh = passes (shaped .before .before .values .ensures) (shaped .enum-told .given .1) in
     let water = both-are (tested .and-then .ensures) (tested .before .before .values2 .ensures) (tested .before .values3 .ensures) in
-    flows-ask _ _ _ (shaped .before .before .before .before .before .before .before .before .before .before .pre) mesh (passes water (c .enum-told2 .given .1))
+    flows-ask _ _ _ (start (shaped .before .before) .pre) mesh (passes water (c .enum-told2 .given .1))
 
 returns-3 : tie.Need-returns-3
 unfolding fieldValues saltGood outsideGood fluxGood balanceGood outflowGood incoming outgoing entering leaving

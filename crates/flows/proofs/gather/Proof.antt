@@ -23,48 +23,69 @@ Inv-loop faces firsts seconds fluxes inflow₀ outflow₀ f₀ inflow outflow f 
 abbrev μ-loop : tie.MeasureT-loop
 μ-loop faces firsts seconds fluxes inflow₀ outflow₀ f₀ inflow outflow f = faces - f
 
+-- from each place of a turn back to the one before: the outflow added, the giver, the receiver, the flux read, the turn's start
+abbrev begun : tie.In-loop Inv-loop μ-loop → tie.Start Inv-loop μ-loop
+begun c = c .before .before .before .before .before .before
+
+abbrev ended : tie.After-loop Inv-loop μ-loop → tie.Start Inv-loop μ-loop
+ended c = c .before .before .before .before .before .before
+
+abbrev turn : tie.After-size-at Inv-loop μ-loop → tie.In-loop Inv-loop μ-loop
+turn c = c .before .before
+
+abbrev read : tie.After-receiver Inv-loop μ-loop → tie.After-size-at Inv-loop μ-loop
+read c = c .before .before .before .before
+
+abbrev entered : tie.After-giver Inv-loop μ-loop → tie.After-receiver Inv-loop μ-loop
+entered c = c .before .before .before .before .before
+
 loop-holds : tie.Need-loop-holds Inv-loop μ-loop
 unfolding sum
 loop-holds c = let s = c .before .before .before .before in (search needs, s .pre .1 .1 .0, s .pre .1 .1 .1)
 
 add-at-requires : tie.Need-add-at-requires Inv-loop μ-loop
 add-at-requires c κs =
-    let s = c .before .before .before .before .before .before .before .before .before .before .before .before in
-    let l = c .before .before .before .before .before .before .before .loop in
-    in-asks (s .args .faces) (s .args .firsts .now) (s .args .seconds .now) (s .args .fluxes .now) (s .pre .0 .0) (s .pre .1 .0) (l .f) (search needs)
-    _ _ (c .before .before .before .before .before .is-negative-at .ensures) (c .before .before .before .before .size-at .ensures) _ _ (c .receiver .ensures) (l .inv .1)
+    let z = read c in
+    let t = turn z in
+    let s = begun t in
+    in-asks (s .args .faces) (s .args .firsts .now) (s .args .seconds .now) (s .args .fluxes .now) (s .pre .0 .0) (s .pre .1 .0) (t .before .loop .f) (search needs)
+    _ _ (z .before .is-negative-at .ensures) (z .size-at .ensures) _ _ (c .receiver .ensures) (t .before .loop .inv .1)
 
 add-at-requires-2 : tie.Need-add-at-requires-2 Inv-loop μ-loop
 add-at-requires-2 c κs =
-    let s = c .before .before .before .before .before .before .before .before .before .before .before .before .before .before .before .before .before in
-    let l = c .before .before .before .before .before .before .before .before .before .before .before .before .loop in
-    out-asks (s .args .faces) (s .args .firsts .now) (s .args .seconds .now) (s .args .fluxes .now) (s .pre .0 .0) (s .pre .1 .0) (l .f) (search needs)
-    _ _ (c .before .before .before .before .before .before .before .before .before .before .is-negative-at .ensures) (c .before .before .before .before .before .before .before .before .before .size-at .ensures) _ _ (c .giver .ensures) (l .inv .2)
+    let z = read (entered c) in
+    let t = turn z in
+    let s = begun t in
+    out-asks (s .args .faces) (s .args .firsts .now) (s .args .seconds .now) (s .args .fluxes .now) (s .pre .0 .0) (s .pre .1 .0) (t .before .loop .f) (search needs)
+    _ _ (z .before .is-negative-at .ensures) (z .size-at .ensures) _ _ (c .giver .ensures) (t .before .loop .inv .2)
 
 loop-again : tie.Need-loop-again Inv-loop μ-loop
 loop-again c =
-    let s = c .before .before .before .before .before .before .before .before .before .before .before .before .before .before .before .before .before .before .before .before in
-    let l = c .before .before .before .before .before .before .before .before .before .before .before .before .before .before .before .loop in
+    let g = c .before .before .before in
+    let r = entered g in
+    let z = read r in
+    let t = turn z in
+    let l = t .before .loop in
+    let s = begun t in
     let less : l .f < s .args .faces = omega arith in
-    let n = c .before .before .before .before .before .before .before .before .before .before .before .before .before .is-negative-at .ensures in
-    let z = c .before .before .before .before .before .before .before .before .before .before .before .before .size-at .ensures in (
+    let n = z .before .is-negative-at .ensures in (
       search needs,
       in-turn (s .args .faces) (s .args .firsts .now) (s .args .seconds .now) (s .args .fluxes .now) (s .pre .0 .0) (s .pre .1 .0) (l .f) less
-          _ _ n z _ _ (c .before .before .before .before .before .before .before .before .receiver .ensures) (l .inv .1) _ (c .before .before .before .before .before .before .before .add-at .ensures),
+          _ _ n (z .size-at .ensures) _ _ (r .receiver .ensures) (l .inv .1) _ (g .before .before .before .before .add-at .ensures),
       out-turn (s .args .faces) (s .args .firsts .now) (s .args .seconds .now) (s .args .fluxes .now) (s .pre .0 .0) (s .pre .1 .0) (l .f) less
-          _ _ n z _ _ (c .before .before .before .giver .ensures) (l .inv .2) _ (c .before .before .add-at2 .ensures),
+          _ _ n (z .size-at .ensures) _ _ (g .giver .ensures) (l .inv .2) _ (c .before .before .add-at2 .ensures),
     )
 
 same-length : tie.Need-same-length Inv-loop μ-loop
-same-length c = ap length (c .before .loop .inv .1) ∙ length-table _ _ ∙ sym (ap length (c .before .before .before .before .before .before .pre .1 .1 .0) ∙ length-table _ _)
+same-length c = ap length (c .before .loop .inv .1) ∙ length-table _ _ ∙ sym (ap length (ended c .pre .1 .1 .0) ∙ length-table _ _)
 
 same-length-2 : tie.Need-same-length-2 Inv-loop μ-loop
-same-length-2 c = ap length (c .before .loop .inv .2) ∙ length-table _ _ ∙ sym (ap length (c .before .before .before .before .before .before .pre .1 .1 .1) ∙ length-table _ _)
+same-length-2 c = ap length (c .before .loop .inv .2) ∙ length-table _ _ ∙ sym (ap length (ended c .pre .1 .1 .1) ∙ length-table _ _)
 
 returns : tie.Need-returns Inv-loop μ-loop
 unfolding incoming outgoing
 returns c =
-    let e : c .before .loop .f ≡ c .before .before .before .before .before .before .args .faces = omega arith in
+    let e : c .before .loop .f ≡ ended c .args .faces = omega arith in
     (rw e at (c .before .loop .inv .1), rw e at (c .before .loop .inv .2))
 
 pub gather-spec : {M : Type 1} → statement M

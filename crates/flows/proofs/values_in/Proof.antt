@@ -6,28 +6,46 @@ use Rattle.flows.proofs.Gathering.{long-enough, balance-read, outflow-r
 use Rattle.flows.proofs.values_in.Statement.{statement}
 use Rattle.flows.proofs.values_in.Tie as tie
 
+-- from each call back to the one before
+abbrev start : tie.After-gather → tie.Start
+start c = c .before .before .before .before .before .before .before .before
+
+abbrev gathered : tie.After-balanced → tie.After-gather
+gathered c = c .before .before .before .before .before .before .before
+
+abbrev balanced-at : tie.After-outflow-fits → tie.After-balanced
+balanced-at c = c .before .before
+
 gather-requires : tie.Need-gather-requires
 gather-requires c κs = let s = c .before .before .before .before .before .before .before in ((s .pre .0 .1, s .pre .0 .3, s .pre .0 .4, s .pre .0 .5), (s .pre .1 .0, s .pre .1 .1))
 
 balanced-requires : tie.Need-balanced-requires
 balanced-requires c κs =
-    let s = c .before .before .before .before .before .before .before .before .before .before .before .before .before .before in
-    let g = c .before .before .before .before .before .before .gather .ensures in
-    long-enough (s .args .cells) (s .args .faces) (s .args .volumes .now) (s .args .firsts .now) (s .args .seconds .now) (s .args .fluxes .now) (s .pre .0 .0) _ _ (g .0) (g .1)
+    let g = c .before .before .before .before .before .before in
+    let s = start g in
+    long-enough (s .args .cells) (s .args .faces) (s .args .volumes .now) (s .args .firsts .now) (s .args .seconds .now) (s .args .fluxes .now) (s .pre .0 .0)
+    _ _ (g .gather .ensures .0) (g .gather .ensures .1)
 
 outflow-fits-requires : tie.Need-outflow-fits-requires
 outflow-fits-requires c κs =
-    let s = c .before .before .before .before .before .before .before .before .before .before .before .before .before .before .before .before in
-    let g = c .before .before .before .before .before .before .before .before .gather .ensures in
-    (s .pre .0 .2, long-enough (s .args .cells) (s .args .faces) (s .args .volumes .now) (s .args .firsts .now) (s .args .seconds .now) (s .args .fluxes .now) (s .pre .0 .0) _ _ (g .0) (g .1) .1)
+    let g = gathered (c .before) in
+    let s = start g in (
+      s .pre .0 .2,
+      long-enough (s .args .cells) (s .args .faces) (s .args .volumes .now) (s .args .firsts .now) (s .args .seconds .now) (s .args .fluxes .now) (s .pre .0 .0)
+          _ _ (g .gather .ensures .0) (g .gather .ensures .1) .1,
+    )
 
 returns : tie.Need-returns
 returns c =
-    let s = c .before .before .before .before .before .before .before .before .before .before .before .before .before .before .before .before .before .before in
-    let g = c .before .before .before .before .before .before .before .before .before .before .gather .ensures in
+    let o = c .before in
+    let b = balanced-at o in
+    let g = gathered b in
+    let s = start g in
     both-are (c .and-then .ensures)
-    (c .before .before .before .balanced .ensures ∙ balance-read (s .args .cells) (s .args .faces) (s .args .volumes .now) (s .args .firsts .now) (s .args .seconds .now) (s .args .fluxes .now) (s .pre .0 .0) _ _ (g .0) (g .1))
-    (c .before .outflow-fits .ensures ∙ outflow-read (s .args .cells) (s .args .faces) (s .args .volumes .now) (s .args .firsts .now) (s .args .seconds .now) (s .args .fluxes .now) (s .pre .0 .0) _ _ (g .0) (g .1))
+    (b .balanced .ensures ∙ balance-read (s .args .cells) (s .args .faces) (s .args .volumes .now) (s .args .firsts .now) (s .args .seconds .now) (s .args .fluxes .now)
+    (s .pre .0 .0) _ _ (g .gather .ensures .0) (g .gather .ensures .1))
+    (o .outflow-fits .ensures ∙ outflow-read (s .args .cells) (s .args .faces) (s .args .volumes .now) (s .args .firsts .now) (s .args .seconds .now) (s .args .fluxes .now)
+    (s .pre .0 .0) _ _ (g .gather .ensures .0) (g .gather .ensures .1))
 
 pub values-in-spec : {M : Type 1} → statement M
 values-in-spec =

@@ -6,7 +6,7 @@ use lib.ListN.{length}
 use Rattle.model.specs.Causes.{accepted}
 use Rattle.heads.specs.Heads.{cellsIn, facesIn}
 use Rattle.sections.proofs.Bodies.{bodyOf}
-use Rattle.reading.specs.declared.Counts.{Counts}
+use Rattle.reading.specs.declared.MeshCounts.{MeshCounts}
 use Rattle.reading.specs.Reading.{meshRead}
 use Rattle.reading.specs.Answers.{meshSaid}
 use Rattle.bodies.specs.Bodies.{MeshRoom}
@@ -15,15 +15,15 @@ use Rattle.reading.proofs.BodyLaws.{meshHeadBytes, mesh-room, mesh-fill
 use Rattle.reading.proofs.read_mesh.Statement.{statement}
 use Rattle.reading.proofs.read_mesh.Tie as tie
 
-abbrev comes : tie.Start → Counts → Type 0
+abbrev comes : tie.Start → MeshCounts → Type 0
 comes s n = meshRead (s .args .most-cells) (s .args .most-faces) (s .args .bytes .now)
     (length (s .args .volumes .now)) (length (s .args .firsts .now)) (length (s .args .seconds .now)) (length (s .args .shares .now)) (length (s .args .reaches .now)) ≡ accepted n
 
-says : (s : tie.Start) {n : Counts} → comes s n → ReadSays (s .args .most-cells) (s .args .most-faces) (s .args .bytes .now) n
+says : (s : tie.Start) {n : MeshCounts} → comes s n → ReadSays (s .args .most-cells) (s .args .most-faces) (s .args .bytes .now) n
     (length (s .args .volumes .now)) (length (s .args .firsts .now)) (length (s .args .seconds .now)) (length (s .args .shares .now)) (length (s .args .reaches .now))
 says s e = read-says _ _ _ _ _ _ _ _ e
 
-room : (s : tie.Start) {n : Counts} → comes s n → let bs = s .args .bytes .now in (meshHeadBytes ≤ length bs) × MeshRoom (cellsIn bs) (facesIn bs) (bodyOf meshHeadBytes bs)
+room : (s : tie.Start) {n : MeshCounts} → comes s n → let bs = s .args .bytes .now in (meshHeadBytes ≤ length bs) × MeshRoom (cellsIn bs) (facesIn bs) (bodyOf meshHeadBytes bs)
     (length (s .args .volumes .now)) (length (s .args .firsts .now)) (length (s .args .seconds .now)) (length (s .args .shares .now)) (length (s .args .reaches .now))
 room s e = let k = says s e in mesh-room (s .args .bytes .now) (k .head .few-cells) (k .head .few-faces) (k .body-fine)
 
