@@ -1,8 +1,8 @@
 -- The index stays within the count.
 use Prim.Native.Nat.{_≤_, _-_}
 use borrow.Author.Needs.{needs}
-use Rattle.bench_step.proofs.grid.make_cells.Statement.{statement}
-use Rattle.bench_step.proofs.grid.make_cells.Tie as tie
+use Rattle.grid.proofs.make_cells.Statement.{statement}
+use Rattle.grid.proofs.make_cells.Tie as tie
 
 abbrev Inv-loop : tie.InvT-loop
 Inv-loop cells width volumes₀ field₀ c₀ volumes field c = c ≤ cells

@@ -4,7 +4,7 @@ use model::MAX_FACES;
 use model::RIM;
 ghost use Prim.Native.Nat.{_≤_, _<_};
 ghost use Rattle.model.specs.Mesh.{maxCells, maxFaces, maxConcentration};
-ghost use Rattle.bench_step.specs.Bounds.{maxFactor, maxProduct, maxStream};
+ghost use Rattle.grid.specs.Bounds.{maxFactor, maxProduct, maxStream};
 
 // Factors up to a million: the one product of two variables.
 pub fn times(a: u64, b: u64) -> u64
@@ -227,5 +227,16 @@ pub fn make_faces(
         make_ends(f, width, open, firsts, seconds, shares, reaches);
         make_water(f, width, open, fluxes, outsides);
         f += 1;
+    }
+}
+
+// A field, to be stepped anew.
+pub fn copy(cells: usize, from: &[u64; MAX_CELLS], to: &mut [u64; MAX_CELLS])
+    requires { ⌜ cells ≤ maxCells ⌝ }
+{
+    let mut c = 0;
+    while c < cells {
+        to[c] = from[c];
+        c += 1;
     }
 }

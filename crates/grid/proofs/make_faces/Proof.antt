@@ -1,8 +1,8 @@
 -- The index stays within the count.
 use Prim.Native.Nat.{_≤_, _-_}
 use borrow.Author.Needs.{needs}
-use Rattle.bench_step.proofs.grid.make_faces.Statement.{statement}
-use Rattle.bench_step.proofs.grid.make_faces.Tie as tie
+use Rattle.grid.proofs.make_faces.Statement.{statement}
+use Rattle.grid.proofs.make_faces.Tie as tie
 
 abbrev Inv-loop : tie.InvT-loop
 Inv-loop faces width height firsts₀ seconds₀ shares₀ reaches₀ fluxes₀ outsides₀ f₀ firsts seconds shares reaches fluxes outsides f = f ≤ faces

@@ -1,8 +1,8 @@
 -- The index stays within the count.
 use Prim.Native.Nat.{_≤_, _-_}
 use borrow.Author.Needs.{needs}
-use Rattle.bench_step.proofs.copy.Statement.{statement}
-use Rattle.bench_step.proofs.copy.Tie as tie
+use Rattle.grid.proofs.copy.Statement.{statement}
+use Rattle.grid.proofs.copy.Tie as tie
 
 abbrev Inv-loop : tie.InvT-loop
 Inv-loop cells from to₀ c₀ to c = c ≤ cells

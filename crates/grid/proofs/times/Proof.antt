@@ -1,8 +1,8 @@
 -- The product of the bounds bounds the product.
 use native.Mathlib.Omega.{arith}
 use native.Mathlib.Nat.{mul-le-mul}
-use Rattle.bench_step.proofs.grid.times.Statement.{statement}
-use Rattle.bench_step.proofs.grid.times.Tie as tie
+use Rattle.grid.proofs.times.Statement.{statement}
+use Rattle.grid.proofs.times.Tie as tie
 
 mul-result : tie.Need-mul-result
 mul-result c = omega (arith, mul-le-mul (c .pre .0) (c .pre .1))
