@@ -275,6 +275,34 @@ def lagoon_step(rng, large, kinds):
     kinds.extend(case.kinds)
     return list(case.mesh), list(case.field), list(case.step), [0xA5] * case.room
 
+def take_mesh(rng, large, kinds):
+    cells, faces, record = mesh_of(rng, False, kinds)
+    tables = [filled(rng, need, 7, kinds) if rng.random() < 0.2 else [7] * need for need in (cells, faces, faces, faces, faces)]
+    return (spoilt(rng, record), *tables)
+
+def harmed(rng, lent, raw, damages, kinds):
+    """A record of this lagoon, damaged as a rule."""
+    if rng.random() < 0.5:
+        damage = rng.choice(damages)
+        if damage(rng, lent.lag, raw) is not False:
+            kinds.append(damage.__name__)
+    return spoilt(rng, raw.bytes())
+
+def take_field(rng, large, kinds):
+    lent = tables_for(rng, (VOLUMES, MASSES), large, kinds)
+    field = lent.lag.raw_field()
+    if lent.cells <= CELLS:
+        field.cells = lent.cells
+    return lent.cells, harmed(rng, lent, field, generate.FIELD_DAMAGE, kinds), lent.tables[VOLUMES], lent.tables[MASSES]
+
+def take_step(rng, large, kinds):
+    lent = tables_for(rng, FIELD_TABLES, large, kinds)
+    step = lent.lag.raw_step(rng)
+    if lent.faces <= FACES + 1:
+        step.count = lent.faces
+    return (lent.cells, lent.faces, harmed(rng, lent, step, generate.STEP_DAMAGE, kinds),
+            *(lent.tables[position] for position in FIELD_TABLES))
+
 
 MESH_TABLES = (0, 1, 2, 3, 4)
 FIELD_TABLES = (*MESH_TABLES, MASSES)
@@ -300,6 +328,9 @@ MAKE = {
     "number_at": number_at,
     "board": on_cells,
     "lagoon_step": lagoon_step,
+    "take_mesh": take_mesh,
+    "take_field": take_field,
+    "take_step": take_step,
 }
 
 
@@ -325,7 +356,7 @@ def broken(rng, text):
     elif kind == "minus":
         words[at] = "-" + words[at].lstrip("-")
     elif kind == "call":
-        words[0] = rng.choice(["0", "20", "-1", str(GREATEST)])
+        words[0] = rng.choice(["0", str(1 + len(CALLS)), "-1", str(GREATEST)])
     elif kind == "long table":
         words[min(3, len(words) - 1)] = rng.choice(["24577", "65537", str(GREATEST)])
     elif kind == "signed":
@@ -368,6 +399,11 @@ def largest():
         spell("check_step", CELLS, FACES, *mesh, masses, still, none, *lent),
         spell("step", CELLS, FACES, *mesh, masses, still, none, *lent),
         spell("step", 1, FACES, *pool, [0], inflow, outsides, *lent),
+        "# more cells and faces than the run takes\n",
+        spell("take_mesh", mesh_record, *([7] * len(column) for column in mesh)),
+        spell("take_field", CELLS, field_record, volumes, [7] * CELLS),
+        spell("take_step", 1, FACES, step_record, *pool, [0]),
+        spell("take_step", CELLS, 0, lagoon.pack_step(pool, [], []), volumes, [], [], [], [], masses),
         "# more numbers than a call may have\n",
         spell("check_field", 1, 1, *([0] * 24_576 for _ in range(6))),
     ])

@@ -31,6 +31,9 @@ CALLS = {
     17: ("number_at", "bnn"),
     18: ("board", "ntt"),
     19: ("lagoon_step", "bbbb"),
+    20: ("take_mesh", "bttttt"),
+    21: ("take_field", "nbtt"),
+    22: ("take_step", "nnbtttttt"),
 }
 NUMBER_OF = {name: number for number, (name, _) in CALLS.items()}
 
@@ -200,9 +203,7 @@ class Engine:
 
     def read_mesh(self, most_cells, most_faces, record, *tables):
         mesh = self.lagoon.read_mesh(record, self.limits(most_cells, most_faces), self.lengths(dict(enumerate(tables))))
-        for table, column in zip(tables, mesh):
-            table[:len(column)] = column
-        return len(mesh.volumes), len(mesh.firsts)
+        return self.fill_mesh(mesh, tables)
 
     def read_field(self, cells, record, masses):
         L = self.lagoon
@@ -243,6 +244,38 @@ class Engine:
             self.put(record, room)
         return number
 
+    def fill_mesh(self, mesh, tables):
+        for table, column in zip(tables, mesh):
+            table[:len(column)] = column
+        return len(mesh.volumes), len(mesh.firsts)
+
+    # The calls that take records read them into tables of the run's limits.
+
+    def take_mesh(self, record, *tables):
+        L = self.lagoon
+        mesh = L.read_mesh(record, L.RUN_LIMITS)
+        L.judge_lengths(self.lengths(dict(enumerate(tables))), L.mesh_needs(len(mesh.volumes), len(mesh.firsts)))
+        L.judge_mesh(mesh)
+        return self.fill_mesh(mesh, tables)
+
+    def take_field(self, cells, record, volumes, masses):
+        L = self.lagoon
+        read = L.read_field(record, cells, lengths={L.MASSES: L.RUN_LIMITS[0]})
+        L.judge_lengths({L.MASSES: len(masses)}, {L.MASSES: cells})
+        total = self.total(cells, volumes, read)
+        masses[:cells] = read
+        return total
+
+    def take_step(self, cells, faces, record, *lent):
+        L = self.lagoon
+        *mesh, masses = lent
+        most_cells, most_faces = L.RUN_LIMITS
+        water = L.read_step(record, faces, mesh[L.SECONDS], lengths={L.FLUXES: most_faces, L.OUTSIDES: most_faces})
+        following, moved, work = [0] * most_cells, [0] * most_faces, [0] * (4 * most_cells + most_faces)
+        crossing = L.step_on_tables(cells, faces, [*mesh, masses, *water, following, moved, work])
+        masses[:cells] = following[:cells]
+        return (*crossing, sum(masses[:cells]))
+
 
 # ---------------------------------------------------------------- What is printed
 
@@ -256,6 +289,9 @@ CHANGED = {
     "write_field": {8: "bytes"},
     "write_step": {9: "bytes"},
     "lagoon_step": {3: "next"},
+    "take_mesh": {1: "volumes", 2: "firsts", 3: "seconds", 4: "shares", 5: "reaches"},
+    "take_field": {3: "masses"},
+    "take_step": {8: "masses"},
 }
 
 

@@ -1,5 +1,4 @@
 // The lagoon of bench/yardstick.c, stepped by the engine. Arguments and the printed line are the yardstick's.
-mod grid;
 mod text;
 
 use model::MAX_CELLS;
@@ -17,16 +16,6 @@ const WORK: usize = 4 * MAX_CELLS + MAX_FACES;
 
 // Pairs of steps in a round.
 const PAIRS: u64 = 8;
-
-fn copy(cells: usize, from: &[u64; MAX_CELLS], to: &mut [u64; MAX_CELLS])
-    requires { ⌜ cells ≤ maxCells ⌝ }
-{
-    let mut c = 0;
-    while c < cells {
-        to[c] = from[c];
-        c += 1;
-    }
-}
 
 // What crossed the rim in all steps, and how many steps were refused.
 struct Sums {
@@ -100,7 +89,7 @@ fn pair(
     with(with(sums, there), back)
 }
 
-// The pairs of some rounds. Each round starts from the first field, so that its fronts stay.
+// The pairs of some rounds, reported. Each round starts from the first field, so that its fronts stay.
 fn repeat(
     cells: usize,
     faces: usize,
@@ -111,15 +100,15 @@ fn repeat(
     shares: &[u64; MAX_FACES],
     reaches: &[u64; MAX_FACES],
     field: &[u64; MAX_CELLS],
-    masses: &mut [u64; MAX_CELLS],
     fluxes: &[i64; MAX_FACES],
     outsides: &[u64; MAX_FACES],
-    next: &mut [u64; MAX_CELLS],
-    moved: &mut [i64; MAX_FACES],
-    work: &mut [u64; WORK],
-) -> Sums
+)
     requires { ⌜ cells ≤ maxCells ⌝ }
 {
+    let mut masses = [0u64; MAX_CELLS];
+    let mut next = [0u64; MAX_CELLS];
+    let mut moved = [0i64; MAX_FACES];
+    let mut work = [0u64; WORK];
     let mut sums = Sums {
         entered: 0,
         gone: 0,
@@ -128,7 +117,7 @@ fn repeat(
     let mut i = 0;
     while i < pairs {
         if i % PAIRS == 0 {
-            copy(cells, field, masses);
+            grid::copy(cells, field, &mut masses);
         }
         sums = pair(
             cells,
@@ -138,75 +127,22 @@ fn repeat(
             seconds,
             shares,
             reaches,
-            masses,
+            &mut masses,
             fluxes,
             outsides,
-            next,
-            moved,
-            work,
+            &mut next,
+            &mut moved,
+            &mut work,
             sums,
         );
         i += 1;
     }
-    sums
-}
-
-// The lagoon made, stepped and reported.
-fn run_on(
-    cells: usize,
-    width: u64,
-    height: u64,
-    rounds: u64,
-    volumes: &mut [u64; MAX_CELLS],
-    firsts: &mut [u64; MAX_FACES],
-    seconds: &mut [u64; MAX_FACES],
-    shares: &mut [u64; MAX_FACES],
-    reaches: &mut [u64; MAX_FACES],
-    field: &mut [u64; MAX_CELLS],
-    masses: &mut [u64; MAX_CELLS],
-    fluxes: &mut [i64; MAX_FACES],
-    outsides: &mut [u64; MAX_FACES],
-    next: &mut [u64; MAX_CELLS],
-    moved: &mut [i64; MAX_FACES],
-    work: &mut [u64; WORK],
-)
-    requires { ⌜ (cells ≤ maxCells) × (1 ≤ width) × (width ≤ maxCells) × (rounds ≤ maxArgument) ⌝ }
-{
-    grid::make_cells(cells, width, volumes, field);
-    grid::make_faces(
-        2 * cells,
-        width,
-        height,
-        firsts,
-        seconds,
-        shares,
-        reaches,
-        fluxes,
-        outsides,
-    );
-    let sums = repeat(
-        cells,
-        2 * cells,
-        PAIRS * rounds,
-        volumes,
-        firsts,
-        seconds,
-        shares,
-        reaches,
-        field,
-        masses,
-        fluxes,
-        outsides,
-        next,
-        moved,
-        work,
-    );
     if sums.refused == 0 {
-        text::report(cells, sums.entered, sums.gone, masses, moved);
+        text::report(cells, sums.entered, sums.gone, &masses, &moved);
     }
 }
 
-// The tables are arrays of this function.
+// The lagoon made and stepped.
 fn run(cells: usize, width: u64, height: u64, rounds: u64)
     requires { ⌜ (cells ≤ maxCells) × (1 ≤ width) × (width ≤ maxCells) × (rounds ≤ maxArgument) ⌝ }
 {
@@ -216,29 +152,32 @@ fn run(cells: usize, width: u64, height: u64, rounds: u64)
     let mut shares = [0u64; MAX_FACES];
     let mut reaches = [0u64; MAX_FACES];
     let mut field = [0u64; MAX_CELLS];
-    let mut masses = [0u64; MAX_CELLS];
     let mut fluxes = [0i64; MAX_FACES];
     let mut outsides = [0u64; MAX_FACES];
-    let mut next = [0u64; MAX_CELLS];
-    let mut moved = [0i64; MAX_FACES];
-    let mut work = [0u64; WORK];
-    run_on(
-        cells,
+    grid::make_cells(cells, width, &mut volumes, &mut field);
+    grid::make_faces(
+        2 * cells,
         width,
         height,
-        rounds,
-        &mut volumes,
         &mut firsts,
         &mut seconds,
         &mut shares,
         &mut reaches,
-        &mut field,
-        &mut masses,
         &mut fluxes,
         &mut outsides,
-        &mut next,
-        &mut moved,
-        &mut work,
+    );
+    repeat(
+        cells,
+        2 * cells,
+        PAIRS * rounds,
+        &volumes,
+        &firsts,
+        &seconds,
+        &shares,
+        &reaches,
+        &field,
+        &fluxes,
+        &outsides,
     );
 }
 

@@ -1,15 +1,13 @@
 // Every exported call of the engine, made as a script on standard input asks, and a line printed for each. docs/CALLS.md describes the script.
-mod answers;
-mod bytes;
-mod tables;
-
+use arguments::BYTES_ROOM;
+use arguments::WORDS;
+use arguments::parts;
+use arguments::show;
+use numerals::Token;
+use script::faults;
 use script::input;
-use script::input::BYTES_ROOM;
 use script::input::Fault;
 use script::input::Input;
-use script::input::WORDS;
-use script::show;
-use script::text::Token;
 
 // The number of each call.
 const COUNTS_WITHIN: u64 = 1;
@@ -50,6 +48,12 @@ const BOARD: u64 = 18;
 
 const LAGOON_STEP: u64 = 19;
 
+const TAKE_MESH: u64 = 20;
+
+const TAKE_FIELD: u64 = 21;
+
+const TAKE_STEP: u64 = 22;
+
 // The arguments of a call from the left: 1 a number, 2 a table, 3 a table of signed numbers, 4 bytes. No call has the shape 0.
 fn shape(call: u64) -> u64 {
     match call {
@@ -69,49 +73,70 @@ fn shape(call: u64) -> u64 {
         WRITE_STEP => 0x1122_2223_2400_0000,
         NUMBER_AT => 0x4110_0000_0000_0000,
         LAGOON_STEP => 0x4444_0000_0000_0000,
+        TAKE_MESH => 0x4222_2200_0000_0000,
+        TAKE_FIELD => 0x1422_0000_0000_0000,
+        TAKE_STEP => 0x1142_2222_2000_0000,
         _ => 0,
     }
 }
 
 fn make_on_tables(call: u64, words: &[u64], ints: &[i64]) {
     match call {
-        COUNTS_WITHIN => tables::counts_within(words),
-        CHECK_MESH => tables::check_mesh(words),
-        CHECK_FIELD => tables::check_field(words),
-        CHECK_CELLS => tables::check_cells(words),
-        CHECK_STEP => tables::check_step(words, ints),
-        TOTAL => tables::total(words),
-        STEP => tables::step(words, ints),
-        _ => tables::board(words),
+        COUNTS_WITHIN => table_calls::counts_within(words),
+        CHECK_MESH => table_calls::check_mesh(words),
+        CHECK_FIELD => table_calls::check_field(words),
+        CHECK_CELLS => table_calls::check_cells(words),
+        CHECK_STEP => table_calls::check_step(words, ints),
+        TOTAL => table_calls::total(words),
+        STEP => table_calls::step(words, ints),
+        _ => table_calls::board(words),
     }
 }
 
-fn make(call: u64, words: &[u64], ints: &[i64]) {
+fn make_on_records(call: u64, words: &[u64], ints: &[i64], bytes: &[u8]) {
     match call {
-        MESH_LENGTH => bytes::mesh_length(words),
-        FIELD_LENGTH => bytes::field_length(words),
-        STEP_LENGTH => bytes::step_length(words),
-        READ_MESH => bytes::read_mesh(words),
-        READ_FIELD => bytes::read_field(words),
-        READ_STEP => bytes::read_step(words, ints),
-        WRITE_MESH => bytes::write_mesh(words),
-        WRITE_FIELD => bytes::write_field(words),
-        WRITE_STEP => bytes::write_step(words, ints),
-        NUMBER_AT => bytes::number_at(words),
-        LAGOON_STEP => bytes::lagoon_step(words),
+        MESH_LENGTH => record_calls::mesh_length(words, bytes),
+        FIELD_LENGTH => record_calls::field_length(words, bytes),
+        STEP_LENGTH => record_calls::step_length(words, bytes),
+        READ_MESH => record_calls::read_mesh(words, bytes),
+        READ_FIELD => record_calls::read_field(words, bytes),
+        READ_STEP => record_calls::read_step(words, ints, bytes),
+        WRITE_MESH => record_calls::write_mesh(words),
+        WRITE_FIELD => record_calls::write_field(words),
+        WRITE_STEP => record_calls::write_step(words, ints),
+        NUMBER_AT => record_calls::number_at(words, bytes),
         _ => make_on_tables(call, words, ints),
     }
+}
+
+fn make(call: u64, words: &[u64], ints: &[i64], bytes: &[u8]) {
+    match call {
+        LAGOON_STEP => taking_calls::lagoon_step(words, bytes),
+        TAKE_MESH => taking_calls::take_mesh(words, bytes),
+        TAKE_FIELD => taking_calls::take_field(words, bytes),
+        TAKE_STEP => taking_calls::take_step(words, bytes),
+        _ => make_on_records(call, words, ints, bytes),
+    }
     show::word(b"\n");
+}
+
+// A call made on its words, which stand for signed numbers and for bytes too.
+fn made(call: u64, words: &[u64]) {
+    let mut ints = [0i64; WORDS];
+    let mut octets = [0u8; WORDS];
+    parts::signed_numbers(words, &mut ints);
+    parts::bytes(words, &mut octets);
+    make(call, words, &ints, &octets);
 }
 
 // The call that a number names, or 0; what names none is said.
 fn named(size: u64, minus: bool, input: Input) -> u64 {
     if minus {
-        show::bad(Fault::Sign, input);
+        faults::bad(Fault::Sign, input);
         return 0;
     }
     if shape(size) == 0 {
-        show::bad(Fault::NoCall, input);
+        faults::bad(Fault::NoCall, input);
         return 0;
     }
     size
@@ -123,18 +148,18 @@ fn call_of(token: Token, input: Input) -> u64 {
         Token::Whole(n) => named(n.size, n.minus, input),
         Token::End => 0,
         Token::TooLarge => {
-            show::bad(Fault::TooLarge, input);
+            faults::bad(Fault::TooLarge, input);
             0
         }
         _ => {
-            show::bad(Fault::Strange, input);
+            faults::bad(Fault::Strange, input);
             0
         }
     }
 }
 
 // Calls, one after another, to the end of the input or to the first fault. The turns are counted because a proved loop has to end.
-fn calls(chunk: &mut [u8], words: &mut [u64], ints: &mut [i64]) {
+fn calls(chunk: &mut [u8], words: &mut [u64]) {
     let mut at = input::start();
     let mut turn: u64 = 0;
     while turn < u64::MAX {
@@ -146,20 +171,19 @@ fn calls(chunk: &mut [u8], words: &mut [u64], ints: &mut [i64]) {
         if call == 0 {
             return;
         }
-        let told = input::arguments(shape(call), chunk, words, ints, here);
+        let told = input::arguments(shape(call), chunk, words, here);
         let fault = told.fault;
         at = told.input;
         if input::is_fault(fault) {
-            show::bad(fault, at);
+            faults::bad(fault, at);
             return;
         }
-        make(call, words, ints);
+        made(call, words);
     }
 }
 
 fn main() {
     let mut chunk = [0u8; BYTES_ROOM];
     let mut words = [0u64; WORDS];
-    let mut ints = [0i64; WORDS];
-    calls(&mut chunk, &mut words, &mut ints);
+    calls(&mut chunk, &mut words);
 }

@@ -1,7 +1,6 @@
 // The run program of document 01: a mesh, a field and steps from standard input, a line for each, and the board, in the order of
 // `printed` in session/specs/Run.antt. After a failed read or write it prints nothing more, so that no part of a session looks whole.
 mod board_lines;
-mod input;
 
 use checks::TotalAnswer;
 use libc::STDERR_FILENO;
@@ -71,7 +70,7 @@ fn step_once(
 ) -> Next
     requires { do ⌜ (← ⟦session::RECORD⟧) ≤ length (now buffer) ⌝ }
 {
-    let read = input::step(faces, seconds, buffer);
+    let read = intake::step(faces, seconds, buffer);
     if read.failed {
         return Next::Nothing;
     }
@@ -144,7 +143,7 @@ fn run_on(
     requires { do ⌜ (← ⟦session::RECORD⟧) ≤ length (now buffer) ⌝ }
 {
     let mut masses = [0u64; RUN_CELLS];
-    let read = input::field(cells, buffer);
+    let read = intake::field(cells, buffer);
     if read.failed {
         return;
     }
@@ -200,7 +199,7 @@ fn main() {
     let mut seconds = [0u64; RUN_FACES];
     let mut shares = [0u64; RUN_FACES];
     let mut reaches = [0u64; RUN_FACES];
-    let read = input::mesh(&mut buffer);
+    let read = intake::mesh(&mut buffer);
     if read.failed {
         return;
     }

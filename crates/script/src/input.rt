@@ -1,8 +1,11 @@
 // One call after another from standard input: its number, then its arguments as its shape names them.
-use crate::text;
-use crate::text::Number;
-use crate::text::Token;
+use arguments::BYTES_ROOM;
+use arguments::MARKS;
+use arguments::ROOM;
+use arguments::WORDS;
 use libc::STDIN_FILENO;
+use numerals::Number;
+use numerals::Token;
 
 // A shape is sixteen hexadecimal digits, one for each argument from the left and 0 after the last.
 pub const NUMBER: u64 = 1;
@@ -12,19 +15,6 @@ pub const TABLE: u64 = 2;
 pub const AMOUNTS: u64 = 3;
 
 pub const BYTES: u64 = 4;
-
-// The first words say where each argument stands, the numbers of the call follow.
-pub const MARKS: usize = 16;
-
-// The most numbers of one call.
-pub const MOST: usize = 120000;
-
-pub const WORDS: usize = MARKS + MOST;
-
-// The most entries of a table, and the most bytes of a record.
-pub const ROOM: usize = 24576;
-
-pub const BYTES_ROOM: usize = 65536;
 
 // One more than the greatest signed number, and the greatest byte.
 const HALF: u64 = 9223372036854775808;
@@ -135,13 +125,13 @@ pub fn next(chunk: &mut [u8], start: Input) -> Found {
         input = filled(chunk, input);
         if input.got == 0 {
             return Found {
-                token: text::close(token),
+                token: numerals::close(token),
                 input: input,
             };
         }
         let b = byte_at(chunk, input.at);
-        token = text::push(token, b);
-        if text::is_done(token) {
+        token = numerals::push(token, b);
+        if numerals::is_done(token) {
             return Found {
                 token: token,
                 input: input,
@@ -267,22 +257,18 @@ fn number_of(token: Token) -> Number {
     }
 }
 
-fn amount_of(n: Number) -> i64 {
-    let minus = n.minus;
+// A number as a word: one below 0 counts down from 2^64.
+fn word_of(n: Number) -> u64 {
     let size = n.size;
-    if size < HALF {
-        return signed::with_sign(minus, size);
+    if n.minus {
+        if 0 < size {
+            return u64::MAX - (size - 1);
+        }
     }
-    -9223372036854775808
+    size
 }
 
 fn put(xs: &mut [u64], i: usize, x: u64) {
-    if i < xs.len() {
-        xs[i] = x;
-    }
-}
-
-fn put_amount(xs: &mut [i64], i: usize, x: i64) {
     if i < xs.len() {
         xs[i] = x;
     }
@@ -295,28 +281,15 @@ fn mark(words: &mut [u64], want: Want, k: usize) {
     }
 }
 
-// A number of a call, as it stands and as a signed one.
-fn keep(words: &mut [u64], ints: &mut [i64], want: Want, k: usize, n: Number) {
-    mark(words, want, k);
-    put(words, k, n.size);
-    put_amount(ints, k, amount_of(n));
-}
-
 // One number of a call, judged and kept at k.
-fn take(
-    want: Want,
-    k: usize,
-    chunk: &mut [u8],
-    words: &mut [u64],
-    ints: &mut [i64],
-    input: Input,
-) -> Turn {
+fn take(want: Want, k: usize, chunk: &mut [u8], words: &mut [u64], input: Input) -> Turn {
     let found = next(chunk, input);
     let token = found.token;
     let here = found.input;
     let fault = token_fault(want, token);
     let n = number_of(token);
-    keep(words, ints, want, k, n);
+    mark(words, want, k);
+    put(words, k, word_of(n));
     Turn {
         want: after(want, n),
         fault: fault,
@@ -325,13 +298,7 @@ fn take(
 }
 
 // The arguments of a call.
-pub fn arguments(
-    shape: u64,
-    chunk: &mut [u8],
-    words: &mut [u64],
-    ints: &mut [i64],
-    start: Input,
-) -> Told {
+pub fn arguments(shape: u64, chunk: &mut [u8], words: &mut [u64], start: Input) -> Told {
     let mut want = first_want(shape);
     let mut input = start;
     let mut k = MARKS;
@@ -342,7 +309,7 @@ pub fn arguments(
                 input: input,
             };
         }
-        let turn = take(want, k, chunk, words, ints, input);
+        let turn = take(want, k, chunk, words, input);
         let fault = turn.fault;
         want = turn.want;
         input = turn.input;

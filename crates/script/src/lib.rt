@@ -1,5 +1,3 @@
-// Calls as text: numbers read one byte after another, the tables among them, and numbers printed. Nothing here asks anything of its caller.
+// Calls as text, read from standard input one number after another. Nothing here asks anything of its caller.
+pub mod faults;
 pub mod input;
-pub mod parts;
-pub mod show;
-pub mod text;

@@ -1,0 +1,142 @@
+// The answers of the calls as they are printed: accepted with its values, or refused with its cause and its place.
+use arguments::ROOM;
+use arguments::show;
+use board::BOARD_SIZE;
+use board::BoardAnswer;
+use board::Entry;
+use checks::TotalAnswer;
+use heads::LengthAnswer;
+use heads::reader::Spelled;
+use model::Answer;
+use model::Refusal;
+use reading::MeshAnswer;
+use taking::StepTaken;
+use transport::StepAnswer;
+use writing::WriteAnswer;
+
+fn accepted() {
+    show::word(b" accepted");
+}
+
+fn accepted_with(value: u64) {
+    accepted();
+    show::number(value);
+}
+
+fn refused(refusal: Refusal) {
+    show::word(b" refused");
+    let cause = refusal.cause;
+    show::number(model::number(cause));
+    show::number(refusal.place);
+}
+
+pub fn verdict(said: Answer) {
+    match said {
+        Answer::Done => accepted(),
+        Answer::Refused(refusal) => refused(refusal),
+    }
+}
+
+pub fn total(said: TotalAnswer) {
+    match said {
+        TotalAnswer::Total(sum) => accepted_with(sum),
+        TotalAnswer::Refused(refusal) => refused(refusal),
+    }
+}
+
+// In-mass and out-mass.
+pub fn step(said: StepAnswer) {
+    match said {
+        StepAnswer::Stepped(crossing) => {
+            accepted_with(crossing.entered);
+            show::number(crossing.gone);
+        }
+        StepAnswer::Refused(refusal) => refused(refusal),
+    }
+}
+
+pub fn length(said: LengthAnswer) {
+    match said {
+        LengthAnswer::Needs(bytes) => accepted_with(bytes as u64),
+        LengthAnswer::Refused(refusal) => refused(refusal),
+    }
+}
+
+// Cells and faces.
+pub fn mesh(said: MeshAnswer) {
+    match said {
+        MeshAnswer::Read(counts) => {
+            accepted_with(counts.cells as u64);
+            show::number(counts.faces as u64);
+        }
+        MeshAnswer::Refused(refusal) => refused(refusal),
+    }
+}
+
+pub fn written(said: WriteAnswer) {
+    match said {
+        WriteAnswer::Written(length) => accepted_with(length),
+        WriteAnswer::Refused(refusal) => refused(refusal),
+    }
+}
+
+// A field of bits that is not within the record has no cause.
+pub fn spelled(said: Spelled) {
+    match said {
+        Spelled::Number(n) => accepted_with(n),
+        Spelled::Past => show::word(b" past"),
+    }
+}
+
+// The five tables of a mesh, of each as many entries as were lent.
+pub fn mesh_tables(
+    v: usize,
+    volumes: &[u64; ROOM],
+    f: usize,
+    firsts: &[u64; ROOM],
+    s: usize,
+    seconds: &[u64; ROOM],
+    h: usize,
+    shares: &[u64; ROOM],
+    r: usize,
+    reaches: &[u64; ROOM],
+) {
+    show::numbers(b"; volumes", v, volumes);
+    show::numbers(b"; firsts", f, firsts);
+    show::numbers(b"; seconds", s, seconds);
+    show::numbers(b"; shares", h, shares);
+    show::numbers(b"; reaches", r, reaches);
+}
+
+// In-mass, out-mass and the total afterwards.
+pub fn taken(said: StepTaken) {
+    match said {
+        StepTaken::Stepped(printed) => {
+            accepted_with(printed.entered);
+            show::number(printed.gone);
+            show::number(printed.total);
+        }
+        StepTaken::Refused(refusal) => refused(refusal),
+    }
+}
+
+fn entry(e: Entry) {
+    show::number(e.cell);
+    show::number(e.q);
+    show::number(e.rest);
+}
+
+// The verdict, how many entries are used, and all eight of them.
+pub fn board(said: BoardAnswer) {
+    let judged = said.verdict;
+    let entries = said.entries;
+    verdict(judged);
+    show::word(b"; used");
+    show::number(said.used as u64);
+    show::word(b"; entries");
+    let mut i = 0;
+    while i < BOARD_SIZE {
+        entry(entries[i]);
+        i += 1;
+    }
+}

@@ -1,0 +1,16 @@
+// The arguments of a call that is asked for in text, and its tables printed. Nothing here asks anything of its caller.
+pub mod parts;
+pub mod show;
+
+// The first words say where each argument stands, the numbers of the call follow.
+pub const MARKS: usize = 16;
+
+// The most numbers of one call.
+pub const MOST: usize = 120000;
+
+pub const WORDS: usize = MARKS + MOST;
+
+// The most entries of a table, and the most bytes of a record.
+pub const ROOM: usize = 24576;
+
+pub const BYTES_ROOM: usize = 65536;

@@ -1,0 +1,2 @@
+-- Definitions that the contracts of grid cite.
+pub mod Bounds

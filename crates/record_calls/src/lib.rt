@@ -1,0 +1,197 @@
+// The calls that read and write records: lengths, readers, writers and the cursor's.
+use arguments::BYTES_ROOM;
+use arguments::ROOM;
+use arguments::parts::amounts;
+use arguments::parts::bytes;
+use arguments::parts::copy;
+use arguments::parts::copy_amounts;
+use arguments::parts::number;
+use arguments::parts::octets;
+use arguments::parts::table;
+use arguments::show;
+
+pub fn mesh_length(words: &[u64], bytes: &[u8]) {
+    show::word(b"mesh_length:");
+    answers::length(heads::mesh_length(
+        number(words, 0),
+        number(words, 1),
+        octets(words, bytes, 2),
+    ));
+}
+
+pub fn field_length(words: &[u64], bytes: &[u8]) {
+    show::word(b"field_length:");
+    answers::length(heads::field_length(number(words, 0), octets(words, bytes, 1)));
+}
+
+pub fn step_length(words: &[u64], bytes: &[u8]) {
+    show::word(b"step_length:");
+    answers::length(heads::step_length(number(words, 0), table(words, 1), octets(words, bytes, 2)));
+}
+
+pub fn read_mesh(words: &[u64], bytes: &[u8]) {
+    show::word(b"read_mesh:");
+    fill_mesh(
+        number(words, 0),
+        number(words, 1),
+        octets(words, bytes, 2),
+        table(words, 3),
+        table(words, 4),
+        table(words, 5),
+        table(words, 6),
+        table(words, 7),
+    );
+}
+
+// A mesh record read into arrays that hold the entries given.
+fn fill_mesh(
+    most_cells: usize,
+    most_faces: usize,
+    record: &[u8],
+    given_volumes: &[u64],
+    given_firsts: &[u64],
+    given_seconds: &[u64],
+    given_shares: &[u64],
+    given_reaches: &[u64],
+) {
+    let mut volumes = [0u64; ROOM];
+    let mut firsts = [0u64; ROOM];
+    let mut seconds = [0u64; ROOM];
+    let mut shares = [0u64; ROOM];
+    let mut reaches = [0u64; ROOM];
+    let v = copy(given_volumes, &mut volumes);
+    let f = copy(given_firsts, &mut firsts);
+    let s = copy(given_seconds, &mut seconds);
+    let h = copy(given_shares, &mut shares);
+    let r = copy(given_reaches, &mut reaches);
+    answers::mesh(reading::read_mesh(
+        most_cells,
+        most_faces,
+        record,
+        &mut volumes[..v],
+        &mut firsts[..f],
+        &mut seconds[..s],
+        &mut shares[..h],
+        &mut reaches[..r],
+    ));
+    answers::mesh_tables(
+        v,
+        &volumes,
+        f,
+        &firsts,
+        s,
+        &seconds,
+        h,
+        &shares,
+        r,
+        &reaches,
+    );
+}
+
+pub fn read_field(words: &[u64], bytes: &[u8]) {
+    let mut masses = [0u64; ROOM];
+    show::word(b"read_field:");
+    let m = copy(table(words, 2), &mut masses);
+    answers::verdict(reading::read_field(
+        number(words, 0),
+        octets(words, bytes, 1),
+        &mut masses[..m],
+    ));
+    show::numbers(b"; masses", m, &masses);
+}
+
+pub fn read_step(words: &[u64], ints: &[i64], bytes: &[u8]) {
+    show::word(b"read_step:");
+    fill_step(
+        number(words, 0),
+        table(words, 1),
+        octets(words, bytes, 2),
+        amounts(words, ints, 3),
+        table(words, 4),
+    );
+}
+
+fn fill_step(
+    faces: usize,
+    seconds: &[u64],
+    record: &[u8],
+    given_fluxes: &[i64],
+    given_outsides: &[u64],
+) {
+    let mut fluxes = [0i64; ROOM];
+    let mut outsides = [0u64; ROOM];
+    let f = copy_amounts(given_fluxes, &mut fluxes);
+    let o = copy(given_outsides, &mut outsides);
+    answers::verdict(reading::read_step(
+        faces,
+        seconds,
+        record,
+        &mut fluxes[..f],
+        &mut outsides[..o],
+    ));
+    show::amounts(b"; fluxes", f, &fluxes);
+    show::numbers(b"; outsides", o, &outsides);
+}
+
+pub fn write_mesh(words: &[u64]) {
+    let mut record = [0u8; BYTES_ROOM];
+    show::word(b"write_mesh:");
+    let b = bytes(table(words, 7), &mut record);
+    answers::written(writing::write_mesh(
+        number(words, 0),
+        number(words, 1),
+        table(words, 2),
+        table(words, 3),
+        table(words, 4),
+        table(words, 5),
+        table(words, 6),
+        &mut record[..b],
+    ));
+    show::octets(b"; bytes", b, &record);
+}
+
+pub fn write_field(words: &[u64]) {
+    let mut record = [0u8; BYTES_ROOM];
+    show::word(b"write_field:");
+    let b = bytes(table(words, 8), &mut record);
+    answers::written(writing::write_field(
+        number(words, 0),
+        number(words, 1),
+        table(words, 2),
+        table(words, 3),
+        table(words, 4),
+        table(words, 5),
+        table(words, 6),
+        table(words, 7),
+        &mut record[..b],
+    ));
+    show::octets(b"; bytes", b, &record);
+}
+
+pub fn write_step(words: &[u64], ints: &[i64]) {
+    let mut record = [0u8; BYTES_ROOM];
+    show::word(b"write_step:");
+    let b = bytes(table(words, 9), &mut record);
+    answers::written(writing::write_step(
+        number(words, 0),
+        number(words, 1),
+        table(words, 2),
+        table(words, 3),
+        table(words, 4),
+        table(words, 5),
+        table(words, 6),
+        amounts(words, ints, 7),
+        table(words, 8),
+        &mut record[..b],
+    ));
+    show::octets(b"; bytes", b, &record);
+}
+
+pub fn number_at(words: &[u64], bytes: &[u8]) {
+    show::word(b"number_at:");
+    answers::spelled(heads::reader::number_at(
+        octets(words, bytes, 0),
+        number(words, 1),
+        number(words, 2),
+    ));
+}

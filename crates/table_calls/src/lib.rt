@@ -1,0 +1,140 @@
+// The calls on tables: tests, total, board and step.
+use arguments::ROOM;
+use arguments::parts::amounts;
+use arguments::parts::copy;
+use arguments::parts::copy_amounts;
+use arguments::parts::number;
+use arguments::parts::table;
+use arguments::show;
+
+pub fn counts_within(words: &[u64]) {
+    show::word(b"counts_within:");
+    answers::verdict(checks::counts_within(
+        number(words, 0),
+        number(words, 1),
+        number(words, 2),
+        number(words, 3),
+    ));
+}
+
+pub fn check_mesh(words: &[u64]) {
+    show::word(b"check_mesh:");
+    answers::verdict(checks::check_mesh(
+        number(words, 0),
+        number(words, 1),
+        table(words, 2),
+        table(words, 3),
+        table(words, 4),
+        table(words, 5),
+        table(words, 6),
+    ));
+}
+
+pub fn check_field(words: &[u64]) {
+    show::word(b"check_field:");
+    answers::verdict(checks::check_field(
+        number(words, 0),
+        number(words, 1),
+        table(words, 2),
+        table(words, 3),
+        table(words, 4),
+        table(words, 5),
+        table(words, 6),
+        table(words, 7),
+    ));
+}
+
+pub fn check_cells(words: &[u64]) {
+    show::word(b"check_cells:");
+    answers::verdict(checks::check_cells(number(words, 0), table(words, 1), table(words, 2)));
+}
+
+pub fn check_step(words: &[u64], ints: &[i64]) {
+    show::word(b"check_step:");
+    answers::verdict(checks::check_step(
+        number(words, 0),
+        number(words, 1),
+        table(words, 2),
+        table(words, 3),
+        table(words, 4),
+        table(words, 5),
+        table(words, 6),
+        table(words, 7),
+        amounts(words, ints, 8),
+        table(words, 9),
+        table(words, 10),
+        amounts(words, ints, 11),
+        table(words, 12),
+    ));
+}
+
+pub fn total(words: &[u64]) {
+    show::word(b"total:");
+    answers::total(checks::total(number(words, 0), table(words, 1), table(words, 2)));
+}
+
+pub fn board(words: &[u64]) {
+    show::word(b"board:");
+    answers::board(board::board(number(words, 0), table(words, 1), table(words, 2)));
+}
+
+pub fn step(words: &[u64], ints: &[i64]) {
+    show::word(b"step:");
+    fill(
+        number(words, 0),
+        number(words, 1),
+        table(words, 2),
+        table(words, 3),
+        table(words, 4),
+        table(words, 5),
+        table(words, 6),
+        table(words, 7),
+        amounts(words, ints, 8),
+        table(words, 9),
+        table(words, 10),
+        amounts(words, ints, 11),
+        table(words, 12),
+    );
+}
+
+// A step that writes into arrays which hold the entries given.
+fn fill(
+    cells: usize,
+    faces: usize,
+    volumes: &[u64],
+    firsts: &[u64],
+    seconds: &[u64],
+    shares: &[u64],
+    reaches: &[u64],
+    masses: &[u64],
+    fluxes: &[i64],
+    outsides: &[u64],
+    given_next: &[u64],
+    given_moved: &[i64],
+    given_work: &[u64],
+) {
+    let mut next = [0u64; ROOM];
+    let mut moved = [0i64; ROOM];
+    let mut work = [0u64; ROOM];
+    let n = copy(given_next, &mut next);
+    let m = copy_amounts(given_moved, &mut moved);
+    let w = copy(given_work, &mut work);
+    answers::step(transport::step(
+        cells,
+        faces,
+        volumes,
+        firsts,
+        seconds,
+        shares,
+        reaches,
+        masses,
+        fluxes,
+        outsides,
+        &mut next[..n],
+        &mut moved[..m],
+        &mut work[..w],
+    ));
+    show::numbers(b"; next", n, &next);
+    show::amounts(b"; moved", m, &moved);
+    show::numbers(b"; work", w, &work);
+}
