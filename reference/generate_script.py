@@ -291,6 +291,8 @@ def harmed(rng, lent, raw, damages, kinds):
 def take_field(rng, large, kinds):
     lent = tables_for(rng, (VOLUMES, MASSES), large, kinds)
     field = lent.lag.raw_field()
+    if rng.random() < 0.05:
+        lent.cells = 0
     if lent.cells <= CELLS:
         field.cells = lent.cells
     return lent.cells, harmed(rng, lent, field, generate.FIELD_DAMAGE, kinds), lent.tables[VOLUMES], lent.tables[MASSES]
