@@ -67,6 +67,7 @@ SCRIPT_CAUSES = {
     "number_at": "past",
     "board": CELLS,
     "lagoon_step": "11 13/0 13/1 1/0 1/1 12 3 4 5 6 7 8 9 10 2/11",
+    "page": "1/0 2/0 2/5 2/12 3 6 14",
 }
 FAULTS = ["not a number", "too large", "no such call", "a minus where none may stand", "a table too long",
           "a call too long", "the input ends within a call"]

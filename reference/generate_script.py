@@ -136,6 +136,15 @@ def tables_for(rng, positions, large, kinds):
     return lent
 
 
+def many_cells(rng):
+    """Cells for some pages, the last of them full or not, with figures of any length."""
+    lent = Lent(rng)
+    lent.cells = rng.choice([59, 60, 61, 119, 120, 121, rng.randint(40, 200)])
+    lent.tables[VOLUMES] = [generate.pick_volume(rng, rng.choice(["any", "ends", "small"])) for _ in range(lent.cells)]
+    lent.tables[MASSES] = [V * rng.choice([0, TOP, rng.randint(0, TOP)]) + rng.randrange(V) for V in lent.tables[VOLUMES]]
+    return lent
+
+
 def one_short(rng, position, kinds):
     """A valid lagoon with one table an entry too short."""
     lent = Lent(rng)
@@ -275,6 +284,17 @@ def lagoon_step(rng, large, kinds):
     kinds.extend(case.kinds)
     return list(case.mesh), list(case.field), list(case.step), [0xA5] * case.room
 
+def page(rng, large, kinds):
+    lent = tables_for(rng, (VOLUMES, MASSES), large, kinds)
+    if rng.random() < 0.4:
+        lent = many_cells(rng)
+        kinds.append("pages")
+    last = max(0, lent.cells - 1) // lagoon.PAGE_CELLS
+    number = rng.choice([0, last, last, rng.randint(0, last), last + 1, last + 1, 1 << 58, GREATEST])
+    kinds.append("page there" if number <= last else "page beyond")
+    room = room_for(rng, lagoon.page_length(lent.cells, number), kinds)
+    return lent.cells, lent.tables[VOLUMES], lent.tables[MASSES], number, room
+
 
 MESH_TABLES = (0, 1, 2, 3, 4)
 FIELD_TABLES = (*MESH_TABLES, MASSES)
@@ -300,6 +320,7 @@ MAKE = {
     "number_at": number_at,
     "board": on_cells,
     "lagoon_step": lagoon_step,
+    "page": page,
 }
 
 
@@ -325,7 +346,7 @@ def broken(rng, text):
     elif kind == "minus":
         words[at] = "-" + words[at].lstrip("-")
     elif kind == "call":
-        words[0] = rng.choice(["0", "20", "-1", str(GREATEST)])
+        words[0] = rng.choice(["0", "99", "-1", str(GREATEST)])
     elif kind == "long table":
         words[min(3, len(words) - 1)] = rng.choice(["24577", "65537", str(GREATEST)])
     elif kind == "signed":
@@ -365,6 +386,8 @@ def largest():
         spell("check_field", CELLS, FACES, *mesh, masses),
         spell("total", CELLS, volumes, masses),
         spell("board", CELLS, volumes, masses),
+        spell("page", CELLS, volumes, masses, 0, [170] * 1_099),
+        spell("page", CELLS, volumes, masses, 68, [170] * 288),
         spell("check_step", CELLS, FACES, *mesh, masses, still, none, *lent),
         spell("step", CELLS, FACES, *mesh, masses, still, none, *lent),
         spell("step", 1, FACES, *pool, [0], inflow, outsides, *lent),

@@ -31,6 +31,7 @@ CALLS = {
     17: ("number_at", "bnn"),
     18: ("board", "ntt"),
     19: ("lagoon_step", "bbbb"),
+    20: ("page", "nttnb"),
 }
 NUMBER_OF = {name: number for number, (name, _) in CALLS.items()}
 
@@ -243,6 +244,9 @@ class Engine:
             self.put(record, room)
         return number
 
+    def page(self, cells, volumes, masses, page, room):
+        return self.put(self.lagoon.page_on_tables(cells, volumes, masses, page, len(room)), room)
+
 
 # ---------------------------------------------------------------- What is printed
 
@@ -256,6 +260,7 @@ CHANGED = {
     "write_field": {8: "bytes"},
     "write_step": {9: "bytes"},
     "lagoon_step": {3: "next"},
+    "page": {4: "bytes"},
 }
 
 

@@ -1,4 +1,4 @@
-// The calls on records: lengths, readers, writers, the cursor's and the host's.
+// The calls on records and other bytes: lengths, readers, writers, the cursor's, the host's and the binder's.
 use crate::answers;
 use script::input::BYTES_ROOM;
 use script::input::ROOM;
@@ -221,4 +221,18 @@ fn on_step(mesh: &[u8], field: &[u8], step: &[u8], given_next: &[u64]) {
     let n = bytes(given_next, &mut next);
     show::number(lagoon::lagoon_step(mesh, field, step, &mut next[..n]));
     show::octets(b"; next", n, &next);
+}
+
+pub fn page(words: &[u64]) {
+    let mut room = [0u8; BYTES_ROOM];
+    show::word(b"page:");
+    let b = bytes(table(words, 4), &mut room);
+    answers::printed(page::page(
+        number(words, 0),
+        table(words, 1),
+        table(words, 2),
+        number(words, 3) as u64,
+        &mut room[..b],
+    ));
+    show::octets(b"; bytes", b, &room);
 }

@@ -50,6 +50,8 @@ const BOARD: u64 = 18;
 
 const LAGOON_STEP: u64 = 19;
 
+const PAGE: u64 = 20;
+
 // The arguments of a call from the left: 1 a number, 2 a table, 3 a table of signed numbers, 4 bytes. No call has the shape 0.
 fn shape(call: u64) -> u64 {
     match call {
@@ -69,6 +71,7 @@ fn shape(call: u64) -> u64 {
         WRITE_STEP => 0x1122_2223_2400_0000,
         NUMBER_AT => 0x4110_0000_0000_0000,
         LAGOON_STEP => 0x4444_0000_0000_0000,
+        PAGE => 0x1221_4000_0000_0000,
         _ => 0,
     }
 }
@@ -99,6 +102,7 @@ fn make(call: u64, words: &[u64], ints: &[i64]) {
         WRITE_STEP => bytes::write_step(words, ints),
         NUMBER_AT => bytes::number_at(words),
         LAGOON_STEP => bytes::lagoon_step(words),
+        PAGE => bytes::page(words),
         _ => make_on_tables(call, words, ints),
     }
     show::word(b"\n");

@@ -80,7 +80,7 @@ module _ (width n after : ℕ) (w : 0 < width) (most : width ≤ mostDigits) (u 
   unfolding numberIn
   column-back at xs ys e =
       let whole : take width (column width n after ++ ys) ≡ figures =
-          ap (λ (l : List ℕ). take width (l ++ ys)) column-parts ∙ ap (take width) (append-assoc figures (after ∷ []) ys) ∙ take-at figures ((after ∷ []) ++ ys) width figures-length in
+      ap (λ (l : List ℕ). take width (l ++ ys)) column-parts ∙ ap (take width) (append-assoc figures (after ∷ []) ys) ∙ take-at figures ((after ∷ []) ++ ys) width figures-length in
       rw (drop-at xs (column width n after ++ ys) at e, whole) figures-back
 
 -- LINES OF ONE LENGTH
