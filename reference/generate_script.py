@@ -136,6 +136,15 @@ def tables_for(rng, positions, large, kinds):
     return lent
 
 
+def many_cells(rng):
+    """Cells for some pages, the last of them full or not, with figures of any length."""
+    lent = Lent(rng)
+    lent.cells = rng.choice([59, 60, 61, 119, 120, 121, rng.randint(40, 200)])
+    lent.tables[VOLUMES] = [generate.pick_volume(rng, rng.choice(["any", "ends", "small"])) for _ in range(lent.cells)]
+    lent.tables[MASSES] = [V * rng.choice([0, TOP, rng.randint(0, TOP)]) + rng.randrange(V) for V in lent.tables[VOLUMES]]
+    return lent
+
+
 def one_short(rng, position, kinds):
     """A valid lagoon with one table an entry too short."""
     lent = Lent(rng)
@@ -305,6 +314,17 @@ def take_step(rng, large, kinds):
     return (lent.cells, lent.faces, harmed(rng, lent, step, generate.STEP_DAMAGE, kinds),
             *(lent.tables[position] for position in FIELD_TABLES))
 
+def page(rng, large, kinds):
+    lent = tables_for(rng, (VOLUMES, MASSES), large, kinds)
+    if rng.random() < 0.4:
+        lent = many_cells(rng)
+        kinds.append("pages")
+    last = max(0, lent.cells - 1) // lagoon.PAGE_CELLS
+    number = rng.choice([0, last, last, rng.randint(0, last), last + 1, last + 1, 1 << 58, GREATEST])
+    kinds.append("page there" if number <= last else "page beyond")
+    room = room_for(rng, lagoon.page_length(lent.cells, number), kinds)
+    return lent.cells, lent.tables[VOLUMES], lent.tables[MASSES], number, room
+
 
 MESH_TABLES = (0, 1, 2, 3, 4)
 FIELD_TABLES = (*MESH_TABLES, MASSES)
@@ -333,6 +353,7 @@ MAKE = {
     "take_mesh": take_mesh,
     "take_field": take_field,
     "take_step": take_step,
+    "page": page,
 }
 
 
@@ -398,6 +419,8 @@ def largest():
         spell("check_field", CELLS, FACES, *mesh, masses),
         spell("total", CELLS, volumes, masses),
         spell("board", CELLS, volumes, masses),
+        spell("page", CELLS, volumes, masses, 0, [170] * 1_099),
+        spell("page", CELLS, volumes, masses, 68, [170] * 288),
         spell("check_step", CELLS, FACES, *mesh, masses, still, none, *lent),
         spell("step", CELLS, FACES, *mesh, masses, still, none, *lent),
         spell("step", 1, FACES, *pool, [0], inflow, outsides, *lent),

@@ -1,5 +1,5 @@
 #!/usr/bin/env python3
-"""Document 01 written once more, in plain integers and from the document alone.
+"""Document 01 and the requests of document 02 written once more, in plain integers and from the documents alone.
 
 The functions follow its order; nothing is made fast. A refusal is raised as Refusal(cause, place), with the numbers
 of the document's table of causes.
@@ -17,7 +17,7 @@ MESH_HEAD, FIELD_HEAD, STEP_HEAD = 4, 2, 4      # bytes
 
 # Tables lent to a step, by position.
 (VOLUMES, FIRSTS, SECONDS, SHARES, REACHES, MASSES,
- FLUXES, OUTSIDES, NEXT, MOVED, WORK, RECORD) = range(12)
+ FLUXES, OUTSIDES, NEXT, MOVED, WORK, RECORD, PAGE) = range(13)
 
 Mesh = namedtuple("Mesh", "volumes firsts seconds shares reaches")
 Result = namedtuple("Result", "masses moved in_mass out_mass")
@@ -486,6 +486,38 @@ def run(data):
         data = data[length:]
     lines += [f"B {cell} {q} {rest}" for cell, q, rest in board(mesh.volumes, masses)]
     return "".join(line + "\n" for line in lines)
+
+
+# ---------------------------------------------------------------- The binder's pages (document 02, S-1)
+
+PAGE_CELLS = 60
+
+def page_cells(cells, page):
+    """The cells on a page, from 0; none on one beyond the last."""
+    return range(PAGE_CELLS * page, min(cells, PAGE_CELLS * (page + 1)))
+
+def page_lines(volumes, masses, page):
+    """A line for each cell of the page, and one for their mass."""
+    on_page = page_cells(len(volumes), page)
+    lines = [f"{cell:4} {masses[cell] // volumes[cell]:7} {masses[cell] % volumes[cell]:4}\n" for cell in on_page]
+    return lines + [f"{sum(masses[cell] for cell in on_page):17}\n"]
+
+def page_length(cells, page):
+    """18 bytes a line; a page beyond the last needs none."""
+    on_page = len(page_cells(cells, page))
+    return 18 * (on_page + 1) if on_page else 0
+
+def page_on_tables(cells, volumes, masses, page, room):
+    """The bytes of a page of lent tables; room counts those lent for it."""
+    judge_counts(cells, 0, LIBRARY_LIMITS)
+    judge_lengths({VOLUMES: len(volumes), MASSES: len(masses), PAGE: room},
+                  {VOLUMES: cells, MASSES: cells, PAGE: page_length(cells, page)})
+    mesh = Mesh(volumes[:cells], [], [], [], [])
+    judge_mesh(mesh)
+    judge_field(mesh, masses[:cells])
+    if not page_cells(cells, page):
+        raise Refusal(14, page)
+    return "".join(page_lines(mesh.volumes, masses[:cells], page)).encode()
 
 
 if __name__ == "__main__":

@@ -34,6 +34,7 @@ CALLS = {
     20: ("take_mesh", "bttttt"),
     21: ("take_field", "nbtt"),
     22: ("take_step", "nnbtttttt"),
+    23: ("page", "nttnb"),
 }
 NUMBER_OF = {name: number for number, (name, _) in CALLS.items()}
 
@@ -275,6 +276,8 @@ class Engine:
         crossing = L.step_on_tables(cells, faces, [*mesh, masses, *water, following, moved, work])
         masses[:cells] = following[:cells]
         return (*crossing, sum(masses[:cells]))
+    def page(self, cells, volumes, masses, page, room):
+        return self.put(self.lagoon.page_on_tables(cells, volumes, masses, page, len(room)), room)
 
 
 # ---------------------------------------------------------------- What is printed
@@ -292,6 +295,7 @@ CHANGED = {
     "take_mesh": {1: "volumes", 2: "firsts", 3: "seconds", 4: "shares", 5: "reaches"},
     "take_field": {3: "masses"},
     "take_step": {8: "masses"},
+    "page": {4: "bytes"},
 }
 
 

@@ -101,4 +101,10 @@ def bit(lagoon):
     lagoon.number_at = lambda record, bit, width: right(record, bit + 1, width)
 
 
-ANSWER_SLIPS = {slip.__name__: slip for slip in (place, table, beyond, bit)}
+def binder(lagoon):
+    """A page's mass line with the mass of all cells."""
+    right = lagoon.page_lines
+    lagoon.page_lines = lambda volumes, masses, page: right(volumes, masses, page)[:-1] + [f"{sum(masses):17}\n"]
+
+
+ANSWER_SLIPS = {slip.__name__: slip for slip in (place, table, beyond, bit, binder)}

@@ -190,6 +190,27 @@ def test_largest_records():
                     "write_step": (33788, 399157172)}, "the largest records")
 
 
+def test_pages():
+    """Document 02, S-1: lines of 18 bytes, pages of sixty cells, read back."""
+    channel = lagoon.page_on_tables(3, [100] * 3, [100099, 81188, 18713], 0, 72)
+    equal(channel, b"   0    1000   99\n   1     811   88\n   2     187   13\n           200000\n", "the channel's page")
+    largest = lagoon.page_on_tables(1, [4095], [4_095_004_094], 0, 36)
+    equal(largest, b"   0 1000000 4094\n       4095004094\n", "the largest figures")
+    for cells, pages in ((1, 1), (60, 1), (61, 2), (119, 2), (120, 2), (4095, 69)):
+        volumes, masses = [cell % 4095 + 1 for cell in range(cells)], [997 * cell for cell in range(cells)]
+        total = 0
+        for page in range(pages):
+            lines = lagoon.page_on_tables(cells, volumes, masses, page, lagoon.page_length(cells, page)).decode().splitlines()
+            for line in lines[:-1]:
+                cell, q, rest = map(int, line.split())
+                equal(q * volumes[cell] + rest, masses[cell], f"cell {cell} of {cells} read back")
+            equal({len(line) for line in lines}, {17}, "lines without their newline")
+            total += int(lines[-1])
+        equal(total, sum(masses), f"page masses of {cells} cells")
+        refused(14, pages, f"page {pages} of {cells} cells", lagoon.page_on_tables, cells, volumes, masses, pages, 0)
+    refused(2, lagoon.PAGE, "a byte too few", lagoon.page_on_tables, 3, [100] * 3, [0] * 3, 0, 71)
+
+
 def test_script():
     printed = script.answer(b"1 3 4 3 4 # within\n17 6 16 1 0 0 6 64 32 12\n18 0 0 0\n6 1 1 x")
     equal(printed.splitlines(), ["counts_within: accepted", "number_at: accepted 100",

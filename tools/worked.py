@@ -28,10 +28,11 @@ examples:
 
 YEAR = 24 * 365
 BLOCK = re.compile(r"(<!-- worked: (\S+) -->\n).*?(<!-- end -->)", re.DOTALL)
-SMALL = 13              # numbers up to here name stages, causes and positions
+SMALL = 14              # numbers up to here name stages, causes and positions
 
-# Numbers of document 01 that the page's prose may say.
-CONSTANTS = {lagoon.RIM, lagoon.TOP, *lagoon.LIBRARY_LIMITS, *lagoon.RUN_LIMITS, 255, 256, 128, layout.MASS_BITS}
+# Numbers of the papers that the page's prose may say.
+CONSTANTS = {lagoon.RIM, lagoon.TOP, *lagoon.LIBRARY_LIMITS, *lagoon.RUN_LIMITS, 255, 256, 128, layout.MASS_BITS,
+             lagoon.PAGE_CELLS, 17, 18}
 
 
 def same(ours, reference):
@@ -372,11 +373,27 @@ def form():
             + ["", "in-mass ________  out-mass ________  total before ________  after ________"])
 
 
+def binder_page():
+    """The channel's field after its steps as a page for the binder."""
+    return "".join(lagoon.page_lines(CHANNEL.mesh.volumes, STEP_2.next, 0)).splitlines()
+
+
+def page_back():
+    """The same page read back, line by line."""
+    *lines, last = binder_page()
+    masses, rows = [], ["cell  m = q·V + rest"]
+    for line, volume, mass in zip(lines, CHANNEL.mesh.volumes, STEP_2.next):
+        cell, q, rest = map(int, line.split())
+        masses.append(same(q * volume + rest, mass))
+        rows.append(f"{cell:4}  {q} · {volume} + {rest} = {masses[-1]}")
+    return rows + [f"mass of the page: {' + '.join(map(str, masses))} = {same(sum(masses), int(last))}"]
+
+
 BLOCKS = {"layouts": layouts, "bytes": the_bytes, "mesh-bits": lambda: fenced(mesh_bits()), "step-bits": lambda: fenced(field_and_step_bits()),
           "step-1": lambda: fenced(STEP_1.lines()), "step-2": lambda: fenced(STEP_2.lines()), "printed": lambda: fenced(CHANNEL.printed()),
           "second-given": lambda: fenced(SECOND_STEP.given()), "second-step": lambda: fenced(SECOND_STEP.lines()),
           "second-printed": lambda: fenced(SECOND.printed()), "year": lambda: fenced(year()), "widest": lambda: fenced(widest()),
-          "edition": edition, "form": lambda: fenced(form())}
+          "edition": edition, "form": lambda: fenced(form()), "page": lambda: fenced(binder_page()), "page-back": lambda: fenced(page_back())}
 WIDEST_LINE = 76        # columns of a fenced block that an A4 page holds
 
 
@@ -409,7 +426,7 @@ def check(path):
     for found in re.finditer(r"\d[\d,]*\d|\d", prose):
         value = int(found[0].replace(",", ""))
         if value > SMALL and value not in CONSTANTS:
-            raise SystemExit(f"{path}: {found[0]} stands outside the blocks and is no number of document 01")
+            raise SystemExit(f"{path}: {found[0]} stands outside the blocks and is no number of the papers")
     print(f"{path}: {len(BLOCKS)} blocks are as worked out, and the prose has no other figure")
 
 

@@ -9,6 +9,7 @@ use heads::LengthAnswer;
 use heads::reader::Spelled;
 use model::Answer;
 use model::Refusal;
+use page::PageAnswer;
 use reading::MeshAnswer;
 use taking::StepTaken;
 use transport::StepAnswer;
@@ -77,6 +78,13 @@ pub fn written(said: WriteAnswer) {
     match said {
         WriteAnswer::Written(length) => accepted_with(length),
         WriteAnswer::Refused(refusal) => refused(refusal),
+    }
+}
+
+pub fn printed(said: PageAnswer) {
+    match said {
+        PageAnswer::Printed(length) => accepted_with(length),
+        PageAnswer::Refused(refusal) => refused(refusal),
     }
 }
 

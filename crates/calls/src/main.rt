@@ -54,6 +54,8 @@ const TAKE_FIELD: u64 = 21;
 
 const TAKE_STEP: u64 = 22;
 
+const PAGE: u64 = 23;
+
 // The arguments of a call from the left: 1 a number, 2 a table, 3 a table of signed numbers, 4 bytes. No call has the shape 0.
 fn shape(call: u64) -> u64 {
     match call {
@@ -76,6 +78,7 @@ fn shape(call: u64) -> u64 {
         TAKE_MESH => 0x4222_2200_0000_0000,
         TAKE_FIELD => 0x1422_0000_0000_0000,
         TAKE_STEP => 0x1142_2222_2000_0000,
+        PAGE => 0x1221_4000_0000_0000,
         _ => 0,
     }
 }
@@ -115,6 +118,7 @@ fn make(call: u64, words: &[u64], ints: &[i64], bytes: &[u8]) {
         TAKE_MESH => taking_calls::take_mesh(words, bytes),
         TAKE_FIELD => taking_calls::take_field(words, bytes),
         TAKE_STEP => taking_calls::take_step(words, bytes),
+        PAGE => field_calls::page(words),
         _ => make_on_records(call, words, ints, bytes),
     }
     show::word(b"\n");

@@ -1,15 +1,15 @@
 -- Laws of sums, of least and of greatest values over the indices below a count.
-use Prim.Native.Nat.{ℕ, zero, suc, _+_, _*_, _≤_, _<_, min, max}
-use mathlib.Core.Path.{_≡_, refl, sym}
+use Prim.Native.Nat.{ℕ, zero, suc, _+_, _-_, _*_, _≤_, _<_, min, max}
+use mathlib.Core.Path.{_≡_, refl, sym, ap, _∙_}
 use mathlib.Core.Logic.{⊎-elim}
 use mathlib.Core.Bool.{Bool, true, false, cond}
-use native.Mathlib.Nat.{zero-mul, suc-mul, le-of-suc-le-suc, eq-or-lt-of-le}
+use native.Mathlib.Nat.{zero-mul, suc-mul, add-zero, add-suc, le-of-suc-le-suc, eq-or-lt-of-le}
 use native.Mathlib.Numerals.{add-one}
 use native.Mathlib.Omega.{arith}
 use borrow.Author.Tests.{ne-eqb}
-use lib.Dec.{eqb}
+use lib.Dec.{eqb, leb}
 use Rattle.lists.specs.Fold.{sum, least, greatest}
-use Rattle.lists.proofs.Tests.{Same, same, other, same?}
+use Rattle.lists.proofs.Tests.{Same, same, other, same?, Fits, fits, exceeds, fits?}
 
 pub sum-zero : (f : ℕ → ℕ) → sum 0 f ≡ 0
 unfolding sum
@@ -65,6 +65,28 @@ sum-fewer m (suc n) f l =
 
 pub sum-term : (k n : ℕ) (f : ℕ → ℕ) → k < n → sum k f + f k ≤ sum n f
 sum-term k n f l = rw (← sum-more k f) (sum-fewer (k + 1) n f (omega arith))
+
+-- a sum in two parts, and in blocks of k, of which the last may be shorter
+pub sum-split : (m n : ℕ) (f : ℕ → ℕ) → sum (m + n) f ≡ sum m f + sum n (λ i. f (m + i))
+unfolding sum
+sum-split m zero f = rw (add-zero m) (omega arith)
+sum-split m (suc n) f = rw (add-suc m n) (omega (arith, sum-split m n f))
+
+pub sum-blocks : (k n blocks : ℕ) (f : ℕ → ℕ) → sum blocks (λ b. sum (min k (n - b * k)) (λ i. f (b * k + i))) ≡ sum (min n (blocks * k)) f
+unfolding sum
+sum-blocks k n zero f = let q : min n (0 * k) ≡ 0 = omega (arith, zero-mul k) in rw q
+sum-blocks k n (suc b) f = rw (sum-blocks k n b f) (go (leb n (b * k)) (fits? n (b * k)))
+  where
+    go : (t : Bool) → Fits n (b * k) t → sum (min n (b * k)) f + sum (min k (n - b * k)) (λ i. f (b * k + i)) ≡ sum (min n (suc b * k)) f
+    go true (fits h) =
+        let whole : min n (b * k) ≡ n = omega arith in
+        let none : min k (n - b * k) ≡ 0 = omega arith in
+        let still : min n (suc b * k) ≡ n = omega (arith, suc-mul b k) in
+        rw (whole, none, still) (omega arith)
+    go false (exceeds h) =
+        let whole : min n (b * k) ≡ b * k = omega arith in
+        let more : min n (suc b * k) ≡ b * k + min k (n - b * k) = omega (arith, suc-mul b k) in
+        rw (whole, more) (sym (sum-split (b * k) (min k (n - b * k)) f))
 
 -- what lands at place k is counted once, or not at all where k is past the count
 pub sum-none : (n k a : ℕ) → n ≤ k → sum n (λ c. cond (eqb k c) a 0) ≡ 0

@@ -2,7 +2,7 @@
 use Prim.Native.Nat.{ℕ}
 use Rattle.model.specs.Causes.{Outcome, refused, Verdict, fine}
 use Rattle.model.specs.declared.Cause.{Cause}
-use Rattle.model.specs.declared.Cause.the-variants.{Limits, Table, Volume, Ends, Spacing, Concentration, Outside, Flux, Balance, Outflow, Length, Bit, Head}
+use Rattle.model.specs.declared.Cause.the-variants.{Limits, Table, Volume, Ends, Spacing, Concentration, Outside, Flux, Balance, Outflow, Length, Bit, Head, Page}
 use Rattle.model.specs.declared.Refusal.{Refusal}
 use Rattle.model.specs.declared.Answer.{Answer}
 use Rattle.model.specs.declared.Answer.the-variants.{Done, Refused}
@@ -22,6 +22,8 @@ number Outflow = 10
 number Length = 11
 number Bit = 12
 number Head = 13
+-- Document 02, S-1
+number Page = 14
 
 -- A refusal, by its number and its place.
 abbrev pub told : {A : Type 0} → Refusal → Outcome A

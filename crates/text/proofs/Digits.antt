@@ -1,6 +1,6 @@
 -- The kit's digits of a number, the fewest that hold it, are those of the definition: by induction on the width.
 use Prim.Native.Nat.{ℕ, zero, suc, _+_, _-_, _/_, _%_, _^_, _≤_, _<_}
-use mathlib.Core.Path.{_≡_}
+use mathlib.Core.Path.{_≡_, refl}
 use mathlib.Core.Bool.{Bool, true, false, cond}
 use mathlib.Core.List.{[], _∷_, _++_}
 use native.Mathlib.Nat.{pow-suc, pow-zero, one-le-pow, pow-le-pow-right, mod-lt, mod-eq-of-lt, le-div-iff-mul-le, div-lt-iff-lt-mul}
@@ -41,6 +41,31 @@ fewest-digits width zero n w u f = absurd (omega arith)
 fewest-digits width (suc k) n w u f =
     let q : suc k - 1 ≡ k = omega arith in
     below width k n (few-digits width (suc k) n w u f) (f .1) (λ z. rw q at (f .2 z))
+
+length-last : (k n : ℕ) → length (lastDigits 10 k n) ≡ k
+length-last zero n = refl
+length-last (suc k) n = rw length-append (omega (arith, length-last k (n / 10)))
+
+pub count-digits : (width k n : ℕ) → 0 < width → n < 10 ^ width → Fewest 10 1 n k → length (digits width n) ≡ k
+count-digits width k n w u f = rw (← fewest-digits width k n w u f) (length-last k n)
+
+-- however many digits are allowed for, a number below 10 ^ width has at most so many
+pub digits-fit : (most width n : ℕ) → 0 < width → n < 10 ^ width → length (digits most n) ≤ width
+unfolding digits
+digits-fit zero width n w u = omega arith
+digits-fit (suc most) zero n w u = absurd (omega arith)
+digits-fit (suc most) (suc v) n w u = go (leb 10 n) (fits? 10 n) (digits-fit most v (n / 10))
+  where
+    go : (b : Bool) → Fits 10 n b → (0 < v → n / 10 < 10 ^ v → length (digits most (n / 10)) ≤ v) → length (digits (suc most) n) ≤ suc v
+    go true (fits h) ih =
+        let up : n / 10 < 10 ^ v = div-lt-iff-lt-mul {k = 10} {x = n} {y = 10 ^ v} (omega arith) .1 (rw (pow-suc 10 v) at u) in
+        let some : 0 < v = more v u in
+        rw (le-ltb n 10 h) (rw length-append (omega (arith, ih some up)))
+      where
+        more : (v : ℕ) → n < 10 ^ suc v → 0 < v
+        more zero u = absurd (omega (arith, pow-suc 10 0, pow-zero 10))
+        more (suc v) u = omega arith
+    go false (exceeds h) ih = rw (lt-ltb n 10 h) (omega arith)
 
 pub length-digits : (width n : ℕ) → length (digits width n) ≤ width
 unfolding digits

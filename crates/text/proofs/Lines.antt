@@ -2,15 +2,16 @@
 use Prim.Native.Nat.{ℕ, _+_, _-_, _≤_, min}
 use mathlib.Core.Path.{_≡_, refl, sym, ap, _∙_}
 use mathlib.Core.Bool.{Bool, true, false}
-use mathlib.Core.List.{List, _++_, append-assoc}
+use mathlib.Core.List.{List, [], _++_, append-assoc}
+use native.Mathlib.Numerals.{add-one}
 use native.Mathlib.Omega.{arith}
 use lib.Dec.{leb}
 use lib.ListN.{length, take, drop, length-append, length-take, length-drop}
-use lib.Seq.{paste, take-all, take-at, take-append-add, take-append-le, take-take, drop-append-add, drop-drop}
+use lib.Seq.{paste, take-all, take-nil, take-at, take-append-add, take-append-le, take-take, drop-append-add, drop-drop}
 use Rattle.lists.specs.Table.{over}
 use Rattle.lists.proofs.Tests.{Fits, fits, exceeds, fits?}
 use Rattle.text.specs.Digits.{mostDigits}
-use Rattle.text.specs.Lines.{word, mark, longer, Puts}
+use Rattle.text.specs.Lines.{word, mark, pieces, longer, Puts}
 use Rattle.text.proofs.Digits.{length-digits}
 
 -- no more can be taken than there is
@@ -66,7 +67,7 @@ module _ (lent : List ℕ) where
         record { ends = sym long; put = e ∙ rw (c, whole, long, copied) }
 
   module _ {at r : ℕ} {more lent′ : List ℕ} (p : Puts lent at more r lent′) where
-    same-length : length lent′ ≡ length lent
+    pub same-length : length lent′ ≡ length lent
     unfolding over
     same-length = rw (p .put, length-append, length-drop) (omega (arith, longer-most at more))
 
@@ -105,6 +106,22 @@ module _ (lent : List ℕ) where
 
     pub within : r ≤ length lent′
     within = omega (arith, p .ends, longer-most at more, same-length)
+
+-- nothing put yet; pieces one after another; and from the start, with room for all
+pub puts-none : (lent : List ℕ) → Puts lent 0 [] 0 lent
+unfolding longer over
+puts-none lent = record { ends = rw (take-nil (length lent)); put = rw (take-nil (length lent)) }
+
+pub puts-more : (lent : List ℕ) (piece : ℕ → List ℕ) (n : ℕ) {at r : ℕ} {lent′ lent″ : List ℕ}
+    → Puts lent 0 (pieces n piece) at lent′ → Puts lent′ at (piece n) r lent″ → Puts lent 0 (pieces (n + 1) piece) r lent″
+unfolding pieces
+puts-more lent piece n p q = rw (add-one n) (both lent p q)
+
+pub puts-all : (lent : List ℕ) {r : ℕ} {more lent′ : List ℕ} → Puts lent 0 more r lent′ → length more ≤ length lent → (r ≡ length more) × (lent′ ≡ over more lent)
+unfolding longer
+puts-all lent {r} {more} {lent′} p h =
+    let whole : longer lent 0 more ≡ more = take-all (length lent) more h in
+    (p .ends ∙ ap length whole, p .put ∙ ap (λ (l : List ℕ). over l lent) whole)
 
 pub length-word : (n after : ℕ) → length (word n after) ≤ mostDigits + 1
 unfolding word

@@ -1,0 +1,27 @@
+use mathlib.Core.Path.{_∙_}
+use native.Mathlib.Omega.{arith}
+use borrow.Author.Needs.{needs}
+use Rattle.model.proofs.Verdicts.{refuses, passes}
+use Rattle.page.proofs.Laws.{page-passed, put-asks}
+use Rattle.page.proofs.Printed.{page-refused, page-accepted}
+use Rattle.page.proofs.page.Statement.{statement}
+use Rattle.page.proofs.page.Tie as tie
+
+returns : tie.Need-returns
+returns c = page-refused _ _ _ _ _ (refuses (c .before .before .before .judge .ensures) (c .before .verdict .given .1))
+
+put-requires : tie.Need-put-requires
+put-requires c κs =
+    let passed = page-passed _ _ _ _ _ (passes (c .before .before .before .judge .ensures) (c .before .enum-told .given .1)) in
+    put-asks _ _ _ (passed .field-fine) _ (passed .there)
+
+returns-2 : tie.Need-returns-2
+returns-2 c =
+    let at-put = c .before .before in
+    let told = at-put .before .before in
+    page-accepted _ _ _ _ _ (passes (told .before .before .judge .ensures) (told .enum-told .given .1)) (at-put .put .ensures)
+
+pub page-spec : {M : Type 1} → statement M
+page-spec =
+    tie.close
+    (tie.spec (λ c κs. search needs) (λ c. search needs) returns (λ c. search needs) put-requires (λ c. search needs) returns-2)

@@ -1,0 +1,4 @@
+pub mod Page
+pub mod Fitting
+pub mod Answers
+pub mod Reading

@@ -1,0 +1,66 @@
+-- Document 02, S-1: what a printed page holds. The definitions take the places of the rest, since S-10 makes lines wider.
+use Prim.Native.Nat.{ℕ, _+_, _-_, _*_, _/_, min}
+use mathlib.Core.Bool.{cond}
+use mathlib.Core.List.{List, _++_}
+use lib.Dec.{ltb}
+use lib.ListN.{getD}
+use Rattle.lists.specs.Fold.{sum}
+use Rattle.model.specs.Calls.{massIn}
+use Rattle.text.specs.Lines.{column, pieces, space, newline}
+
+-- A cell's line: the cell in 4 places, q in 7, the rest in 4, with a space between them and a newline at the end.
+abbrev pub cellPlaces : ℕ
+cellPlaces = 4
+
+abbrev pub qPlaces : ℕ
+qPlaces = 7
+
+abbrev pub restPlaces : ℕ
+restPlaces = 4
+
+-- The mass line is as long as a cell's, so the mass has 17 places where the rest has 4.
+abbrev pub massPlaces : ℕ → ℕ
+massPlaces places = cellPlaces + 1 + qPlaces + 1 + places
+
+abbrev pub lineBytes : ℕ → ℕ
+lineBytes places = massPlaces places + 1
+
+unfoldable pub cellLine : ℕ → (cell q rest : ℕ) → List ℕ
+cellLine places cell q rest = column cellPlaces cell space ++ (column qPlaces q space ++ column places rest newline)
+
+unfoldable pub massLine : ℕ → ℕ → List ℕ
+massLine places mass = column (massPlaces places) mass newline
+
+-- Sixty cells make a page; the last page has those that are left.
+abbrev pub pageCells : ℕ
+pageCells = 60
+
+unfoldable pub pages : ℕ → ℕ
+pages cells = (cells + (pageCells - 1)) / pageCells
+
+unfoldable pub cellsOn : ℕ → ℕ → ℕ
+cellsOn cells page = min pageCells (cells - page * pageCells)
+
+-- How long a page is: a line for each cell and one for the mass. A page beyond the last needs no bytes.
+unfoldable pub pageBytes : ℕ → ℕ → ℕ → ℕ
+pageBytes places cells page = cond (ltb page (pages cells)) ((cellsOn cells page + 1) * lineBytes places) 0
+
+module _ (volumes masses : List ℕ) where
+  -- q is m / V rounded down, the rest m − qV
+  abbrev pub qOf : ℕ → ℕ
+  qOf c = massIn masses c / getD volumes c 0
+
+  abbrev pub restOf : ℕ → ℕ
+  restOf c = massIn masses c - qOf c * getD volumes c 0
+
+  unfoldable pub lineOf : ℕ → ℕ → List ℕ
+  lineOf places c = cellLine places c (qOf c) (restOf c)
+
+  -- the mass of a page's cells
+  unfoldable pub pageMass : ℕ → ℕ → ℕ
+  pageMass cells page = sum (cellsOn cells page) (λ i. massIn masses (page * pageCells + i))
+
+  -- A page: the lines of its cells in their order, then the line of its mass.
+  unfoldable pub pageText : ℕ → ℕ → ℕ → List ℕ
+  pageText places cells page =
+      pieces (cellsOn cells page) (λ i. lineOf places (page * pageCells + i)) ++ massLine places (pageMass cells page)

@@ -1,0 +1,136 @@
+#!/usr/bin/env python3
+"""tools/binder.py beside the engine's pages: last fields of sessions, field records of one page and of several, read back, and bad input.
+
+    python3 tests/test_binder.py
+"""
+
+import subprocess
+
+from toolcase import CHANNEL, ROOT, RUN, breaks, command, equal, folder, holds, interrupted, known, refuses, run_all
+
+import generate
+import lagoon
+import script
+import sessiontext
+
+CALLS = ROOT / "target" / "compare" / "calls"
+TOP = 1_000_000
+
+
+def engine_pages(volumes, masses):
+    """All pages, printed by the engine's own call, each into bytes of exactly its length; none follows them."""
+    cells, found, number = len(volumes), b"", 0
+    while True:
+        text = script.spell("page", cells, volumes, masses, number, [0] * lagoon.page_length(cells, number))
+        said = subprocess.run([str(CALLS)], input=text.encode(), capture_output=True, check=True).stdout.decode()
+        if said == f"page: refused 14 {number}; bytes\n":
+            return found
+        holds(said.startswith("page: accepted"), said[:80])
+        found += bytes(map(int, said.split("bytes")[1].split()))
+        number += 1
+
+
+def read_back(text, volumes):
+    """The masses that the lines say, where each page's mass line agrees with them."""
+    masses, of_page = [], 0
+    for line in text.decode().splitlines(keepends=True):
+        equal(len(line), 18, f"bytes of {line!r}")
+        if line[4] == line[12] == " " and line[:4].strip():
+            equal(int(line[:4]), len(masses), "cell")
+            masses.append(int(line[5:12]) * volumes[len(masses)] + int(line[13:17]))
+            of_page += masses[-1]
+        else:
+            equal(int(line), of_page, "mass of a page")
+            of_page = 0
+    return masses
+
+
+def printed(*arguments, data):
+    status, out, said = command("binder.py", *arguments, data=data)
+    equal((status, said), (0, ""), f"{arguments}")
+    return out
+
+
+def pond(volumes, masses):
+    """A session without faces and steps."""
+    return lagoon.pack_mesh(lagoon.Mesh(volumes, [], [], [], [])) + lagoon.pack_field(masses)
+
+
+def field_of(cells):
+    volumes = [(37 * cell) % 4095 + 1 for cell in range(cells)]
+    return volumes, [V * (TOP * cell // cells) + cell % V for cell, V in enumerate(volumes)]
+
+
+def test_the_channel():
+    wanted = "   0    1000   99\n   1     811   88\n   2     187   13\n" + f"{200000:17}\n"
+    for data in (CHANNEL.encode(), sessiontext.pack(CHANNEL)[0]):
+        equal(printed("--run", RUN, data=data), wanted.encode(), "the channel's page")
+    equal(engine_pages([100] * 3, [100099, 81188, 18713]), wanted.encode(), "the engine's page")
+
+
+def test_beside_the_engine():
+    for cells in (1, 59, 60, 61, 119, 120, 121, 1023):
+        volumes, masses = field_of(cells)
+        out = printed(data=pond(volumes, masses))
+        equal(out, engine_pages(volumes, masses), f"{cells} cells")
+        equal(read_back(out, volumes), masses, f"{cells} cells read back")
+    equal(printed(data=pond([4095], [4095 * (TOP + 1) - 1])), b"   0 1000000 4094\n" + b" " * 7 + b"4095004094\n", "the largest figures")
+
+
+def test_after_steps():
+    """The last field of generated sessions."""
+    tried = 0
+    for number in (0, 1, 4, 5, 8, 20):
+        case = generate.session(31, number)
+        if lagoon.run(case.data)[0] in "MF":
+            continue
+        mesh, masses = last_of(case.data)
+        tried += 1
+        equal(printed(data=case.data), engine_pages(mesh.volumes, masses), f"session {number}")
+    holds(tried > 3, f"only {tried} sessions")
+
+
+def last_of(data):
+    """Mesh and last masses of a session, by the reference."""
+    cells, faces = lagoon.mesh_head(data[:4], lagoon.RUN_LIMITS)
+    at = lagoon.mesh_length(cells, faces)
+    mesh = lagoon.accept_mesh(data[:at])
+    masses = lagoon.accept_field(data[at:at + lagoon.field_length(cells)], mesh)
+    data, length = data[at + lagoon.field_length(cells):], lagoon.step_length(faces, mesh.seconds)
+    while data:
+        try:
+            masses = lagoon.accept_step(data[:length], mesh, masses).masses
+        except lagoon.Refusal as refusal:
+            if refusal.cause in (11, 13):
+                break
+        data = data[length:]
+    return mesh, masses
+
+
+def test_a_field_record():
+    volumes, masses = field_of(130)
+    with folder() as made:
+        record, pages, short = f"{made}/last.field", f"{made}/pages", f"{made}/short.field"
+        with open(record, "wb") as file:
+            file.write(lagoon.pack_field(masses))
+        equal(printed("--field", record, "-o", pages, data=pond(volumes, [0] * 130)), b"", "nothing on standard output")
+        with open(pages, "rb") as file:
+            equal(file.read(), engine_pages(volumes, masses), "pages of a field record")
+        for content, words in ((lagoon.pack_field(masses)[:-1], "(cause 11)"), (lagoon.pack_field(masses) + b"\0", "(cause 11)"),
+                               (lagoon.pack_field(masses[:-1]), "(cause 13)"), (lagoon.pack_field([(1 << 32) - 1] * 130), "(cause 6)")):
+            with open(short, "wb") as file:
+                file.write(content)
+            refuses(words, "binder.py", "--field", short, data=pond(volumes, masses))
+
+
+def test_bad_use():
+    known("binder.py")
+    refuses("(cause 6)", "binder.py", data=pond([1], [TOP + 1]))
+    refuses("No such file", "binder.py", "--field", "/nonexistent", data=pond([1], [1]))
+    refuses("is not there", "binder.py", "--library", "/nonexistent.so", data=pond([1], [1]))
+    breaks("binder.py", data=pond([1], [1]))
+    interrupted("binder.py")
+
+
+if __name__ == "__main__":
+    run_all(globals(), "tools/binder.py")
