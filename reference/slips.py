@@ -101,4 +101,21 @@ def bit(lagoon):
     lagoon.number_at = lambda record, bit, width: right(record, bit + 1, width)
 
 
-ANSWER_SLIPS = {slip.__name__: slip for slip in (place, table, beyond, bit)}
+def fresher(lagoon):
+    """Of equal q the smaller rest / V first."""
+    right = lagoon.board_order
+    lagoon.board_order = lambda cell, V, m: (right(cell, V, m)[0], -right(cell, V, m)[1], cell)
+
+
+def unweighed(lagoon):
+    """Of equal q the larger rest first, whatever the volumes."""
+    lagoon.board_order = lambda cell, V, m: (-(m // V), -(m % V), cell)
+
+
+def turned(lagoon):
+    """Of equal q and rest / V the higher cell first."""
+    right = lagoon.board_order
+    lagoon.board_order = lambda cell, V, m: (*right(cell, V, m)[:2], -cell)
+
+
+ANSWER_SLIPS = {slip.__name__: slip for slip in (place, table, beyond, bit, fresher, unweighed, turned)}
