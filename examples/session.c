@@ -64,14 +64,24 @@ static int print_refused(char letter, uint64_t answer)
     return 0;
 }
 
-/* The eight cells with the highest concentration; among equals the lower number first. */
+/* Whether cell a comes before cell b > a on the board: the higher concentration, of equal ones the larger rest by volume, compared
+   by products; the lower number, a, where these are equal too. */
+static int before(size_t a, size_t b)
+{
+    uint32_t m_a = lagoon_mass(field, a), v_a = lagoon_volume(mesh, a), m_b = lagoon_mass(field, b), v_b = lagoon_volume(mesh, b);
+    if (m_a / v_a != m_b / v_b)
+        return m_a / v_a > m_b / v_b;
+    return (uint64_t)(m_a % v_a) * v_b >= (uint64_t)(m_b % v_b) * v_a;
+}
+
+/* The eight cells with the highest concentration, in the board's order. */
 static void print_board(size_t cells)
 {
     static uint8_t listed[LAGOON_MAX_CELLS];
     for (int line = 0; line < 8; line++) {
         size_t best = cells;
         for (size_t c = 0; c < cells; c++)
-            if (!listed[c] && (best == cells || lagoon_mass(field, c) / lagoon_volume(mesh, c) > lagoon_mass(field, best) / lagoon_volume(mesh, best)))
+            if (!listed[c] && (best == cells || !before(best, c)))
                 best = c;
         if (best == cells)
             return;

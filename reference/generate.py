@@ -126,7 +126,8 @@ def layout(rng, cells, most, fill):
 
 def pick_volume(rng, style):
     return {"one": 1, "most": 4095, "hundred": 100, "small": rng.randint(1, 12), "any": rng.randint(1, 4095),
-            "ends": rng.choice([1, 2, 4094, 4095]), "middle": rng.randint(80, 400)}[style]
+            "ends": rng.choice([1, 2, 4094, 4095]), "middle": rng.randint(80, 400),
+            "dozens": 12 * rng.choice([1, 2, 3, 5, 341])}[style]
 
 
 def pick_concentration(rng, style, cell, cells):
@@ -142,7 +143,7 @@ class Lagoon:
     def __init__(self, rng, size):
         cells, most, fill = size
         self.shape, pairs = layout(rng, cells, most, fill)
-        style = rng.choice(["one", "most", "hundred", "small", "any", "ends", "middle", "middle", "any"])
+        style = rng.choice(["one", "most", "hundred", "small", "any", "ends", "middle", "middle", "any", "dozens"])
         self.volumes = [pick_volume(rng, style) for _ in range(cells)]
         shares = rng.choice(["half", "any", "ends", "any"])
         reaches = rng.choice(["one", "most", "ends", "any", "volume", "volume", "volume"])
@@ -164,11 +165,12 @@ class Lagoon:
                 self.doors[second].append((face, -1, first))
         self.salt = rng.choice(["front", "any", "low", "ends", "even", "top", "spike", "teeth", "front",
                                 "any", "empty"])
-        rest = rng.choice(["any", "none", "most"])
+        rest = rng.choice(["any", "none", "most", "parts"])
         self.masses = []
         for cell, V in enumerate(self.volumes):
             q = pick_concentration(rng, self.salt, cell, cells)
-            self.masses.append(q * V + {"any": rng.randrange(V), "none": 0, "most": V - 1}[rest])
+            part = V * rng.randrange(12) // 12          # the same part of several volumes, exactly or nearly
+            self.masses.append(q * V + {"any": rng.randrange(V), "none": 0, "most": V - 1, "parts": part}[rest])
 
     def pick_door(self, rng, cell, usable):
         """A usable door of the cell: a few are drawn before all are looked at, since a cell may have thousands."""

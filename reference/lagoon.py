@@ -8,6 +8,7 @@ of the document's table of causes.
 import argparse
 import sys
 from collections import namedtuple
+from fractions import Fraction
 
 RIM = 4095                  # the mark of the rim in the place of a second cell
 TOP = 1_000_000             # greatest concentration
@@ -437,10 +438,14 @@ def host_step(mesh_record, field_record, step_record, room):
 
 # ---------------------------------------------------------------- The board and the run
 
+def board_order(cell, V, m):
+    """What the board is sorted by, least first: the higher q, of equal ones the larger rest / V (S-2), then the lower cell."""
+    return -(m // V), -Fraction(m % V, V), cell
+
 def board(volumes, masses):
     """The board's entries as (cell, q, rest), in its order."""
-    entries = [(cell, m // V, m % V) for cell, (V, m) in enumerate(zip(volumes, masses))]
-    return sorted(entries, key=lambda entry: (-entry[1], entry[0]))[:8]
+    cells = sorted(zip(range(len(volumes)), volumes, masses), key=lambda entry: board_order(*entry))
+    return [(cell, m // V, m % V) for cell, V, m in cells[:8]]
 
 def board_on_tables(cells, volumes, masses):
     """All eight entries of the board of lent tables; those not used are 0."""

@@ -107,4 +107,21 @@ def binder(lagoon):
     lagoon.page_lines = lambda volumes, masses, page: right(volumes, masses, page)[:-1] + [f"{sum(masses):17}\n"]
 
 
-ANSWER_SLIPS = {slip.__name__: slip for slip in (place, table, beyond, bit, binder)}
+def fresher(lagoon):
+    """Of equal q the smaller rest / V first."""
+    right = lagoon.board_order
+    lagoon.board_order = lambda cell, V, m: (right(cell, V, m)[0], -right(cell, V, m)[1], cell)
+
+
+def unweighed(lagoon):
+    """Of equal q the larger rest first, whatever the volumes."""
+    lagoon.board_order = lambda cell, V, m: (-(m // V), -(m % V), cell)
+
+
+def turned(lagoon):
+    """Of equal q and rest / V the higher cell first."""
+    right = lagoon.board_order
+    lagoon.board_order = lambda cell, V, m: (*right(cell, V, m)[:2], -cell)
+
+
+ANSWER_SLIPS = {slip.__name__: slip for slip in (place, table, beyond, bit, binder, fresher, unweighed, turned)}

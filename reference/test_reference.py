@@ -166,6 +166,7 @@ def test_host_call_and_run():
     equal(text.splitlines()[1:3], ["1 50000 0 150000", "2 R 11 0"], "a cut step ends the run")
     equal(lagoon.board([1] * 10, [5, 9, 5, 9, 0, 0, 0, 0, 0, 1])[:4],
           [(1, 9, 0), (3, 9, 0), (0, 5, 0), (2, 5, 0)], "board order")
+    equal(lagoon.board([4, 2, 3, 10], [22, 11, 17, 55]), [(2, 5, 2), (0, 5, 2), (1, 5, 1), (3, 5, 5)], "board, equal q")
     equal(lagoon.board_on_tables(1, [100], [199]), [(0, 1, 99)] + [(0, 0, 0)] * 7, "unused board entries")
 
 

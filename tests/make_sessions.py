@@ -62,6 +62,7 @@ def sessions():
     yield "one_cell", bytes.fromhex("100100000640200100000063")
     yield "one_cell_steps", bytes.fromhex("100100000640200100000063") + bytes.fromhex("30000000") * 3
     yield "no_steps", start
+    yield "equal_figures", pack_mesh(Mesh([7, 14, 7, 14, 7, 7, 14, 7, 7], [], [], [], [])) + pack_field([21, 54, 26, 52, 27, 23, 44, 24, 25])
 
     # the mesh
     yield "mesh_head_short", MESH[:3]

@@ -4,6 +4,7 @@
 The step is written here once more, with a switch for each slip, so that a slip is one changed line of it."""
 
 import sys
+from fractions import Fraction
 from pathlib import Path
 
 ROOT = Path(__file__).resolve().parent.parent
@@ -99,7 +100,7 @@ def step(session, slip=None):
 def lines(session, slip=None):
     """What the run would print of the step: its line, and the board."""
     after, entered, gone = step(session, slip)
-    order = sorted(session.cells, key=lambda c: (-(after[c] // session.mesh.volumes[c]), c))[:8]
+    order = sorted(session.cells, key=lambda c: (-Fraction(after[c], session.mesh.volumes[c]), c))[:8]
     board = [f"B {c} {after[c] // session.mesh.volumes[c]} {after[c] % session.mesh.volumes[c]}" for c in order]
     return [f"1 {entered} {gone} {sum(after)}", *board]
 

@@ -5,6 +5,7 @@ import os
 import subprocess
 import tempfile
 from collections import namedtuple
+from fractions import Fraction
 
 import causes
 import layout
@@ -105,9 +106,9 @@ class History:
 
 
 def board(volumes, masses):
-    """Up to 8 cells as (cell, q, rest), highest q first, lower cell number first among equals."""
-    entries = [(cell, m // V, m % V) for cell, (V, m) in enumerate(zip(volumes, masses))]
-    return sorted(entries, key=lambda entry: (-entry[1], entry[0]))[:8]
+    """Up to 8 cells as (cell, q, rest): highest q first, then the larger rest / V, so by m / V; then the lower cell."""
+    cells = sorted(range(len(volumes)), key=lambda cell: (-Fraction(masses[cell], volumes[cell]), cell))
+    return [(cell, *divmod(masses[cell], volumes[cell])) for cell in cells[:8]]
 
 
 def agree(program, records, lines):

@@ -1,5 +1,5 @@
 -- The first cells of an order: distinct, in order, and nothing left out that comes before one of them.
-use Prim.Native.Nat.{ℕ, zero, suc, _<_, min}
+use Prim.Native.Nat.{ℕ, zero, suc, _*_, _≤_, _<_, min}
 use mathlib.Core.Path.{_≡_, refl, sym, ap, _∙_}
 use mathlib.Core.Logic.{_≢_, _⊎_, inl, inr, ⊎-elim}
 use mathlib.Core.Bool.{Bool, true, false, cond, true≢false}
@@ -10,8 +10,8 @@ use lib.Dec.{eqb, leb}
 use lib.ListN.{length, getD, take, drop, length-take, take-append-drop}
 use Rattle.lists.proofs.Tests.{Same, same, other, same?, Fits, fits, exceeds, fits?}
 use Rattle.board.specs.Board.{comesBefore, insertInOrder, inOrder}
-use Rattle.board.specs.declared.Entry.{Entry}
-use Rattle.board.proofs.Entries.{first-of, comes-first}
+use Rattle.board.specs.declared.Ranked.{Ranked}
+use Rattle.board.proofs.Entries.{First, higher, larger, lower, first-of, comes-first, first-trans}
 use Rattle.board.proofs.Insertion.{length-inOrder}
 
 after : (a b : ℕ) → (a < b → ⊥) → a ≢ b → b < a
@@ -21,11 +21,11 @@ after a b n d = go (leb a b) (fits? a b)
     go true (fits l) = ⊎-elim (λ e. absurd (d e)) (λ h. absurd (n h)) (eq-or-lt-of-le l)
     go false (exceeds l) = l
 
--- a strict order in which any two cells stand one before the other
-pub record Strict (order : ℕ → ℕ → Bool) : Type 0 where
-  pub irreflexive : (a : ℕ) → order a a ≡ false
-  pub transitive : (a b c : ℕ) → order a b ≡ true → order b c ≡ true → order a c ≡ true
-  pub total : (a b : ℕ) → a ≢ b → order a b ≡ false → order b a ≡ true
+-- a strict order of the cells below n, in which any two of them stand one before the other
+pub record Strict (n : ℕ) (order : ℕ → ℕ → Bool) : Type 0 where
+  pub irreflexive : (a : ℕ) → a < n → order a a ≡ false
+  pub transitive : (a b c : ℕ) → a < n → b < n → c < n → order a b ≡ true → order b c ≡ true → order a c ≡ true
+  pub total : (a b : ℕ) → a < n → b < n → a ≢ b → order a b ≡ false → order b a ≡ true
 
 getD-mem : (l : List ℕ) (i : ℕ) → i < length l → List·Memᴰ (getD l i 0) l
 getD-mem [] i h = absurd (not-suc-le-zero h)
@@ -103,69 +103,91 @@ module _ (order : ℕ → ℕ → Bool) where
   sorted-split (suc m) [] s h k = absurd (List·Memᴰ·not-nil h)
   sorted-split (suc m) (x ∷ l) s {a} {c} h k = ⊎-elim (λ (e : a ≡ x). rw e (s .0 c (drop-mem m l k))) (λ t. sorted-split m l (s .1) t k) (List·Memᴰ·cases-cons h)
 
-  module _ (strict : Strict order) where
-    sorted-insert : (c : ℕ) (l : List ℕ) → ((d : ℕ) → List·Memᴰ d l → c ≢ d) → Sorted l → Sorted (insertInOrder order c l)
+  -- The first m of the cells below n, or all of them where there are fewer.
+  module _ (m n : ℕ) where
+    pub first-count : length (take m (inOrder order n)) ≡ min m n
+    first-count = length-take m _ ∙ ap (min m) (length-inOrder order n)
+
+    pub first-below : {c : ℕ} → List·Memᴰ c (take m (inOrder order n)) → c < n
+    first-below h = inOrder-below n (take-mem m (inOrder order n) h)
+
+  module _ (n : ℕ) (strict : Strict n order) where
+    sorted-insert : (c : ℕ) (l : List ℕ) → c < n → ((d : ℕ) → List·Memᴰ d l → d < n) → ((d : ℕ) → List·Memᴰ d l → c ≢ d) → Sorted l → Sorted (insertInOrder order c l)
     unfolding insertInOrder
-    sorted-insert c [] n s = ((λ d h. absurd (List·Memᴰ·not-nil h)), tt)
-    sorted-insert c (x ∷ l) n s = go (order c x) refl (sorted-insert c l (λ d h. n d (List·Memᴰ·tail h)) (s .1))
+    sorted-insert c [] k m n s = ((λ d h. absurd (List·Memᴰ·not-nil h)), tt)
+    sorted-insert c (x ∷ l) k m n s = go (order c x) refl (sorted-insert c l k (λ d h. m d (List·Memᴰ·tail h)) (λ d h. n d (List·Memᴰ·tail h)) (s .1))
       where
         go : (b : Bool) → order c x ≡ b → Sorted (insertInOrder order c l) → Sorted (cond b (c ∷ x ∷ l) (x ∷ insertInOrder order c l))
-        go true e ih = ((λ d h. ⊎-elim (λ q. before-cell q e) (λ t. strict .transitive c x d e (s .0 d t)) (List·Memᴰ·cases-cons h)), s)
+        go true e ih = (
+          (λ d h. ⊎-elim (λ q. before-cell q e)
+              (λ t. strict .transitive c x d k (m x (List·Memᴰ·head refl)) (m d (List·Memᴰ·tail t)) e (s .0 d t)) (List·Memᴰ·cases-cons h)),
+          s,
+        )
         go false e ih =
-            let r : order x c ≡ true = strict .total c x (n x (List·Memᴰ·head refl)) e in
+            let r : order x c ≡ true = strict .total c x k (m x (List·Memᴰ·head refl)) (n x (List·Memᴰ·head refl)) e in
             ((λ d h. ⊎-elim (λ q. before-cell q r) (λ t. s .0 d t) (mem-insert c l h)), ih)
 
-    inOrder-sorted : (n : ℕ) → Sorted (inOrder order n)
+    sorted-below : (k : ℕ) → k ≤ n → Sorted (inOrder order k)
     unfolding inOrder
-    inOrder-sorted zero = tt
-    inOrder-sorted (suc n) = sorted-insert n (inOrder order n) (λ d h e. omega (arith, inOrder-below n h)) (inOrder-sorted n)
+    sorted-below zero h = tt
+    sorted-below (suc k) h =
+        sorted-insert k (inOrder order k) h (λ d t. omega (arith, inOrder-below k t)) (λ d t e. omega (arith, inOrder-below k t)) (sorted-below k (omega arith))
 
-    -- The first m of the cells below n in the order, or all of them where there are fewer.
-    module _ (m n : ℕ) where
-      pub first-count : length (take m (inOrder order n)) ≡ min m n
-      first-count = length-take m _ ∙ ap (min m) (length-inOrder order n)
+    inOrder-sorted : Sorted (inOrder order n)
+    inOrder-sorted = sorted-below n (omega arith)
 
-      pub first-below : {c : ℕ} → List·Memᴰ c (take m (inOrder order n)) → c < n
-      first-below h = inOrder-below n (take-mem m (inOrder order n) h)
-
+    -- how the first m of them stand
+    module _ (m : ℕ) where
       pub first-ordered : (i j : ℕ) → i < j → j < length (take m (inOrder order n)) → order (getD (take m (inOrder order n)) i 0) (getD (take m (inOrder order n)) j 0) ≡ true
-      first-ordered = sorted-places (take m (inOrder order n)) (sorted-take m (inOrder order n) (inOrder-sorted n))
+      first-ordered = sorted-places (take m (inOrder order n)) (sorted-take m (inOrder order n) inOrder-sorted)
 
       pub first-distinct : (i j : ℕ) → i < j → j < length (take m (inOrder order n)) → getD (take m (inOrder order n)) i 0 ≢ getD (take m (inOrder order n)) j 0
       first-distinct i j h k e =
           let a = getD (take m (inOrder order n)) i 0 in
-          true≢false (sym (before-cell e (first-ordered i j h k)) ∙ strict .irreflexive a)
+          let l : a < n = first-below m n (getD-mem (take m (inOrder order n)) i (omega arith)) in
+          true≢false (sym (before-cell e (first-ordered i j h k)) ∙ strict .irreflexive a l)
 
       -- a cell that is left out comes after each of the first
       pub left-out-after : {c d : ℕ} → c < n → (List·Memᴰ c (take m (inOrder order n)) → ⊥) → List·Memᴰ d (take m (inOrder order n)) → order d c ≡ true
       left-out-after {c} h out k =
           let all : List·Memᴰ c (take m (inOrder order n) ++ drop m (inOrder order n)) = rw (take-append-drop m (inOrder order n)) (inOrder-all n h) in
-          ⊎-elim (λ t. absurd (out t)) (λ t. sorted-split m (inOrder order n) (inOrder-sorted n) k t) (List·Memᴰ·append-cases (take m (inOrder order n)) all)
+          ⊎-elim (λ t. absurd (out t)) (λ t. sorted-split m (inOrder order n) inOrder-sorted k t) (List·Memᴰ·append-cases (take m (inOrder order n)) all)
 
-not-first : (a b : Entry) → ((b .q < a .q) ⊎ ((a .q ≡ b .q) × (a .cell < b .cell)) → ⊥) → comesBefore a b ≡ false
+not-first : (a b : Ranked) → (First a b → ⊥) → comesBefore a b ≡ false
 not-first a b n = go (comesBefore a b) refl
   where
     go : (t : Bool) → comesBefore a b ≡ t → t ≡ false
     go false e = refl
     go true e = absurd (n (first-of a b e))
 
--- The board's order is such an order, whatever the concentrations.
-module _ (f : ℕ → Entry) (cell-is : (c : ℕ) → f c .cell ≡ c) where
-  other-first : (a b : ℕ) → a ≢ b → comesBefore (f a) (f b) ≡ false → (f a .q < f b .q) ⊎ ((f b .q ≡ f a .q) × (f b .cell < f a .cell))
-  other-first a b n h = go (eqb (f a .q) (f b .q)) (same? (f a .q) (f b .q))
+-- The board's order is such an order, whatever the concentrations, where no volume is 0.
+module _ (n : ℕ) (f : ℕ → Ranked) (cell-is : (c : ℕ) → f c .cell ≡ c) (some : (c : ℕ) → c < n → 1 ≤ f c .volume) where
+  not-itself : (a : Ranked) → First a a → ⊥
+  not-itself a (higher h) = omega arith
+  not-itself a (larger e h) = omega arith
+  not-itself a (lower e d h) = omega arith
+
+  other-first : (a b : ℕ) → a ≢ b → (First (f a) (f b) → ⊥) → First (f b) (f a)
+  other-first a b d h = by-q (eqb (f a .q) (f b .q)) (same? (f a .q) (f b .q))
     where
-      lower : (f b .q < f a .q) ⊎ ((f a .q ≡ f b .q) × (f a .cell < f b .cell)) → ⊥
-      lower k = true≢false (sym (comes-first (f a) (f b) k) ∙ h)
+      of-a : ℕ
+      of-a = f a .rest * f b .volume
 
-      go : (t : Bool) → Same (f a .q) (f b .q) t → (f a .q < f b .q) ⊎ ((f b .q ≡ f a .q) × (f b .cell < f a .cell))
-      go true (same e) = inr (sym e, after (f a .cell) (f b .cell) (λ l. lower (inr (e, l))) (λ q. n (sym (cell-is a) ∙ q ∙ cell-is b)))
-      go false (other d) = inl (after (f b .q) (f a .q) (λ l. lower (inl l)) (λ q. d (sym q)))
+      of-b : ℕ
+      of-b = f b .rest * f a .volume
 
-  pub board-strict : Strict (λ a b. comesBefore (f a) (f b))
+      by-parts : f a .q ≡ f b .q → (t : Bool) → Same of-a of-b t → First (f b) (f a)
+      by-parts e true (same p) = lower (sym e) (sym p) (after (f a .cell) (f b .cell) (λ l. h (lower e p l)) (λ q. d (sym (cell-is a) ∙ q ∙ cell-is b)))
+      by-parts e false (other p) = larger (sym e) (after of-b of-a (λ l. h (larger e l)) (λ q. p (sym q)))
+
+      by-q : (t : Bool) → Same (f a .q) (f b .q) t → First (f b) (f a)
+      by-q true (same e) = by-parts e (eqb of-a of-b) (same? of-a of-b)
+      by-q false (other p) = higher (after (f b .q) (f a .q) (λ l. h (higher l)) (λ q. p (sym q)))
+
+  pub board-strict : Strict n (λ a b. comesBefore (f a) (f b))
   board-strict = record {
-    irreflexive = λ a. not-first (f a) (f a) (λ h. ⊎-elim (λ l. omega arith) (λ l. omega arith) h);
-    transitive = λ a b c h k. comes-first (f a) (f c) (⊎-elim
-        (λ l. ⊎-elim (λ m. inl (omega arith)) (λ m. inl (omega arith)) (first-of (f b) (f c) k))
-        (λ l. ⊎-elim (λ m. inl (omega arith)) (λ m. inr (omega arith)) (first-of (f b) (f c) k)) (first-of (f a) (f b) h));
-    total = λ a b n h. comes-first (f b) (f a) (other-first a b n h);
+    irreflexive = λ a h. not-first (f a) (f a) (not-itself (f a));
+    transitive = λ a b c i j k h l.
+        comes-first (f a) (f c) (first-trans (f a) (f b) (f c) (some a i) (some b j) (some c k) (first-of (f a) (f b) h) (first-of (f b) (f c) l));
+    total = λ a b i j d h. comes-first (f b) (f a) (other-first a b d (λ k. true≢false (sym (comes-first (f a) (f b) k) ∙ h)));
   }

@@ -3,10 +3,10 @@ use checks::check_cells;
 use model::Answer;
 ghost use mathlib.Core.Path.{_≡_};
 ghost use mathlib.Core.Bool.{_||_};
-ghost use Prim.Native.Nat.{ℕ, _+_, _≤_, _<_, min};
+ghost use Prim.Native.Nat.{ℕ, _+_, _*_, _≤_, _<_, min};
 ghost use lib.ListN.{length, getD, take, replicate};
-ghost use Rattle.lists.specs.Table.{over};
-ghost use Rattle.board.specs.Board.{boardSize, entryOf, comesBefore, unused, insertInOrder, boardEntries, BoardIs};
+ghost use Rattle.lists.specs.Table.{table, over};
+ghost use Rattle.board.specs.Board.{boardSize, maxRanked, rankedOf, shown, unranked, unused, comesBefore, insertInOrder, rankedCells, BoardIs};
 
 // Most cells that the board lists.
 pub const BOARD_SIZE: usize = 8;
@@ -18,10 +18,18 @@ pub struct Entry {
     pub rest: u64,
 }
 
-// The first `used` entries stand in the board's order; those after them are 0.
+// A cell as the order sees it. Rest and volume are narrow, so that the product of any two of them fits 64 bits.
+struct Ranked {
+    cell: u64,
+    q: u64,
+    rest: u32,
+    volume: u32,
+}
+
+// The first `used` stand in the board's order; those after them are 0.
 struct Ranking {
     used: usize,
-    entries: [Entry; BOARD_SIZE],
+    ranks: [Ranked; BOARD_SIZE],
 }
 
 // Entries after a refusal are 0, and so is their number.
@@ -32,46 +40,60 @@ pub struct BoardAnswer {
 }
 
 fn empty_ranking() -> Ranking
-    ensures { λ r. ⌜ (r .used ≡ 0) × (r .entries ≡ replicate boardSize unused) ⌝ }
+    ensures { λ r. ⌜ (r .used ≡ 0) × (r .ranks ≡ replicate boardSize unranked) ⌝ }
 {
-    let none = Entry {
+    let none = Ranked {
         cell: 0,
         q: 0,
         rest: 0,
+        volume: 0,
     };
-    let entries = [none; BOARD_SIZE];
+    let ranks = [none; BOARD_SIZE];
     Ranking {
         used: 0,
-        entries: entries,
+        ranks: ranks,
     }
 }
 
-// The entry of one cell, by one division.
-fn entry_of(cell: u64, volume: u64, mass: u64) -> Entry
-    requires { ⌜ 1 ≤ volume ⌝ }
-    ensures { λ r. ⌜ r ≡ entryOf cell volume mass ⌝ }
+// One cell as the order sees it, by one division.
+fn ranked_of(cell: u64, volume: u64, mass: u64) -> Ranked
+    requires { ⌜ (1 ≤ volume) × (volume ≤ maxRanked) ⌝ }
+    ensures { λ r. ⌜ r ≡ rankedOf cell volume mass ⌝ }
 {
     let q = mass / volume;
     let rest = mass - q * volume;
-    Entry {
+    Ranked {
         cell: cell,
         q: q,
-        rest: rest,
+        rest: rest as u32,
+        volume: volume as u32,
     }
+}
+
+// A rest times the volume of another cell: rest / V of two cells is compared by two such products.
+fn across(rest: u32, volume: u32) -> u64
+    ensures { λ r. ⌜ r ≡ rest * volume ⌝ }
+{
+    (rest as u64) * (volume as u64)
 }
 
 // The board's order.
-fn comes_before(a: Entry, b: Entry) -> bool
+fn comes_before(a: Ranked, b: Ranked) -> bool
     ensures { λ r. ⌜ r ≡ comesBefore a b ⌝ }
 {
-    if a.q == b.q {
-        return a.cell < b.cell;
+    if a.q != b.q {
+        return b.q < a.q;
     }
-    b.q < a.q
+    let of_a = across(a.rest, b.volume);
+    let of_b = across(b.rest, a.volume);
+    if of_a != of_b {
+        return of_b < of_a;
+    }
+    a.cell < b.cell
 }
 
 // Whether a is written in the place of b: it comes before b, or those from its place on move back by one already.
-fn displaces(moving: bool, a: Entry, b: Entry) -> bool
+fn displaces(moving: bool, a: Ranked, b: Ranked) -> bool
     ensures { λ r. ⌜ r ≡ (moving || comesBefore a b) ⌝ }
 {
     if moving {
@@ -80,53 +102,78 @@ fn displaces(moving: bool, a: Entry, b: Entry) -> bool
     comes_before(a, b)
 }
 
-// One entry inserted among those used; the last of eight falls out where a ninth comes in.
-fn insert(ranking: Ranking, entry: Entry) -> Ranking
+// One cell inserted among those used; the last of eight falls out where a ninth comes in.
+fn insert(ranking: Ranking, ranked: Ranked) -> Ranking
     requires { ⌜ ranking .used ≤ boardSize ⌝ }
     ensures { λ r. ⌜ (r .used ≡ min boardSize (ranking .used + 1))
-        × (r .entries ≡ over (take boardSize (insertInOrder comesBefore entry (take (ranking .used) (ranking .entries)))) (ranking .entries)) ⌝ }
+        × (r .ranks ≡ over (take boardSize (insertInOrder comesBefore ranked (take (ranking .used) (ranking .ranks)))) (ranking .ranks)) ⌝ }
 {
     let used = ranking.used;
-    let mut entries = ranking.entries;
-    let mut carried = entry;
+    let mut ranks = ranking.ranks;
+    let mut carried = ranked;
     let mut moving = false;
     let mut i = 0;
     while i < used {
-        let present = entries[i];
+        let present = ranks[i];
         if displaces(moving, carried, present) {
-            entries[i] = carried;
+            ranks[i] = carried;
             carried = present;
             moving = true;
         }
         i += 1;
     }
     if used < BOARD_SIZE {
-        entries[used] = carried;
+        ranks[used] = carried;
         return Ranking {
             used: used + 1,
-            entries: entries,
+            ranks: ranks,
         };
     }
     Ranking {
         used: used,
-        entries: entries,
+        ranks: ranks,
     }
 }
 
 // The highest of the cells below `cells`, each inserted in turn.
 fn rank(cells: usize, volumes: &[u64], masses: &[u64]) -> Ranking
     requires { ⌜ (cells ≤ length (now volumes)) × (cells ≤ length (now masses)) ⌝ }
-    requires { ⌜ ((c : ℕ) → c < cells → 1 ≤ getD (now volumes) c 0) ⌝ }
+    requires { ⌜ ((c : ℕ) → c < cells → (1 ≤ getD (now volumes) c 0) × (getD (now volumes) c 0 ≤ maxRanked)) ⌝ }
     ensures { λ r. ⌜ (r .used ≡ min boardSize cells)
-        × (r .entries ≡ boardEntries (now (volumes .entry)) (now (masses .entry)) cells) ⌝ }
+        × (r .ranks ≡ rankedCells (now (volumes .entry)) (now (masses .entry)) cells) ⌝ }
 {
     let mut ranking = empty_ranking();
     let mut c = 0;
     while c < cells {
-        ranking = insert(ranking, entry_of(c as u64, volumes[c], masses[c]));
+        ranking = insert(ranking, ranked_of(c as u64, volumes[c], masses[c]));
         c += 1;
     }
     ranking
+}
+
+// The entries of a ranking: what is shown of each that is used, and 0 after them.
+fn entries_of(ranking: Ranking) -> [Entry; BOARD_SIZE]
+    requires { ⌜ ranking .used ≤ boardSize ⌝ }
+    ensures { λ r. ⌜ r ≡ over (table (ranking .used) (λ i. shown (getD (ranking .ranks) i unranked))) (replicate boardSize unused) ⌝ }
+{
+    let none = Entry {
+        cell: 0,
+        q: 0,
+        rest: 0,
+    };
+    let mut entries = [none; BOARD_SIZE];
+    let ranks = ranking.ranks;
+    let mut i = 0;
+    while i < ranking.used {
+        let a = ranks[i];
+        entries[i] = Entry {
+            cell: a.cell,
+            q: a.q,
+            rest: a.rest as u64,
+        };
+        i += 1;
+    }
+    entries
 }
 
 // The board of a field: causes 1 (cells), 2 (volumes, masses), 3 and 6, else the highest cells.
@@ -135,19 +182,17 @@ pub fn board(cells: usize, volumes: &[u64], masses: &[u64]) -> BoardAnswer
 {
     let verdict = check_cells(cells, volumes, masses);
     if let Answer::Refused(_) = verdict {
-        let empty = empty_ranking();
-        let none = empty.entries;
+        let none = empty_ranking();
         return BoardAnswer {
             verdict: verdict,
-            used: empty.used,
-            entries: none,
+            used: none.used,
+            entries: entries_of(none),
         };
     }
     let ranking = rank(cells, volumes, masses);
-    let entries = ranking.entries;
     BoardAnswer {
         verdict: verdict,
         used: ranking.used,
-        entries: entries,
+        entries: entries_of(ranking),
     }
 }

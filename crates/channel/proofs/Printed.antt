@@ -27,7 +27,7 @@ use Rattle.heads.specs.Heads.{meshHeadVerdict, fieldHeadVerdict, stepHeadVerdic
 use Rattle.reading.specs.Reading.{meshBodyVerdict, fieldBodyVerdict, stepBodyVerdict, fieldRead}
 use Rattle.reading.specs.Reading.{stepRead}
 use Rattle.reading.specs.declared.MeshCounts.{MeshCounts}
-use Rattle.board.specs.Board.{entryOf, comesBefore, insertInOrder, inOrder, entryAt, before, listed}
+use Rattle.board.specs.Board.{entryOf, rankedOf, fuller, asFull, comesBefore, insertInOrder, inOrder, entryAt, rankedAt, before, listed}
 use Rattle.taking.specs.Taking.{meshRecordFound, meshJudged, fieldJudged, stepJudged, stepIn, ownTables, blank, printedOf, massesAfter}
 use Rattle.taking.specs.declared.Printed.{Printed}
 use Rattle.text.specs.Digits.{digits}
@@ -100,7 +100,7 @@ unfolding meshHeadVerdict fieldHeadVerdict stepHeadVerdict meshNeeds fieldNeeds 
 of-reading = tt
 
 of-board : Unit {0}
-unfolding entryOf comesBefore insertInOrder inOrder entryAt before listed
+unfolding entryOf rankedOf fuller asFull comesBefore insertInOrder inOrder entryAt rankedAt before listed
 of-board = tt
 
 of-taking : Unit {0}

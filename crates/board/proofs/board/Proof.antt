@@ -1,21 +1,34 @@
+use mathlib.Core.Path.{_∙_}
+use native.Mathlib.Omega.{arith}
 use borrow.Author.Needs.{needs}
 use Rattle.model.proofs.Verdicts.{passes}
-use Rattle.board.proofs.Listed.{rank-asks, accepted-board, refused-board}
+use Rattle.board.proofs.Listed.{none-shown, entries-shown, rank-asks, accepted-board, refused-board}
 use Rattle.board.proofs.board.Statement.{statement}
 use Rattle.board.proofs.board.Tie as tie
 
+none-of-requires : tie.Need-entries-of-requires
+none-of-requires c κs = omega (arith, c .empty-ranking .ensures .0)
+
 returns : tie.Need-returns
 returns c =
-    refused-board _ _ _ _ (c .before .before .before .before .check-cells .ensures) _ (c .before .before .enum-told .given .1)
-    (c .before .empty-ranking .ensures .0) (c .before .empty-ranking .ensures .1)
+    let none = c .before .empty-ranking in
+    let at-told = c .before .before in
+    refused-board _ _ _ _ (at-told .before .before .check-cells .ensures) _ (at-told .enum-told .given .1)
+    (none .ensures .0) (c .entries-of .ensures ∙ none-shown (none .result .ranks) (none .ensures .0))
 
 rank-requires : tie.Need-rank-requires
 rank-requires c κs = rank-asks _ _ _ (passes (c .before .before .check-cells .ensures) (c .enum-told2 .given .1))
 
+entries-of-requires : tie.Need-entries-of-requires-2
+entries-of-requires c κs = omega (arith, c .rank .ensures .0)
+
 returns-2 : tie.Need-returns-2
 returns-2 c =
-    accepted-board _ _ _ _ (c .before .before .before .before .check-cells .ensures) (c .before .before .enum-told2 .given .1)
-    (c .before .rank .ensures .0) (c .before .rank .ensures .1)
+    let ranked = c .before .rank in
+    let at-told = c .before .before in
+    accepted-board _ _ _ _ (at-told .before .before .check-cells .ensures) (at-told .enum-told2 .given .1)
+    (ranked .ensures .0) (c .entries-of2 .ensures ∙ entries-shown _ _ _ (ranked .ensures .0) (ranked .ensures .1))
 
 pub board-spec : {M : Type 1} → statement M
-board-spec = tie.close (tie.spec (search needs) (search needs) (search needs) returns (search needs) rank-requires returns-2)
+board-spec =
+    tie.close (tie.spec (search needs) (search needs) (search needs) none-of-requires returns (search needs) rank-requires entries-of-requires returns-2)

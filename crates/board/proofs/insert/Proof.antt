@@ -1,4 +1,4 @@
--- The loop carries one entry past those used: the entry itself until its place is found, then the one that it displaces.
+-- The loop carries one cell past those used: the cell itself until its place is found, then the one that it displaces.
 use Prim.Native.Nat.{ℕ, _-_}
 use mathlib.Core.Path.{_≡_, refl, sym, _∙_}
 use mathlib.Core.List.{List, map}
@@ -6,7 +6,7 @@ use mathlib.Core.Logic.{⊎-elim}
 use native.Mathlib.Omega.{arith}
 use borrow.Author.Needs.{needs}
 use lib.ListN.{length, take, length-map}
-use Rattle.board.specs.Board.{boardSize, unused, comesBefore, insertInOrder}
+use Rattle.board.specs.Board.{boardSize, unranked, comesBefore, insertInOrder}
 use Rattle.board.proofs.Insertion.{Carrying, at-start, carried-on, passed, at-end, room-left, no-room}
 use Rattle.board.proofs.insert.Statement.{statement}
 use Rattle.board.proofs.insert.Tie as tie
@@ -16,11 +16,11 @@ length-mapped : {X Y : Type 0} (g : X → Y) (l : List X) (n : ℕ) → length (
 length-mapped g l n e = sym (length-map l g) ∙ e
 
 abbrev Inv-loop : tie.InvT-loop
-Inv-loop used entries₀ carried₀ moving₀ i₀ entries carried moving i =
-    Carrying comesBefore (insertInOrder comesBefore carried₀ (take used entries₀)) used boardSize entries₀ entries moving carried i
+Inv-loop used ranks₀ carried₀ moving₀ i₀ ranks carried moving i =
+    Carrying comesBefore (insertInOrder comesBefore carried₀ (take used ranks₀)) used boardSize ranks₀ ranks moving carried i
 
 abbrev μ-loop : tie.MeasureT-loop
-μ-loop used entries₀ carried₀ moving₀ i₀ entries carried moving i = used - i
+μ-loop used ranks₀ carried₀ moving₀ i₀ ranks carried moving i = used - i
 
 loop-holds : tie.Need-loop-holds Inv-loop μ-loop
 loop-holds c = at-start comesBefore _ _ _ _ (search (needs, length-mapped))
@@ -29,9 +29,9 @@ loop-again : tie.Need-loop-again Inv-loop μ-loop
 loop-again c =
     let p = c .before .before .before .before .loop in
     ⊎-elim
-    (λ w. carried-on comesBefore _ _ _ _ (p .entries) (p .i) (p .moving) (p .carried) _ unused (c .before .before .before .loop-test .taken) (omega arith)
+    (λ w. carried-on comesBefore _ _ _ _ (p .ranks) (p .i) (p .moving) (p .carried) _ unranked (c .before .before .before .loop-test .taken) (omega arith)
     (p .inv) refl (c .before .displaces .ensures) (w .0 .taken) (w .1) (w .2) (w .3))
-    (λ w. passed comesBefore _ _ _ _ (p .entries) (p .i) (p .moving) (p .carried) _ unused (c .before .before .before .loop-test .taken) (omega arith)
+    (λ w. passed comesBefore _ _ _ _ (p .ranks) (p .i) (p .moving) (p .carried) _ unranked (c .before .before .before .loop-test .taken) (omega arith)
     (p .inv) refl (c .before .displaces .ensures) (w .0 .left) (w .1) (w .2) (w .3))
     (c .if1 .came)
 
