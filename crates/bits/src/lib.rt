@@ -45,15 +45,16 @@ pub fn read_bits(src: &[u8], at: usize, width: usize) -> u64
     if width == 0 {
         return 0;
     }
-    let last = at + width - 1;
-    let end = last / 8 + 1;
-    let mut i = at / 8;
+    let first = at / 8;
+    let bits = at % 8 + width;
+    let bytes = (bits + 7) / 8;
     let mut v: u64 = 0;
-    while i < end {
-        v = 256 * v + wide(src[i]);
-        i += 1;
+    let mut k = 0;
+    while k < bytes {
+        v = 256 * v + wide(src[first + k]);
+        k += 1;
     }
-    let field = v >> (7 - last % 8);
+    let field = v >> (8 * bytes - bits);
     field % pow2(width)
 }
 
