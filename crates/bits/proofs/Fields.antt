@@ -51,11 +51,6 @@ bits-byte bs p (suc k) h =
     let m : x / 2 ^ e % 2 ^ suc k ≡ (x / 2 ^ e / 2 ^ 1 % 2 ^ k) * 2 ^ 1 + x / 2 ^ e % 2 ^ 1 = ap (λ (j : ℕ). x / 2 ^ e % 2 ^ j) (sym (add-one k)) ∙ mod-pow-add (x / 2 ^ e) k 1 in
     rw (a, b, m) (omega arith)
 
--- a reader's turn: one bit more
-pub bits-next : (bs : List ℕ) (at k : ℕ) {v x : ℕ} → v ≡ bitsAt bs at k → x ≡ bitAt bs (at + k) → 2 * v + x ≡ bitsAt bs at (k + 1)
-unfolding bitsAt
-bits-next bs at k e f = rw (add-one k, e, f)
-
 -- a field fits where a wider one does
 pub bits-fit : (bs : List ℕ) (at : ℕ) {k w : ℕ} → k ≤ w → bitsAt bs at k < 2 ^ w
 bits-fit bs at l = lt-of-lt-of-le (bits-lt bs at _) (pow-mono l)

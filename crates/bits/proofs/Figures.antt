@@ -1,9 +1,10 @@
--- Document 01, "Record layouts": its two examples, packed and read.
+-- Document 01, "Record layouts": its two examples, packed and read; and the bytes that some fields touch.
 use mathlib.Core.Path.{_≡_, refl}
 use mathlib.Core.List.{[], _∷_}
 use Rattle.lists.specs.Fold.{sum}
 use Rattle.lists.specs.Table.{table}
 use Rattle.bits.specs.Field.{bitAt, bitsAt}
+use Rattle.bits.specs.Touched.{touched}
 use Rattle.bits.specs.Layout.{field, spelled, bitsOf, widthOf, bytesFor, octet, packed, rows}
 
 -- one cell of V 100 and no faces
@@ -23,3 +24,8 @@ its-volume = refl
 pub its-mass : bitsAt (0x20 ∷ 0x01 ∷ 0x00 ∷ 0x00 ∷ 0x00 ∷ 0x63 ∷ []) 16 32 ≡ 99
 unfolding bitsAt bitAt
 its-mass = refl
+
+-- 40 bits in whole bytes and askew, two bits across a byte's end, and none
+pub touched-some : (touched 32 40 ≡ 5) × (touched 31 40 ≡ 6) × (touched 7 2 ≡ 2) × (touched 7 0 ≡ 0)
+unfolding touched
+touched-some = (refl, refl, refl, refl)

@@ -1,5 +1,6 @@
 pub mod Fields
 pub mod Puts
+pub mod Bytes
 pub mod Layouts
 pub mod Readings
 pub mod Writings

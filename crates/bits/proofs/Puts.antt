@@ -141,7 +141,7 @@ put-end bs out at w k v l m p =
     rw (a, e) at p
 
 -- a byte is its eight bits, and lists of bytes with the same bits are the same
-byte-bits : (bs : List ℕ) (j : ℕ) → getD bs j 0 < 256 → bitsAt bs (j * 8) 8 ≡ getD bs j 0
+pub byte-bits : (bs : List ℕ) (j : ℕ) → getD bs j 0 < 256 → bitsAt bs (j * 8) 8 ≡ getD bs j 0
 byte-bits bs j l =
     let e₁ : j * 8 / 8 ≡ j = omega arith in
     let e₂ : j * 8 % 8 ≡ 0 = omega arith in

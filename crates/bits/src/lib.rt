@@ -1,7 +1,7 @@
 ghost use mathlib.Core.Path.{_≡_};
 ghost use Prim.Native.Nat.{_≤_, _<_, _+_, _*_, _^_, _/_, _%_, min};
 ghost use lib.ListN.{length};
-ghost use Rattle.bits.specs.Field.{bitAt, bitsAt};
+ghost use Rattle.bits.specs.Field.{bitsAt};
 ghost use Rattle.bits.specs.Layout.{bytesFor};
 ghost use Rattle.bits.specs.Put.{Put};
 ghost use Rattle.bits.specs.Mixed.{mixed};
@@ -37,28 +37,25 @@ fn pow2(k: usize) -> u64
     1u64 << k
 }
 
-// The bit at i, most significant first.
-fn bit(src: &[u8], i: usize) -> u64
-    requires { ⌜ i / 8 < length (now src) ⌝ }
-    ensures { λ r. ⌜ r ≡ bitAt (now (src .entry)) i ⌝ }
-{
-    let x = wide(src[i / 8]);
-    let high = x >> (7 - i % 8);
-    high % 2
-}
-
-// The field of width bits at a bit position, a bit at a time.
+// The field of width bits at a bit position: the bytes that it touches as one number, and the field's bits of it.
 pub fn read_bits(src: &[u8], at: usize, width: usize) -> u64
     requires { do ⌜ (at + width ≤ 8 * length (now src)) × (at + width < 2 ^ 64) × (width ≤ (← ⟦WIDEST⟧)) ⌝ }
     ensures { λ r. ⌜ r ≡ bitsAt (now (src .entry)) at width ⌝ }
 {
+    if width == 0 {
+        return 0;
+    }
+    let first = at / 8;
+    let bits = at % 8 + width;
+    let bytes = (bits + 7) / 8;
     let mut v: u64 = 0;
     let mut k = 0;
-    while k < width {
-        v = 2 * v + bit(src, at + k);
+    while k < bytes {
+        v = 256 * v + wide(src[first + k]);
         k += 1;
     }
-    v
+    let field = v >> (8 * bytes - bits);
+    field % pow2(width)
 }
 
 // A byte with v in the k bits above its lowest e.
