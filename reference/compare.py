@@ -67,6 +67,9 @@ SCRIPT_CAUSES = {
     "number_at": "past",
     "board": CELLS,
     "lagoon_step": "11 13/0 13/1 1/0 1/1 12 3 4 5 6 7 8 9 10 2/11",
+    "keep": "1/0 2/0 2/5 2/13 3 6 13/1 15 16",
+    "drop": "1/0 2/13 13/1 17",
+    "give_back": "1/0 2/0 2/5 2/13 3 13/1 17 6",
 }
 FAULTS = ["not a number", "too large", "no such call", "a minus where none may stand", "a table too long",
           "a call too long", "the input ends within a call"]

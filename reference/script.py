@@ -31,6 +31,9 @@ CALLS = {
     17: ("number_at", "bnn"),
     18: ("board", "ntt"),
     19: ("lagoon_step", "bbbb"),
+    21: ("keep", "ntttn"),
+    22: ("drop", "ntn"),
+    23: ("give_back", "ntttn"),
 }
 NUMBER_OF = {name: number for number, (name, _) in CALLS.items()}
 
@@ -243,6 +246,18 @@ class Engine:
             self.put(record, room)
         return number
 
+    def keep(self, cells, volumes, masses, store, name):
+        self.lagoon.store_keep(cells, volumes, masses, store, name)
+        return ()
+
+    def drop(self, cells, store, name):
+        self.lagoon.store_drop(cells, store, name)
+        return ()
+
+    def give_back(self, cells, volumes, masses, store, name):
+        self.lagoon.store_return(cells, volumes, masses, store, name)
+        return ()
+
 
 # ---------------------------------------------------------------- What is printed
 
@@ -256,6 +271,9 @@ CHANGED = {
     "write_field": {8: "bytes"},
     "write_step": {9: "bytes"},
     "lagoon_step": {3: "next"},
+    "keep": {3: "store"},
+    "drop": {1: "store"},
+    "give_back": {2: "masses"},
 }
 
 

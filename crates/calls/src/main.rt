@@ -1,6 +1,7 @@
 // Every exported call of the engine, made as a script on standard input asks, and a line printed for each. docs/CALLS.md describes the script.
 mod answers;
 mod bytes;
+mod stores;
 mod tables;
 
 use script::input;
@@ -50,6 +51,12 @@ const BOARD: u64 = 18;
 
 const LAGOON_STEP: u64 = 19;
 
+const KEEP: u64 = 21;
+
+const DROP: u64 = 22;
+
+const GIVE_BACK: u64 = 23;
+
 // The arguments of a call from the left: 1 a number, 2 a table, 3 a table of signed numbers, 4 bytes. No call has the shape 0.
 fn shape(call: u64) -> u64 {
     match call {
@@ -69,6 +76,8 @@ fn shape(call: u64) -> u64 {
         WRITE_STEP => 0x1122_2223_2400_0000,
         NUMBER_AT => 0x4110_0000_0000_0000,
         LAGOON_STEP => 0x4444_0000_0000_0000,
+        KEEP | GIVE_BACK => 0x1222_1000_0000_0000,
+        DROP => 0x1210_0000_0000_0000,
         _ => 0,
     }
 }
@@ -82,6 +91,9 @@ fn make_on_tables(call: u64, words: &[u64], ints: &[i64]) {
         CHECK_STEP => tables::check_step(words, ints),
         TOTAL => tables::total(words),
         STEP => tables::step(words, ints),
+        KEEP => stores::keep(words),
+        DROP => stores::drop(words),
+        GIVE_BACK => stores::give_back(words),
         _ => tables::board(words),
     }
 }

@@ -2,12 +2,12 @@
 use Prim.Native.Nat.{ℕ}
 use Rattle.model.specs.Causes.{Outcome, refused, Verdict, fine}
 use Rattle.model.specs.declared.Cause.{Cause}
-use Rattle.model.specs.declared.Cause.the-variants.{Limits, Table, Volume, Ends, Spacing, Concentration, Outside, Flux, Balance, Outflow, Length, Bit, Head}
+use Rattle.model.specs.declared.Cause.the-variants.{Limits, Table, Volume, Ends, Spacing, Concentration, Outside, Flux, Balance, Outflow, Length, Bit, Head, Name, Room, Unkept}
 use Rattle.model.specs.declared.Refusal.{Refusal}
 use Rattle.model.specs.declared.Answer.{Answer}
 use Rattle.model.specs.declared.Answer.the-variants.{Done, Refused}
 
--- "Causes", the column of numbers.
+-- "Causes", the column of numbers; then those of document 02's requests.
 abbrev pub number : Cause → ℕ
 number Limits = 1
 number Table = 2
@@ -22,6 +22,9 @@ number Outflow = 10
 number Length = 11
 number Bit = 12
 number Head = 13
+number Name = 15
+number Room = 16
+number Unkept = 17
 
 -- A refusal, by its number and its place.
 abbrev pub told : {A : Type 0} → Refusal → Outcome A

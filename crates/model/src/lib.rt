@@ -35,7 +35,7 @@ pub const MAX_CONCENTRATION: u64 = 1000000;
 // Largest flux through a rim face.
 pub const MAX_RIM_FLUX: u64 = 4095;
 
-// Why a call is refused, in the order of document 01's numbers, 1 to 13.
+// Why a call is refused, in the order of the numbers: document 01's 1 to 13, then those of document 02's requests.
 pub enum Cause {
     Limits,
     Table,
@@ -50,6 +50,9 @@ pub enum Cause {
     Length,
     Bit,
     Head,
+    Name,
+    Room,
+    Unkept,
 }
 
 pub struct Refusal {
@@ -63,7 +66,7 @@ pub enum Answer {
     Refused(Refusal),
 }
 
-// Document 01's number of a cause.
+// The papers' number of a cause.
 pub fn number(cause: Cause) -> u64
     ensures { λ r. ⌜ r ≡ numberOf cause ⌝ }
 {
@@ -81,6 +84,9 @@ pub fn number(cause: Cause) -> u64
         Cause::Length => 11,
         Cause::Bit => 12,
         Cause::Head => 13,
+        Cause::Name => 15,
+        Cause::Room => 16,
+        Cause::Unkept => 17,
     }
 }
 
