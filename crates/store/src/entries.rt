@@ -46,7 +46,10 @@ pub fn put_field(cells: usize, masses: &[u64], store: &mut [u64], name: u64)
     store[0] = (n + 1) as u64;
 }
 
-// The entry that stands n further on, or 0.
+// What freed entries hold.
+const FREED: u64 = 0;
+
+// The entry that stands n further on; past the end, what freed entries hold.
 fn further(part: &[u64], i: usize, n: usize) -> u64
     requires { ⌜ n + i < 2 ^ 64 ⌝ }
     ensures { λ r. ⌜ r ≡ getD (now (part .entry)) (n + i) 0 ⌝ }
@@ -55,7 +58,7 @@ fn further(part: &[u64], i: usize, n: usize) -> u64
     if at < part.len() {
         return part[at];
     }
-    0
+    FREED
 }
 
 // Closes a gap of n entries at the front of a part and clears as many at its end.
