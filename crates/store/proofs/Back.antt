@@ -1,22 +1,21 @@
 -- What is kept comes back exactly: no keep, no return and no drop of another name touches it.
-use Prim.Native.Nat.{ℕ, _≤_, _<_}
-use mathlib.Core.Path.{_≡_, refl, sym, ap, _∙_}
+use Prim.Native.Nat.{ℕ, _≤_}
+use mathlib.Core.Path.{_≡_, refl, ap, _∙_}
 use mathlib.Core.Bool.{true}
-use mathlib.Core.List.{List, [], _∷_, _++_}
+use mathlib.Core.List.{List, [], _∷_}
 use native.Mathlib.Omega.{arith}
 use borrow.Author.Tests.{le-leb}
 use lib.ListN.{length, getD, take}
 use lib.Seq.{getD-take}
 use Rattle.lists.specs.Table.{over}
 use Rattle.lists.proofs.Tests.{true-both}
-use Rattle.model.specs.Mesh.{volume}
-use Rattle.model.specs.Causes.{Verdict, accepted, refused, fine, _andThen_, each, saltFit, saltGood, counts, fieldTable, fieldValues}
+use Rattle.model.specs.Causes.{Verdict, accepted, refused, fine, _andThen_, saltFit, saltGood, fieldTable, fieldValues}
 use Rattle.model.proofs.Verdicts.{all-fine, need-met, each-cong}
-use Rattle.store.specs.Store.{Kept, count, fieldsIn, used, isKept, heldUnder, without}
-use Rattle.store.specs.Calls.{nameFits, storeTable, countGood, nameKept, dropVerdict, dropStore, lentMesh, openedCauses, openedVerdict, keepCauses, keepVerdict, keptField, keepStore, returnVerdict, returnMasses}
+use Rattle.store.specs.Store.{count, fieldsIn, used, isKept, heldUnder}
+use Rattle.store.specs.Calls.{storeTable, nameKept, dropVerdict, dropStore, lentMesh, openedCauses, openedVerdict, keepCauses, keepVerdict, keptField, keepStore, returnVerdict, returnMasses}
 use Rattle.store.specs.Lists.{StoreCall, keeping, dropping, returning, elsewhere, storeAfter, storeAfterAll, Spares, Spared, ComesBack}
 use Rattle.store.proofs.Named.{kept-append, new-kept, new-held, other-gone}
-use Rattle.store.proofs.Effects.{opened-fine, keep-fits, keep-new, keep-long, keep-effect, kept-length, kept-counted, drop-effect, dropped-length, dropped-counted, counted-good}
+use Rattle.store.proofs.Effects.{opened-fine, keep-fits, keep-new, keep-effect, kept-length, kept-counted, drop-effect, dropped-length, dropped-counted, counted-good}
 
 -- a store that holds its count, and masses under a name
 pub record Holding (cells name : ℕ) (masses : List ℕ) (long : ℕ) (store : List ℕ) : Type 0 where

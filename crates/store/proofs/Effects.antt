@@ -1,23 +1,22 @@
 -- What keeping and dropping do to the list of fields that a store reads as.
-use Prim.Native.Nat.{ℕ, zero, suc, _+_, _*_, _≤_, _<_}
+use Prim.Native.Nat.{ℕ, suc, _+_, _≤_}
 use mathlib.Core.Path.{_≡_, refl, sym, ap, _∙_}
-use mathlib.Core.Bool.{Bool, true, false, not, _&&_}
+use mathlib.Core.Bool.{true, false, not}
 use mathlib.Core.List.{List, [], _∷_, _++_, append-assoc, append-nil}
 use native.Mathlib.Nat.{suc-mul}
 use native.Mathlib.Omega.{arith}
 use borrow.Author.Tests.{leb-true, le-leb, not-true}
-use lib.ListN.{length, getD, take, drop, replicate, length-append, length-replicate}
+use lib.ListN.{length, take, drop, replicate, length-append, length-replicate}
 use lib.Seq.{length-take-le, take-at}
 use Rattle.lists.specs.Table.{over}
 use Rattle.lists.proofs.Tests.{both-true, true-both}
 use Rattle.model.specs.Causes.{fine, _andThen_, counts, cellsOnly, fieldValues}
-use Rattle.model.proofs.Verdicts.{all-fine, need-fine, need-met, past, both-fine}
+use Rattle.model.proofs.Verdicts.{all-fine, need-fine, need-met}
 use Rattle.model.proofs.Accepted.{field-lent}
 use Rattle.store.specs.Store.{Kept, count, fieldsIn, used, storeOf, isKept, heldUnder, without}
-use Rattle.store.specs.Found.{before}
 use Rattle.store.specs.Calls.{nameFits, storeTable, countGood, nameNew, roomLeft, nameKept, dropCauses, dropVerdict, dropStore, lentMesh, openedCauses, openedVerdict, keepCauses, keepVerdict, keptField, keepStore, returnCauses, returnVerdict}
-use Rattle.store.proofs.Laid.{Sized, sized-append, sized-parts, store-length, in-length, in-sized, store-read, store-split, over-length, over-over, over-front}
-use Rattle.store.proofs.Named.{Found, found, kept-append, new-kept, new-without}
+use Rattle.store.proofs.Laid.{Sized, sized-append, sized-parts, store-length, in-length, in-sized, store-read, store-split, over-length, over-over}
+use Rattle.store.proofs.Named.{Found, found, new-kept, new-without}
 
 -- a list of fields written over a store that has the room, with anything after it
 module _ (cells : ℕ) (fs : List Kept) (sized : Sized cells fs) (more store : List ℕ) (room : used cells (length fs) + length more ≤ length store) where

@@ -1,14 +1,14 @@
 -- What the tests of a store come to, what a passed test gives, and where the field of a kept name stands.
 use Prim.Native.Nat.{ℕ, suc, _+_, _-_, _*_, _≤_, _<_}
 use mathlib.Core.Path.{_≡_, refl, sym, ap, _∙_}
-use mathlib.Core.Bool.{Bool, true, false, not, _&&_}
+use mathlib.Core.Bool.{Bool, true, false, not}
 use mathlib.Core.List.{List, [], _∷_, _++_, append-assoc}
 use native.Mathlib.Nat.{suc-mul, add-mul}
 use native.Mathlib.Omega.{arith}
-use borrow.Author.Tests.{ltb-true, leb-true, lt-ltb, le-ltb}
+use borrow.Author.Tests.{ltb-true, lt-ltb, le-ltb}
 use lib.Dec.{eqb, leb, ltb}
 use lib.ListN.{length, getD, take, drop, set, replicate, length-append, length-drop}
-use lib.Seq.{take-at, drop-at, drop-drop, length-take-le, take-all}
+use lib.Seq.{take-at, drop-at, drop-drop, length-take-le}
 use Rattle.lists.specs.Table.{over}
 use Rattle.lists.proofs.Tests.{Fits, fits, exceeds, fits?, both-true}
 use Rattle.model.specs.Mesh.{maxCells, maxVolume, volume}
@@ -17,7 +17,7 @@ use Rattle.model.proofs.Verdicts.{both-fine, andThen-assoc, need-fine, long-fin
 use Rattle.model.proofs.Accepted.{counted, salt-asks}
 use Rattle.store.specs.Store.{Kept, count, fieldsIn, used, entriesOf, storeOf, isKept, heldUnder, without}
 use Rattle.store.specs.Found.{before, movedDown}
-use Rattle.store.specs.Calls.{nameFits, storeTable, countGood, nameNew, roomLeft, nameKept, dropVerdict, dropStore, lentMesh, openedVerdict, keepVerdict, keepStore, returnVerdict, returnMasses}
+use Rattle.store.specs.Calls.{nameFits, storeTable, countGood, nameNew, roomLeft, nameKept, dropVerdict, dropStore, openedVerdict, keepVerdict, keepStore, returnVerdict, returnMasses}
 use Rattle.store.proofs.Laid.{sized-parts, Sized, entries-length, entries-append, in-length, in-sized, store-split, dropped}
 use Rattle.store.proofs.Named.{Found, found, kept-before, new-before, used-more}
 use Rattle.store.proofs.Effects.{count-counted}

@@ -7,22 +7,18 @@ use native.Mathlib.Nat.{suc-mul, zero-mul}
 use native.Mathlib.Numerals.{add-one}
 use native.Mathlib.Omega.{arith}
 use lib.Dec.{leb}
-use lib.ListN.{length, getD, take, drop, set, replicate, drop-of-length-le, length-append, length-take, length-drop, length-replicate, getD-replicate, take-append-drop, List·getD-append, List·getD-eq-default}
+use lib.ListN.{length, getD, take, drop, set, replicate, drop-of-length-le, length-append, length-drop, length-replicate, getD-replicate, take-append-drop, List·getD-append, List·getD-eq-default}
 use lib.Seq.{take-at, drop-at, drop-drop, drop-append-add, getD-append-add, take-all, take-length, drop-length, getD-take, getD-drop, length-take-le}
 use Rattle.lists.specs.Table.{table, over}
 use Rattle.lists.proofs.Tables.{is-table, length-table, over-table}
 use Rattle.lists.proofs.Tests.{Fits, fits, exceeds, fits?}
-use Rattle.store.specs.Store.{Kept, count, fieldsFrom, fieldsIn, used, entriesOf, storeOf, without}
+use Rattle.store.specs.Store.{Kept, count, fieldsFrom, fieldsIn, used, entriesOf, storeOf}
 use Rattle.store.specs.Found.{movedDown}
 
 -- a list written over the front of another, both of two parts
 pub over-append : {A : Type 0} (x y x′ t : List A) → length x′ ≡ length x → over (x ++ y) (x′ ++ t) ≡ x ++ over y t
 unfolding over
 over-append x y x′ t e = rw (append-assoc x y (drop (length (x ++ y)) (x′ ++ t)), length-append x y, ← e, drop-append-add x′ t (length y))
-
-pub over-none : {A : Type 0} (t : List A) → over [] t ≡ t
-unfolding over
-over-none t = refl
 
 pub over-front : {A : Type 0} (x y t : List A) → length x ≡ length y → over x (y ++ t) ≡ x ++ t
 unfolding over
@@ -168,9 +164,6 @@ field-written name m (x ∷ t) l =
     rw (q, take-length t, drop-length t) (ap (λ (u : List ℕ). name ∷ u) (append-nil (m ++ drop (length m) t)))
 
 -- a field after all others,
-set-first : (x v : ℕ) (t : List ℕ) → set (x ∷ t) 0 v ≡ v ∷ t
-set-first x v t = refl
-
 whole-part : (at : ℕ) (s : List ℕ) → (take (length s - at) (drop at s) ≡ drop at s) × (drop (length s - at) (drop at s) ≡ [])
 whole-part at s =
     let l : length (drop at s) ≤ length s - at = omega (arith, length-drop at s) in

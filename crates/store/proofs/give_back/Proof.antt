@@ -1,10 +1,11 @@
+-- Lengths and volumes, then the name, then the kept masses: each part that is fine is passed, and the first that refuses is the answer.
 use Prim.Native.Nat.{ℕ}
 use mathlib.Core.List.{List}
-use mathlib.Core.Path.{_≡_, refl, sym, ap, _∙_}
+use mathlib.Core.Path.{sym, ap, _∙_}
 use native.Mathlib.Omega.{arith}
 use lib.Seq.{take-all}
 use Rattle.lists.specs.Table.{over}
-use Rattle.model.proofs.Verdicts.{both-fine, both-are, andThen-assoc, past, out, refuses, passes}
+use Rattle.model.proofs.Verdicts.{past, out, refuses, passes}
 use Rattle.store.specs.Calls.{returnMasses}
 use Rattle.store.proofs.Judged.{return-groups, return-stays, opened-asks, kept-asks, part-front, part-length, salted}
 use borrow.Author.Needs.{needs}
@@ -21,7 +22,11 @@ is-kept-requires c κs = opened-asks _ _ 0 _ _ (passes (c .before .before .opene
 
 returns-2 : tie.Need-returns-2
 returns-2 c =
-    let v = return-groups _ _ _ _ _ ∙ past _ (passes (c .before .before .before .before .before .before .opened .ensures) (c .before .before .before .before .enum-told .given .1)) ∙ out _ (refuses (c .before .before .before .is-kept .ensures) (c .before .b .given .1)) in
+    let at-b = c .before in
+    let at-is-kept = at-b .before .before in
+    let at-told = at-is-kept .before in
+    let at-opened = at-told .before .before in
+    let v = return-groups _ _ _ _ _ ∙ past _ (passes (at-opened .opened .ensures) (at-told .enum-told .given .1)) ∙ out _ (refuses (at-is-kept .is-kept .ensures) (at-b .b .given .1)) in
     record { answer = sym v; masses-are = return-stays _ _ _ _ _ v }
 
 masses-of-requires : tie.Need-masses-of-requires
@@ -32,39 +37,61 @@ masses-of-requires c κs =
 
 values-requires : tie.Need-values-requires
 values-requires c κs =
-    let o = opened-asks _ _ 0 _ _ (passes (c .before .before .before .before .before .before .before .opened .ensures) (c .before .before .before .before .before .enum-told .given .1)) in
-    let n = part-length (c .before .masses-of .result) (c .before .before .before .before .before .before .before .before .before .before .before .before .args .cells) (c .before .before .before .before .before .before .before .before .before .before .before .before .args .store .now) (c .before .masses-of .ensures .0) in
+    let at-masses-of = c .before in
+    let at-told = at-masses-of .before .before .before .before in
+    let at-opened = at-told .before .before in
+    let s = at-opened .before .before .before .before .before in
+    let o = opened-asks _ _ 0 _ _ (passes (at-opened .opened .ensures) (at-told .enum-told .given .1)) in
+    let n = part-length (at-masses-of .masses-of .result) (s .args .cells) (s .args .store .now) (at-masses-of .masses-of .ensures .0) in
     ((o .0 .0 .0, omega (arith, n)), o .0 .1)
 
 returns-3 : tie.Need-returns-3
 returns-3 c =
-    let s = c .before .before .before .before .before .before .before .before .before .before .before .before .before .before .before .before in
-    let opened = passes (c .before .before .before .before .before .before .before .before .before .before .before .opened .ensures) (c .before .before .before .before .before .before .before .before .before .enum-told .given .1) in
-    let kept = passes (c .before .before .before .before .before .before .before .before .is-kept .ensures) (c .before .before .before .before .before .before .enum-told2 .given .1) in
-    let held = part-front (c .before .before .before .before .before .masses-of .result) (s .args .cells) (s .args .store .now) ∙ c .before .before .before .before .before .masses-of .ensures .1 in
-    let salt = refuses (c .before .before .before .values .ensures ∙ salted (s .args .cells) (s .args .volumes .now) held) (c .before .d .given .1) in
+    let at-d = c .before in
+    let at-values = at-d .before .before in
+    let at-masses-of = at-values .before .before in
+    let at-told = at-masses-of .before in
+    let at-is-kept = at-told .before .before in
+    let at-told2 = at-is-kept .before in
+    let at-opened = at-told2 .before .before in
+    let s = at-opened .before .before .before .before .before in
+    let opened = passes (at-opened .opened .ensures) (at-told2 .enum-told .given .1) in
+    let kept = passes (at-is-kept .is-kept .ensures) (at-told .enum-told2 .given .1) in
+    let held = part-front (at-masses-of .masses-of .result) (s .args .cells) (s .args .store .now) ∙ at-masses-of .masses-of .ensures .1 in
+    let salt = refuses (at-values .values .ensures ∙ salted (s .args .cells) (s .args .volumes .now) held) (at-d .d .given .1) in
     let v = return-groups _ _ _ _ _ ∙ past _ opened ∙ past _ kept ∙ salt in
     record { answer = sym v; masses-are = return-stays _ _ _ _ _ v }
 
 copy-requires : tie.Need-copy-requires
 copy-requires c κs =
-    let s = c .before .before .before .before .before .before .before .before .before .before .before .before .before .before .before .before in
-    let o = opened-asks _ _ 0 _ _ (passes (c .before .before .before .before .before .before .before .before .before .before .before .opened .ensures) (c .before .before .before .before .before .before .before .before .before .enum-told .given .1)) in
-    let n = part-length (c .before .before .before .before .before .masses-of .result) (s .args .cells) (s .args .store .now) (c .before .before .before .before .before .masses-of .ensures .0) in
+    let at-masses-of = c .before .before .before .before .before in
+    let at-told = at-masses-of .before .before .before .before in
+    let at-opened = at-told .before .before in
+    let s = at-opened .before .before .before .before .before in
+    let o = opened-asks _ _ 0 _ _ (passes (at-opened .opened .ensures) (at-told .enum-told .given .1)) in
+    let n = part-length (at-masses-of .masses-of .result) (s .args .cells) (s .args .store .now) (at-masses-of .masses-of .ensures .0) in
     (omega (arith, n), o .0 .0 .1)
 
 returns-4 : tie.Need-returns-4
 unfolding returnMasses
 returns-4 c =
-    let s = c .before .before .before .before .before .before .before .before .before .before .before .before .before .before .before .before .before .before .before in
-    let opened = passes (c .before .before .before .before .before .before .before .before .before .before .before .before .before .before .opened .ensures) (c .before .before .before .before .before .before .before .before .before .before .before .before .enum-told .given .1) in
-    let kept = passes (c .before .before .before .before .before .before .before .before .before .before .before .is-kept .ensures) (c .before .before .before .before .before .before .before .before .before .enum-told2 .given .1) in
-    let at = c .before .before .before .before .before .before .before .before .masses-of .result in
-    let held = part-front at (s .args .cells) (s .args .store .now) ∙ c .before .before .before .before .before .before .before .before .masses-of .ensures .1 in
-    let n = part-length at (s .args .cells) (s .args .store .now) (c .before .before .before .before .before .before .before .before .masses-of .ensures .0) in
-    let salt = passes (c .before .before .before .before .before .before .values .ensures ∙ salted (s .args .cells) (s .args .volumes .now) held) (c .before .before .before .before .enum-told3 .given .1) in
+    let at-copy = c .before .before in
+    let at-told = at-copy .before .before in
+    let at-values = at-told .before .before in
+    let at-masses-of = at-values .before .before in
+    let at-told2 = at-masses-of .before in
+    let at-is-kept = at-told2 .before .before in
+    let at-told3 = at-is-kept .before in
+    let at-opened = at-told3 .before .before in
+    let s = at-opened .before .before .before .before .before in
+    let opened = passes (at-opened .opened .ensures) (at-told3 .enum-told .given .1) in
+    let kept = passes (at-is-kept .is-kept .ensures) (at-told2 .enum-told2 .given .1) in
+    let at = at-masses-of .masses-of .result in
+    let held = part-front at (s .args .cells) (s .args .store .now) ∙ at-masses-of .masses-of .ensures .1 in
+    let n = part-length at (s .args .cells) (s .args .store .now) (at-masses-of .masses-of .ensures .0) in
+    let salt = passes (at-values .values .ensures ∙ salted (s .args .cells) (s .args .volumes .now) held) (at-told .enum-told3 .given .1) in
     let v = return-groups _ _ _ _ _ ∙ past _ opened ∙ past _ kept ∙ salt in
-    record { answer = sym v; masses-are = c .before .before .copy .ensures ∙ ap (λ (m : List ℕ). over m (s .args .masses .now)) (take-all (s .args .cells) _ (omega (arith, n)) ∙ held) ∙ rw v }
+    record { answer = sym v; masses-are = at-copy .copy .ensures ∙ ap (λ (m : List ℕ). over m (s .args .masses .now)) (take-all (s .args .cells) _ (omega (arith, n)) ∙ held) ∙ rw v }
 
 pub give-back-spec : {M : Type 1} → statement M
 give-back-spec =

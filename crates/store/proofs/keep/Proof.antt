@@ -1,5 +1,6 @@
-use mathlib.Core.Path.{_≡_, refl, sym, ap, _∙_}
-use Rattle.model.proofs.Verdicts.{both-fine, both-are, andThen-assoc, past, out, refuses, passes}
+-- A refusal leaves the store; an accepted field is put after all others.
+use mathlib.Core.Path.{sym, _∙_}
+use Rattle.model.proofs.Verdicts.{refuses, passes}
 use Rattle.store.specs.Calls.{keepStore}
 use Rattle.store.proofs.Judged.{keep-stays, opened-asks}
 use Rattle.store.proofs.Effects.{opened-fine, keep-long, keep-room}
@@ -18,8 +19,11 @@ put-field-requires c κs =
 returns-2 : tie.Need-returns-2
 unfolding keepStore
 returns-2 c =
-    let v = passes (c .before .before .before .before .before .before .may-keep .ensures) (c .before .before .before .before .enum-told .given .1) in
-    record { answer = sym v; store-is = c .before .before .put-field .ensures ∙ rw v }
+    let at-put-field = c .before .before in
+    let at-told = at-put-field .before .before in
+    let at-may-keep = at-told .before .before in
+    let v = passes (at-may-keep .may-keep .ensures) (at-told .enum-told .given .1) in
+    record { answer = sym v; store-is = at-put-field .put-field .ensures ∙ rw v }
 
 pub keep-spec : {M : Type 1} → statement M
 keep-spec =

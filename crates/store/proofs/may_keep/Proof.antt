@@ -1,5 +1,6 @@
-use mathlib.Core.Path.{_≡_, refl, sym, ap, _∙_}
-use Rattle.model.proofs.Verdicts.{both-fine, both-are, andThen-assoc, past, out, refuses, passes}
+-- Lengths and volumes, then the masses and the store, in the order of the definition.
+use mathlib.Core.Path.{sym, _∙_}
+use Rattle.model.proofs.Verdicts.{both-are, past, out, refuses, passes}
 use Rattle.model.specs.Causes.{fieldValues, saltGood}
 use Rattle.store.proofs.Judged.{keep-groups, opened-asks}
 use borrow.Author.Needs.{needs}

@@ -27,9 +27,11 @@ mul-if1 c =
 
 shared-slice-read-if1 : tie.Need-shared-slice-read-if1 Inv-loop μ-loop
 shared-slice-read-if1 c =
-    let l = c .before .before .before .loop in
-    let s = c .before .before .before .before .before .before in
-    omega (arith, used-more (s .args .cells) (l .i) (count (s .args .store .now)) (search needs), s .pre .1, c .before .used .ensures)
+    let at-used = c .before in
+    let at-loop = at-used .before .before in
+    let s = at-loop .before .before .before in
+    let l = at-loop .loop in
+    omega (arith, used-more (s .args .cells) (l .i) (count (s .args .store .now)) (search needs), s .pre .1, at-used .used .ensures)
 
 returns : tie.Need-returns Inv-loop μ-loop
 returns c =
