@@ -71,6 +71,9 @@ SCRIPT_CAUSES = {
     "take_field": "11 13/0 13/1 1/0 2/0 2/5 3 6",
     "take_step": f"11 13/0 13/1 1/0 1/1 {MESH} 2/5 2/6 2/8 12 3 4 5 6 7 8 9 10",
     "page": "1/0 2/0 2/5 2/12 3 6 14",
+    "keep": "1/0 2/0 2/5 2/13 3 6 13/1 15 16",
+    "drop": "1/0 2/13 13/1 17",
+    "give_back": "1/0 2/0 2/5 2/13 3 13/1 17 6",
 }
 FAULTS = ["not a number", "too large", "no such call", "a minus where none may stand", "a table too long",
           "a call too long", "the input ends within a call"]

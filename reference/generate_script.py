@@ -13,12 +13,13 @@ from collections import Counter, namedtuple
 import generate
 import lagoon
 from lagoon import FLUXES, MASSES, MOVED, NEXT, OUTSIDES, RIM, SECONDS, TOP, VOLUMES, WORK
-from script import CALLS, spell
+from script import CALLS, Engine, answered, spell
 
 Script = namedtuple("Script", "kinds text")
 
 GREATEST = (1 << 64) - 1
 LEAST, MOST = -(1 << 63), (1 << 63) - 1
+ENGINE = Engine(lagoon)
 NAMES = [name for name, _ in CALLS.values()]
 OFTEN = NAMES + ["step"] * 4            # most of the arithmetic is in a step
 CELLS, FACES = lagoon.LIBRARY_LIMITS
@@ -326,6 +327,67 @@ def page(rng, large, kinds):
     return lent.cells, lent.tables[VOLUMES], lent.tables[MASSES], number, room
 
 
+# A name, at the edges and within.
+NAMED = [0, 1, 2, 3, 65_535, 65_536, GREATEST]
+
+def a_store(rng, cells, lent, kinds):
+    """A store of some fields of a lagoon, often with room, now and then broken."""
+    count = rng.choice([0, 1, 1, 2, 3, 4])
+    store = [count]
+    for i in range(count):
+        masses = [rng.choice([m, 0, rng.randint(0, V * (TOP + 1) - 1)]) for V, m in zip(lent.lag.volumes, lent.tables[MASSES])]
+        store += [rng.choice([i + 1, i + 1, i + 1, 1, 65_535]), *masses]
+    store += [rng.choice([0, 7, GREATEST]) for _ in range(rng.choice([0, cells, cells + 1, cells + 2, 3 * cells + 3]))]
+    damage = rng.choice(["none"] * 6 + ["none kept", "count", "wraps", "cut", "empty", "name", "mass"])
+    kinds.append("store: " + damage)
+    if damage == "none kept":
+        store[0] = 0
+    elif damage == "count":
+        store[0] = rng.choice([count + 1, (len(store) - 1) // (cells + 1), (len(store) - 1) // (cells + 1) + 1])
+    elif damage == "wraps":
+        store[0] = rng.choice([GREATEST, GREATEST // (cells + 1), GREATEST // (cells + 1) + 1, (1 << 64) // (cells + 1)])
+    elif damage == "cut":
+        del store[rng.randrange(len(store)) + 1:]
+    elif damage == "empty":
+        store = []
+    elif damage == "name" and count:
+        store[1 + rng.randrange(count) * (cells + 1)] = rng.choice(NAMED)
+    elif damage == "mass" and count and cells:
+        store[2 + rng.randrange(count) * (cells + 1) + rng.randrange(cells)] = rng.choice(EDGES[MASSES])
+    return store
+
+def with_store(names):
+    """Arguments of a store call: on a lagoon whose volumes or masses may be damaged."""
+    def make(rng, large, kinds):
+        lent = tables_for(rng, (VOLUMES, MASSES), False, kinds)
+        store = a_store(rng, len(lent.lag.volumes), lent, kinds)
+        name = rng.choice([store[1], store[1], *NAMED] if len(store) > 1 else NAMED)
+        tables = {"volumes": lent.tables[VOLUMES], "masses": lent.tables[MASSES], "store": store}
+        return (lent.cells, *(tables[table] for table in names), name)
+    return make
+
+def store_list(rng, kinds):
+    """Steps and store calls one after another on one lagoon and one store, each on what the last has left."""
+    lent = Lent(rng)
+    cells, volumes, masses = lent.cells, lent.tables[VOLUMES], lent.tables[MASSES]
+    store = [0] * (1 + rng.choice([1, 2, 3]) * (cells + 1) + rng.choice([0, cells]))
+    calls = []
+    for _ in range(rng.randint(6, 14)):
+        name = rng.choice(["keep", "keep", "keep", "drop", "give_back", "give_back", "step", "step"])
+        arguments = {
+            "keep": (cells, volumes, masses, store, rng.randint(1, 4)),
+            "drop": (cells, store, rng.randint(1, 4)),
+            "give_back": (cells, volumes, masses, store, rng.randint(1, 4)),
+            "step": (cells, lent.faces, *lent.tables),
+        }[name]
+        calls.append(spell(name, *arguments))
+        answer = answered(ENGINE, name, arguments)
+        kinds.append(f"list: {name}{answer.split()[0].rjust(9)}")
+        if name == "step" and answer.startswith(" accepted"):
+            masses[:cells] = lent.tables[NEXT][:cells]
+    return "".join(calls)
+
+
 MESH_TABLES = (0, 1, 2, 3, 4)
 FIELD_TABLES = (*MESH_TABLES, MASSES)
 STEP_TABLES = tuple(range(11))
@@ -354,6 +416,9 @@ MAKE = {
     "take_field": take_field,
     "take_step": take_step,
     "page": page,
+    "keep": with_store(("volumes", "masses", "store")),
+    "drop": with_store(("store",)),
+    "give_back": with_store(("volumes", "masses", "store")),
 }
 
 
@@ -429,6 +494,11 @@ def largest():
         spell("take_field", CELLS, field_record, volumes, [7] * CELLS),
         spell("take_step", 1, FACES, step_record, *pool, [0]),
         spell("take_step", CELLS, 0, lagoon.pack_step(pool, [], []), volumes, [], [], [], [], masses),
+        "# the largest mesh kept, dropped and given back, in a store of the room needed\n",
+        spell("keep", CELLS, volumes, masses, [0] * (CELLS + 2), 65_535),
+        spell("keep", CELLS, volumes, masses, [0] * (CELLS + 1), 65_535),
+        spell("drop", CELLS, [1, 65_535, *masses], 65_535),
+        spell("give_back", CELLS, volumes, [7] * (CELLS + 1), [1, 65_535, *masses], 65_535),
         "# more numbers than a call may have\n",
         spell("check_field", 1, 1, *([0] * 24_576 for _ in range(6))),
     ])
@@ -446,6 +516,8 @@ def script(seed, number):
         if rng.random() < 0.1:
             calls[-1] = loosened(rng, calls[-1])
             kinds.append("loose text")
+    if number % 4 == 1:
+        calls.append(store_list(rng, kinds))
     if number % 5 == 4:
         kind, calls[-1] = broken(rng, calls[-1])
         kinds.append("text: " + kind)

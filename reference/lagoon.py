@@ -436,6 +436,65 @@ def host_step(mesh_record, field_record, step_record, room):
     return 0, pack_field(result.masses)
 
 
+# ---------------------------------------------------------------- Named states (document 02, S-4)
+
+STORE = 13                  # the position of the store among the lent tables
+MOST_NAME = 65_535
+
+def judge_lent(cells, volumes, masses, store):
+    """Causes 1, 2 and 3 of a call that is lent cells, volumes, masses and store; the cells as a mesh."""
+    judge_counts(cells, 0, LIBRARY_LIMITS)
+    judge_lengths({VOLUMES: len(volumes), MASSES: len(masses), STORE: len(store)}, {VOLUMES: cells, MASSES: cells, STORE: 1})
+    mesh = Mesh(volumes[:cells], [], [], [], [])
+    judge_mesh(mesh)
+    return mesh
+
+def kept_fields(cells, store):
+    """The fields of a store as (name, masses), in the order kept; cause 13 where its count is too large for it."""
+    if 1 + store[0] * (cells + 1) > len(store):
+        raise Refusal(13, 1)
+    starts = (1 + i * (cells + 1) for i in range(store[0]))
+    return [(store[at], store[at + 1:at + 1 + cells]) for at in starts]
+
+def first_named(fields, name):
+    """Cause 17, and the place of the first field of a name."""
+    names = [kept for kept, _ in fields]
+    if not 1 <= name <= MOST_NAME or name not in names:
+        raise Refusal(17, name)
+    return names.index(name)
+
+def store_keep(cells, volumes, masses, store, name):
+    """A field kept after all others."""
+    judge_field(judge_lent(cells, volumes, masses, store), masses[:cells])
+    fields = kept_fields(cells, store)
+    if not 1 <= name <= MOST_NAME or name in [kept for kept, _ in fields]:
+        raise Refusal(15, name)
+    start = 1 + len(fields) * (cells + 1)
+    if len(store) - start < cells + 1:
+        raise Refusal(16, name)
+    store[0] += 1
+    store[start:start + cells + 1] = [name] + masses[:cells]
+
+def store_drop(cells, store, name):
+    """The first field of a name goes; later ones move down, and the freed entries become 0."""
+    judge_counts(cells, 0, LIBRARY_LIMITS)
+    judge_lengths({STORE: len(store)}, {STORE: 1})
+    fields = kept_fields(cells, store)
+    del fields[first_named(fields, name)]
+    used = [len(fields)]
+    for kept, masses in fields:
+        used += [kept, *masses]
+    store[:len(used) + cells + 1] = used + [0] * (cells + 1)
+
+def store_return(cells, volumes, masses, store, name):
+    """The masses kept under a name, into the table of masses."""
+    mesh = judge_lent(cells, volumes, masses, store)
+    fields = kept_fields(cells, store)
+    kept = fields[first_named(fields, name)][1]
+    judge_field(mesh, kept)
+    masses[:cells] = kept
+
+
 # ---------------------------------------------------------------- The board and the run
 
 def board_order(cell, V, m):

@@ -35,6 +35,9 @@ CALLS = {
     21: ("take_field", "nbtt"),
     22: ("take_step", "nnbtttttt"),
     23: ("page", "nttnb"),
+    24: ("keep", "ntttn"),
+    25: ("drop", "ntn"),
+    26: ("give_back", "ntttn"),
 }
 NUMBER_OF = {name: number for number, (name, _) in CALLS.items()}
 
@@ -276,8 +279,21 @@ class Engine:
         crossing = L.step_on_tables(cells, faces, [*mesh, masses, *water, following, moved, work])
         masses[:cells] = following[:cells]
         return (*crossing, sum(masses[:cells]))
+
     def page(self, cells, volumes, masses, page, room):
         return self.put(self.lagoon.page_on_tables(cells, volumes, masses, page, len(room)), room)
+
+    def keep(self, cells, volumes, masses, store, name):
+        self.lagoon.store_keep(cells, volumes, masses, store, name)
+        return ()
+
+    def drop(self, cells, store, name):
+        self.lagoon.store_drop(cells, store, name)
+        return ()
+
+    def give_back(self, cells, volumes, masses, store, name):
+        self.lagoon.store_return(cells, volumes, masses, store, name)
+        return ()
 
 
 # ---------------------------------------------------------------- What is printed
@@ -296,6 +312,9 @@ CHANGED = {
     "take_field": {3: "masses"},
     "take_step": {8: "masses"},
     "page": {4: "bytes"},
+    "keep": {3: "store"},
+    "drop": {1: "store"},
+    "give_back": {2: "masses"},
 }
 
 

@@ -124,4 +124,28 @@ def turned(lagoon):
     lagoon.board_order = lambda cell, V, m: (*right(cell, V, m)[:2], -cell)
 
 
-ANSWER_SLIPS = {slip.__name__: slip for slip in (place, table, beyond, bit, binder, fresher, unweighed, turned)}
+def first(lagoon):
+    """The last of equal names in a store, where the first is meant."""
+    right = lagoon.first_named
+
+    def first_named(fields, name):
+        right(fields, name)
+        return max(i for i, (kept, _) in enumerate(fields) if kept == name)
+
+    lagoon.first_named = first_named
+
+
+def freed(lagoon):
+    """Freed entries of a store left as they were."""
+    right = lagoon.store_drop
+
+    def store_drop(cells, store, name):
+        before = list(store)
+        right(cells, store, name)
+        used = 1 + store[0] * (cells + 1)
+        store[used:used + cells + 1] = before[used:used + cells + 1]
+
+    lagoon.store_drop = store_drop
+
+
+ANSWER_SLIPS = {slip.__name__: slip for slip in (place, table, beyond, bit, binder, fresher, unweighed, turned, first, freed)}

@@ -223,6 +223,27 @@ def test_script():
           f"read_step: refused 11 0; fluxes {-(1 << 63)}; outsides 7\n", "the most negative entry")
 
 
+def test_store():
+    """Document 02, S-4: fields kept, dropped and given back, and each cause at its edge."""
+    volumes, store, masses = [10, 20], [0] * 7, [7, 7, 7]
+    lagoon.store_keep(2, volumes, [93, 15], store, 5)
+    lagoon.store_keep(2, volumes, [1, 2, 3], store, 65_535)
+    equal(store, [2, 5, 93, 15, 65_535, 1, 2], "two fields kept")
+    refused(15, 5, "a name kept", lagoon.store_keep, 2, volumes, [0, 0], store, 5)
+    refused(16, 6, "a full store", lagoon.store_keep, 2, volumes, [0, 0], store, 6)
+    lagoon.store_return(2, volumes, masses, store, 65_535)
+    equal(masses, [1, 2, 7], "given back")
+    lagoon.store_drop(2, store, 5)
+    equal(store, [1, 65_535, 1, 2, 0, 0, 0], "the first dropped")
+    refused(17, 5, "a name dropped", lagoon.store_return, 2, volumes, masses, store, 5)
+    refused(13, 1, "a count that overflows", lagoon.store_drop, 1, [1 << 63, 5, 5], 5)
+    refused(2, 13, "no entry for the count", lagoon.store_drop, 1, [], 5)
+    refused(6, 1, "a kept mass too large", lagoon.store_return, 2, volumes, masses, [1, 5, 0, 20 * 1_000_001], 5)
+    broken = [2, 5, 1, 2, 5, 3, 4]
+    lagoon.store_drop(2, broken, 5)
+    equal(broken, [1, 5, 3, 4, 0, 0, 0], "the first of equal names")
+
+
 def test_conservation_and_bounds():
     """On generated calls: total follows in-mass and out-mass, and no q leaves its neighbourhood's range."""
     accepted = 0

@@ -56,6 +56,12 @@ const TAKE_STEP: u64 = 22;
 
 const PAGE: u64 = 23;
 
+const KEEP: u64 = 24;
+
+const DROP: u64 = 25;
+
+const GIVE_BACK: u64 = 26;
+
 // The arguments of a call from the left: 1 a number, 2 a table, 3 a table of signed numbers, 4 bytes. No call has the shape 0.
 fn shape(call: u64) -> u64 {
     match call {
@@ -79,6 +85,8 @@ fn shape(call: u64) -> u64 {
         TAKE_FIELD => 0x1422_0000_0000_0000,
         TAKE_STEP => 0x1142_2222_2000_0000,
         PAGE => 0x1221_4000_0000_0000,
+        KEEP | GIVE_BACK => 0x1222_1000_0000_0000,
+        DROP => 0x1210_0000_0000_0000,
         _ => 0,
     }
 }
@@ -119,6 +127,9 @@ fn make(call: u64, words: &[u64], ints: &[i64], bytes: &[u8]) {
         TAKE_FIELD => taking_calls::take_field(words, bytes),
         TAKE_STEP => taking_calls::take_step(words, bytes),
         PAGE => field_calls::page(words),
+        KEEP => field_calls::keep(words),
+        DROP => field_calls::drop(words),
+        GIVE_BACK => field_calls::give_back(words),
         _ => make_on_records(call, words, ints, bytes),
     }
     show::word(b"\n");

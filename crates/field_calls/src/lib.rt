@@ -1,6 +1,8 @@
-// The calls on the cells of a field beside its tests: the binder's page.
+// The calls on the cells of a field beside its tests: the binder's page, and a store of named fields.
 use arguments::BYTES_ROOM;
+use arguments::ROOM;
 use arguments::parts::bytes;
+use arguments::parts::copy;
 use arguments::parts::number;
 use arguments::parts::table;
 use arguments::show;
@@ -17,4 +19,40 @@ pub fn page(words: &[u64]) {
         &mut room[..b],
     ));
     show::octets(b"; bytes", b, &room);
+}
+
+pub fn keep(words: &[u64]) {
+    let mut kept = [0u64; ROOM];
+    show::word(b"keep:");
+    let k = copy(table(words, 3), &mut kept);
+    answers::verdict(store::keep(
+        number(words, 0),
+        table(words, 1),
+        table(words, 2),
+        &mut kept[..k],
+        number(words, 4) as u64,
+    ));
+    show::numbers(b"; store", k, &kept);
+}
+
+pub fn drop(words: &[u64]) {
+    let mut kept = [0u64; ROOM];
+    show::word(b"drop:");
+    let k = copy(table(words, 1), &mut kept);
+    answers::verdict(store::drop(number(words, 0), &mut kept[..k], number(words, 2) as u64));
+    show::numbers(b"; store", k, &kept);
+}
+
+pub fn give_back(words: &[u64]) {
+    let mut masses = [0u64; ROOM];
+    show::word(b"give_back:");
+    let m = copy(table(words, 2), &mut masses);
+    answers::verdict(store::give_back(
+        number(words, 0),
+        table(words, 1),
+        &mut masses[..m],
+        table(words, 3),
+        number(words, 4) as u64,
+    ));
+    show::numbers(b"; masses", m, &masses);
 }

@@ -1,8 +1,8 @@
 -- Demand 3 over an abstract kind of call, and the step on tables as such a call.
 use Prim.Native.Nat.{ℕ, _+_, _≤_, _<_}
-use mathlib.Core.Path.{_≡_, refl}
-use mathlib.Core.List.{List, [], _∷_}
-use native.Mathlib.Nat.{le-trans}
+use mathlib.Core.Path.{_≡_, refl, ap, _∙_}
+use mathlib.Core.List.{List, [], _∷_, map}
+use native.Mathlib.Nat.{le-trans, add-zero, add-assoc}
 use native.Mathlib.Omega.{arith}
 use lib.IntN.{ℤ}
 use lib.ListN.{length}
@@ -12,7 +12,7 @@ use Rattle.lists.proofs.Tables.{length-over, getD-over}
 use Rattle.model.specs.Mesh.{Mesh, updated, total}
 use Rattle.model.specs.Step.{StepInput, mass}
 use Rattle.model.specs.Causes.{Outcome, accepted, refused, fine, Call, inputOf, fieldVerdict, verdict}
-use Rattle.model.specs.Calls.{massIn, Bounded, Left, fieldAfter, enteredBy, goneBy, crossingOf, Scheme, corrected, nextTable, stepOnTables, afterAll, totalIn, totalOut, EachAccepted, Claim}
+use Rattle.model.specs.Calls.{massIn, Bounded, Left, fieldAfter, enteredBy, goneBy, crossingOf, Scheme, corrected, nextTable, stepOnTables, afterAll, totalIn, totalOut, EachAccepted, Claim, Deed, stepped, givenBack, storeOnly, stepping, fieldBy, Account, startsAt, accountBy, lastField, lastAccount, EachDone, Ledger}
 use Rattle.model.proofs.Verdicts.{both-fine}
 use Rattle.model.proofs.Next.{Keeps, amounts-budget, moved-keeps}
 use Rattle.model.proofs.Accepted.{ready, passed, call-lent, field-accepted, hi-most}
@@ -24,34 +24,101 @@ pub record Fair (M : Mesh) (P : Type 0) (field : List ℕ) (l : Left) : Type 0 w
   pub holds : P
   pub field-accepted : fieldVerdict M (l .field) ≡ fine
 
-module _ (M : Mesh) {K : Type 0} (comes : K → List ℕ → Outcome Left) (P : K → List ℕ → Left → Type 0)
-    (fair : (k : K) (field : List ℕ) (l : Left) → fieldVerdict M field ≡ fine → comes k field ≡ accepted l → Fair M (P k field l) field l) where
-  one-budget : (k : K) (field : List ℕ) → fieldVerdict M field ≡ fine → (o : Outcome Left) → comes k field ≡ o
-      → total M (massIn (fieldAfter o field)) + goneBy o ≡ total M (massIn field) + enteredBy o
-  one-budget k field g (accepted l) e = fair k field l g e .budget
-  one-budget k field g (refused i j) e = refl
+-- what an accepted call of a list owes: a step is fair, and a field given back is accepted
+abbrev pub Owes : Mesh → Type 0 → List ℕ → Deed → Type 0
+Owes M P field (stepped l) = Fair M P field l
+Owes M P field (givenBack back) = P × (fieldVerdict M back ≡ fine)
+Owes M P field storeOnly = P
 
-  one-accepted : (k : K) (field : List ℕ) → fieldVerdict M field ≡ fine → (o : Outcome Left) → comes k field ≡ o → fieldVerdict M (fieldAfter o field) ≡ fine
-  one-accepted k field g (accepted l) e = fair k field l g e .field-accepted
+module _ (M : Mesh) {K : Type 0} (does : K → List ℕ → Outcome Deed) (P : K → List ℕ → Deed → Type 0)
+    (owes : (k : K) (field : List ℕ) (d : Deed) → fieldVerdict M field ≡ fine → does k field ≡ accepted d → Owes M (P k field d) field d) where
+  -- the budget stands at a field
+  abbrev Stands : List ℕ → Account → Type 0
+  Stands field a = total M (massIn field) + a .since .gone ≡ a .start + a .since .entered
+
+  one-stands : (k : K) (field : List ℕ) → fieldVerdict M field ≡ fine → (a : Account) → Stands field a → (o : Outcome Deed) → does k field ≡ o
+      → Stands (fieldBy o field) (accountBy M o a)
+  one-stands k field g a s (accepted (stepped l)) e = omega (arith, owes k field (stepped l) g e .budget, s)
+  one-stands k field g a s (accepted (givenBack back)) e = refl
+  one-stands k field g a s (accepted storeOnly) e = s
+  one-stands k field g a s (refused i j) e = s
+
+  one-accepted : (k : K) (field : List ℕ) → fieldVerdict M field ≡ fine → (o : Outcome Deed) → does k field ≡ o → fieldVerdict M (fieldBy o field) ≡ fine
+  one-accepted k field g (accepted (stepped l)) e = owes k field (stepped l) g e .field-accepted
+  one-accepted k field g (accepted (givenBack back)) e = owes k field (givenBack back) g e .1
+  one-accepted k field g (accepted storeOnly) e = g
   one-accepted k field g (refused i j) e = g
 
-  all-budget : (field : List ℕ) → fieldVerdict M field ≡ fine → (ks : List K) → total M (massIn (afterAll comes field ks)) + totalOut comes field ks ≡ total M (massIn field) + totalIn comes field ks
-  unfolding afterAll totalOut totalIn
-  all-budget field g [] = refl
-  all-budget field g (k ∷ ks) = omega (arith, one-budget k field g (comes k field) refl, all-budget (fieldAfter (comes k field) field) (one-accepted k field g (comes k field) refl) ks)
+  one-holds : (k : K) (field : List ℕ) → fieldVerdict M field ≡ fine → (d : Deed) → does k field ≡ accepted d → P k field d
+  one-holds k field g (stepped l) e = owes k field (stepped l) g e .holds
+  one-holds k field g (givenBack back) e = owes k field (givenBack back) g e .0
+  one-holds k field g storeOnly e = owes k field storeOnly g e
 
-  all-hold : (field : List ℕ) → fieldVerdict M field ≡ fine → (ks : List K) → EachAccepted comes P field ks
+  all-stand : (a : Account) (field : List ℕ) → fieldVerdict M field ≡ fine → Stands field a → (ks : List K) → Stands (lastField M does field ks) (lastAccount M does a field ks)
+  unfolding lastField lastAccount
+  all-stand a field g s [] = s
+  all-stand a field g s (k ∷ ks) =
+      all-stand (accountBy M (does k field) a) (fieldBy (does k field) field) (one-accepted k field g (does k field) refl) (one-stands k field g a s (does k field) refl) ks
+
+  all-hold : (field : List ℕ) → fieldVerdict M field ≡ fine → (ks : List K) → EachDone M does P field ks
   all-hold field g [] = tt
-  all-hold field g (k ∷ ks) = ((λ l e. fair k field l g e .holds), all-hold (fieldAfter (comes k field) field) (one-accepted k field g (comes k field) refl) ks)
+  all-hold field g (k ∷ ks) = ((λ d e. one-holds k field g d e), all-hold (fieldBy (does k field) field) (one-accepted k field g (does k field) refl) ks)
 
-  all-accepted : (field : List ℕ) → fieldVerdict M field ≡ fine → (ks : List K) → fieldVerdict M (afterAll comes field ks) ≡ fine
-  unfolding afterAll
+  pub all-accepted : (field : List ℕ) → fieldVerdict M field ≡ fine → (ks : List K) → fieldVerdict M (lastField M does field ks) ≡ fine
+  unfolding lastField
   all-accepted field g [] = g
-  all-accepted field g (k ∷ ks) = all-accepted (fieldAfter (comes k field) field) (one-accepted k field g (comes k field) refl) ks
+  all-accepted field g (k ∷ ks) = all-accepted (fieldBy (does k field) field) (one-accepted k field g (does k field) refl) ks
 
   -- from each call to every list of calls
-  pub list-law : (field : List ℕ) → fieldVerdict M field ≡ fine → (ks : List K) → Claim M comes P field ks
-  list-law field g ks = record { budget = all-budget field g ks; each-call = all-hold field g ks; field-accepted = all-accepted field g ks }
+  pub ledger-law : (field : List ℕ) → fieldVerdict M field ≡ fine → (ks : List K) → Ledger M does P field ks
+  ledger-law field g ks = record { budget = all-stand (startsAt M field) field g refl ks; each-call = all-hold field g ks; field-accepted = all-accepted field g ks }
+
+-- The case without store calls: lists whose calls are all steps, among calls of another kind.
+module _ (M : Mesh) {K L : Type 0} (comes : K → List ℕ → Outcome Left) (P : K → List ℕ → Left → Type 0) (does : L → List ℕ → Outcome Deed) (Q : L → List ℕ → Deed → Type 0)
+    (call : K → L) (same : (k : K) (field : List ℕ) → does (call k) field ≡ stepping (comes k field)) (says : (k : K) (field : List ℕ) (l : Left) → Q (call k) field (stepped l) → P k field l) where
+  field-by : (k : K) (field : List ℕ) (o : Outcome Left) → comes k field ≡ o → fieldBy (does (call k) field) field ≡ fieldAfter o field
+  field-by k field (accepted l) e = rw (same k field, e)
+  field-by k field (refused i j) e = rw (same k field, e)
+
+  last-field : (field : List ℕ) (ks : List K) → lastField M does field (map call ks) ≡ afterAll comes field ks
+  unfolding lastField afterAll
+  last-field field [] = refl
+  last-field field (k ∷ ks) =
+      ap (λ (f : List ℕ). lastField M does f (map call ks)) (field-by k field (comes k field) refl) ∙ last-field (fieldAfter (comes k field) field) ks
+
+  abbrev counting : Account → ℕ → ℕ → Account
+  counting a entered gone = record { start = a .start; since = record { entered = a .since .entered + entered; gone = a .since .gone + gone } }
+
+  account-by : (k : K) (field : List ℕ) (a : Account) (o : Outcome Left) → comes k field ≡ o → accountBy M (does (call k) field) a ≡ counting a (enteredBy o) (goneBy o)
+  account-by k field a (accepted l) e = rw (same k field, e)
+  account-by k field a (refused i j) e = rw (same k field, e, add-zero (a .since .entered), add-zero (a .since .gone))
+
+  last-account : (a : Account) (field : List ℕ) (ks : List K) → lastAccount M does a field (map call ks) ≡ counting a (totalIn comes field ks) (totalOut comes field ks)
+  unfolding lastAccount totalIn totalOut
+  last-account a field [] = rw (add-zero (a .since .entered), add-zero (a .since .gone))
+  last-account a field (k ∷ ks) =
+      let o = comes k field in
+      let left = fieldAfter o field in
+      ap (λ (f : List ℕ). lastAccount M does (accountBy M (does (call k) field) a) f (map call ks)) (field-by k field o refl)
+      ∙ ap (λ (b : Account). lastAccount M does b left (map call ks)) (account-by k field a o refl)
+      ∙ last-account (counting a (enteredBy o) (goneBy o)) left ks
+      ∙ rw (add-assoc (a .since .entered) (enteredBy o) (totalIn comes left ks), add-assoc (a .since .gone) (goneBy o) (totalOut comes left ks))
+
+  each-step : (field : List ℕ) (ks : List K) → EachDone M does Q field (map call ks) → EachAccepted comes P field ks
+  each-step field [] e = tt
+  each-step field (k ∷ ks) e = (
+    (λ l q. says k field l (e .0 (stepped l) (same k field ∙ ap stepping q))),
+    each-step (fieldAfter (comes k field) field) ks (rw (field-by k field (comes k field) refl) at (e .1)),
+  )
+
+  pub steps-alone : (field : List ℕ) (ks : List K) → Ledger M does Q field (map call ks) → Claim M comes P field ks
+  steps-alone field ks l = record {
+    budget =
+        let b = rw (last-field field ks, last-account (startsAt M field) field ks) at (l .budget) in
+        omega (arith, b);
+    each-call = each-step field ks (l .each-call);
+    field-accepted = rw (last-field field ks) at (l .field-accepted);
+  }
 
 -- a field whose counted masses are those after the amounts x of a step that is ready keeps the budget and the bounds
 module _ (S : StepInput) (r : Ready S) (x : ℕ → ℤ) (keeps : Keeps S x) (after : List ℕ) (long : S .mesh .cells ≤ length after)

@@ -2,12 +2,12 @@
 use Prim.Native.Nat.{ℕ}
 use Rattle.model.specs.Causes.{Outcome, refused, Verdict, fine}
 use Rattle.model.specs.declared.Cause.{Cause}
-use Rattle.model.specs.declared.Cause.the-variants.{Limits, Table, Volume, Ends, Spacing, Concentration, Outside, Flux, Balance, Outflow, Length, Bit, Head, Page}
+use Rattle.model.specs.declared.Cause.the-variants.{Limits, Table, Volume, Ends, Spacing, Concentration, Outside, Flux, Balance, Outflow, Length, Bit, Head, Page, Name, Room, Unkept}
 use Rattle.model.specs.declared.Refusal.{Refusal}
 use Rattle.model.specs.declared.Answer.{Answer}
 use Rattle.model.specs.declared.Answer.the-variants.{Done, Refused}
 
--- "Causes", the column of numbers.
+-- "Causes", the column of numbers; then those of document 02's requests.
 abbrev pub number : Cause → ℕ
 number Limits = 1
 number Table = 2
@@ -24,6 +24,10 @@ number Bit = 12
 number Head = 13
 -- Document 02, S-1
 number Page = 14
+-- S-4
+number Name = 15
+number Room = 16
+number Unkept = 17
 
 -- A refusal, by its number and its place.
 abbrev pub told : {A : Type 0} → Refusal → Outcome A

@@ -98,3 +98,61 @@ pub record Claim (M : Mesh) {K : Type 0} (comes : K → List ℕ → Outcome Lef
   pub budget : total M (massIn (afterAll comes field ks)) + totalOut comes field ks ≡ total M (massIn field) + totalIn comes field ks
   pub each-call : EachAccepted comes P field ks
   pub field-accepted : fieldVerdict M (afterAll comes field ks) ≡ fine
+
+-- Document 02, S-4: lists that hold calls on a store beside steps. What an accepted call does: it makes a step; it gives a field back; or it
+-- leaves the field alone, as a keep and a drop do.
+pub data Deed : Type 0 where
+  stepped : Left → Deed
+  givenBack : List ℕ → Deed
+  storeOnly : Deed
+
+-- a step as such a call
+abbrev pub stepping : Outcome Left → Outcome Deed
+stepping (accepted l) = accepted (stepped l)
+stepping (refused i j) = refused i j
+
+-- the field after a call that comes to this
+abbrev pub fieldBy : Outcome Deed → List ℕ → List ℕ
+fieldBy (accepted (stepped l)) field = l .field
+fieldBy (accepted (givenBack back)) field = back
+fieldBy (accepted storeOnly) field = field
+fieldBy (refused _ _) field = field
+
+-- The salt budget: the total that it starts from, and what crossed the rim since then.
+pub record Account : Type 0 where
+  pub start : ℕ
+  pub since : Crossing
+
+module _ (M : Mesh) where
+  abbrev pub startsAt : List ℕ → Account
+  startsAt field = record { start = total M (massIn field); since = record { entered = 0; gone = 0 } }
+
+  -- a step counts on, a return starts anew from the total of the masses given back
+  abbrev pub accountBy : Outcome Deed → Account → Account
+  accountBy (accepted (stepped l)) a =
+      record { start = a .start; since = record { entered = a .since .entered + l .crossing .entered; gone = a .since .gone + l .crossing .gone } }
+  accountBy (accepted (givenBack back)) a = startsAt back
+  accountBy (accepted storeOnly) a = a
+  accountBy (refused _ _) a = a
+
+  module _ {K : Type 0} (does : K → List ℕ → Outcome Deed) where
+    -- field and budget after all calls, one after another
+    unfoldable pub lastField : List ℕ → List K → List ℕ
+    lastField field [] = field
+    lastField field (k ∷ ks) = lastField (fieldBy (does k field) field) ks
+
+    unfoldable pub lastAccount : Account → List ℕ → List K → Account
+    lastAccount a field [] = a
+    lastAccount a field (k ∷ ks) = lastAccount (accountBy (does k field) a) (fieldBy (does k field) field) ks
+
+    -- P holds of each accepted call, the field lent to it and what it does.
+    abbrev pub EachDone : (K → List ℕ → Deed → Type 0) → List ℕ → List K → Type 0
+    EachDone P field [] = Unit {0}
+    EachDone P field (k ∷ ks) = ((d : Deed) → does k field ≡ accepted d → P k field d) × EachDone P (fieldBy (does k field) field) ks
+
+    -- Demand 3 of such a list: the budget since the last return; what P says of each accepted call; and the field is an accepted one again.
+    pub record Ledger (P : K → List ℕ → Deed → Type 0) (field : List ℕ) (ks : List K) : Type 0 where
+      pub budget : total M (massIn (lastField field ks)) + lastAccount (startsAt field) field ks .since .gone
+          ≡ lastAccount (startsAt field) field ks .start + lastAccount (startsAt field) field ks .since .entered
+      pub each-call : EachDone P field ks
+      pub field-accepted : fieldVerdict M (lastField field ks) ≡ fine

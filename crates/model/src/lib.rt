@@ -51,6 +51,9 @@ pub enum Cause {
     Bit,
     Head,
     Page,
+    Name,
+    Room,
+    Unkept,
 }
 
 pub struct Refusal {
@@ -83,6 +86,9 @@ pub fn number(cause: Cause) -> u64
         Cause::Bit => 12,
         Cause::Head => 13,
         Cause::Page => 14,
+        Cause::Name => 15,
+        Cause::Room => 16,
+        Cause::Unkept => 17,
     }
 }
 

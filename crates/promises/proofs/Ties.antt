@@ -1,6 +1,6 @@
--- What ties demand 3 to the code: the contracts of the two calls, taken as they stand, give what a list says of a call.
+-- What ties demand 3 to the code: the contracts of the calls, taken as they stand, give what a list says of a call.
 use Prim.Native.Nat.{ℕ, _+_, _*_, _<_}
-use mathlib.Core.Path.{_≡_, refl, _∙_}
+use mathlib.Core.Path.{_≡_, refl, sym, _∙_}
 use mathlib.Core.Logic.{_≢_}
 use mathlib.Core.List.{List}
 use native.Mathlib.Omega.{arith}
@@ -8,15 +8,18 @@ use lib.IntN.{ℤ}
 use lib.ListN.{length, take}
 use Rattle.model.specs.Mesh.{Mesh}
 use Rattle.model.specs.Causes.{Outcome, accepted, refused, Verdict, fine, _andThen_, Call, inputOf, meshVerdict, fieldVerdict, verdict}
-use Rattle.model.specs.Calls.{Crossing, Left, crossingOf, corrected, stepAnswer, stepOnTables}
+use Rattle.model.specs.Answers.{said}
+use Rattle.model.specs.declared.Answer.{Answer}
+use Rattle.model.specs.Calls.{Crossing, Left, crossingOf, corrected, stepAnswer, stepOnTables, Deed, givenBack, storeOnly}
 use Rattle.model.proofs.Verdicts.{out}
 use Rattle.transport.specs.Promise.{stepSaid, StepPromise}
 use Rattle.transport.specs.declared.StepAnswer.{StepAnswer}
+use Rattle.store.specs.Calls.{KeepPromise, DropPromise, ReturnPromise}
 use Rattle.heads.specs.Layouts.{meshRecord, fieldRecord, fieldLength}
 use Rattle.reading.specs.Reading.{massesIn}
 use Rattle.lagoon.specs.Host.{causeStep, hostVerdict, hostBytes, HostPromise}
 use Rattle.lagoon.proofs.Small.{taken-apart}
-use Rattle.promises.specs.Demand3.{onTables, onRecords, lentMasses, waterIn, stepOnRecords, comes}
+use Rattle.promises.specs.Demand3.{onTables, onRecords, lentMasses, waterIn, stepOnRecords, comes, keeping, dropping, returning, does, storeLeft}
 use Rattle.promises.specs.Held.{Bytes, HoldsMesh, HoldsField}
 use Rattle.promises.proofs.Held.{mesh-alone, field-alone}
 
@@ -88,3 +91,21 @@ module _ (M : Mesh) (mesh-fine : meshVerdict M ≡ fine) (field : List ℕ) (fie
       go : (v : Verdict) → found ≡ v → HostRefused
       go (accepted t) e = let z : r ≡ 0 = promised .number ∙ rw e in absurd (n z)
       go (refused i j) e = refused-at i j e
+
+-- The store calls: done where the list says so, refused as it says, with the tables that the definitions name.
+done-or-refused : (v : Verdict) (d : Deed) (a : Answer) → said a ≡ v → (v andThen accepted d) ≡ (said a andThen accepted d)
+done-or-refused v d a e = rw e
+
+pub keep-comes : (M : Mesh) (past store : List ℕ) (name : ℕ) (field : List ℕ) (a : Answer) (store′ : List ℕ)
+    → KeepPromise (M .cells) (M .volumes) (lentMasses M past field) store name a store′
+    → (does M (keeping past store name) field ≡ (said a andThen accepted storeOnly)) × (storeLeft M (keeping past store name) field store ≡ store′)
+keep-comes M past store name field a store′ p = (done-or-refused _ storeOnly a (p .answer), sym (p .store-is))
+
+pub drop-comes : (M : Mesh) (store : List ℕ) (name : ℕ) (field : List ℕ) (a : Answer) (store′ : List ℕ) → DropPromise (M .cells) store name a store′
+    → (does M (dropping store name) field ≡ (said a andThen accepted storeOnly)) × (storeLeft M (dropping store name) field store ≡ store′)
+drop-comes M store name field a store′ p = (done-or-refused _ storeOnly a (p .answer), sym (p .store-is))
+
+pub return-comes : (M : Mesh) (past store : List ℕ) (name : ℕ) (field : List ℕ) (a : Answer) (masses′ : List ℕ)
+    → ReturnPromise (M .cells) (M .volumes) (lentMasses M past field) store name a masses′
+    → does M (returning past store name) field ≡ (said a andThen accepted (givenBack masses′))
+return-comes M past store name field a masses′ p = rw (p .masses-are) (done-or-refused _ _ a (p .answer))

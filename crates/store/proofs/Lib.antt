@@ -1,0 +1,5 @@
+pub mod Laid
+pub mod Named
+pub mod Effects
+pub mod Back
+pub mod Judged

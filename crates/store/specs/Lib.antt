@@ -1,0 +1,4 @@
+pub mod Store
+pub mod Found
+pub mod Calls
+pub mod Lists
