@@ -196,6 +196,15 @@ widePair = record { cells = 2; faces = 2; volumes = 10 ∷ 10 ∷ []; firsts = 0
 abbrev pub wideStep : StepInput
 wideStep = inputOf widePair (93 ∷ 15 ∷ []) exchangeCall
 
+-- the channel with s 1, and U 80 through it from fresh water
+abbrev pub steepStep : StepInput
+steepStep = record {
+  mesh = record { cells = 3; faces = 4; volumes = 100 ∷ 100 ∷ 100 ∷ []; firsts = 0 ∷ 0 ∷ 1 ∷ 2 ∷ []; seconds = rim ∷ 1 ∷ 2 ∷ rim ∷ []; shares = 0 ∷ 1 ∷ 1 ∷ 0 ∷ []; reaches = 0 ∷ 100 ∷ 100 ∷ 0 ∷ [] };
+  masses = 0 ∷ 50000 ∷ 0 ∷ [];
+  fluxes = negsuc 79 ∷ pos 80 ∷ pos 80 ∷ pos 80 ∷ [];
+  outsides = 0 ∷ 0 ∷ 0 ∷ 0 ∷ [];
+}
+
 pub record KeptFigures : Type 0 where
   -- cancelled: U 90 leaves low-order q 1000 and 900, and the correction would run from 1000 to 900
   pub cancelled-accepted : verdict sluice (100000 ∷ 0 ∷ []) (sluiceCall 89) ≡ fine
@@ -221,6 +230,12 @@ pub record KeptFigures : Type 0 where
   pub against-corrections : table 2 (correction wideStep) ≡ negsuc 19 ∷ negsuc 19 ∷ []
   pub against-kept : table 2 (kept wideStep) ≡ pos 0 ∷ pos 0 ∷ []
   pub against-next : table 2 (next wideStep) ≡ 13 ∷ 95 ∷ []
+  -- in neither P nor N: cell 1, at 100, gives to cell 0, at 0, and to cell 2, at 400. Only the second counts in N, so all of L goes there.
+  pub uncounted-low : table 3 (lowConcentration steepStep) ≡ 0 ∷ 100 ∷ 400 ∷ []
+  pub uncounted-corrections : table 4 (correction steepStep) ≡ pos 0 ∷ negsuc 15842 ∷ pos 15843 ∷ pos 0 ∷ []
+  pub uncounted-kept : table 4 (kept steepStep) ≡ pos 0 ∷ pos 0 ∷ pos 15843 ∷ pos 0 ∷ []
+  pub uncounted-room : maxLoss steepStep 1 ≡ 10000
+  pub uncounted-next : table 3 (next steepStep) ≡ 0 ∷ 0 ∷ 50000 ∷ []
   -- against the water too, and kept: channel step 1, from cell 1, at 500, to cell 0, at 1000
   pub channel-low : table 3 (lowConcentration (channelStep (100000 ∷ 0 ∷ 0 ∷ []))) ≡ 1000 ∷ 500 ∷ 0 ∷ []
   pub channel-kept : kept (channelStep (100000 ∷ 0 ∷ 0 ∷ [])) 1 ≡ negsuc 12499
@@ -248,6 +263,11 @@ kept-figures = record {
   against-corrections = refl;
   against-kept = refl;
   against-next = refl;
+  uncounted-low = refl;
+  uncounted-corrections = refl;
+  uncounted-kept = refl;
+  uncounted-room = refl;
+  uncounted-next = refl;
   channel-low = refl;
   channel-kept = refl;
 }
