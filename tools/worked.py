@@ -389,12 +389,12 @@ def form():
         heads = "|" + "|".join(f" {name:{wide}} " for name, wide in names) + "|"
         empty = "|" + "|".join(" " * (wide + 2) for _, wide in names) + "|"
         return [line, heads, line] + [empty, line] * rows
-    cells = [("cell", 4), ("V", 4), ("m", 8), ("q", 6), ("low", 8), ("low q", 6), ("lo", 5), ("hi", 5), ("next m", 8)]
-    sums = [("cell", 4), ("P", 8), ("G", 8), ("N", 8), ("L", 8), ("next q", 7), ("rest", 5)]
-    faces = [("face", 4), ("U", 4), ("carried", 8), ("d", 6), ("t", 3), ("correction", 10), ("kept", 8), ("limited", 8), ("moved", 8)]
+    cells = [("cell", 4), ("V", 4), ("m", 8), ("q", 6), ("low", 8), ("lo", 5), ("hi", 5), ("next m", 8)]
+    sums = [("cell", 4), ("low q", 6), ("P", 7), ("G", 7), ("N", 7), ("L", 7), ("next q", 7), ("rest", 5)]
+    faces = [("face", 4), ("U", 4), ("carried", 8), ("d", 6), ("t", 3), ("correction", 10), ("limited", 8), ("moved", 8)]
     return (["Step ______    worked by ____________    checked by ____________", ""]
             + blank(cells, 4) + [""] + blank(sums, 4) + [""] + blank(faces, 5)
-            + ["", "in-mass ________  out-mass ________  total before ________  after ________"])
+            + ["a correction that is not kept is struck out", "", "in-mass ________  out-mass ________  total before ________  after ________"])
 
 
 BLOCKS = {"layouts": layouts, "bytes": the_bytes, "mesh-bits": lambda: fenced(mesh_bits()), "step-bits": lambda: fenced(field_and_step_bits()),

@@ -6,13 +6,13 @@ use mathlib.Core.Logic.{_≢_}
 use mathlib.Core.Bool.{Bool, true, false, cond}
 use native.Mathlib.Omega.{arith}
 use borrow.Author.Tests.{ne-eqb}
-use lib.Dec.{eqb, leb}
+use lib.Dec.{eqb}
 use lib.IntN.{ℤ, pos}
 use Rattle.lists.proofs.Tests.{Same, same, other, same?, cond-same}
 use Rattle.signed.specs.Sign.{isNegative, isZero, size, withSign, turn}
 use Rattle.signed.proofs.Laws.{isZero-size, size-zero}
 use Rattle.model.specs.Mesh.{Mesh, first, second, atRim, rim, entering, leaving, incoming, outgoing, updated}
-use Rattle.model.specs.Step.{portion, receiver, giver, keptBy, limitedBy}
+use Rattle.model.specs.Step.{portion, receiver, giver, smooths, keptBy, limitedBy}
 use Rattle.model.specs.Accepted.{Joined}
 use Rattle.model.proofs.Limit.{portion-zero}
 use Rattle.lists.specs.Renumbering.{Renumbering}
@@ -22,22 +22,23 @@ use Rattle.signed.proofs.Turns.{size-turn, isZero-turn, turn-zero, turn-passes,
 
 -- a correction z from l to k, kept or not
 abbrev keep : (ℕ → ℕ) → ℤ → ℕ → ℕ → ℤ
-keep q z l k = cond (leb (q (cond (isNegative z) k l)) (q (cond (isNegative z) l k))) z (pos 0)
+keep q z l k = cond (smooths (q (cond (isNegative z) k l)) (q (cond (isNegative z) l k))) (pos 0) z
 
 keep-nothing : (q : ℕ → ℕ) (z : ℤ) (l k : ℕ) → isZero z ≡ true → keep q z l k ≡ pos 0
-keep-nothing q z l k e = let n = size-zero z (isZero-size z e) in rw n (cond-same (leb (q l) (q k)) (pos 0))
+keep-nothing q z l k e = let n = size-zero z (isZero-size z e) in rw n (cond-same (smooths (q l) (q k)) (pos 0))
 
 keep-turned : (n : ℕ) (new : ℕ → ℕ) (q q′ : ℕ → ℕ) → ((c : ℕ) → c < n → q′ (new c) ≡ q c) → (t : Bool) (z : ℤ) (l k : ℕ) → isZero z ≡ false → l < n → k < n
     → keep q′ (turn t z) (cond t (new k) (new l)) (cond t (new l) (new k)) ≡ turn t (keep q z l k)
 keep-turned n new q q′ g t z l k s hl hk = rw (turn-negative t z (new l) (new k) s, turn-negative t z (new k) (new l) s) (go (isNegative z))
   where
-    either : (b : Bool) → cond b (turn t z) (pos 0) ≡ turn t (cond b z (pos 0))
-    either true = refl
-    either false = sym (turn-zero t)
+    either : (b : Bool) → cond b (pos 0) (turn t z) ≡ turn t (cond b (pos 0) z)
+    either true = sym (turn-zero t)
+    either false = refl
 
-    go : (b : Bool) → cond (leb (q′ (cond b (new k) (new l))) (q′ (cond b (new l) (new k)))) (turn t z) (pos 0) ≡ turn t (cond (leb (q (cond b k l)) (q (cond b l k))) z (pos 0))
-    go true = rw (g k hk, g l hl) (either (leb (q k) (q l)))
-    go false = rw (g l hl, g k hk) (either (leb (q l) (q k)))
+    go : (b : Bool)
+        → cond (smooths (q′ (cond b (new k) (new l))) (q′ (cond b (new l) (new k)))) (pos 0) (turn t z) ≡ turn t (cond (smooths (q (cond b k l)) (q (cond b l k))) (pos 0) z)
+    go true = rw (g k hk, g l hl) (either (smooths (q k) (q l)))
+    go false = rw (g l hl, g k hk) (either (smooths (q l) (q k)))
 
 -- a correction z from l to k, limited
 abbrev limit : (ℕ → ℕ) → (ℕ → ℕ) → (ℕ → ℕ) → (ℕ → ℕ) → ℤ → ℕ → ℕ → ℤ

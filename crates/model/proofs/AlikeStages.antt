@@ -1,7 +1,7 @@
 -- Two steps that are alike: stage after stage each quantity is the other's at the new number, a face's turned with it. Both sides of a face
 -- go together.
-use Prim.Native.Nat.{ℕ, _-_, _*_, _≤_, _<_}
-use mathlib.Core.Path.{_≡_, refl, sym, ap, _∙_}
+use Prim.Native.Nat.{ℕ, _-_, _*_, _/_, _≤_, _<_}
+use mathlib.Core.Path.{_≡_, refl, sym, ap, ap₂, _∙_}
 use mathlib.Core.Logic.{_≢_}
 use mathlib.Core.Bool.{Bool, true, false, cond, _||_, true≢false}
 use native.Mathlib.Omega.{arith}
@@ -118,7 +118,7 @@ module _ (S S′ : StepInput) (few : S .mesh .cells ≤ rim) (fit : MeshFit (S .
   -- document 02's S-5
   pub low-concentration-alike : (c : ℕ) → c < M .cells → lowConcentration S′ (cell .new c) ≡ lowConcentration S c
   unfolding lowConcentration
-  low-concentration-alike c h = rw (low-alike c h, a .mesh-alike .volume-same c h)
+  low-concentration-alike c h = ap₂ (λ (m v : ℕ). m / v) (low-alike c h) (a .mesh-alike .volume-same c h)
 
   pub kept-correction-alike : (f : ℕ) → f < M .faces → kept S′ (face .new f) ≡ turn (turns f) (kept S f)
   unfolding kept

@@ -10,7 +10,7 @@ use lib.IntN.{ℤ, pos, negsuc}
 use Rattle.lists.specs.Fold.{sum}
 use Rattle.signed.specs.Sign.{forward, backward, size, isNegative, withSign}
 use Rattle.model.specs.Mesh.{Mesh, first, second, entering, leaving, incoming, outgoing}
-use Rattle.model.specs.Step.{portion, receiver, giver, keptBy, limitedBy}
+use Rattle.model.specs.Step.{portion, receiver, giver, smooths, keptBy, limitedBy}
 use Rattle.lists.proofs.Tests.{Same, same, same?, Fits, fits, exceeds, fits?}
 use Rattle.lists.proofs.Sums.{sum-mono, sum-scale}
 use Rattle.signed.proofs.Laws.{forward-neg, backward-neg}
@@ -91,11 +91,11 @@ module _ (M : Mesh) (gain loss : ℕ → ℕ) (x : ℕ → ℤ) where
 -- what is kept of a correction is the correction or 0: what holds of both holds of it
 pub kept-either : (P : ℤ → Type 0) (M : Mesh) (q : ℕ → ℕ) (x : ℕ → ℤ) (f : ℕ) → P (x f) → P (pos 0) → P (keptBy M q x f)
 unfolding keptBy
-kept-either P M q x f p z = go (leb (q (giver M x f)) (q (receiver M x f)))
+kept-either P M q x f p z = go (smooths (q (giver M x f)) (q (receiver M x f)))
   where
-    go : (b : Bool) → P (cond b (x f) (pos 0))
-    go true = p
-    go false = z
+    go : (b : Bool) → P (cond b (pos 0) (x f))
+    go true = z
+    go false = p
 
 pub kept-zero : (M : Mesh) (q : ℕ → ℕ) (x : ℕ → ℤ) (f : ℕ) → x f ≡ pos 0 → keptBy M q x f ≡ pos 0
 kept-zero M q x f e = kept-either (λ z. z ≡ pos 0) M q x f e refl

@@ -1,9 +1,9 @@
 -- Document 01, "One step": the five stages, in order, with document 02's S-5 between the second and the third.
 use Prim.Native.Nat.{ℕ, _+_, _-_, _*_, _/_, min}
-use mathlib.Core.Bool.{cond, _||_}
+use mathlib.Core.Bool.{Bool, cond, _||_}
 use mathlib.Core.List.{List}
 use lib.ListN.{getD}
-use lib.Dec.{eqb, leb}
+use lib.Dec.{eqb, leb, ltb}
 use lib.IntN.{ℤ, pos, _+ℤ_, _-ℤ_, _*ℤ_}
 use lib.Signed.{quotZ}
 use Rattle.lists.specs.Fold.{sum, least, greatest}
@@ -22,9 +22,13 @@ module _ (M : Mesh) (x : ℕ → ℤ) where
   unfoldable pub giver : ℕ → ℕ
   giver f = cond (isNegative (x f)) (second M f) (first M f)
 
--- Document 02, S-5, for any corrections x and concentrations q: one that would run from a larger q to a smaller is 0; equal q keep it.
+-- Document 02, S-5: a correction smooths that would run from a larger q to a smaller. Equal q do not.
+unfoldable pub smooths : (from to : ℕ) → Bool
+smooths from to = ltb to from
+
+-- for any corrections x and concentrations q: those that smooth become 0, the others are kept
 unfoldable pub keptBy : Mesh → (ℕ → ℕ) → (ℕ → ℤ) → ℕ → ℤ
-keptBy M q x f = cond (leb (q (giver M x f)) (q (receiver M x f))) (x f) (pos 0)
+keptBy M q x f = cond (smooths (q (giver M x f)) (q (receiver M x f))) (pos 0) (x f)
 
 -- Stage 4: the lesser of what the receiver (P, G) and the giver (N, L) let pass, in the correction's own direction.
 unfoldable pub limitedBy : Mesh → (gain loss : ℕ → ℕ) → (ℕ → ℤ) → ℕ → ℤ
@@ -86,7 +90,7 @@ module _ (S : StepInput) where
   unfoldable pub lowConcentration : ℕ → ℕ
   lowConcentration c = low c / volume M c
 
-  -- and the corrections that do not smooth it. The others are 0 from here on, in P and N too.
+  -- and the corrections that do not smooth it; the others are 0 from here on, and count in neither P nor N.
   unfoldable pub kept : ℕ → ℤ
   kept = keptBy M lowConcentration correction
 

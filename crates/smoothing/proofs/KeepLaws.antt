@@ -6,7 +6,7 @@ use mathlib.Core.Bool.{Bool, true, false, cond}
 use mathlib.Core.List.{List}
 use native.Mathlib.Omega.{arith}
 use borrow.Author.Count.{below-none, below-more}
-use borrow.Author.Tests.{ne-eqb, le-leb, lt-leb}
+use borrow.Author.Tests.{ne-eqb, lt-ltb, le-ltb}
 use lib.Dec.{eqb, leb}
 use lib.IntN.{ℤ, pos}
 use lib.ListN.{length, getD, set, length-set}
@@ -15,7 +15,7 @@ use Rattle.signed.specs.Sign.{isNegative, withSign}
 use Rattle.signed.proofs.Laws.{negative-withSign, withSign-zero}
 use Rattle.lists.proofs.Tests.{Same, same, other, same?, cond-same}
 use Rattle.model.specs.Mesh.{Mesh, rim, first, second}
-use Rattle.model.specs.Step.{receiver, giver, keptBy}
+use Rattle.model.specs.Step.{receiver, giver, smooths, keptBy}
 use Rattle.face.specs.Correction.{decoded}
 use Rattle.cell.specs.Work.{ofCell, ofFace}
 use Rattle.cell.proofs.Places.{cell-in, face-in}
@@ -48,31 +48,31 @@ positive n d = omega arith
 
 -- a correction in one number, kept or not, is the correction kept or not
 kept-code : (q : ℕ → ℕ) (code l k : ℕ)
-    → decoded (cond (eqb (code / 2) 0) 0 (cond (leb (q (leaves code l k)) (q (enters code l k))) code 0))
-    ≡ cond (leb (q (cond (isNegative (decoded code)) k l)) (q (cond (isNegative (decoded code)) l k))) (decoded code) (pos 0)
+    → decoded (cond (eqb (code / 2) 0) 0 (cond (smooths (q (leaves code l k)) (q (enters code l k))) 0 code))
+    ≡ cond (smooths (q (cond (isNegative (decoded code)) k l)) (q (cond (isNegative (decoded code)) l k))) (pos 0) (decoded code)
 kept-code q code l k = go (eqb (code / 2) 0) (same? (code / 2) 0)
   where
-    either : (b : Bool) → decoded (cond b code 0) ≡ cond b (decoded code) (pos 0)
+    either : (b : Bool) → decoded (cond b 0 code) ≡ cond b (pos 0) (decoded code)
     either true = refl
     either false = refl
 
     go : (b : Bool) → Same (code / 2) 0 b
-        → decoded (cond b 0 (cond (leb (q (leaves code l k)) (q (enters code l k))) code 0))
-        ≡ cond (leb (q (cond (isNegative (decoded code)) k l)) (q (cond (isNegative (decoded code)) l k))) (decoded code) (pos 0)
+        → decoded (cond b 0 (cond (smooths (q (leaves code l k)) (q (enters code l k))) 0 code))
+        ≡ cond (smooths (q (cond (isNegative (decoded code)) k l)) (q (cond (isNegative (decoded code)) l k))) (pos 0) (decoded code)
     go true (same e) =
         let z : decoded code ≡ pos 0 = ap (withSign (eqb (code % 2) 1)) e ∙ withSign-zero (eqb (code % 2) 1) in
-        rw z (sym (cond-same (leb (q l) (q k)) (pos 0)))
-    go false (other d) = rw (negative-withSign (eqb (code % 2) 1) (code / 2) (positive (code / 2) d)) (either (leb (q (leaves code l k)) (q (enters code l k))))
+        rw z (sym (cond-same (smooths (q l) (q k)) (pos 0)))
+    go false (other d) = rw (negative-withSign (eqb (code % 2) 1) (code / 2) (positive (code / 2) d)) (either (smooths (q (leaves code l k)) (q (enters code l k))))
 
 -- the code's two ways, from the giver's low-order q a and the receiver's b
 module _ (w : List ℕ) (l k code a b : ℕ) (d : code / 2 ≢ 0) (from : a ≡ ofCell w (leaves code l k) 0) (to : b ≡ ofCell w (enters code l k) 0) where
-  pub keeps : a ≤ b → code ≡ keptOf w l k code
-  unfolding keptOf
-  keeps h = rw (ne-eqb (code / 2) 0 d, ← from, ← to, le-leb a b h)
-
   pub drops : b < a → 0 ≡ keptOf w l k code
-  unfolding keptOf
-  drops h = rw (ne-eqb (code / 2) 0 d, ← from, ← to, lt-leb a b h)
+  unfolding keptOf smooths
+  drops h = rw (ne-eqb (code / 2) 0 d, ← from, ← to, lt-ltb b a h)
+
+  pub keeps : a ≤ b → code ≡ keptOf w l k code
+  unfolding keptOf smooths
+  keeps h = rw (ne-eqb (code / 2) 0 d, ← from, ← to, le-ltb b a h)
 
 -- pass 4
 pub keep-start : (M : Mesh) (w : List ℕ) → Kept M w 0 w
@@ -100,8 +100,8 @@ module _ (M : Mesh) (w : List ℕ) (asks : CorrectionsIn M w) (f : ℕ) (h : f <
   same-kept = go (eqb (k / 2) 0) (same? (k / 2) 0)
     where
       go : (b : Bool) → Same (k / 2) 0 b
-          → cond b 0 (cond (leb (ofCell work (leaves k (first M f) (second M f)) 0) (ofCell work (enters k (first M f) (second M f)) 0)) k 0)
-          ≡ cond b 0 (cond (leb (ofCell w (leaves k (first M f) (second M f)) 0) (ofCell w (enters k (first M f) (second M f)) 0)) k 0)
+          → cond b 0 (cond (smooths (ofCell work (leaves k (first M f) (second M f)) 0) (ofCell work (enters k (first M f) (second M f)) 0)) 0 k)
+          ≡ cond b 0 (cond (smooths (ofCell w (leaves k (first M f) (second M f)) 0) (ofCell w (enters k (first M f) (second M f)) 0)) 0 k)
       go true e = refl
       go false (other d) = rw (s .cell-at _ 0 (leaves-in M w asks f h d) refl, s .cell-at _ 0 (enters-in M w asks f h d) refl)
 

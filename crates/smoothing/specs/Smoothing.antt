@@ -6,7 +6,7 @@ use mathlib.Core.List.{List}
 use lib.Dec.{eqb, leb}
 use lib.ListN.{length, getD}
 use Rattle.model.specs.Mesh.{Mesh}
-use Rattle.model.specs.Step.{keptBy}
+use Rattle.model.specs.Step.{smooths, keptBy}
 use Rattle.cell.specs.Work.{ofCell, ofFace}
 use Rattle.smoothing.specs.Corrections.{enters, leaves, corrections}
 
@@ -18,9 +18,9 @@ pub record LowConcentrations (cells : ℕ) (volumes next w : List ℕ) (i : ℕ)
   pub hi-kept : (c : ℕ) → ofCell work c 2 ≡ ofCell w c 2
   pub face-kept : (f : ℕ) → ofFace work cells f ≡ ofFace w cells f
 
--- what is kept of a correction in one number, of a face from l to k: none that leaves a larger low-order q for a smaller
+-- what is kept of a correction in one number, of a face from l to k, by the low-order q of its cells
 unfoldable pub keptOf : List ℕ → ℕ → ℕ → ℕ → ℕ
-keptOf w l k code = cond (eqb (code / 2) 0) 0 (cond (leb (ofCell w (leaves code l k) 0) (ofCell w (enters code l k) 0)) code 0)
+keptOf w l k code = cond (eqb (code / 2) 0) 0 (cond (smooths (ofCell w (leaves code l k) 0) (ofCell w (enters code l k) 0)) 0 code)
 
 -- Pass 4, after the faces below f: their corrections are the kept ones, by the low-order q in w
 pub record Kept (M : Mesh) (w : List ℕ) (f : ℕ) (work : List ℕ) : Type 0 where

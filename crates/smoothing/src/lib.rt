@@ -52,10 +52,10 @@ pub fn kept_code(work: &[u64], first: u64, second: u64, code: u64) -> u64
     let giver = end_to(negative, second, first);
     let from = low_of(work, giver);
     let to = low_of(work, receiver);
-    if from <= to {
-        return code;
+    if to < from {
+        return 0;
     }
-    0
+    code
 }
 
 // One face of the fourth pass, its correction at the given entry.

@@ -51,13 +51,13 @@ returns-2 : tie.Need-returns-2
 returns-2 c =
     let u = c .before in
     let s = start (ends u) in
-    keeps (s .args .work .now) (s .args .first) (s .args .second) (s .args .code) _ _ (some (ends u)) (from-is u) (to-is u) (c .if2 .taken)
+    drops (s .args .work .now) (s .args .first) (s .args .second) (s .args .code) _ _ (some (ends u)) (from-is u) (to-is u) (c .if2 .taken)
 
 returns-3 : tie.Need-returns-3
 returns-3 c =
     let u = c .before in
     let s = start (ends u) in
-    drops (s .args .work .now) (s .args .first) (s .args .second) (s .args .code) _ _ (some (ends u)) (from-is u) (to-is u) (c .if2 .left)
+    keeps (s .args .work .now) (s .args .first) (s .args .second) (s .args .code) _ _ (some (ends u)) (from-is u) (to-is u) (c .if2 .left)
 
 pub kept-code-spec : {M : Type 1} → statement M
 kept-code-spec =
