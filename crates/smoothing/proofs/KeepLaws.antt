@@ -7,8 +7,8 @@ use mathlib.Core.List.{List}
 use native.Mathlib.Omega.{arith}
 use borrow.Author.Count.{below-none, below-more}
 use borrow.Author.Tests.{ne-eqb, lt-ltb, le-ltb}
-use lib.Dec.{eqb, leb}
-use lib.IntN.{ℤ, pos}
+use lib.Dec.{eqb}
+use lib.IntN.{pos}
 use lib.ListN.{length, getD, set, length-set}
 use lib.Seq.{getD-set-same, getD-set-other}
 use Rattle.signed.specs.Sign.{isNegative, withSign}
@@ -17,7 +17,7 @@ use Rattle.lists.proofs.Tests.{Same, same, other, same?, cond-same}
 use Rattle.model.specs.Mesh.{Mesh, rim, first, second}
 use Rattle.model.specs.Step.{receiver, giver, smooths, keptBy}
 use Rattle.face.specs.Correction.{decoded}
-use Rattle.cell.specs.Work.{ofCell, ofFace}
+use Rattle.cell.specs.Work.{ofCell}
 use Rattle.cell.proofs.Places.{cell-in, face-in}
 use Rattle.cell.proofs.Slots.{slot-set, slot-face, face-slot}
 use Rattle.smoothing.specs.Corrections.{enters, leaves, corrections, CorrectionsIn}
