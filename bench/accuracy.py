@@ -87,22 +87,38 @@ class Ring:
             masses = lagoon.advance_upwind(self.mesh, masses, self.fluxes, self.outsides).masses
         return self.values(masses)
 
-    def by_reals(self, limited=True):
+    def by_all_corrections(self):
+        """The corrected step as it was before document 02's S-5: every correction enters the limiter."""
+        masses = self.masses
+        for _ in range(self.steps):
+            q = lagoon.concentrations(self.mesh.volumes, masses)
+            carried, low = lagoon.upwind(self.mesh, masses, q, self.fluxes, self.outsides)
+            limited = lagoon.limiter(self.mesh, lagoon.corrections(self.mesh, q, self.fluxes),
+                                     *lagoon.bounds(self.mesh, low, q, self.fluxes, self.outsides))
+            _, masses = lagoon.finish(self.mesh, masses, carried, limited)
+        return self.values(masses)
+
+    def by_reals(self, limited=True, cancelled=True):
         values = self.exact
         for _ in range(self.steps):
-            values = real_step(values, COURANT[0] / COURANT[1], limited)
+            values = real_step(values, COURANT[0] / COURANT[1], limited, cancelled)
         return values
 
     def values(self, masses):
         return [mass / self.unit for mass in masses]
 
 
-def real_step(q, courant, limited):
-    """The corrected step on a ring of equal cells in real numbers; face i leads from cell i to cell i + 1."""
+def real_step(q, courant, limited, cancelled):
+    """The corrected step on a ring of equal cells in real numbers; face i leads from cell i to cell i + 1.
+
+    cancelled: corrections that smooth are 0 before the limiter, as document 02's S-5 asks."""
     cells = range(len(q))
     after = lambda i: (i + 1) % len(q)
     low = [q[i] - courant * (q[i] - q[i - 1]) for i in cells]
     corrections = [courant * (1 - courant) / 2 * (q[after(i)] - q[i]) for i in cells]
+    if limited and cancelled:
+        corrections = [0 if (c > 0 and low[i] > low[after(i)]) or (c < 0 and low[after(i)] > low[i]) else c
+                       for i, c in enumerate(corrections)]
     if limited:
         near = [(q[i - 1], q[i], q[after(i)]) for i in cells]
         gain, lose = [max(near[i]) - low[i] for i in cells], [low[i] - min(near[i]) for i in cells]
@@ -138,7 +154,8 @@ def convergence(name, profile, driver, resolutions):
     rows, last = [], {}
     for cells in resolutions:
         ring = Ring(profile, cells)
-        for scheme, values in (("plain upwind", ring.by_upwind()), ("corrected", ring.by_engine(driver))):
+        for scheme, values in (("plain upwind", ring.by_upwind()), ("before S-5", ring.by_all_corrections()),
+                               ("corrected", ring.by_engine(driver))):
             error = norms(values, ring.exact)
             orders = f"{order(last[scheme], error[1]):.2f}" if scheme in last else ""
             last[scheme] = error[1]
@@ -149,19 +166,20 @@ def convergence(name, profile, driver, resolutions):
 
 
 def fine_convergence(name, profile, driver, resolutions):
-    """l2 with its order by four schemes, and how far the engine is from the same scheme in real numbers."""
-    rows, last = [], [None] * 4
+    """l2 with its order by five schemes, and how far the engine is from the same scheme in real numbers."""
+    rows, last = [], [None] * 5
     for cells in resolutions:
         ring = Ring(profile, cells)
         whole, real = ring.by_engine(driver), ring.by_reals()
-        errors = [norms(values, ring.exact)[1] for values in (ring.by_upwind(), whole, real, ring.by_reals(False))]
+        errors = [norms(values, ring.exact)[1]
+                  for values in (ring.by_upwind(), whole, real, ring.by_reals(cancelled=False), ring.by_reals(limited=False))]
         row = [str(cells)]
         for error, before in zip(errors, last):
             row += [f"{error:.6f}", f"{order(before, error):.2f}" if before else ""]
         rows.append(row + [f"{norms(whole, real)[1]:.1e}"])
         last = errors
-    head = ["cells", "plain upwind", "order", "engine", "order", "in reals", "order", "in reals, no limiter", "order",
-            "engine against reals"]
+    head = ["cells", "plain upwind", "order", "engine", "order", "in reals", "order", "in reals, before S-5", "order",
+            "in reals, no limiter", "order", "engine against reals"]
     return table(f"{name}: l2 and its order", head, rows)
 
 

@@ -47,18 +47,19 @@ def mixed(digest, x):
     return (digest * BASE + x % PRIME) % PRIME
 
 def how_busy(tables):
-    """Of one step: faces with water, rim inflows and outflows, corrections, those cut, those cut to nothing."""
+    """Of one step: faces with water, rim inflows and outflows, corrections, those cancelled, those cut, those cut to nothing."""
     mesh, masses, fluxes, outsides = lagoon.Mesh(*tables[:5]), *tables[5:8]
     q = lagoon.concentrations(mesh.volumes, masses)
     _, low = lagoon.upwind(mesh, masses, q, fluxes, outsides)
     wanted = lagoon.corrections(mesh, q, fluxes)
-    limited = lagoon.limiter(mesh, wanted, *lagoon.bounds(mesh, low, q, fluxes, outsides))
+    kept = lagoon.keep(mesh, low, wanted)
+    limited = lagoon.limiter(mesh, kept, *lagoon.bounds(mesh, low, q, fluxes, outsides))
     rims = [U for U, second in zip(fluxes, mesh.seconds) if second == lagoon.RIM]
     return {"faces": len(fluxes), "water": sum(U != 0 for U in fluxes),
             "in": sum(U < 0 for U in rims), "out": sum(U > 0 for U in rims),
             "corrections": sum(a != 0 for a in wanted), "back": sum(a < 0 for a in wanted),
-            "cut": sum(a != b for a, b in zip(wanted, limited)),
-            "cut to 0": sum(a != 0 and b == 0 for a, b in zip(wanted, limited))}
+            "cancelled": sum(a != b for a, b in zip(wanted, kept)), "cut": sum(a != b for a, b in zip(kept, limited)),
+            "cut to 0": sum(a != 0 and b == 0 for a, b in zip(kept, limited))}
 
 def one_round(width, height, watch=lambda step, tables: None):
     """Masses and moved after one round, and in-mass and out-mass of all its steps."""

@@ -1,4 +1,4 @@
-/* The arithmetic of one step of document 01 as plain C, with no test of its input. */
+/* The arithmetic of one step of document 01, with document 02's S-5, as plain C, with no test of its input. */
 #ifndef PLAIN_STEP_H
 #define PLAIN_STEP_H
 
@@ -7,9 +7,9 @@
 
 enum { RIM = 4095 };
 
-/* Four numbers of a cell. Before the limiter: q, lo, hi. In it: P, L, G, N. */
+/* Four numbers of a cell and its low-order q. Before the limiter: q, lo, hi. In it: P, L, G, N. */
 struct cell {
-  uint64_t q_or_p, lo_or_l, hi_or_g, n;
+  uint64_t q_or_p, lo_or_l, hi_or_g, n, low_q;
 };
 
 static inline void widen(struct cell *c, uint64_t q) {
@@ -73,17 +73,21 @@ static void step(size_t cells, size_t faces, const uint64_t *restrict volume, co
     cell[c].hi_or_g = v * cell[c].hi_or_g + v - 1 - m;
     cell[c].lo_or_l = m - v * cell[c].lo_or_l;
     cell[c].q_or_p = cell[c].n = 0;
+    cell[c].low_q = (uint32_t)m / (uint32_t)v;
   }
 
   for (size_t f = 0; f < faces; f++) {
     int64_t x = correction[f];
-    if (x > 0) {
-      cell[second[f]].q_or_p += x;
-      cell[first[f]].n += x;
-    } else if (x < 0) {
-      cell[first[f]].q_or_p -= x;
-      cell[second[f]].n -= x;
+    if (x == 0) continue;
+    struct cell *receiver = &cell[x < 0 ? first[f] : second[f]];
+    struct cell *giver = &cell[x < 0 ? second[f] : first[f]];
+    if (giver->low_q > receiver->low_q) {
+      correction[f] = 0;
+      continue;
     }
+    uint64_t size = x < 0 ? -x : x;
+    receiver->q_or_p += size;
+    giver->n += size;
   }
 
   for (size_t f = 0; f < faces; f++) {

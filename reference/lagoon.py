@@ -85,6 +85,19 @@ def corrections(mesh, q, fluxes):
             result.append(correction(U, q[down] - q[up], share_upwind(s, U), K))
     return result
 
+def runs(first, second, c):
+    """The cell that a correction comes from and the one that it goes to, by its own sign."""
+    return (first, second) if c > 0 else (second, first)
+
+def keep(mesh, low, corrected):
+    """Document 02, S-5: without the corrections that go from a larger low-order q to a smaller."""
+    q = concentrations(mesh.volumes, low)
+    result = []
+    for first, second, c in zip(mesh.firsts, mesh.seconds, corrected):
+        giver, receiver = runs(first, second, c)
+        result.append(0 if c == 0 or q[giver] > q[receiver] else c)
+    return result
+
 def bounds(mesh, low, q, fluxes, outsides):
     """Stage 3: G and L of every cell, from the least and greatest q that it meets before the step."""
     near = [[own] for own in q]
@@ -100,11 +113,11 @@ def bounds(mesh, low, q, fluxes, outsides):
     return gains, losses
 
 def limiter(mesh, corrected, gains, losses):
-    """Stage 4: every correction cut by its receiver's G over P and its giver's L over N, whichever leaves less."""
+    """Stage 4: every kept correction cut by its receiver's G over P and its giver's L over N, whichever leaves less."""
     entering, leaving = [0] * len(gains), [0] * len(losses)         # P and N
     ends = []
     for first, second, c in zip(mesh.firsts, mesh.seconds, corrected):
-        receiver, giver = (second, first) if c > 0 else (first, second)
+        giver, receiver = runs(first, second, c)
         ends.append((receiver, giver))
         if c != 0:
             entering[receiver] += abs(c)
@@ -140,7 +153,7 @@ def advance(mesh, masses, fluxes, outsides):
     carried, low = upwind(mesh, masses, q, fluxes, outsides)
     corrected = corrections(mesh, q, fluxes)
     gains, losses = bounds(mesh, low, q, fluxes, outsides)
-    limited = limiter(mesh, corrected, gains, losses)
+    limited = limiter(mesh, keep(mesh, low, corrected), gains, losses)
     moved, masses = finish(mesh, masses, carried, limited)
     return Result(masses, moved, in_mass(mesh, fluxes, outsides), out_mass(mesh, q, fluxes))
 

@@ -1,4 +1,7 @@
-"""Slips, each put into a copy of the reference by replacing one function: the seven of document 01, and some of the answers."""
+"""Slips, each put into a copy of the reference by replacing some functions: the seven of document 01, those of document 02's
+requests, and some of the answers."""
+
+from fractions import Fraction
 
 
 def share(lagoon):
@@ -57,7 +60,87 @@ def bound(lagoon):
     lagoon.bounds = bounds
 
 
-SLIPS = {slip.__name__: slip for slip in (share, sign, floor, late, still, rest, bound)}
+# ---------------------------------------------------------------- Document 02, S-5: corrections that smooth
+
+def keep_by(lagoon, giver_and_receiver, cancels, values):
+    """The stage with another direction, another test or other concentrations."""
+    last = {}
+    right_upwind = lagoon.upwind
+
+    def upwind(mesh, masses, q, fluxes, outsides):
+        last.update(masses=masses, fluxes=fluxes)
+        return right_upwind(mesh, masses, q, fluxes, outsides)
+
+    def keep(mesh, low, corrected):
+        q = values(mesh, low, last["masses"])
+        result = []
+        for first, second, U, c in zip(mesh.firsts, mesh.seconds, last["fluxes"], corrected):
+            giver, receiver = giver_and_receiver(first, second, U, c)
+            result.append(0 if c == 0 or cancels(q[giver], q[receiver]) else c)
+        return result
+
+    lagoon.upwind, lagoon.keep = upwind, keep
+
+
+def by_correction(first, second, U, c):
+    return (first, second) if c > 0 else (second, first)
+
+
+def by_water(first, second, U, c):
+    return (first, second) if U > 0 else (second, first)
+
+
+def low_order(mesh, low, masses):
+    return [m // V for m, V in zip(low, mesh.volumes)]
+
+
+def smooths(lagoon):
+    """The stage left out."""
+    lagoon.keep = lambda mesh, low, corrected: corrected
+
+
+def water(lagoon):
+    """The water's direction in place of the correction's."""
+    keep_by(lagoon, by_water, lambda g, r: g > r, low_order)
+
+
+def earlier(lagoon):
+    """q before the step in place of the low-order q."""
+    keep_by(lagoon, by_correction, lambda g, r: g > r, lambda mesh, low, masses: [m // V for m, V in zip(masses, mesh.volumes)])
+
+
+def equal(lagoon):
+    """Equal q cancelled too."""
+    keep_by(lagoon, by_correction, lambda g, r: g >= r, low_order)
+
+
+def turned(lagoon):
+    """Larger and smaller exchanged."""
+    keep_by(lagoon, by_correction, lambda g, r: g < r, low_order)
+
+
+def exact(lagoon):
+    """Low-order q not rounded down."""
+    keep_by(lagoon, by_correction, lambda g, r: g > r, lambda mesh, low, masses: [Fraction(m, V) for m, V in zip(low, mesh.volumes)])
+
+
+def summed(lagoon):
+    """Cancelled after P and N were summed."""
+    right_keep, right_limiter = lagoon.keep, lagoon.limiter
+    last = {}
+
+    def keep(mesh, low, corrected):
+        last["kept"] = right_keep(mesh, low, corrected)
+        return corrected
+
+    def limiter(mesh, corrected, gains, losses):
+        return [a if c != 0 else 0 for a, c in zip(right_limiter(mesh, corrected, gains, losses), last["kept"])]
+
+    lagoon.keep, lagoon.limiter = keep, limiter
+
+
+SLIPS = {slip.__name__: slip for slip in (share, sign, floor, late, still, rest, bound,
+                                          smooths, water, earlier, equal, turned, exact, summed)}
 
 
 # ---------------------------------------------------------------- Slips of the answers, which a script shows

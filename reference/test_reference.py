@@ -72,7 +72,9 @@ def test_channel():
     corrected = lagoon.corrections(CHANNEL, [1000, 0, 0], FLOW)
     equal(corrected, [0, -12500, 0, 0], "P channel step 1, correction 12500 toward cell 0")
     carried, low = lagoon.upwind(CHANNEL, [100000, 0, 0], [1000, 0, 0], FLOW, OUTSIDE)
-    limited = lagoon.limiter(CHANNEL, corrected, *lagoon.bounds(CHANNEL, low, [1000, 0, 0], FLOW, OUTSIDE))
+    kept = lagoon.keep(CHANNEL, low, corrected)
+    equal(kept, corrected, "channel step 1, toward cell 0 from 500 to 1000, kept")
+    limited = lagoon.limiter(CHANNEL, kept, *lagoon.bounds(CHANNEL, low, [1000, 0, 0], FLOW, OUTSIDE))
     equal(limited, [0, -99, 0, 0], "P channel step 1, cut to 99")
     equal(carried, [-50000, 50000, 0, 0], "channel step 1, carried")
     equal(step(CHANNEL, first, FLOW, OUTSIDE)[0], [100099, 81188, 18713], "P channel step 2")
@@ -94,6 +96,19 @@ def test_figures_by_hand():
     step(through, [5], [-100, 100], [9, 0])
     refused(10, 0, "P outflow 101 from V 100", step, through, [5], [-101, 101], [9, 0])
     equal(step(pool(100, 0), [99], [], [])[0], [99], "P one cell, no faces")
+
+
+def test_smoothing():
+    """Document 02, S-5."""
+    sluice = Mesh([100, 100], [0, 0, 1], [RIM, 1, RIM], [0, 1, 0], [0, 100, 0])
+    equal(step(sluice, [100000, 0], [-90, 90, 90], [1000, 0, 0])[0], [100000, 90000], "40148 from 1000 to 900, cancelled")
+    equal(step(sluice, [100000, 0], [-100, 100, 100], [1000, 0, 0])[0], [99901, 100099], "49609 from 1000 to 1000, kept and cut to 99")
+    equal(step(sluice, [100050, 0], [-100, 100, 100], [1000, 0, 0])[0], [99951, 100099], "the same with a rest of 50 in the giver")
+    wide = Mesh([10, 10], [0, 0], [1, 1], [128, 128], [20, 20])
+    equal(lagoon.corrections(wide, [9, 1], [10, -10]), [-20, -20], "one correction against the water, one with it")
+    equal(step(wide, [93, 15], [10, -10], [0, 0])[0], [13, 95], "both cancelled, from 9 to 1")
+    steep = CHANNEL._replace(shares=[0, 1, 1, 0])
+    equal(step(steep, [0, 50000, 0], [-80, 80, 80, 80], [0, 0, 0, 0])[0], [0, 0, 50000], "a cancelled correction is not in N")
 
 
 def test_records():

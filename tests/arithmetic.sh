@@ -16,7 +16,8 @@ found 's/= 81188/= 81189/'
 found 's/−6262, 12800 left over/−6263, 12800 left over/'
 found 's/s and K are 0/s and K are 77/'
 found '/worked: step-2/d'
-found 's/93 · 92 \/ 108 = 79/93 · 92 \/ 108 = 80/'
+found 's/285 · 367 \/ 400 = 261/285 · 367 \/ 400 = 262/'
+found 's/99 > 91: 0/99 > 91: 211/'
 
 # the second worked step tells each slip that the page names from the right figures
 python3 tests/test_slips.py

@@ -16,7 +16,9 @@ from worked import CHANNEL, SECOND
 SLIPS = ("s where the second cell is upwind", "correction with the other sign", "quotient rounded down", "q after stage 1 for d",
          "still face met", "rest dropped", "G by V hi alone", "next masses from the low-order masses",
          "s and 256 - s exchanged", "V for K", "outside value not met", "giver not limited",
-         "limit rounded up", "limits multiplied", "P netted")
+         "limit rounded up", "limits multiplied", "P netted", "smoothing corrections kept", "larger and smaller q exchanged",
+         "equal q cancelled", "cancelled by the water's direction", "cancelled by q before the step", "cancelled by unrounded q",
+         "cancelled after P and N")
 
 
 def step(session, slip=None):
@@ -56,7 +58,21 @@ def step(session, slip=None):
             return product // (256 * K)
         return abs(product) // (256 * K) * (-1 if product < 0 else 1)
 
+    def smooths(f):
+        """Whether a correction runs from a larger low-order q to a smaller."""
+        forward = U[f] > 0 if slip == "cancelled by the water's direction" else x[f] > 0
+        giver, receiver = (M.firsts[f], M.seconds[f]) if forward else (M.seconds[f], M.firsts[f])
+        over = [Fraction(mass, V) for mass, V in zip(m if slip == "cancelled by q before the step" else low, M.volumes)]
+        if slip != "cancelled by unrounded q":
+            over = [value // 1 for value in over]
+        if slip == "larger and smaller q exchanged":
+            return over[giver] < over[receiver]
+        return over[giver] >= over[receiver] if slip == "equal q cancelled" else over[giver] > over[receiver]
+
     x = [correction(f) for f in faces]
+    gone_by = [f for f in faces if x[f] and slip != "smoothing corrections kept" and smooths(f)]
+    if slip != "cancelled after P and N":
+        x = [0 if f in gone_by else x[f] for f in faces]
 
     def met(c):
         near = [q[c]]
@@ -83,7 +99,7 @@ def step(session, slip=None):
 
     def limited(f):
         a = abs(x[f])
-        if a == 0:
+        if a == 0 or f in gone_by:
             return 0
         receiver, giver = (M.seconds[f], M.firsts[f]) if x[f] > 0 else (M.firsts[f], M.seconds[f])
         gets, gives = part(a, G[receiver], P[receiver]), part(a, L[giver], N[giver])

@@ -167,14 +167,16 @@ class Step:
         self.carried = same([U * q for U, (_, q) in zip(self.U, self.upwind)], carried)
         self.low = same([masses[c] + self.into(c, carried) - self.out_of(c, carried) for c in self.cells], low)
         self.corrections = same([self.correction_of(f)[-1] for f in self.faces], lagoon.corrections(self.mesh, self.q, self.U))
+        self.low_q = same([m // V for m, V in zip(low, self.mesh.volumes)], lagoon.concentrations(self.mesh.volumes, low))
+        self.kept = same([0 if self.smooths(f) else self.corrections[f] for f in self.faces], lagoon.keep(self.mesh, low, self.corrections))
         self.near = [self.neighbours_of(c) for c in self.cells]
         self.lo, self.hi = [min(near) for near in self.near], [max(near) for near in self.near]
         self.G = [V * hi + V - 1 - m for V, hi, m in zip(self.mesh.volumes, self.hi, low)]
         self.L = [m - V * lo for V, lo, m in zip(self.mesh.volumes, self.lo, low)]
         same((self.G, self.L), lagoon.bounds(self.mesh, low, self.q, self.U, self.outside))
-        self.P = [self.into(c, self.corrections) for c in self.cells]
-        self.N = [self.out_of(c, self.corrections) for c in self.cells]
-        self.limited = same([self.limited_of(f)[-1] for f in self.faces], lagoon.limiter(self.mesh, self.corrections, self.G, self.L))
+        self.P = [self.into(c, self.kept) for c in self.cells]
+        self.N = [self.out_of(c, self.kept) for c in self.cells]
+        self.limited = same([self.limited_of(f)[-1] for f in self.faces], lagoon.limiter(self.mesh, self.kept, self.G, self.L))
         result = lagoon.advance(self.mesh, masses, self.U, self.outside)
         self.moved = same([c + a for c, a in zip(self.carried, self.limited)], result.moved)
         self.next = same([masses[c] + self.into(c, self.moved) - self.out_of(c, self.moved) for c in self.cells], result.masses)
@@ -217,6 +219,18 @@ class Step:
         quotient = abs(product) // (256 * K) * (-1 if product < 0 else 1)
         return d, t, inner, product, 256 * K, quotient
 
+    def runs(self, f):
+        """Giver and receiver of a correction, by its own sign."""
+        ends = self.mesh.firsts[f], self.mesh.seconds[f]
+        return ends if self.corrections[f] > 0 else ends[::-1]
+
+    def smooths(self, f):
+        """Whether a correction runs from a larger low-order q to a smaller."""
+        if self.corrections[f] == 0:
+            return False
+        giver, receiver = self.runs(f)
+        return self.low_q[giver] > self.low_q[receiver]
+
     def neighbours_of(self, c):
         near = [self.q[c]]
         for f in self.faces:
@@ -229,19 +243,18 @@ class Step:
 
     def limited_of(self, f):
         """Receiver, giver, what each lets through, and the limited correction."""
-        a = abs(self.corrections[f])
+        a = abs(self.kept[f])
         if a == 0:
             return (0,)
-        ends = (self.mesh.firsts[f], self.mesh.seconds[f])
-        receiver, giver = ends if self.corrections[f] < 0 else ends[::-1]
+        giver, receiver = self.runs(f)
         gets = a if self.P[receiver] <= self.G[receiver] else a * self.G[receiver] // self.P[receiver]
         gives = a if self.N[giver] <= self.L[giver] else a * self.L[giver] // self.N[giver]
-        return receiver, giver, gets, gives, min(gets, gives) * (-1 if self.corrections[f] < 0 else 1)
+        return receiver, giver, gets, gives, min(gets, gives) * (-1 if self.kept[f] < 0 else 1)
 
     # ------------------------------------------------------------ as text
 
     def lines(self):
-        stages = (self.before(), self.stage_1(), self.stage_2(), self.stage_3(), self.stage_4(), self.stage_5())
+        stages = (self.before(), self.stage_1(), self.stage_2(), self.smoothing(), self.stage_3(), self.stage_4(), self.stage_5())
         return [line for stage in stages for line in [*stage, ""]][:-1]
 
     def given(self):
@@ -280,6 +293,18 @@ class Step:
                           f"        divided by 256 · {K} = {divisor}: {signed(quotient)}, {left if left else 'nothing'} left over"]
         return lines
 
+    def smoothing(self):
+        V = self.mesh.volumes
+        cells = [("cell", "low-order q = low / V")] + [(c, f"{self.low[c]} / {V[c]} = {self.low_q[c]}") for c in self.cells]
+        lines = ["Between stages 2 and 3, corrections that smooth"] + columns(cells)
+        for f in self.faces:
+            if self.corrections[f]:
+                giver, receiver = self.runs(f)
+                a, b = self.low_q[giver], self.low_q[receiver]
+                said = f"{a} > {b}: 0" if a > b else f"{a} {'=' if a == b else '<'} {b}: kept, {signed(self.kept[f])}"
+                lines.append(f"face {f}: from cell {giver} to cell {receiver}, {said}")
+        return lines
+
     def stage_3(self):
         V = self.mesh.volumes
         met = [("cell", "q met", "lo", "hi")] + [(c, ", ".join(map(str, self.near[c])), self.lo[c], self.hi[c]) for c in self.cells]
@@ -290,15 +315,15 @@ class Step:
     def stage_4(self):
         lines = ["Stage 4, limiter"] + columns([("cell", "P", "G", "N", "L")] + [(c, self.P[c], self.G[c], self.N[c], self.L[c]) for c in self.cells])
         for f in self.faces:
-            if self.corrections[f]:
+            if self.kept[f]:
                 receiver, giver, gets, gives, limited = self.limited_of(f)
-                a = abs(self.corrections[f])
+                a = abs(self.kept[f])
                 lines += [f"face {f}: a = {a}, from cell {giver} to cell {receiver}",
                           f"        cell {receiver} has {self.portion('P', self.P, 'G', self.G, receiver, a, gets)}",
                           f"        cell {giver} has {self.portion('N', self.N, 'L', self.L, giver, a, gives)}",
                           f"        limited correction {signed(limited)}, of the lesser size"]
             elif not self.at_rim(f):
-                lines.append(f"face {f}: limited correction 0, as the correction is")
+                lines.append(f"face {f}: limited correction 0, as nothing is kept")
         return lines
 
     def portion(self, sum_name, sums, room_name, rooms, cell, a, result):
@@ -366,11 +391,11 @@ def form():
         empty = "|" + "|".join(" " * (wide + 2) for _, wide in names) + "|"
         return [line, heads, line] + [empty, line] * rows
     cells = [("cell", 4), ("V", 4), ("m", 8), ("q", 6), ("low", 8), ("lo", 5), ("hi", 5), ("next m", 8)]
-    sums = [("cell", 4), ("P", 8), ("G", 8), ("N", 8), ("L", 8), ("next q", 7), ("rest", 5)]
+    sums = [("cell", 4), ("low q", 6), ("P", 7), ("G", 7), ("N", 7), ("L", 7), ("next q", 7), ("rest", 5)]
     faces = [("face", 4), ("U", 4), ("carried", 8), ("d", 6), ("t", 3), ("correction", 10), ("limited", 8), ("moved", 8)]
     return (["Step ______    worked by ____________    checked by ____________", ""]
             + blank(cells, 4) + [""] + blank(sums, 4) + [""] + blank(faces, 5)
-            + ["", "in-mass ________  out-mass ________  total before ________  after ________"])
+            + ["a correction that is not kept is struck out", "", "in-mass ________  out-mass ________  total before ________  after ________"])
 
 
 def binder_page():

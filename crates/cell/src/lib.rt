@@ -9,14 +9,14 @@ ghost use Rattle.lists.specs.Table.{table};
 ghost use Rattle.model.specs.Mesh.{rim, maxCells};
 ghost use Rattle.cell.specs.Work.{ofCell, filled, widened, widenedAcross, allowancesOf, CellAsks};
 
-// In passes 1 and 2: the cell's concentration, and the least and the greatest in its neighbourhood.
+// In passes 1 to 4: the cell's concentration, low-order from pass 3 on, and the least and the greatest in its neighbourhood.
 pub const Q: usize = 0;
 
 pub const LO: usize = 1;
 
 pub const HI: usize = 2;
 
-// From pass 3 on: the sum of corrections that enter, what the cell may lose and gain, the sum of those that leave.
+// From pass 5 on: the sum of corrections that enter, what the cell may lose and gain, the sum of those that leave.
 pub const P: usize = 0;
 
 pub const L: usize = 1;

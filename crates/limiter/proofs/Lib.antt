@@ -1,3 +1,2 @@
-pub mod CorrectionLaws
 pub mod SumLaws
 pub mod LimiterLaws

@@ -1,4 +1,4 @@
--- The fifth pass, face by face: limited corrections join the moved masses and the next masses.
+-- The seventh pass, face by face: limited corrections join the moved masses and the next masses.
 use Prim.Native.Nat.{ℕ, _+_, _*_, _/_, _%_, _^_, _≤_, _<_}
 use mathlib.Core.Path.{_≡_, refl, _∙_}
 use mathlib.Core.Logic.{_≢_}
@@ -22,8 +22,9 @@ use Rattle.face.specs.Exchange.{Transferred}
 use Rattle.face.proofs.Flows.{flow-start, flow-afford, flow-room, flow-turn}
 use Rattle.cell.specs.Work.{ofCell}
 use Rattle.cell.proofs.Places.{cell-in}
-use Rattle.limiter.specs.Limiter.{enters, leaves, corrections, cutOf, limitedOf, limitedIn, CutAsks, CutDone, LimitAsks, Limited}
-use Rattle.limiter.proofs.CorrectionLaws.{code, size-is, inside, enters-in, leaves-in}
+use Rattle.smoothing.specs.Corrections.{enters, leaves, corrections}
+use Rattle.limiter.specs.Limiter.{cutOf, limitedOf, limitedIn, CutAsks, CutDone, LimitAsks, Limited}
+use Rattle.smoothing.proofs.CorrectionLaws.{code, size-is, inside, enters-in, leaves-in}
 
 pub limited-start : (M : Mesh) (work next : List ℕ) (moved : List ℤ) → length next ≡ M .cells → Limited M work next moved 0 next moved
 limited-start M work next moved e =

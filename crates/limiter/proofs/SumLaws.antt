@@ -1,4 +1,4 @@
--- The fourth pass, face by face.
+-- The sixth pass, face by face.
 use Prim.Native.Nat.{ℕ, _+_, _*_, _/_, _%_, _^_, _<_}
 use mathlib.Core.Path.{_≡_, refl, _∙_}
 use mathlib.Core.Logic.{_≢_}
@@ -18,8 +18,9 @@ use Rattle.face.proofs.Transfers.{raised-at, brings-is, takes-is}
 use Rattle.cell.specs.Work.{ofCell, ofFace}
 use Rattle.cell.proofs.Places.{cell-in, slot-in}
 use Rattle.cell.proofs.Slots.{same-slot, slot-set, slot-face}
-use Rattle.limiter.specs.Limiter.{enters, leaves, raised, correctionAdded, corrections, CorrectionsIn, Unsummed, CorrectionSums}
-use Rattle.limiter.proofs.CorrectionLaws.{code, inside, enters-in, leaves-in}
+use Rattle.smoothing.specs.Corrections.{enters, leaves, corrections, CorrectionsIn}
+use Rattle.limiter.specs.Limiter.{raised, correctionAdded, Unsummed, CorrectionSums}
+use Rattle.smoothing.proofs.CorrectionLaws.{code, inside, enters-in, leaves-in}
 
 -- entry 0 of cell r and entry 3 of cell g raised by n
 module _ (w : List ℕ) (r g n : ℕ) where

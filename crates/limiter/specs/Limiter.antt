@@ -3,49 +3,23 @@ use Prim.Native.Nat.{ℕ, _+_, _-_, _*_, _/_, _%_, _^_, _≤_, _<_, min}
 use mathlib.Core.Path.{_≡_}
 use mathlib.Core.Logic.{_≢_}
 use mathlib.Core.Bool.{cond}
-use mathlib.Core.List.{List, []}
+use mathlib.Core.List.{List}
 use lib.Dec.{eqb}
 use lib.IntN.{ℤ, pos, _+ℤ_}
 use lib.ListN.{length, getD, set}
 use Rattle.lists.specs.Fold.{sum}
 use Rattle.signed.specs.Sign.{size, withSign}
 use Rattle.model.specs.Accepted.{maxCarried, maxMass}
-use Rattle.model.specs.Mesh.{Mesh, meshOf, rim, maxFaces, entering, leaving, incoming, outgoing, first, second}
+use Rattle.model.specs.Mesh.{Mesh, rim, entering, leaving, incoming, outgoing}
 use Rattle.model.specs.Step.{portion, limitedBy}
-use Rattle.face.specs.Correction.{decoded}
 use Rattle.face.specs.Exchange.{brings, takes, Transferred, EndsIn, Flowing}
 use Rattle.cell.specs.Work.{ofCell, ofFace, Filling}
+use Rattle.smoothing.specs.Corrections.{enters, leaves, corrections, CorrectionsIn}
 
--- Pass 3, after the cells below i: their entries are 0, L, G and 0, from the bounds in w and the low-order masses
+-- Pass 5, after the cells below i: their entries are 0, L, G and 0, from the bounds in w and the low-order masses
 abbrev pub Allowances : (volumes next w : List ℕ) → ℕ → List ℕ → Type 0
 Allowances volumes next w =
     Filling w (λ c. 0) (λ c. getD next c 0 - getD volumes c 0 * ofCell w c 1) (λ c. getD volumes c 0 * ofCell w c 2 + getD volumes c 0 - 1 - getD next c 0) (λ c. 0)
-
--- a mesh of which only the faces' ends matter
-abbrev pub endsOf : ℕ → ℕ → List ℕ → List ℕ → Mesh
-endsOf cells faces firsts seconds = meshOf cells faces [] firsts seconds [] []
-
--- the cell that a correction in one number enters, and the one that it leaves
-abbrev pub enters : ℕ → ℕ → ℕ → ℕ
-enters code l k = cond (eqb (code % 2) 1) l k
-
-abbrev pub leaves : ℕ → ℕ → ℕ → ℕ
-leaves code l k = cond (eqb (code % 2) 1) k l
-
--- the corrections that work w holds in its faces' entries
-abbrev pub corrections : ℕ → List ℕ → ℕ → ℤ
-corrections cells w f = decoded (ofFace w cells f)
-
--- they are small, and none crosses the rim
-pub record CorrectionsIn (M : Mesh) (w : List ℕ) : Type 0 where
-  pub few-cells : M .cells ≤ rim
-  pub few-faces : M .faces ≤ maxFaces
-  pub firsts-long : M .faces ≤ length (M .firsts)
-  pub seconds-long : M .faces ≤ length (M .seconds)
-  pub work-long : length w ≡ 4 * M .cells + M .faces
-  pub ends : (f : ℕ) → f < M .faces → EndsIn (M .cells) (first M f) (second M f)
-  pub rim-none : (f : ℕ) → f < M .faces → second M f ≡ rim → size (corrections (M .cells) w f) ≡ 0
-  pub size-most : (f : ℕ) → f < M .faces → size (corrections (M .cells) w f) ≤ maxCarried
 
 -- the sums have not begun
 pub record Unsummed (cells : ℕ) (w : List ℕ) : Type 0 where
@@ -60,7 +34,7 @@ raised w i n = set w i (getD w i 0 + n)
 unfoldable pub correctionAdded : List ℕ → ℕ → ℕ → ℕ → List ℕ
 correctionAdded w l k code = cond (eqb (code / 2) 0) w (raised (raised w (4 * enters code l k + 0) (code / 2)) (4 * leaves code l k + 3) (code / 2))
 
--- Pass 4, after the faces below f: entry 0 of a cell has gained what enters it, entry 3 what leaves it
+-- Pass 6, after the faces below f: entry 0 of a cell has gained what enters it, entry 3 what leaves it
 pub record CorrectionSums (M : Mesh) (w : List ℕ) (f : ℕ) (work : List ℕ) : Type 0 where
   pub same-length : length work ≡ length w
   pub p-at : (c : ℕ) → c < M .cells → ofCell work c 0 ≡ ofCell w c 0 + sum f (entering M (corrections (M .cells) w) c)
@@ -77,7 +51,7 @@ cutOf w code r g = min (portion (code / 2) (ofCell w r 2) (ofCell w r 0)) (porti
 unfoldable pub limitedOf : List ℕ → ℕ → ℕ → ℕ → ℤ
 limitedOf w code l k = cond (eqb (code / 2) 0) (pos 0) (withSign (eqb (code % 2) 1) (cutOf w code (enters code l k) (leaves code l k)))
 
--- one face of pass 5
+-- one face of pass 7
 pub record CutAsks (f l k code : ℕ) (next : List ℕ) (moved : List ℤ) (work : List ℕ) : Type 0 where
   pub ends : EndsIn (length next) l k
   pub inside : code / 2 ≢ 0 → (4 * l + 3 < length work) × (4 * k + 3 < length work) × (l < rim) × (k < rim)
@@ -94,7 +68,7 @@ pub record CutDone (f l k code : ℕ) (work next next′ : List ℕ) (moved move
   pub moved-long : length moved′ ≡ length moved
   pub moved-at : (g : ℕ) → getD moved′ g (pos 0) ≡ cond (eqb f g) (getD moved f (pos 0) +ℤ limitedOf work code l k) (getD moved g (pos 0))
 
--- Pass 5: the corrections in work, limited by the G, L, P and N that stand there
+-- Pass 7: the corrections in work, limited by the G, L, P and N that stand there
 abbrev pub limitedIn : Mesh → List ℕ → ℕ → ℤ
 limitedIn M w = limitedBy M (λ c. ofCell w c 2) (λ c. ofCell w c 1) (corrections (M .cells) w)
 

@@ -15,9 +15,10 @@ ghost use lib.ListN.{length, getD};
 ghost use Rattle.model.specs.Step.{portion as portionOf};
 ghost use Rattle.model.specs.Mesh.{maxCells};
 ghost use Rattle.cell.specs.Work.{ofCell, CellAsks};
-ghost use Rattle.limiter.specs.Limiter.{Allowances, enters, leaves, correctionAdded, endsOf, CorrectionsIn, Unsummed, CorrectionSums, CutAsks, CutDone, LimitAsks, Limited};
+ghost use Rattle.smoothing.specs.Corrections.{enters, leaves, endsOf, CorrectionsIn};
+ghost use Rattle.limiter.specs.Limiter.{Allowances, correctionAdded, Unsummed, CorrectionSums, CutAsks, CutDone, LimitAsks, Limited};
 
-// Third pass: what each cell may lose and gain.
+// Fifth pass: what each cell may lose and gain.
 pub fn allowances(cells: usize, volumes: &[u64], next: &[u64], work: &mut [u64])
     requires { ⌜ (cells ≤ maxCells) × (cells ≤ length (now volumes)) × (cells ≤ length (now next)) × (4 * cells ≤ length (now work)) ⌝ }
     requires { ⌜ ((c : ℕ) → c < cells → CellAsks (getD (now volumes) c 0) (getD (now next) c 0) (ofCell (now work) c 1) (ofCell (now work) c 2)) ⌝ }
@@ -48,7 +49,7 @@ pub fn add_correction(work: &mut [u64], first: u64, second: u64, code: u64)
     raise(work, 4 * (giver as usize) + N, size);
 }
 
-// Fourth pass: the sums of the corrections that enter and that leave each cell.
+// Sixth pass: the sums of the corrections that enter and that leave each cell.
 pub fn sum_corrections(
     cells: usize,
     faces: usize,
@@ -116,7 +117,7 @@ pub fn limit_face(
     transfer(next, first, second, negative, amount);
 }
 
-// Fifth pass: the limited corrections.
+// Seventh pass: the limited corrections.
 pub fn limit(
     cells: usize,
     faces: usize,

@@ -1,4 +1,4 @@
--- Two meshes that are alike: what passes through their faces, and what the limiter leaves of it. Both ends of a face go together, so that
+-- Two meshes that are alike: what passes through their faces, what is kept of it, and what the limiter leaves. Both ends of a face go together, so that
 -- a turn is one rewrite; an amount of 0 is split off first.
 use Prim.Native.Nat.{ℕ, _<_, min}
 use mathlib.Core.Path.{_≡_, refl, sym, ap, _∙_}
@@ -8,17 +8,37 @@ use native.Mathlib.Omega.{arith}
 use borrow.Author.Tests.{ne-eqb}
 use lib.Dec.{eqb}
 use lib.IntN.{ℤ, pos}
-use Rattle.lists.proofs.Tests.{Same, same, other, same?}
+use Rattle.lists.proofs.Tests.{Same, same, other, same?, cond-same}
 use Rattle.signed.specs.Sign.{isNegative, isZero, size, withSign, turn}
 use Rattle.signed.proofs.Laws.{isZero-size, size-zero}
 use Rattle.model.specs.Mesh.{Mesh, first, second, atRim, rim, entering, leaving, incoming, outgoing, updated}
-use Rattle.model.specs.Step.{portion, receiver, giver, limitedBy}
+use Rattle.model.specs.Step.{portion, receiver, giver, smooths, keptBy, limitedBy}
 use Rattle.model.specs.Accepted.{Joined}
 use Rattle.model.proofs.Limit.{portion-zero}
 use Rattle.lists.specs.Renumbering.{Renumbering}
 use Rattle.model.specs.Alike.{Facing, straight, turned, AlikeEnds}
 use Rattle.lists.proofs.Renumbered.{sum-renumbered, renumbered-eqb}
 use Rattle.signed.proofs.Turns.{size-turn, isZero-turn, turn-zero, turn-passes, turn-negative, turn-withSign}
+
+-- a correction z from l to k, kept or not
+abbrev keep : (ℕ → ℕ) → ℤ → ℕ → ℕ → ℤ
+keep q z l k = cond (smooths (q (cond (isNegative z) k l)) (q (cond (isNegative z) l k))) (pos 0) z
+
+keep-nothing : (q : ℕ → ℕ) (z : ℤ) (l k : ℕ) → isZero z ≡ true → keep q z l k ≡ pos 0
+keep-nothing q z l k e = let n = size-zero z (isZero-size z e) in rw n (cond-same (smooths (q l) (q k)) (pos 0))
+
+keep-turned : (n : ℕ) (new : ℕ → ℕ) (q q′ : ℕ → ℕ) → ((c : ℕ) → c < n → q′ (new c) ≡ q c) → (t : Bool) (z : ℤ) (l k : ℕ) → isZero z ≡ false → l < n → k < n
+    → keep q′ (turn t z) (cond t (new k) (new l)) (cond t (new l) (new k)) ≡ turn t (keep q z l k)
+keep-turned n new q q′ g t z l k s hl hk = rw (turn-negative t z (new l) (new k) s, turn-negative t z (new k) (new l) s) (go (isNegative z))
+  where
+    either : (b : Bool) → cond b (pos 0) (turn t z) ≡ turn t (cond b (pos 0) z)
+    either true = sym (turn-zero t)
+    either false = refl
+
+    go : (b : Bool)
+        → cond (smooths (q′ (cond b (new k) (new l))) (q′ (cond b (new l) (new k)))) (pos 0) (turn t z) ≡ turn t (cond (smooths (q (cond b k l)) (q (cond b l k))) (pos 0) z)
+    go true = rw (g k hk, g l hl) (either (smooths (q k) (q l)))
+    go false = rw (g l hl, g k hk) (either (smooths (q l) (q k)))
 
 -- a correction z from l to k, limited
 abbrev limit : (ℕ → ℕ) → (ℕ → ℕ) → (ℕ → ℕ) → (ℕ → ℕ) → ℤ → ℕ → ℕ → ℤ
@@ -85,6 +105,12 @@ module _ (M M′ : Mesh) (j : Joined M) (cell : Renumbering (M .cells)) (face : 
       go false (straight p q) = rw q (at-second (atRim M f) (same? (second M f) rim))
       go true (turned d p q) = rw (q, ne-eqb (second M f) rim d) (inside (first M f) (j .first-in f l))
 
+  -- both ends of an interior face
+  ends-alike : (f : ℕ) → second M f ≢ rim → (t : Bool) → Facing M M′ (cell .new) f (face .new f) t
+      → (first M′ (face .new f) ≡ cond t (cell .new (second M f)) (cell .new (first M f))) × (second M′ (face .new f) ≡ cond t (cell .new (first M f)) (cell .new (second M f)))
+  ends-alike f d false (straight p q) = (p, q ∙ rw (ne-eqb (second M f) rim d))
+  ends-alike f d true (turned _ p q) = (p, q)
+
   -- amounts carried along
   module _ (x x′ : ℕ → ℤ) (along : (f : ℕ) → f < M .faces → x′ (face .new f) ≡ turn (turns f) (x f)) where
     pub incoming-alike : (c : ℕ) → c < M .cells → incoming M′ x′ (cell .new c) ≡ incoming M x c
@@ -103,17 +129,27 @@ module _ (M M′ : Mesh) (j : Joined M) (cell : Renumbering (M .cells)) (face : 
     unfolding updated
     updated-alike m m′ e c h = rw (e c h, incoming-alike c h, outgoing-alike c h)
 
+    -- Document 02's S-5, for a correction that is 0 at the rim.
+    pub kept-alike : (q q′ : ℕ → ℕ) → ((c : ℕ) → c < M .cells → q′ (cell .new c) ≡ q c)
+        → (f : ℕ) → f < M .faces → (isZero (x f) ≡ false → second M f ≢ rim) → keptBy M′ q′ x′ (face .new f) ≡ turn (turns f) (keptBy M q x f)
+    unfolding keptBy receiver giver
+    kept-alike q q′ e f l within = rw (along f l) (go (isZero (x f)) refl)
+      where
+        go : (b : Bool) → isZero (x f) ≡ b
+            → keep q′ (turn (turns f) (x f)) (first M′ (face .new f)) (second M′ (face .new f)) ≡ turn (turns f) (keep q (x f) (first M f) (second M f))
+        go true z = keep-nothing q′ (turn (turns f) (x f)) (first M′ (face .new f)) (second M′ (face .new f)) (isZero-turn (turns f) (x f) ∙ z)
+            ∙ sym (ap (turn (turns f)) (keep-nothing q (x f) (first M f) (second M f) z) ∙ turn-zero (turns f))
+        go false z =
+            let d = within z in
+            let p = ends-alike f d (turns f) (a .facing f l) in
+            rw (p .0, p .1) (keep-turned (M .cells) (cell .new) q q′ e (turns f) (x f) (first M f) (second M f) z (j .first-in f l) (j .second-in f l d))
+
     -- The limiter, for a correction that is 0 at the rim.
     pub limited-alike : (gain gain′ loss loss′ : ℕ → ℕ) → ((c : ℕ) → c < M .cells → gain′ (cell .new c) ≡ gain c) → ((c : ℕ) → c < M .cells → loss′ (cell .new c) ≡ loss c)
         → (f : ℕ) → f < M .faces → (isZero (x f) ≡ false → second M f ≢ rim) → limitedBy M′ gain′ loss′ x′ (face .new f) ≡ turn (turns f) (limitedBy M gain loss x f)
     unfolding limitedBy receiver giver
     limited-alike gain gain′ loss loss′ g e f l within = rw (along f l) (go (isZero (x f)) refl)
       where
-        ends : second M f ≢ rim → (t : Bool) → Facing M M′ (cell .new) f (face .new f) t
-            → (first M′ (face .new f) ≡ cond t (cell .new (second M f)) (cell .new (first M f))) × (second M′ (face .new f) ≡ cond t (cell .new (first M f)) (cell .new (second M f)))
-        ends d false (straight p q) = (p, q ∙ rw (ne-eqb (second M f) rim d))
-        ends d true (turned _ p q) = (p, q)
-
         go : (b : Bool) → isZero (x f) ≡ b
             → limit gain′ (incoming M′ x′) loss′ (outgoing M′ x′) (turn (turns f) (x f)) (first M′ (face .new f)) (second M′ (face .new f))
             ≡ turn (turns f) (limit gain (incoming M x) loss (outgoing M x) (x f) (first M f) (second M f))
@@ -121,6 +157,6 @@ module _ (M M′ : Mesh) (j : Joined M) (cell : Renumbering (M .cells)) (face : 
             ∙ sym (ap (turn (turns f)) (limit-nothing gain (incoming M x) loss (outgoing M x) (x f) (first M f) (second M f) z) ∙ turn-zero (turns f))
         go false z =
             let d = within z in
-            let p = ends d (turns f) (a .facing f l) in
+            let p = ends-alike f d (turns f) (a .facing f l) in
             rw (p .0, p .1) (limit-turned (M .cells) (cell .new) gain (incoming M x) loss (outgoing M x) gain′ (incoming M′ x′) loss′ (outgoing M′ x′)
             g incoming-alike e outgoing-alike (turns f) (x f) (first M f) (second M f) z (j .first-in f l) (j .second-in f l d))

@@ -1,7 +1,7 @@
 -- Two steps that are alike: stage after stage each quantity is the other's at the new number, a face's turned with it. Both sides of a face
 -- go together.
-use Prim.Native.Nat.{ℕ, _-_, _*_, _≤_, _<_}
-use mathlib.Core.Path.{_≡_, refl, sym, ap, _∙_}
+use Prim.Native.Nat.{ℕ, _-_, _*_, _/_, _≤_, _<_}
+use mathlib.Core.Path.{_≡_, refl, sym, ap, ap₂, _∙_}
 use mathlib.Core.Logic.{_≢_}
 use mathlib.Core.Bool.{Bool, true, false, cond, _||_, true≢false}
 use native.Mathlib.Omega.{arith}
@@ -13,13 +13,14 @@ use Rattle.lists.specs.Fold.{sum, least, greatest}
 use Rattle.lists.proofs.Tests.{Same, same, other, same?}
 use Rattle.signed.specs.Sign.{isNegative, isZero, size, forward, backward, turn}
 use Rattle.model.specs.Mesh.{Mesh, first, second, share, reach, atRim, rim, maxShare}
-use Rattle.model.specs.Step.{StepInput, flux, outside, mass, concentration, beyond, upwind, downwind, carried, low, upwindShare, correction, adjacent, lo, hi, maxGain, maxLoss, limited, moved, next, inMass, outMass}
+use Rattle.model.specs.Step.{StepInput, flux, outside, mass, concentration, beyond, upwind, downwind, carried, low, upwindShare, correction, lowConcentration, kept, adjacent, lo, hi, maxGain, maxLoss, limited, moved, next, inMass, outMass}
 use Rattle.model.specs.Accepted.{Joined, MeshFit}
+use Rattle.model.proofs.Limit.{kept-either}
 use Rattle.lists.specs.Renumbering.{Renumbering}
 use Rattle.model.specs.Alike.{Facing, straight, turned, AlikeEnds, Alike}
 use Rattle.lists.proofs.Renumbered.{sum-renumbered, least-renumbered, greatest-renumbered}
 use Rattle.signed.proofs.Turns.{size-turn, isZero-turn, turn-zero, turn-add, turn-mul, turn-quot, turn-carries, turn-negative}
-use Rattle.model.proofs.AlikeFaces.{rim-same, first-is, second-is, updated-alike, limited-alike}
+use Rattle.model.proofs.AlikeFaces.{rim-same, first-is, second-is, updated-alike, kept-alike, limited-alike}
 
 pub joined : (M : Mesh) → M .cells ≤ rim → MeshFit M → Joined M
 joined M few fit = record { few = few; first-in = fit .first-in; second-in = fit .second-in }
@@ -114,6 +115,20 @@ module _ (S S′ : StepInput) (few : S .mesh .cells ≤ rim) (fit : MeshFit (S .
   unfolding correction
   corrected-within f e d = true≢false (sym (rw (eq-eqb (second M f) rim d)) ∙ e)
 
+  -- document 02's S-5
+  pub low-concentration-alike : (c : ℕ) → c < M .cells → lowConcentration S′ (cell .new c) ≡ lowConcentration S c
+  unfolding lowConcentration
+  low-concentration-alike c h = ap₂ (λ (m v : ℕ). m / v) (low-alike c h) (a .mesh-alike .volume-same c h)
+
+  pub kept-correction-alike : (f : ℕ) → f < M .faces → kept S′ (face .new f) ≡ turn (turns f) (kept S f)
+  unfolding kept
+  kept-correction-alike f l = kept-alike M M′ j cell face turns ends (correction S) (correction S′) correction-alike
+      (lowConcentration S) (lowConcentration S′) low-concentration-alike f l (corrected-within f)
+
+  kept-within : (f : ℕ) → isZero (kept S f) ≡ false → second M f ≢ rim
+  unfolding kept
+  kept-within f = kept-either (λ z. isZero z ≡ false → second M f ≢ rim) M (lowConcentration S) (correction S) f (corrected-within f) (λ e. absurd (true≢false e))
+
   -- stage 3
   adjacent-alike : (c f : ℕ) → c < M .cells → f < M .faces → adjacent S′ (cell .new c) (face .new f) ≡ adjacent S c f
   unfolding adjacent beyond
@@ -166,8 +181,8 @@ module _ (S S′ : StepInput) (few : S .mesh .cells ≤ rim) (fit : MeshFit (S .
   -- stages 4 and 5
   pub limit-alike : (f : ℕ) → f < M .faces → limited S′ (face .new f) ≡ turn (turns f) (limited S f)
   unfolding limited
-  limit-alike f l = limited-alike M M′ j cell face turns ends (correction S) (correction S′) correction-alike
-      (maxGain S) (maxGain S′) (maxLoss S) (maxLoss S′) gain-alike loss-alike f l (corrected-within f)
+  limit-alike f l = limited-alike M M′ j cell face turns ends (kept S) (kept S′) kept-correction-alike
+      (maxGain S) (maxGain S′) (maxLoss S) (maxLoss S′) gain-alike loss-alike f l (kept-within f)
 
   pub moved-alike : (f : ℕ) → f < M .faces → moved S′ (face .new f) ≡ turn (turns f) (moved S f)
   unfolding moved

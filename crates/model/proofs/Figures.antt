@@ -1,5 +1,5 @@
--- Document 01, "Figures by hand": the lines marked P, gathered and proved together, and figures that hold the slips off which
--- those lines leave open.
+-- Document 01, "Figures by hand": the lines marked P, gathered and proved together, those of document 02's S-5, and figures that hold
+-- the slips off which those lines leave open.
 use Prim.Native.Nat.{ℕ, suc, _<_}
 use mathlib.Core.Path.{_≡_, refl}
 use mathlib.Core.Bool.{true}
@@ -10,7 +10,7 @@ use Rattle.lists.specs.Fold.{sum, least, greatest}
 use Rattle.lists.specs.Table.{table, over}
 use Rattle.signed.specs.Sign.{isNegative}
 use Rattle.model.specs.Mesh.{Mesh, second, rim, entering, leaving, incoming, outgoing, updated}
-use Rattle.model.specs.Step.{StepInput, flux, outside, mass, inMass, next, moved, concentration, beyond, upwind, downwind, carried, low, upwindShare, correction, adjacent, lo, hi, maxGain, maxLoss, receiver, giver, limitedBy, limited, portion}
+use Rattle.model.specs.Step.{StepInput, flux, outside, mass, inMass, next, moved, concentration, beyond, upwind, downwind, carried, low, upwindShare, correction, smooths, keptBy, lowConcentration, kept, adjacent, lo, hi, maxGain, maxLoss, receiver, giver, limitedBy, limited, portion}
 use Rattle.model.specs.Causes.{Call, inputOf, fine, refused, _andThen_, need, each, countsWithin, counts, meshTables, volumeGood, endsGood, spacingGood, meshValues, fieldTable, saltGood, fieldValues, fieldVerdict, stepTables, outsideGood, fluxGood, balanceGood, outflowGood, stepValues, verdict}
 use Rattle.model.specs.Calls.{corrected, stepOnTables, nextTable, afterAll, totalIn, totalOut}
 use Rattle.model.proofs.Accepted.{ready}
@@ -18,7 +18,7 @@ use Rattle.model.proofs.Uniform.{uniform, no-faces}
 
 -- a name for all that a figure computes through: to unfold it is to unfold what its `unfolding` line names
 everything : Unit {0}
-unfolding afterAll totalIn totalOut stepOnTables nextTable inMass over verdict counts countsWithin meshTables fieldTable stepTables meshValues fieldValues saltGood stepValues volumeGood endsGood spacingGood outsideGood fluxGood balanceGood outflowGood need each _andThen_ table sum least greatest entering leaving incoming outgoing updated next moved concentration beyond upwind downwind carried low upwindShare correction adjacent lo hi maxGain maxLoss receiver giver limitedBy limited portion fieldVerdict
+unfolding afterAll totalIn totalOut stepOnTables nextTable inMass over verdict counts countsWithin meshTables fieldTable stepTables meshValues fieldValues saltGood stepValues volumeGood endsGood spacingGood outsideGood fluxGood balanceGood outflowGood need each _andThen_ table sum least greatest entering leaving incoming outgoing updated next moved concentration beyond upwind downwind carried low upwindShare correction smooths keptBy lowConcentration kept adjacent lo hi maxGain maxLoss receiver giver limitedBy limited portion fieldVerdict
 everything = tt
 
 -- "The board and the run", the channel session: its mesh, the call of its two steps, and what that works on
@@ -75,7 +75,7 @@ pub record Figures : Type 0 where
   -- 3: two cells of V 10 that exchange their water over two faces
   pub exchange-accepted : verdict pair (93 ∷ 15 ∷ []) exchangeCall ≡ fine
   pub exchange : table 2 (next (inputOf pair (93 ∷ 15 ∷ []) exchangeCall)) ≡ 13 ∷ 95 ∷ []
-  -- 4 and 5: the correction of one face, of size 0 and of size 49609
+  -- 4 and 5: the correction of one face, of size 0 and of size 49609: the quotient, before document 02's S-5
   pub correction-none : correction (between 3 0 (pos 1) 128 2) 0 ≡ pos 0
   pub correction-downwind : correction (between 1000 0 (pos 100) 1 100) 0 ≡ pos 49609
   -- 6: one concentration everywhere, for every mesh and every concentration
@@ -177,6 +177,99 @@ figures = record {
   outflow-101 = outflow-101-is;
   alone-accepted = alone-accepted-is;
   alone = λ v m. no-faces (inputOf (lake v) (m ∷ []) lakeCall) refl 0;
+}
+
+-- Document 02, S-5. Two cells of V 100 in a row, with line 5's face between them; U through them, and 1000 outside.
+abbrev pub sluice : Mesh
+sluice = record { cells = 2; faces = 3; volumes = 100 ∷ 100 ∷ []; firsts = 0 ∷ 0 ∷ 1 ∷ []; seconds = rim ∷ 1 ∷ rim ∷ []; shares = 0 ∷ 1 ∷ 0 ∷ []; reaches = 0 ∷ 100 ∷ 0 ∷ [] }
+
+abbrev pub sluiceCall : ℕ → Call
+sluiceCall u = record { fluxes = negsuc u ∷ pos (suc u) ∷ pos (suc u) ∷ []; outsides = 1000 ∷ 0 ∷ 0 ∷ []; nexts = 0 ∷ 0 ∷ []; moveds = pos 0 ∷ pos 0 ∷ pos 0 ∷ []; work = replicate 11 0 }
+
+abbrev pub sluiceStep : ℕ → List ℕ → StepInput
+sluiceStep u masses = inputOf sluice masses (sluiceCall u)
+
+-- line 3's two cells with K 20, so that each face has a correction
+abbrev pub widePair : Mesh
+widePair = record { cells = 2; faces = 2; volumes = 10 ∷ 10 ∷ []; firsts = 0 ∷ 0 ∷ []; seconds = 1 ∷ 1 ∷ []; shares = 128 ∷ 128 ∷ []; reaches = 20 ∷ 20 ∷ [] }
+
+abbrev pub wideStep : StepInput
+wideStep = inputOf widePair (93 ∷ 15 ∷ []) exchangeCall
+
+-- the channel with s 1, and U 80 through it from fresh water
+abbrev pub steepStep : StepInput
+steepStep = record {
+  mesh = record { cells = 3; faces = 4; volumes = 100 ∷ 100 ∷ 100 ∷ []; firsts = 0 ∷ 0 ∷ 1 ∷ 2 ∷ []; seconds = rim ∷ 1 ∷ 2 ∷ rim ∷ []; shares = 0 ∷ 1 ∷ 1 ∷ 0 ∷ []; reaches = 0 ∷ 100 ∷ 100 ∷ 0 ∷ [] };
+  masses = 0 ∷ 50000 ∷ 0 ∷ [];
+  fluxes = negsuc 79 ∷ pos 80 ∷ pos 80 ∷ pos 80 ∷ [];
+  outsides = 0 ∷ 0 ∷ 0 ∷ 0 ∷ [];
+}
+
+pub record KeptFigures : Type 0 where
+  -- cancelled: U 90 leaves low-order q 1000 and 900, and the correction would run from 1000 to 900
+  pub cancelled-accepted : verdict sluice (100000 ∷ 0 ∷ []) (sluiceCall 89) ≡ fine
+  pub cancelled-low : table 2 (lowConcentration (sluiceStep 89 (100000 ∷ 0 ∷ []))) ≡ 1000 ∷ 900 ∷ []
+  pub cancelled-correction : correction (sluiceStep 89 (100000 ∷ 0 ∷ [])) 1 ≡ pos 40148
+  pub cancelled : kept (sluiceStep 89 (100000 ∷ 0 ∷ [])) 1 ≡ pos 0
+  pub cancelled-next : table 2 (next (sluiceStep 89 (100000 ∷ 0 ∷ []))) ≡ 100000 ∷ 90000 ∷ []
+  -- equal: U 100 leaves 1000 in both cells; line 5's 49609 is kept, and the limiter cuts it to 99
+  pub equal-accepted : verdict sluice (100000 ∷ 0 ∷ []) (sluiceCall 99) ≡ fine
+  pub equal-low : table 2 (lowConcentration (sluiceStep 99 (100000 ∷ 0 ∷ []))) ≡ 1000 ∷ 1000 ∷ []
+  pub equal-correction : correction (sluiceStep 99 (100000 ∷ 0 ∷ [])) 1 ≡ pos 49609
+  pub equal-kept : kept (sluiceStep 99 (100000 ∷ 0 ∷ [])) 1 ≡ pos 49609
+  pub equal-next : table 2 (next (sluiceStep 99 (100000 ∷ 0 ∷ []))) ≡ 99901 ∷ 100099 ∷ []
+  -- rounded: the same with a rest of 50 in the giver, so that low-order masses are 100050 and 100000, and low-order q equal
+  pub rounded-accepted : verdict sluice (100050 ∷ 0 ∷ []) (sluiceCall 99) ≡ fine
+  pub rounded-masses : table 2 (low (sluiceStep 99 (100050 ∷ 0 ∷ []))) ≡ 100050 ∷ 100000 ∷ []
+  pub rounded-low : table 2 (lowConcentration (sluiceStep 99 (100050 ∷ 0 ∷ []))) ≡ 1000 ∷ 1000 ∷ []
+  pub rounded-kept : kept (sluiceStep 99 (100050 ∷ 0 ∷ [])) 1 ≡ pos 49609
+  pub rounded-next : table 2 (next (sluiceStep 99 (100050 ∷ 0 ∷ []))) ≡ 99951 ∷ 100099 ∷ []
+  -- against the water: both corrections run from cell 1, at 9, to cell 0, at 1; the water of face 0 runs from cell 0 to cell 1
+  pub against-accepted : verdict widePair (93 ∷ 15 ∷ []) exchangeCall ≡ fine
+  pub against-low : table 2 (lowConcentration wideStep) ≡ 1 ∷ 9 ∷ []
+  pub against-corrections : table 2 (correction wideStep) ≡ negsuc 19 ∷ negsuc 19 ∷ []
+  pub against-kept : table 2 (kept wideStep) ≡ pos 0 ∷ pos 0 ∷ []
+  pub against-next : table 2 (next wideStep) ≡ 13 ∷ 95 ∷ []
+  -- in neither P nor N: cell 1, at 100, gives to cell 0, at 0, and to cell 2, at 400. Only the second counts in N, so all of L goes there.
+  pub uncounted-low : table 3 (lowConcentration steepStep) ≡ 0 ∷ 100 ∷ 400 ∷ []
+  pub uncounted-corrections : table 4 (correction steepStep) ≡ pos 0 ∷ negsuc 15842 ∷ pos 15843 ∷ pos 0 ∷ []
+  pub uncounted-kept : table 4 (kept steepStep) ≡ pos 0 ∷ pos 0 ∷ pos 15843 ∷ pos 0 ∷ []
+  pub uncounted-room : maxLoss steepStep 1 ≡ 10000
+  pub uncounted-next : table 3 (next steepStep) ≡ 0 ∷ 0 ∷ 50000 ∷ []
+  -- against the water too, and kept: channel step 1, from cell 1, at 500, to cell 0, at 1000
+  pub channel-low : table 3 (lowConcentration (channelStep (100000 ∷ 0 ∷ 0 ∷ []))) ≡ 1000 ∷ 500 ∷ 0 ∷ []
+  pub channel-kept : kept (channelStep (100000 ∷ 0 ∷ 0 ∷ [])) 1 ≡ negsuc 12499
+
+pub kept-figures : KeptFigures
+unfolding everything
+kept-figures = record {
+  cancelled-accepted = refl;
+  cancelled-low = refl;
+  cancelled-correction = refl;
+  cancelled = refl;
+  cancelled-next = refl;
+  equal-accepted = refl;
+  equal-low = refl;
+  equal-correction = refl;
+  equal-kept = refl;
+  equal-next = refl;
+  rounded-accepted = refl;
+  rounded-masses = refl;
+  rounded-low = refl;
+  rounded-kept = refl;
+  rounded-next = refl;
+  against-accepted = refl;
+  against-low = refl;
+  against-corrections = refl;
+  against-kept = refl;
+  against-next = refl;
+  uncounted-low = refl;
+  uncounted-corrections = refl;
+  uncounted-kept = refl;
+  uncounted-room = refl;
+  uncounted-next = refl;
+  channel-low = refl;
+  channel-kept = refl;
 }
 
 -- Besides the lines marked P.

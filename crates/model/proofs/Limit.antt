@@ -1,4 +1,5 @@
--- The limiter: what the limited corrections bring into a cell it may gain, and what they take from it it may lose.
+-- The limiter: what the limited corrections bring into a cell it may gain, and what they take from it it may lose. Before it, the
+-- corrections that are kept.
 use Prim.Native.Nat.{ℕ, _+_, _*_, _/_, _≤_, min}
 use mathlib.Core.Path.{_≡_, refl, ap, _∙_}
 use mathlib.Core.Bool.{Bool, true, false, cond}
@@ -9,7 +10,7 @@ use lib.IntN.{ℤ, pos, negsuc}
 use Rattle.lists.specs.Fold.{sum}
 use Rattle.signed.specs.Sign.{forward, backward, size, isNegative, withSign}
 use Rattle.model.specs.Mesh.{Mesh, first, second, entering, leaving, incoming, outgoing}
-use Rattle.model.specs.Step.{portion, receiver, giver, limitedBy}
+use Rattle.model.specs.Step.{portion, receiver, giver, smooths, keptBy, limitedBy}
 use Rattle.lists.proofs.Tests.{Same, same, same?, Fits, fits, exceeds, fits?}
 use Rattle.lists.proofs.Sums.{sum-mono, sum-scale}
 use Rattle.signed.proofs.Laws.{forward-neg, backward-neg}
@@ -86,3 +87,15 @@ module _ (M : Mesh) (gain loss : ℕ → ℕ) (x : ℕ → ℤ) where
   pub limited-zero : (f : ℕ) → x f ≡ pos 0 → limitedBy M gain loss x f ≡ pos 0
   unfolding limitedBy
   limited-zero f e = simp (e, portion-zero)
+
+-- what is kept of a correction is the correction or 0: what holds of both holds of it
+pub kept-either : (P : ℤ → Type 0) (M : Mesh) (q : ℕ → ℕ) (x : ℕ → ℤ) (f : ℕ) → P (x f) → P (pos 0) → P (keptBy M q x f)
+unfolding keptBy
+kept-either P M q x f p z = go (smooths (q (giver M x f)) (q (receiver M x f)))
+  where
+    go : (b : Bool) → P (cond b (pos 0) (x f))
+    go true = z
+    go false = p
+
+pub kept-zero : (M : Mesh) (q : ℕ → ℕ) (x : ℕ → ℤ) (f : ℕ) → x f ≡ pos 0 → keptBy M q x f ≡ pos 0
+kept-zero M q x f e = kept-either (λ z. z ≡ pos 0) M q x f e refl

@@ -8,12 +8,12 @@ use lib.Dec.{eqb}
 use lib.IntN.{ℤ, pos, _+ℤ_, +ℤ-idr}
 use Rattle.signed.specs.Sign.{forward, backward}
 use Rattle.model.specs.Mesh.{volume, first, second, atRim, entering, leaving, incoming, outgoing, updated, total}
-use Rattle.model.specs.Step.{StepInput, flux, outside, mass, concentration, beyond, upwind, carried, low, lo, hi, correction, maxGain, maxLoss, limited, moved, next, inMass, outMass}
+use Rattle.model.specs.Step.{StepInput, flux, outside, mass, concentration, beyond, upwind, carried, low, lo, hi, correction, lowConcentration, kept, maxGain, maxLoss, limited, moved, next, inMass, outMass}
 use Rattle.lists.proofs.Sums.{sum-cong, sum-add}
 use Rattle.signed.proofs.Laws.{moves}
 use Rattle.model.proofs.Budget.{outward, inward, budget}
 use Rattle.model.proofs.Low.{low-affords, low-is, low-bounds, upwind-forward, upwind-backward}
-use Rattle.model.proofs.Limit.{incoming-limited, outgoing-limited, limited-zero}
+use Rattle.model.proofs.Limit.{incoming-limited, outgoing-limited, limited-zero, kept-zero}
 use Rattle.model.specs.Accepted.{Sound}
 
 -- masses between V·lo and V·hi + V − 1, as concentrations
@@ -54,11 +54,11 @@ module _ (S : StepInput) where
   -- what the limited corrections bring into a cell it may gain, and what they take from it it may lose
   pub gained : (c : ℕ) → incoming M (limited S) c ≤ maxGain S c
   unfolding limited
-  gained c = incoming-limited M (maxGain S) (maxLoss S) (correction S) c
+  gained c = incoming-limited M (maxGain S) (maxLoss S) (kept S) c
 
   pub lost : (c : ℕ) → outgoing M (limited S) c ≤ maxLoss S c
   unfolding limited
-  lost c = outgoing-limited M (maxGain S) (maxLoss S) (correction S) c
+  lost c = outgoing-limited M (maxGain S) (maxLoss S) (kept S) c
 
 module _ (S : StepInput) (ok : Sound S) where
   open StepInput S using (mesh as M)
@@ -96,9 +96,13 @@ module _ (S : StepInput) (f : ℕ) (e : atRim (S .mesh) f ≡ true) where
   unfolding correction
   rim-correction = rw e
 
+  rim-kept : kept S f ≡ pos 0
+  unfolding kept
+  rim-kept = kept-zero M (lowConcentration S) (correction S) f rim-correction
+
   rim-limited : limited S f ≡ pos 0
   unfolding limited
-  rim-limited = limited-zero M (maxGain S) (maxLoss S) (correction S) f rim-correction
+  rim-limited = limited-zero M (maxGain S) (maxLoss S) (kept S) f rim-kept
 
   rim-moved : moved S f ≡ carried S f
   unfolding moved

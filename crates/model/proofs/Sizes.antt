@@ -11,8 +11,9 @@ use Rattle.signed.proofs.Laws.{size-mul, size-quot, size-diff, forward-le, back
 use Rattle.lists.proofs.Tests.{Same, other, same?, Fits, exceeds, fits?}
 use Rattle.lists.proofs.Sums.{sum-bound}
 use Rattle.model.specs.Mesh.{Mesh, first, second, share, reach, atRim, rim, entering, leaving, incoming, outgoing, total, maxCells, maxFaces, maxConcentration}
-use Rattle.model.specs.Step.{StepInput, portion, flux, outside, mass, concentration, beyond, upwind, downwind, upwindShare, carried, low, correction, maxGain, maxLoss, next, inMass, outMass}
+use Rattle.model.specs.Step.{StepInput, portion, flux, outside, mass, concentration, beyond, upwind, downwind, upwindShare, carried, low, correction, lowConcentration, kept, maxGain, maxLoss, next, inMass, outMass}
 use Rattle.model.proofs.Low.{low-bounds}
+use Rattle.model.proofs.Limit.{kept-either}
 use Rattle.model.proofs.Next.{next-bounds}
 use Rattle.model.specs.Accepted.{maxCarried, maxMass}
 use Rattle.model.specs.Accepted.{Ready}
@@ -109,6 +110,10 @@ module _ (S : StepInput) (r : Ready S) where
           (size-diff (downwind S f) (upwind S f) maxConcentration (downwind-most f h) (upwind-most f h))
           (size-diff (upwindShare S f * reach M f) (128 * size (flux S f)) (256 * reach M f) (mul-le-mul-right (reach M f) (share-le f h)) (omega (arith, flux-reach S r f h d))))
           (mul-le-mul-right maxConcentration (flux-few S r f h))
+
+  pub kept-size : (f : ℕ) → f < M .faces → size (kept S f) ≤ maxCarried
+  unfolding kept
+  kept-size f h = kept-either (λ z. size z ≤ maxCarried) M (lowConcentration S) (correction S) f (correction-size f h) (omega arith)
 
   pub low-most : (c : ℕ) → c < M .cells → low S c ≤ maxMass
   low-most c h = omega (arith, low-bounds S (r .sound) c h .1, r .fit .volume-most c h, mul-le-mul (r .fit .volume-most c h) (hi-most S r c h))

@@ -13,9 +13,9 @@ use Rattle.lists.specs.Fold.{sum}
 use Rattle.lists.proofs.Tests.{Same, other, same?, cond-same}
 use Rattle.lists.proofs.Sums.{sum-cong, sum-scale, sum-zeros, sum-zero}
 use Rattle.model.specs.Mesh.{Mesh, first, second, reach, atRim, rim, entering, leaving, incoming, outgoing, updated}
-use Rattle.model.specs.Step.{StepInput, flux, outside, mass, concentration, beyond, upwind, downwind, upwindShare, carried, low, correction, adjacent, maxGain, maxLoss, limited, moved, next}
+use Rattle.model.specs.Step.{StepInput, flux, outside, mass, concentration, beyond, upwind, downwind, upwindShare, carried, low, correction, lowConcentration, kept, adjacent, maxGain, maxLoss, limited, moved, next}
 use Rattle.model.proofs.Low.{met-any, entering-carried, outgoing-carried, low-is}
-use Rattle.model.proofs.Limit.{limited-zero}
+use Rattle.model.proofs.Limit.{limited-zero, kept-zero}
 use Rattle.model.proofs.Next.{next-is}
 use Rattle.model.specs.Accepted.{Sound}
 
@@ -68,8 +68,8 @@ module _ (S : StepInput) (ok : Sound S) (q₀ : ℕ) (alike : (c : ℕ) → c < 
       go false (other d) false false = rw (alike (second M f) (ok .joined .second-in f l d), alike (first M f) (ok .joined .first-in f l)) (no-difference (flux S f) _ q₀ (256 * reach M f))
 
   limited-none : (f : ℕ) → f < M .faces → limited S f ≡ pos 0
-  unfolding limited
-  limited-none f l = limited-zero M (maxGain S) (maxLoss S) (correction S) f (correction-none f l)
+  unfolding limited kept
+  limited-none f l = limited-zero M (maxGain S) (maxLoss S) (kept S) f (kept-zero M (lowConcentration S) (correction S) f (correction-none f l))
 
   pub uniform : (c : ℕ) → c < M .cells → next S c ≡ mass S c
   uniform c h = omega (arith, next-is S ok c h, low-same c h, still M (limited S) limited-none c)

@@ -1,9 +1,9 @@
--- Document 01, "One step": the five stages, in order.
+-- Document 01, "One step": the five stages, in order, with document 02's S-5 between the second and the third.
 use Prim.Native.Nat.{ℕ, _+_, _-_, _*_, _/_, min}
-use mathlib.Core.Bool.{cond, _||_}
+use mathlib.Core.Bool.{Bool, cond, _||_}
 use mathlib.Core.List.{List}
 use lib.ListN.{getD}
-use lib.Dec.{eqb, leb}
+use lib.Dec.{eqb, leb, ltb}
 use lib.IntN.{ℤ, pos, _+ℤ_, _-ℤ_, _*ℤ_}
 use lib.Signed.{quotZ}
 use Rattle.lists.specs.Fold.{sum, least, greatest}
@@ -14,13 +14,21 @@ use Rattle.model.specs.Mesh.{Mesh, volume, first, second, share, reach, 
 unfoldable pub portion : ℕ → ℕ → ℕ → ℕ
 portion a g p = cond (leb p g) a (a * g / p)
 
--- Stage 4, for any corrections x: the cell that a correction enters, and the one that it leaves.
+-- Stage 4, for any corrections x: the cell that a correction enters, and the one that it leaves, whichever way the water runs.
 module _ (M : Mesh) (x : ℕ → ℤ) where
   unfoldable pub receiver : ℕ → ℕ
   receiver f = cond (isNegative (x f)) (first M f) (second M f)
 
   unfoldable pub giver : ℕ → ℕ
   giver f = cond (isNegative (x f)) (second M f) (first M f)
+
+-- Document 02, S-5: a correction smooths that would run from a larger q to a smaller. Equal q do not.
+unfoldable pub smooths : (from to : ℕ) → Bool
+smooths from to = ltb to from
+
+-- for any corrections x and concentrations q: those that smooth become 0, the others are kept
+unfoldable pub keptBy : Mesh → (ℕ → ℕ) → (ℕ → ℤ) → ℕ → ℤ
+keptBy M q x f = cond (smooths (q (giver M x f)) (q (receiver M x f))) (pos 0) (x f)
 
 -- Stage 4: the lesser of what the receiver (P, G) and the giver (N, L) let pass, in the correction's own direction.
 unfoldable pub limitedBy : Mesh → (gain loss : ℕ → ℕ) → (ℕ → ℤ) → ℕ → ℤ
@@ -78,6 +86,14 @@ module _ (S : StepInput) where
   correction f = cond (atRim M f || isZero (flux f)) (pos 0)
       (quotZ (flux f *ℤ (pos (downwind f) -ℤ pos (upwind f)) *ℤ (pos (upwindShare f * reach M f) -ℤ pos (128 * size (flux f)))) (pos (256 * reach M f)))
 
+  -- Document 02, S-5: low-order q, the low-order mass divided by V and rounded down as q is,
+  unfoldable pub lowConcentration : ℕ → ℕ
+  lowConcentration c = low c / volume M c
+
+  -- and the corrections that do not smooth it; the others are 0 from here on, and count in neither P nor N.
+  unfoldable pub kept : ℕ → ℤ
+  kept = keptBy M lowConcentration correction
+
   -- Stage 3: a neighbourhood. What cell c meets at face f: a cell across moving water, the outside value of an inflow, else itself.
   unfoldable pub adjacent : ℕ → ℕ → ℕ
   adjacent c f =
@@ -100,9 +116,9 @@ module _ (S : StepInput) where
   unfoldable pub maxLoss : ℕ → ℕ
   maxLoss c = low c - volume M c * lo c
 
-  -- Stage 4: every correction, whichever way it runs.
+  -- Stage 4: every kept correction. Its last sentence, by which all corrections enter the limiter, has given way to S-5.
   unfoldable pub limited : ℕ → ℤ
-  limited = limitedBy M maxGain maxLoss correction
+  limited = limitedBy M maxGain maxLoss kept
 
   -- Stage 5.
   unfoldable pub moved : ℕ → ℤ

@@ -9,7 +9,7 @@ use Rattle.model.specs.Mesh.{maxCells}
 use Rattle.cell.specs.Work.{ofCell}
 use Rattle.cell.proofs.Places.{base-fits, slot-fits, slot-in}
 use Rattle.limiter.specs.Limiter.{correctionAdded}
-use Rattle.limiter.proofs.CorrectionLaws.{end-holds}
+use Rattle.smoothing.proofs.CorrectionLaws.{end-holds}
 use Rattle.limiter.proofs.SumLaws.{giver-has-room, added-is}
 use Rattle.limiter.proofs.add_correction.Statement.{statement}
 use Rattle.limiter.proofs.add_correction.Tie as tie

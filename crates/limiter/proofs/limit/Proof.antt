@@ -7,7 +7,8 @@ use borrow.Author.Count.{falls}
 use Rattle.model.specs.Mesh.{Mesh}
 use Rattle.face.proofs.Places.{face-bytes, face-next}
 use Rattle.cell.proofs.Places.{cells-fit, face-fits, face-entry-bytes, face-in}
-use Rattle.limiter.specs.Limiter.{Limited, endsOf}
+use Rattle.smoothing.specs.Corrections.{endsOf}
+use Rattle.limiter.specs.Limiter.{Limited}
 use Rattle.limiter.proofs.LimiterLaws.{limited-start, cut-asks, limited-turn}
 use Rattle.limiter.proofs.limit.Statement.{statement}
 use Rattle.limiter.proofs.limit.Tie as tie

@@ -12,8 +12,9 @@ use Rattle.model.specs.Accepted.{maxCarried}
 use Rattle.model.specs.Mesh.{maxCells}
 use Rattle.model.proofs.Sizes.{portion-le}
 use Rattle.cell.specs.Work.{ofCell}
-use Rattle.limiter.specs.Limiter.{cutOf, limitedOf, enters, leaves}
-use Rattle.limiter.proofs.CorrectionLaws.{either-end}
+use Rattle.smoothing.specs.Corrections.{enters, leaves}
+use Rattle.limiter.specs.Limiter.{cutOf, limitedOf}
+use Rattle.smoothing.proofs.CorrectionLaws.{either-end}
 use Rattle.limiter.proofs.LimiterLaws.{no-cut, cut-done}
 use Rattle.limiter.proofs.limit_face.Statement.{statement}
 use Rattle.limiter.proofs.limit_face.Tie as tie

@@ -8,7 +8,8 @@ use lib.ListN.{length}
 use Rattle.model.specs.Mesh.{Mesh}
 use Rattle.face.proofs.Places.{face-bytes, face-next}
 use Rattle.cell.proofs.Places.{cells-fit, face-fits, face-entry-bytes, face-in}
-use Rattle.limiter.specs.Limiter.{CorrectionSums, endsOf}
+use Rattle.smoothing.specs.Corrections.{endsOf}
+use Rattle.limiter.specs.Limiter.{CorrectionSums}
 use Rattle.limiter.proofs.SumLaws.{sums-start, asks-ends, asks-p, asks-n, sums-turn}
 use Rattle.limiter.proofs.sum_corrections.Statement.{statement}
 use Rattle.limiter.proofs.sum_corrections.Tie as tie

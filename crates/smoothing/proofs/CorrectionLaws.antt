@@ -10,7 +10,7 @@ use Rattle.signed.specs.Sign.{size}
 use Rattle.signed.proofs.Laws.{size-withSign}
 use Rattle.model.specs.Mesh.{Mesh, first, second}
 use Rattle.cell.specs.Work.{ofFace}
-use Rattle.limiter.specs.Limiter.{corrections, CorrectionsIn, enters, leaves}
+use Rattle.smoothing.specs.Corrections.{corrections, CorrectionsIn, enters, leaves}
 
 -- what holds of both ends holds of either
 pub either-end : (P : ℕ → Type 0) (b : Bool) {l k : ℕ} → P l → P k → P (cond b l k)

@@ -1,0 +1,2 @@
+pub mod CorrectionLaws
+pub mod KeepLaws
