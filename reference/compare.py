@@ -67,6 +67,8 @@ SCRIPT_CAUSES = {
     "number_at": "past",
     "board": CELLS,
     "lagoon_step": "11 13/0 13/1 1/0 1/1 12 3 4 5 6 7 8 9 10 2/11",
+    "middle_stage": "bad nothing",
+    "face_share": "19 20",
 }
 FAULTS = ["not a number", "too large", "no such call", "a minus where none may stand", "a table too long",
           "a call too long", "the input ends within a call"]

@@ -9,6 +9,7 @@ use model::Answer;
 use model::Refusal;
 use reading::MeshAnswer;
 use script::show;
+use survey::ShareAnswer;
 use transport::StepAnswer;
 use writing::WriteAnswer;
 
@@ -83,6 +84,13 @@ pub fn spelled(said: Spelled) {
     match said {
         Spelled::Number(n) => accepted_with(n),
         Spelled::Past => show::word(b" past"),
+    }
+}
+
+pub fn share(said: ShareAnswer) {
+    match said {
+        ShareAnswer::Share(k) => accepted_with(k),
+        ShareAnswer::Refused(refusal) => refused(refusal),
     }
 }
 

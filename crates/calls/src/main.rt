@@ -1,6 +1,7 @@
 // Every exported call of the engine, made as a script on standard input asks, and a line printed for each. docs/CALLS.md describes the script.
 mod answers;
 mod bytes;
+mod points;
 mod tables;
 
 use script::input;
@@ -50,6 +51,10 @@ const BOARD: u64 = 18;
 
 const LAGOON_STEP: u64 = 19;
 
+const MIDDLE_STAGE: u64 = 27;
+
+const FACE_SHARE: u64 = 28;
+
 // The arguments of a call from the left: 1 a number, 2 a table, 3 a table of signed numbers, 4 bytes. No call has the shape 0.
 fn shape(call: u64) -> u64 {
     match call {
@@ -69,6 +74,7 @@ fn shape(call: u64) -> u64 {
         WRITE_STEP => 0x1122_2223_2400_0000,
         NUMBER_AT => 0x4110_0000_0000_0000,
         LAGOON_STEP => 0x4444_0000_0000_0000,
+        MIDDLE_STAGE | FACE_SHARE => 0x1111_1111_0000_0000,
         _ => 0,
     }
 }
@@ -99,6 +105,8 @@ fn make(call: u64, words: &[u64], ints: &[i64]) {
         WRITE_STEP => bytes::write_step(words, ints),
         NUMBER_AT => bytes::number_at(words),
         LAGOON_STEP => bytes::lagoon_step(words),
+        MIDDLE_STAGE => points::middle_stage(words),
+        FACE_SHARE => points::face_share(words),
         _ => make_on_tables(call, words, ints),
     }
     show::word(b"\n");

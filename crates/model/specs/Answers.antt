@@ -2,12 +2,12 @@
 use Prim.Native.Nat.{ℕ}
 use Rattle.model.specs.Causes.{Outcome, refused, Verdict, fine}
 use Rattle.model.specs.declared.Cause.{Cause}
-use Rattle.model.specs.declared.Cause.the-variants.{Limits, Table, Volume, Ends, Spacing, Concentration, Outside, Flux, Balance, Outflow, Length, Bit, Head}
+use Rattle.model.specs.declared.Cause.the-variants.{Limits, Table, Volume, Ends, Spacing, Concentration, Outside, Flux, Balance, Outflow, Length, Bit, Head, Coordinate, Ratio}
 use Rattle.model.specs.declared.Refusal.{Refusal}
 use Rattle.model.specs.declared.Answer.{Answer}
 use Rattle.model.specs.declared.Answer.the-variants.{Done, Refused}
 
--- "Causes", the column of numbers.
+-- "Causes", the column of numbers; 19 and 20 are those of document 02, S-7.
 abbrev pub number : Cause → ℕ
 number Limits = 1
 number Table = 2
@@ -22,6 +22,8 @@ number Outflow = 10
 number Length = 11
 number Bit = 12
 number Head = 13
+number Coordinate = 19
+number Ratio = 20
 
 -- A refusal, by its number and its place.
 abbrev pub told : {A : Type 0} → Refusal → Outcome A

@@ -35,7 +35,7 @@ pub const MAX_CONCENTRATION: u64 = 1000000;
 // Largest flux through a rim face.
 pub const MAX_RIM_FLUX: u64 = 4095;
 
-// Why a call is refused, in the order of document 01's numbers, 1 to 13.
+// Why a call is refused, in the order of the numbers: document 01's, 1 to 13, then those that document 02 adds.
 pub enum Cause {
     Limits,
     Table,
@@ -50,6 +50,8 @@ pub enum Cause {
     Length,
     Bit,
     Head,
+    Coordinate,
+    Ratio,
 }
 
 pub struct Refusal {
@@ -63,7 +65,7 @@ pub enum Answer {
     Refused(Refusal),
 }
 
-// Document 01's number of a cause.
+// The number of a cause in documents 01 and 02.
 pub fn number(cause: Cause) -> u64
     ensures { λ r. ⌜ r ≡ numberOf cause ⌝ }
 {
@@ -81,6 +83,8 @@ pub fn number(cause: Cause) -> u64
         Cause::Length => 11,
         Cause::Bit => 12,
         Cause::Head => 13,
+        Cause::Coordinate => 19,
+        Cause::Ratio => 20,
     }
 }
 
