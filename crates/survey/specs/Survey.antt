@@ -25,8 +25,8 @@ minus = sub binary64
 abbrev pub times : Float → Float → Float
 times = mul binary64
 
-abbrev pub by : Float → Float → Float
-by = div binary64
+abbrev pub divided : Float → Float → Float
+divided = div binary64
 
 abbrev pub none : Float
 none = fin false 0 (pos 0)
@@ -57,14 +57,14 @@ normal p q = record { x = minus (q .y) (p .y); y = minus (p .x) (q .x) }
 
 module _ (f : Face) where
   -- a, the size of S·(M − first centre), and b, that of S·(second centre − M)
-  unfoldable pub nearer : Float
-  nearer = sizeOf (dot (normal (f .end1) (f .end2)) (way (f .centre1) (middleOf (f .end1) (f .end2))))
+  unfoldable pub firstSide : Float
+  firstSide = sizeOf (dot (normal (f .end1) (f .end2)) (way (f .centre1) (middleOf (f .end1) (f .end2))))
 
-  unfoldable pub further : Float
-  further = sizeOf (dot (normal (f .end1) (f .end2)) (way (middleOf (f .end1) (f .end2)) (f .centre2)))
+  unfoldable pub secondSide : Float
+  secondSide = sizeOf (dot (normal (f .end1) (f .end2)) (way (middleOf (f .end1) (f .end2)) (f .centre2)))
 
   unfoldable pub ratio : Float
-  ratio = by nearer (plus nearer further)
+  ratio = divided firstSide (plus firstSide secondSide)
 
   -- the eight coordinates in the order given, x before y
   abbrev pub coordinates : List Float
@@ -88,7 +88,7 @@ pub data Found : Type 0 where
   nothing : Found
 
 abbrev pub foundAfter : Face → Verdict → Found
-foundAfter f (accepted _) = cond (eq (plus (nearer f) (further f)) none) nothing (ratioIs (ratio f))
+foundAfter f (accepted _) = cond (eq (plus (firstSide f) (secondSide f)) none) nothing (ratioIs (ratio f))
 foundAfter f (refused _ i) = badAt i (getD (coordinates f) i nan)
 
 unfoldable pub found : Face → Found

@@ -6,7 +6,7 @@ ghost use mathlib.Core.Bool.{true, false};
 ghost use Prim.Native.Nat.{_≤_};
 ghost use Rattle.model.specs.Causes.{refused, fine};
 ghost use Rattle.model.specs.Answers.{number};
-ghost use Rattle.survey.specs.Survey.{sizeOf, way, middleOf, dot, normal, nearer, further, coordinates, allowed, notAbove, foundBy, foundAfter, found, share as shareIs, shareOf, shareBy, faceShare};
+ghost use Rattle.survey.specs.Survey.{sizeOf, way, middleOf, dot, normal, firstSide, secondSide, coordinates, allowed, notAbove, foundBy, foundAfter, found, share as shareIs, shareOf, shareBy, faceShare};
 
 // Largest size of a coordinate.
 pub const MAX_COORDINATE: f64 = 1000000.0;
@@ -100,16 +100,16 @@ fn normal_of(p: Point, q: Point) -> Point
 }
 
 // a, on the side of the first centre.
-fn nearer_of(face: Face) -> f64
-    ensures { λ r. ⌜ r ≡ nearer face ⌝ }
+fn first_side(face: Face) -> f64
+    ensures { λ r. ⌜ r ≡ firstSide face ⌝ }
 {
     let m = middle_of(face.end1, face.end2);
     size_of(dot_of(normal_of(face.end1, face.end2), way_to(face.centre1, m)))
 }
 
 // b, on the side of the second.
-fn further_of(face: Face) -> f64
-    ensures { λ r. ⌜ r ≡ further face ⌝ }
+fn second_side(face: Face) -> f64
+    ensures { λ r. ⌜ r ≡ secondSide face ⌝ }
 {
     let m = middle_of(face.end1, face.end2);
     size_of(dot_of(normal_of(face.end1, face.end2), way_to(m, face.centre2)))
@@ -145,8 +145,8 @@ fn coordinates_of(face: Face) -> [f64; COORDINATES]
 fn ratio_of(face: Face) -> Stage
     ensures { λ r. ⌜ foundBy r ≡ foundAfter face fine ⌝ }
 {
-    let a = nearer_of(face);
-    let total = a + further_of(face);
+    let a = first_side(face);
+    let total = a + second_side(face);
     if total == 0.0 {
         return Stage::Nothing;
     }
