@@ -101,4 +101,15 @@ def bit(lagoon):
     lagoon.number_at = lambda record, bit, width: right(record, bit + 1, width)
 
 
-ANSWER_SLIPS = {slip.__name__: slip for slip in (place, table, beyond, bit)}
+def nearest(lagoon):
+    """A share rounded to the nearest."""
+    lagoon.share_of = lambda ratio: round(256 * lagoon.Fraction(ratio))
+
+
+def exchanged(lagoon):
+    """The two sides of a surveyed face exchanged."""
+    right = lagoon.sides
+    lagoon.sides = lambda ends, centres: right(ends, centres)[::-1]
+
+
+ANSWER_SLIPS = {slip.__name__: slip for slip in (place, table, beyond, bit, nearest, exchanged)}
