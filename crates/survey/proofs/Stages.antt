@@ -1,11 +1,11 @@
 -- What the stages come to, by what their tests found.
 use Prim.Native.Nat.{ℕ, _+_, _≤_, _<_}
-use mathlib.Core.Path.{_≡_, sym, ap, _∙_}
+use mathlib.Core.Path.{_≡_, ap, _∙_}
 use mathlib.Core.Bool.{Bool, true, false}
 use mathlib.Core.List.{List}
 use lib.ListN.{getD}
 use lib.Ieee.{Float, nan}
-use Rattle.model.specs.Causes.{Verdict, accepted, refused, fine, each}
+use Rattle.model.specs.Causes.{accepted, refused, fine, each}
 use Rattle.model.proofs.Verdicts.{scan-pass, scan-hit, scan-end}
 use Rattle.survey.specs.Survey.{coordinates, allowed, coordinatesVerdict, badAt, foundAfter, found, notAbove, share, shareOf}
 use Rattle.survey.specs.declared.Face.{Face}

@@ -1,5 +1,4 @@
-use lib.Dec.{T}
-use lib.Ieee.{binary64, fits, ofBits}
+use lib.Ieee.{ofBits}
 use borrow.Author.Needs.{needs}
 use Rattle.survey.proofs.Floats.{size-below, size-none, size-above}
 use Rattle.survey.proofs.size_of.Statement.{statement}
