@@ -13,7 +13,7 @@ use lib.Ieee.{Float, nan, inf, fin, binary64, up, down, fits as held, neg, lt, e
 use lib.Ieee.Exact.{HasValue, round-exact}
 use lib.Ieee.Back.{round-whole}
 use lib.Ieee.Fits.{up-pos, down-pos}
-use lib.Ieee.Positive.{positive-of-value, mul-at}
+use lib.Ieee.Positive.{positive, positive-of-value, mul-at}
 use Rattle.lists.proofs.Tests.{Fits, fits, exceeds, fits?}
 use Rattle.survey.specs.Survey.{none, sizeOf, allowed, notAbove}
 
@@ -153,7 +153,9 @@ part-value k K most =
     let e : k * 1 * 2 ^ 1074 ≡ k * 2 ^ 1066 * 256 = ap (λ (x : ℕ). x * 2 ^ 1074) (mul-one k) ∙ sym (mul-assoc k (2 ^ 1066) 256) in
     let r : HasValue (round binary64 false (k * 1) 256) false (k * 1) 256 =
     round-exact binary64 false (k * 1) 256 k 1066 (lit< tt) (omega arith) (lt-of-le-of-lt (mul-le-mul-right (2 ^ 1066) most) (lit< tt)) e in
-    rw (mul-at binary64 (round binary64 false k 1) part k 1 1 256 (positive-of-value (round binary64 false k 1) k 1 v K) tt (lit< tt) (lit< tt) v (refl, refl)) (subst (λ (j : ℕ). HasValue (round binary64 false (k * 1) 256) false j 256) (mul-one k) r)
+    let some : T (positive (round binary64 false k 1)) = positive-of-value (round binary64 false k 1) k 1 v K in
+    rw (mul-at binary64 (round binary64 false k 1) part k 1 1 256 some tt (lit< tt) (lit< tt) v (refl, refl))
+    (subst (λ (j : ℕ). HasValue (round binary64 false (k * 1) 256) false j 256) (mul-one k) r)
 
 pub part-not-above : (k : ℕ) (r : Float) → 1 ≤ k → k ≤ 256 → le (mul binary64 (ofInt binary64 (pos k)) part) r ≡ notAbove k r
 part-not-above k r K most = le-part (mul binary64 (ofInt binary64 (pos k)) part) r k K (part-value k K most)
