@@ -74,6 +74,8 @@ SCRIPT_CAUSES = {
     "keep": "1/0 2/0 2/5 2/13 3 6 13/1 15 16",
     "drop": "1/0 2/13 13/1 17",
     "give_back": "1/0 2/0 2/5 2/13 3 13/1 17 6",
+    "middle_stage": "bad nothing",
+    "face_share": "19 20",
 }
 FAULTS = ["not a number", "too large", "no such call", "a minus where none may stand", "a table too long",
           "a call too long", "the input ends within a call"]

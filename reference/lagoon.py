@@ -6,6 +6,7 @@ of the document's table of causes.
 """
 
 import argparse
+import math
 import sys
 from collections import namedtuple
 from fractions import Fraction
@@ -506,6 +507,44 @@ def store_return(cells, volumes, masses, store, name):
     kept = fields[first_named(fields, name)][1]
     judge_field(mesh, kept)
     masses[:cells] = kept
+# ---------------------------------------------------------------- Document 02, S-7: shares from survey points
+
+MOST_COORDINATE = 1_000_000.0
+
+def way(p, q):
+    return q[0] - p[0], q[1] - p[1]
+
+def product_sum(p, q):
+    """The x term first; Python rounds each operation once and fuses none."""
+    return p[0] * q[0] + p[1] * q[1]
+
+def sides(ends, centres):
+    """a and b of the document: how far the face lies from each centre, along its normal."""
+    (x1, y1), (x2, y2) = ends
+    normal = y2 - y1, x1 - x2
+    middle = (x1 + x2) * 0.5, (y1 + y2) * 0.5
+    return abs(product_sum(normal, way(centres[0], middle))), abs(product_sum(normal, way(middle, centres[1])))
+
+def middle_stage(coordinates):
+    """("ratio", a float), ("bad", place, value), or ("nothing",) where a + b is 0."""
+    for place, value in enumerate(coordinates):
+        if not math.isfinite(value) or abs(value) > MOST_COORDINATE:
+            return "bad", place, value
+    points = list(zip(coordinates[::2], coordinates[1::2]))
+    a, b = sides(points[:2], points[2:])
+    return ("ratio", a / (a + b)) if a + b != 0 else ("nothing",)
+
+def share_of(ratio):
+    """The largest whole k with k/256 not above the ratio, by exact fractions."""
+    return math.floor(256 * Fraction(ratio))
+
+def face_share(coordinates):
+    found = middle_stage(coordinates)
+    if found[0] == "bad":
+        raise Refusal(19, found[1])
+    if found[0] == "nothing" or not 1 <= share_of(found[1]) <= 255:
+        raise Refusal(20, 0)
+    return share_of(found[1])
 
 
 # ---------------------------------------------------------------- The board and the run

@@ -7,6 +7,7 @@ n a number, t a table, s a table of signed numbers, b bytes.
 
 import argparse
 import re
+import struct
 import sys
 
 import lagoon as right_lagoon
@@ -38,6 +39,8 @@ CALLS = {
     24: ("keep", "ntttn"),
     25: ("drop", "ntn"),
     26: ("give_back", "ntttn"),
+    27: ("middle_stage", "nnnnnnnn"),
+    28: ("face_share", "nnnnnnnn"),
 }
 NUMBER_OF = {name: number for number, (name, _) in CALLS.items()}
 
@@ -295,6 +298,12 @@ class Engine:
         self.lagoon.store_return(cells, volumes, masses, store, name)
         return ()
 
+    def middle_stage(self, *patterns):
+        return self.lagoon.middle_stage(list(map(float_of, patterns)))
+
+    def face_share(self, *patterns):
+        return (self.lagoon.face_share(list(map(float_of, patterns))),)
+
 
 # ---------------------------------------------------------------- What is printed
 
@@ -322,6 +331,23 @@ def spaced(values):
     return "".join(f" {value}" for value in values)
 
 
+def float_of(pattern):
+    """The 64-bit float that a pattern stands for."""
+    return struct.unpack("<d", struct.pack("<Q", pattern))[0]
+
+
+def pattern(value):
+    """A float's pattern; every not-a-number is the same word."""
+    return "nan" if value != value else str(struct.unpack("<Q", struct.pack("<d", value))[0])
+
+
+def staged(kind, *values):
+    """The middle stage in words: accepted with the ratio; bad with place and value; or nothing."""
+    if kind == "ratio":
+        return " accepted " + pattern(values[0])
+    return f" bad {values[0]} {pattern(values[1])}" if kind == "bad" else " nothing"
+
+
 def answered(engine, name, arguments):
     """The answer of one call in words."""
     try:
@@ -331,6 +357,8 @@ def answered(engine, name, arguments):
         return words + "; used 0; entries" + " 0" * 24 if name == "board" else words
     if name == "lagoon_step":
         return f" {values}"
+    if name == "middle_stage":
+        return staged(*values)
     if values is None:
         return " past"
     if name == "board":

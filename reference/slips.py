@@ -231,4 +231,15 @@ def freed(lagoon):
     lagoon.store_drop = store_drop
 
 
-ANSWER_SLIPS = {slip.__name__: slip for slip in (place, table, beyond, bit, binder, fresher, unweighed, turned, first, freed)}
+def nearest(lagoon):
+    """A share rounded to the nearest."""
+    lagoon.share_of = lambda ratio: round(256 * lagoon.Fraction(ratio))
+
+
+def exchanged(lagoon):
+    """The two sides of a surveyed face exchanged."""
+    right = lagoon.sides
+    lagoon.sides = lambda ends, centres: right(ends, centres)[::-1]
+
+
+ANSWER_SLIPS = {slip.__name__: slip for slip in (place, table, beyond, bit, binder, fresher, unweighed, turned, first, freed, nearest, exchanged)}

@@ -14,6 +14,9 @@ python3 reference/compare.py "${programs[@]}" --slips
 python3 reference/script.py < crates/calls/stdin | cmp - crates/calls/stdout
 target/compare/calls < tests/calls_example.in | cmp - tests/calls_example.out
 
+# shares from survey points: the tool's and the engine's
+python3 tests/points.py target/compare/calls
+
 python3 bench/accuracy.py --call target/compare/call_guarded --svg target/compare/accuracy.svg >target/compare/accuracy.md
 cmp target/compare/accuracy.svg docs/accuracy.svg
 if grep -vxFf docs/ACCURACY.md target/compare/accuracy.md; then

@@ -70,6 +70,23 @@ def test_figures():
     equal(whole(TWO.replace(",", ";").replace("100.5", "100,5"), ONE, "--volume-unit", "2")[0], whole(TWO, ONE, "--volume-unit", "2")[0], "semicolons")
 
 
+POINTS = "face,from,to,area,x1,y1,x2,y2,first x,first y,second x,second y\nf,a,b,10,0,-2,0,2,-30,0,10,0\ng,b,rim,,,,,,,,,\n"
+
+
+def test_points():
+    """Shares from coordinates, by S-7: 30 of 40 metres is 192 of 256, and what is refused names its column."""
+    session = session_of(whole(TWO, POINTS, "--volume-unit", "2")[0].encode())
+    equal([tuple(face) for face in session.mesh.faces], [(0, 1, 192, 200), (1, 4095, 0, 0)], "faces from points")
+    for face, words in (("0,-2,0,2,-30,0,10,0", "share 192"), ("0,-2,0,2,-30,0,9.99,0", "share 192"), ("0,-2,0,2,-30,0,10.01,0", "share 191"),
+                        ("0,-2,0,2,-1,0,255,9", "share 1 "), ("0,-2,0,2,-255,1,1,0", "share 255"), ("1e6,0,1e6,-1,999999,0,999997,0", "share 64")):
+        text, _ = whole(TWO, POINTS.replace("0,-2,0,2,-30,0,10,0", face), "--volume-unit", "1")
+        holds(words in text, f"{face}: '{words}' should be in '{text}'")
+    for face, words in (("0,-2,0,2,-1,0,256,0", "cause 20"), ("0,-2,0,2,-1,0,0,5", "cause 20"), ("0,2,0,2,-1,0,1,0", "cause 20"),
+                        ("1000001,-2,0,2,-1,0,1,0", "x1 1000001.0 is not within 1,000,000 (cause 19)"), ("0,-2,0,2,-1,0,1,inf", "second y inf"), ("0,-2,0,,-1,0,1,0", "y2 nan")):
+        _, said = whole(TWO, POINTS.replace("0,-2,0,2,-30,0,10,0", face), wanted=1)
+        holds(words in said and said.count("\n") == 1, f"'{words}' should be in '{said}'")
+
+
 def test_bad_surveys():
     for cells, faces, words in (("", ONE, "should have one column 'cell'"), (TWO.replace("salt", "sand"), ONE, "should have one column 'salt'"),
                                 ("cell,volume,salt\n", ONE, "no row under the heading"), (TWO.replace("\nb", "\na"), ONE, ":3: a second cell called 'a'"),

@@ -9,6 +9,7 @@ import sys
 
 import causes
 import command
+import points
 from command import Bad, count, shown
 from layout import MASS_BITS, RIM, Face, mesh_of, most
 from sessiontext import face_line
@@ -18,12 +19,14 @@ Both tables are CSV with a heading; other columns are not read.
 
   cells   cell (its name), volume (cubic metres), salt (grams per cubic metre)
   faces   face (its name), from, to (names of cells; to is "rim" at the sea or a river), area (square metres),
-          way (metres from the first cell's centre to the face), distance (metres from centre to centre)
+          way (metres from the first cell's centre to the face), distance (metres from centre to centre);
+          or, in the place of way and distance, plane coordinates in metres: x1, y1, x2, y2 (the face's two ends),
+          first x, first y, second x, second y (the centres of its cells)
 
 Cells and faces are numbered in the order of their rows. What is written is text for tools/records.py, without steps:
 
   V      volume divided by the unit of volume, to the nearest whole number, 1 to 4,095
-  share  256 times way divided by distance, 1 to 255
+  share  256 times way divided by distance, 1 to 255; from coordinates by document 02's S-7, as the engine does it
   reach  area times distance divided by the unit of volume, 1 to 4,095
   mass   V times the salt in units of salt; so q is the salt that was measured, in those units
 
@@ -42,7 +45,8 @@ LARGEST_UNIT = 10 ** 12
 class Rows:
     """The rows of a table by the words of its heading."""
 
-    def __init__(self, path, wanted):
+    def __init__(self, path, wanted, either=((),)):
+        """The columns wanted, and those of the first of the lists `either` that the heading has."""
         self.path = path
         try:
             with command.opened(path) as file:
@@ -52,10 +56,11 @@ class Rows:
         except csv.Error as error:
             raise Bad(f"{path}: {error}") from None
         heading = [words.strip().lower() for words in rows[0]] if rows else []
-        for words in wanted:
+        chosen = next((columns for columns in either if all(words in heading for words in columns)), either[0])
+        for words in (*wanted, *chosen):
             if heading.count(words) != 1:
                 raise Bad(f"{path}:1: the heading should have one column '{words}'")
-        self.comma, self.at = comma, {words: heading.index(words) for words in wanted}
+        self.comma, self.chosen, self.at = comma, chosen, {words: heading.index(words) for words in (*wanted, *chosen)}
         self.rows = [(line, row) for line, row in enumerate(rows, 1) if line > 1 and any(word.strip() for word in row)]
         if not self.rows:
             raise Bad(f"{path}: there is no row under the heading")
@@ -69,13 +74,17 @@ class Rows:
             raise Bad(f"{self.path}:{line}: {column} should be a name, not {shown(word)}")
         return " ".join(word.split())
 
+    def float(self, word):
+        """A word as a float, not a number where it is none."""
+        try:
+            return float("nan" if "_" in word else word.replace(",", ".") if self.comma == ";" else word)
+        except ValueError:
+            return math.nan
+
     def number(self, line, row, column, least=0.0):
         word = self.word(line, row, column)
-        try:
-            value = float(word.replace(",", ".") if self.comma == ";" else word)
-        except ValueError:
-            value = math.nan
-        if not least <= value <= LARGEST_UNIT or "_" in word:
+        value = self.float(word)
+        if not least <= value <= LARGEST_UNIT:
             raise Bad(f"{self.path}:{line}: {column} should be a number{' above 0' if least else ''}, not {shown(word)}")
         return value
 
@@ -98,15 +107,22 @@ class Survey:
         self.faces = [self.face(faces, line, row) for line, row in faces.rows]
 
     def face(self, faces, line, row):
-        """Name, first, second, way over distance and area times distance."""
+        """Name, first, second, share and area times distance."""
         name = faces.name(line, row, "face")
         first, second = self.cell(faces, line, row, "from"), self.cell(faces, line, row, "to")
         if second == RIM:
             return name, first, RIM, 0, 0
+        area = faces.number(line, row, "area", LEAST)
+        if faces.chosen == points.COLUMNS:
+            coordinates = [faces.float(faces.word(line, row, column)) for column in points.COLUMNS]
+            share = points.share(coordinates)
+            if isinstance(share, causes.Refusal):
+                raise Bad(f"{faces.path}:{line}: {causes.told(share)}")
+            return name, first, second, share, area * points.distance(coordinates)
         way, distance = faces.number(line, row, "way", LEAST), faces.number(line, row, "distance", LEAST)
         if way >= distance:
             raise Bad(f"{faces.path}:{line}: the way {way:g} to the face should be less than the distance {distance:g}")
-        return name, first, second, way / distance, faces.number(line, row, "area", LEAST) * distance
+        return name, first, second, min(max(round(256 * way / distance), 1), causes.MOST_SHARE), area * distance
 
     def cell(self, faces, line, row, column):
         name = faces.name(line, row, column)
@@ -137,7 +153,7 @@ class Lagoon:
             if second == RIM:
                 faces.append(Face(first, RIM, 0, 0))
             else:
-                faces.append(Face(first, second, min(max(round(256 * share), 1), causes.MOST_SHARE), self.whole("reach", reach, f"face {shown(name)}")))
+                faces.append(Face(first, second, share, self.whole("reach", reach, f"face {shown(name)}")))
         self.mesh = mesh_of(volumes, faces)
         self.masses = [round(volume * salt / salt_unit) for volume, salt in zip(volumes, survey.salts)]
         for name, salt, mass, volume in zip(survey.names, survey.salts, self.masses, volumes):
@@ -199,7 +215,7 @@ def main():
     command.apart(options.output, options.cells, options.faces)
     if options.cells == options.faces == "-":
         raise Bad("only one of the two can be standard input")
-    survey = Survey(Rows(options.cells, ("cell", "volume", "salt")), Rows(options.faces, ("face", "from", "to", "area", "way", "distance")))
+    survey = Survey(Rows(options.cells, ("cell", "volume", "salt")), Rows(options.faces, ("face", "from", "to", "area"), (("way", "distance"), points.COLUMNS)))
     lagoon = Lagoon(survey, options.volume_unit or chosen_unit(survey), options.salt_unit)
     command.write_whole(options.output, lagoon.text().encode())
     command.say("\n".join(lagoon.report()))

@@ -11,6 +11,7 @@ use model::Answer;
 use model::Refusal;
 use page::PageAnswer;
 use reading::MeshAnswer;
+use survey::ShareAnswer;
 use taking::StepTaken;
 use transport::StepAnswer;
 use writing::WriteAnswer;
@@ -125,6 +126,13 @@ pub fn taken(said: StepTaken) {
             show::number(printed.total);
         }
         StepTaken::Refused(refusal) => refused(refusal),
+    }
+}
+
+pub fn share(said: ShareAnswer) {
+    match said {
+        ShareAnswer::Share(k) => accepted_with(k),
+        ShareAnswer::Refused(refusal) => refused(refusal),
     }
 }
 

@@ -62,6 +62,10 @@ const DROP: u64 = 25;
 
 const GIVE_BACK: u64 = 26;
 
+const MIDDLE_STAGE: u64 = 27;
+
+const FACE_SHARE: u64 = 28;
+
 // The arguments of a call from the left: 1 a number, 2 a table, 3 a table of signed numbers, 4 bytes. No call has the shape 0.
 fn shape(call: u64) -> u64 {
     match call {
@@ -87,6 +91,7 @@ fn shape(call: u64) -> u64 {
         PAGE => 0x1221_4000_0000_0000,
         KEEP | GIVE_BACK => 0x1222_1000_0000_0000,
         DROP => 0x1210_0000_0000_0000,
+        MIDDLE_STAGE | FACE_SHARE => 0x1111_1111_0000_0000,
         _ => 0,
     }
 }
@@ -130,6 +135,8 @@ fn make(call: u64, words: &[u64], ints: &[i64], bytes: &[u8]) {
         KEEP => field_calls::keep(words),
         DROP => field_calls::drop(words),
         GIVE_BACK => field_calls::give_back(words),
+        MIDDLE_STAGE => point_calls::middle_stage(words),
+        FACE_SHARE => point_calls::face_share(words),
         _ => make_on_records(call, words, ints, bytes),
     }
     show::word(b"\n");

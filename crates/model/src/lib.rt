@@ -54,6 +54,8 @@ pub enum Cause {
     Name,
     Room,
     Unkept,
+    Coordinate,
+    Ratio,
 }
 
 pub struct Refusal {
@@ -89,6 +91,8 @@ pub fn number(cause: Cause) -> u64
         Cause::Name => 15,
         Cause::Room => 16,
         Cause::Unkept => 17,
+        Cause::Coordinate => 19,
+        Cause::Ratio => 20,
     }
 }
 

@@ -1,0 +1,4 @@
+pub mod Floats
+pub mod Shares
+pub mod Stages
+pub mod Figures
