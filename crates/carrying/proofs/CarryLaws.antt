@@ -17,11 +17,11 @@ use Rattle.lists.specs.Fold.{least, greatest}
 use Rattle.lists.proofs.Tests.{Same, same, other, same?}
 use Rattle.lists.proofs.Sums.{sum-zero, sum-more, sum-term, least-start, greatest-start, least-more, greatest-more}
 use Rattle.model.specs.Accepted.{Ready, maxCarried}
-use Rattle.model.specs.Mesh.{rim, maxConcentration, atRim, first, second, share, reach, incoming, outgoing}
+use Rattle.model.specs.Mesh.{rim, atRim, first, second, share, reach, incoming, outgoing}
 use Rattle.model.specs.Step.{StepInput, flux, outside, mass, concentration, beyond, upwind, downwind, upwindShare, carried, correction, adjacent, inMass, outMass}
 use Rattle.model.proofs.Low.{low-affords}
 use Rattle.model.proofs.Accepted.{flux-few, flux-reach}
-use Rattle.model.proofs.Sizes.{mass-most, carried-size, incoming-most, inMass-most, outMass-most}
+use Rattle.model.proofs.Sizes.{mass-most, beyond-most, carried-size, incoming-most, inMass-most, outMass-most}
 use Rattle.face.specs.Correction.{coded, correctionOf}
 use Rattle.face.specs.Exchange.{EndsIn, Transferred}
 use Rattle.face.proofs.Corrections.{correction-none}
@@ -132,13 +132,6 @@ module _ (S : StepInput) (r : Ready S) (f : ℕ) (h : f < S .mesh .faces) (enter
   unfolding carried upwind
   through-is = rw (near-is, far-is) (sym (scale (flux S f) _))
 
-  far-most : far ≤ maxConcentration
-  far-most = go (eqb (second M f) rim) (same? (second M f) rim)
-    where
-      go : (b : Bool) → Same (second M f) rim b → cond b (outside S f) (ofCell work (second M f) 0) ≤ maxConcentration
-      go true o = r .water .outside-most f h
-      go false (other d) = let i = r .fit .second-in f h d in rw (s .q-at (second M f) i) (r .salt-most (second M f) i)
-
   asks-there : FaceAsks f (first M f) (second M f) (size (flux S f)) (share M f) (reach M f) near far (M .cells) through next moved work
   asks-there = record {
     ends = ends-in S r f h;
@@ -146,7 +139,7 @@ module _ (S : StepInput) (r : Ready S) (f : ℕ) (h : f < S .mesh .faces) (enter
     in-moved = rw (s .moved-long) h;
     in-work = face-in f (M .cells) (M .faces) (length work) h (s .work-long);
     first-most = rw near-is (r .salt-most (first M f) (r .fit .first-in f h));
-    beyond-most = far-most;
+    beyond-most = rw far-is (beyond-most S r f h);
     size-most = flux-few S r f h;
     within-reach = flux-reach S r f h;
     share-most = r .fit .share-most f h;

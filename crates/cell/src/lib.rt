@@ -1,9 +1,10 @@
 // The four entries of a cell in the table lent as work, and what the passes do with them.
 use model::RIM;
+pub use signed::raise;
 ghost use mathlib.Core.Path.{_≡_};
 ghost use mathlib.Core.Logic.{_≢_};
-ghost use Prim.Native.Nat.{_<_, _+_, _-_, _*_, _^_, min, max};
-ghost use lib.ListN.{length, getD, set};
+ghost use Prim.Native.Nat.{_<_, _+_, _*_, min, max};
+ghost use lib.ListN.{length};
 ghost use Rattle.signed.specs.Sign.{withSign};
 ghost use Rattle.lists.specs.Table.{table};
 ghost use Rattle.model.specs.Mesh.{rim, maxCells};
@@ -100,14 +101,6 @@ pub fn allowance_at(work: &mut [u64], c: usize, volume: u64, low: u64)
     let loss = low - volume * work[at + LO];
     let gain = volume * work[at + HI] + volume - 1 - low;
     fill(work, c, 0, loss, gain, 0);
-}
-
-// An entry raised.
-pub fn raise(work: &mut [u64], at: usize, amount: u64)
-    requires { ⌜ (at < length (now work)) × (getD (now work) at 0 + amount < 2 ^ 64) ⌝ }
-    ensures { λ _. ⌜ now (work .exit) ≡ set (now (work .entry)) at (getD (now (work .entry)) at 0 + amount) ⌝ }
-{
-    work[at] = work[at] + amount;
 }
 
 // All entries 0.

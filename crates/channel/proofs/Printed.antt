@@ -61,7 +61,9 @@ module _ (M : Mesh) where
   from-step most step b masses masses′ input bs rest text p a r s m e =
       ap (λ (x : List ℕ). stepText step (stepSaid M masses x)
       ++ cond (goesOnAfter (stepSaid M masses x)) (stepsPrinted M most (step + 1) (fieldThen M masses x) (following x (b ∷ input))) (boardPrinted M (fieldThen M masses x))) a
-      ∙ ap (λ (o : Outcome Printed). stepText step o ++ cond (goesOnAfter o) (stepsPrinted M most (step + 1) (fieldThen M masses bs) (following bs (b ∷ input))) (boardPrinted M (fieldThen M masses bs))) s
+      ∙ ap (λ (o : Outcome Printed). stepText step o ++ cond (goesOnAfter o)
+      (stepsPrinted M most (step + 1) (fieldThen M masses bs) (following bs (b ∷ input)))
+      (boardPrinted M (fieldThen M masses bs))) s
       ∙ ap (λ (x : List ℕ). stepLine step (p .entered) (p .gone) (p .total) ++ stepsPrinted M most (step + 1) x (following bs (b ∷ input))) m
       ∙ ap (λ (x : List ℕ). stepLine step (p .entered) (p .gone) (p .total) ++ stepsPrinted M most (step + 1) masses′ x) r
       ∙ ap (λ (x : List ℕ). stepLine step (p .entered) (p .gone) (p .total) ++ x) e

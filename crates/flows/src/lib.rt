@@ -4,13 +4,14 @@ use model::Cause;
 use model::Refusal;
 use model::needs::and_then;
 use signed::is_negative_at;
+use signed::raise;
 use signed::size_at;
 ghost use mathlib.Core.Path.{_≡_};
 ghost use mathlib.Core.Bool.{cond};
-ghost use Prim.Native.Nat.{ℕ, _+_, _≤_, _<_, _^_};
+ghost use Prim.Native.Nat.{ℕ, _+_, _≤_, _<_};
 ghost use lib.Dec.{eqb, leb};
 ghost use lib.IntN.{pos};
-ghost use lib.ListN.{length, getD, set};
+ghost use lib.ListN.{length, getD};
 ghost use Rattle.lists.specs.Table.{table};
 ghost use Rattle.signed.specs.Sign.{size as sizeOf};
 ghost use Rattle.model.specs.Mesh.{maxCells, maxFaces, rim, maxRimFlux, incoming, outgoing};
@@ -38,15 +39,6 @@ pub fn giver(negative: bool, first: u64, second: u64) -> u64
         return second;
     }
     first
-}
-
-// x added to one entry.
-pub fn add_at(xs: &mut [u64], i: u64, x: u64)
-    requires { ⌜ (i < length (now xs)) × (getD (now xs) i 0 + x < 2 ^ 64) ⌝ }
-    ensures { λ _. ⌜ now (xs .exit) ≡ set (now (xs .entry)) i (getD (now (xs .entry)) i 0 + x) ⌝ }
-{
-    let k = i as usize;
-    xs[k] = xs[k] + x;
 }
 
 // What each face lets into one end and out of the other.
@@ -78,8 +70,8 @@ pub fn gather(
         let size = size_at(fluxes, f);
         let first = firsts[f];
         let second = seconds[f];
-        add_at(inflow, receiver(negative, first, second), size);
-        add_at(outflow, giver(negative, first, second), size);
+        raise(inflow, receiver(negative, first, second) as usize, size);
+        raise(outflow, giver(negative, first, second) as usize, size);
         f += 1;
     }
 }

@@ -58,7 +58,7 @@ portion-le a g p = go (leb p g) (fits? p g)
 module _ (S : StepInput) (r : Ready S) where
   open StepInput S using (mesh as M)
 
-  beyond-most : (f : ℕ) → f < M .faces → beyond S f ≤ maxConcentration
+  pub beyond-most : (f : ℕ) → f < M .faces → beyond S f ≤ maxConcentration
   unfolding beyond
   beyond-most f h = go (atRim M f) (same? (second M f) rim)
     where

@@ -35,7 +35,8 @@ body-value h bs head S k j i e =
 
 pub body-column : (h : ℕ) (bs : List ℕ) (head : Section) (S : List Section) (k j : ℕ) → 8 * h ≡ sectionBits head → columnIn (bodyOf h bs) S k j ≡ columnIn bs (head ∷ S) (suc k) j
 body-column h bs head S k j e =
-    table-cong {A = ℕ} 0 (rowsOf (sectionIn S k)) (entryIn (bodyOf h bs) S k j) (entryIn bs (head ∷ S) (suc k) j) (λ i l. ap (λ (x : ℕ). cond (hasRow (sectionIn S k) i) x 0) (body-value h bs head S k j i e))
+    table-cong {A = ℕ} 0 (rowsOf (sectionIn S k)) (entryIn (bodyOf h bs) S k j) (entryIn bs (head ∷ S) (suc k) j)
+    (λ i l. ap (λ (x : ℕ). cond (hasRow (sectionIn S k) i) x 0) (body-value h bs head S k j i e))
 
 entry-le : (ws : List ℕ) (j : ℕ) → getD ws j 0 ≤ rowBits ws
 entry-le [] j = omega arith
@@ -103,7 +104,8 @@ module _ {S : List Section} {k j n first stride w : ℕ} (c : Column S k j n fir
   column-written v fits r p e = written-column S v fits k j r p column-among column-rows column-width column-there (λ i l t. column-place i) e
 
 -- a field of a head, which has one row
-pub head-written : {S : List Section} {k j p stride w : ℕ} → Column S k j 1 p stride w → (v : Values) → Fits S v → {put : ℕ → ℕ → Bool} {old mid out : List ℕ} {x : ℕ} → Written S v put old mid → Put mid p w x out
+pub head-written : {S : List Section} {k j p stride w : ℕ} → Column S k j 1 p stride w → (v : Values) → Fits S v
+    → {put : ℕ → ℕ → Bool} {old mid out : List ℕ} {x : ℕ} → Written S v put old mid → Put mid p w x out
     → v k j 0 ≡ x → Written S v (and put k j) old out
 head-written {S} {k} {j} {p} {stride} c v fits {x = x} r q e =
     written-column S v fits k j r (column-one q) (column-among c) (column-rows c) (column-width c) (column-there c) (λ i l t. at i l) (λ i l. same i l)
@@ -118,5 +120,6 @@ head-written {S} {k} {j} {p} {stride} c v fits {x = x} r q e =
     same i l = rw (zeroth i l) e
 
 -- the same column with a head before it
-pub column-after : {S : List Section} {k j n first stride w : ℕ} (head : Section) (start : ℕ) → Column S k j n first stride w → sectionBits head + first ≡ start → Column (head ∷ S) (suc k) j n start stride w
+pub column-after : {S : List Section} {k j n first stride w : ℕ} (head : Section) (start : ℕ) → Column S k j n first stride w
+    → sectionBits head + first ≡ start → Column (head ∷ S) (suc k) j n start stride w
 column-after head start c e = record { widths = c .widths; every = c .every; among = c .among; wide = c .wide; apart = c .apart; begins = omega (arith, c .begins) }

@@ -139,7 +139,8 @@ column-one {bs} {out} {p} {w} q = record { same-length = q .same-length; inside 
 bit-of : (a b : List ℕ) (p w i : ℕ) → bitsAt a p w ≡ bitsAt b p w → p ≤ i → i < p + w → bitAt a i ≡ bitAt b i
 bit-of a b p w i e l m =
     let q : p + (i - p) ≡ i = omega arith in
-    ap (λ (k : ℕ). bitAt a k) (sym q) ∙ sym (bits-bit a p w (i - p) (omega arith)) ∙ ap (λ (x : ℕ). x / 2 ^ (w - suc (i - p)) % 2) e ∙ bits-bit b p w (i - p) (omega arith) ∙ ap (λ (k : ℕ). bitAt b k) q
+    ap (λ (k : ℕ). bitAt a k) (sym q) ∙ sym (bits-bit a p w (i - p) (omega arith)) ∙ ap (λ (x : ℕ). x / 2 ^ (w - suc (i - p)) % 2) e
+    ∙ bits-bit b p w (i - p) (omega arith) ∙ ap (λ (k : ℕ). bitAt b k) q
 
 -- the field of a column that a bit lies in, if it does
 data Within (n : ℕ) (test : ℕ → Bool) (pl : ℕ → ℕ) (w b : ℕ) : Type 0 where
@@ -150,7 +151,8 @@ within : (n : ℕ) (test : ℕ → Bool) (pl : ℕ → ℕ) (w b : ℕ) → With
 within zero test pl w b = in-none (λ i l. absurd (not-suc-le-zero l))
 within (suc n) test pl w b = go (within n test pl w b) (test n) refl (decLt b (pl n)) (decLt b (pl n + w))
   where
-    add : ((i : ℕ) → i < n → test i ≡ true → (b < pl i) ⊎ (pl i + w ≤ b)) → (test n ≡ true → (b < pl n) ⊎ (pl n + w ≤ b)) → (i : ℕ) → i < suc n → test i ≡ true → {d : Bool} → Same i n d → (b < pl i) ⊎ (pl i + w ≤ b)
+    add : ((i : ℕ) → i < n → test i ≡ true → (b < pl i) ⊎ (pl i + w ≤ b)) → (test n ≡ true → (b < pl n) ⊎ (pl n + w ≤ b))
+        → (i : ℕ) → i < suc n → test i ≡ true → {d : Bool} → Same i n d → (b < pl i) ⊎ (pl i + w ≤ b)
     add h k i l t (same e) = rw e (k (rw e at t))
     add h k i l t (other d) = h i (omega arith) t
 
@@ -199,7 +201,8 @@ module _ (S : List Section) (v : Values) where
   module _ (fits : Fits S v) where
     -- one column more
     pub written-column : {put : ℕ → ℕ → Bool} {old mid out : List ℕ} (k j : ℕ) {n : ℕ} {test : ℕ → Bool} {pl x : ℕ → ℕ} {w : ℕ} → Written put old mid → PutColumn mid n test pl w x out
-        → j < length (widthsOf (sectionIn S k)) → rowsOf (sectionIn S k) ≡ n → width S k j ≡ w → ((i : ℕ) → hasRow (sectionIn S k) i ≡ test i) → ((i : ℕ) → i < n → test i ≡ true → place S k j i ≡ pl i)
+        → j < length (widthsOf (sectionIn S k)) → rowsOf (sectionIn S k) ≡ n → width S k j ≡ w
+        → ((i : ℕ) → hasRow (sectionIn S k) i ≡ test i) → ((i : ℕ) → i < n → test i ≡ true → place S k j i ≡ pl i)
         → ((i : ℕ) → i < n → v k j i ≡ x i) → Written (and put k j) old out
     written-column {put} {old} {mid} {out} k j {n} {test} {pl} {x} {w} r c jl en ew et ep ex =
         record { same-length = c .same-length ∙ r .same-length; bits = λ b. both b (toward b) (r .bits b); spells = spells-all }
@@ -225,7 +228,8 @@ module _ (S : List Section) (v : Values) where
                 let hi : b < place S k j i + width S k j = rw (ep i l t, ew) q in
                 inr (omega arith, bit-of out (recordOf S v) (place S k j i) (width S k j) b (mine i h ∙ sym (value-back S v fits k j i h)) lo hi)
 
-        both : (b : ℕ) → (bitAt out b ≡ bitAt mid b) ⊎ ((b < shapeBits S) × (bitAt out b ≡ bitAt (recordOf S v) b)) → (bitAt mid b ≡ bitAt old b) ⊎ ((b < shapeBits S) × (bitAt mid b ≡ bitAt (recordOf S v) b))
+        both : (b : ℕ) → (bitAt out b ≡ bitAt mid b) ⊎ ((b < shapeBits S) × (bitAt out b ≡ bitAt (recordOf S v) b))
+            → (bitAt mid b ≡ bitAt old b) ⊎ ((b < shapeBits S) × (bitAt mid b ≡ bitAt (recordOf S v) b))
             → (bitAt out b ≡ bitAt old b) ⊎ ((b < shapeBits S) × (bitAt out b ≡ bitAt (recordOf S v) b))
         both b (inr p) q = inr p
         both b (inl e) (inl d) = inl (e ∙ d)
@@ -235,7 +239,9 @@ module _ (S : List Section) (v : Values) where
         stays : (k′ j′ i : ℕ) → Has S k′ j′ i → valueIn mid S k′ j′ i ≡ v k′ j′ i → valueIn out S k′ j′ i ≡ v k′ j′ i
         stays k′ j′ i h e = bits-same out (recordOf S v) (place S k′ j′ i) (width S k′ j′) (λ b l m. go b l m (toward b)) ∙ value-back S v fits k′ j′ i h
           where
-            go : (b : ℕ) → place S k′ j′ i ≤ b → b < place S k′ j′ i + width S k′ j′ → (bitAt out b ≡ bitAt mid b) ⊎ ((b < shapeBits S) × (bitAt out b ≡ bitAt (recordOf S v) b)) → bitAt out b ≡ bitAt (recordOf S v) b
+            go : (b : ℕ) → place S k′ j′ i ≤ b → b < place S k′ j′ i + width S k′ j′
+                → (bitAt out b ≡ bitAt mid b) ⊎ ((b < shapeBits S) × (bitAt out b ≡ bitAt (recordOf S v) b))
+                → bitAt out b ≡ bitAt (recordOf S v) b
             go b l m (inr p) = p .1
             go b l m (inl d) = d ∙ bit-of mid (recordOf S v) (place S k′ j′ i) (width S k′ j′) b (e ∙ sym (value-back S v fits k′ j′ i h)) l m
 
@@ -255,7 +261,9 @@ module _ (S : List Section) (v : Values) where
       begun-end (fieldsOf S v) (e ∙ sym (width-fields S v)) (rw (width-fields S v) full) (rw (width-fields S v) room) small-old small-out begun q
     where
       reads : (b : ℕ) → b < widthOf (fieldsOf S v) → bitAt mid b ≡ getD (bitsOf (fieldsOf S v)) b 0
-      reads b l = sym (read-bit (fields-read mid 0 S v (λ k j i h. sym (r .spells k j i (covered S put all k j (h .among)) h) ∙ ap (λ (p : ℕ). bitsAt mid p (width S k j)) (sym (zero-add (place S k j i))))) b l
+      reads b l = sym (read-bit (fields-read mid 0 S v
+          (λ k j i h. sym (r .spells k j i (covered S put all k j (h .among)) h)
+          ∙ ap (λ (p : ℕ). bitsAt mid p (width S k j)) (sym (zero-add (place S k j i))))) b l
           ∙ ap (λ (p : ℕ). bitAt mid p) (zero-add b))
 
       kept : (b : ℕ) → widthOf (fieldsOf S v) ≤ b → (bitAt mid b ≡ bitAt old b) ⊎ ((b < shapeBits S) × (bitAt mid b ≡ bitAt (packed (fieldsOf S v)) b)) → bitAt mid b ≡ bitAt old b

@@ -139,5 +139,7 @@ pub record-again : (bs : List ℕ) (S : List Section) (v : Values) → length bs
     → ((i : ℕ) → shapeBits S ≤ i → i < 8 * length bs → bitAt bs i ≡ 0) → ((k j i : ℕ) → Has S k j i → v k j i ≡ valueIn bs S k j i) → recordOf S v ≡ bs
 unfolding recordOf
 record-again bs S v len small pad same =
-    pack-read bs (fieldsOf S v) (fields-read bs 0 S v (λ k j i h. same k j i h ∙ ap (λ (p : ℕ). bitsAt bs p (width S k j)) (sym (zero-add (place S k j i))))) (len ∙ ap bytesFor (sym (width-fields S v))) small
+    pack-read bs (fieldsOf S v)
+    (fields-read bs 0 S v (λ k j i h. same k j i h ∙ ap (λ (p : ℕ). bitsAt bs p (width S k j)) (sym (zero-add (place S k j i)))))
+    (len ∙ ap bytesFor (sym (width-fields S v))) small
     (λ i l m. pad i (rw (width-fields S v) at l) m)

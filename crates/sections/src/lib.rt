@@ -29,7 +29,8 @@ pub fn read_column(
 )
     requires { do ⌜ (8 * length (now bytes) < 2 ^ 64) × (width ≤ (← ⟦bits::WIDEST⟧)) × (n ≤ length (now out)) ⌝ }
     requires { ⌜ ((i : ℕ) → i < n → first + i * stride + width ≤ 8 * length (now bytes)) ⌝ }
-    ensures { λ _. ⌜ now (out .exit) ≡ over (table n (λ i. bitsAt (now (bytes .entry)) (first + i * stride) width)) (now (out .entry)) ⌝ }
+    ensures { λ _. ⌜ now (out .exit)
+        ≡ over (table n (λ i. bitsAt (now (bytes .entry)) (first + i * stride) width)) (now (out .entry)) ⌝ }
 {
     let mut i = 0;
     while i < n {
@@ -48,8 +49,12 @@ pub fn put_column(
     values: &[u64],
 )
     requires { do ⌜ (width ≤ (← ⟦bits::WIDEST⟧)) × (width ≤ stride) × (n ≤ length (now values)) ⌝ }
-    requires { ⌜ ((i : ℕ) → i < n → (first + i * stride + width ≤ 8 * length (now bytes)) × (first + i * stride + width < 2 ^ 64)) × ((i : ℕ) → i < n → getD (now values) i 0 < 2 ^ width) ⌝ }
-    ensures { λ _. ⌜ PutColumn (now (bytes .entry)) n (λ _. true) (λ i. first + i * stride) width (λ i. getD (now (values .entry)) i 0) (now (bytes .exit)) ⌝ }
+    requires { ⌜ ((i : ℕ) → i < n
+        → (first + i * stride + width ≤ 8 * length (now bytes))
+        × (first + i * stride + width < 2 ^ 64))
+        × ((i : ℕ) → i < n → getD (now values) i 0 < 2 ^ width) ⌝ }
+    ensures { λ _. ⌜ PutColumn (now (bytes .entry)) n (λ _. true) (λ i. first + i * stride) width
+        (λ i. getD (now (values .entry)) i 0) (now (bytes .exit)) ⌝ }
 {
     let mut i = 0;
     while i < n {
@@ -68,8 +73,11 @@ fn sign(negative: bool) -> u64
 // The signs of n entries: the bit at first + i * stride takes that of entry i.
 pub fn put_signs(bytes: &mut [u8], first: usize, stride: usize, n: usize, values: &[i64])
     requires { ⌜ (1 ≤ stride) × (n ≤ length (now values)) ⌝ }
-    requires { ⌜ ((i : ℕ) → i < n → (first + i * stride + 1 ≤ 8 * length (now bytes)) × (first + i * stride + 1 < 2 ^ 64)) ⌝ }
-    ensures { λ _. ⌜ PutColumn (now (bytes .entry)) n (λ _. true) (λ i. first + i * stride) 1 (λ i. cond (isNegative (getD (now (values .entry)) i (pos 0))) 1 0) (now (bytes .exit)) ⌝ }
+    requires { ⌜ ((i : ℕ) → i < n
+        → (first + i * stride + 1 ≤ 8 * length (now bytes))
+        × (first + i * stride + 1 < 2 ^ 64)) ⌝ }
+    ensures { λ _. ⌜ PutColumn (now (bytes .entry)) n (λ _. true) (λ i. first + i * stride) 1
+        (λ i. cond (isNegative (getD (now (values .entry)) i (pos 0))) 1 0) (now (bytes .exit)) ⌝ }
 {
     let mut i = 0;
     while i < n {
@@ -89,8 +97,12 @@ pub fn put_sizes(
     values: &[i64],
 )
     requires { do ⌜ (width ≤ (← ⟦bits::WIDEST⟧)) × (width ≤ stride) × (n ≤ length (now values)) ⌝ }
-    requires { ⌜ ((i : ℕ) → i < n → (first + i * stride + width ≤ 8 * length (now bytes)) × (first + i * stride + width < 2 ^ 64)) × ((i : ℕ) → i < n → sizeOf (getD (now values) i (pos 0)) < 2 ^ width) ⌝ }
-    ensures { λ _. ⌜ PutColumn (now (bytes .entry)) n (λ _. true) (λ i. first + i * stride) width (λ i. sizeOf (getD (now (values .entry)) i (pos 0))) (now (bytes .exit)) ⌝ }
+    requires { ⌜ ((i : ℕ) → i < n
+        → (first + i * stride + width ≤ 8 * length (now bytes))
+        × (first + i * stride + width < 2 ^ 64))
+        × ((i : ℕ) → i < n → sizeOf (getD (now values) i (pos 0)) < 2 ^ width) ⌝ }
+    ensures { λ _. ⌜ PutColumn (now (bytes .entry)) n (λ _. true) (λ i. first + i * stride) width
+        (λ i. sizeOf (getD (now (values .entry)) i (pos 0))) (now (bytes .exit)) ⌝ }
 {
     let mut i = 0;
     while i < n {
@@ -104,7 +116,9 @@ pub fn put_sizes(
 pub fn read_signed(bytes: &[u8], first: usize, width: usize, n: usize, out: &mut [i64])
     requires { do ⌜ (8 * length (now bytes) < 2 ^ 64) × (width ≤ (← ⟦bits::WIDEST⟧)) × (n ≤ length (now out)) ⌝ }
     requires { ⌜ ((i : ℕ) → i < n → first + i * (1 + width) + (1 + width) ≤ 8 * length (now bytes)) ⌝ }
-    ensures { λ _. ⌜ now (out .exit) ≡ over (table n (λ i. withSign (eqb (bitsAt (now (bytes .entry)) (first + i * (1 + width)) 1) 1) (bitsAt (now (bytes .entry)) (first + i * (1 + width) + 1) width))) (now (out .entry)) ⌝ }
+    ensures { λ _. ⌜ now (out .exit) ≡ over (table n (λ i. withSign
+        (eqb (bitsAt (now (bytes .entry)) (first + i * (1 + width)) 1) 1)
+        (bitsAt (now (bytes .entry)) (first + i * (1 + width) + 1) width))) (now (out .entry)) ⌝ }
 {
     let mut i = 0;
     while i < n {
@@ -116,10 +130,15 @@ pub fn read_signed(bytes: &[u8], first: usize, width: usize, n: usize, out: &mut
     }
 }
 
-fn one_if(b: bool) -> usize
-    ensures { λ r. ⌜ r ≡ cond b 1 0 ⌝ }
+// The place after a row's field, where there is one; with a width of 1, the count with the row.
+fn after(at: usize, width: usize, here: bool) -> usize
+    requires { ⌜ at + width < 2 ^ 64 ⌝ }
+    ensures { λ r. ⌜ r ≡ at + cond here 1 0 * width ⌝ }
 {
-    if b { 1 } else { 0 }
+    if here {
+        return at + width;
+    }
+    at
 }
 
 // How many of the first n rows a table marks.
@@ -130,7 +149,7 @@ pub fn count_marked(mark: u64, n: usize, marks: &[u64]) -> usize
     let mut count = 0;
     let mut i = 0;
     while i < n {
-        count = count + one_if(marks[i] == mark);
+        count = after(count, 1, marks[i] == mark);
         i += 1;
     }
     count
@@ -147,17 +166,6 @@ fn field_if(bytes: &[u8], at: usize, width: usize, here: bool) -> u64
     ABSENT
 }
 
-// The place after it.
-fn after(at: usize, width: usize, here: bool) -> usize
-    requires { ⌜ at + width < 2 ^ 64 ⌝ }
-    ensures { λ r. ⌜ r ≡ at + cond here 1 0 * width ⌝ }
-{
-    if here {
-        return at + width;
-    }
-    at
-}
-
 // One field for each of n rows that the table of marks marks, one after another from `first` on; other entries below n become 0.
 pub fn read_marked(
     bytes: &[u8],
@@ -168,8 +176,15 @@ pub fn read_marked(
     marks: &[u64],
     out: &mut [u64],
 )
-    requires { do ⌜ (8 * length (now bytes) + width < 2 ^ 64) × (width ≤ (← ⟦bits::WIDEST⟧)) × (n ≤ length (now out)) × (n ≤ length (now marks)) × (first + those (marked mark (now marks)) n * width ≤ 8 * length (now bytes)) ⌝ }
-    ensures { λ _. ⌜ now (out .exit) ≡ over (table n (λ i. cond (marked mark (now (marks .entry)) i) (bitsAt (now (bytes .entry)) (first + those (marked mark (now (marks .entry))) i * width) width) 0)) (now (out .entry)) ⌝ }
+    requires { do
+      ⌜ (8 * length (now bytes) + width < 2 ^ 64)
+          × (width ≤ (← ⟦bits::WIDEST⟧))
+          × (n ≤ length (now out))
+          × (n ≤ length (now marks))
+          × (first + those (marked mark (now marks)) n * width ≤ 8 * length (now bytes)) ⌝ }
+    ensures { λ _. ⌜ now (out .exit) ≡ over (table n (λ i. cond (marked mark (now (marks .entry)) i)
+        (bitsAt (now (bytes .entry)) (first + those (marked mark (now (marks .entry))) i * width) width)
+        0)) (now (out .entry)) ⌝ }
 {
     let mut at = first;
     let mut i = 0;
@@ -201,9 +216,16 @@ pub fn put_marked(
     marks: &[u64],
     values: &[u64],
 )
-    requires { do ⌜ (width ≤ (← ⟦bits::WIDEST⟧)) × (n ≤ length (now marks)) × (n ≤ length (now values)) × (first + those (marked mark (now marks)) n * width ≤ 8 * length (now bytes)) × (first + those (marked mark (now marks)) n * width + width < 2 ^ 64) ⌝ }
+    requires { do
+      ⌜ (width ≤ (← ⟦bits::WIDEST⟧))
+          × (n ≤ length (now marks))
+          × (n ≤ length (now values))
+          × (first + those (marked mark (now marks)) n * width ≤ 8 * length (now bytes))
+          × (first + those (marked mark (now marks)) n * width + width < 2 ^ 64) ⌝ }
     requires { ⌜ ((i : ℕ) → i < n → getD (now values) i 0 < 2 ^ width) ⌝ }
-    ensures { λ _. ⌜ PutColumn (now (bytes .entry)) n (marked mark (now (marks .entry))) (λ i. first + those (marked mark (now (marks .entry))) i * width) width (λ i. getD (now (values .entry)) i 0) (now (bytes .exit)) ⌝ }
+    ensures { λ _. ⌜ PutColumn (now (bytes .entry)) n (marked mark (now (marks .entry)))
+        (λ i. first + those (marked mark (now (marks .entry))) i * width) width
+        (λ i. getD (now (values .entry)) i 0) (now (bytes .exit)) ⌝ }
 {
     let mut at = first;
     let mut i = 0;

@@ -79,8 +79,10 @@ module _ (bs : List ℕ) (e : meshRecordFound bs ≡ fine) where
   unfolding countsWithin _andThen_
   counts-pass =
       let m = limits in
-      rw
-      (need-met 1 0 (true-both (le-leb 1 (cellsIn bs) (m .some-cells)) (le-leb (cellsIn bs) maxCells (omega (arith, m .few-cells)))), need-met 1 1 (le-leb (facesIn bs) maxFaces (omega (arith, m .few-faces))))
+      rw (
+        need-met 1 0 (true-both (le-leb 1 (cellsIn bs) (m .some-cells)) (le-leb (cellsIn bs) maxCells (omega (arith, m .few-cells)))),
+        need-met 1 1 (le-leb (facesIn bs) maxFaces (omega (arith, m .few-faces))),
+      )
 
   tables-pass : meshTables (meshIn bs) ≡ fine
   unfolding meshTables _andThen_
@@ -114,7 +116,8 @@ pub record MeshIsRead (bs : List ℕ) (n : MeshCounts) (volumes′ firsts′ sec
 
 -- the tables read into are as long as the run's limits
 module _ {bs volumes firsts seconds shares reaches : List ℕ} {a : MeshAnswer} {volumes′ firsts′ seconds′ shares′ reaches′ : List ℕ}
-    (s : MeshReading (meshRead runCells runFaces bs (length volumes) (length firsts) (length seconds) (length shares) (length reaches)) bs volumes firsts seconds shares reaches a volumes′ firsts′ seconds′ shares′ reaches′)
+    (s : MeshReading (meshRead runCells runFaces bs (length volumes) (length firsts) (length seconds) (length shares) (length reaches))
+    bs volumes firsts seconds shares reaches a volumes′ firsts′ seconds′ shares′ reaches′)
     (lv : length volumes ≡ runCells) (lf : length firsts ≡ runFaces) (ls : length seconds ≡ runFaces) (lw : length shares ≡ runFaces) (lk : length reaches ≡ runFaces) where
   read-said : meshSaid a ≡ (meshRecordFound bs andThen accepted (countsIn bs))
   unfolding meshRead meshRecordFound

@@ -100,8 +100,10 @@ module _ {M : Mesh} {masses : List ℕ} {fluxes : List ℤ} {outsides nexts : Li
 
       -- the total fits, since each next mass is one of an accepted field
       pub sum-asks : (M .cells ≤ length masses′) × (sum (M .cells) (massIn masses′) < 2 ^ 64)
-      sum-asks =
-          (rw masses-are (omega (arith, length-over (M .cells) (next S) masses masses-fit, masses-fit)), omega (arith, sum-is, total-most M (next S) (stepped-ready .counts-fit .few-cells) (next-most S stepped-ready)))
+      sum-asks = (
+        rw masses-are (omega (arith, length-over (M .cells) (next S) masses masses-fit, masses-fit)),
+        omega (arith, sum-is, total-most M (next S) (stepped-ready .counts-fit .few-cells) (next-most S stepped-ready)),
+      )
 
       pub step-done : {t : ℕ} → t ≡ sum (M .cells) (massIn masses′) → SteppedIn M masses fluxes outsides (step-taken.Stepped (record { entered = b .entered; gone = b .gone; total = t })) masses′
       step-done {t = t} h =

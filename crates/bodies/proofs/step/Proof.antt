@@ -1,3 +1,4 @@
+-- The fluxes stand at the body's start and the outside values after the last of them, as the shape of a step says.
 use mathlib.Core.Path.{ap, _∙_}
 use native.Mathlib.Omega.{arith}
 use borrow.Author.Needs.{needs}

@@ -1,3 +1,4 @@
+-- A turn takes the passes' state from f faces to f + 1; after the last it speaks of all faces.
 use Prim.Native.Nat.{_≤_, _<_, _-_}
 use mathlib.Core.Path.{_≡_, sym, _∙_}
 use native.Mathlib.Omega.{arith}

@@ -1,3 +1,4 @@
+-- Each turn writes one cell's four entries and its next mass; the cells before it keep theirs, and those after it stay as lent.
 use Prim.Native.Nat.{_≤_, _<_, _-_}
 use mathlib.Core.Path.{_≡_, refl, ap, _∙_}
 use native.Mathlib.Nat.{lt-of-lt-of-le}
@@ -35,8 +36,7 @@ start-cell-requires c κs =
       s .pre .1 .1 (l .c) (below w),
       rw (l .inv .1) (omega (arith, below w, s .pre .1 .0)),
       rw (l .inv .2 .filling .same-length) (omega (arith, below w, s .pre .1 .0)),
-      lt-of-lt-of-le
-          (below w) (s .pre .0 .0),
+      lt-of-lt-of-le (below w) (s .pre .0 .0),
     )
 
 -- the turn is done

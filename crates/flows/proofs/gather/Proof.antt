@@ -43,16 +43,16 @@ loop-holds : tie.Need-loop-holds Inv-loop μ-loop
 unfolding sum
 loop-holds c = let s = c .before .before .before .before in (search needs, s .pre .1 .1 .0, s .pre .1 .1 .1)
 
-add-at-requires : tie.Need-add-at-requires Inv-loop μ-loop
-add-at-requires c κs =
+raise-requires : tie.Need-raise-requires Inv-loop μ-loop
+raise-requires c κs =
     let z = read c in
     let t = turn z in
     let s = begun t in
     in-asks (s .args .faces) (s .args .firsts .now) (s .args .seconds .now) (s .args .fluxes .now) (s .pre .0 .0) (s .pre .1 .0) (t .before .loop .f) (search needs)
     _ _ (z .before .is-negative-at .ensures) (z .size-at .ensures) _ _ (c .receiver .ensures) (t .before .loop .inv .1)
 
-add-at-requires-2 : tie.Need-add-at-requires-2 Inv-loop μ-loop
-add-at-requires-2 c κs =
+raise-requires-2 : tie.Need-raise-requires-2 Inv-loop μ-loop
+raise-requires-2 c κs =
     let z = read (entered c) in
     let t = turn z in
     let s = begun t in
@@ -71,9 +71,9 @@ loop-again c =
     let n = z .before .is-negative-at .ensures in (
       search needs,
       in-turn (s .args .faces) (s .args .firsts .now) (s .args .seconds .now) (s .args .fluxes .now) (s .pre .0 .0) (s .pre .1 .0) (l .f) less
-          _ _ n (z .size-at .ensures) _ _ (r .receiver .ensures) (l .inv .1) _ (g .before .before .before .before .add-at .ensures),
+          _ _ n (z .size-at .ensures) _ _ (r .receiver .ensures) (l .inv .1) _ (g .before .before .before .before .raise .ensures),
       out-turn (s .args .faces) (s .args .firsts .now) (s .args .seconds .now) (s .args .fluxes .now) (s .pre .0 .0) (s .pre .1 .0) (l .f) less
-          _ _ n (z .size-at .ensures) _ _ (g .giver .ensures) (l .inv .2) _ (c .before .before .add-at2 .ensures),
+          _ _ n (z .size-at .ensures) _ _ (g .giver .ensures) (l .inv .2) _ (c .before .before .raise2 .ensures),
     )
 
 same-length : tie.Need-same-length Inv-loop μ-loop
@@ -92,4 +92,4 @@ pub gather-spec : {M : Type 1} → statement M
 gather-spec =
     tie.close
     (tie.spec Inv-loop μ-loop loop-holds (search needs) (search needs) (search needs) (search needs) (search needs) (search needs) (search needs)
-    add-at-requires (search needs) add-at-requires-2 (search needs) (search needs) loop-again same-length same-length-2 returns)
+    raise-requires (search needs) raise-requires-2 (search needs) (search needs) loop-again same-length same-length-2 returns)

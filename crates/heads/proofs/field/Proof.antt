@@ -1,3 +1,4 @@
+-- A record as long as its head lets the head's fields be read; the tests after that are in the order of the causes.
 use mathlib.Core.Path.{sym}
 use native.Mathlib.Omega.{arith}
 use borrow.Author.Needs.{needs}

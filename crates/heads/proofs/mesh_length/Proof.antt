@@ -1,3 +1,4 @@
+-- A head that passed says counts within the limits, so the length can be summed up.
 use mathlib.Core.Path.{sym}
 use native.Mathlib.Omega.{arith}
 use borrow.Author.Needs.{needs}

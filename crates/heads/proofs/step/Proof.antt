@@ -1,3 +1,4 @@
+-- A record as long as its head lets the head's fields be read; the tests after that are in the order of the causes.
 use mathlib.Core.Path.{sym}
 use native.Mathlib.Omega.{arith}
 use borrow.Author.Needs.{needs}
@@ -41,4 +42,5 @@ returns-2 c =
 pub step-spec : {M : Type 1} → statement M
 step-spec =
     tie.close
-    (tie.spec (search needs) (search needs) returns (search needs) kind-requires (search needs) step-faces-requires (search needs) (search needs) (search needs) (search needs) (search needs) (search needs) returns-2)
+    (tie.spec (search needs) (search needs) returns (search needs) kind-requires (search needs) step-faces-requires (search needs)
+    (search needs) (search needs) (search needs) (search needs) (search needs) returns-2)

@@ -1,3 +1,4 @@
+-- A record that passed has room for its body, so the body's slice is there and its reader may be called.
 use Prim.Native.Nat.{_*_, _^_, _≤_, _<_}
 use mathlib.Core.Path.{_≡_}
 use borrow.Author.Needs.{needs}

@@ -1,5 +1,7 @@
-use Prim.Native.Nat.{_≤_, _+_, _-_}
-use mathlib.Core.Path.{_≡_, sym}
+-- The count is that of the rows passed, and at most their number.
+use Prim.Native.Nat.{_≤_, _-_}
+use mathlib.Core.Path.{_≡_, sym, _∙_}
+use native.Mathlib.Nat.{mul-one}
 use native.Mathlib.Omega.{arith}
 use borrow.Author.Needs.{needs}
 use Rattle.sections.specs.Sections.{marked, those}
@@ -13,18 +15,18 @@ Inv-loop mark n marks count₀ i₀ count i = (i ≤ n) × (count ≡ those (mar
 abbrev μ-loop : tie.MeasureT-loop
 μ-loop mark n marks count₀ i₀ count i = n - i
 
--- the count with this row
-counted : (c : tie.After-one-if Inv-loop μ-loop) → let l = c .before .before .before .loop in let s = c .before .before .before .before .before in l .count + c .one-if .result ≡ those (marked (s .args .mark) (s .args .marks .now)) (l .i + 1)
-counted c =
-    let l = c .before .before .before .loop in
-    let s = c .before .before .before .before .before in
-    rw (l .inv .1, c .one-if .ensures) (sym (those-more (marked (s .args .mark) (s .args .marks .now)) (l .i)))
+after-requires : tie.Need-after-requires Inv-loop μ-loop
+after-requires c κs =
+    let l = c .before .before .loop in
+    let s = c .before .before .before .before in
+    omega (arith, l .inv .1, those-le (marked (s .args .mark) (s .args .marks .now)) (l .i))
 
-add-count : tie.Need-add-count Inv-loop μ-loop
-add-count c =
+-- the count with this row
+loop-again : tie.Need-loop-again Inv-loop μ-loop
+loop-again c =
     let l = c .before .before .before .loop in
     let s = c .before .before .before .before .before in
-    omega (arith, counted c, those-le (marked (s .args .mark) (s .args .marks .now)) (l .i + 1))
+    (search needs, c .after .ensures ∙ rw (l .inv .1, mul-one _) (sym (those-more (marked (s .args .mark) (s .args .marks .now)) (l .i))))
 
 returns : tie.Need-returns Inv-loop μ-loop
 returns c =
@@ -34,4 +36,4 @@ returns c =
 pub count-marked-spec : {M : Type 1} → statement M
 count-marked-spec =
     tie.close
-    (tie.spec Inv-loop μ-loop (λ c. (search needs, sym (those-none _))) (search needs) (search needs) (search needs) add-count (search needs) (search needs) (λ c. (search needs, counted c)) returns)
+    (tie.spec Inv-loop μ-loop (λ c. (search needs, sym (those-none _))) (search needs) (search needs) after-requires (search needs) (search needs) loop-again returns)

@@ -1,3 +1,4 @@
+-- The place is the first and as many widths as rows were marked so far; a row that is not marked moves nothing.
 use Prim.Native.Nat.{_≤_, _-_, _+_, _*_}
 use mathlib.Core.Path.{_≡_, refl, sym, ap, _∙_}
 use native.Mathlib.Nat.{le-refl}
@@ -24,8 +25,9 @@ loop-holds c =
 
 put-if-requires : tie.Need-put-if-requires Inv-loop μ-loop
 put-if-requires c κs =
-    let s = c .before .before .before .before .before .before .before .before in
-    let l = c .before .before .before .before .loop in
+    let t = c .before .before .before .before in
+    let s = t .before .before .before .before in
+    let l = t .loop in
     let same = l .inv .2 .same-length in
     let m = those-room (marked (s .args .mark) (s .args .marks .now)) (s .args .first) (s .args .width) (l .i) (s .args .n) (search needs) (s .pre .0 .3) in
     let b = those-most (marked (s .args .mark) (s .args .marks .now)) (s .args .first) (s .args .width) (l .i) (s .args .n) (search needs) (le-refl _) in
@@ -33,18 +35,22 @@ put-if-requires c κs =
 
 after-requires : tie.Need-after-requires Inv-loop μ-loop
 after-requires c κs =
-    let s = c .before .before .before .before .before .before .before .before .before .before .before in
-    let l = c .before .before .before .before .before .before .before .loop in
+    let t = c .before .before .before .before .before .before .before in
+    let s = t .before .before .before .before in
+    let l = t .loop in
     let b = those-most (marked (s .args .mark) (s .args .marks .now)) (s .args .first) (s .args .width) (l .i) (s .args .n) (search needs) (le-refl _) in
     rw (l .inv .1) (omega arith)
 
 loop-again : tie.Need-loop-again Inv-loop μ-loop
 loop-again c =
-    let s = c .before .before .before .before .before .before .before .before .before .before .before .before in
-    let l = c .before .before .before .before .before .before .before .before .loop in (
+    let p = c .before .before .before in
+    let t = p .before .before .before .before .before in
+    let s = t .before .before .before .before in
+    let l = t .loop in (
       search needs,
       c .after .ensures ∙ rw (l .inv .1) (those-next (marked (s .args .mark) (s .args .marks .now)) (s .args .first) (s .args .width) (l .i)),
-      column-if (l .inv .2) refl (l .inv .1) (c .before .before .before .put-if .ensures) refl (λ i m t. those-apart (marked (s .args .mark) (s .args .marks .now)) (s .args .first) (s .args .width) i (l .i) m t),
+      column-if (l .inv .2) refl (l .inv .1) (p .put-if .ensures) refl
+          (λ i m t. those-apart (marked (s .args .mark) (s .args .marks .now)) (s .args .first) (s .args .width) i (l .i) m t),
     )
 
 pub put-marked-spec : {M : Type 1} → statement M

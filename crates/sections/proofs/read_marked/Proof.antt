@@ -1,3 +1,4 @@
+-- The place is the first and as many widths as rows were marked so far; a row that is not marked reads 0.
 use Prim.Native.Nat.{_≤_, _-_, _+_, _*_}
 use mathlib.Core.Path.{_≡_, refl, sym, ap, _∙_}
 use mathlib.Core.Bool.{cond}

@@ -1,3 +1,4 @@
+-- Below 0 the complement is the size less 1, which fits even for the most negative number.
 use mathlib.Core.Path.{_≡_, sym, _∙_}
 use mathlib.Core.Bool.{true}
 use borrow.Author.Needs.{needs}

@@ -1,3 +1,4 @@
+-- The entries passed are copied, the rest of the table is as lent.
 use Prim.Native.Nat.{ℕ, _-_, _≤_}
 use mathlib.Core.Path.{_≡_, refl, _∙_, ap}
 use mathlib.Core.List.{List}
@@ -28,4 +29,5 @@ returns c =
     rw (← e) at (c .before .loop .inv .2) ∙ ap (λ (t : List ℕ). over t (c .before .before .args .to .now)) (table-getD 0 from)
 
 pub copy-spec : {M : Type 1} → statement M
-copy-spec = tie.close (tie.spec Inv-loop μ-loop (λ c. (search needs, refl, over-start _ _)) (search needs) (search needs) (search needs) (search needs) (search needs) (search needs) loop-again same-length returns)
+copy-spec = tie.close (tie.spec Inv-loop μ-loop (λ c. (search needs, refl, over-start _ _)) (search needs) (search needs) (search needs)
+    (search needs) (search needs) (search needs) loop-again same-length returns)

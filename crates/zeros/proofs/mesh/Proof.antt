@@ -1,3 +1,4 @@
+-- Head and filling: a bit found in one is the first of all, since those before it are as they should be.
 use mathlib.Core.Path.{_∙_}
 use mathlib.Core.Logic.{inr}
 use native.Mathlib.Omega.{arith}

@@ -1,3 +1,4 @@
+-- Head, fluxes, filling: a bit found in one is the first of all, since those before it are as they should be.
 use mathlib.Core.Path.{_∙_}
 use native.Mathlib.Omega.{arith}
 use borrow.Author.Needs.{needs}

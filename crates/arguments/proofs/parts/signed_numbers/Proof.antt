@@ -17,4 +17,5 @@ loop-again c = (search needs, simp length-set (search needs))
 pub signed-numbers-spec : {M : Type 1} → statement M
 signed-numbers-spec =
     tie.close
-    (tie.spec Inv-loop μ-loop (search needs) (search needs) (search needs) (search needs) (search needs) (search needs) (search needs) (search needs) (search needs) (search needs) loop-again (search needs) (search needs))
+    (tie.spec Inv-loop μ-loop (search needs) (search needs) (search needs) (search needs) (search needs) (search needs) (search needs)
+    (search needs) (search needs) (search needs) loop-again (search needs) (search needs))

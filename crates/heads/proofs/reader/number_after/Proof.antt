@@ -1,5 +1,8 @@
--- `heads::reader::number_after` meets its contract: a walk of its MIR, by hand. A `Reader` that `new` returns is held in a local and passed to `moved`, and what `moved` returns to `number`. All that the proof knows of the three is that each meets its contract.
--- The machine value of a struct is stored and passed on as it is. In a local of a body MIR erases the lifetime of the struct's type, so the value is shown to have the type at `erased`: what the struct owns does not say the lifetime's name.
+-- `heads::reader::number_after` meets its contract: a walk of its MIR, by hand. A `Reader` that `new` returns is held in a local
+-- and passed to `moved`, and what `moved` returns to `number`. All that the proof knows of the three is that each meets its
+-- contract.
+-- The machine value of a struct is stored and passed on as it is. In a local of a body MIR erases the lifetime of the struct's
+-- type, so the value is shown to have the type at `erased`: what the struct owns does not say the lifetime's name.
 -- Assumes nothing.
 use mathlib.Core.Path.{_≡_, refl, ap, _∙_}
 use Prim.Native.Nat.{ℕ, _+_, _<_, _^_}
@@ -81,7 +84,8 @@ module _ {M : Type 1} (𝓤 : URA M) (H : Heap 𝓤) (A : Atoms 𝓤) (mem : Mem
   abbrev Number : Contract 𝓤
   Number = tripleOf 𝓤 H A number.signature (number.spec 𝓤 H A mem run)
 
-module _ {M : Type 1} (𝓤 : URA M) (H : Heap 𝓤) (A : Atoms 𝓤) (W : Given 𝓤 H A) (mem : Memory → SProp 𝓤) (run : Routine → Fun 𝓤) (κ : Lft) (q : Share) (s : RefT (List ℕ)) (b n : ℕ) (b-fits : b < 2 ^ 64) (n-fits : n < 2 ^ 64) where
+module _ {M : Type 1} (𝓤 : URA M) (H : Heap 𝓤) (A : Atoms 𝓤) (W : Given 𝓤 H A) (mem : Memory → SProp 𝓤) (run : Routine → Fun 𝓤) (κ : Lft)
+    (q : Share) (s : RefT (List ℕ)) (b n : ℕ) (b-fits : b < 2 ^ 64) (n-fits : n < 2 ^ 64) where
   -- the machine value that s has
   abbrev v : Val
   v = sliceVal (s .ptr) (length (s .now))
@@ -110,7 +114,10 @@ module _ {M : Type 1} (𝓤 : URA M) (H : Heap 𝓤) (A : Atoms 𝓤) (W : Given
   goes-new =
       qed W ((‵ (flft κ q) ⊛ ‵ ftrue) ∷ ‵ (owns (ShrSlice (named 0) κ u8 ∷ usize ∷ usize ∷ []) (s, (b, (n, tt))) at) ∷ []) ∵
       move ! (1 ∷ []) $ fsplit ! $ move ! (1 ∷ []) $ drop ! $ use1 W (‵ Own ⊛ ‵ Own) (shr-slice-copy 𝓤 H A W (named 0) κ u8 .twice s (v ∷ [])) $ split ! $
-      nothing ! $ move ! (1 ∷ 0 ∷ []) $ fjoin ! $ move ! (2 ∷ 0 ∷ []) $ use2 W (raw (New 𝓤 H A mem run .pre to-new)) (qed W ((‵ (flft κ q) ⊛ ‵ ftrue) ∷ ‵ (owns (ShrSlice (named 0) κ u8 ∷ []) (s, tt) (v ∷ [], tt)) ∷ []) ∵ join ! $ frame ! $ done !) $ frame ! $ done !
+      nothing ! $ move ! (1 ∷ 0 ∷ []) $ fjoin ! $ move ! (2 ∷ 0 ∷ []) $
+      use2 W (raw (New 𝓤 H A mem run .pre to-new))
+      (qed W ((‵ (flft κ q) ⊛ ‵ ftrue) ∷ ‵ (owns (ShrSlice (named 0) κ u8 ∷ []) (s, tt) (v ∷ [], tt)) ∷ []) ∵ join ! $ frame ! $ done !) $
+      frame ! $ done !
 
   new-said : (r : Reader) → ent 𝓤 (ensured 𝓤 H A new.ended (new.clauses 𝓤 H A mem run) (κ, tt) (s, tt) tt r) (fact 𝓤 ((r .bytes ≡ s) × (r .bit ≡ 0)))
   new-said r = exE 𝓤 _ (λ ws. snd∗ 𝓤 (sem 𝓤 H A (lasts new.ended (κ, tt) (s, tt) ws)) (fact 𝓤 ((r .bytes ≡ s) × (r .bit ≡ 0))))
@@ -149,19 +156,27 @@ module _ {M : Type 1} (𝓤 : URA M) (H : Heap 𝓤) (A : Atoms 𝓤) (W : Given
   exits : (t : Spelled) (u : Val) → t ≡ found → ent 𝓤 (⋆ 𝓤 H A (‵ (S.the-row .own t (u ∷ [])) ∷ (‵ (flft κ q) ⊛ ‵ ftrue) ∷ ‵ Own ∷ [])) (Post u)
   exits t u e =
       qed W (‵ (S.the-row .own t (u ∷ [])) ∷ (‵ (flft κ q) ⊛ ‵ ftrue) ∷ ‵ Own ∷ []) ∵
-      suffices ! _ (ends-at 𝓤 H A number-after.ended stayed (number-after.clauses 𝓤 H A mem run) W (((κ, tt), (q, tt), tt, (s, (b, (n, tt))), at), tt) u t (tt, (tt, (tt, tt))) (tt, (tt, (tt, tt)))) $ says ! e $
+      suffices ! _ (ends-at 𝓤 H A number-after.ended stayed (number-after.clauses 𝓤 H A mem run) W
+      (((κ, tt), (q, tt), tt, (s, (b, (n, tt))), at), tt) u t (tt, (tt, (tt, tt))) (tt, (tt, (tt, tt)))) $ says ! e $
       move ! (1 ∷ []) $ frame ! $ nothing ! $ owned ! usize (Is usize) (uint-makes 𝓤 H A W w64) n _ (refl, n-fits) $ fjoin ! $
       owned ! usize (Is usize) (uint-makes 𝓤 H A W w64) b _ (refl, b-fits) $ fjoin ! $ move ! (2 ∷ 0 ∷ []) $ fjoin ! $ frame ! $ done !
 
-  module _ (C : Calls 𝓤 H) (Λ : Loops 𝓤 H) (fm : FmC 𝓤 H (W .laws) C) (known-new : Triple 𝓤 (C #heads·reader·new) (New 𝓤 H A mem run)) (known-moved : Triple 𝓤 (C #heads·reader·moved) (Moved 𝓤 H A mem run)) (known-number : Triple 𝓤 (C #heads·reader·number) (Number 𝓤 H A mem run)) where
-    walk : Is (ShrSlice (named 0) κ u8) s (v ∷ []) → ent 𝓤 (onEntry 𝓤 H A number-after.signature (κ, tt) (q, tt) (s, (b, (n, tt))) at) (WpFn 𝓤 H C Λ code.function (v ∷ vint w64 b ∷ vint w64 n ∷ []) Post)
+  module _ (C : Calls 𝓤 H) (Λ : Loops 𝓤 H) (fm : FmC 𝓤 H (W .laws) C) (known-new : Triple 𝓤 (C #heads·reader·new) (New 𝓤 H A mem run))
+      (known-moved : Triple 𝓤 (C #heads·reader·moved) (Moved 𝓤 H A mem run))
+      (known-number : Triple 𝓤 (C #heads·reader·number) (Number 𝓤 H A mem run)) where
+    walk : Is (ShrSlice (named 0) κ u8) s (v ∷ [])
+        → ent 𝓤 (onEntry 𝓤 H A number-after.signature (κ, tt) (q, tt) (s, (b, (n, tt))) at)
+        (WpFn 𝓤 H C Λ code.function (v ∷ vint w64 b ∷ vint w64 n ∷ []) Post)
     walk p =
         qed W (raw (onEntry 𝓤 H A number-after.signature (κ, tt) (q, tt) (s, (b, (n, tt))) at) ∷ []) ∵ enter ! C Λ code.function (v ∷ vint w64 b ∷ vint w64 n ∷ []) _ $
-        alloc1 ! (λ l₀. alloc1 ! (λ l₁. alloc1 ! (λ l₂. alloc1 ! (λ l₃. alloc1 ! (λ l₄. alloc1 ! (λ l₅. alloc0 ! $ params1 ! $ pass1 ! (init ! 8 refl (shr-slice-lawful 𝓤 H A W (named 0) κ u8 .typed s (v ∷ []) p .0)) $ pass1 ! (init ! 6 refl (tt, record { fits = b-fits })) $ pass1 ! (init ! 4 refl (tt, record { fits = n-fits })) $ pass0 ! $
+        alloc1 ! (λ l₀. alloc1 ! (λ l₁. alloc1 ! (λ l₂. alloc1 ! (λ l₃. alloc1 ! (λ l₄. alloc1 ! (λ l₅. alloc0 ! $ params1 ! $
+        pass1 ! (init ! 8 refl (shr-slice-lawful 𝓤 H A W (named 0) κ u8 .typed s (v ∷ []) p .0)) $
+        pass1 ! (init ! 6 refl (tt, record { fits = b-fits })) $ pass1 ! (init ! 4 refl (tt, record { fits = n-fits })) $ pass0 ! $
         move ! (12 ∷ []) $ use1 W (raw (New 𝓤 H A mem run .pre to-new) ⊛ ‵ Own) goes-new $ split ! $
         -- `new`
         calls-at ! fm (New 𝓤 H A mem run) known-new to-new (and-then ! (load ! (from ! (stop !)) (look ! 10 refl)) (no-more !)) (λ u.
-        use1 W (later (some (λ (r : Reader). ((‵ (flft κ q) ⊛ ‵ ftrue) ⊛ ‵ (B (κ, tt) .own r (u ∷ []))) ⊛ raw (ensured 𝓤 H A new.ended (new.clauses 𝓤 H A mem run) (κ, tt) (s, tt) tt r)))) (id⊢ 𝓤 _) $ await ! tt $ pick ! (λ r.
+        use1 W (later (some (λ (r : Reader). ((‵ (flft κ q) ⊛ ‵ ftrue) ⊛ ‵ (B (κ, tt) .own r (u ∷ []))) ⊛ raw (ensured 𝓤 H A new.ended
+        (new.clauses 𝓤 H A mem run) (κ, tt) (s, tt) tt r)))) (id⊢ 𝓤 _) $ await ! tt $ pick ! (λ r.
         split ! $ move ! (1 ∷ []) $ use1 W (raw (fact 𝓤 ((r .bytes ≡ s) × (r .bit ≡ 0)))) (new-said r) $ heard ! ((r .bytes ≡ s) × (r .bit ≡ 0)) (λ e. split ! $ move ! (1 ∷ []) $
         -- [what the struct owns; the token; what s owns; room for _5; …; room for _4; …; _3; …; _2; …; _1; …; room for _0; …]
         peeks ! (B (κ, tt)) (Is (B (κ, tt))) (shows 𝓤 H A (B (κ, tt))) r (u ∷ []) (λ is.
@@ -169,34 +184,49 @@ module _ {M : Type 1} (𝓤 : URA M) (H : Heap 𝓤) (A : Atoms 𝓤) (W : Given
         -- `moved`
         move ! (1 ∷ 0 ∷ []) $ use2 W (raw (Moved 𝓤 H A mem run .pre (to-moved r u))) (goes-moved r u (starts r (e .1))) $
         calls-at ! fm (Moved 𝓤 H A mem run) known-moved (to-moved r u) (and-then ! (load ! (from ! (stop !)) (look ! 2 refl)) (and-then ! (load ! (from ! (stop !)) (look ! 8 refl)) (no-more !))) (λ w.
-        use1 W (later (some (λ (o : Reader). ((‵ (flft κ q) ⊛ ‵ ftrue) ⊛ ‵ (B (κ, tt) .own o (w ∷ []))) ⊛ raw (ensured 𝓤 H A moved.ended (moved.clauses 𝓤 H A mem run) (κ, tt) (r, (b, tt)) tt o)))) (id⊢ 𝓤 _) $ await ! tt $ pick ! (λ o.
-        split ! $ move ! (1 ∷ []) $ use1 W (raw (fact 𝓤 ((o .bytes ≡ r .bytes) × (o .bit ≡ r .bit + b)))) (moved-said r o) $ heard ! ((o .bytes ≡ r .bytes) × (o .bit ≡ r .bit + b)) (λ d. split ! $ move ! (1 ∷ []) $
+        use1 W (later (some (λ (o : Reader). ((‵ (flft κ q) ⊛ ‵ ftrue) ⊛ ‵ (B (κ, tt) .own o (w ∷ []))) ⊛ raw (ensured 𝓤 H A moved.ended
+        (moved.clauses 𝓤 H A mem run) (κ, tt) (r, (b, tt)) tt o)))) (id⊢ 𝓤 _) $ await ! tt $ pick ! (λ o.
+        split ! $ move ! (1 ∷ []) $ use1 W (raw (fact 𝓤 ((o .bytes ≡ r .bytes) × (o .bit ≡ r .bit + b)))) (moved-said r o) $
+        heard ! ((o .bytes ≡ r .bytes) × (o .bit ≡ r .bit + b)) (λ d. split ! $ move ! (1 ∷ []) $
         -- [what the second struct owns; the token; what s owns; _5; …; room for _4; …; _3; …; _2; …; _1; …; room for _0; …]
         peeks ! (B (κ, tt)) (Is (B (κ, tt))) (shows 𝓤 H A (B (κ, tt))) o (w ∷ []) (λ is′.
         land ! (from ! (stop !)) (init ! 5 refl (LL.lawful (T.the-type αᵉ) (T′.the-laws αᵉ) 𝓤 H A W .typed o _ is′ .0)) $
         -- `number`
         move ! (1 ∷ 0 ∷ []) $ use2 W (raw (Number 𝓤 H A mem run .pre (to-number o w))) (goes-number o w) $
-        calls-at ! fm (Number 𝓤 H A mem run) known-number (to-number o w) (and-then ! (load ! (from ! (stop !)) (look ! 4 refl)) (and-then ! (load ! (from ! (stop !)) (look ! 6 refl)) (no-more !))) (λ x.
-        use1 W (later (some (λ (t : Spelled). ((‵ (flft κ q) ⊛ ‵ ftrue) ⊛ ‵ (S.the-row .own t (x ∷ []))) ⊛ raw (ensured 𝓤 H A number.ended (number.clauses 𝓤 H A mem run) (κ, tt) (o, (n, tt)) tt t)))) (id⊢ 𝓤 _) $ await ! tt $ pick ! (λ t.
-        split ! $ move ! (1 ∷ []) $ use1 W (raw (fact 𝓤 (t ≡ numberAt (now (o .bytes)) (o .bit) n))) (number-said o t) $ heard ! (t ≡ numberAt (now (o .bytes)) (o .bit) n) (λ f. split ! $ move ! (1 ∷ []) $
+        calls-at ! fm (Number 𝓤 H A mem run) known-number (to-number o w)
+        (and-then ! (load ! (from ! (stop !)) (look ! 4 refl)) (and-then ! (load ! (from ! (stop !)) (look ! 6 refl)) (no-more !))) (λ x.
+        use1 W (later (some (λ (t : Spelled). ((‵ (flft κ q) ⊛ ‵ ftrue) ⊛ ‵ (S.the-row .own t (x ∷ []))) ⊛ raw (ensured 𝓤 H A number.ended
+        (number.clauses 𝓤 H A mem run) (κ, tt) (o, (n, tt)) tt t)))) (id⊢ 𝓤 _) $ await ! tt $ pick ! (λ t.
+        split ! $ move ! (1 ∷ []) $ use1 W (raw (fact 𝓤 (t ≡ numberAt (now (o .bytes)) (o .bit) n))) (number-said o t) $
+        heard ! (t ≡ numberAt (now (o .bytes)) (o .bit) n) (λ f. split ! $ move ! (1 ∷ []) $
         -- [the result; the token; what s owns; _5; …; _4; …; _3; …; _2; …; _1; …; room for _0; …]
         peeks ! S.the-row (Is S.the-row) (shows 𝓤 H A S.the-row) t (x ∷ []) (λ is″.
         land ! (from ! (stop !)) (init ! 13 refl (EL.lawful S.the-type S′.the-laws 𝓤 H A W tt .typed t _ is″ .0)) $
         returns ! (look ! 13 refl) $ forget ! 3 refl $ forget ! 5 refl $ forget ! 7 refl $ forget ! 9 refl $ forget ! 11 refl $ forget ! 13 refl $
-        move ! (13 ∷ 14 ∷ []) $ free1 ! $ move ! (11 ∷ 12 ∷ []) $ free1 ! $ move ! (9 ∷ 10 ∷ []) $ free1 ! $ move ! (7 ∷ 8 ∷ []) $ free1 ! $ move ! (5 ∷ 6 ∷ []) $ free1 ! $ move ! (3 ∷ 4 ∷ []) $ free1 ! $ free0 ! $
+        move ! (13 ∷ 14 ∷ []) $ free1 ! $ move ! (11 ∷ 12 ∷ []) $ free1 ! $ move ! (9 ∷ 10 ∷ []) $ free1 ! $ move ! (7 ∷ 8 ∷ []) $
+        free1 ! $ move ! (5 ∷ 6 ∷ []) $ free1 ! $ move ! (3 ∷ 4 ∷ []) $ free1 ! $ free0 ! $
         by ! (exits t x (comes r o t e d f))))))))))))))))))))
 
 module _ {M : Type 1} (𝓤 : URA M) (H : Heap 𝓤) (A : Atoms 𝓤) (W : Given 𝓤 H A) (mem : Memory → SProp 𝓤) (run : Routine → Fun 𝓤) where
-  number-after-walks : (C : Calls 𝓤 H) (Λ : Loops 𝓤 H) → FmC 𝓤 H (W .laws) C → Triple 𝓤 (C #heads·reader·new) (New 𝓤 H A mem run) → Triple 𝓤 (C #heads·reader·moved) (Moved 𝓤 H A mem run) → Triple 𝓤 (C #heads·reader·number) (Number 𝓤 H A mem run)
+  number-after-walks : (C : Calls 𝓤 H) (Λ : Loops 𝓤 H) → FmC 𝓤 H (W .laws) C → Triple 𝓤 (C #heads·reader·new) (New 𝓤 H A mem run)
+      → Triple 𝓤 (C #heads·reader·moved) (Moved 𝓤 H A mem run) → Triple 𝓤 (C #heads·reader·number) (Number 𝓤 H A mem run)
       → Walks 𝓤 H A number-after.ended stayed (WpFn 𝓤 H C Λ code.function) (number-after.clauses 𝓤 H A mem run)
-  number-after-walks C Λ fm known-new known-moved known-number = walked 𝓤 H A number-after.ended stayed (number-after.clauses 𝓤 H A mem run) (WpFn 𝓤 H C Λ code.function) (λ κs. (slice-vals, (uint-vals w64, (uint-vals w64, tt)))) (λ κs. (shr-slice-tells (named 0) (κs .0) u8, (uint-tells w64, (uint-tells w64, tt))))
-      (λ κs qs bounds a g are. via 𝓤 _ (fst∗ 𝓤 _ (emp 𝓤)) (walk 𝓤 H A W mem run (κs .0) (qs .0) (a .0) (a .1 .0) (a .1 .1 .0) (are .1 .0 .1) (are .1 .1 .0 .1) C Λ fm known-new known-moved known-number (are .0)))
+  number-after-walks C Λ fm known-new known-moved known-number = walked 𝓤 H A number-after.ended stayed
+      (number-after.clauses 𝓤 H A mem run) (WpFn 𝓤 H C Λ code.function) (λ κs. (slice-vals, (uint-vals w64, (uint-vals w64, tt))))
+      (λ κs. (shr-slice-tells (named 0) (κs .0) u8, (uint-tells w64, (uint-tells w64, tt))))
+      (λ κs qs bounds a g are. via 𝓤 _ (fst∗ 𝓤 _ (emp 𝓤))
+      (walk 𝓤 H A W mem run (κs .0) (qs .0) (a .0) (a .1 .0) (a .1 .1 .0) (are .1 .0 .1) (are .1 .1 .0 .1) C Λ fm known-new known-moved
+      known-number (are .0)))
 
 number-after-meets : {M : Type 1} (𝓤 : URA M) (H : Heap 𝓤) (A : Atoms 𝓤) (W : Given 𝓤 H A) (mem : Memory → SProp 𝓤) (run : Routine → Fun 𝓤) (𝓣 : Tables 𝓤 H)
     → Triple 𝓤 (𝓣 .C #heads·reader·new) (New 𝓤 H A mem run) → Triple 𝓤 (𝓣 .C #heads·reader·moved) (Moved 𝓤 H A mem run) → Triple 𝓤 (𝓣 .C #heads·reader·number) (Number 𝓤 H A mem run)
     → Meets 𝓤 H A number-after.signature (WpFn 𝓤 H (𝓣 .C) (𝓣 .Λ) code.function) (number-after.spec 𝓤 H A mem run)
 number-after-meets 𝓤 H A W mem run 𝓣 known-new known-moved known-number =
-    walk-meets 𝓤 H A number-after.ended stayed W (goes-none-slice 𝓤 H A W 1 (0 ∷ []) tt (plain (λ _. u8)) yes, (goes-none 𝓤 H A W 1 (λ _. usize) yes (λ κs x f. refl), (goes-none 𝓤 H A W 1 (λ _. usize) yes (λ κs x f. refl), tt))) (number-after.clauses 𝓤 H A mem run)
+    walk-meets 𝓤 H A number-after.ended stayed W (
+      goes-none-slice 𝓤 H A W 1 (0 ∷ []) tt (plain (λ _. u8)) yes,
+      (goes-none 𝓤 H A W 1 (λ _. usize) yes (λ κs x f. refl), (goes-none 𝓤 H A W 1 (λ _. usize) yes (λ κs x f. refl), tt)),
+    )
+    (number-after.clauses 𝓤 H A mem run)
     (WpFn 𝓤 H (𝓣 .C) (𝓣 .Λ) code.function) (WpFn-mono 𝓤 H (W .laws) 𝓣 code.function) (number-after-walks 𝓤 H A W mem run (𝓣 .C) (𝓣 .Λ) (fmOf 𝓤 H (W .laws) 𝓣) known-new known-moved known-number)
 
 pub number-after-spec : {M : Type 1} → stated.statement M

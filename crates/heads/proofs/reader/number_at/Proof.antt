@@ -1,3 +1,4 @@
+-- Four ways out, in the order of the definition: too wide, too far on, past the bytes, spelled.
 use Prim.Native.Nat.{_+_, _≤_, _<_}
 use lib.ListN.{length}
 use native.Mathlib.Omega.{arith}

@@ -1,3 +1,4 @@
+-- A head that passed says how many cells and faces there are, and that they are within the limits; the body's tests ask no more.
 use mathlib.Core.Path.{sym}
 use native.Mathlib.Omega.{arith}
 use borrow.Author.Needs.{needs}

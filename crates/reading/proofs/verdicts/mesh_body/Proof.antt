@@ -1,3 +1,4 @@
+-- Length, five tables and zero bits in the order of the causes; the zero bits are looked at only in a record of the right length.
 use mathlib.Core.Path.{_≡_, sym}
 use native.Mathlib.Omega.{arith}
 use borrow.Author.Needs.{needs}

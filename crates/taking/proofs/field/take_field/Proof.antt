@@ -31,7 +31,8 @@ slice-aggregate-counted c =
     let s = start (c .before .before .before) in
     let d = c .before .before .before in
     part-long
-    (masses-part (s .args .volumes .now) (s .args .masses .now) (d .before .before .before .read-field .ensures) refl (d .before .long .result) (d .and-then .result) (d .before .long .ensures) (d .and-then .ensures) (c .before .enum-told .given .1))
+    (masses-part (s .args .volumes .now) (s .args .masses .now) (d .before .before .before .read-field .ensures) refl
+    (d .before .long .result) (d .and-then .result) (d .before .long .ensures) (d .and-then .ensures) (c .before .enum-told .given .1))
 
 returns-2 : tie.Need-returns-2
 returns-2 c =

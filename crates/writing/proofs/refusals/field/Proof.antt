@@ -1,3 +1,4 @@
+-- As for a mesh, and then the salt: the volumes that passed are what its test divides by.
 use mathlib.Core.Path.{_≡_, sym, _∙_}
 use borrow.Author.Needs.{needs}
 use Rattle.model.specs.Mesh.{Mesh, meshOf}

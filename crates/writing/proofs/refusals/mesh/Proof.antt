@@ -1,3 +1,4 @@
+-- Counts and tables that passed bound the record's length; bytes and values follow in the order of the causes.
 use mathlib.Core.Path.{sym, _∙_}
 use borrow.Author.Needs.{needs}
 use Rattle.model.proofs.Verdicts.{both-fine, out, both-are, refuses, passes}

@@ -1,3 +1,4 @@
+-- The tables that passed give what the length and the values ask; the three groups of tests, each all or none, make the verdict in its order.
 use mathlib.Core.Path.{_≡_, sym, _∙_}
 use borrow.Author.Needs.{needs}
 use lib.ListN.{length}
