@@ -5,10 +5,11 @@ use model::Refusal;
 use model::needs::and_then;
 use model::needs::between;
 ghost use mathlib.Core.Path.{_≡_};
+ghost use mathlib.Core.Bool.{true};
 ghost use Prim.Native.Nat.{_≤_};
 ghost use lib.ListN.{length, getD};
 ghost use Rattle.model.specs.Mesh.{meshOf};
-ghost use Rattle.model.specs.Causes.{each, volumeFits, endsFit, spacingFit, meshValues};
+ghost use Rattle.model.specs.Causes.{fine, _andThen_, each, volumeFits, endsFit, spacingFit, meshValues};
 ghost use Rattle.model.specs.Answers.{said};
 
 // Cause 3.
@@ -98,6 +99,56 @@ fn spacing_good(faces: usize, seconds: &[u64], shares: &[u64], reaches: &[u64]) 
     Answer::Done
 }
 
+// Whether no face is refused by 4 or 5: one reading of the faces serves both.
+fn faces_fit(
+    cells: usize,
+    faces: usize,
+    firsts: &[u64],
+    seconds: &[u64],
+    shares: &[u64],
+    reaches: &[u64],
+) -> bool
+    requires { ⌜ (faces ≤ length (now firsts)) × (faces ≤ length (now seconds)) × (faces ≤ length (now shares)) × (faces ≤ length (now reaches)) ⌝ }
+    ensures { λ r. ⌜ (r ≡ true
+        → (each 4 faces (λ f. endsFit cells (getD (now (firsts .entry)) f 0) (getD (now (seconds .entry)) f 0)) ≡ fine)
+        × (each 5 faces (λ f. spacingFit (getD (now (seconds .entry)) f 0) (getD (now (shares .entry)) f 0) (getD (now (reaches .entry)) f 0)) ≡ fine)) ⌝ }
+{
+    let mut f = 0;
+    while f < faces {
+        let second = seconds[f];
+        if !ends_fit(cells as u64, firsts[f], second) {
+            return false;
+        }
+        if !spacing_fits(second, shares[f], reaches[f]) {
+            return false;
+        }
+        f += 1;
+    }
+    true
+}
+
+// Causes 4 and 5 in their order.
+fn faces_good(
+    cells: usize,
+    faces: usize,
+    firsts: &[u64],
+    seconds: &[u64],
+    shares: &[u64],
+    reaches: &[u64],
+) -> Answer
+    requires { ⌜ (faces ≤ length (now firsts)) × (faces ≤ length (now seconds)) × (faces ≤ length (now shares)) × (faces ≤ length (now reaches)) ⌝ }
+    ensures { λ r. ⌜ said r ≡ (
+        each 4 faces (λ f. endsFit cells (getD (now (firsts .entry)) f 0) (getD (now (seconds .entry)) f 0))
+        andThen each 5 faces (λ f. spacingFit (getD (now (seconds .entry)) f 0) (getD (now (shares .entry)) f 0) (getD (now (reaches .entry)) f 0))
+        ) ⌝ }
+{
+    if faces_fit(cells, faces, firsts, seconds, shares, reaches) {
+        return Answer::Done;
+    }
+    let a = ends_good(cells, faces, firsts, seconds);
+    and_then(a, spacing_good(faces, seconds, shares, reaches))
+}
+
 // Causes 3 to 5 in their order.
 pub fn values(
     cells: usize,
@@ -117,6 +168,8 @@ pub fn values(
         (meshOf cells faces (now (volumes .entry)) (now (firsts .entry)) (now (seconds .entry)) (now (shares .entry)) (now (reaches .entry))) ⌝ }
 {
     let a = volumes_good(cells, volumes);
-    let a = and_then(a, ends_good(cells, faces, firsts, seconds));
-    and_then(a, spacing_good(faces, seconds, shares, reaches))
+    and_then(
+        a,
+        faces_good(cells, faces, firsts, seconds, shares, reaches),
+    )
 }

@@ -6,14 +6,14 @@ use model::needs::and_then;
 use signed::is_negative_at;
 use signed::size_at;
 ghost use mathlib.Core.Path.{_≡_};
-ghost use mathlib.Core.Bool.{cond, _&&_};
+ghost use mathlib.Core.Bool.{true, cond, _&&_};
 ghost use Prim.Native.Nat.{_≤_};
 ghost use lib.Dec.{eqb};
 ghost use lib.IntN.{pos};
 ghost use lib.ListN.{length, getD};
 ghost use Rattle.signed.specs.Sign.{isNegative, size as sizeOf};
 ghost use Rattle.model.specs.Mesh.{rim, maxConcentration, maxRimFlux};
-ghost use Rattle.model.specs.Causes.{_andThen_, each, outsideFit, fluxFit};
+ghost use Rattle.model.specs.Causes.{_andThen_, fine, each, outsideFit, fluxFit};
 ghost use Rattle.model.specs.Answers.{said};
 
 // The largest outside value of one face: 0 elsewhere than at an inflow through the rim.
@@ -91,6 +91,33 @@ fn fluxes_good(faces: usize, seconds: &[u64], reaches: &[u64], fluxes: &[i64]) -
     Answer::Done
 }
 
+// Whether no face is refused by 7 or 8: one reading of the faces serves both.
+fn faces_fit(
+    faces: usize,
+    seconds: &[u64],
+    reaches: &[u64],
+    fluxes: &[i64],
+    outsides: &[u64],
+) -> bool
+    requires { ⌜ (faces ≤ length (now seconds)) × (faces ≤ length (now reaches)) × (faces ≤ length (now fluxes)) × (faces ≤ length (now outsides)) ⌝ }
+    ensures { λ r. ⌜ (r ≡ true
+        → (each 7 faces (λ f. outsideFit (getD (now (seconds .entry)) f 0) (isNegative (getD (now (fluxes .entry)) f (pos 0))) (getD (now (outsides .entry)) f 0)) ≡ fine)
+        × (each 8 faces (λ f. fluxFit (getD (now (seconds .entry)) f 0) (getD (now (reaches .entry)) f 0) (sizeOf (getD (now (fluxes .entry)) f (pos 0)))) ≡ fine)) ⌝ }
+{
+    let mut f = 0;
+    while f < faces {
+        let second = seconds[f];
+        if !outside_fits(second, is_negative_at(fluxes, f), outsides[f]) {
+            return false;
+        }
+        if !flux_fits(second, reaches[f], size_at(fluxes, f)) {
+            return false;
+        }
+        f += 1;
+    }
+    true
+}
+
 // Causes 7 and 8 in their order.
 pub fn values(
     faces: usize,
@@ -108,6 +135,9 @@ pub fn values(
         andThen each 8 faces (λ f. fluxFit (getD (now (seconds .entry)) f 0) (getD (now (reaches .entry)) f 0) (sizeOf (getD (now (fluxes .entry)) f (pos 0))))
         ) ⌝ }
 {
+    if faces_fit(faces, seconds, reaches, fluxes, outsides) {
+        return Answer::Done;
+    }
     let a = outsides_good(faces, seconds, fluxes, outsides);
     and_then(a, fluxes_good(faces, seconds, reaches, fluxes))
 }

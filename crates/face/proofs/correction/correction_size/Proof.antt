@@ -1,9 +1,10 @@
--- The factors are small by their ceilings, so no product leaves 64 bits.
-use Prim.Native.Nat.{_≤_, _*_}
-use native.Mathlib.Nat.{mul-le-mul}
+-- The factors are small by their ceilings, so no product leaves 64 bits; dividing by 256 and then by the reach divides by 256 times it.
+use Prim.Native.Nat.{ℕ, _≤_, _*_}
+use native.Mathlib.Nat.{mul-le-mul, div-div-eq-div-mul}
 use native.Mathlib.Omega.{arith}
 use borrow.Author.Needs.{needs}
 use Rattle.model.specs.Mesh.{maxReach, maxConcentration}
+use Rattle.face.specs.Correction.{gap}
 use Rattle.face.proofs.Corrections.{size-most}
 use Rattle.face.proofs.correction.correction_size.Statement.{statement}
 use Rattle.face.proofs.correction.correction_size.Tie as tie
@@ -27,11 +28,12 @@ mul-result-2 c = omega (arith, mul-le-mul (drop-small c) (rest-small c))
 
 returns : tie.Need-returns
 returns c =
-    let s = c .before .before in (
-      rw (c .gap-of2 .ensures, c .before .gap-of .ensures),
-      rw (c .gap-of2 .ensures, c .before .gap-of .ensures)
+    let s = c .before .before in
+    let n : ℕ = s .args .size * gap (s .args .a) (s .args .b) * gap (s .args .way) (128 * s .args .size) in (
+      rw (c .gap-of2 .ensures, c .before .gap-of .ensures) (div-div-eq-div-mul n 256 (s .args .reach)),
+      rw (c .gap-of2 .ensures, c .before .gap-of .ensures, div-div-eq-div-mul n 256 (s .args .reach))
           (size-most (s .args .size) (s .args .a) (s .args .b) (s .args .way) (s .args .reach) (s .pre .0) (s .pre .1) (s .pre .2) (s .pre .3) (s .pre .5)),
     )
 
 pub correction-size-spec : {M : Type 1} → statement M
-correction-size-spec = tie.close (tie.spec (search needs) (search needs) (search needs) mul-result mul-result-2 (search needs) (search needs) returns)
+correction-size-spec = tie.close (tie.spec (search needs) (search needs) (search needs) mul-result mul-result-2 (search needs) returns)
