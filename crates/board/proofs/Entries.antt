@@ -66,14 +66,25 @@ module _ (r v s w t x : ℕ) (W : 1 ≤ w) where
       go (inr l) = lt-of-mul-lt-mul-right w (omega (arith, mul-le-mul-right x h, mul-le-mul-right v l))
 
 -- The order is transitive among cells whose volumes are not 0.
-pub first-trans : (a b c : Ranked) → 1 ≤ a .volume → 1 ≤ b .volume → 1 ≤ c .volume → First a b → First b c → First a c
-first-trans a b c A B C (higher h) (higher k) = higher (omega arith)
-first-trans a b c A B C (higher h) (larger e k) = higher (omega arith)
-first-trans a b c A B C (higher h) (lower e d k) = higher (omega arith)
-first-trans a b c A B C (larger e h) (higher k) = higher (omega arith)
-first-trans a b c A B C (lower e d h) (higher k) = higher (omega arith)
-first-trans a b c A B C (larger e h) (larger f k) = larger (e ∙ f) (parts-lt (a .rest) (a .volume) (b .rest) (b .volume) (c .rest) (c .volume) B A C (inl h) (omega arith) (omega arith))
-first-trans a b c A B C (larger e h) (lower f d k) = larger (e ∙ f) (parts-lt (a .rest) (a .volume) (b .rest) (b .volume) (c .rest) (c .volume) B A C (inl h) (omega arith) (omega arith))
-first-trans a b c A B C (lower e d h) (larger f k) = larger (e ∙ f) (parts-lt (a .rest) (a .volume) (b .rest) (b .volume) (c .rest) (c .volume) B A C (inr k) (omega arith) (omega arith))
-first-trans a b c A B C (lower e d h) (lower f g k) =
-    lower (e ∙ f) (omega (arith, parts-le (a .rest) (a .volume) (b .rest) (b .volume) (c .rest) (c .volume) B (omega arith) (omega arith), parts-le (c .rest) (c .volume) (b .rest) (b .volume) (a .rest) (a .volume) B (omega arith) (omega arith))) (omega arith)
+module _ (a b c : Ranked) (A : 1 ≤ a .volume) (B : 1 ≤ b .volume) (C : 1 ≤ c .volume) where
+  strictly : (b .rest * a .volume < a .rest * b .volume) ⊎ (c .rest * b .volume < b .rest * c .volume)
+      → b .rest * a .volume ≤ a .rest * b .volume → c .rest * b .volume ≤ b .rest * c .volume → c .rest * a .volume < a .rest * c .volume
+  strictly = parts-lt (a .rest) (a .volume) (b .rest) (b .volume) (c .rest) (c .volume) B A C
+
+  equally : a .rest * b .volume ≡ b .rest * a .volume → b .rest * c .volume ≡ c .rest * b .volume → a .rest * c .volume ≡ c .rest * a .volume
+  equally d g = omega (
+    arith,
+    parts-le (a .rest) (a .volume) (b .rest) (b .volume) (c .rest) (c .volume) B (omega arith) (omega arith),
+    parts-le (c .rest) (c .volume) (b .rest) (b .volume) (a .rest) (a .volume) B (omega arith) (omega arith),
+  )
+
+  pub first-trans : First a b → First b c → First a c
+  first-trans (higher h) (higher k) = higher (omega arith)
+  first-trans (higher h) (larger e k) = higher (omega arith)
+  first-trans (higher h) (lower e d k) = higher (omega arith)
+  first-trans (larger e h) (higher k) = higher (omega arith)
+  first-trans (lower e d h) (higher k) = higher (omega arith)
+  first-trans (larger e h) (larger f k) = larger (e ∙ f) (strictly (inl h) (omega arith) (omega arith))
+  first-trans (larger e h) (lower f g k) = larger (e ∙ f) (strictly (inl h) (omega arith) (omega arith))
+  first-trans (lower e d h) (larger f k) = larger (e ∙ f) (strictly (inr k) (omega arith) (omega arith))
+  first-trans (lower e d h) (lower f g k) = lower (e ∙ f) (equally d g) (omega arith)
