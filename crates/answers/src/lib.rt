@@ -10,7 +10,6 @@ use heads::reader::Spelled;
 use model::Answer;
 use model::Refusal;
 use reading::MeshAnswer;
-use taking::StepTaken;
 use transport::StepAnswer;
 use writing::WriteAnswer;
 
@@ -18,12 +17,12 @@ fn accepted() {
     show::word(b" accepted");
 }
 
-fn accepted_with(value: u64) {
+pub fn accepted_with(value: u64) {
     accepted();
     show::number(value);
 }
 
-fn refused(refusal: Refusal) {
+pub fn refused(refusal: Refusal) {
     show::word(b" refused");
     let cause = refusal.cause;
     show::number(model::number(cause));
@@ -106,18 +105,6 @@ pub fn mesh_tables(
     show::numbers(b"; seconds", s, seconds);
     show::numbers(b"; shares", h, shares);
     show::numbers(b"; reaches", r, reaches);
-}
-
-// In-mass, out-mass and the total afterwards.
-pub fn taken(said: StepTaken) {
-    match said {
-        StepTaken::Stepped(printed) => {
-            accepted_with(printed.entered);
-            show::number(printed.gone);
-            show::number(printed.total);
-        }
-        StepTaken::Refused(refusal) => refused(refusal),
-    }
 }
 
 fn entry(e: Entry) {

@@ -204,7 +204,7 @@ fn main() {
         return;
     }
     let got = read.count;
-    let answer = taking::take_mesh(
+    let answer = mesh_taking::take_mesh(
         &buffer[..got],
         &mut volumes,
         &mut firsts,

@@ -22,7 +22,8 @@ use Rattle.reading.specs.declared.MeshAnswer.the-variants as mesh
 use Rattle.board.specs.Board.{BoardIs}
 use Rattle.board.specs.declared.Entry.{Entry}
 use Rattle.board.specs.declared.BoardAnswer.{BoardAnswer}
-use Rattle.taking.specs.Taking.{MeshTaking, FieldTaking, StepTaking}
+use Rattle.mesh_taking.specs.MeshTaking.{MeshTaking}
+use Rattle.taking.specs.Taking.{FieldTaking, StepTaking}
 use Rattle.taking.specs.declared.StepTaken.{StepTaken}
 use Rattle.session.specs.Lines.{letterM, letterF, refusalLine, stepLine, boardLine}
 use Rattle.session.specs.Session.{Holds, stillNeeded, lineOf, goesOn}
