@@ -12,7 +12,6 @@ use model::Refusal;
 use page::PageAnswer;
 use reading::MeshAnswer;
 use survey::ShareAnswer;
-use taking::StepTaken;
 use transport::StepAnswer;
 use writing::WriteAnswer;
 
@@ -20,12 +19,12 @@ fn accepted() {
     show::word(b" accepted");
 }
 
-fn accepted_with(value: u64) {
+pub fn accepted_with(value: u64) {
     accepted();
     show::number(value);
 }
 
-fn refused(refusal: Refusal) {
+pub fn refused(refusal: Refusal) {
     show::word(b" refused");
     let cause = refusal.cause;
     show::number(model::number(cause));
@@ -115,18 +114,6 @@ pub fn mesh_tables(
     show::numbers(b"; seconds", s, seconds);
     show::numbers(b"; shares", h, shares);
     show::numbers(b"; reaches", r, reaches);
-}
-
-// In-mass, out-mass and the total afterwards.
-pub fn taken(said: StepTaken) {
-    match said {
-        StepTaken::Stepped(printed) => {
-            accepted_with(printed.entered);
-            show::number(printed.gone);
-            show::number(printed.total);
-        }
-        StepTaken::Refused(refusal) => refused(refusal),
-    }
 }
 
 pub fn share(said: ShareAnswer) {

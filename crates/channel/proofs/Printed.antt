@@ -28,7 +28,8 @@ use Rattle.reading.specs.Reading.{meshBodyVerdict, fieldBodyVerdict, stepBodyVe
 use Rattle.reading.specs.Reading.{stepRead}
 use Rattle.reading.specs.declared.MeshCounts.{MeshCounts}
 use Rattle.board.specs.Board.{entryOf, rankedOf, fuller, asFull, comesBefore, insertInOrder, inOrder, entryAt, rankedAt, before, listed}
-use Rattle.taking.specs.Taking.{meshRecordFound, meshJudged, fieldJudged, stepJudged, stepIn, ownTables, blank, printedOf, massesAfter}
+use Rattle.mesh_taking.specs.MeshTaking.{meshRecordFound, meshJudged}
+use Rattle.taking.specs.Taking.{fieldJudged, stepJudged, stepIn, ownTables, blank, printedOf, massesAfter}
 use Rattle.taking.specs.declared.Printed.{Printed}
 use Rattle.text.specs.Digits.{digits}
 use Rattle.text.specs.Lines.{word, mark}

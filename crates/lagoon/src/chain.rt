@@ -72,7 +72,7 @@ pub fn on_records(mesh: &[u8], field: &[u8], step: &[u8], bytes: &mut [u8]) -> A
     let mut seconds = [0u64; RUN_FACES];
     let mut shares = [0u64; RUN_FACES];
     let mut reaches = [0u64; RUN_FACES];
-    let a = taking::take_mesh(
+    let a = mesh_taking::take_mesh(
         mesh,
         &mut volumes,
         &mut firsts,

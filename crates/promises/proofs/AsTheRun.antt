@@ -15,8 +15,9 @@ use Rattle.model.proofs.Verdicts.{both-fine, need-met}
 use Rattle.model.proofs.Agree.{mesh-values-agree, field-values-agree, verdict-agree}
 use Rattle.heads.specs.Heads.{cellsIn, facesIn}
 use Rattle.reading.specs.Reading.{volumesIn, firstsIn, secondsIn, sharesIn, reachesIn, meshIn, massesIn, outsidesIn}
-use Rattle.taking.specs.Taking.{meshJudged, fieldJudged, stepIn, stepJudged}
-use Rattle.taking.proofs.MeshLaws.{limits}
+use Rattle.mesh_taking.specs.MeshTaking.{meshJudged}
+use Rattle.taking.specs.Taking.{fieldJudged, stepIn, stepJudged}
+use Rattle.mesh_taking.proofs.MeshLaws.{limits}
 use Rattle.lagoon.specs.Host.{meshTested, fieldTested, stepTested}
 use Rattle.promises.proofs.Counted.{outsides-same, read-same}
 

@@ -18,7 +18,8 @@ use Rattle.heads.specs.Layouts.{meshRecord, fieldRecord, meshLength, fieldLengt
 use Rattle.heads.specs.Heads.{meshHeadVerdict, fieldHeadVerdict, stepHeadVerdict}
 use Rattle.zeros.specs.Zeros.{zeroBitGood, minusZero}
 use Rattle.reading.specs.Reading.{meshIn, volumesIn, firstsIn, secondsIn, sharesIn, reachesIn, massesIn, fluxesIn, outsidesIn, meshBitGood, stepBitGood, meshBodyVerdict, fieldBodyVerdict, stepBodyVerdict, fieldRead, stepRead}
-use Rattle.taking.specs.Taking.{meshRecordFound, meshJudged, fieldJudged, blank, stepJudged}
+use Rattle.mesh_taking.specs.MeshTaking.{meshRecordFound, meshJudged}
+use Rattle.taking.specs.Taking.{fieldJudged, blank, stepJudged}
 use Rattle.lagoon.specs.Host.{hostInput, hostVerdict, hostBytes}
 use Rattle.promises.specs.Demand3.{StepCall, onTables, onRecords, waterIn, lentMasses, stepOnRecords, comes}
 

@@ -3,6 +3,7 @@
 mod board_lines;
 
 use checks::TotalAnswer;
+use intake::RECORD;
 use libc::STDERR_FILENO;
 use libc::STDIN_FILENO;
 use libc::STDOUT_FILENO;
@@ -11,7 +12,6 @@ use model::RUN_FACES;
 use model::Refusal;
 use reading::MeshAnswer;
 use session::Line;
-use session::RECORD;
 use taking::StepTaken;
 ghost use Prim.Native.Nat.{_≤_};
 ghost use lib.ListN.{length};
@@ -68,7 +68,7 @@ fn step_once(
     reaches: &[u64],
     masses: &mut [u64],
 ) -> Next
-    requires { do ⌜ (← ⟦session::RECORD⟧) ≤ length (now buffer) ⌝ }
+    requires { do ⌜ (← ⟦intake::RECORD⟧) ≤ length (now buffer) ⌝ }
 {
     let read = intake::step(faces, seconds, buffer);
     if read.failed {
@@ -105,7 +105,7 @@ fn steps(
     reaches: &[u64],
     masses: &mut [u64],
 ) -> Next
-    requires { do ⌜ (← ⟦session::RECORD⟧) ≤ length (now buffer) ⌝ }
+    requires { do ⌜ (← ⟦intake::RECORD⟧) ≤ length (now buffer) ⌝ }
 {
     let mut step: u64 = 0;
     while step < u64::MAX {
@@ -140,7 +140,7 @@ fn run_on(
     shares: &[u64],
     reaches: &[u64],
 )
-    requires { do ⌜ (← ⟦session::RECORD⟧) ≤ length (now buffer) ⌝ }
+    requires { do ⌜ (← ⟦intake::RECORD⟧) ≤ length (now buffer) ⌝ }
 {
     let mut masses = [0u64; RUN_CELLS];
     let read = intake::field(cells, buffer);
@@ -204,7 +204,7 @@ fn main() {
         return;
     }
     let got = read.count;
-    let answer = taking::take_mesh(
+    let answer = mesh_taking::take_mesh(
         &buffer[..got],
         &mut volumes,
         &mut firsts,

@@ -1,4 +1,3 @@
 pub mod Endings
 pub mod Held
-pub mod Room
 pub mod Prints

@@ -24,7 +24,8 @@ use Rattle.taking.specs.declared.Printed.{Printed}
 use Rattle.taking.specs.declared.StepTaken.{StepTaken}
 use Rattle.model.proofs.Verdicts.{accepted-of}
 use Rattle.session.specs.Lines.{stepLine, boardLine}
-use Rattle.session.specs.Session.{Holds, stillNeeded, stepText, lineOf, goesOn, goesOnAfter}
+use Rattle.intake.specs.Intake.{stillNeeded}
+use Rattle.session.specs.Session.{Holds, stepText, lineOf, goesOn, goesOnAfter}
 use Rattle.session.specs.Run.{recordAt, meshAt, fieldAt, stepAt, following, inTable, boardLines, boardPrinted, stepSaid, fieldThen, stepsPrinted}
 use Rattle.session.specs.Run.{fromField, fieldPrinted, runMesh, fromMesh, printed}
 use Rattle.session.specs.Program.{Reads, shown, EntriesPrint, none, one, BoardPrints, StepsPrint, no-byte, step-ends, step-goes-on}

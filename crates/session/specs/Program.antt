@@ -22,13 +22,15 @@ use Rattle.reading.specs.declared.MeshAnswer.the-variants as mesh
 use Rattle.board.specs.Board.{BoardIs}
 use Rattle.board.specs.declared.Entry.{Entry}
 use Rattle.board.specs.declared.BoardAnswer.{BoardAnswer}
-use Rattle.taking.specs.Taking.{MeshTaking, FieldTaking, StepTaking}
+use Rattle.mesh_taking.specs.MeshTaking.{MeshTaking}
+use Rattle.taking.specs.Taking.{FieldTaking, StepTaking}
 use Rattle.taking.specs.declared.StepTaken.{StepTaken}
 use Rattle.session.specs.Lines.{letterM, letterF, refusalLine, stepLine, boardLine}
-use Rattle.session.specs.Session.{Holds, stillNeeded, lineOf, goesOn}
+use Rattle.intake.specs.Intake.{stillNeeded}
+use Rattle.session.specs.Session.{Holds, lineOf, goesOn}
 use Rattle.session.specs.declared.Line.{Line}
 
--- reading.rt: the head, what `records` says of it, what `session::rest` says is still to come.
+-- reading.rt: the head, what `records` says of it, what `intake::still_needed` says is still to come.
 pub record Reads (head : ℕ) (needs : List ℕ → Outcome ℕ) (input bs : List ℕ) : Type 0 where
   pub answer : LengthAnswer
   pub more : ℕ

@@ -14,10 +14,12 @@ use Rattle.heads.specs.Heads.{meshNeeds, fieldNeeds, stepNeeds}
 use Rattle.reading.specs.declared.MeshCounts.{MeshCounts}
 use Rattle.board.specs.Board.{entryAt, listed, boardVerdict}
 use Rattle.board.specs.declared.Entry.{Entry}
-use Rattle.taking.specs.Taking.{meshJudged, fieldJudged, stepJudged, stepIn, printedOf, massesAfter}
+use Rattle.mesh_taking.specs.MeshTaking.{meshJudged}
+use Rattle.taking.specs.Taking.{fieldJudged, stepJudged, stepIn, printedOf, massesAfter}
 use Rattle.taking.specs.declared.Printed.{Printed}
 use Rattle.session.specs.Lines.{letterM, letterF, refusalLine, stepLine, boardLine}
-use Rattle.session.specs.Session.{stillNeeded, stepText, goesOnAfter}
+use Rattle.intake.specs.Intake.{stillNeeded}
+use Rattle.session.specs.Session.{stepText, goesOnAfter}
 
 -- The run's tables are as long as its limits and 0 at first. Entries past the counts mean nothing.
 abbrev pub inTable : ℕ → List ℕ → List ℕ

@@ -1,16 +1,14 @@
--- Document 01, "The board and the run": when a run ends, how much of a record is still to be read, and what a step prints.
-use Prim.Native.Nat.{ℕ, _-_, min}
+-- Document 01, "The board and the run": when a run ends, and what a step prints.
+use Prim.Native.Nat.{ℕ}
 use mathlib.Core.Bool.{Bool, true, not, _||_}
 use mathlib.Core.List.{List}
 use mathlib.Core.Path.{_≡_}
 use lib.Dec.{eqb}
 use lib.ListN.{take}
 use Rattle.io.specs.Counts.{Counts}
-use Rattle.model.specs.Mesh.{runCells, runFaces}
 use Rattle.model.specs.Causes.{Outcome, accepted, refused}
 use Rattle.model.specs.Answers.{number}
 use Rattle.model.specs.declared.Cause.{Cause}
-use Rattle.heads.specs.Layouts.{meshLength}
 use Rattle.session.specs.declared.Line.{Line}
 use Rattle.taking.specs.Taking.{takenSaid}
 use Rattle.taking.specs.declared.Printed.{Printed}
@@ -27,16 +25,6 @@ endsBy cause = eqb cause 11 || eqb cause 13
 
 abbrev pub endsRun : Cause → Bool
 endsRun c = endsBy (number c)
-
--- The longest record within the run's limits: a mesh of all cells and faces.
-abbrev pub recordBytes : ℕ
-recordBytes = meshLength runCells runFaces
-
--- Of a record whose head asks for so many bytes, those not yet read. No head within the limits asks for more than the longest
--- record, and a refused one asks for none.
-abbrev pub stillNeeded : Outcome ℕ → ℕ → ℕ
-stillNeeded (accepted n) got = min n recordBytes - got
-stillNeeded (refused _ _) got = 0
 
 -- A step's line: its number and what is printed of it, or why it is refused.
 abbrev pub stepText : ℕ → Outcome Printed → List ℕ

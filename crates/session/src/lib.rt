@@ -1,25 +1,14 @@
 // What the run program decides and prints, apart from its reading and writing.
 mod lines;
 
-use heads::CELL_BITS;
-use heads::FACE_BITS;
-use heads::LengthAnswer;
-use heads::MESH_HEAD;
 pub use lines::LINE;
 pub use lines::board_line;
 pub use lines::refusal_line;
 pub use lines::step_line;
 use model::Cause;
-use model::RUN_CELLS;
-use model::RUN_FACES;
 use taking::StepTaken;
 ghost use mathlib.Core.Path.{_≡_};
-ghost use Prim.Native.Nat.{_+_, _≤_};
-ghost use Rattle.heads.specs.Heads.{lengthSaid};
-ghost use Rattle.session.specs.Session.{recordBytes, Holds, endsRun, stillNeeded, lineOf, goesOn};
-
-// Bytes of the longest record within the run's limits, a mesh of all cells and faces. `rest` holds it to the layout.
-pub const RECORD: usize = MESH_HEAD + (RUN_CELLS * CELL_BITS + RUN_FACES * FACE_BITS + 7) / 8;
+ghost use Rattle.session.specs.Session.{Holds, endsRun, lineOf, goesOn};
 
 // A line of at most LINE bytes, of which the first `used` count.
 pub struct Line {
@@ -63,18 +52,4 @@ pub fn taken_line(step: u64, taken: StepTaken) -> Line
             lines::refused_step_line(step, model::number(cause), refusal.place)
         }
     }
-}
-
-// How many bytes of a record are still to be read, of which so many have come.
-pub fn rest(answer: LengthAnswer, got: usize) -> usize
-    ensures { λ r. ⌜ (r ≡ stillNeeded (lengthSaid answer) got) × (got ≤ recordBytes → got + r ≤ recordBytes) ⌝ }
-{
-    let LengthAnswer::Needs(needed) = answer else {
-        return 0;
-    };
-    let end = bits::least(needed, RECORD);
-    if end < got {
-        return 0;
-    }
-    end - got
 }

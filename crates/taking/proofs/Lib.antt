@@ -1,4 +1,2 @@
-pub mod Parts
-pub mod MeshLaws
 pub mod FieldLaws
 pub mod StepLaws

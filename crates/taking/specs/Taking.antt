@@ -1,5 +1,5 @@
--- Document 01, "The board and the run" and "Tables lent to a step": what a mesh, a field and a step record come to. Each is read, then
--- judged by the causes of its values; a step is taken. A refusal leaves every lent table as it was.
+-- Document 01, "The board and the run" and "Tables lent to a step": what a field and a step record come to. Each is read, then judged
+-- by the causes of its values; a step is taken. A refusal leaves the lent masses as they were.
 use Prim.Native.Nat.{ℕ}
 use mathlib.Core.Path.{_≡_}
 use mathlib.Core.List.{List}
@@ -8,44 +8,15 @@ use lib.IntN.{ℤ, pos}
 use Rattle.lists.specs.Table.{table, over}
 use Rattle.model.specs.Mesh.{Mesh, total, runCells, runFaces}
 use Rattle.model.specs.Step.{next, inMass, outMass}
-use Rattle.model.specs.Causes.{Outcome, accepted, Verdict, _andThen_, taken, long, Call, callOf, workEntries, cellsOnly, inputOf, meshValues, meshFieldVerdict, verdict}
+use Rattle.model.specs.Causes.{Outcome, accepted, Verdict, _andThen_, taken, long, Call, callOf, workEntries, cellsOnly, inputOf, meshFieldVerdict, verdict}
 use Rattle.model.specs.Answers.{told}
 use Rattle.model.specs.Calls.{massIn}
 use Rattle.checks.specs.Total.{totalSaid}
 use Rattle.checks.specs.declared.TotalAnswer.{TotalAnswer}
-use Rattle.heads.specs.Heads.{cellsIn, facesIn, meshHeadVerdict}
-use Rattle.reading.specs.Reading.{meshIn, massesIn, fluxesIn, outsidesIn, meshBodyVerdict, fieldRead, stepRead}
-use Rattle.reading.specs.Answers.{meshSaid}
-use Rattle.reading.specs.declared.MeshAnswer.{MeshAnswer}
+use Rattle.reading.specs.Reading.{massesIn, fluxesIn, outsidesIn, fieldRead, stepRead}
 use Rattle.taking.specs.declared.Printed.{Printed}
 use Rattle.taking.specs.declared.StepTaken.{StepTaken}
 use Rattle.taking.specs.declared.StepTaken.the-variants.{Stepped, Refused}
-
--- A MESH. "The board and the run", limits: 1,023 cells and 2,046 faces; of a larger mesh cause 1 is found. It is read into tables of the
--- call's own, as long as these limits.
-unfoldable pub meshRecordFound : List ℕ → Verdict
-meshRecordFound bs = meshHeadVerdict runCells runFaces bs andThen meshBodyVerdict bs runCells runFaces runFaces runFaces runFaces
-
--- "Causes", 2: the lent tables, of so many entries, have to hold it. Then 3 to 5.
-unfoldable pub meshJudged : List ℕ → ℕ → ℕ → ℕ → ℕ → ℕ → Verdict
-meshJudged bs volumes firsts seconds shares reaches = meshRecordFound bs
-    andThen (long 0 (cellsIn bs) volumes andThen long 1 (facesIn bs) firsts andThen long 2 (facesIn bs) seconds andThen long 3 (facesIn bs) shares
-    andThen long 4 (facesIn bs) reaches)
-    andThen meshValues (meshIn bs)
-
--- A mesh of which v is found: the answer, and each lent table. The counted entries are filled where it is accepted; no other entry is, and
--- after a refusal none.
-pub record MeshKept (v : Verdict) (M : Mesh) (volumes firsts seconds shares reaches : List ℕ) (r : MeshAnswer) (volumes′ firsts′ seconds′ shares′ reaches′ : List ℕ) : Type 0 where
-  pub answer : meshSaid r ≡ (v andThen accepted (record { cells = M .cells; faces = M .faces }))
-  pub volumes-after : volumes′ ≡ taken v (over (M .volumes) volumes) volumes
-  pub firsts-after : firsts′ ≡ taken v (over (M .firsts) firsts) firsts
-  pub seconds-after : seconds′ ≡ taken v (over (M .seconds) seconds) seconds
-  pub shares-after : shares′ ≡ taken v (over (M .shares) shares) shares
-  pub reaches-after : reaches′ ≡ taken v (over (M .reaches) reaches) reaches
-
-abbrev pub MeshTaking : List ℕ → List ℕ → List ℕ → List ℕ → List ℕ → List ℕ → MeshAnswer → List ℕ → List ℕ → List ℕ → List ℕ → List ℕ → Type 0
-MeshTaking bs volumes firsts seconds shares reaches =
-    MeshKept (meshJudged bs (length volumes) (length firsts) (length seconds) (length shares) (length reaches)) (meshIn bs) volumes firsts seconds shares reaches
 
 -- A FIELD on so many cells of these volumes. It is read into a table of the call's own, of 1,023 entries; the lent one, of so many, has to
 -- hold it. Then come the causes that the total of a field has.

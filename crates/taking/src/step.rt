@@ -47,7 +47,7 @@ fn stepped(
     match answer {
         StepAnswer::Refused(refusal) => StepTaken::Refused(refusal),
         StepAnswer::Stepped(crossing) => {
-            crate::copy(&next[..cells], masses);
+            mesh_taking::copy(&next[..cells], masses);
             StepTaken::Stepped(Printed {
                 entered: crossing.entered,
                 gone: crossing.gone,

@@ -7,6 +7,7 @@ use arguments::parts::number;
 use arguments::parts::octets;
 use arguments::parts::table;
 use arguments::show;
+use taking::StepTaken;
 
 // The host's answer is one number, printed as it is.
 pub fn lagoon_step(words: &[u64], records: &[u8]) {
@@ -53,7 +54,7 @@ fn fill_mesh(
     let s = copy(given_seconds, &mut seconds);
     let h = copy(given_shares, &mut shares);
     let r = copy(given_reaches, &mut reaches);
-    answers::mesh(taking::take_mesh(
+    answers::mesh(mesh_taking::take_mesh(
         record,
         &mut volumes[..v],
         &mut firsts[..f],
@@ -88,11 +89,23 @@ pub fn take_field(words: &[u64], records: &[u8]) {
     show::numbers(b"; masses", m, &masses);
 }
 
+// In-mass, out-mass and the total afterwards.
+fn taken(said: StepTaken) {
+    match said {
+        StepTaken::Stepped(printed) => {
+            answers::accepted_with(printed.entered);
+            show::number(printed.gone);
+            show::number(printed.total);
+        }
+        StepTaken::Refused(refusal) => answers::refused(refusal),
+    }
+}
+
 pub fn take_step(words: &[u64], records: &[u8]) {
     let mut masses = [0u64; ROOM];
     show::word(b"take_step:");
     let m = copy(table(words, 8), &mut masses);
-    answers::taken(taking::take_step(
+    taken(taking::take_step(
         number(words, 0),
         number(words, 1),
         octets(words, records, 2),

@@ -2,21 +2,18 @@
 use mathlib.Core.Path.{_≡_, refl, sym, ap, _∙_}
 use borrow.Author.Needs.{needs}
 use Rattle.model.specs.Mesh.{Mesh, meshOf}
-use Rattle.model.specs.Causes.{fine}
+use Rattle.model.specs.Causes.{fine, meshTables}
 use Rattle.model.specs.Answers.{said}
-use Rattle.taking.specs.Inner.{keptFound}
-use Rattle.taking.proofs.MeshLaws.{kept-refused, kept-accepted, Room, room}
-use Rattle.taking.proofs.mesh.keep.Statement.{statement}
-use Rattle.taking.proofs.mesh.keep.Tie as tie
+use Rattle.mesh_taking.specs.Inner.{keptFound}
+use Rattle.mesh_taking.proofs.MeshLaws.{kept-refused, kept-accepted, Room, room}
+use Rattle.mesh_taking.proofs.mesh.keep.Statement.{statement}
+use Rattle.mesh_taking.proofs.mesh.keep.Tie as tie
 
 abbrev entered : tie.After-slice-known → tie.Start
 entered c = c .before .before .before .before .before .before
 
-abbrev known : tie.After-mesh-lent-arg → tie.Start
-known c = entered (c .before .before .before .before .before)
-
 abbrev start : tie.After-and-then → tie.Start
-start c = known (c .before .before .before .before .before .before .before)
+start c = entered (c .before .before .before .before .before .before .before)
 
 -- the mesh that was read, and the lent tables
 abbrev read : tie.Start → Mesh
@@ -26,7 +23,8 @@ abbrev lent : tie.Start → Mesh
 lent s = meshOf (s .args .cells) (s .args .faces) (s .args .volumes .now) (s .args .firsts .now) (s .args .seconds .now) (s .args .shares .now) (s .args .reaches .now)
 
 found : (c : tie.After-and-then) → let s = start c in said (c .and-then .result) ≡ keptFound (lent s) (read s)
-found c = rw (c .and-then .ensures, c .before .before .mesh-lent .ensures, c .before .check-mesh .ensures)
+unfolding meshTables
+found c = rw (c .and-then .ensures, c .before .before .holds .ensures, c .before .check-mesh .ensures)
 
 returns : tie.Need-returns
 returns c =
@@ -79,11 +77,6 @@ pub keep-spec : {M : Type 1} → statement M
 keep-spec =
     tie.close
     (tie.spec
-    (search needs)
-    (search needs)
-    (search needs)
-    (search needs)
-    (search needs)
     (search needs)
     (search needs)
     (search needs)

@@ -1,8 +1,8 @@
 use native.Mathlib.Omega.{arith}
 use borrow.Author.Needs.{needs}
-use Rattle.session.proofs.Room.{record-is}
-use Rattle.session.proofs.rest.Statement.{statement}
-use Rattle.session.proofs.rest.Tie as tie
+use Rattle.intake.proofs.Room.{record-is}
+use Rattle.intake.proofs.still_needed.Statement.{statement}
+use Rattle.intake.proofs.still_needed.Tie as tie
 
 enum-known-answer : tie.Need-enum-known-answer
 enum-known-answer c = search needs
@@ -22,6 +22,6 @@ returns-2 c = (rw (c .before .before .before .answer .given .1, record-is) (omeg
 returns-3 : tie.Need-returns-3
 returns-3 c = (rw (c .before .before .before .answer .given .1, c .before .least .ensures, record-is), λ h. rw record-is (omega (arith, c .before .least .ensures, record-is)))
 
-pub rest-spec : {M : Type 1} → statement M
-rest-spec =
+pub still-needed-spec : {M : Type 1} → statement M
+still-needed-spec =
     tie.close (tie.spec enum-known-answer enum-told returns least-requires returns-2 returns-3)

@@ -14,7 +14,7 @@ use Rattle.bits.proofs.Layouts.{bytes-most}
 use Rattle.heads.specs.Layouts.{meshBits, fieldBits, stepBits, meshLength, fieldLength, stepLength}
 use Rattle.heads.specs.Heads.{cellsIn, facesIn, meshHeadVerdict, meshNeeds, fieldNeeds, stepNeeds}
 use Rattle.heads.proofs.HeadLaws.{rim-le}
-use Rattle.session.specs.Session.{recordBytes}
+use Rattle.intake.specs.Intake.{recordBytes}
 
 -- the same in bytes, as the run's buffer has them
 abbrev pub longest : ℕ

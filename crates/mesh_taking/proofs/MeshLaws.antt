@@ -22,9 +22,9 @@ use Rattle.reading.specs.Answers.{meshSaid, MeshReading}
 use Rattle.reading.specs.declared.MeshAnswer.{MeshAnswer}
 use Rattle.reading.specs.declared.MeshAnswer.the-variants as mesh-answer
 use Rattle.reading.specs.declared.MeshCounts.{MeshCounts}
-use Rattle.taking.specs.Taking.{meshRecordFound, meshJudged, MeshKept, MeshTaking}
-use Rattle.taking.specs.Inner.{MeshCut, keptFound}
-use Rattle.taking.proofs.Parts.{PartRead, read-part}
+use Rattle.mesh_taking.specs.MeshTaking.{meshRecordFound, meshJudged, MeshKept, MeshTaking}
+use Rattle.mesh_taking.specs.Inner.{MeshCut, keptFound}
+use Rattle.mesh_taking.proofs.Parts.{PartRead, read-part}
 
 -- a mesh of which v is found: refused, and accepted
 pub kept-refused : {v : Verdict} (M : Mesh) (volumes firsts seconds shares reaches : List ℕ) (a : MeshAnswer) (k i : ℕ) → v ≡ refused k i → meshSaid a ≡ refused k i
@@ -49,7 +49,7 @@ pub record Room (M : Mesh) (volumes firsts seconds shares reaches : List ℕ) : 
 pub room : (M : Mesh) (volumes firsts seconds shares reaches : List ℕ) → MeshCut M → keptFound (meshOf (M .cells) (M .faces) volumes firsts seconds shares reaches) M ≡ fine
     → Room M volumes firsts seconds shares reaches
 room M volumes firsts seconds shares reaches c e =
-    let l = mesh-lent (meshOf (M .cells) (M .faces) volumes firsts seconds shares reaches) (both-fine _ _ (both-fine _ _ e .0) .1) in record {
+    let l = mesh-lent (meshOf (M .cells) (M .faces) volumes firsts seconds shares reaches) (both-fine _ _ e .0) in record {
       volumes-room = omega (arith, c .volumes-cut, l .volumes-long);
       firsts-room = omega (arith, c .firsts-cut, l .firsts-long);
       seconds-room = omega (arith, c .seconds-cut, l .seconds-long);
@@ -101,8 +101,8 @@ module _ (bs : List ℕ) (e : meshRecordFound bs ≡ fine) where
   found-is : (volumes firsts seconds shares reaches : List ℕ)
       → keptFound (meshOf (cellsIn bs) (facesIn bs) volumes firsts seconds shares reaches) (meshIn bs) ≡ meshJudged bs (length volumes) (length firsts) (length seconds)
       (length shares) (length reaches)
-  unfolding meshJudged counts meshTables _andThen_
-  found-is volumes firsts seconds shares reaches = rw (counts-pass, values-left, e)
+  unfolding meshJudged meshTables _andThen_
+  found-is volumes firsts seconds shares reaches = rw (values-left, e)
 
 -- the tables read into, and the mesh of their parts
 pub record MeshIsRead (bs : List ℕ) (n : MeshCounts) (volumes′ firsts′ seconds′ shares′ reaches′ : List ℕ) : Type 0 where

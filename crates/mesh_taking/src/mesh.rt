@@ -2,11 +2,36 @@
 use model::Answer;
 use model::RUN_CELLS;
 use model::RUN_FACES;
+use model::needs::and_then;
+use model::needs::long;
 use reading::MeshAnswer;
 use reading::MeshCounts;
+ghost use mathlib.Core.Path.{_≡_};
 ghost use Rattle.model.specs.Mesh.{meshOf};
-ghost use Rattle.taking.specs.Taking.{MeshKept, MeshTaking};
-ghost use Rattle.taking.specs.Inner.{MeshCut, keptFound};
+ghost use Rattle.model.specs.Causes.{_andThen_, long as longOf};
+ghost use Rattle.model.specs.Answers.{said};
+ghost use Rattle.mesh_taking.specs.MeshTaking.{MeshKept, MeshTaking};
+ghost use Rattle.mesh_taking.specs.Inner.{MeshCut, keptFound};
+
+// Cause 2: whether lent tables of so many entries hold the mesh.
+fn holds(
+    cells: usize,
+    faces: usize,
+    volumes: usize,
+    firsts: usize,
+    seconds: usize,
+    shares: usize,
+    reaches: usize,
+) -> Answer
+    ensures { λ r. ⌜ said r ≡ (longOf 0 cells volumes andThen longOf 1 faces firsts andThen longOf 2 faces seconds andThen longOf 3 faces shares
+        andThen longOf 4 faces reaches) ⌝ }
+{
+    let a = long(0, cells, volumes);
+    let b = and_then(a, long(1, faces, firsts));
+    let c = and_then(b, long(2, faces, seconds));
+    let d = and_then(c, long(3, faces, shares));
+    and_then(d, long(4, faces, reaches))
+}
 
 // A mesh that has been read, judged by 3 to 5 and copied into the lent tables.
 fn keep(
@@ -32,7 +57,15 @@ fn keep(
         (now (volumes .entry)) (now (firsts .entry)) (now (seconds .entry)) (now (shares .entry)) (now (reaches .entry)) r
         (now (volumes .exit)) (now (firsts .exit)) (now (seconds .exit)) (now (shares .exit)) (now (reaches .exit)) ⌝ }
 {
-    let lent = lent::mesh_lent(cells, faces, volumes, firsts, seconds, shares, reaches);
+    let held = holds(
+        cells,
+        faces,
+        volumes.len(),
+        firsts.len(),
+        seconds.len(),
+        shares.len(),
+        reaches.len(),
+    );
     let judged = checks::check_mesh(
         cells,
         faces,
@@ -42,7 +75,7 @@ fn keep(
         read_shares,
         read_reaches,
     );
-    let found = model::needs::and_then(lent, judged);
+    let found = and_then(held, judged);
     if let Answer::Refused(refusal) = found {
         return MeshAnswer::Refused(refusal);
     }

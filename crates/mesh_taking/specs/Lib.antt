@@ -1,0 +1,2 @@
+pub mod MeshTaking
+pub mod Inner
