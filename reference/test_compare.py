@@ -16,7 +16,7 @@ import script
 from slips import ANSWER_SLIPS, SLIPS
 
 SELF = f"python3:{HERE / 'lagoon.py'}"
-SMALL = 90              # bytes; about three cells with the faces between them and one step
+SMALL = 110             # bytes; about four cells with the faces between them and one step
 
 
 def compare(*words):

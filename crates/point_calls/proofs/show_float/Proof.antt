@@ -4,8 +4,8 @@ use mathlib.Core.Bool.{false, not, true≢false}
 use borrow.Author.Needs.{needs}
 use lib.Dec.{T}
 use lib.Ieee.{Float, nan, inf, fin, ne, isNan}
-use Rattle.calls.proofs.points.show_float.Statement.{statement}
-use Rattle.calls.proofs.points.show_float.Tie as tie
+use Rattle.point_calls.proofs.show_float.Statement.{statement}
+use Rattle.point_calls.proofs.show_float.Tie as tie
 
 is-number : (v : Float) → ne v v ≡ false → T (not (isNan v))
 unfolding ne isNan

@@ -7,8 +7,8 @@ use borrow.Author.Needs.{needs}
 use borrow.Author.Tests.{eqb-true, eq-eqb}
 use lib.Dec.{T, eqb}
 use lib.Ieee.{binary64, nanBits}
-use Rattle.calls.proofs.points.float_of.Statement.{statement}
-use Rattle.calls.proofs.points.float_of.Tie as tie
+use Rattle.point_calls.proofs.float_of.Statement.{statement}
+use Rattle.point_calls.proofs.float_of.Tie as tie
 
 no-nan : (b : ℕ) → b % 9223372036854775808 ≤ 9218868437227405312 → T (not (nanBits binary64 b))
 unfolding nanBits
