@@ -312,6 +312,8 @@ def take_field(rng, large, kinds):
 def take_step(rng, large, kinds):
     lent = tables_for(rng, FIELD_TABLES, large, kinds)
     step = lent.lag.raw_step(rng)
+    if rng.random() < 0.05:
+        lent.faces = FACES + 1
     if lent.faces <= FACES + 1:
         step.count = lent.faces
     return (lent.cells, lent.faces, harmed(rng, lent, step, generate.STEP_DAMAGE, kinds),
@@ -337,7 +339,7 @@ def a_store(rng, cells, lent, kinds):
     count = rng.choice([0, 1, 1, 2, 3, 4])
     store = [count]
     for i in range(count):
-        masses = [rng.choice([m, 0, rng.randint(0, V * (TOP + 1) - 1)]) for V, m in zip(lent.lag.volumes, lent.tables[MASSES])]
+        masses = [rng.choice([m, 0, rng.randint(0, V * (TOP + 1) - 1)]) for V, m in zip(lent.lag.volumes, lent.lag.masses)]
         store += [rng.choice([i + 1, i + 1, i + 1, 1, 65_535]), *masses]
     store += [rng.choice([0, 7, GREATEST]) for _ in range(rng.choice([0, cells, cells + 1, cells + 2, 3 * cells + 3]))]
     damage = rng.choice(["none"] * 6 + ["none kept", "count", "wraps", "cut", "empty", "name", "mass"])

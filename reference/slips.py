@@ -201,7 +201,7 @@ def unweighed(lagoon):
     lagoon.board_order = lambda cell, V, m: (-(m // V), -(m % V), cell)
 
 
-def turned(lagoon):
+def higher(lagoon):
     """Of equal q and rest / V the higher cell first."""
     right = lagoon.board_order
     lagoon.board_order = lambda cell, V, m: (*right(cell, V, m)[:2], -cell)
@@ -242,4 +242,4 @@ def exchanged(lagoon):
     lagoon.sides = lambda ends, centres: right(ends, centres)[::-1]
 
 
-ANSWER_SLIPS = {slip.__name__: slip for slip in (place, table, beyond, bit, binder, fresher, unweighed, turned, first, freed, nearest, exchanged)}
+ANSWER_SLIPS = {slip.__name__: slip for slip in (place, table, beyond, bit, binder, fresher, unweighed, higher, first, freed, nearest, exchanged)}
