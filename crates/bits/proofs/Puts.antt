@@ -83,7 +83,12 @@ module _ (x e k v : ℕ) (small : v < 2 ^ k) where
 -- a field within one byte, written
 pub put-byte : (bs : List ℕ) (p k v : ℕ) → p / 8 < length bs → p % 8 + k ≤ 8 → v < 2 ^ k → Put bs p k v (set bs (p / 8) (mixed (getD bs (p / 8) 0) (8 - p % 8 - k) k v))
 unfolding bitAt
-put-byte bs p k v l h small = record { same-length = length-set bs (p / 8) y; inside = in-it; below = λ i m. under i m (ℕ-discrete (i / 8) (p / 8)); above = λ i m. over i m (ℕ-discrete (i / 8) (p / 8)) }
+put-byte bs p k v l h small = record {
+  same-length = length-set bs (p / 8) y;
+  inside = in-it;
+  below = λ i m. under i m (ℕ-discrete (i / 8) (p / 8));
+  above = λ i m. over i m (ℕ-discrete (i / 8) (p / 8));
+}
   where
     e : ℕ
     e = 8 - p % 8 - k

@@ -79,7 +79,8 @@ unfolding entering leaving incoming outgoing updated total
 of-faces = tt
 
 of-step : Unit {0}
-unfolding portion receiver giver limitedBy concentration beyond upwind downwind carried low upwindShare correction smooths keptBy lowConcentration kept adjacent lo hi maxGain maxLoss limited moved next inMass outMass
+unfolding portion receiver giver limitedBy concentration beyond upwind downwind carried low upwindShare correction smooths keptBy
+    lowConcentration kept adjacent lo hi maxGain maxLoss limited moved next inMass outMass
 of-step = tt
 
 of-causes : Unit {0}

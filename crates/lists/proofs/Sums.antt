@@ -1,6 +1,6 @@
 -- Laws of sums, of least and of greatest values over the indices below a count.
 use Prim.Native.Nat.{ℕ, zero, suc, _+_, _-_, _*_, _≤_, _<_, min, max}
-use mathlib.Core.Path.{_≡_, refl, sym, ap, _∙_}
+use mathlib.Core.Path.{_≡_, refl, sym}
 use mathlib.Core.Logic.{⊎-elim}
 use mathlib.Core.Bool.{Bool, true, false, cond}
 use native.Mathlib.Nat.{zero-mul, suc-mul, add-zero, add-suc, le-of-suc-le-suc, eq-or-lt-of-le}

@@ -18,15 +18,33 @@ use Rattle.model.proofs.Uniform.{uniform, no-faces}
 
 -- a name for all that a figure computes through: to unfold it is to unfold what its `unfolding` line names
 everything : Unit {0}
-unfolding afterAll totalIn totalOut stepOnTables nextTable inMass over verdict counts countsWithin meshTables fieldTable stepTables meshValues fieldValues saltGood stepValues volumeGood endsGood spacingGood outsideGood fluxGood balanceGood outflowGood need each _andThen_ table sum least greatest entering leaving incoming outgoing updated next moved concentration beyond upwind downwind carried low upwindShare correction smooths keptBy lowConcentration kept adjacent lo hi maxGain maxLoss receiver giver limitedBy limited portion fieldVerdict
+unfolding afterAll totalIn totalOut stepOnTables nextTable inMass over verdict counts countsWithin meshTables fieldTable stepTables
+    meshValues fieldValues saltGood stepValues volumeGood endsGood spacingGood outsideGood fluxGood balanceGood outflowGood need each
+    _andThen_ table sum least greatest entering leaving incoming outgoing updated next moved concentration beyond upwind downwind carried
+    low upwindShare correction smooths keptBy lowConcentration kept adjacent lo hi maxGain maxLoss receiver giver limitedBy limited portion
+    fieldVerdict
 everything = tt
 
 -- "The board and the run", the channel session: its mesh, the call of its two steps, and what that works on
 abbrev pub channel : Mesh
-channel = record { cells = 3; faces = 4; volumes = 100 ∷ 100 ∷ 100 ∷ []; firsts = 0 ∷ 0 ∷ 1 ∷ 2 ∷ []; seconds = rim ∷ 1 ∷ 2 ∷ rim ∷ []; shares = 0 ∷ 128 ∷ 128 ∷ 0 ∷ []; reaches = 0 ∷ 100 ∷ 100 ∷ 0 ∷ [] }
+channel = record {
+  cells = 3;
+  faces = 4;
+  volumes = 100 ∷ 100 ∷ 100 ∷ [];
+  firsts = 0 ∷ 0 ∷ 1 ∷ 2 ∷ [];
+  seconds = rim ∷ 1 ∷ 2 ∷ rim ∷ [];
+  shares = 0 ∷ 128 ∷ 128 ∷ 0 ∷ [];
+  reaches = 0 ∷ 100 ∷ 100 ∷ 0 ∷ [];
+}
 
 abbrev pub channelCall : Call
-channelCall = record { fluxes = negsuc 49 ∷ pos 50 ∷ pos 50 ∷ pos 50 ∷ []; outsides = 1000 ∷ 0 ∷ 0 ∷ 0 ∷ []; nexts = 7 ∷ 7 ∷ 7 ∷ []; moveds = pos 0 ∷ pos 0 ∷ pos 0 ∷ pos 0 ∷ []; work = replicate 16 0 }
+channelCall = record {
+  fluxes = negsuc 49 ∷ pos 50 ∷ pos 50 ∷ pos 50 ∷ [];
+  outsides = 1000 ∷ 0 ∷ 0 ∷ 0 ∷ [];
+  nexts = 7 ∷ 7 ∷ 7 ∷ [];
+  moveds = pos 0 ∷ pos 0 ∷ pos 0 ∷ pos 0 ∷ [];
+  work = replicate 16 0;
+}
 
 abbrev pub channelStep : List ℕ → StepInput
 channelStep masses = inputOf channel masses channelCall

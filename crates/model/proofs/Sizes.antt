@@ -102,7 +102,8 @@ module _ (S : StepInput) (r : Ready S) where
   correction-size f h = go (atRim M f) (same? (second M f) rim) (isZero (flux S f))
     where
       go : (b : Bool) → Same (second M f) rim b → (z : Bool)
-          → size (cond (b || z) (pos 0) (quotZ (flux S f *ℤ (pos (downwind S f) -ℤ pos (upwind S f)) *ℤ (pos (upwindShare S f * reach M f) -ℤ pos (128 * size (flux S f)))) (pos (256 * reach M f)))) ≤ maxCarried
+          → size (cond (b || z) (pos 0) (quotZ (flux S f *ℤ (pos (downwind S f) -ℤ pos (upwind S f)) *ℤ
+          (pos (upwindShare S f * reach M f) -ℤ pos (128 * size (flux S f)))) (pos (256 * reach M f)))) ≤ maxCarried
       go true s z = omega arith
       go false s true = omega arith
       go false (other d) false = le-trans
@@ -154,7 +155,8 @@ module _ (S : StepInput) (r : Ready S) where
 
   pub outMass-most : outMass S ≤ maxFaces * maxCarried
   unfolding outMass
-  outMass-most = le-trans (sum-bound (M .faces) maxCarried (λ f. cond (atRim M f) (forward (flux S f) * concentration S (first M f)) 0) gone-most) (mul-le-mul-right maxCarried (r .counts-fit .few-faces))
+  outMass-most = le-trans (sum-bound (M .faces) maxCarried
+      (λ f. cond (atRim M f) (forward (flux S f) * concentration S (first M f)) 0) gone-most) (mul-le-mul-right maxCarried (r .counts-fit .few-faces))
 
 -- a total of a field whose concentrations are within the ceiling
 pub total-most : (M : Mesh) (m : ℕ → ℕ) → M .cells ≤ maxCells → ((c : ℕ) → c < M .cells → m c ≤ maxMass) → total M m ≤ maxCells * maxMass

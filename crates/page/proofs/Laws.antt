@@ -1,9 +1,8 @@
 -- The cells of a page, what an accepted call has passed, and that every figure then fits its columns.
-use Prim.Native.Nat.{ℕ, suc, _+_, _-_, _*_, _/_, _^_, _≤_, _<_, min}
-use mathlib.Core.Path.{_≡_, refl, sym, ap, _∙_}
-use mathlib.Core.Bool.{true, cond}
+use Prim.Native.Nat.{ℕ, suc, _+_, _-_, _*_, _^_, _≤_, _<_, min}
+use mathlib.Core.Path.{_≡_, ap, _∙_}
 use mathlib.Core.List.{List, [], _∷_}
-use native.Mathlib.Nat.{le-div-iff-mul-le, lt-div-mul-add, div-mul-le-self, suc-mul, mul-le-mul, mul-le-mul-right, le-trans}
+use native.Mathlib.Nat.{le-div-iff-mul-le, lt-div-mul-add, suc-mul, mul-le-mul, mul-le-mul-right, le-trans}
 use native.Mathlib.Omega.{arith}
 use borrow.Author.Tests.{ltb-true, lt-ltb, le-ltb}
 use lib.Dec.{ltb}
@@ -19,7 +18,7 @@ use Rattle.model.proofs.Verdicts.{both-fine, need-fine, long-fine, past, out, a
 use Rattle.model.proofs.Accepted.{field-passed, FieldPassed, few, salt-asks, field-fit, mass-small}
 use Rattle.checks.proofs.Laws.{sum-asks}
 use Rattle.text.specs.Digits.{mostDigits}
-use Rattle.page.specs.Page.{cellPlaces, qPlaces, restPlaces, massPlaces, lineBytes, pageCells, pages, cellsOn, pageBytes, qOf, restOf, pageMass}
+use Rattle.page.specs.Page.{restPlaces, massPlaces, lineBytes, pageCells, pages, cellsOn, pageBytes, qOf, pageMass}
 use Rattle.page.specs.Fitting.{Fitting}
 use Rattle.page.specs.Answers.{pageVerdict}
 

@@ -1,8 +1,8 @@
 -- A printed page, over the places of the rest: how long it is, and what is read back from it.
 use Prim.Native.Nat.{ℕ, _+_, _-_, _*_, _/_, _^_, _≤_, _<_}
 use mathlib.Core.Path.{_≡_, refl, sym, ap, _∙_}
-use mathlib.Core.List.{List, [], _∷_, _++_, append-assoc, append-nil}
-use native.Mathlib.Nat.{add-zero, add-mul, one-mul, div-mul-le-self}
+use mathlib.Core.List.{List, [], _++_, append-assoc, append-nil}
+use native.Mathlib.Nat.{add-mul, one-mul, div-mul-le-self}
 use native.Mathlib.Omega.{arith}
 use lib.ListN.{length, getD, drop, length-append}
 use Rattle.lists.specs.Fold.{sum}
@@ -104,12 +104,17 @@ module _ (places : ℕ) (volumes masses : List ℕ) (cells : ℕ) (f : Fitting p
     pub page-back : ReadsBack places volumes masses cells page (pageText volumes masses places cells page ++ more)
     unfolding cellRead qRead restRead massRead lineOf massLine
     page-back =
-        let q : (i : ℕ) → i < cellsOn cells page → numberIn (lineAt (lineBytes places) i (pageText volumes masses places cells page ++ more)) (cellPlaces + 1) qPlaces ≡ qOf volumes masses (page * pageCells + i) =
+        let q : (i : ℕ) → i < cellsOn cells page → numberIn
+        (lineAt (lineBytes places) i (pageText volumes masses places cells page ++ more)) (cellPlaces + 1) qPlaces ≡ qOf volumes masses
+        (page * pageCells + i) =
         λ i h. let l = cell-there cells page i h in rw (line-there i h) (q-in-line places _ _ _ (f .some-places) (f .few-places) (f .cell-fits _ l) (f .q-fits _ l) (f .rest-fits _ l)) in
-        let r : (i : ℕ) → i < cellsOn cells page → numberIn (lineAt (lineBytes places) i (pageText volumes masses places cells page ++ more)) (cellPlaces + 1 + qPlaces + 1) places ≡ restOf volumes masses (page * pageCells + i) =
+        let r : (i : ℕ) → i < cellsOn cells page → numberIn
+        (lineAt (lineBytes places) i (pageText volumes masses places cells page ++ more))
+        (cellPlaces + 1 + qPlaces + 1) places ≡ restOf volumes masses (page * pageCells + i) =
         λ i h. let l = cell-there cells page i h in rw (line-there i h) (rest-in-line places _ _ _ (f .some-places) (f .few-places) (f .cell-fits _ l) (f .q-fits _ l) (f .rest-fits _ l)) in
         record {
-          cell-back = λ i h. let l = cell-there cells page i h in rw (line-there i h) (cell-in-line places _ _ _ (f .some-places) (f .few-places) (f .cell-fits _ l) (f .q-fits _ l) (f .rest-fits _ l));
+          cell-back = λ i h. let l = cell-there cells page i h in rw (line-there i h)
+              (cell-in-line places _ _ _ (f .some-places) (f .few-places) (f .cell-fits _ l) (f .q-fits _ l) (f .rest-fits _ l));
           q-back = q;
           rest-back = r;
           mass-back = λ i h. rw (q i h, r i h) (whole-mass (massIn masses (page * pageCells + i)) (getD volumes (page * pageCells + i) 0));

@@ -20,7 +20,7 @@ ghost use Rattle.model.specs.Answers.{said};
 ghost use Rattle.model.specs.Calls.{massIn};
 ghost use Rattle.text.specs.Digits.{mostDigits};
 ghost use Rattle.text.specs.Lines.{Puts, pieces};
-ghost use Rattle.page.specs.Page.{pageCells, massPlaces, lineBytes, cellLine, lineOf, pageText, pages as pagesOf, cellsOn, pageBytes};
+ghost use Rattle.page.specs.Page.{pageCells, massPlaces, cellLine, lineOf, pageText, pages as pagesOf, cellsOn, pageBytes};
 ghost use Rattle.page.specs.Answers.{pageVerdict, PageIs};
 
 // Cells of a full page.

@@ -27,7 +27,8 @@ use Rattle.promises.specs.Demand3.{StepCall, onTables, onRecords, waterI
 figures : Unit {0}
 unfolding stepOnTables nextTable inMass outMass over verdict counts countsWithin meshTables fieldTable stepTables meshValues fieldValues saltGood stepValues volumeGood
     endsGood spacingGood outsideGood fluxGood balanceGood outflowGood need each _andThen_ table sum least greatest entering leaving incoming outgoing updated next moved
-    concentration beyond upwind downwind carried low upwindShare correction smooths keptBy lowConcentration kept adjacent lo hi maxGain maxLoss receiver giver limitedBy limited portion bitAt bitsAt spelled
+    concentration beyond upwind downwind carried low upwindShare correction smooths keptBy lowConcentration kept adjacent lo hi maxGain
+    maxLoss receiver giver limitedBy limited portion bitAt bitsAt spelled
     bitsOf widthOf bytesFor octet packed rows those row fieldsOf recordOf meshRecord fieldRecord meshLength fieldLength stepLength volumesIn firstsIn secondsIn sharesIn reachesIn massesIn
     fluxesIn outsidesIn zeroBitGood minusZero meshBitGood stepBitGood meshHeadVerdict fieldHeadVerdict stepHeadVerdict meshBodyVerdict fieldBodyVerdict stepBodyVerdict
     fieldRead stepRead meshFieldVerdict meshRecordFound meshJudged fieldJudged stepJudged blank

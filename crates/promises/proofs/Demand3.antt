@@ -75,7 +75,8 @@ module _ (M : Mesh) (mesh-fine : meshVerdict M ≡ fine) (past : List ℕ) (k : 
 
   on-tables : Fair M (Kept M (onTables past k) field l) field l
   on-tables =
-      let f = fair-agree M M field (lentMasses M past field) k k (field-agrees M k field (lentMasses M past field) (lent-same M past field)) (counted M (within M mesh-fine) .few-cells) (mesh-fit M (passes M mesh-fine)) l
+      let f = fair-agree M M field (lentMasses M past field) k k (field-agrees M k field (lentMasses M past field) (lent-same M past field))
+      (counted M (within M mesh-fine) .few-cells) (mesh-fit M (passes M mesh-fine)) l
       (tables-fair corrected corrected-keeping M k (lentMasses M past field) l e) in
       record { budget = f .budget; holds = (f .holds, table-stands); field-accepted = f .field-accepted }
 
@@ -100,7 +101,8 @@ module _ (M : Mesh) (past store : List ℕ) (name : ℕ) (field : List ℕ) wher
         let held = heldUnder name (fieldsIn (M .cells) store) in
         let n = held-length (M .cells) (M .volumes) (lentMasses M past field) store name e in
         field-accepted M (held ++ past) (omega (arith, length-append held past, n))
-        (λ c h. rw (List·getD-append held past 0 c (omega (arith, n))) (field-fit (cellsOnly (M .cells) (M .volumes)) held (held-salt (M .cells) (M .volumes) (lentMasses M past field) store name e) c h))
+        (λ c h. rw (List·getD-append held past 0 c (omega (arith, n)))
+        (field-fit (cellsOnly (M .cells) (M .volumes)) held (held-salt (M .cells) (M .volumes) (lentMasses M past field) store name e) c h))
 
 -- Every list of calls.
 untouched : (M : Mesh) (call : ListCall) (field : List ℕ) (i j : ℕ) → does M call field ≡ refused i j → Untouched M call field
@@ -178,7 +180,8 @@ field-returns M past store field name e calls alone past′ =
     let l : M .cells ≤ length filled = omega (arith, length-append (table (M .cells) (massIn last)) past′, length-table (M .cells) (massIn last)) in
     let gives : returnMasses (M .cells) (M .volumes) filled later name ≡ table (M .cells) (massIn field) ++ past′
     = return-gives (M .cells) (M .volumes) lent store name k later filled l h
-    ∙ rw (front M past store name field) (over-front (table (M .cells) (massIn field)) (table (M .cells) (massIn last)) past′ (length-table (M .cells) (massIn field) ∙ sym (length-table (M .cells) (massIn last)))) in
+    ∙ rw (front M past store name field) (over-front (table (M .cells) (massIn field)) (table (M .cells) (massIn last)) past′
+    (length-table (M .cells) (massIn field) ∙ sym (length-table (M .cells) (massIn last)))) in
     rw (return-fine (M .cells) (M .volumes) lent store name k later filled l h, gives)
 
 -- Beside it, the lines of "Figures by hand" marked P, gathered in one list and proved together.

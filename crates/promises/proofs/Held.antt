@@ -33,8 +33,15 @@ module _ (M : Mesh) (mesh-fine : meshVerdict M ≡ fine) where
 
   mesh-is : meshIn (meshRecord M) ≡ cut M
   mesh-is =
-      rw
-      (cells-read-back M within passes, faces-read-back M within passes, volumes-read-back M within passes, firsts-read-back M within passes, seconds-read-back M within passes, shares-read-back M within passes, reaches-read-back M within passes)
+      rw (
+        cells-read-back M within passes,
+        faces-read-back M within passes,
+        volumes-read-back M within passes,
+        firsts-read-back M within passes,
+        seconds-read-back M within passes,
+        shares-read-back M within passes,
+        reaches-read-back M within passes,
+      )
 
   pub mesh-holds : HoldsMesh M (meshRecord M)
   unfolding counts

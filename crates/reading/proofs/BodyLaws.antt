@@ -1,12 +1,12 @@
 -- A record that passed its tests: its body holds what the tables are to take, and they then hold the record's columns.
-use Prim.Native.Nat.{ℕ, suc, _+_, _-_, _*_, _^_, _≤_, _<_}
+use Prim.Native.Nat.{ℕ, suc, _-_, _*_, _^_, _≤_, _<_}
 use mathlib.Core.Path.{_≡_, refl, ap, _∙_}
 use mathlib.Core.List.{List}
 use native.Mathlib.Omega.{arith}
 use lib.Dec.{eqb}
 use lib.IntN.{ℤ, pos}
 use lib.ListN.{length}
-use Rattle.lists.specs.Table.{table, over}
+use Rattle.lists.specs.Table.{over}
 use Rattle.lists.proofs.Tables.{table-cong}
 use Rattle.signed.specs.Sign.{withSign}
 use Rattle.model.specs.Mesh.{maxCells, maxFaces}

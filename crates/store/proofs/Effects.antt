@@ -169,18 +169,32 @@ module _ (cells : ℕ) (volumes masses store : List ℕ) (name : ℕ) (e : keepV
       let o = all-fine (openedCauses cells volumes masses store) (opened-fine cells volumes masses store name e) in
       let l : 1 ≤ length kept = rw (kept-length cells volumes masses store name e) (omega (arith, keep-counted cells volumes masses store name e)) in
       let k : isKept name (fieldsIn cells kept) ≡ true = rw (keep-effect cells volumes masses store name e) (new-kept name (fieldsIn cells store) (keptField cells volumes masses store name) refl) in
-      rw (o .0, need-met 2 13 (le-leb 1 (length kept) l), counted-good cells kept (kept-counted cells volumes masses store name e), need-met 17 name (true-both (keep-fits cells volumes masses store name e) k))
+      rw (
+        o .0,
+        need-met 2 13 (le-leb 1 (length kept) l),
+        counted-good cells kept (kept-counted cells volumes masses store name e),
+        need-met 17 name (true-both (keep-fits cells volumes masses store name e) k),
+      )
 
   pub keep-then-drop : dropStore cells kept name ≡ over (take (used cells (count store)) store ++ replicate (cells + 1) 0) store
   keep-then-drop =
       let fs = fieldsIn cells store in
       let c = keep-counted cells volumes masses store name e in
       let n : length (storeOf fs) ≡ used cells (count store) = store-length cells fs (in-sized cells store c) ∙ ap (used cells) (in-length cells store c) in
-      let front : take (used cells (count store)) store ≡ storeOf fs = ap (take (used cells (count store))) (store-split cells store c) ∙ take-at (storeOf fs) (drop (used cells (count store)) store) (used cells (count store)) n in
-      let gone : without name (fieldsIn cells kept) ≡ fs = ap (without name) (keep-effect cells volumes masses store name e) ∙ new-without name fs (keptField cells volumes masses store name) (keep-new cells volumes masses store name e) refl in
+      let front : take (used cells (count store)) store ≡ storeOf fs = ap (take (used cells (count store))) (store-split cells store c)
+      ∙ take-at (storeOf fs) (drop (used cells (count store)) store) (used cells (count store)) n in
+      let gone : without name (fieldsIn cells kept) ≡ fs = ap (without name) (keep-effect cells volumes masses store name e)
+      ∙ new-without name fs (keptField cells volumes masses store name) (keep-new cells volumes masses store name e) refl in
       let a : length (storeOf (fs ++ (keptField cells volumes masses store name ∷ [])) ++ []) ≡ used cells (suc (count store))
       = length-append (storeOf (fs ++ (keptField cells volumes masses store name ∷ []))) []
-      ∙ omega (arith, store-length cells (fs ++ (keptField cells volumes masses store name ∷ [])) (after-sized cells volumes masses store name e), ap (used cells) (after-length cells volumes masses store name e)) in
+      ∙ omega (
+        arith,
+        store-length cells (fs ++ (keptField cells volumes masses store name ∷ []))
+            (after-sized cells volumes masses store name e),
+        ap (used cells) (after-length cells volumes masses store name e),
+      ) in
       let b : length (storeOf fs ++ replicate (cells + 1) 0) ≡ used cells (suc (count store))
       = length-append (storeOf fs) (replicate (cells + 1) 0) ∙ omega (arith, n, length-replicate {A = ℕ} (cells + 1) 0, suc-mul (count store) (cells + 1)) in
-      drop-is cells kept name may-drop ∙ rw (gone, front, keep-is cells volumes masses store name e) (over-over (storeOf fs ++ replicate (cells + 1) 0) (storeOf (fs ++ (keptField cells volumes masses store name ∷ [])) ++ []) store (b ∙ sym a))
+      drop-is cells kept name may-drop ∙ rw (gone, front, keep-is cells volumes masses store name e)
+      (over-over (storeOf fs ++ replicate (cells + 1) 0) (storeOf (fs ++ (keptField cells volumes masses store name ∷ [])) ++ []) store
+      (b ∙ sym a))

@@ -152,7 +152,9 @@ module _ (cells : ℕ) (store : List ℕ) (name : ℕ) where
     regroup o f c n r = simp andThen-assoc
 
     pub keep-groups : keepVerdict cells volumes masses store name
-        ≡ (openedVerdict cells volumes masses store andThen (fieldValues (cellsOnly cells volumes) masses andThen (countGood cells store andThen nameNew cells store name andThen roomLeft cells store name)))
+        ≡ (openedVerdict cells volumes masses store andThen
+        (fieldValues (cellsOnly cells volumes) masses andThen
+        (countGood cells store andThen nameNew cells store name andThen roomLeft cells store name)))
     unfolding keepVerdict
     keep-groups = regroup _ _ _ _ _
 

@@ -6,7 +6,7 @@ ghost use mathlib.Core.Bool.{true};
 ghost use mathlib.Core.List.{[], _∷_, _++_};
 ghost use Prim.Native.Nat.{suc, _+_, _≤_, _<_, _^_};
 ghost use lib.ListN.{length, getD, take as front, replicate};
-ghost use Rattle.lists.specs.Table.{table, over};
+ghost use Rattle.lists.specs.Table.{over};
 ghost use Rattle.model.specs.Mesh.{maxCells};
 ghost use Rattle.store.specs.Store.{count, used as usedOf, fieldsIn, storeOf, isKept, without};
 ghost use Rattle.store.specs.Found.{movedDown};

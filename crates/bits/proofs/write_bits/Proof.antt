@@ -21,7 +21,11 @@ put-piece-requires c κs =
     (omega arith, omega arith, rw (c .pow2 .ensures) (mod-lt _ (pow-pos _)))
 
 loop-again : tie.Need-loop-again Inv-loop μ-loop
-loop-again c = (search needs, put-turn _ _ _ _ _ _ _ _ (c .before .before .before .pow2 .ensures) (search needs) (c .before .before .before .before .before .before .before .loop .inv .1) (c .before .before .put-piece .ensures))
+loop-again c = (
+  search needs,
+  put-turn _ _ _ _ _ _ _ _ (c .before .before .before .pow2 .ensures) (search needs)
+      (c .before .before .before .before .before .before .before .loop .inv .1) (c .before .before .put-piece .ensures),
+)
 
 returns : tie.Need-returns Inv-loop μ-loop
 returns c = put-end _ _ _ _ _ _ (search needs) (search needs) (c .before .loop .inv .1)

@@ -1,9 +1,9 @@
 -- After i turns the lines of i cells are put.
 use Prim.Native.Nat.{ℕ, _+_, _-_, _≤_}
-use mathlib.Core.Path.{_≡_, refl, ap, _∙_}
+use mathlib.Core.Path.{_≡_, refl, _∙_}
 use mathlib.Core.List.{List}
 use native.Mathlib.Omega.{arith}
-use lib.ListN.{length, getD}
+use lib.ListN.{length}
 use Rattle.text.specs.Lines.{Puts, pieces}
 use Rattle.text.proofs.Lines.{puts-none, puts-more, same-length}
 use Rattle.page.specs.Page.{lineOf}

@@ -1,5 +1,3 @@
-use mathlib.Core.Path.{_∙_}
-use native.Mathlib.Omega.{arith}
 use borrow.Author.Needs.{needs}
 use Rattle.model.proofs.Verdicts.{refuses, passes}
 use Rattle.page.proofs.Laws.{page-passed, put-asks}

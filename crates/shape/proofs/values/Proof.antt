@@ -1,4 +1,4 @@
-use mathlib.Core.Path.{sym, _∙_}
+use mathlib.Core.Path.{sym}
 use borrow.Author.Needs.{needs}
 use Rattle.model.specs.Causes.{volumeGood, endsGood, spacingGood, meshValues}
 use Rattle.model.proofs.Verdicts.{andThen-assoc}

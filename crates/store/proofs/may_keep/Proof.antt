@@ -18,7 +18,9 @@ is-new-requires c κs = opened-asks _ _ 0 _ _ (passes (c .before .before .before
 
 returns-2 : tie.Need-returns-2
 unfolding fieldValues saltGood
-returns-2 c = both-are (c .and-then .ensures) (c .before .before .values .ensures) (c .before .is-new .ensures) ∙ sym (keep-groups _ _ _ _ _ ∙ past _ (passes (c .before .before .before .before .before .opened .ensures) (c .before .before .before .enum-told .given .1)))
+returns-2 c = both-are (c .and-then .ensures) (c .before .before .values .ensures) (c .before .is-new .ensures)
+    ∙ sym (keep-groups _ _ _ _ _ ∙ past _ (passes (c .before .before .before .before .before .opened .ensures)
+    (c .before .before .before .enum-told .given .1)))
 
 pub may-keep-spec : {M : Type 1} → statement M
 may-keep-spec =

@@ -25,7 +25,8 @@ loop-again : tie.Need-loop-again Inv-loop μ-loop
 loop-again c =
     let l = c .before .before .before .loop in
     let s = c .before .before .before .before .before in
-    let here = ap (λ (p : List ℕ). getD p (s .args .n + l .i) 0) (l .inv .2) ∙ over-past (l .i) (λ k. getD (s .args .part .now) (s .args .n + k) 0) (s .args .part .now) 0 (s .args .n + l .i) (omega arith) (l .inv .1) in
+    let here = ap (λ (p : List ℕ). getD p (s .args .n + l .i) 0) (l .inv .2)
+    ∙ over-past (l .i) (λ k. getD (s .args .part .now) (s .args .n + k) 0) (s .args .part .now) 0 (s .args .n + l .i) (omega arith) (l .inv .1) in
     (simp length-set (l .inv .0), omega (arith, l .inv .0), over-step _ _ _ (omega (arith, l .inv .0)) (l .inv .2) (c .further .ensures ∙ here))
 
 returns : tie.Need-returns Inv-loop μ-loop
