@@ -32,7 +32,7 @@ struct Extent {
     to: usize,
 }
 
-fn span(words: &[u64], argument: usize) -> Extent
+fn extent_of(words: &[u64], argument: usize) -> Extent
     ensures { λ r. ⌜ (r .from ≤ r .to) × (r .to ≤ length (now (words .entry))) ⌝ }
 {
     let at = mark(words, argument);
@@ -50,7 +50,7 @@ fn span(words: &[u64], argument: usize) -> Extent
 }
 
 pub fn table(words: &[u64], argument: usize) -> &[u64] {
-    let s = span(words, argument);
+    let s = extent_of(words, argument);
     let from = s.from;
     let to = s.to;
     &words[from..to]
@@ -58,7 +58,7 @@ pub fn table(words: &[u64], argument: usize) -> &[u64] {
 
 // The same part of the words as signed numbers, and as bytes.
 pub fn amounts<'a>(words: &[u64], ints: &'a [i64], argument: usize) -> &'a [i64] {
-    let s = span(words, argument);
+    let s = extent_of(words, argument);
     let from = s.from;
     let to = s.to;
     if to <= ints.len() {
@@ -68,7 +68,7 @@ pub fn amounts<'a>(words: &[u64], ints: &'a [i64], argument: usize) -> &'a [i64]
 }
 
 pub fn octets<'a>(words: &[u64], bytes: &'a [u8], argument: usize) -> &'a [u8] {
-    let s = span(words, argument);
+    let s = extent_of(words, argument);
     let from = s.from;
     let to = s.to;
     if to <= bytes.len() {

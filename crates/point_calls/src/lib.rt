@@ -5,7 +5,7 @@ use survey::Face;
 use survey::Point;
 use survey::Stage;
 
-// The weight of a pattern's sign.
+// The value of a pattern's sign bit.
 const SIGN: u64 = 9223372036854775808;
 
 // The pattern of an infinity; one above it, but for the sign, is not a number.
