@@ -135,3 +135,19 @@ module _ (volumes masses : List ℕ) where
 
     pub refused-board : (k : Refusal) → r .verdict ≡ Refused k → r .used ≡ 0 → r .entries ≡ replicate boardSize unused → BoardIs n volumes masses r
     refused-board k d u e = let f = refuses v d in record { verdict-is = v; used-is = rw f u; entries-are = rw f e }
+
+  -- AN ACCEPTED CALL, by its contract: its entries are those of the listed cells; cause 3 gives that the order is strict among them, so
+  -- each comes before those listed after it, and before every cell that is not listed.
+  module _ (n : ℕ) (r : BoardAnswer) (b : BoardIs n volumes masses r) (d : r .verdict ≡ Done) where
+    volumes-some : (c : ℕ) → c < n → 1 ≤ getD volumes c 0
+    volumes-some c h = rank-asks n (passes (b .verdict-is) d) .1 c h .0
+
+    pub call-lists : (r .used ≡ min boardSize n) × (r .entries ≡ boardEntries volumes masses n)
+    call-lists = let f = passes (b .verdict-is) d in (rw f at (b .used-is), rw f at (b .entries-are))
+
+    pub call-ordered : (i j : ℕ) → i < j → j < length (listed volumes masses n)
+        → before volumes masses (getD (listed volumes masses n) i 0) (getD (listed volumes masses n) j 0) ≡ true
+    call-ordered = listed-ordered n volumes-some
+
+    pub call-highest : {c d : ℕ} → c < n → (List·Memᴰ c (listed volumes masses n) → ⊥) → List·Memᴰ d (listed volumes masses n) → before volumes masses d c ≡ true
+    call-highest = unlisted-after n volumes-some

@@ -55,7 +55,7 @@ module _ (S : StepInput) where
   abbrev pub mass : ℕ → ℕ
   mass c = getD masses c 0
 
-  -- item 5: q, before the step in all stages
+  -- item 5: q, before the step in all stages but for the low-order q of S-5
   unfoldable pub concentration : ℕ → ℕ
   concentration c = mass c / volume M c
 

@@ -53,7 +53,7 @@ pub most : faceShare (face (at none none) (at none one) (at (fin true 255 (pos 0
 unfolding everything
 most = refl
 
--- 1 to 256 is less than 1/256; nothing to 1, and 1 to nothing
+-- 1 to 256 is less than 1/256; and 1 to nothing is not below 1
 pub too-near : faceShare (face (at none none) (at none one) (at (fin true 1 (pos 0)) none) (at (fin false 1 (pos 8)) none)) ≡ refused 20 0
 unfolding everything
 too-near = refl

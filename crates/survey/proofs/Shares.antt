@@ -1,15 +1,19 @@
 -- The share of a ratio is the largest whole k with k / 256 not above it, 1 to 255.
 use Prim.Native.Nat.{ℕ, zero, suc, _+_, _*_, _≤_}
 use mathlib.Core.Path.{_≡_, refl, sym, ap, _∙_}
-use mathlib.Core.Bool.{Bool, true, false, cond, true≢false}
+use mathlib.Core.Bool.{Bool, true, false, not, cond, _&&_, true≢false}
 use native.Mathlib.Nat.{mul-le-mul-right}
 use native.Mathlib.Numerals.{add-one}
 use native.Mathlib.Omega.{arith}
-use borrow.Author.Tests.{leb-true, leb-false, le-leb}
+use borrow.Author.Tests.{not-true, leb-true, leb-false, le-leb}
 use lib.Dec.{eqb, leb}
-use lib.Ieee.{Float, nan, inf, fin, up, down}
+use lib.Ieee.{Float, nan, inf, fin, up, down, eq}
 use Rattle.lists.proofs.Tests.{Same, same, other, same?}
-use Rattle.survey.specs.Survey.{largest, notAbove, share}
+use Rattle.lists.proofs.Tests.{both-true}
+use Rattle.model.specs.Causes.{Outcome, accepted, refused, Verdict}
+use Rattle.survey.specs.Survey.{largest, notAbove, share, shareOf, ratio, Found, ratioIs, badAt, nothing, found, foundAfter, shareFound, faceShare, shareBy, coordinatesVerdict, firstSide, secondSide, plus, none}
+use Rattle.survey.specs.declared.Face.{Face}
+use Rattle.survey.specs.declared.ShareAnswer.the-variants.{Share}
 
 -- what holds of a number holds of those below it
 abbrev Downward : (ℕ → Bool) → Type 0
@@ -78,3 +82,40 @@ module _ (r : Float) (some : notAbove 1 r ≡ true) (part : notAbove 256 r ≡ f
   pub share-range : (1 ≤ share r) × (share r ≤ 255)
   unfolding share
   share-range = let p = largest-good (λ k. notAbove k r) 255 (omega arith) some in (p .1, p .2)
+
+-- AN ACCEPTED CALL, by the contract of `face_share`: its k is the largest whole one with k / 256 not above the face's ratio, 1 to 255.
+pub record IsShare (r : Float) (k : ℕ) : Type 0 where
+  pub not-above : notAbove k r ≡ true
+  pub largest-one : (j : ℕ) → notAbove j r ≡ true → j ≤ k
+  pub some : 1 ≤ k
+  pub most : k ≤ 255
+
+shared : (r : Float) (k : ℕ) → shareOf r ≡ accepted k → IsShare r k
+unfolding shareOf
+shared r k e = go (notAbove 1 r && not (notAbove 256 r)) refl e
+  where
+    go : (b : Bool) → (notAbove 1 r && not (notAbove 256 r)) ≡ b → cond b (accepted (share r)) (refused 20 0) ≡ accepted k → IsShare r k
+    go true t e =
+        let p = both-true (notAbove 1 r) (not (notAbove 256 r)) t in
+        let part = not-true (notAbove 256 r) (p .1) in
+        let q : share r ≡ k = cc in
+        let range = share-range r (p .0) part in
+        record {
+          not-above = rw q at (share-not-above r (p .0) part);
+          largest-one = λ j g. rw q at (share-largest r (p .0) part j g);
+          some = rw q at (range .0);
+          most = rw q at (range .1);
+        }
+    go false t e = let z : _≡_ {A = ℕ} 0 1 = cc in absurd (omega arith)
+
+after : (f : Face) (v : Verdict) (k : ℕ) → shareFound (foundAfter f v) ≡ accepted k → IsShare (ratio f) k
+after f (accepted t) k e = go (eq (plus (firstSide f) (secondSide f)) none) e
+  where
+    go : (b : Bool) → shareFound (cond b nothing (ratioIs (ratio f))) ≡ accepted k → IsShare (ratio f) k
+    go true e = let z : _≡_ {A = ℕ} 0 1 = cc in absurd (omega arith)
+    go false e = shared (ratio f) k e
+after f (refused i j) k e = let z : _≡_ {A = ℕ} 0 1 = cc in absurd (omega arith)
+
+pub call-shares : (f : Face) (k : ℕ) → shareBy (Share k) ≡ faceShare f → IsShare (ratio f) k
+unfolding faceShare found
+call-shares f k e = after f (coordinatesVerdict f) k (sym e)
