@@ -27,7 +27,8 @@ use Rattle.heads.specs.Heads.{meshHeadVerdict, fieldHeadVerdict, stepHeadVerdic
 use Rattle.reading.specs.Reading.{meshBodyVerdict, fieldBodyVerdict, stepBodyVerdict, fieldRead}
 use Rattle.reading.specs.Reading.{stepRead}
 use Rattle.reading.specs.declared.MeshCounts.{MeshCounts}
-use Rattle.board.specs.Board.{entryOf, rankedOf, fuller, asFull, comesBefore, insertInOrder, inOrder, entryAt, rankedAt, before, listed}
+use Rattle.order.specs.Order.{rankedOf, fuller, asFull, comesBefore, insertInOrder, inOrder}
+use Rattle.board.specs.Board.{entryOf, entryAt, rankedAt, before, listed}
 use Rattle.mesh_taking.specs.MeshTaking.{meshRecordFound, meshJudged}
 use Rattle.taking.specs.Taking.{fieldJudged, stepJudged, stepIn, ownTables, blank, printedOf, massesAfter}
 use Rattle.taking.specs.declared.Printed.{Printed}

@@ -6,7 +6,8 @@ use borrow.Author.Needs.{needs}
 use lib.ListN.{length, getD, replicate, length-set}
 use Rattle.lists.specs.Table.{table, over}
 use Rattle.lists.proofs.Tables.{over-start, over-step}
-use Rattle.board.specs.Board.{boardSize, shown, unranked, unused}
+use Rattle.order.specs.Order.{unranked}
+use Rattle.board.specs.Board.{boardSize, shown, unused}
 use Rattle.board.proofs.entries_of.Statement.{statement}
 use Rattle.board.proofs.entries_of.Tie as tie
 

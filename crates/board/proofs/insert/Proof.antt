@@ -6,8 +6,9 @@ use mathlib.Core.Logic.{⊎-elim}
 use native.Mathlib.Omega.{arith}
 use borrow.Author.Needs.{needs}
 use lib.ListN.{length, take, length-map}
-use Rattle.board.specs.Board.{boardSize, unranked, comesBefore, insertInOrder}
-use Rattle.board.proofs.Insertion.{Carrying, at-start, carried-on, passed, at-end, room-left, no-room}
+use Rattle.order.specs.Order.{unranked, comesBefore, insertInOrder}
+use Rattle.board.specs.Board.{boardSize}
+use Rattle.order.proofs.Insertion.{Carrying, at-start, carried-on, passed, at-end, room-left, no-room}
 use Rattle.board.proofs.insert.Statement.{statement}
 use Rattle.board.proofs.insert.Tie as tie
 

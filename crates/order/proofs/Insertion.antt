@@ -8,7 +8,7 @@ use native.Mathlib.Omega.{arith}
 use lib.ListN.{length, getD, take, drop, set, length-append, length-take, length-map, length-set, drop-of-length-le}
 use lib.Seq.{slice, slice-cons, slice-empty, take-nil, take-take, take-suc, take-suc-set, take-set-lt, drop-set-lt, take-all, take-at, take-append-le, append-snoc, set-split, drop-drop, drop-append-add, length-take-le}
 use Rattle.lists.specs.Table.{over}
-use Rattle.board.specs.Board.{insertInOrder, inOrder}
+use Rattle.order.specs.Order.{insertInOrder, inOrder}
 
 take-cons : {A : Type 0} (m : ℕ) (y : A) (ys : List A) → take m (y ∷ take m ys) ≡ take m (y ∷ ys)
 take-cons zero y ys = refl

@@ -3,8 +3,8 @@ use Prim.Native.Nat.{_^_, _≤_, _<_}
 use native.Mathlib.Nat.{mul-le-mul}
 use native.Mathlib.Omega.{arith}
 use borrow.Author.Needs.{needs}
-use Rattle.board.proofs.across.Statement.{statement}
-use Rattle.board.proofs.across.Tie as tie
+use Rattle.order.proofs.across.Statement.{statement}
+use Rattle.order.proofs.across.Tie as tie
 
 mul-result : tie.Need-mul-result
 mul-result c =

@@ -2,9 +2,9 @@ use mathlib.Core.Path.{refl}
 use native.Mathlib.Nat.{div-mul-le-self, lt-div-mul-add}
 use native.Mathlib.Omega.{arith}
 use borrow.Author.Needs.{needs}
-use Rattle.board.specs.Board.{rankedOf}
-use Rattle.board.proofs.ranked_of.Statement.{statement}
-use Rattle.board.proofs.ranked_of.Tie as tie
+use Rattle.order.specs.Order.{rankedOf}
+use Rattle.order.proofs.ranked_of.Statement.{statement}
+use Rattle.order.proofs.ranked_of.Tie as tie
 
 mul-rest : tie.Need-mul-rest
 mul-rest c = omega (arith, div-mul-le-self (c .args .mass) (c .args .volume))

@@ -1,8 +1,8 @@
 use mathlib.Core.Path.{sym, _∙_}
 use borrow.Author.Needs.{needs}
-use Rattle.board.proofs.Entries.{by-concentration, by-rest, by-cell}
-use Rattle.board.proofs.comes_before.Statement.{statement}
-use Rattle.board.proofs.comes_before.Tie as tie
+use Rattle.order.proofs.Entries.{by-concentration, by-rest, by-cell}
+use Rattle.order.proofs.comes_before.Statement.{statement}
+use Rattle.order.proofs.comes_before.Tie as tie
 
 returns : tie.Need-returns
 returns c = let s = c .before .before .before .before .before in by-concentration (s .args .a) (s .args .b) (c .before .before .if1 .taken)

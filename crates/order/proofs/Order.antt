@@ -9,10 +9,10 @@ use native.Mathlib.Omega.{arith}
 use lib.Dec.{eqb, leb}
 use lib.ListN.{length, getD, take, drop, length-take, take-append-drop}
 use Rattle.lists.proofs.Tests.{Same, same, other, same?, Fits, fits, exceeds, fits?}
-use Rattle.board.specs.Board.{comesBefore, insertInOrder, inOrder}
-use Rattle.board.specs.declared.Ranked.{Ranked}
-use Rattle.board.proofs.Entries.{First, higher, larger, lower, first-of, comes-first, first-trans}
-use Rattle.board.proofs.Insertion.{length-inOrder}
+use Rattle.order.specs.Order.{comesBefore, insertInOrder, inOrder}
+use Rattle.order.specs.declared.Ranked.{Ranked}
+use Rattle.order.proofs.Entries.{First, higher, larger, lower, first-of, comes-first, first-trans}
+use Rattle.order.proofs.Insertion.{length-inOrder}
 
 after : (a b : ℕ) → (a < b → ⊥) → a ≢ b → b < a
 after a b n d = go (leb a b) (fits? a b)

@@ -7,8 +7,8 @@ use native.Mathlib.Nat.{mul-le-mul-right, le-of-mul-le-mul-right, lt-of-mul-lt-m
 use native.Mathlib.Omega.{arith}
 use borrow.Author.Tests.{lt-ltb, le-ltb, ltb-true, eq-eqb, ne-eqb, eqb-true}
 use lib.Dec.{eqb, ltb}
-use Rattle.board.specs.Board.{fuller, asFull, comesBefore}
-use Rattle.board.specs.declared.Ranked.{Ranked}
+use Rattle.order.specs.Order.{fuller, asFull, comesBefore}
+use Rattle.order.specs.declared.Ranked.{Ranked}
 
 or-false : (t : Bool) → (t || false) ≡ t
 or-false true = refl
