@@ -69,10 +69,14 @@ add-wide : tie.Need-add-wide Inv-loop μ-loop
 add-wide c = let s = c .before .before .before .before in byte-small (s .args .at) (s .args .width) (s .pre .2) (c .loop-test .taken) (s .pre .1)
 
 read-wide : tie.Need-shared-slice-read-wide Inv-loop μ-loop
-read-wide c = let s = c .before .before .before .before .before in byte-in (s .args .at) (s .args .width) (s .pre .2) (c .before .loop-test .taken) _ (s .pre .0)
+read-wide c =
+    let s = c .before .before .before .before .before in
+    byte-in (s .args .at) (s .args .width) (s .pre .2) (c .before .loop-test .taken) _ (s .pre .0)
 
 add-k : tie.Need-add-k Inv-loop μ-loop
-add-k c = let s = c .before .before .before .before .before .before in next-small (s .args .at) (s .args .width) (s .pre .2) (c .before .before .loop-test .taken)
+add-k c =
+    let s = c .before .before .before .before .before .before in
+    next-small (s .args .at) (s .args .width) (s .pre .2) (c .before .before .loop-test .taken)
 
 pow2-requires : tie.Need-pow2-requires Inv-loop μ-loop
 pow2-requires c κs = let s = c .before .before .before .before in width-small (s .args .at) (s .args .width) (s .pre .2)
@@ -80,5 +84,5 @@ pow2-requires c κs = let s = c .before .before .before .before in width-small (
 pub read-bits-spec : {M : Type 1} → statement M
 read-bits-spec =
     tie.close
-    (tie.spec Inv-loop μ-loop returns add-bits add-bytes (λ c. (zero-le, sym (bits-zero _ _))) mul-v add-wide read-wide (search needs) add-v add-k loop-less
-    loop-again (search needs) (search needs) (search needs) pow2-requires (λ c. rw (c .pow2 .ensures) (pow-pos _)) returns-2)
+    (tie.spec Inv-loop μ-loop returns add-bits add-bytes (λ c. (zero-le, sym (bits-zero _ _))) mul-v add-wide read-wide (search needs) add-v add-k
+    loop-less loop-again (search needs) (search needs) (search needs) pow2-requires (λ c. rw (c .pow2 .ensures) (pow-pos _)) returns-2)

@@ -22,20 +22,30 @@ piece : (c : tie.After-least Inv-loop μ-loop) → let l = c .before .before .lo
 piece c = c .least .ensures
 
 sub-rest-2 : tie.Need-sub-rest-2 Inv-loop μ-loop
-sub-rest-2 c = let t = c .before in let s = t .before .before .before in piece-fits (s .args .at) (s .args .width) _ _ (t .loop-test .taken) (s .pre .2) (piece c)
+sub-rest-2 c =
+    let t = c .before in
+    let s = t .before .before .before in
+    piece-fits (s .args .at) (s .args .width) _ _ (t .loop-test .taken) (s .pre .2) (piece c)
 
 shr-rest : tie.Need-shr-rest Inv-loop μ-loop
-shr-rest c = let t = c .before in let s = t .before .before .before in rest-small (s .args .at) (s .args .width) _ _ (t .loop-test .taken) (s .pre .2) (piece c)
+shr-rest c =
+    let t = c .before in
+    let s = t .before .before .before in
+    rest-small (s .args .at) (s .args .width) _ _ (t .loop-test .taken) (s .pre .2) (piece c)
 
 pow2-requires : tie.Need-pow2-requires Inv-loop μ-loop
-pow2-requires c κs = let t = c .before .before in let s = t .before .before .before in piece-small (s .args .at) (s .args .width) _ _ (t .loop-test .taken) (s .pre .2) (piece (c .before))
+pow2-requires c κs =
+    let t = c .before .before in
+    let s = t .before .before .before in
+    piece-small (s .args .at) (s .args .width) _ _ (t .loop-test .taken) (s .pre .2) (piece (c .before))
 
 put-piece-requires : tie.Need-put-piece-requires Inv-loop μ-loop
 put-piece-requires c κs =
     let t = c .before .before .before in
     let s = t .before .before .before in
     let same = t .before .loop .inv .1 .same-length in
-    (omega arith, piece-in-byte (s .args .at) (s .args .width) _ _ (t .loop-test .taken) (s .pre .2) (piece (c .before .before)), rw (c .pow2 .ensures) (mod-lt _ (pow-pos _)))
+    let within = piece-in-byte (s .args .at) (s .args .width) _ _ (t .loop-test .taken) (s .pre .2) (piece (c .before .before)) in
+    (omega arith, within, rw (c .pow2 .ensures) (mod-lt _ (pow-pos _)))
 
 add-done : tie.Need-add-done Inv-loop μ-loop
 add-done c =
@@ -55,7 +65,8 @@ loop-again c =
     let t = p .before in
     let s = t .before .before .before in
     let within = done-within (s .args .at) (s .args .width) _ _ (t .loop-test .taken) (s .pre .2) (piece p) in
-    (within, put-turn _ _ _ _ _ _ _ _ (c .before .before .before .pow2 .ensures) within (t .before .loop .inv .1) (c .before .before .put-piece .ensures))
+    let powers = c .before .before .before .pow2 .ensures in
+    (within, put-turn _ _ _ _ _ _ _ _ powers within (t .before .loop .inv .1) (c .before .before .put-piece .ensures))
 
 returns : tie.Need-returns Inv-loop μ-loop
 returns c = put-end _ _ _ _ _ _ (search needs) (search needs) (c .before .loop .inv .1)
@@ -63,6 +74,7 @@ returns c = put-end _ _ _ _ _ _ (search needs) (search needs) (c .before .loop .
 pub write-bits-spec : {M : Type 1} → statement M
 write-bits-spec =
     tie.close
-    (tie.spec Inv-loop μ-loop (λ c. (zero-le, put-start _ _ _ _ (c .before .pre .3))) (search needs) (search needs) (λ c. c .before .loop .inv .0) (search needs)
-    (λ c. c .before .before .loop .inv .0) sub-rest-2 shr-rest pow2-requires (λ c. rw (c .pow2 .ensures) (pow-pos _)) put-piece-requires
+    (tie.spec Inv-loop μ-loop (λ c. (zero-le, put-start _ _ _ _ (c .before .pre .3))) (search needs) (search needs)
+    (λ c. c .before .loop .inv .0) (search needs) (λ c. c .before .before .loop .inv .0) sub-rest-2 shr-rest pow2-requires
+    (λ c. rw (c .pow2 .ensures) (pow-pos _)) put-piece-requires
     add-done loop-less loop-again (λ c. c .before .loop .inv .1 .same-length) returns)

@@ -58,6 +58,8 @@ pub insert-spec : {M : Type 1} → statement M
 insert-spec =
     tie.close
     (tie.spec Inv-loop μ-loop loop-holds (λ c. place-bytes (c .loop-test .taken) (few c)) (λ c. place-in (c .loop-test .taken) (few c)) (search needs)
-    (λ c. let t = c .before .before .before in place-bytes (t .loop-test .taken) (few t)) (λ c. let t = c .before .before .before in place-in (t .loop-test .taken) (few t))
-    (λ c. let t = c .before .before .before in place-next (t .loop-test .taken) (few t)) (λ c. place-left (c .before .before .before .loop-test .taken)) loop-again
+    (λ c. let t = c .before .before .before in place-bytes (t .loop-test .taken) (few t))
+    (λ c. let t = c .before .before .before in place-in (t .loop-test .taken) (few t))
+    (λ c. let t = c .before .before .before in place-next (t .loop-test .taken) (few t))
+    (λ c. place-left (c .before .before .before .loop-test .taken)) loop-again
     (λ c. place-bytes (c .if2 .taken) (le-refl _)) (λ c. c .if2 .taken) (λ c. place-next (c .if2 .taken) (le-refl _)) returns returns-2)

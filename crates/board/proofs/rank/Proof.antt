@@ -47,5 +47,5 @@ rank-spec =
     tie.close
     (tie.spec Inv-loop μ-loop (search needs) loop-holds mul-ranked-of
     (λ c. lt-of-lt-of-le (c .before .loop-test .taken) (c .before .before .before .before .before .before .pre .0 .0)) (λ c. mul-ranked-of (c .before))
-    (λ c. lt-of-lt-of-le (c .before .before .loop-test .taken) (c .before .before .before .before .before .before .before .pre .0 .1)) ranked-of-requires insert-requires
-    (search needs) (search needs) loop-again returns)
+    (λ c. lt-of-lt-of-le (c .before .before .loop-test .taken) (c .before .before .before .before .before .before .before .pre .0 .1))
+    ranked-of-requires insert-requires (search needs) (search needs) loop-again returns)

@@ -35,7 +35,8 @@ loop-again : tie.Need-loop-again Inv-loop μ-loop
 loop-again c =
     let l = c .before .before .before .loop in
     let s = c .before .before .before .before .before in
-    (turn-within (c .before .before .loop-test .taken), c .after .ensures ∙ rw (l .inv .1, mul-one _) (sym (those-more (marked (s .args .mark) (s .args .marks .now)) (l .i))))
+    let more = those-more (marked (s .args .mark) (s .args .marks .now)) (l .i) in
+    (turn-within (c .before .before .loop-test .taken), c .after .ensures ∙ rw (l .inv .1, mul-one _) (sym more))
 
 returns : tie.Need-returns Inv-loop μ-loop
 returns c =
@@ -45,4 +46,5 @@ returns c =
 pub count-marked-spec : {M : Type 1} → statement M
 count-marked-spec =
     tie.close
-    (tie.spec Inv-loop μ-loop (λ c. (zero-le, sym (those-none _))) mul-after read-after after-requires add-i (λ c. turn-less (c .before .before .loop-test .taken)) loop-again returns)
+    (tie.spec Inv-loop μ-loop (λ c. (zero-le, sym (those-none _))) mul-after read-after after-requires add-i
+    (λ c. turn-less (c .before .before .loop-test .taken)) loop-again returns)

@@ -20,7 +20,8 @@ abbrev μ-loop : tie.MeasureT-loop
 loop-holds : tie.Need-loop-holds Inv-loop μ-loop
 loop-holds c =
     let s = c .before .before .before in
-    (zero-le, sym (ap (λ k. s .args .first + k * s .args .width) (those-none (marked (s .args .mark) (s .args .marks .now))) ∙ first-at (s .args .first) (s .args .width)), column-start _ _ _ _ _)
+    let none = those-none (marked (s .args .mark) (s .args .marks .now)) in
+    (zero-le, sym (ap (λ k. s .args .first + k * s .args .width) none ∙ first-at (s .args .first) (s .args .width)), column-start _ _ _ _ _)
 
 mul-here : tie.Need-mul-here Inv-loop μ-loop
 mul-here c = let s = c .before .before .before .before .before in turn-bytes (c .loop-test .taken) (s .pre .0 .1) (s .good .1 .1 .1 .1 .1 .0 .1)
@@ -42,14 +43,17 @@ at-small : (c : tie.In-loop Inv-loop μ-loop) → c .before .loop .at + c .befor
 at-small c =
     let s = c .before .before .before .before .before in
     let l = c .before .loop in
-    rw (l .inv .1) (more-small (s .args .width) (those-most (marked (s .args .mark) (s .args .marks .now)) (s .args .first) (s .args .width) (l .i) (s .args .n) (l .inv .0) (le-refl _)) (s .pre .0 .4))
+    let marks = marked (s .args .mark) (s .args .marks .now) in
+    let most = those-most marks (s .args .first) (s .args .width) (l .i) (s .args .n) (l .inv .0) (le-refl _) in
+    rw (l .inv .1) (more-small (s .args .width) most (s .pre .0 .4))
 
 put-if-requires : tie.Need-put-if-requires Inv-loop μ-loop
 put-if-requires c κs =
     let t = c .before .before .before in
     let s = t .before .before .before .before .before in
     let l = t .before .loop in
-    let m = those-room (marked (s .args .mark) (s .args .marks .now)) (s .args .first) (s .args .width) (l .i) (s .args .n) (t .loop-test .taken) (s .pre .0 .3) in
+    let marks = marked (s .args .mark) (s .args .marks .now) in
+    let m = those-room marks (s .args .first) (s .args .width) (l .i) (s .args .n) (t .loop-test .taken) (s .pre .0 .3) in
     (rw (l .inv .1, l .inv .2 .same-length) m, at-small t, s .pre .0 .0, s .pre .1 (l .i) (t .loop-test .taken))
 
 after-requires : tie.Need-after-requires Inv-loop μ-loop

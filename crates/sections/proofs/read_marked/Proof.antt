@@ -23,7 +23,8 @@ abbrev μ-loop : tie.MeasureT-loop
 loop-holds : tie.Need-loop-holds Inv-loop μ-loop
 loop-holds c =
     let s = c .before .before .before in
-    (refl, zero-le, sym (ap (λ k. s .args .first + k * s .args .width) (those-none (marked (s .args .mark) (s .args .marks .now))) ∙ first-at (s .args .first) (s .args .width)), over-start _ _)
+    let none = those-none (marked (s .args .mark) (s .args .marks .now)) in
+    (refl, zero-le, sym (ap (λ k. s .args .first + k * s .args .width) none ∙ first-at (s .args .first) (s .args .width)), over-start _ _)
 
 mul-here : tie.Need-mul-here Inv-loop μ-loop
 mul-here c = let s = c .before .before .before .before .before in turn-bytes (c .loop-test .taken) (s .pre .3) (s .good .1 .1 .1 .1 .1 .0 .1)
@@ -36,14 +37,16 @@ at-most : (c : tie.In-loop Inv-loop μ-loop) → c .before .loop .at ≤ 8 * len
 at-most c =
     let s = c .before .before .before .before .before in
     let l = c .before .loop in
-    rw (l .inv .2) (those-most (marked (s .args .mark) (s .args .marks .now)) (s .args .first) (s .args .width) (l .i) (s .args .n) (l .inv .1) (s .pre .4))
+    let marks = marked (s .args .mark) (s .args .marks .now) in
+    rw (l .inv .2) (those-most marks (s .args .first) (s .args .width) (l .i) (s .args .n) (l .inv .1) (s .pre .4))
 
 field-if-requires : tie.Need-field-if-requires Inv-loop μ-loop
 field-if-requires c κs =
     let t = c .before in
     let s = t .before .before .before .before .before in
     let l = t .before .loop in
-    let m = those-room (marked (s .args .mark) (s .args .marks .now)) (s .args .first) (s .args .width) (l .i) (s .args .n) (t .loop-test .taken) (s .pre .4) in
+    let marks = marked (s .args .mark) (s .args .marks .now) in
+    let m = those-room marks (s .args .first) (s .args .width) (l .i) (s .args .n) (t .loop-test .taken) (s .pre .4) in
     (rw (l .inv .2) m, more-small (s .args .width) (at-most t) (s .pre .0), s .pre .1)
 
 mul-out : tie.Need-mul-out Inv-loop μ-loop
@@ -59,7 +62,10 @@ write-out c =
     turn-in-same (t .loop-test .taken) (s .pre .2) (t .before .loop .inv .0)
 
 after-requires : tie.Need-after-requires Inv-loop μ-loop
-after-requires c κs = let t = c .before .before in let s = t .before .before .before .before .before in more-small (s .args .width) (at-most t) (s .pre .0)
+after-requires c κs =
+    let t = c .before .before in
+    let s = t .before .before .before .before .before in
+    more-small (s .args .width) (at-most t) (s .pre .0)
 
 add-i : tie.Need-add-i Inv-loop μ-loop
 add-i c =
