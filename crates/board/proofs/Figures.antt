@@ -3,7 +3,8 @@ use Prim.Native.Nat.{ℕ}
 use mathlib.Core.Path.{_≡_, refl}
 use mathlib.Core.List.{[], _∷_}
 use Rattle.lists.specs.Table.{over}
-use Rattle.board.specs.Board.{entryOf, unused, rankedOf, fuller, asFull, comesBefore, insertInOrder, inOrder, entryAt, rankedAt, before, listed, boardEntries}
+use Rattle.order.specs.Order.{rankedOf, fuller, asFull, comesBefore, insertInOrder, inOrder}
+use Rattle.board.specs.Board.{entryOf, unused, entryAt, rankedAt, before, listed, boardEntries}
 use Rattle.board.specs.declared.Entry.{Entry}
 
 everything : Unit {0}

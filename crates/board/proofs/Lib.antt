@@ -1,5 +1,3 @@
-pub mod Insertion
-pub mod Entries
-pub mod Order
+pub mod Places
 pub mod Listed
 pub mod Figures

@@ -16,12 +16,13 @@ use Rattle.model.specs.declared.Answer.the-variants.{Done, Refused}
 use Rattle.model.specs.declared.Refusal.{Refusal}
 use Rattle.model.proofs.Verdicts.{passes, refuses}
 use Rattle.model.proofs.Accepted.{field-passed, salt-asks}
-use Rattle.board.specs.Board.{boardSize, maxRanked, entryOf, unused, rankedOf, shown, unranked, comesBefore, insertInOrder, entryAt, rankedAt, before, listed, rankedCells, boardEntries, boardVerdict, BoardIs}
+use Rattle.order.specs.declared.Ranked.{Ranked}
+use Rattle.order.specs.Order.{maxRanked, rankedOf, unranked, comesBefore, insertInOrder}
+use Rattle.order.proofs.Insertion.{cells-none, cells-more}
+use Rattle.order.proofs.Order.{Strict, board-strict, first-count, first-below, first-ordered, first-distinct, left-out-after}
+use Rattle.board.specs.Board.{boardSize, entryOf, unused, shown, entryAt, rankedAt, before, listed, rankedCells, boardEntries, boardVerdict, BoardIs}
 use Rattle.board.specs.declared.Entry.{Entry}
-use Rattle.board.specs.declared.Ranked.{Ranked}
 use Rattle.board.specs.declared.BoardAnswer.{BoardAnswer}
-use Rattle.board.proofs.Insertion.{cells-none, cells-more}
-use Rattle.board.proofs.Order.{Strict, board-strict, first-count, first-below, first-ordered, first-distinct, left-out-after}
 
 getD-mapped : {B : Type 0} (f : ℕ → B) (l : List ℕ) (i : ℕ) (d : B) → i < length l → getD (map f l) i d ≡ f (getD l i 0)
 getD-mapped f [] i d h = absurd (not-suc-le-zero h)

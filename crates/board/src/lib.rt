@@ -1,12 +1,16 @@
 // The board of document 01: the eight cells of highest concentration, by value.
 use checks::check_cells;
 use model::Answer;
+use order::Ranked;
+use order::comes_before;
+use order::ranked_of;
 ghost use mathlib.Core.Path.{_≡_};
 ghost use mathlib.Core.Bool.{_||_};
-ghost use Prim.Native.Nat.{ℕ, _+_, _*_, _≤_, _<_, min};
+ghost use Prim.Native.Nat.{ℕ, _+_, _≤_, _<_, min};
 ghost use lib.ListN.{length, getD, take, replicate};
 ghost use Rattle.lists.specs.Table.{table, over};
-ghost use Rattle.board.specs.Board.{boardSize, maxRanked, rankedOf, shown, unranked, unused, comesBefore, insertInOrder, rankedCells, BoardIs};
+ghost use Rattle.order.specs.Order.{maxRanked, unranked, comesBefore, insertInOrder};
+ghost use Rattle.board.specs.Board.{boardSize, shown, unused, rankedCells, BoardIs};
 
 // Most cells that the board lists.
 pub const BOARD_SIZE: usize = 8;
@@ -16,14 +20,6 @@ pub struct Entry {
     pub cell: u64,
     pub q: u64,
     pub rest: u64,
-}
-
-// A cell as the order sees it. Rest and volume are narrow, so that the product of any two of them fits 64 bits.
-struct Ranked {
-    cell: u64,
-    q: u64,
-    rest: u32,
-    volume: u32,
 }
 
 // The first `used` stand in the board's order; those after them are 0.
@@ -53,43 +49,6 @@ fn empty_ranking() -> Ranking
         used: 0,
         ranks: ranks,
     }
-}
-
-// One cell as the order sees it, by one division.
-fn ranked_of(cell: u64, volume: u64, mass: u64) -> Ranked
-    requires { ⌜ (1 ≤ volume) × (volume ≤ maxRanked) ⌝ }
-    ensures { λ r. ⌜ r ≡ rankedOf cell volume mass ⌝ }
-{
-    let q = mass / volume;
-    let rest = mass - q * volume;
-    Ranked {
-        cell: cell,
-        q: q,
-        rest: rest as u32,
-        volume: volume as u32,
-    }
-}
-
-// A rest times the volume of another cell: rest / V of two cells is compared by two such products.
-fn across(rest: u32, volume: u32) -> u64
-    ensures { λ r. ⌜ r ≡ rest * volume ⌝ }
-{
-    (rest as u64) * (volume as u64)
-}
-
-// The board's order.
-fn comes_before(a: Ranked, b: Ranked) -> bool
-    ensures { λ r. ⌜ r ≡ comesBefore a b ⌝ }
-{
-    if a.q != b.q {
-        return b.q < a.q;
-    }
-    let of_a = across(a.rest, b.volume);
-    let of_b = across(b.rest, a.volume);
-    if of_a != of_b {
-        return of_b < of_a;
-    }
-    a.cell < b.cell
 }
 
 // Whether a is written in the place of b: it comes before b, or those from its place on move back by one already.

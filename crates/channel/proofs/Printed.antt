@@ -6,7 +6,7 @@ use mathlib.Core.Bool.{cond}
 use mathlib.Core.List.{List, [], _∷_, _++_}
 use lib.IntN.{ℤ, pos, negsuc}
 use native.Mathlib.Omega.{arith}
-use lib.ListN.{length, drop, length-append, length-drop, length-replicate}
+use lib.ListN.{length, getD, take, drop, length-append, length-drop, length-replicate}
 use lib.Seq.{drop-append-seam}
 use Rattle.lists.specs.Fold.{sum, least, greatest}
 use Rattle.lists.specs.Table.{table, over}
@@ -27,12 +27,14 @@ use Rattle.heads.specs.Heads.{meshHeadVerdict, fieldHeadVerdict, stepHeadVerdic
 use Rattle.reading.specs.Reading.{meshBodyVerdict, fieldBodyVerdict, stepBodyVerdict, fieldRead}
 use Rattle.reading.specs.Reading.{stepRead}
 use Rattle.reading.specs.declared.MeshCounts.{MeshCounts}
-use Rattle.board.specs.Board.{entryOf, rankedOf, fuller, asFull, comesBefore, insertInOrder, inOrder, entryAt, rankedAt, before, listed}
+use Rattle.order.specs.Order.{rankedOf, fuller, asFull, comesBefore, insertInOrder, inOrder}
+use Rattle.board.specs.Board.{entryOf, entryAt, rankedAt, before, listed}
 use Rattle.mesh_taking.specs.MeshTaking.{meshRecordFound, meshJudged}
 use Rattle.taking.specs.Taking.{fieldJudged, stepJudged, stepIn, ownTables, blank, printedOf, massesAfter}
 use Rattle.taking.specs.declared.Printed.{Printed}
 use Rattle.text.specs.Digits.{digits}
 use Rattle.text.specs.Lines.{word, mark}
+use Rattle.intake.specs.Intake.{stillNeeded}
 use Rattle.session.specs.Lines.{refusalLine, stepLine, refusedStepLine, boardLine}
 use Rattle.session.specs.Session.{stepText, goesOnAfter}
 use Rattle.session.specs.Run.{recordAt, meshAt, fieldAt, stepAt, following, inTable, inTables, runMesh, boardLines, boardPrinted, stepSaid, fieldThen, stepsPrinted, fieldSaid, fromField}
@@ -151,6 +153,14 @@ field₁ = inTable runCells (100099 ∷ 49901 ∷ 0 ∷ [])
 abbrev field₂ : List ℕ
 field₂ = inTable runCells (100099 ∷ 81188 ∷ 18713 ∷ [])
 
+-- the tables are long enough: their lengths by law, since to count their entries takes long
+table-long : (n : ℕ) (xs : List ℕ) → length xs ≤ n → length (inTable n xs) ≡ n
+unfolding over
+table-long n xs h = rw (length-append, length-drop, length-table {A = ℕ} n (λ i. 0)) (omega arith)
+
+seconds-long : length (M .seconds) ≡ runFaces
+seconds-long = table-long runFaces (channel .seconds) (omega arith)
+
 mesh-is : meshIn channelMesh ≡ channel
 unfolding everything
 mesh-is = refl
@@ -175,13 +185,33 @@ field-said : fieldSaid M channelField ≡ accepted 100000
 unfolding everything
 field-said = refl
 
-step-front₁ : stepAt M (channelStep ++ channelStep) ≡ channelStep
+-- the head of the step record, alone and before its body; the record's length
+abbrev stepHead : List ℕ
+stepHead = 48 ∷ 2 ∷ 0 ∷ 0 ∷ []
+
+step-head : stepHeadVerdict 4 (M .seconds) stepHead ≡ fine
+unfolding of-causes of-bits of-reading
+step-head = rw seconds-long
+
+step-headed : stepHeadVerdict 4 (M .seconds) channelStep ≡ fine
+unfolding of-causes of-bits of-reading
+step-headed = rw seconds-long
+
+step-length : stepLength 4 (M .seconds) ≡ 16
 unfolding everything
-step-front₁ = refl
+step-length = refl
+
+step-needs : stepNeeds 4 (M .seconds) stepHead ≡ accepted 16
+unfolding stepNeeds _andThen_
+step-needs = rw (step-head, step-length)
+
+step-front₁ : stepAt M (channelStep ++ channelStep) ≡ channelStep
+unfolding recordAt bytesFor meshLength
+step-front₁ = ap (λ (o : Outcome ℕ). take (4 + stillNeeded o 4) (channelStep ++ channelStep)) step-needs
 
 step-front₂ : stepAt M channelStep ≡ channelStep
-unfolding everything
-step-front₂ = refl
+unfolding recordAt bytesFor meshLength
+step-front₂ = ap (λ (o : Outcome ℕ). take (4 + stillNeeded o 4) channelStep) step-needs
 
 -- the call that the step record makes
 abbrev call : Call
@@ -195,9 +225,13 @@ outsides-are : outsidesIn channelStep 4 (M .seconds) ≡ 1000 ∷ 0 ∷ 0 ∷ 0 
 unfolding everything
 outsides-are = refl
 
-read-fine : stepRead 4 (M .seconds) channelStep runFaces runFaces ≡ fine
+body-fine : stepBodyVerdict 4 (M .seconds) channelStep runFaces runFaces ≡ fine
 unfolding everything
-read-fine = refl
+body-fine = refl
+
+read-fine : stepRead 4 (M .seconds) channelStep runFaces runFaces ≡ fine
+unfolding stepRead _andThen_
+read-fine = rw (step-headed, body-fine)
 
 call-is : stepIn M channelStep ≡ call
 call-is = rw (fluxes-are, outsides-are)
@@ -231,11 +265,6 @@ S₁ = inputOf M field₀ call
 
 abbrev S₂ : StepInput
 S₂ = inputOf M field₁ call
-
--- the tables are long enough: their lengths by law, since to count their entries takes long
-table-long : (n : ℕ) (xs : List ℕ) → length xs ≤ n → length (inTable n xs) ≡ n
-unfolding over
-table-long n xs h = rw (length-append, length-drop, length-table {A = ℕ} n (λ i. 0)) (omega arith)
 
 mesh-tables : meshTables M ≡ fine
 unfolding meshTables need _andThen_
@@ -300,13 +329,16 @@ next₂ : table 3 (next S₂) ≡ 100099 ∷ 81188 ∷ 18713 ∷ []
 unfolding everything
 next₂ = refl
 
+-- the total is that of the three masses
+total-of : (f : ℕ → ℕ) (a b c : ℕ) → table 3 f ≡ a ∷ b ∷ c ∷ [] → total M f ≡ a + b + c
+unfolding total sum table
+total-of f a b c e = rw (ap (λ (xs : List ℕ). getD xs 0 0) e, ap (λ (xs : List ℕ). getD xs 1 0) e, ap (λ (xs : List ℕ). getD xs 2 0) e) (omega arith)
+
 total₁ : total M (next S₁) ≡ 150000
-unfolding everything
-total₁ = refl
+total₁ = total-of (next S₁) 100099 49901 0 next₁
 
 total₂ : total M (next S₂) ≡ 200000
-unfolding everything
-total₂ = refl
+total₂ = total-of (next S₂) 100099 81188 18713 next₂
 
 in₁ : inMass S₁ ≡ 50000
 unfolding everything

@@ -38,10 +38,10 @@ use Rattle.model.proofs.Agree.{field-agrees, fair-agree}
 use Rattle.model.proofs.Lists.{Fair, Owes, ledger-law, steps-alone, corrected-keeping, tables-fair}
 use Rattle.model.proofs.Figures.{Figures, figures}
 use Rattle.heads.specs.Layouts.{meshRecord, fieldRecord}
-use Rattle.store.specs.Store.{fieldsIn, heldUnder}
+use Rattle.kept.specs.Store.{fieldsIn, heldUnder}
 use Rattle.store.specs.Calls.{keepVerdict, keepStore, dropVerdict, dropStore, returnVerdict, returnMasses}
 use Rattle.store.specs.Lists.{keeping as store-keeping, dropping as store-dropping}
-use Rattle.store.proofs.Laid.{over-front}
+use Rattle.entries.proofs.Written.{over-front}
 use Rattle.store.proofs.Effects.{keep-effect, drop-effect, held-length, held-salt}
 use Rattle.store.proofs.Back.{Holding, after-one, holding, return-fine, return-gives}
 use Rattle.lagoon.specs.Host.{hostVerdict, hostBytes}

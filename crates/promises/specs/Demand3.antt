@@ -12,7 +12,7 @@ use Rattle.model.specs.Causes.{Outcome, accepted, refused, fine, _andThen_, Cal
 use Rattle.model.specs.Calls.{massIn, Bounded, Left, crossingOf, fieldAfter, corrected, nextTable, movedTable, workTable, stepOnTables, Claim, Deed, stepped, givenBack, storeOnly, stepping, fieldBy, lastField, Ledger}
 use Rattle.heads.specs.Layouts.{meshRecord, fieldRecord, fieldLength}
 use Rattle.reading.specs.Reading.{massesIn, fluxesIn, outsidesIn}
-use Rattle.store.specs.Store.{fieldsIn, heldUnder, without}
+use Rattle.kept.specs.Store.{fieldsIn, heldUnder, without}
 use Rattle.store.specs.Calls.{keepVerdict, keepStore, dropVerdict, dropStore, returnVerdict, returnMasses}
 use Rattle.lagoon.specs.Host.{hostVerdict, hostBytes}
 

@@ -11,11 +11,13 @@ use Rattle.lists.specs.Table.{over}
 use Rattle.lists.proofs.Tests.{true-both}
 use Rattle.model.specs.Causes.{Verdict, accepted, refused, fine, _andThen_, saltFit, saltGood, fieldTable, fieldValues}
 use Rattle.model.proofs.Verdicts.{all-fine, need-met, each-cong}
-use Rattle.store.specs.Store.{count, fieldsIn, used, isKept, heldUnder}
-use Rattle.store.specs.Calls.{storeTable, nameKept, dropVerdict, dropStore, lentMesh, openedCauses, openedVerdict, keepCauses, keepVerdict, keptField, keepStore, returnVerdict, returnMasses}
+use Rattle.kept.specs.Store.{keptField, count, fieldsIn, used, isKept, heldUnder}
+use Rattle.kept.specs.Tests.{nameKept}
+use Rattle.store.specs.Calls.{storeTable, dropVerdict, dropStore, lentMesh, openedCauses, openedVerdict, keepCauses, keepVerdict, keepStore, returnVerdict, returnMasses}
 use Rattle.store.specs.Lists.{StoreCall, keeping, dropping, returning, elsewhere, storeAfter, storeAfterAll, Spares, Spared, ComesBack}
+use Rattle.kept.proofs.Judged.{counted-good}
 use Rattle.store.proofs.Named.{kept-append, new-kept, new-held, other-gone}
-use Rattle.store.proofs.Effects.{opened-fine, keep-fits, keep-new, keep-effect, kept-length, kept-counted, drop-effect, dropped-length, dropped-counted, counted-good}
+use Rattle.store.proofs.Effects.{opened-fine, keep-fits, keep-new, keep-effect, kept-length, kept-counted, drop-effect, dropped-length, dropped-counted}
 
 -- a store that holds its count, and masses under a name
 pub record Holding (cells name : ℕ) (masses : List ℕ) (long : ℕ) (store : List ℕ) : Type 0 where
@@ -30,7 +32,7 @@ module _ (cells name : ℕ) (masses : List ℕ) (long : ℕ) where
   unfolding keepStore
   after-keep volumes field store other (refused i j) e h = rw e h
   after-keep volumes field store other (accepted tt) e h =
-      let p = kept-append name (fieldsIn cells store) (keptField cells volumes field store other ∷ []) (h .kept) in
+      let p = kept-append name (fieldsIn cells store) (keptField cells field other ∷ []) (h .kept) in
       record {
         counted = kept-counted cells volumes field store other e;
         lasting = kept-length cells volumes field store other e ∙ h .lasting;
@@ -66,7 +68,7 @@ module _ (cells name : ℕ) (masses : List ℕ) (long : ℕ) where
 module _ (cells : ℕ) (volumes masses store : List ℕ) (name : ℕ) (e : keepVerdict cells volumes masses store name ≡ fine) where
   pub holding : Holding cells name (take cells masses) (length store) (keepStore cells volumes masses store name)
   holding =
-      let f = keptField cells volumes masses store name in
+      let f = keptField cells masses name in
       record {
         counted = kept-counted cells volumes masses store name e;
         lasting = kept-length cells volumes masses store name e;

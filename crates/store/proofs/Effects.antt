@@ -13,10 +13,14 @@ use Rattle.lists.proofs.Tests.{both-true, true-both}
 use Rattle.model.specs.Causes.{fine, _andThen_, counts, cellsOnly, fieldValues}
 use Rattle.model.proofs.Verdicts.{all-fine, need-fine, need-met}
 use Rattle.model.proofs.Accepted.{field-lent}
-use Rattle.store.specs.Store.{Kept, count, fieldsIn, used, storeOf, isKept, heldUnder, without}
-use Rattle.store.specs.Calls.{nameFits, storeTable, countGood, nameNew, roomLeft, nameKept, dropCauses, dropVerdict, dropStore, lentMesh, openedCauses, openedVerdict, keepCauses, keepVerdict, keptField, keepStore, returnCauses, returnVerdict}
-use Rattle.store.proofs.Laid.{Sized, sized-append, sized-parts, store-length, in-length, in-sized, store-read, store-split, over-length, over-over}
-use Rattle.store.proofs.Named.{Found, found, new-kept, new-without}
+use Rattle.kept.specs.Store.{Kept, keptField, count, fieldsIn, used, storeOf, isKept, heldUnder, without}
+use Rattle.kept.specs.Tests.{nameFits, nameNew, roomLeft, nameKept}
+use Rattle.store.specs.Calls.{storeTable, dropCauses, dropVerdict, dropStore, lentMesh, openedCauses, openedVerdict, keepCauses, keepVerdict, keepStore, returnCauses, returnVerdict}
+use Rattle.kept.proofs.Laid.{Sized, sized-append, sized-parts, store-length, in-length, in-sized, store-read, store-split}
+use Rattle.kept.proofs.Named.{Found, found}
+use Rattle.kept.proofs.Judged.{count-counted, counted-good}
+use Rattle.entries.proofs.Written.{over-length, over-over}
+use Rattle.store.proofs.Named.{new-kept, new-without}
 
 -- a list of fields written over a store that has the room, with anything after it
 module _ (cells : ℕ) (fs : List Kept) (sized : Sized cells fs) (more store : List ℕ) (room : used cells (length fs) + length more ≤ length store) where
@@ -33,14 +37,6 @@ module _ (cells : ℕ) (fs : List Kept) (sized : Sized cells fs) (more store : L
 
   pub written-counted : used cells (count (over (storeOf fs ++ more) store)) ≤ length (over (storeOf fs ++ more) store)
   written-counted = rw (written-length, written-count) (omega arith)
-
-pub count-counted : (cells : ℕ) (store : List ℕ) → countGood cells store ≡ fine → used cells (count store) ≤ length store
-unfolding countGood
-count-counted cells store e = leb-true _ _ (need-fine 13 1 _ e)
-
-pub counted-good : (cells : ℕ) (store : List ℕ) → used cells (count store) ≤ length store → countGood cells store ≡ fine
-unfolding countGood
-counted-good cells store l = need-met 13 1 (le-leb _ _ l)
 
 -- an accepted keep
 module _ (cells : ℕ) (volumes masses store : List ℕ) (name : ℕ) (e : keepVerdict cells volumes masses store name ≡ fine) where
@@ -71,13 +67,13 @@ module _ (cells : ℕ) (volumes masses store : List ℕ) (name : ℕ) (e : keepV
   keep-long = field-lent (lentMesh cells volumes masses store) masses (all-fine (openedCauses cells volumes masses store) opened-fine .1 .1 .0)
 
   abbrev after : List Kept
-  after = fieldsIn cells store ++ (keptField cells volumes masses store name ∷ [])
+  after = fieldsIn cells store ++ (keptField cells masses name ∷ [])
 
   pub after-sized : Sized cells after
   after-sized = sized-append cells (fieldsIn cells store) _ (in-sized cells store keep-counted) (length-take-le cells masses keep-long, tt)
 
   pub after-length : length after ≡ suc (count store)
-  after-length = length-append (fieldsIn cells store) (keptField cells volumes masses store name ∷ []) ∙ omega (arith, in-length cells store keep-counted)
+  after-length = length-append (fieldsIn cells store) (keptField cells masses name ∷ []) ∙ omega (arith, in-length cells store keep-counted)
 
   after-room : used cells (length after) + length {A = ℕ} [] ≤ length store
   after-room = rw after-length (omega (arith, keep-room))
@@ -87,7 +83,7 @@ module _ (cells : ℕ) (volumes masses store : List ℕ) (name : ℕ) (e : keepV
   keep-is = rw (e, append-nil (storeOf after))
 
   -- keeping puts the field after all others
-  pub keep-effect : fieldsIn cells (keepStore cells volumes masses store name) ≡ fieldsIn cells store ++ (keptField cells volumes masses store name ∷ [])
+  pub keep-effect : fieldsIn cells (keepStore cells volumes masses store name) ≡ fieldsIn cells store ++ (keptField cells masses name ∷ [])
   keep-effect = ap (fieldsIn cells) keep-is ∙ written-fields cells after after-sized [] store after-room
 
   pub kept-length : length (keepStore cells volumes masses store name) ≡ length store
@@ -168,7 +164,7 @@ module _ (cells : ℕ) (volumes masses store : List ℕ) (name : ℕ) (e : keepV
   may-drop =
       let o = all-fine (openedCauses cells volumes masses store) (opened-fine cells volumes masses store name e) in
       let l : 1 ≤ length kept = rw (kept-length cells volumes masses store name e) (omega (arith, keep-counted cells volumes masses store name e)) in
-      let k : isKept name (fieldsIn cells kept) ≡ true = rw (keep-effect cells volumes masses store name e) (new-kept name (fieldsIn cells store) (keptField cells volumes masses store name) refl) in
+      let k : isKept name (fieldsIn cells kept) ≡ true = rw (keep-effect cells volumes masses store name e) (new-kept name (fieldsIn cells store) (keptField cells masses name) refl) in
       rw (
         o .0,
         need-met 2 13 (le-leb 1 (length kept) l),
@@ -184,17 +180,17 @@ module _ (cells : ℕ) (volumes masses store : List ℕ) (name : ℕ) (e : keepV
       let front : take (used cells (count store)) store ≡ storeOf fs = ap (take (used cells (count store))) (store-split cells store c)
       ∙ take-at (storeOf fs) (drop (used cells (count store)) store) (used cells (count store)) n in
       let gone : without name (fieldsIn cells kept) ≡ fs = ap (without name) (keep-effect cells volumes masses store name e)
-      ∙ new-without name fs (keptField cells volumes masses store name) (keep-new cells volumes masses store name e) refl in
-      let a : length (storeOf (fs ++ (keptField cells volumes masses store name ∷ [])) ++ []) ≡ used cells (suc (count store))
-      = length-append (storeOf (fs ++ (keptField cells volumes masses store name ∷ []))) []
+      ∙ new-without name fs (keptField cells masses name) (keep-new cells volumes masses store name e) refl in
+      let a : length (storeOf (fs ++ (keptField cells masses name ∷ [])) ++ []) ≡ used cells (suc (count store))
+      = length-append (storeOf (fs ++ (keptField cells masses name ∷ []))) []
       ∙ omega (
         arith,
-        store-length cells (fs ++ (keptField cells volumes masses store name ∷ []))
+        store-length cells (fs ++ (keptField cells masses name ∷ []))
             (after-sized cells volumes masses store name e),
         ap (used cells) (after-length cells volumes masses store name e),
       ) in
       let b : length (storeOf fs ++ replicate (cells + 1) 0) ≡ used cells (suc (count store))
       = length-append (storeOf fs) (replicate (cells + 1) 0) ∙ omega (arith, n, length-replicate {A = ℕ} (cells + 1) 0, suc-mul (count store) (cells + 1)) in
       drop-is cells kept name may-drop ∙ rw (gone, front, keep-is cells volumes masses store name e)
-      (over-over (storeOf fs ++ replicate (cells + 1) 0) (storeOf (fs ++ (keptField cells volumes masses store name ∷ [])) ++ []) store
+      (over-over (storeOf fs ++ replicate (cells + 1) 0) (storeOf (fs ++ (keptField cells masses name ∷ [])) ++ []) store
       (b ∙ sym a))

@@ -1,4 +1,3 @@
-pub mod Laid
 pub mod Named
 pub mod Effects
 pub mod Back

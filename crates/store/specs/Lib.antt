@@ -1,4 +1,2 @@
-pub mod Store
-pub mod Found
 pub mod Calls
 pub mod Lists

@@ -1,7 +1,4 @@
 // Named states to come back to, of document 02's S-4: fields of one mesh, kept in a lent store under names.
-mod entries;
-mod names;
-
 use model::Answer;
 use model::needs::and_then;
 use model::needs::long;
@@ -35,7 +32,7 @@ fn may_keep(cells: usize, volumes: &[u64], masses: &[u64], store: &[u64], name: 
     }
     and_then(
         checks::field::values(cells, volumes, masses),
-        names::is_new(cells, store, name),
+        kept::is_new(cells, store, name),
     )
 }
 
@@ -62,7 +59,7 @@ pub fn drop(cells: usize, store: &mut [u64], name: u64) -> Answer
     if let Answer::Refused(r) = a {
         return Answer::Refused(r);
     }
-    let b = names::is_kept(cells, store, name);
+    let b = kept::is_kept(cells, store, name);
     if let Answer::Refused(r) = b {
         return Answer::Refused(r);
     }
@@ -84,11 +81,11 @@ pub fn give_back(
     if let Answer::Refused(r) = a {
         return Answer::Refused(r);
     }
-    let b = names::is_kept(cells, store, name);
+    let b = kept::is_kept(cells, store, name);
     if let Answer::Refused(r) = b {
         return Answer::Refused(r);
     }
-    let at = names::masses_of(cells, store, name);
+    let at = kept::masses_of(cells, store, name);
     let end = at + cells;
     let kept = &store[at..end];
     let d = checks::field::values(cells, volumes, kept);

@@ -6,7 +6,9 @@ use borrow.Author.Needs.{needs}
 use lib.ListN.{length, getD, replicate, length-set}
 use Rattle.lists.specs.Table.{table, over}
 use Rattle.lists.proofs.Tables.{over-start, over-step}
-use Rattle.board.specs.Board.{boardSize, shown, unranked, unused}
+use Rattle.order.specs.Order.{unranked}
+use Rattle.board.specs.Board.{boardSize, shown, unused}
+use Rattle.board.proofs.Places.{place-left, place-in, place-bytes, place-next}
 use Rattle.board.proofs.entries_of.Statement.{statement}
 use Rattle.board.proofs.entries_of.Tie as tie
 
@@ -16,6 +18,10 @@ Inv-loop ranking entries₀ ranks i₀ entries i =
 
 abbrev μ-loop : tie.MeasureT-loop
 μ-loop ranking entries₀ ranks i₀ entries i = ranking .used - i
+
+-- at most eight are used
+few : (c : tie.Then1 Inv-loop μ-loop) → c .before .before .before .before .args .ranking .used ≤ boardSize
+few c = c .before .before .before .before .pre
 
 loop-holds : tie.Need-loop-holds Inv-loop μ-loop
 loop-holds c = (omega arith, refl, over-start _ _)
@@ -36,4 +42,6 @@ returns c =
 pub entries-of-spec : {M : Type 1} → statement M
 entries-of-spec =
     tie.close
-    (tie.spec Inv-loop μ-loop loop-holds (search needs) (search needs) (search needs) (search needs) (search needs) (search needs) (search needs) loop-again returns)
+    (tie.spec Inv-loop μ-loop loop-holds (λ c. place-bytes (c .if1 .taken) (few c)) (λ c. place-in (c .if1 .taken) (few c)) (search needs)
+    (λ c. let t = c .before .before in place-bytes (t .if1 .taken) (few t)) (λ c. let t = c .before .before in place-in (t .if1 .taken) (few t))
+    (λ c. let t = c .before .before in place-next (t .if1 .taken) (few t)) (λ c. place-left (c .before .before .if1 .taken)) loop-again returns)

@@ -1,13 +1,16 @@
 -- The loop carries one cell past those used: the cell itself until its place is found, then the one that it displaces.
-use Prim.Native.Nat.{ℕ, _-_}
+use Prim.Native.Nat.{ℕ, _-_, _≤_}
 use mathlib.Core.Path.{_≡_, refl, sym, _∙_}
 use mathlib.Core.List.{List, map}
 use mathlib.Core.Logic.{⊎-elim}
+use native.Mathlib.Nat.{le-refl}
 use native.Mathlib.Omega.{arith}
 use borrow.Author.Needs.{needs}
 use lib.ListN.{length, take, length-map}
-use Rattle.board.specs.Board.{boardSize, unranked, comesBefore, insertInOrder}
-use Rattle.board.proofs.Insertion.{Carrying, at-start, carried-on, passed, at-end, room-left, no-room}
+use Rattle.order.specs.Order.{unranked, comesBefore, insertInOrder}
+use Rattle.board.specs.Board.{boardSize}
+use Rattle.board.proofs.Places.{place-left, place-in, place-bytes, place-next}
+use Rattle.order.proofs.Insertion.{Carrying, at-start, carried-on, passed, at-end, room-left, no-room}
 use Rattle.board.proofs.insert.Statement.{statement}
 use Rattle.board.proofs.insert.Tie as tie
 
@@ -24,6 +27,10 @@ abbrev μ-loop : tie.MeasureT-loop
 
 loop-holds : tie.Need-loop-holds Inv-loop μ-loop
 loop-holds c = at-start comesBefore _ _ _ _ (search (needs, length-mapped))
+
+-- at most eight are used
+few : (c : tie.In-loop Inv-loop μ-loop) → c .before .before .before .args .ranking .used ≤ boardSize
+few c = c .before .before .before .pre
 
 loop-again : tie.Need-loop-again Inv-loop μ-loop
 loop-again c =
@@ -50,5 +57,9 @@ returns-2 c =
 pub insert-spec : {M : Type 1} → statement M
 insert-spec =
     tie.close
-    (tie.spec Inv-loop μ-loop loop-holds (search needs) (search needs) (search needs) (search needs) (search needs) (search needs) (search needs) loop-again
-    (search needs) (search needs) (search needs) returns returns-2)
+    (tie.spec Inv-loop μ-loop loop-holds (λ c. place-bytes (c .loop-test .taken) (few c)) (λ c. place-in (c .loop-test .taken) (few c)) (search needs)
+    (λ c. let t = c .before .before .before in place-bytes (t .loop-test .taken) (few t))
+    (λ c. let t = c .before .before .before in place-in (t .loop-test .taken) (few t))
+    (λ c. let t = c .before .before .before in place-next (t .loop-test .taken) (few t))
+    (λ c. place-left (c .before .before .before .loop-test .taken)) loop-again
+    (λ c. place-bytes (c .if2 .taken) (le-refl _)) (λ c. c .if2 .taken) (λ c. place-next (c .if2 .taken) (le-refl _)) returns returns-2)

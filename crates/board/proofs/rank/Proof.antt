@@ -1,6 +1,7 @@
 -- After c turns the ranking is that of the cells below c.
 use Prim.Native.Nat.{ℕ, _≤_, _-_, min}
 use mathlib.Core.Path.{_≡_, ap, _∙_}
+use native.Mathlib.Nat.{lt-of-lt-of-le}
 use native.Mathlib.Omega.{arith}
 use borrow.Author.Needs.{needs}
 use Rattle.board.specs.Board.{boardSize, rankedCells}
@@ -44,5 +45,7 @@ returns c =
 pub rank-spec : {M : Type 1} → statement M
 rank-spec =
     tie.close
-    (tie.spec Inv-loop μ-loop (search needs) loop-holds mul-ranked-of (search needs) (search needs) (search needs) ranked-of-requires insert-requires
-    (search needs) (search needs) loop-again returns)
+    (tie.spec Inv-loop μ-loop (search needs) loop-holds mul-ranked-of
+    (λ c. lt-of-lt-of-le (c .before .loop-test .taken) (c .before .before .before .before .before .before .pre .0 .0)) (λ c. mul-ranked-of (c .before))
+    (λ c. lt-of-lt-of-le (c .before .before .loop-test .taken) (c .before .before .before .before .before .before .before .pre .0 .1))
+    ranked-of-requires insert-requires (search needs) (search needs) loop-again returns)

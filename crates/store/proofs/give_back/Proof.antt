@@ -7,7 +7,8 @@ use lib.Seq.{take-all}
 use Rattle.lists.specs.Table.{over}
 use Rattle.model.proofs.Verdicts.{past, out, refuses, passes}
 use Rattle.store.specs.Calls.{returnMasses}
-use Rattle.store.proofs.Judged.{return-groups, return-stays, opened-asks, kept-asks, part-front, part-length, salted}
+use Rattle.kept.proofs.Judged.{kept-asks}
+use Rattle.store.proofs.Judged.{return-groups, return-stays, opened-asks, part-front, part-length, salted}
 use borrow.Author.Needs.{needs}
 use Rattle.store.proofs.give_back.Statement.{statement}
 use Rattle.store.proofs.give_back.Tie as tie

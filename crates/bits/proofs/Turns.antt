@@ -1,0 +1,50 @@
+-- Numbers of a turn, of a reader's by bytes and of a writer's by pieces: small, and in the list.
+use Prim.Native.Nat.{ℕ, _+_, _-_, _*_, _/_, _%_, _^_, _≤_, _<_, min}
+use mathlib.Core.Path.{_≡_}
+use native.Mathlib.Omega.{arith}
+use mir.Val.{Fits}
+use mir.Syntax.{w64}
+
+-- a field of w bits from bit `at` on, and the bytes that it touches
+module _ (at w : ℕ) (few : w ≤ 40) where
+  pub bits-small : Fits w64 (at % 8 + w)
+  bits-small = record { fits = omega arith }
+
+  pub bits-rounded : Fits w64 (at % 8 + w + 7)
+  bits-rounded = record { fits = omega arith }
+
+  pub width-small : w < 64
+  width-small = omega arith
+
+  module _ {k : ℕ} (turn : k < (at % 8 + w + 7) / 8) where
+    pub next-small : Fits w64 (k + 1)
+    next-small = record { fits = omega arith }
+
+    pub byte-small : at + w < 2 ^ 64 → Fits w64 (at / 8 + k)
+    byte-small g = record { fits = omega arith }
+
+    pub byte-in : (n : ℕ) → at + w ≤ 8 * n → at / 8 + k < n
+    byte-in n l = omega arith
+
+-- `done` bits of it are written, and n more are: up to the end of a byte, or all that are left
+module _ (at w done n : ℕ) (turn : done < w) (few : w ≤ 40) (e : n ≡ min (8 - (at + done) % 8) (w - done)) where
+  pub piece-fits : n ≤ w - done
+  piece-fits = omega arith
+
+  pub piece-small : n < 64
+  piece-small = omega arith
+
+  pub piece-in-byte : (at + done) % 8 + n ≤ 8
+  piece-in-byte = omega arith
+
+  pub rest-small : w - done - n < 64
+  rest-small = omega arith
+
+  pub done-small : Fits w64 (done + n)
+  done-small = record { fits = omega arith }
+
+  pub done-within : done + n ≤ w
+  done-within = omega arith
+
+  pub done-less : w - (done + n) < w - done
+  done-less = omega arith
