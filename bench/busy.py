@@ -68,10 +68,11 @@ def one_round(width, height, watch=lambda step, tables: None):
     entered = gone = 0
     for step in range(STEPS):
         watch(step, tables)
-        lent = tables + [[0] * cells, [0] * faces, [0] * (4 * cells + faces)]
+        filled = [0] * cells, [0] * faces, [0] * (4 * cells + faces)
+        lent = dict(zip(lagoon.STEP_TABLES, (*tables, *filled, [0] * cells), strict=True))
         crossed = lagoon.step_on_tables(cells, faces, lent)
         entered, gone = entered + crossed[0], gone + crossed[1]
-        tables[5], moved = lent[8], lent[9]
+        tables[5], moved = lent[lagoon.NEXT], lent[lagoon.MOVED]
     return tables[5], moved, entered, gone
 
 def digest_of(numbers):

@@ -1,4 +1,4 @@
-/* A plain C host of document 01's records: unpacks mesh, field and step, packs the next field, tests nothing. */
+/* A plain C host of the documents' records: unpacks mesh, field and step, packs the next field, tests nothing. */
 #ifndef PLAIN_HOST_H
 #define PLAIN_HOST_H
 
@@ -8,7 +8,7 @@
 
 #include "plain_step.h"
 
-enum { HOST_CELLS = 1023, HOST_FACES = 2046, HEAD = 4, FIELD_HEAD = 2, RECORD = 16384 };
+enum { HOST_CELLS = 1023, HOST_FACES = 2046, HEAD = 4, FIELD_HEAD = 2, RECORD = 16384, OUTFALLS = 4 };
 
 /* A record and the bit that reading or writing has come to. */
 struct cursor {
@@ -38,10 +38,10 @@ static size_t whole_bytes(size_t bits) { return (bits + 7) / 8; }
 struct host {
   size_t cells, faces;
   uint64_t volumes[HOST_CELLS], firsts[HOST_FACES], seconds[HOST_FACES], shares[HOST_FACES], reaches[HOST_FACES];
-  uint64_t masses[HOST_CELLS], next[HOST_CELLS], outsides[HOST_FACES];
+  uint64_t masses[HOST_CELLS], next[HOST_CELLS], outsides[HOST_FACES], releases[HOST_CELLS];
   int64_t fluxes[HOST_FACES], moved[HOST_FACES], corrections[HOST_FACES];
   struct cell work[HOST_CELLS];
-  uint64_t in_mass, out_mass;
+  uint64_t in_mass, out_mass, released;
 };
 
 static void unpack_mesh(struct host *h, uint8_t *record) {
@@ -63,6 +63,8 @@ static void unpack_field(struct host *h, uint8_t *record) {
   for (size_t i = 0; i < h->cells; i++) h->masses[i] = get(&c, 32);
 }
 
+static unsigned kind_of(const uint8_t *record) { return record[0] >> 4; }
+
 static void unpack_step(struct host *h, uint8_t *record) {
   struct cursor c = {record, 8 * HEAD};
   for (size_t f = 0; f < h->faces; f++) {
@@ -71,6 +73,8 @@ static void unpack_step(struct host *h, uint8_t *record) {
     h->fluxes[f] = minus ? -size : size;
   }
   for (size_t f = 0; f < h->faces; f++) h->outsides[f] = h->seconds[f] == RIM ? get(&c, 20) : 0;
+  unsigned kind = kind_of(record);
+  for (size_t i = 0; i < h->cells; i++) h->releases[i] = kind == OUTFALLS ? get(&c, 32) : 0;
 }
 
 static void pack_field(const uint64_t *masses, size_t cells, uint8_t *record) {
@@ -82,9 +86,9 @@ static void pack_field(const uint64_t *masses, size_t cells, uint8_t *record) {
 }
 
 static void host_step(struct host *h) {
-  h->in_mass = h->out_mass = 0;
+  h->in_mass = h->out_mass = h->released = 0;
   step(h->cells, h->faces, h->volumes, h->firsts, h->seconds, h->shares, h->reaches, h->masses, h->fluxes, h->outsides,
-       h->next, h->moved, h->work, h->corrections, &h->in_mass, &h->out_mass);
+       h->releases, h->next, h->moved, h->work, h->corrections, &h->in_mass, &h->out_mass, &h->released);
 }
 
 #endif

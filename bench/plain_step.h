@@ -1,4 +1,4 @@
-/* The arithmetic of one step of document 01, with document 02's S-5, as plain C, with no test of its input. */
+/* The arithmetic of one step of document 01, with document 02's S-5 and S-6, as plain C, with no test of its input. */
 #ifndef PLAIN_STEP_H
 #define PLAIN_STEP_H
 
@@ -22,15 +22,18 @@ static inline uint64_t portion(uint64_t a, uint64_t g, uint64_t p) { return p <=
 static void step(size_t cells, size_t faces, const uint64_t *restrict volume, const uint64_t *restrict first,
                  const uint64_t *restrict second, const uint64_t *restrict share, const uint64_t *restrict reach,
                  const uint64_t *restrict mass, const int64_t *restrict flux, const uint64_t *restrict outside,
-                 uint64_t *restrict after, int64_t *restrict through, struct cell *restrict cell,
-                 int64_t *restrict correction, uint64_t *restrict in_mass, uint64_t *restrict out_mass) {
+                 const uint64_t *restrict release, uint64_t *restrict after, int64_t *restrict through,
+                 struct cell *restrict cell, int64_t *restrict correction, uint64_t *restrict in_mass,
+                 uint64_t *restrict out_mass, uint64_t *restrict released_mass) {
+  uint64_t in = 0, out = 0, released = 0;
   for (size_t c = 0; c < cells; c++) {
-    uint64_t q = (uint32_t)mass[c] / (uint32_t)volume[c]; /* masses fit 32 bits, which divide faster */
+    uint64_t raised = mass[c] + release[c];
+    uint64_t q = (uint32_t)raised / (uint32_t)volume[c]; /* raised masses fit 32 bits, which divide faster */
     cell[c].q_or_p = cell[c].lo_or_l = cell[c].hi_or_g = q;
-    after[c] = mass[c];
+    after[c] = raised;
+    released += release[c];
   }
 
-  uint64_t in = 0, out = 0;
   for (size_t f = 0; f < faces; f++) {
     int64_t u = flux[f];
     struct cell *a = &cell[first[f]];
@@ -67,6 +70,7 @@ static void step(size_t cells, size_t faces, const uint64_t *restrict volume, co
   }
   *in_mass += in;
   *out_mass += out;
+  *released_mass += released;
 
   for (size_t c = 0; c < cells; c++) {
     uint64_t v = volume[c], m = after[c];

@@ -125,14 +125,16 @@ static void run_session(void) {
   take(here, FIELD_HEAD + 4 * cells);
   unpack_field(&host, here);
   for (size_t f = 0; f < faces; f++) rims += host.seconds[f] == RIM;
-  size_t length = HEAD + whole_bytes(13 * faces + 20 * rims);
-  printf("0 0 0 %llu\n", (unsigned long long)total_of(host.masses, cells));
-  for (uint64_t number = 1; fread(water, 1, length, stdin) == length; number++) {
+  size_t body = whole_bytes(13 * faces + 20 * rims);
+  printf("0 0 0 %llu 0\n", (unsigned long long)total_of(host.masses, cells));
+  for (uint64_t number = 1; fread(water, 1, HEAD, stdin) == HEAD; number++) {
+    take(water + HEAD, body + (kind_of(water) == OUTFALLS ? 4 * cells : 0));
     unpack_step(&host, water);
     host_step(&host);
     memcpy(host.masses, host.next, cells * sizeof host.next[0]);
-    printf("%llu %llu %llu %llu\n", (unsigned long long)number, (unsigned long long)host.in_mass,
-           (unsigned long long)host.out_mass, (unsigned long long)total_of(host.masses, cells));
+    printf("%llu %llu %llu %llu %llu\n", (unsigned long long)number, (unsigned long long)host.in_mass,
+           (unsigned long long)host.out_mass, (unsigned long long)total_of(host.masses, cells),
+           (unsigned long long)host.released);
   }
 }
 

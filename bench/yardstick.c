@@ -9,7 +9,7 @@
 #include "plain_step.h"
 #include "synthetic.h"
 
-static uint64_t masses[CELLS], next[CELLS];
+static uint64_t masses[CELLS], next[CELLS], releases[CELLS]; /* the step is lent releases, and they are 0 */
 static int64_t moved[FACES], corrections[FACES];
 static struct cell work[CELLS];
 
@@ -24,13 +24,14 @@ static uint64_t digest_of(size_t cells, size_t faces) {
 }
 
 static void run(size_t cells, size_t faces, uint64_t rounds, uint64_t *in_mass, uint64_t *out_mass) {
+  uint64_t released = 0;
   for (uint64_t r = 0; r < rounds; r++) {
     for (size_t c = 0; c < cells; c++) masses[c] = field[c];
     for (int s = 0; s < STEPS; s += 2) {
-      step(cells, faces, volumes, firsts, seconds, shares, reaches, masses, fluxes, outsides, next, moved, work,
-           corrections, in_mass, out_mass);
-      step(cells, faces, volumes, firsts, seconds, shares, reaches, next, fluxes, outsides, masses, moved, work,
-           corrections, in_mass, out_mass);
+      step(cells, faces, volumes, firsts, seconds, shares, reaches, masses, fluxes, outsides, releases, next, moved, work,
+           corrections, in_mass, out_mass, &released);
+      step(cells, faces, volumes, firsts, seconds, shares, reaches, next, fluxes, outsides, releases, masses, moved, work,
+           corrections, in_mass, out_mass, &released);
     }
   }
 }

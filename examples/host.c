@@ -1,18 +1,19 @@
-/* A small host: the channel session of document 01. It steps a field in a loop, prints each field with its concentrations, its total and
- * the budget, then shows how a refusal is read. */
+/* A small host: the channel session of document 01, and a third step that releases brine into the second cell. It steps a field in a loop,
+ * prints each field with its concentrations, its total and the budget, then shows how a refusal is read. */
 #include <inttypes.h>
 #include <stdio.h>
 #include <string.h>
 
 #include "lagoon_records.h"
 
-enum { CELLS = 3, FACES = 4, RIM_FACES = 2, STEPS = 2 };
+enum { CELLS = 3, FACES = 4, RIM_FACES = 2, STEPS = 3, OUTFALL = 3 }; /* the third step releases */
 
 static const uint32_t volumes[CELLS] = {100, 100, 100};
 static const struct lagoon_face faces[FACES] = {{0, LAGOON_RIM, 0, 0}, {0, 1, 128, 100}, {1, 2, 128, 100}, {2, LAGOON_RIM, 0, 0}};
 static const uint32_t masses[CELLS] = {100000, 0, 0};
 static const int32_t fluxes[FACES] = {-50, 50, 50, 50};
 static const uint32_t outsides[FACES] = {1000, 0, 0, 0};
+static const uint32_t releases[CELLS] = {0, 20000, 0};
 
 static void print_field(unsigned step, const uint8_t *field)
 {
@@ -33,37 +34,46 @@ static void print_refusal(const char *why, uint64_t answer)
 
 int main(void)
 {
-    uint8_t mesh[LAGOON_MESH_BYTES(CELLS, FACES)], step[LAGOON_STEP_BYTES(FACES, RIM_FACES)];
+    uint8_t mesh[LAGOON_MESH_BYTES(CELLS, FACES)], water[LAGOON_STEP_BYTES(FACES, RIM_FACES)];
+    uint8_t outfall[LAGOON_OUTFALLS_BYTES(CELLS, FACES, RIM_FACES)];
     uint8_t field[LAGOON_FIELD_BYTES(CELLS)], next[LAGOON_FIELD_BYTES(CELLS)];
-    uint64_t answer, first, entered = 0, gone = 0;
+    uint64_t answer, first, entered = 0, gone = 0, released = 0;
 
     lagoon_put_mesh(mesh, CELLS, volumes, FACES, faces);
     lagoon_put_field(field, CELLS, masses);
-    lagoon_put_step(step, FACES, faces, fluxes, outsides);
+    lagoon_put_step(water, FACES, faces, fluxes, outsides);
+    lagoon_put_outfalls(outfall, CELLS, releases, FACES, faces, fluxes, outsides);
 
     first = lagoon_total(field, CELLS);
     print_field(0, field);
     for (unsigned n = 1; n <= STEPS; n++) {
-        uint64_t in_mass, out_mass;
-        answer = lagoon_step(mesh, sizeof mesh, field, sizeof field, step, sizeof step, next, sizeof next);
+        const uint8_t *step = n == OUTFALL ? outfall : water;
+        size_t length = n == OUTFALL ? sizeof outfall : sizeof water;
+        uint64_t in_mass, out_mass, released_mass;
+        answer = lagoon_step(mesh, sizeof mesh, field, sizeof field, step, length, next, sizeof next);
         if (answer != 0) {
             print_refusal("refused", answer);
             return 1;
         }
-        lagoon_crossing(mesh, field, step, &in_mass, &out_mass);
+        lagoon_crossing(mesh, field, step, &in_mass, &out_mass, &released_mass);
         entered += in_mass;
         gone += out_mass;
+        released += released_mass;
         memcpy(field, next, sizeof field);
         print_field(n, field);
     }
-    printf("budget: %" PRIu64 " + %" PRIu64 " - %" PRIu64 " = %" PRIu64 "\n", first, entered, gone, first + entered - gone);
+    printf("budget: %" PRIu64 " + %" PRIu64 " + %" PRIu64 " - %" PRIu64 " = %" PRIu64 "\n", first, entered, released, gone,
+           first + entered + released - gone);
 
-    answer = lagoon_step(mesh, sizeof mesh, field, sizeof field, step, sizeof step, next, sizeof next - 1);
+    answer = lagoon_step(mesh, sizeof mesh, field, sizeof field, water, sizeof water, next, sizeof next - 1);
     print_refusal("a byte too little for the next field", answer);
-    answer = lagoon_step(mesh, sizeof mesh, field, sizeof field - 1, step, sizeof step, next, sizeof next);
+    answer = lagoon_step(mesh, sizeof mesh, field, sizeof field - 1, water, sizeof water, next, sizeof next);
     print_refusal("a field record cut short", answer);
+    lagoon_put(outfall, lagoon_releases_at(mesh), LAGOON_MASS_BITS, 100000000);
+    answer = lagoon_step(mesh, sizeof mesh, field, sizeof field, outfall, sizeof outfall, next, sizeof next);
+    print_refusal("too much brine for a cell", answer);
     field[2] = 0xff;
-    answer = lagoon_step(mesh, sizeof mesh, field, sizeof field, step, sizeof step, next, sizeof next);
+    answer = lagoon_step(mesh, sizeof mesh, field, sizeof field, water, sizeof water, next, sizeof next);
     print_refusal("too much salt in a cell", answer);
     return 0;
 }

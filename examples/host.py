@@ -1,5 +1,6 @@
 #!/usr/bin/env python3
-"""The call from Python: the channel session of document 01, stepped through target/lib/liblagoon.so (`make lib`).
+"""The call from Python: the channel session of document 01, and a third step of kind 4, which releases 20,000 into the second
+cell; stepped through target/lib/liblagoon.so (`make lib`).
 
     examples/host.py [LIBRARY]
 """
@@ -9,6 +10,7 @@ import sys
 MESH = bytes.fromhex("1003 0020 0640 6406 4000 fff0 0000 0000 0180 0640 0100 2800 6400 2fff 0000 00")
 FIELD = bytes.fromhex("2003 000186a0 00000000 00000000")
 STEP = bytes.fromhex("3002 0000 8190 0c80 6403 2003 e800 0000")
+OUTFALL = bytes.fromhex("4002 0000 8190 0c80 6403 2003 e800 0000 0000 0000 0004 e200 0000 0000")
 
 library = ctypes.CDLL(sys.argv[1] if len(sys.argv) > 1 else "target/lib/liblagoon.so")
 library.lagoon_step.restype = ctypes.c_uint64
@@ -28,7 +30,7 @@ def masses(field):
 
 field = FIELD
 print("step 0:", *masses(field))
-for number in (1, 2):
-    field = step(MESH, field, STEP)
+for number, water in enumerate((STEP, STEP, OUTFALL), 1):
+    field = step(MESH, field, water)
     print(f"step {number}:", *masses(field))
 print("a field record cut short: cause {}, place {}".format(*step(MESH, field[:-1], STEP)))

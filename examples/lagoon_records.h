@@ -80,11 +80,11 @@ static inline size_t lagoon_put_field(uint8_t *record, size_t cells, const uint3
     return at / 8;
 }
 
-/* The step record; record has LAGOON_STEP_BYTES(faces, rim faces) bytes. outsides has an entry for each face. */
-static inline size_t lagoon_put_step(uint8_t *record, size_t faces, const struct lagoon_face *face, const int32_t *fluxes,
-                                     const uint32_t *outsides)
+/* The head of a step record of either kind, its fluxes and its outside values. Answers the bit after them. */
+static inline size_t lagoon_put_water(uint8_t *record, enum lagoon_kind kind, size_t faces, const struct lagoon_face *face,
+                                      const int32_t *fluxes, const uint32_t *outsides)
 {
-    size_t at = lagoon_put(record, 0, LAGOON_KIND_BITS, LAGOON_STEP);
+    size_t at = lagoon_put(record, 0, LAGOON_KIND_BITS, (uint32_t)kind);
     at = lagoon_put(record, at, LAGOON_FACES_BITS, (uint32_t)faces);
     at = lagoon_put(record, at, (unsigned)(LAGOON_STEP_HEAD - at), 0);
     for (size_t f = 0; f < faces; f++) {
@@ -94,6 +94,23 @@ static inline size_t lagoon_put_step(uint8_t *record, size_t faces, const struct
     for (size_t f = 0; f < faces; f++)
         if (face[f].second == LAGOON_RIM)
             at = lagoon_put(record, at, LAGOON_OUTSIDE_BITS, outsides[f]);
+    return at;
+}
+
+/* The step record without releases, kind 3; record has LAGOON_STEP_BYTES(faces, rim faces) bytes. outsides has an entry for each face. */
+static inline size_t lagoon_put_step(uint8_t *record, size_t faces, const struct lagoon_face *face, const int32_t *fluxes,
+                                     const uint32_t *outsides)
+{
+    return lagoon_pad(record, lagoon_put_water(record, LAGOON_STEP, faces, face, fluxes, outsides));
+}
+
+/* The step record with a release for each cell, kind 4; record has LAGOON_OUTFALLS_BYTES(cells, faces, rim faces) bytes. */
+static inline size_t lagoon_put_outfalls(uint8_t *record, size_t cells, const uint32_t *releases, size_t faces,
+                                         const struct lagoon_face *face, const int32_t *fluxes, const uint32_t *outsides)
+{
+    size_t at = lagoon_put_water(record, LAGOON_OUTFALLS, faces, face, fluxes, outsides);
+    for (size_t c = 0; c < cells; c++)
+        at = lagoon_put(record, at, LAGOON_MASS_BITS, releases[c]);
     return lagoon_pad(record, at);
 }
 
@@ -144,20 +161,43 @@ static inline int32_t lagoon_flux(const uint8_t *step, size_t face)
     return lagoon_get(step, at, 1) ? -size : size;
 }
 
-/* In-mass and out-mass of a step that was accepted; field is the one before the step. */
-static inline void lagoon_crossing(const uint8_t *mesh, const uint8_t *field, const uint8_t *step, uint64_t *in_mass, uint64_t *out_mass)
+/* The bit at which the releases of a step record of kind 4 begin. */
+static inline size_t lagoon_releases_at(const uint8_t *mesh)
 {
-    size_t faces = lagoon_faces(mesh), outside = LAGOON_STEP_HEAD + LAGOON_FLUX_BITS * faces;
-    *in_mass = *out_mass = 0;
+    size_t faces = lagoon_faces(mesh), at = LAGOON_STEP_HEAD + LAGOON_FLUX_BITS * faces;
+    for (size_t f = 0; f < faces; f++)
+        if (lagoon_face_of(mesh, f).second == LAGOON_RIM)
+            at += LAGOON_OUTSIDE_BITS;
+    return at;
+}
+
+/* The release into a cell, 0 in kind 3; releases is the bit at which they begin. */
+static inline uint32_t lagoon_release(const uint8_t *step, size_t releases, size_t cell)
+{
+    if (lagoon_get(step, 0, LAGOON_KIND_BITS) != LAGOON_OUTFALLS)
+        return 0;
+    return lagoon_get(step, releases + LAGOON_MASS_BITS * cell, LAGOON_MASS_BITS);
+}
+
+/* In-mass, out-mass and released mass of a step that was accepted; field is the one before the step. */
+static inline void lagoon_crossing(const uint8_t *mesh, const uint8_t *field, const uint8_t *step, uint64_t *in_mass, uint64_t *out_mass,
+                                   uint64_t *released)
+{
+    size_t faces = lagoon_faces(mesh), outside = LAGOON_STEP_HEAD + LAGOON_FLUX_BITS * faces, releases = lagoon_releases_at(mesh);
+    *in_mass = *out_mass = *released = 0;
+    for (size_t c = 0; c < lagoon_cells(mesh); c++)
+        *released += lagoon_release(step, releases, c);
     for (size_t f = 0; f < faces; f++) {
         struct lagoon_face face = lagoon_face_of(mesh, f);
         int32_t flux = lagoon_flux(step, f);
         if (face.second != LAGOON_RIM)
             continue;
-        if (flux < 0)
+        if (flux < 0) {
             *in_mass += (uint64_t)-flux * lagoon_get(step, outside, LAGOON_OUTSIDE_BITS);
-        else
-            *out_mass += (uint64_t)flux * (lagoon_mass(field, face.first) / lagoon_volume(mesh, face.first));
+        } else {
+            uint64_t raised = (uint64_t)lagoon_mass(field, face.first) + lagoon_release(step, releases, face.first);
+            *out_mass += (uint64_t)flux * (raised / lagoon_volume(mesh, face.first));
+        }
         outside += LAGOON_OUTSIDE_BITS;
     }
 }
@@ -180,6 +220,7 @@ static inline const char *lagoon_cause_text(uint32_t cause)
     case LAGOON_LENGTH: return "record of the wrong length";
     case LAGOON_BIT: return "a zero bit is set, or a minus has size 0";
     case LAGOON_HEAD: return "kind or count of a record other than expected";
+    case LAGOON_RELEASE: return "concentration above its ceiling with the release";
     default: return "no cause of this library";
     }
 }

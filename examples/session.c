@@ -7,7 +7,8 @@
 
 #include "lagoon_records.h"
 
-static uint8_t mesh[LAGOON_MESH_BYTES(LAGOON_MAX_CELLS, LAGOON_MAX_FACES)], step[LAGOON_STEP_BYTES(LAGOON_MAX_FACES, LAGOON_MAX_FACES)];
+static uint8_t mesh[LAGOON_MESH_BYTES(LAGOON_MAX_CELLS, LAGOON_MAX_FACES)];
+static uint8_t step[LAGOON_OUTFALLS_BYTES(LAGOON_MAX_CELLS, LAGOON_MAX_FACES, LAGOON_MAX_FACES)];
 static uint8_t field[LAGOON_FIELD_BYTES(LAGOON_MAX_CELLS)], next[LAGOON_FIELD_BYTES(LAGOON_MAX_CELLS)];
 
 static uint64_t refusal(uint32_t cause, uint32_t place)
@@ -46,15 +47,18 @@ static uint64_t read_field(size_t cells)
     return read_rest(field, 2, LAGOON_FIELD_BYTES(cells));
 }
 
-static uint64_t read_step(size_t got, size_t faces, size_t length)
+static uint64_t read_step(size_t got, size_t cells, size_t faces, size_t rims, size_t *length)
 {
+    uint32_t kind;
     if (got < 4)
         return refusal(LAGOON_LENGTH, 0);
-    if (lagoon_get(step, 0, LAGOON_KIND_BITS) != LAGOON_STEP)
+    kind = lagoon_get(step, 0, LAGOON_KIND_BITS);
+    if (kind != LAGOON_STEP && kind != LAGOON_OUTFALLS)
         return refusal(LAGOON_HEAD, 0);
     if (lagoon_get(step, LAGOON_KIND_BITS, LAGOON_FACES_BITS) != faces)
         return refusal(LAGOON_HEAD, 1);
-    return read_rest(step, 4, length);
+    *length = kind == LAGOON_STEP ? LAGOON_STEP_BYTES(faces, rims) : LAGOON_OUTFALLS_BYTES(cells, faces, rims);
+    return read_rest(step, 4, *length);
 }
 
 static int print_refused(char letter, uint64_t answer)
@@ -91,27 +95,35 @@ static void print_board(size_t cells)
     }
 }
 
+/* What all accepted steps brought in, released and took out. */
+struct budget {
+    uint64_t entered, released, gone;
+};
+
 /* Takes the steps until no byte is left, or one is refused by 11 or 13. */
-static void take_steps(size_t mesh_length, size_t cells, size_t faces, size_t step_length, uint64_t *entered, uint64_t *gone)
+static struct budget take_steps(size_t mesh_length, size_t cells, size_t faces, size_t rims)
 {
-    size_t field_length = LAGOON_FIELD_BYTES(cells), got;
+    struct budget all = {0, 0, 0};
+    size_t field_length = LAGOON_FIELD_BYTES(cells), step_length = 0, got;
     for (uint64_t n = 1; (got = fread(step, 1, 4, stdin)) > 0; n++) {
-        uint64_t in_mass, out_mass, answer = read_step(got, faces, step_length);
+        uint64_t in_mass, out_mass, released, answer = read_step(got, cells, faces, rims, &step_length);
         int ends = answer != 0;
         if (!ends)
             answer = lagoon_step(mesh, mesh_length, field, field_length, step, step_length, next, field_length);
         if (answer != 0) {
             printf("%" PRIu64 " R %" PRIu32 " %" PRIu32 "\n", n, LAGOON_CAUSE(answer), LAGOON_PLACE(answer));
             if (ends)
-                return;
+                return all;
             continue;
         }
-        lagoon_crossing(mesh, field, step, &in_mass, &out_mass);
-        *entered += in_mass;
-        *gone += out_mass;
+        lagoon_crossing(mesh, field, step, &in_mass, &out_mass, &released);
+        all.entered += in_mass;
+        all.released += released;
+        all.gone += out_mass;
         memcpy(field, next, field_length);
-        printf("%" PRIu64 " %" PRIu64 " %" PRIu64 " %" PRIu64 "\n", n, in_mass, out_mass, lagoon_total(field, cells));
+        printf("%" PRIu64 " %" PRIu64 " %" PRIu64 " %" PRIu64 " %" PRIu64 "\n", n, in_mass, out_mass, lagoon_total(field, cells), released);
     }
+    return all;
 }
 
 static int write_field(const char *name, size_t length)
@@ -127,7 +139,8 @@ static int write_field(const char *name, size_t length)
 int main(int count, char **words)
 {
     size_t mesh_length = 0, cells, faces, rims = 0;
-    uint64_t first, last, entered = 0, gone = 0, answer = read_mesh(&mesh_length);
+    uint64_t first, last, answer = read_mesh(&mesh_length);
+    struct budget all;
     if (answer != 0)
         return print_refused('M', answer);
     cells = lagoon_cells(mesh);
@@ -145,12 +158,12 @@ int main(int count, char **words)
     for (size_t f = 0; f < faces; f++)
         rims += lagoon_face_of(mesh, f).second == LAGOON_RIM;
     first = lagoon_total(field, cells);
-    printf("0 0 0 %" PRIu64 "\n", first);
-    take_steps(mesh_length, cells, faces, LAGOON_STEP_BYTES(faces, rims), &entered, &gone);
+    printf("0 0 0 %" PRIu64 " 0\n", first);
+    all = take_steps(mesh_length, cells, faces, rims);
     print_board(cells);
     last = lagoon_total(field, cells);
-    fprintf(stderr, "budget: first total %" PRIu64 " + in %" PRIu64 " - out %" PRIu64 " = %" PRIu64 ", last total %" PRIu64 "\n", first, entered,
-            gone, first + entered - gone, last);
+    fprintf(stderr, "budget: first total %" PRIu64 " + in %" PRIu64 " + released %" PRIu64 " - out %" PRIu64, first, all.entered, all.released, all.gone);
+    fprintf(stderr, " = %" PRIu64 ", last total %" PRIu64 "\n", first + all.entered + all.released - all.gone, last);
     if (fflush(stdout) != 0 || ferror(stdin)) {
         perror("session");
         return 1;

@@ -37,17 +37,20 @@ extern "C" {
  *   mesh   kind 1 (4), cells (12), faces (13), zeros (3); per cell its volume (12);
  *          then per face first cell (12), second cell or LAGOON_RIM (12), share (8), reach (12); at the rim share and reach are 0
  *   field  kind 2 (4), cells (12); per cell its mass (32)
- *   step   kind 3 (4), faces (13), zeros (15); per face sign (1 is minus) and size of its flux (12);
- *          then per rim face, in face order, its outside concentration (20), 0 where its flux is not below 0
+ *   step   kind 3 or 4 (4), faces (13), zeros (15); per face sign (1 is minus) and size of its flux (12);
+ *          then per rim face, in face order, its outside concentration (20), 0 where its flux is not below 0;
+ *          then, in kind 4 only, per cell the mass released into it (32), at once after the last outside value
  *
  * A flux is the volume that passes a face in the step, positive from first to second cell, outward at the rim; a flux of 0 has sign 0.
+ * Releases are added first, and the step starts from the raised masses. Steps of both kinds may follow each other in any order.
  * One cell of volume 100 and no face is 10 01 00 00 06 40; its field with mass 99 is 20 01 00 00 00 63. */
-enum lagoon_kind { LAGOON_MESH = 1, LAGOON_FIELD = 2, LAGOON_STEP = 3 };
+enum lagoon_kind { LAGOON_MESH = 1, LAGOON_FIELD = 2, LAGOON_STEP = 3, LAGOON_OUTFALLS = 4 };
 
 /* Lengths of records in bytes. They are expressions, no preprocessor constants: an array takes them, #if does not. */
 #define LAGOON_MESH_BYTES(cells, faces) ((32 + 12 * (size_t)(cells) + 44 * (size_t)(faces) + 7) / 8)
 #define LAGOON_FIELD_BYTES(cells) ((16 + 32 * (size_t)(cells)) / 8)
 #define LAGOON_STEP_BYTES(faces, rim_faces) ((32 + 13 * (size_t)(faces) + 20 * (size_t)(rim_faces) + 7) / 8)
+#define LAGOON_OUTFALLS_BYTES(cells, faces, rim_faces) (LAGOON_STEP_BYTES(faces, rim_faces) + 4 * (size_t)(cells))
 
 /* Why a record or a step is refused, and what the place then is. */
 enum lagoon_cause {
@@ -63,7 +66,8 @@ enum lagoon_cause {
     LAGOON_OUTFLOW = 10,      /* more leaves a cell than its volume; place: the cell */
     LAGOON_LENGTH = 11,       /* a record of the wrong length; place 0 */
     LAGOON_BIT = 12,          /* a zero bit that is set, or a minus with size 0; place: the first such bit of its record, from 0 */
-    LAGOON_HEAD = 13          /* a kind or count other than expected; place 0 for the kind, 1 for the count */
+    LAGOON_HEAD = 13,         /* a kind or count other than expected; place 0 for the kind, 1 for the count */
+    LAGOON_RELEASE = 18       /* mass and release of a cell, divided by its volume, above 1,000,000; place: the cell */
 };
 
 /* An answer taken apart. Both are 0 after an accepted step. */
@@ -88,11 +92,13 @@ enum lagoon_cause {
  * Else the answer is 4,294,967,296 times the cause plus the place, and every byte of next is as it was.
  *
  * The mesh record is tested first, then the field, then the step record with the water in it, then the room. The first that is
- * refused gives the answer. Within a record the order is 11 for less than a head, 13, 1, 11, 12, then the lowest of 3 to 10.
+ * refused gives the answer. Within a record the order is 11 for less than a head, 13, 1, 11, 12, then 18, then the lowest of 3 to 10.
  *
- * The call gives no in-mass and out-mass. They follow from the records: the in-mass is the sum, over rim faces with a flux below 0, of
- * its size times the outside value; the out-mass, over rim faces with a flux above 0, of the flux times the concentration (mass divided
- * by volume, rounded down) of the first cell before the step. lagoon_crossing of examples/lagoon_records.h works them out.
+ * The call gives no in-mass, out-mass and released mass. They follow from the records: the in-mass is the sum, over rim faces with a flux
+ * below 0, of its size times the outside value; the out-mass, over rim faces with a flux above 0, of the flux times the concentration
+ * (mass and release divided by volume, rounded down) of the first cell before the step; the released mass is the sum of the releases.
+ * The total after the step is the one before it + in-mass + released mass - out-mass. lagoon_crossing of examples/lagoon_records.h works
+ * them out.
  *
  * The call allocates nothing, keeps no state and always returns. Several threads may call it at once, each with a next of its own; the
  * records are only read and may be shared.

@@ -27,7 +27,7 @@ import generate
 import generate_script
 import script
 import shrink
-from slips import ANSWER_SLIPS, SLIPS
+from slips import ANSWER_SLIPS, RUN_SLIPS, SLIPS
 
 BLOCK = 20              # sessions, and as many calls and scripts, that one process compares at a time
 WAVE = 400              # sessions of one seed in a soak
@@ -40,13 +40,13 @@ SHOWN = 300             # characters of a line that differs
 # Causes that the run can meet, per record; 13 and a mesh's 1 with their places.
 REACHABLE = ["M 11", "M 13/0", "M 1/0", "M 1/1", "M 12", "M 3", "M 4", "M 5",
              "F 11", "F 13/0", "F 13/1", "F 6",
-             "R 11", "R 13/0", "R 13/1", "R 12", "R 7", "R 8", "R 9", "R 10"]
+             "R 11", "R 13/0", "R 13/1", "R 12", "R 18", "R 7", "R 8", "R 9", "R 10"]
 CALL_REACHABLE = REACHABLE + ["N 2/11"]         # N: the bytes lent for the next field
 
 # Causes that each call of a script can meet, 1, 2 and 13 with their places.
 COUNTS, MESH = "1/0 1/1", "2/0 2/1 2/2 2/3 2/4"
 CELLS = "1/0 2/0 2/5 3 6"
-STEP = f"{COUNTS} {MESH} 2/5 2/6 2/7 2/8 2/9 2/10 3 4 5 6 7 8 9 10"
+STEP = f"{COUNTS} {MESH} 2/5 2/6 2/7 2/8 2/9 2/10 2/14 3 4 5 6 18 7 8 9 10"
 SCRIPT_CAUSES = {
     "counts_within": COUNTS,
     "check_mesh": f"{COUNTS} {MESH} 3 4 5",
@@ -57,19 +57,19 @@ SCRIPT_CAUSES = {
     "step": STEP,
     "mesh_length": f"11 13/0 {COUNTS}",
     "field_length": "11 13/0 13/1 1/0",
-    "step_length": "11 13/0 13/1 1/1 2/2",
+    "step_length": "11 13/0 13/1 1/0 1/1 2/2",
     "read_mesh": f"11 13/0 {COUNTS} {MESH} 12",
     "read_field": "11 13/0 13/1 1/0 2/5",
-    "read_step": "11 13/0 13/1 1/1 2/2 2/6 2/7 12",
+    "read_step": "11 13/0 13/1 1/0 1/1 2/2 2/6 2/7 2/14 12",
     "write_mesh": f"{COUNTS} {MESH} 2/11 3 4 5",
     "write_field": f"{COUNTS} {MESH} 2/5 2/11 3 4 5 6",
-    "write_step": f"{COUNTS} {MESH} 2/6 2/7 2/11 3 4 5 7 8",
+    "write_step": f"{COUNTS} {MESH} 2/6 2/7 2/11 2/14 3 4 5 18 7 8",
     "number_at": "past",
     "board": CELLS,
-    "lagoon_step": "11 13/0 13/1 1/0 1/1 12 3 4 5 6 7 8 9 10 2/11",
+    "lagoon_step": "11 13/0 13/1 1/0 1/1 12 3 4 5 6 18 7 8 9 10 2/11",
     "take_mesh": f"11 13/0 {COUNTS} {MESH} 12 3 4 5",
     "take_field": "11 13/0 13/1 1/0 2/0 2/5 3 6",
-    "take_step": f"11 13/0 13/1 1/0 1/1 {MESH} 2/5 2/6 2/8 12 3 4 5 6 7 8 9 10",
+    "take_step": f"11 13/0 13/1 1/0 1/1 {MESH} 2/5 2/6 2/14 12 3 4 5 6 18 7 8 9 10",
     "page": "1/0 2/0 2/5 2/12 3 6 14",
     "keep": "1/0 2/0 2/5 2/13 3 6 13/1 15 16",
     "drop": "1/0 2/13 13/1 17",
@@ -199,7 +199,7 @@ class Sides:
     def __init__(self, run, calls, calls_program, slip=None):
         self.reference = engines.load(HERE / "lagoon.py", "reference_lagoon")
         if slip:
-            {**SLIPS, **ANSWER_SLIPS}[slip](self.reference)
+            {**SLIPS, **RUN_SLIPS, **ANSWER_SLIPS}[slip](self.reference)
         self.run_path, self.run = run, run and engines.run_program(run)
         self.drivers = {path: engines.driver(path) for path in calls}
         self.script_path, self.script = calls_program, calls_program and engines.script_program(calls_program)
@@ -319,8 +319,9 @@ def see_slip(task):
 
 
 def see_slips(run, calls, calls_program, seed, jobs):
-    """True where every slip was seen through every program; those of the answers show in scripts."""
+    """True where every slip was seen through every program; those of a run show in sessions, those of the answers in scripts."""
     tasks = [(slip, run, calls, calls_program, seed) for slip in SLIPS]
+    tasks += [(slip, run, [], None, seed) for slip in RUN_SLIPS if run]
     tasks += [(slip, None, [], calls_program, seed) for slip in ANSWER_SLIPS if calls_program]
     all_seen = True
     with Pool(jobs) as pool:
@@ -409,7 +410,7 @@ def arguments():
     parser.add_argument("--soak", type=float, metavar="SECONDS", help="go on with fresh seeds for this time")
     parser.add_argument("--keep", type=Path, metavar="FOLDER", default=HERE.parent / "target" / "mismatch",
                         help="where a mismatch is kept (target/mismatch)")
-    parser.add_argument("--slip", choices=[*SLIPS, *ANSWER_SLIPS], help="make the reference wrong in one figure")
+    parser.add_argument("--slip", choices=[*SLIPS, *RUN_SLIPS, *ANSWER_SLIPS], help="make the reference wrong in one figure")
     parser.add_argument("--slips", action="store_true", help="each slip in turn has to be seen")
     options = parser.parse_args()
     if not options.run and not options.call and not options.script:

@@ -45,23 +45,25 @@ class RawField:
 
 
 class RawStep:
-    """Signs and sizes stand apart, so that minus 0 can be written; outsides holds one value per face."""
+    """Signs and sizes stand apart, so that minus 0 can be written; outsides holds one value per face. With releases it is of kind 4."""
 
-    def __init__(self, rims, fluxes, outsides):
-        self.kind, self.count, self.zeros, self.padding = 3, len(fluxes), 0, 0
+    def __init__(self, rims, fluxes, outsides, releases):
+        self.kind, self.count, self.zeros, self.padding = 3 if releases is None else 4, len(fluxes), 0, 0
         self.rims = rims
+        self.releases = list(releases or [])
         self.signs, self.sizes = [int(U < 0) for U in fluxes], [abs(U) for U in fluxes]
         self.outsides = list(outsides)
         self.cut, self.tail = None, b""
 
     def bits(self):
-        return 32 + 13 * len(self.sizes) + 20 * len(self.rims)
+        return 32 + 13 * len(self.sizes) + 20 * len(self.rims) + 32 * len(self.releases)
 
     def bytes(self):
         values = [(self.kind, 4), (self.count, 13), (self.zeros, 15)]
         for sign, size in zip(self.signs, self.sizes):
             values += [(sign, 1), (size, 12)]
-        return finish(values + [(self.outsides[face], 20) for face in self.rims], self)
+        values += [(self.outsides[face], 20) for face in self.rims]
+        return finish(values + [(release, 32) for release in self.releases], self)
 
 
 def finish(values, raw):
@@ -256,9 +258,22 @@ class Lagoon:
     def raw_field(self):
         return RawField(self.masses)
 
+    def releases(self, rng):
+        """A release per cell, or none at all. After steps the field is another, so a room that this one leaves may be gone."""
+        style = rng.choice(["none"] * 6 + ["zero"] + ["small"] * 4 + ["room", "ends", "one"])
+        if style == "none":
+            return None
+        rooms = [V * (TOP + 1) - 1 - m for V, m in zip(self.volumes, self.masses)]
+        values = [{"zero": 0, "small": rng.randint(0, 3 * V), "room": rng.randint(0, room), "one": 0,
+                   "ends": rng.choice([0, 0, 1, V - 1, room])}[style] for V, room in zip(self.volumes, rooms)]
+        if style == "one":
+            cell = rng.randrange(len(rooms))
+            values[cell] = rng.choice([rooms[cell], rng.randint(0, rooms[cell])])
+        return [min(value, room) for value, room in zip(values, rooms)]
+
     def raw_step(self, rng, excess=0):
         fluxes = self.flow(rng, excess)
-        return RawStep(self.rims, fluxes, self.outsides(rng, fluxes))
+        return RawStep(self.rims, fluxes, self.outsides(rng, fluxes), self.releases(rng))
 
 
 # Cells, most faces and least faces of lagoons at the run's limits, taken in turn.
@@ -409,7 +424,11 @@ def step_body_cut(rng, lag, raw):
     raw.cut = rng.choice([4, length - 1, rng.randint(4, length - 1)])
 
 def step_kind(rng, lag, raw):
-    raw.kind = rng.choice([0, 1, 2, rng.randint(4, 15)])
+    raw.kind = rng.choice([0, 1, 2, 5, rng.randint(5, 15)])
+
+def step_other_kind(rng, lag, raw):
+    """Releases after kind 3, or none after kind 4."""
+    raw.kind = 7 - raw.kind
 
 def step_count(rng, lag, raw):
     count = raw.count
@@ -437,6 +456,13 @@ def set_outside(rng, raw, wanted, value):
         return False
     raw.outsides[rng.choice(faces)] = value
     return True
+
+def step_release_above(rng, lag, raw):
+    """A release that brings q past its ceiling, by one or by more."""
+    cell = rng.randrange(len(lag.volumes))
+    room = lag.volumes[cell] * (TOP + 1) - 1 - lag.masses[cell]
+    raw.kind, raw.releases = 4, raw.releases or [0] * len(lag.volumes)
+    raw.releases[cell] = rng.choice([room + 1, room + 1, (1 << 32) - 1, rng.randint(room + 1, (1 << 32) - 1)])
 
 def step_outside_above(rng, lag, raw):
     value = rng.choice([TOP + 1, (1 << 20) - 1, rng.randint(TOP + 1, (1 << 20) - 1)])
@@ -494,7 +520,7 @@ def damages(prefix):
 
 MESH_DAMAGE, FIELD_DAMAGE, STEP_DAMAGE = damages("mesh_"), damages("field_"), damages("step_")
 ALL_DAMAGE = MESH_DAMAGE + FIELD_DAMAGE + STEP_DAMAGE
-SKIPPED = [f for f in STEP_DAMAGE if not f.__name__.endswith("cut") and f not in (step_kind, step_count)]
+SKIPPED = [f for f in STEP_DAMAGE if not f.__name__.endswith("cut") and f not in (step_kind, step_other_kind, step_count)]
 
 
 def flip_bits(rng, data):

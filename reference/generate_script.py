@@ -13,9 +13,8 @@ from collections import Counter, namedtuple
 
 import generate
 import lagoon
-from lagoon import FLUXES, MASSES, MOVED, NEXT, OUTSIDES, RIM, SECONDS, TOP, VOLUMES, WORK
-from script import CALLS, Engine, answered, spell
-from script import CALLS, pattern, spell
+from lagoon import FLUXES, MASSES, MOVED, NEXT, OUTFALLS, OUTSIDES, RELEASES, RIM, SECONDS, STEP_TABLES, TOP, VOLUMES, WATER, WORK
+from script import CALLS, Engine, answered, pattern, spell
 
 Script = namedtuple("Script", "kinds text")
 
@@ -40,6 +39,7 @@ EDGES = {
     NEXT: [7, GREATEST],
     MOVED: [-7, LEAST, MOST],
     WORK: [7, GREATEST],
+    RELEASES: [0, 1, (1 << 32) - 1, 1 << 32, GREATEST - 1, GREATEST],
 }
 
 
@@ -54,7 +54,7 @@ def pick_size(rng, large):
 
 
 class Lent:
-    """Counts and the eleven tables of a step, valid until damaged."""
+    """Counts and the tables of a step by position, valid until damaged."""
 
     def __init__(self, rng, large=False):
         self.rng = rng
@@ -63,13 +63,14 @@ class Lent:
         columns = [[row[i] for row in self.lag.faces] for i in range(4)]
         raw = self.lag.raw_step(rng)
         fluxes = [-size if sign else size for sign, size in zip(raw.signs, raw.sizes)]
-        self.tables = [list(self.lag.volumes), *columns, list(self.lag.masses), fluxes, list(raw.outsides),
-                       [7] * self.cells, [-7] * self.faces, [7] * (4 * self.cells + self.faces)]
+        lent = (list(self.lag.volumes), *columns, list(self.lag.masses), fluxes, list(raw.outsides),
+                [7] * self.cells, [-7] * self.faces, [7] * (4 * self.cells + self.faces), raw.releases or [0] * self.cells)
+        self.tables = dict(zip(STEP_TABLES, lent, strict=True))
 
     def need(self, position):
         if position == WORK:
             return 4 * self.cells + self.faces
-        return self.cells if position in (VOLUMES, MASSES, NEXT) else self.faces
+        return self.cells if position in (VOLUMES, MASSES, NEXT, RELEASES) else self.faces
 
     def damage(self, positions, kinds):
         """One damage to the tables at these positions, or to the counts."""
@@ -102,6 +103,9 @@ class Lent:
         i = rng.randrange(len(table))
         if position == MASSES and i < len(mesh[VOLUMES]):
             table[i] = mesh[VOLUMES][i] * (TOP + 1) - rng.randint(0, 1)
+        elif position == RELEASES and i < min(len(mesh[VOLUMES]), len(mesh[MASSES])):
+            room = mesh[VOLUMES][i] * (TOP + 1) - mesh[MASSES][i]
+            table[i] = rng.choice([max(0, room - 1), max(0, room), GREATEST + 1 - max(1, mesh[MASSES][i])])
         elif position == FLUXES and i < min(len(mesh[SECONDS]), len(mesh[4])):
             most = 4095 if mesh[SECONDS][i] == RIM else mesh[4][i]
             table[i] = rng.choice([-1, 1]) * (most + rng.randint(0, 1))
@@ -180,6 +184,21 @@ def room_for(rng, need, kinds):
     return [0xA5] * {"enough": need, "more": need + rng.randint(1, 9), "short by one": max(0, need - 1),
                      "short": rng.randrange(need + 1), "none": 0}[room]
 
+def write_step(rng, large, kinds):
+    lent = tables_for(rng, (*MESH_TABLES, FLUXES, OUTSIDES, RELEASES), large, kinds)
+    kind = rng.choice([WATER, WATER, OUTFALLS, OUTFALLS, OUTFALLS])
+    if kind == WATER and rng.random() < 0.8:
+        lent.tables[RELEASES] = [0] * len(lent.tables[RELEASES])
+    if rng.random() < 0.2:
+        lent = Lent(rng)
+        lent.tables[RELEASES][rng.randrange(lent.cells)] = rng.choice(EDGES[RELEASES])
+        kinds.append("release at an edge")
+    kinds.append(f"written as kind {kind}")
+    need = lagoon.step_length(kind, lent.cells, lent.faces, lent.tables[SECONDS])
+    room = room_for(rng, need if need <= 60_000 else 64, kinds)
+    return (kind, lent.cells, lent.faces, *(lent.tables[position] for position in (*MESH_TABLES, FLUXES, OUTSIDES)), room,
+            lent.tables[RELEASES])
+
 def writer(positions, length):
     def make(rng, large, kinds):
         lent = tables_for(rng, positions, large, kinds)
@@ -250,11 +269,14 @@ def read_field(rng, large, kinds):
 
 def step_of(rng, large, kinds):
     lag, _, _, step = raw_records(rng, large, kinds, generate.STEP_DAMAGE)
-    faces, seconds = len(lag.faces), [row[1] for row in lag.faces]
+    cells, faces, seconds = len(lag.volumes), len(lag.faces), [row[1] for row in lag.faces]
     if rng.random() < 0.1:
         step.count = faces = FACES + 1
     elif rng.random() < 0.1:
         faces = rng.choice(COUNTS + [faces + 1])
+    if rng.random() < 0.1:
+        cells = rng.choice(COUNTS + [cells + 1])
+    kinds.append(f"kind {step.kind}")
     change = rng.choice(["none", "none", "none", "longer", "short", "other"])
     if change == "longer":
         seconds += [rng.choice(EDGES[SECONDS])]
@@ -263,15 +285,17 @@ def step_of(rng, large, kinds):
     elif change == "other" and seconds:
         seconds[rng.randrange(len(seconds))] = rng.choice([RIM, 0, GREATEST])
     kinds.append("seconds " + change)
-    return faces, seconds, step.bytes(), len(lag.faces)
+    return (cells, faces, seconds), step.bytes(), lag
 
 def step_length(rng, large, kinds):
-    faces, seconds, record, _ = step_of(rng, False, kinds)
-    return faces, seconds, spoilt(rng, record[:rng.choice([4, 4, 5, len(record)])])
+    expected, record, _ = step_of(rng, False, kinds)
+    return *expected, spoilt(rng, record[:rng.choice([4, 4, 5, len(record)])])
 
 def read_step(rng, large, kinds):
-    faces, seconds, record, need = step_of(rng, large, kinds)
-    return faces, seconds, spoilt(rng, record), filled(rng, need, -7, kinds), filled(rng, need, 7, kinds)
+    expected, record, lag = step_of(rng, large, kinds)
+    needs = ((len(lag.faces), -7), (len(lag.faces), 7), (len(lag.volumes), 7))
+    tables = [filled(rng, need, value, kinds) if rng.random() < 0.5 else [value] * need for need, value in needs]
+    return *expected, spoilt(rng, record), *tables
 
 def number_at(rng, large, kinds):
     record = list(rng.randbytes(rng.choice([0, 1, 5, 6, 9, 30])))
@@ -283,7 +307,7 @@ def number_at(rng, large, kinds):
     return record, bit, width
 
 def lagoon_step(rng, large, kinds):
-    case = generate.call(rng.getrandbits(32), 40 if large else rng.choice([1, 1, 2, 3]) + 4 * rng.randrange(200))
+    case = generate.call(rng.getrandbits(32), 40 if large else rng.choice([1, 1, 2, 2, 3]) + 4 * rng.randrange(200))
     kinds.extend(case.kinds)
     return list(case.mesh), list(case.field), list(case.step), [0xA5] * case.room
 
@@ -382,7 +406,7 @@ def store_list(rng, kinds):
             "keep": (cells, volumes, masses, store, rng.randint(1, 4)),
             "drop": (cells, store, rng.randint(1, 4)),
             "give_back": (cells, volumes, masses, store, rng.randint(1, 4)),
-            "step": (cells, lent.faces, *lent.tables),
+            "step": (cells, lent.faces, *lent.tables.values()),
         }[name]
         calls.append(spell(name, *arguments))
         answer = answered(ENGINE, name, arguments)
@@ -439,7 +463,6 @@ def survey_face(rng, large, kinds):
 
 MESH_TABLES = (0, 1, 2, 3, 4)
 FIELD_TABLES = (*MESH_TABLES, MASSES)
-STEP_TABLES = tuple(range(11))
 MAKE = {
     "counts_within": counts_within,
     "check_mesh": on_mesh(MESH_TABLES),
@@ -456,8 +479,7 @@ MAKE = {
     "read_step": read_step,
     "write_mesh": writer(MESH_TABLES, lambda lent: lagoon.mesh_length(lent.cells, lent.faces)),
     "write_field": writer(FIELD_TABLES, lambda lent: lagoon.field_length(lent.cells)),
-    "write_step": writer((*MESH_TABLES, FLUXES, OUTSIDES),
-                         lambda lent: lagoon.step_length(lent.faces, lent.tables[SECONDS])),
+    "write_step": write_step,
     "number_at": number_at,
     "board": on_cells,
     "lagoon_step": lagoon_step,
@@ -520,6 +542,8 @@ def largest():
     lent = ([7] * (CELLS + 1), [-7] * (FACES + 1), [7] * (4 * CELLS + FACES + 1))
     mesh_record, field_record = lagoon.pack_mesh(mesh), lagoon.pack_field(masses)
     step_record = lagoon.pack_step(pool, inflow, outsides)
+    filled_up, released = [0] * (CELLS - 1) + [FULL], [FULL] * (CELLS - 1) + [0]
+    outfalls_record = lagoon.pack_step(mesh, inflow, outsides, [(1 << 32) - 1] * CELLS)
     return "".join([
         "# the largest records, written and read back\n",
         spell("write_mesh", CELLS, FACES, *mesh, [170] * (len(mesh_record) + 1)),
@@ -527,9 +551,12 @@ def largest():
         spell("read_mesh", CELLS, FACES, mesh_record, *([7] * (len(column) + 1) for column in mesh)),
         spell("write_field", CELLS, 0, volumes, [], [], [], [], masses, [170] * len(field_record)),
         spell("read_field", CELLS, field_record, [7] * CELLS),
-        spell("write_step", 1, FACES, *pool, inflow, outsides, [170] * len(step_record)),
-        spell("step_length", FACES, pool.seconds, step_record),
-        spell("read_step", FACES, pool.seconds, step_record, [-7] * FACES, [7] * FACES),
+        spell("write_step", WATER, 1, FACES, *pool, inflow, outsides, [170] * len(step_record), [0]),
+        spell("step_length", 1, FACES, pool.seconds, step_record),
+        spell("read_step", 1, FACES, pool.seconds, step_record, [-7] * FACES, [7] * FACES, [7]),
+        spell("write_step", OUTFALLS, CELLS, FACES, *mesh, inflow, outsides, [170] * len(outfalls_record), [(1 << 32) - 1] * CELLS),
+        spell("step_length", CELLS, FACES, mesh.seconds, outfalls_record),
+        spell("read_step", CELLS, FACES, mesh.seconds, outfalls_record, [-7] * FACES, [7] * FACES, [7] * (CELLS + 1)),
         "# the largest tables\n",
         spell("check_mesh", CELLS, FACES, *mesh),
         spell("check_field", CELLS, FACES, *mesh, masses),
@@ -537,9 +564,10 @@ def largest():
         spell("board", CELLS, volumes, masses),
         spell("page", CELLS, volumes, masses, 0, [170] * 1_099),
         spell("page", CELLS, volumes, masses, 68, [170] * 288),
-        spell("check_step", CELLS, FACES, *mesh, masses, still, none, *lent),
-        spell("step", CELLS, FACES, *mesh, masses, still, none, *lent),
-        spell("step", 1, FACES, *pool, [0], inflow, outsides, *lent),
+        spell("check_step", CELLS, FACES, *mesh, masses, still, none, *lent, [0] * CELLS),
+        spell("step", CELLS, FACES, *mesh, masses, still, none, *lent, [0] * CELLS),
+        spell("step", CELLS, FACES, *mesh, filled_up, still, none, *lent, released),
+        spell("step", 1, FACES, *pool, [0], inflow, outsides, *lent, [0]),
         "# more cells and faces than the run takes\n",
         spell("take_mesh", mesh_record, *([7] * len(column) for column in mesh)),
         spell("take_field", CELLS, field_record, volumes, [7] * CELLS),

@@ -17,12 +17,17 @@ LIBRARY_LIMITS = (4095, 8190)
 RUN_LIMITS = (1023, 2046)
 MESH_HEAD, FIELD_HEAD, STEP_HEAD = 4, 2, 4      # bytes
 
-# Tables lent to a step, by position.
+# Lent tables, by position; those lent to a step, in the order of its arguments.
 (VOLUMES, FIRSTS, SECONDS, SHARES, REACHES, MASSES,
- FLUXES, OUTSIDES, NEXT, MOVED, WORK, RECORD, PAGE) = range(13)
+ FLUXES, OUTSIDES, NEXT, MOVED, WORK, RECORD, PAGE, STORE, RELEASES) = range(15)
+STEP_TABLES = (*range(WORK + 1), RELEASES)
+
+WATER, OUTFALLS = 3, 4      # kinds of step records; the second has releases
+RELEASE_BITS = {WATER: 0, OUTFALLS: 32}
 
 Mesh = namedtuple("Mesh", "volumes firsts seconds shares reaches")
-Result = namedtuple("Result", "masses moved in_mass out_mass")
+Step = namedtuple("Step", "kind fluxes outsides releases")
+Result = namedtuple("Result", "masses moved in_mass out_mass released")
 
 
 class Refusal(Exception):
@@ -144,26 +149,35 @@ def in_mass(mesh, fluxes, outsides):
     return sum(-U * o for second, U, o in zip(mesh.seconds, fluxes, outsides) if second == RIM and U < 0)
 
 def out_mass(mesh, q, fluxes):
-    """What goes out over the rim, with q as it was before the step."""
+    """What goes out over the rim, with q of the field that the step starts from."""
     return sum(U * q[first] for first, second, U in zip(mesh.firsts, mesh.seconds, fluxes)
                if second == RIM and U > 0)
 
-def advance(mesh, masses, fluxes, outsides):
+def raised(masses, releases):
+    """Document 02, S-6: the field that a step starts from; without releases the one lent."""
+    return list(masses) if releases is None else [m + release for m, release in zip(masses, releases, strict=True)]
+
+def released_mass(releases):
+    return sum(releases or [])
+
+def advance(mesh, masses, fluxes, outsides, releases=None):
     """One step on values that no cause refuses."""
+    masses = raised(masses, releases)
     q = concentrations(mesh.volumes, masses)
     carried, low = upwind(mesh, masses, q, fluxes, outsides)
     corrected = corrections(mesh, q, fluxes)
     gains, losses = bounds(mesh, low, q, fluxes, outsides)
     limited = limiter(mesh, keep(mesh, low, corrected), gains, losses)
     moved, masses = finish(mesh, masses, carried, limited)
-    return Result(masses, moved, in_mass(mesh, fluxes, outsides), out_mass(mesh, q, fluxes))
+    return Result(masses, moved, in_mass(mesh, fluxes, outsides), out_mass(mesh, q, fluxes), released_mass(releases))
 
-def advance_upwind(mesh, masses, fluxes, outsides):
+def advance_upwind(mesh, masses, fluxes, outsides, releases=None):
     """Plain upwind, stages 1 and 5 alone, for studies of accuracy."""
+    masses = raised(masses, releases)
     q = concentrations(mesh.volumes, masses)
     carried, _ = upwind(mesh, masses, q, fluxes, outsides)
     moved, masses = finish(mesh, masses, carried, [0] * len(carried))
-    return Result(masses, moved, in_mass(mesh, fluxes, outsides), out_mass(mesh, q, fluxes))
+    return Result(masses, moved, in_mass(mesh, fluxes, outsides), out_mass(mesh, q, fluxes), released_mass(releases))
 
 
 # ---------------------------------------------------------------- Causes
@@ -200,6 +214,14 @@ def judge_field(mesh, masses):
     """Cause 6: concentrations."""
     refuse_first(6, (q > TOP for q in concentrations(mesh.volumes, masses)))
 
+def judge_raised(mesh, masses, releases):
+    """Cause 18 of a step (document 02, S-6): concentrations of the raised field."""
+    refuse_first(18, (q > TOP for q in concentrations(mesh.volumes, raised(masses, releases))))
+
+def judge_releases(kind, releases):
+    """Cause 18 of a writer: releases too large for their field, which in kind 3 has no bits."""
+    refuse_first(18, (release >= 1 << RELEASE_BITS[kind] for release in releases))
+
 def judge_values(mesh, fluxes, outsides):
     """Causes 7 and 8: outside values, and the size of each flux."""
     refuse_first(7, (not 0 <= o <= TOP if second == RIM and U < 0 else o != 0
@@ -232,22 +254,23 @@ def counted_mesh(cells, faces, tables):
     return Mesh(tables[VOLUMES][:cells], *(tables[i][:faces] for i in (FIRSTS, SECONDS, SHARES, REACHES)))
 
 def step_on_tables(cells, faces, tables):
-    """The step on the eleven tables, as lists: gives in-mass and out-mass, and fills the last three."""
+    """The step on its tables by position: gives in-mass, out-mass and released mass, and fills next masses, moved and work."""
     judge_counts(cells, faces, LIBRARY_LIMITS)
     judge_lengths(lengths_of(tables), {**mesh_needs(cells, faces), MASSES: cells, FLUXES: faces,
                                        OUTSIDES: faces, NEXT: cells, MOVED: faces,
-                                       WORK: 4 * cells + faces})
+                                       WORK: 4 * cells + faces, RELEASES: cells})
     mesh, masses = counted_mesh(cells, faces, tables), tables[MASSES][:cells]
-    fluxes, outsides = tables[FLUXES][:faces], tables[OUTSIDES][:faces]
+    fluxes, outsides, releases = tables[FLUXES][:faces], tables[OUTSIDES][:faces], tables[RELEASES][:cells]
     judge_mesh(mesh)
     judge_field(mesh, masses)
+    judge_raised(mesh, masses, releases)
     judge_values(mesh, fluxes, outsides)
     judge_flow(mesh, fluxes)
-    result = advance(mesh, masses, fluxes, outsides)
+    result = advance(mesh, masses, fluxes, outsides, releases)
     tables[NEXT][:cells] = result.masses
     tables[MOVED][:faces] = result.moved
     tables[WORK][:4 * cells + faces] = [0] * (4 * cells + faces)
-    return result.in_mass, result.out_mass
+    return result.in_mass, result.out_mass, result.released
 
 
 # ---------------------------------------------------------------- Record layouts
@@ -289,8 +312,8 @@ def mesh_length(cells, faces):
 def field_length(cells):
     return FIELD_HEAD + 4 * cells
 
-def step_length(faces, seconds):
-    return STEP_HEAD + whole_bytes(13 * faces + 20 * seconds[:faces].count(RIM))
+def step_length(kind, cells, faces, seconds):
+    return STEP_HEAD + whole_bytes(13 * faces + 20 * seconds[:faces].count(RIM) + RELEASE_BITS[kind] * cells)
 
 def number_at(record, bit, width):
     """The number that so many bits spell, None where they are not all there.
@@ -325,17 +348,19 @@ def field_head(record, cells, limits):
         raise Refusal(13, 1)
     judge_counts(cells, 0, limits)
 
-def step_head(record, faces, seconds, limits):
-    """The same for a step record; its length rests on the seconds, so too few of them are 2 before that."""
+def step_head(record, cells, faces, seconds, limits):
+    """The same for a step record, and its kind; its length rests on the seconds, so too few of them are 2 before that."""
     if len(record) < STEP_HEAD:
         raise Refusal(11, 0)
     bits = Bits(record[:STEP_HEAD])
-    if bits.take(4) != 3:
+    kind = bits.take(4)
+    if kind not in (WATER, OUTFALLS):
         raise Refusal(13, 0)
     if bits.take(13) != faces:
         raise Refusal(13, 1)
-    judge_counts(1, faces, limits)
+    judge_counts(cells, faces, limits)
     judge_lengths({SECONDS: len(seconds)}, {SECONDS: faces})
+    return kind
 
 def read_mesh(record, limits=LIBRARY_LIMITS, lengths=None):
     """After the head: another length 11, then 2, then 12 for a bit that has to be 0."""
@@ -361,12 +386,16 @@ def read_field(record, cells, limits=LIBRARY_LIMITS, lengths=None):
     bits.take(16)
     return [bits.take(32) for _ in range(cells)]
 
-def read_step(record, faces, seconds, limits=LIBRARY_LIMITS, lengths=None):
-    """Fluxes, and outside values for the rim faces; all other faces get 0."""
-    step_head(record, faces, seconds, limits)
-    if len(record) != step_length(faces, seconds):
+def take_releases(bits, kind, cells):
+    """Document 02, S-6: one a cell in kind 4, at once after the last outside value; kind 3 has 0."""
+    return [bits.take(RELEASE_BITS[kind]) if kind == OUTFALLS else 0 for _ in range(cells)]
+
+def read_step(record, cells, faces, seconds, limits=LIBRARY_LIMITS, lengths=None):
+    """The kind; fluxes; outside values for the rim faces, where all other faces get 0; releases."""
+    kind = step_head(record, cells, faces, seconds, limits)
+    if len(record) != step_length(kind, cells, faces, seconds):
         raise Refusal(11, 0)
-    judge_lengths(lengths, {FLUXES: faces, OUTSIDES: faces})
+    judge_lengths(lengths, {FLUXES: faces, OUTSIDES: faces, RELEASES: cells})
     bits = Bits(record)
     bits.take(17)
     bits.take_zeros(15)
@@ -377,8 +406,9 @@ def read_step(record, faces, seconds, limits=LIBRARY_LIMITS, lengths=None):
             raise Refusal(12, bits.at - 13)
         fluxes.append(-size if minus else size)
     outsides = [bits.take(20) if second == RIM else 0 for second in seconds[:faces]]
+    releases = take_releases(bits, kind, cells)
     bits.take_padding()
-    return fluxes, outsides
+    return Step(kind, fluxes, outsides, releases)
 
 def pack_mesh(mesh):
     values = [(1, 4), (len(mesh.volumes), 12), (len(mesh.firsts), 13), (0, 3)]
@@ -390,11 +420,14 @@ def pack_mesh(mesh):
 def pack_field(masses):
     return pack([(2, 4), (len(masses), 12)] + [(m, 32) for m in masses])
 
-def pack_step(mesh, fluxes, outsides):
-    values = [(3, 4), (len(fluxes), 13), (0, 15)]
+def pack_step(mesh, fluxes, outsides, releases=None):
+    """Kind 4 where there are releases, else kind 3."""
+    kind = WATER if releases is None else OUTFALLS
+    values = [(kind, 4), (len(fluxes), 13), (0, 15)]
     for U in fluxes:
         values += [(1 if U < 0 else 0, 1), (abs(U), 12)]
-    return pack(values + [(o, 20) for second, o in zip(mesh.seconds, outsides) if second == RIM])
+    values += [(o, 20) for second, o in zip(mesh.seconds, outsides) if second == RIM]
+    return pack(values + [(release, RELEASE_BITS[kind]) for release in releases or []])
 
 def judge_writing(cells, faces, tables, needs, length, room):
     """What all writers test first: causes 1 to 5, where the bytes lent are position 11 of cause 2."""
@@ -413,11 +446,13 @@ def write_field(cells, faces, tables, room):
     judge_field(mesh, tables[MASSES][:cells])
     return pack_field(tables[MASSES][:cells])
 
-def write_step(cells, faces, tables, room):
-    length = step_length(faces, tables[SECONDS])
-    mesh = judge_writing(cells, faces, tables, {FLUXES: faces, OUTSIDES: faces}, length, room)
-    judge_values(mesh, tables[FLUXES][:faces], tables[OUTSIDES][:faces])
-    return pack_step(mesh, tables[FLUXES][:faces], tables[OUTSIDES][:faces])
+def write_step(kind, cells, faces, tables, room):
+    length = step_length(kind, cells, faces, tables[SECONDS])
+    mesh = judge_writing(cells, faces, tables, {FLUXES: faces, OUTSIDES: faces, RELEASES: cells}, length, room)
+    fluxes, outsides, releases = tables[FLUXES][:faces], tables[OUTSIDES][:faces], tables[RELEASES][:cells]
+    judge_releases(kind, releases)
+    judge_values(mesh, fluxes, outsides)
+    return pack_step(mesh, fluxes, outsides, releases if kind == OUTFALLS else None)
 
 
 # ---------------------------------------------------------------- The host's call
@@ -433,10 +468,11 @@ def accept_field(record, mesh):
     return masses
 
 def accept_step(record, mesh, masses):
-    fluxes, outsides = read_step(record, len(mesh.firsts), mesh.seconds, RUN_LIMITS)
+    _, fluxes, outsides, releases = read_step(record, len(mesh.volumes), len(mesh.firsts), mesh.seconds, RUN_LIMITS)
+    judge_raised(mesh, masses, releases)
     judge_values(mesh, fluxes, outsides)
     judge_flow(mesh, fluxes)
-    return advance(mesh, masses, fluxes, outsides)
+    return advance(mesh, masses, fluxes, outsides, releases)
 
 def host_step(mesh_record, field_record, step_record, room):
     """The host's number and, after an accepted step, the next field record; room counts the bytes lent for it."""
@@ -452,7 +488,6 @@ def host_step(mesh_record, field_record, step_record, room):
 
 # ---------------------------------------------------------------- Named states (document 02, S-4)
 
-STORE = 13                  # the position of the store among the lent tables
 MOST_NAME = 65_535
 
 def judge_lent(cells, volumes, masses, store):
@@ -507,6 +542,8 @@ def store_return(cells, volumes, masses, store, name):
     kept = fields[first_named(fields, name)][1]
     judge_field(mesh, kept)
     masses[:cells] = kept
+
+
 # ---------------------------------------------------------------- Document 02, S-7: shares from survey points
 
 MOST_COORDINATE = 1_000_000.0
@@ -568,6 +605,11 @@ def board_on_tables(cells, volumes, masses):
     used = board(mesh.volumes, masses[:cells])
     return used + [(0, 0, 0)] * (8 - len(used))
 
+def step_ends(data, mesh):
+    """Where the step record at the head of these bytes ends: by its kind, and with them where it has no kind of a step."""
+    kind = data[0] >> 4
+    return step_length(kind, len(mesh.volumes), len(mesh.firsts), mesh.seconds) if kind in (WATER, OUTFALLS) else len(data)
+
 def run(data):
     """What the run program prints of a session."""
     length = len(data)
@@ -586,15 +628,15 @@ def run(data):
     except Refusal as refusal:
         return f"F {refusal.cause} {refusal.place}\n"
     data = data[length:]
-    length = step_length(len(mesh.firsts), mesh.seconds)
-    lines = [f"0 0 0 {sum(masses)}"]
+    lines = [f"0 0 0 {sum(masses)} 0"]
     number = 0
     while data:
         number += 1
+        length = step_ends(data, mesh)
         try:
             result = accept_step(data[:length], mesh, masses)
             masses = result.masses
-            lines.append(f"{number} {result.in_mass} {result.out_mass} {sum(masses)}")
+            lines.append(f"{number} {result.in_mass} {result.out_mass} {sum(masses)} {result.released}")
         except Refusal as refusal:
             lines.append(f"{number} R {refusal.cause} {refusal.place}")
             if refusal.cause in (11, 13):

@@ -17,18 +17,18 @@ CALLS = {
     2: ("check_mesh", "nnttttt"),
     3: ("check_field", "nntttttt"),
     4: ("check_cells", "ntt"),
-    5: ("check_step", "nnttttttsttst"),
+    5: ("check_step", "nnttttttsttstt"),
     6: ("total", "ntt"),
-    7: ("step", "nnttttttsttst"),
+    7: ("step", "nnttttttsttstt"),
     8: ("mesh_length", "nnb"),
     9: ("field_length", "nb"),
-    10: ("step_length", "ntb"),
+    10: ("step_length", "nntb"),
     11: ("read_mesh", "nnbttttt"),
     12: ("read_field", "nbt"),
-    13: ("read_step", "ntbst"),
+    13: ("read_step", "nntbstt"),
     14: ("write_mesh", "nntttttb"),
     15: ("write_field", "nnttttttb"),
-    16: ("write_step", "nntttttstb"),
+    16: ("write_step", "nnntttttstbt"),
     17: ("number_at", "bnn"),
     18: ("board", "ntt"),
     19: ("lagoon_step", "bbbb"),
@@ -183,11 +183,11 @@ class Engine:
         return self.lagoon.board_on_tables(cells, volumes, masses)
 
     def check_step(self, cells, faces, *tables):
-        self.lagoon.step_on_tables(cells, faces, [list(table) for table in tables])
+        self.step(cells, faces, *map(list, tables))
         return ()
 
     def step(self, cells, faces, *tables):
-        return self.lagoon.step_on_tables(cells, faces, tables)
+        return self.lagoon.step_on_tables(cells, faces, dict(zip(self.lagoon.STEP_TABLES, tables, strict=True)))
 
     def limits(self, cells, faces):
         """Limits that a caller sets do not widen document 01's."""
@@ -203,10 +203,10 @@ class Engine:
         L.field_head(record, cells, L.LIBRARY_LIMITS)
         return (L.field_length(cells),)
 
-    def step_length(self, faces, seconds, record):
+    def step_length(self, cells, faces, seconds, record):
         L = self.lagoon
-        L.step_head(record, faces, seconds, L.LIBRARY_LIMITS)
-        return (L.step_length(faces, seconds),)
+        kind = L.step_head(record, cells, faces, seconds, L.LIBRARY_LIMITS)
+        return (L.step_length(kind, cells, faces, seconds),)
 
     def read_mesh(self, most_cells, most_faces, record, *tables):
         mesh = self.lagoon.read_mesh(record, self.limits(most_cells, most_faces), self.lengths(dict(enumerate(tables))))
@@ -217,11 +217,12 @@ class Engine:
         masses[:cells] = L.read_field(record, cells, lengths={L.MASSES: len(masses)})
         return ()
 
-    def read_step(self, faces, seconds, record, fluxes, outsides):
+    def read_step(self, cells, faces, seconds, record, fluxes, outsides, releases):
         L = self.lagoon
-        lent = {L.FLUXES: len(fluxes), L.OUTSIDES: len(outsides)}
-        fluxes[:faces], outsides[:faces] = L.read_step(record, faces, seconds, lengths=lent)
-        return ()
+        lent = {L.FLUXES: len(fluxes), L.OUTSIDES: len(outsides), L.RELEASES: len(releases)}
+        read = L.read_step(record, cells, faces, seconds, lengths=lent)
+        fluxes[:faces], outsides[:faces], releases[:cells] = read.fluxes, read.outsides, read.releases
+        return (read.kind,)
 
     def put(self, record, room):
         room[:len(record)] = record
@@ -235,11 +236,12 @@ class Engine:
         *tables, room = lent
         return self.put(self.lagoon.write_field(cells, faces, dict(enumerate(tables)), len(room)), room)
 
-    def write_step(self, cells, faces, *lent):
+    def write_step(self, kind, cells, faces, *lent):
         L = self.lagoon
-        *mesh, fluxes, outsides, room = lent
-        tables = {**dict(enumerate(mesh)), L.FLUXES: fluxes, L.OUTSIDES: outsides}
-        return self.put(L.write_step(cells, faces, tables, len(room)), room)
+        *mesh, fluxes, outsides, room, releases = lent
+        tables = {**dict(enumerate(mesh)), L.FLUXES: fluxes, L.OUTSIDES: outsides, L.RELEASES: releases}
+        told = L.OUTFALLS if kind == L.OUTFALLS else L.WATER
+        return self.put(L.write_step(told, cells, faces, tables, len(room)), room)
 
     def number_at(self, record, bit, width):
         spelled = self.lagoon.number_at(record, bit, width)
@@ -277,11 +279,12 @@ class Engine:
         L = self.lagoon
         *mesh, masses = lent
         most_cells, most_faces = L.RUN_LIMITS
-        water = L.read_step(record, faces, mesh[L.SECONDS], lengths={L.FLUXES: most_faces, L.OUTSIDES: most_faces})
+        room = {L.FLUXES: most_faces, L.OUTSIDES: most_faces, L.RELEASES: most_cells}
+        _, fluxes, outsides, releases = L.read_step(record, cells, faces, mesh[L.SECONDS], lengths=room)
         following, moved, work = [0] * most_cells, [0] * most_faces, [0] * (4 * most_cells + most_faces)
-        crossing = L.step_on_tables(cells, faces, [*mesh, masses, *water, following, moved, work])
+        entered, gone, released = self.step(cells, faces, *mesh, masses, fluxes, outsides, following, moved, work, releases)
         masses[:cells] = following[:cells]
-        return (*crossing, sum(masses[:cells]))
+        return entered, gone, sum(masses[:cells]), released
 
     def page(self, cells, volumes, masses, page, room):
         return self.put(self.lagoon.page_on_tables(cells, volumes, masses, page, len(room)), room)
@@ -312,10 +315,10 @@ CHANGED = {
     "step": {10: "next", 11: "moved", 12: "work"},
     "read_mesh": {3: "volumes", 4: "firsts", 5: "seconds", 6: "shares", 7: "reaches"},
     "read_field": {2: "masses"},
-    "read_step": {3: "fluxes", 4: "outsides"},
+    "read_step": {4: "fluxes", 5: "outsides", 6: "releases"},
     "write_mesh": {7: "bytes"},
     "write_field": {8: "bytes"},
-    "write_step": {9: "bytes"},
+    "write_step": {10: "bytes"},
     "lagoon_step": {3: "next"},
     "take_mesh": {1: "volumes", 2: "firsts", 3: "seconds", 4: "shares", 5: "reaches"},
     "take_field": {3: "masses"},

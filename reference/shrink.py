@@ -8,7 +8,7 @@ from script import Fault, Reader
 
 
 class Parts:
-    """A mesh with a field and steps, as lists; a step that cannot be read stays as bytes."""
+    """A mesh with a field and steps, as lists: fluxes, outsides, and releases or None. A step that cannot be read stays as bytes."""
 
     def __init__(self, volumes, faces, masses, steps, tail):
         self.volumes, self.faces, self.masses, self.steps, self.tail = volumes, faces, masses, steps, tail
@@ -27,14 +27,14 @@ def take_apart(mesh_record, field_record, steps_bytes):
     try:
         mesh = lagoon.read_mesh(mesh_record)
         masses = lagoon.read_field(field_record, len(mesh.volumes))
-        length = lagoon.step_length(len(mesh.firsts), mesh.seconds)
     except lagoon.Refusal:
         return None
     steps = []
-    while len(steps_bytes) >= length:
+    while steps_bytes and len(steps_bytes) >= (length := lagoon.step_ends(steps_bytes, mesh)):
         record, steps_bytes = steps_bytes[:length], steps_bytes[length:]
         try:
-            steps.append(lagoon.read_step(record, len(mesh.firsts), mesh.seconds))
+            kind, *water, releases = lagoon.read_step(record, len(mesh.volumes), len(mesh.firsts), mesh.seconds)
+            steps.append((*water, releases if kind == lagoon.OUTFALLS else None))
         except lagoon.Refusal:
             steps.append(record)
     return Parts(list(mesh.volumes), [list(row) for row in zip(*mesh[1:])], masses, steps, steps_bytes)
@@ -60,7 +60,6 @@ def without_cell(parts, cell):
     """The cell becomes part of the outside: its faces with other cells become rim faces."""
     if len(parts.volumes) == 1 or not readable(parts):
         return None
-    q = parts.masses[cell] // parts.volumes[cell] if parts.volumes[cell] else 0
     faces, columns = [], []
     for face, (first, second, s, K) in enumerate(parts.faces):
         if first == cell and second in (RIM, cell):
@@ -74,10 +73,12 @@ def without_cell(parts, cell):
         faces.append(row)
         columns.append((face, turn, opened))
     steps = []
-    for fluxes, outsides in parts.steps:
+    for fluxes, outsides, releases in parts.steps:
+        q = (parts.masses[cell] + (releases[cell] if releases else 0)) // max(1, parts.volumes[cell])
         new = [turn * fluxes[face] for face, turn, _ in columns]
         steps.append((new, [(min(q, lagoon.TOP) if U < 0 else 0) if opened else outsides[face]
-                            for U, (face, _, opened) in zip(new, columns)]))
+                            for U, (face, _, opened) in zip(new, columns)],
+                      releases and releases[:cell] + releases[cell + 1:]))
     return Parts(parts.volumes[:cell] + parts.volumes[cell + 1:], faces,
                  parts.masses[:cell] + parts.masses[cell + 1:], steps, parts.tail)
 
@@ -91,7 +92,7 @@ def without_cells(parts, start, end):
 def without_faces(parts, start, end):
     if not readable(parts):
         return None
-    steps = [(f[:start] + f[end:], o[:start] + o[end:]) for f, o in parts.steps]
+    steps = [(f[:start] + f[end:], o[:start] + o[end:], releases) for f, o, releases in parts.steps]
     return Parts(parts.volumes, parts.faces[:start] + parts.faces[end:], parts.masses, steps, parts.tail)
 
 
@@ -99,7 +100,7 @@ def without_still_faces(parts):
     if not readable(parts):
         return None
     for face in reversed(range(len(parts.faces))):
-        if all(fluxes[face] == 0 for fluxes, _ in parts.steps):
+        if all(fluxes[face] == 0 for fluxes, *_ in parts.steps):
             parts = without_faces(parts, face, face + 1)
     return parts
 
@@ -108,13 +109,33 @@ def without_steps(parts, start, end):
     return Parts(parts.volumes, parts.faces, parts.masses, parts.steps[:start] + parts.steps[end:], parts.tail)
 
 
+def without_releases(parts, start, end):
+    """Steps of kind 4 as steps of kind 3."""
+    if not readable(parts):
+        return None
+    plain = [(fluxes, outsides, None) for fluxes, outsides, _ in parts.steps[start:end]]
+    steps = parts.steps[:start] + plain + parts.steps[end:]
+    return None if steps == parts.steps else Parts(parts.volumes, parts.faces, parts.masses, steps, parts.tail)
+
+
+def releases_in_field(parts):
+    """The first step's releases as part of the field that it starts from."""
+    if not parts.steps or isinstance(parts.steps[0], bytes) or parts.steps[0][2] is None:
+        return None
+    *water, releases = parts.steps[0]
+    masses = lagoon.raised(parts.masses, releases)
+    if max(masses) >= 1 << 32:
+        return None
+    return Parts(parts.volumes, parts.faces, masses, [(*water, None), *parts.steps[1:]], parts.tail)
+
+
 def without_masses(parts, start, end):
     masses = parts.masses[:start] + [0] * (end - start) + parts.masses[end:]
     return None if masses == parts.masses else Parts(parts.volumes, parts.faces, masses, parts.steps, parts.tail)
 
 
 def shrink_parts(parts, fails, seconds):
-    """The smallest parts found within the time that still fail: runs of steps, cells, faces, masses dropped."""
+    """The smallest parts found within the time that still fail: runs of steps, cells, faces, releases, masses dropped."""
     end = time.monotonic() + seconds
 
     def better(candidate):
@@ -135,12 +156,13 @@ def shrink_parts(parts, fails, seconds):
     while time.monotonic() < end:
         before = parts.records()
         for candidate in (Parts(parts.volumes, parts.faces, parts.masses, parts.steps, b""),
-                          without_still_faces(parts)):
+                          without_still_faces(parts), releases_in_field(parts)):
             if better(candidate):
                 parts = candidate
         parts = sweep(parts, lambda p: len(p.steps), without_steps)
         parts = sweep(parts, lambda p: len(p.volumes), without_cells)
         parts = sweep(parts, lambda p: len(p.faces), without_faces)
+        parts = sweep(parts, lambda p: len(p.steps), without_releases)
         parts = sweep(parts, lambda p: len(p.masses), without_masses)
         if parts.records() == before:
             break

@@ -45,8 +45,8 @@ def still(lagoon):
 def rest(lagoon):
     """Masses rounded down to whole concentrations before the step."""
     right = lagoon.advance
-    lagoon.advance = lambda mesh, masses, fluxes, outsides: right(
-        mesh, [m - m % V for m, V in zip(masses, mesh.volumes)], fluxes, outsides)
+    lagoon.advance = lambda mesh, masses, fluxes, outsides, releases=None: right(
+        mesh, [m - m % V for m, V in zip(masses, mesh.volumes)], fluxes, outsides, releases)
 
 
 def bound(lagoon):
@@ -139,8 +139,100 @@ def summed(lagoon):
     lagoon.keep, lagoon.limiter = keep, limiter
 
 
+# ---------------------------------------------------------------- Document 02, S-6: releases
+
+def afterwards(lagoon):
+    """Releases added after the step; what is then too large for a field record loses its upper bits."""
+    right = lagoon.advance
+
+    def advance(mesh, masses, fluxes, outsides, releases=None):
+        result = right(mesh, masses, fluxes, outsides)
+        after = [m % (1 << 32) for m in lagoon.raised(result.masses, releases)]
+        return result._replace(masses=after, released=lagoon.released_mass(releases))
+
+    lagoon.advance = advance
+
+
+def unraised(lagoon):
+    """lo and hi of the field before its releases."""
+    right_advance, right_bounds = lagoon.advance, lagoon.bounds
+    last = {}
+
+    def advance(mesh, masses, fluxes, outsides, releases=None):
+        last["q"] = lagoon.concentrations(mesh.volumes, masses)
+        return right_advance(mesh, masses, fluxes, outsides, releases)
+
+    def bounds(mesh, low, q, fluxes, outsides):
+        gains, losses = right_bounds(mesh, low, last["q"], fluxes, outsides)
+        return [max(0, G) for G in gains], [max(0, L) for L in losses]
+
+    lagoon.advance, lagoon.bounds = advance, bounds
+
+
+def padded(lagoon):
+    """Zero bits up to a whole byte before the releases."""
+    right = lagoon.take_releases
+
+    def take_releases(bits, kind, cells):
+        if kind == lagoon.OUTFALLS:
+            bits.take_zeros(-bits.at % 8)
+        return right(bits, kind, cells)
+
+    lagoon.take_releases = take_releases
+
+
 SLIPS = {slip.__name__: slip for slip in (share, sign, floor, late, still, rest, bound,
-                                          smooths, water, earlier, equal, turned, exact, summed)}
+                                          smooths, water, earlier, equal, turned, exact, summed,
+                                          afterwards, unraised, padded)}
+
+
+# ---------------------------------------------------------------- Slips that a list of steps shows
+
+def counted(lagoon):
+    """Releases of a refused step put into the field all the same."""
+    right = lagoon.accept_step
+
+    def accept_step(record, mesh, masses):
+        try:
+            return right(record, mesh, masses)
+        except lagoon.Refusal as refusal:
+            if refusal.cause not in (11, 12, 13):
+                releases = lagoon.read_step(record, len(mesh.volumes), len(mesh.firsts), mesh.seconds).releases
+                masses[:] = lagoon.raised(masses, releases)
+            raise
+
+    lagoon.accept_step = accept_step
+
+
+def left(lagoon):
+    """A kind 3 step with the releases of the kind 4 step before it."""
+    right_run, right_taken = lagoon.run, lagoon.take_releases
+    last = {}
+
+    def run(data):
+        last.clear()
+        return right_run(data)
+
+    def take_releases(bits, kind, cells):
+        if kind == lagoon.OUTFALLS or not last:
+            last["releases"] = right_taken(bits, kind, cells)
+        return last["releases"]
+
+    lagoon.run, lagoon.take_releases = run, take_releases
+
+
+def outgoing(lagoon):
+    """Out-mass by the concentrations before the releases."""
+    right = lagoon.advance
+
+    def advance(mesh, masses, fluxes, outsides, releases=None):
+        q = lagoon.concentrations(mesh.volumes, masses)
+        return right(mesh, masses, fluxes, outsides, releases)._replace(out_mass=lagoon.out_mass(mesh, q, fluxes))
+
+    lagoon.advance = advance
+
+
+RUN_SLIPS = {slip.__name__: slip for slip in (counted, left, outgoing)}
 
 
 # ---------------------------------------------------------------- Slips of the answers, which a script shows
@@ -182,6 +274,17 @@ def bit(lagoon):
     """A number read from the bit after the one asked for."""
     right = lagoon.number_at
     lagoon.number_at = lambda record, bit, width: right(record, bit + 1, width)
+
+
+def dropped(lagoon):
+    """A kind 3 record written without its releases, where it is to be refused."""
+    right = lagoon.judge_releases
+
+    def judge_releases(kind, releases):
+        if kind == lagoon.OUTFALLS:
+            right(kind, releases)
+
+    lagoon.judge_releases = judge_releases
 
 
 def binder(lagoon):
@@ -242,4 +345,5 @@ def exchanged(lagoon):
     lagoon.sides = lambda ends, centres: right(ends, centres)[::-1]
 
 
-ANSWER_SLIPS = {slip.__name__: slip for slip in (place, table, beyond, bit, binder, fresher, unweighed, higher, first, freed, nearest, exchanged)}
+ANSWER_SLIPS = {slip.__name__: slip for slip in (place, table, beyond, bit, dropped, binder, fresher, unweighed, higher, first, freed, nearest,
+                                                 exchanged)}

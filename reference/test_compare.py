@@ -13,7 +13,7 @@ sys.path.insert(0, str(HERE))
 import engines
 import lagoon
 import script
-from slips import ANSWER_SLIPS, SLIPS
+from slips import ANSWER_SLIPS, RUN_SLIPS, SLIPS
 
 SELF = f"python3:{HERE / 'lagoon.py'}"
 SMALL = 110             # bytes; about four cells with the faces between them and one step
@@ -61,7 +61,21 @@ def test_slips_kept_small():
         wrong = engines.load(HERE / "lagoon.py", "wrong_lagoon")
         SLIPS[slip](wrong)
         with tempfile.TemporaryDirectory() as folder:
-            status, text = compare("--run", SELF, "--soak", "60", "--seed", "5", "--slip", slip, "--keep", folder)
+            status, text = compare("--run", SELF, "--soak", "60", "--seed", "6", "--slip", slip, "--keep", folder)
+            kept = list(Path(folder).glob("*-small.bin"))
+            demand(status == 1 and len(kept) == 1, f"slip {slip} leaves no small session: {text}")
+            data = kept[0].read_bytes()
+            demand(wrong.run(data) != lagoon.run(data), f"slip {slip}: the small session shows nothing")
+            demand(len(data) <= SMALL, f"slip {slip}: {len(data)} bytes left: {text}")
+
+
+def test_slips_of_a_run():
+    """A slip that a list of steps shows is seen in sessions, and leaves a small one."""
+    for slip in RUN_SLIPS:
+        wrong = engines.load(HERE / "lagoon.py", "wrong_lagoon")
+        RUN_SLIPS[slip](wrong)
+        with tempfile.TemporaryDirectory() as folder:
+            status, text = compare("--run", SELF, "--sessions", "200", "--seed", "5", "--slip", slip, "--keep", folder)
             kept = list(Path(folder).glob("*-small.bin"))
             demand(status == 1 and len(kept) == 1, f"slip {slip} leaves no small session: {text}")
             data = kept[0].read_bytes()

@@ -1,5 +1,5 @@
 #!/usr/bin/env python3
-"""The figures of document 01, checked against the reference. Fails at the first that differs."""
+"""The figures of document 01, and of the requests, checked against the reference. Fails at the first that differs."""
 
 import argparse
 import subprocess
@@ -30,15 +30,15 @@ def refused(cause, place, what, call, *arguments):
         raise AssertionError(f"{what}: expected refusal {cause} {place}, got {result!r}")
 
 
-def tables_for(mesh, masses, fluxes, outsides):
+def tables_for(mesh, masses, fluxes, outsides, releases=None):
     cells, faces = len(mesh.volumes), len(mesh.firsts)
-    return [list(t) for t in mesh] + [list(masses), list(fluxes), list(outsides),
-                                      [7] * cells, [7] * faces, [7] * (4 * cells + faces)]
+    tables = [*mesh, masses, fluxes, outsides, [7] * cells, [7] * faces, [7] * (4 * cells + faces), releases or [0] * cells]
+    return dict(zip(lagoon.STEP_TABLES, map(list, tables), strict=True))
 
 
-def step(mesh, masses, fluxes, outsides):
+def step(mesh, masses, fluxes, outsides, releases=None):
     """The step on tables: next masses and moved."""
-    tables = tables_for(mesh, masses, fluxes, outsides)
+    tables = tables_for(mesh, masses, fluxes, outsides, releases)
     lagoon.step_on_tables(len(mesh.volumes), len(mesh.firsts), tables)
     return tables[lagoon.NEXT], tables[lagoon.MOVED]
 
@@ -46,9 +46,9 @@ def step(mesh, masses, fluxes, outsides):
 CHANNEL = Mesh([100] * 3, [0, 0, 1, 2], [RIM, 1, 2, RIM], [0, 128, 128, 0], [0, 100, 100, 0])
 FLOW, OUTSIDE = [-50, 50, 50, 50], [1000, 0, 0, 0]
 CHANNEL_TEXT = """\
-0 0 0 100000
-1 50000 0 150000
-2 50000 0 200000
+0 0 0 100000 0
+1 50000 0 150000 0
+2 50000 0 200000 0
 B 0 1000 99
 B 1 811 88
 B 2 187 13
@@ -111,6 +111,34 @@ def test_smoothing():
     equal(step(steep, [0, 50000, 0], [-80, 80, 80, 80], [0, 0, 0, 0])[0], [0, 0, 50000], "a cancelled correction is not in N")
 
 
+def test_releases():
+    """Document 02, S-6."""
+    tables = tables_for(CHANNEL, [100000, 0, 0], FLOW, OUTSIDE, [0, 20000, 0])
+    equal(lagoon.step_on_tables(3, 4, tables), (50000, 0, 20000), "20,000 into the channel's second cell")
+    equal(tables[lagoon.NEXT], [100099, 62401, 7500], "its next masses")
+    equal(tables[lagoon.MASSES], [100000, 0, 0], "the masses lent stay")
+    equal(step(CHANNEL, [100000, 0, 0], FLOW, OUTSIDE, [0, 0, 0]), step(CHANNEL, [100000, 0, 0], FLOW, OUTSIDE), "releases 0")
+    equal(step(CHANNEL, [60000, 0, 0], FLOW, OUTSIDE, [40000, 20000, 0]), step(CHANNEL, [100000, 20000, 0], FLOW, OUTSIDE),
+          "a step on the raised field")
+    out = lagoon.advance(CHANNEL, [100000, 0, 0], FLOW, OUTSIDE, [0, 0, 20000])
+    equal((out.in_mass, out.out_mass, out.released, sum(out.masses)), (50000, 10000, 20000, 160000), "out-mass by the raised q")
+    still = pool(4095, 0)
+    equal(step(still, [4_095_004_000], [], [], [94])[0], [4_095_004_094], "the last release accepted")
+    refused(18, 0, "the first refused", step, still, [4_095_004_000], [], [], [95])
+    refused(18, 0, "a release that would wrap 64 bits", step, still, [1], [], [], [(1 << 64) - 1])
+    refused(6, 2, "6 before 18", step, CHANNEL, [0, 0, 100_000_100], FLOW, OUTSIDE, [1 << 40, 0, 0])
+    refused(18, 2, "18 before 7", step, CHANNEL, [0, 0, 0], FLOW, [1000, 1, 0, 0], [0, 0, 100_000_100])
+    refused(5, 1, "5 before a writer's 18", lagoon.write_step, lagoon.OUTFALLS, 3, 4,
+            tables_for(CHANNEL._replace(shares=[0, 0, 128, 0]), [0] * 3, FLOW, OUTSIDE, [1 << 32, 0, 0]), 28)
+    for kind, most in ((lagoon.OUTFALLS, (1 << 32) - 1), (lagoon.WATER, 0)):
+        lagoon.write_step(kind, 3, 4, tables_for(CHANNEL, [0] * 3, FLOW, OUTSIDE, [0, most, 0]), 28)
+        refused(18, 1, f"a release too large for kind {kind}", lagoon.write_step, kind, 3, 4,
+                tables_for(CHANNEL, [0] * 3, FLOW, [1000, 1, 0, 0], [0, most + 1, 0]), 28)
+    short = tables_for(CHANNEL, [0] * 3, FLOW, OUTSIDE, [0, 0])
+    refused(2, 11, "bytes before releases", lagoon.write_step, lagoon.OUTFALLS, 3, 4, short, 27)
+    refused(2, 14, "releases in kind 3 too", lagoon.write_step, lagoon.WATER, 3, 4, short, 28)
+
+
 def test_records():
     one = pool(100, 0)
     equal(lagoon.pack_mesh(one).hex(" "), "10 01 00 00 06 40", "mesh of one cell")
@@ -121,9 +149,14 @@ def test_records():
     equal(lagoon.write_mesh(3, 4, tables, 31), lagoon.pack_mesh(CHANNEL), "mesh written")
     refused(2, 11, "a byte too few", lagoon.write_mesh, 3, 4, tables, 30)
     equal(lagoon.read_field(lagoon.write_field(3, 4, tables, 14), 3), [100000, 0, 0], "field written")
-    record = lagoon.write_step(3, 4, tables, 16)
+    record = lagoon.write_step(lagoon.WATER, 3, 4, tables, 16)
     equal(record.hex(" "), "30 02 00 00 81 90 0c 80 64 03 20 03 e8 00 00 00", "step written")
-    equal(lagoon.read_step(record, 4, CHANNEL.seconds), (FLOW, OUTSIDE), "step read")
+    equal(lagoon.read_step(record, 3, 4, CHANNEL.seconds), (3, FLOW, OUTSIDE, [0, 0, 0]), "step read")
+    tables[lagoon.RELEASES] = [0, 20000, (1 << 32) - 1]
+    record = lagoon.write_step(lagoon.OUTFALLS, 3, 4, tables, 28)
+    equal(record.hex(" "), "40 02 00 00 81 90 0c 80 64 03 20 03 e8 00 00 00 00 00 00 00 00 04 e2 0f ff ff ff f0",
+          "step of kind 4 written: releases at once after the last outside value, zero bits at the end")
+    equal(lagoon.read_step(record, 3, 4, CHANNEL.seconds), (4, FLOW, OUTSIDE, [0, 20000, (1 << 32) - 1]), "step of kind 4 read")
 
 
 def test_order_of_reading():
@@ -139,19 +172,31 @@ def test_order_of_reading():
     refused(12, 47, "padding", lagoon.read_mesh, mesh[:5] + b"\x41")
     refused(13, 1, "count of a field", lagoon.read_field, bytes.fromhex("200100000063"), 2)
     record = lagoon.pack_step(CHANNEL, FLOW, OUTSIDE)
-    refused(2, 2, "short seconds before length", lagoon.read_step, record[:9], 4, [RIM])
-    refused(12, 32, "minus with size 0", lagoon.read_step, bytes.fromhex("300080008000000000"), 1, [RIM])
+    refused(2, 2, "short seconds before length", lagoon.read_step, record[:9], 3, 4, [RIM])
+    refused(12, 32, "minus with size 0", lagoon.read_step, bytes.fromhex("300080008000000000"), 1, 1, [RIM])
+    for kind in (0, 1, 2, 5, 15):
+        refused(13, 0, f"a step of kind {kind}", lagoon.read_step, bytes([16 * kind | record[0] & 15]) + record[1:], 3, 4, CHANNEL.seconds)
+    outfalls = lagoon.pack_step(CHANNEL, FLOW, OUTSIDE, [1, 2, 3])
+    for cut, (kind, whole) in ((16, (4, outfalls)), (27, (4, outfalls)), (15, (3, record))):
+        refused(11, 0, f"{cut} bytes of kind {kind}", lagoon.read_step, whole[:cut], 3, 4, CHANNEL.seconds)
+    for cells in (0, 4096):
+        refused(1, 0, f"{cells} cells before short seconds", lagoon.read_step, record[:9], cells, 4, [RIM])
+    for whole in (record, outfalls):
+        short = {lagoon.FLUXES: 4, lagoon.OUTSIDES: 4, lagoon.RELEASES: 2}
+        refused(2, 14, "releases short", lagoon.read_step, whole[:-1] + b"\1", 3, 4, CHANNEL.seconds, lagoon.LIBRARY_LIMITS, short)
+    refused(12, 220, "first zero bit after the releases", lagoon.read_step, outfalls[:-1] + b"\x08", 3, 4, CHANNEL.seconds)
 
 
 def test_tables():
     tables = tables_for(CHANNEL, [100000, 0, 0], FLOW, OUTSIDE)
-    longer = [table + [99] for table in tables]
-    equal(lagoon.step_on_tables(3, 4, longer), (50000, 0), "in-mass and out-mass")
-    equal(longer[8:], [[100099, 49901, 0, 99], [-50000, 49901, 0, 0, 99], [0] * 16 + [99]], "longer tables")
-    for position in range(11):
-        short = [list(table) for table in tables]
+    longer = {position: table + [99] for position, table in tables.items()}
+    equal(lagoon.step_on_tables(3, 4, longer), (50000, 0, 0), "in-mass, out-mass and released mass")
+    equal([longer[i] for i in (lagoon.NEXT, lagoon.MOVED, lagoon.WORK)],
+          [[100099, 49901, 0, 99], [-50000, 49901, 0, 0, 99], [0] * 16 + [99]], "longer tables")
+    for position in lagoon.STEP_TABLES:
+        short = {i: list(table) for i, table in tables.items()}
         short[position].pop()
-        before = [list(table) for table in short]
+        before = {i: list(table) for i, table in short.items()}
         refused(2, position, "short table", lagoon.step_on_tables, 3, 4, short)
         equal(short, before, "tables after a refusal")
     refused(1, 0, "no cells", lagoon.step_on_tables, 0, 9000, tables)
@@ -172,13 +217,19 @@ def test_host_call_and_run():
     equal(lagoon.host_step(records[0], records[1], records[2] + b"\0", 0), (11 << 32, None), "step too long")
     equal(lagoon.run(b""), "M 11 0\n", "empty input")
     equal(lagoon.run(records[0] + b"\x20"), "F 11 0\n", "field cut")
-    equal(lagoon.run(records[0] + records[1]), "0 0 0 100000\nB 0 1000 0\nB 1 0 0\nB 2 0 0\n", "no steps")
+    equal(lagoon.run(records[0] + records[1]), "0 0 0 100000 0\nB 0 1000 0\nB 1 0 0\nB 2 0 0\n", "no steps")
     unbalanced = lagoon.pack_step(CHANNEL, [-101] + [100] * 3, OUTSIDE)
     zero_bit = records[2][:2] + b"\x40" + records[2][3:]
     text = lagoon.run(b"".join(records[:2]) + unbalanced + zero_bit + records[2])
-    equal(text.splitlines()[1:4], ["1 R 9 0", "2 R 12 17", "3 50000 0 150000"], "a refused step is skipped")
+    equal(text.splitlines()[1:4], ["1 R 9 0", "2 R 12 17", "3 50000 0 150000 0"], "a refused step is skipped")
     text = lagoon.run(b"".join(records) + records[2][:15])
-    equal(text.splitlines()[1:3], ["1 50000 0 150000", "2 R 11 0"], "a cut step ends the run")
+    equal(text.splitlines()[1:3], ["1 50000 0 150000 0", "2 R 11 0"], "a cut step ends the run")
+    outfalls = [lagoon.pack_step(CHANNEL, FLOW, OUTSIDE, releases) for releases in ([0, 20000, 0], [100_000_000, 0, 0])]
+    text = lagoon.run(records[0] + records[1] + outfalls[0] + records[2] + outfalls[1] + records[2] + outfalls[0])
+    equal(text.splitlines()[1:6], ["1 50000 0 170000 20000", "2 50000 3750 216250 0", "3 R 18 0", "4 50000 14000 252250 0",
+                                   "5 50000 26000 296250 20000"], "both kinds in one run; a refused step releases nothing")
+    equal(lagoon.host_step(records[0], records[1], outfalls[0], 14), (0, lagoon.pack_field([100099, 62401, 7500])), "host's call, kind 4")
+    equal(lagoon.host_step(records[0], records[1], outfalls[1], 0), (18 << 32, None), "host's call, cause 18")
     equal(lagoon.board([1] * 10, [5, 9, 5, 9, 0, 0, 0, 0, 0, 1])[:4],
           [(1, 9, 0), (3, 9, 0), (0, 5, 0), (2, 5, 0)], "board order")
     equal(lagoon.board([4, 2, 3, 10], [22, 11, 17, 55]), [(2, 5, 2), (0, 5, 2), (1, 5, 1), (3, 5, 5)], "board, equal q")
@@ -199,11 +250,12 @@ def test_largest_records():
     for printed in script.answer(generate_script.largest().encode()).splitlines():
         name, _, values = printed.partition(": ")
         if name.startswith("write_"):
+            name += " of kind 4" if name in written else ""
             said, _, entries = values.partition("; bytes ")
             length = int(said.split()[1])
             written[name] = length, digest(map(int, entries.split()[:length]))
     equal(written, {"write_mesh": (51192, 1815092123), "write_field": (16382, 3739429440),
-                    "write_step": (33788, 399157172)}, "the largest records")
+                    "write_step": (33788, 399157172), "write_step of kind 4": (50168, 1251613018)}, "the largest records")
 
 
 def test_pages():
@@ -234,8 +286,10 @@ def test_script():
                                  "bad input: line 4, byte 59: not a number"], "a script")
     equal(script.answer(b"1 18446744073709551615 0 18446744073709551616"),
           "bad input: line 1, byte 44: too large\n", "a number too large")
-    equal(script.answer(script.spell("read_step", 1, [RIM], [48], [-(1 << 63)], [7]).encode()),
-          f"read_step: refused 11 0; fluxes {-(1 << 63)}; outsides 7\n", "the most negative entry")
+    equal(script.answer(script.spell("read_step", 1, 1, [RIM], [48], [-(1 << 63)], [7], [8]).encode()),
+          f"read_step: refused 11 0; fluxes {-(1 << 63)}; outsides 7; releases 8\n", "the most negative entry")
+    equal(script.answer(script.spell("read_step", 1, 0, [], lagoon.pack_step(pool(1, 0), [], [], [9]), [], [], [7, 7]).encode()),
+          "read_step: accepted 4; fluxes; outsides; releases 9 7\n", "the kind that was read")
 
 
 def test_store():
@@ -260,8 +314,8 @@ def test_store():
 
 
 def test_conservation_and_bounds():
-    """On generated calls: total follows in-mass and out-mass, and no q leaves its neighbourhood's range."""
-    accepted = 0
+    """On generated calls: total follows in-mass, released mass and out-mass, and no q leaves its neighbourhood's range."""
+    accepted = {lagoon.WATER: 0, lagoon.OUTFALLS: 0}
     for number in range(1, 400):
         case = generate.call(7, number)
         try:
@@ -270,16 +324,16 @@ def test_conservation_and_bounds():
             result = lagoon.accept_step(case.step, mesh, masses)
         except lagoon.Refusal:
             continue
-        accepted += 1
-        equal(sum(result.masses), sum(masses) + result.in_mass - result.out_mass, f"total of call {number}")
-        fluxes, outsides = lagoon.read_step(case.step, len(mesh.firsts), mesh.seconds)
-        q = lagoon.concentrations(mesh.volumes, masses)
+        kind, fluxes, outsides, releases = lagoon.read_step(case.step, len(mesh.volumes), len(mesh.firsts), mesh.seconds)
+        accepted[kind] += 1
+        equal(sum(result.masses), sum(masses) + result.in_mass + result.released - result.out_mass, f"total of call {number}")
+        q = lagoon.concentrations(mesh.volumes, lagoon.raised(masses, releases))
         gains, losses = lagoon.bounds(mesh, result.masses, q, fluxes, outsides)
         equal(min(gains + losses) >= 0, True, f"bounds of call {number}")
-        tables = tables_for(mesh, masses, fluxes, outsides)
+        tables = tables_for(mesh, masses, fluxes, outsides, releases)
         equal(lagoon.write_mesh(len(mesh.volumes), len(mesh.firsts), tables, 1 << 20), case.mesh, "mesh rewritten")
-        equal(lagoon.write_step(len(mesh.volumes), len(mesh.firsts), tables, 1 << 20), case.step, "step rewritten")
-    equal(accepted > 100, True, "enough accepted calls")
+        equal(lagoon.write_step(kind, len(mesh.volumes), len(mesh.firsts), tables, 1 << 20), case.step, "step rewritten")
+    equal(min(accepted.values()) > 50, True, f"enough accepted calls of both kinds: {accepted}")
 
 
 if __name__ == "__main__":

@@ -18,6 +18,8 @@ found 's/s and K are 0/s and K are 77/'
 found '/worked: step-2/d'
 found 's/285 · 367 \/ 400 = 261/285 · 367 \/ 400 = 262/'
 found 's/99 > 91: 0/99 > 91: 211/'
+found 's/0 + 20000 = 20000/0 + 20000 = 20001/'
+found 's/50000 + 20300 − 50 = 170250/50000 − 50 = 149950/'
 
-# the second worked step tells each slip that the page names from the right figures
+# the worked steps tell each slip that the page names from the right figures
 python3 tests/test_slips.py

@@ -75,8 +75,8 @@ with open(made + "/err", "wb") as err, open(made + "/out", "wb") as out:
     subprocess.run([program], stdin=reader, stdout=out, stderr=err)
 P
 says "an input that fails after step 1" '^run: standard input: Resource temporarily unavailable$'
-prints "an input that fails after step 1" '0 0 0 100000
-1 50000 0 150000
+prints "an input that fails after step 1" '0 0 0 100000 0
+1 50000 0 150000 0
 '
 
 # An input that fails in the middle of a step, and one that cannot be read at all.

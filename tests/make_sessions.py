@@ -5,7 +5,7 @@
     python3 tests/make_sessions.py largest    writes the input of the largest mesh, as bytes, to standard output
     python3 tests/make_sessions.py long       writes that of a long list of steps, of whose output the last four lines are stored
 
-The expected output is the reference's, and for the channel what document 01 prints.
+The expected output is the reference's, and for the channel what document 01 prints, with document 02's fifth number.
 """
 
 import sys
@@ -20,9 +20,9 @@ from lagoon import Mesh, pack_field, pack_mesh, pack_step
 SESSIONS = HERE / "sessions"
 RIM = 4095
 
-CHANNEL_PRINTED = """0 0 0 100000
-1 50000 0 150000
-2 50000 0 200000
+CHANNEL_PRINTED = """0 0 0 100000 0
+1 50000 0 150000 0
+2 50000 0 200000 0
 B 0 1000 99
 B 1 811 88
 B 2 187 13
@@ -42,8 +42,9 @@ MESH = pack_mesh(CHANNEL)
 FIELD = pack_field([100000, 0, 0])
 
 
-def step(fluxes=(-50, 50, 50, 50), outsides=(1000, 0, 0, 0)):
-    return pack_step(CHANNEL, list(fluxes), list(outsides))
+def step(fluxes=(-50, 50, 50, 50), outsides=(1000, 0, 0, 0), releases=None):
+    """A step of the channel: of kind 4 where it has releases."""
+    return pack_step(CHANNEL, list(fluxes), list(outsides), releases)
 
 
 def mesh_with(**columns):
@@ -107,9 +108,43 @@ def sessions():
     yield "step_kind", start + good + changed(good, 0, 4, 2) + good
     yield "step_count", start + good + changed(good, 4, 13, 5) + good
 
+    # releases: kinds 3 and 4 in one run, and records of kind 4 on other meshes
+    outfall = step(releases=[0, 20000, 0])
+    yield "outfalls", start + outfall + good + outfall + outfall + good
+    yield "outfalls_zero", start + step(releases=[0, 0, 0]) * 2
+    yield "outfalls_out", start + step(releases=[0, 0, 20000]) + step(releases=[0, 150, 0])
+    one = bytes.fromhex("100100000640200100000063")
+    yield "outfalls_one_cell", one + bytes.fromhex("4000000000000385") + bytes.fromhex("30000000") + bytes.fromhex("400000000000000a")
+    ring = Mesh([10, 10], [0, 0], [1, 1], [128, 128], [10, 10])
+    yield "outfalls_no_rim", pack_mesh(ring) + pack_field([93, 15]) + pack_step(ring, [10, -10], [0, 0], [7, 0]) \
+        + pack_step(ring, [10, -10], [0, 0]) + pack_step(ring, [0, 0], [0, 0], [0, 1])
+
+    # cause 18: the last release accepted and the first refused, beside 7 and 12; a refused step releases nothing
+    full = step(releases=[99900099, 0, 0])
+    high = step(releases=[99900100, 0, 0])
+    yield "release_last_good", start + full
+    yield "release_first_bad", start + high + outfall + good
+    yield "release_greatest", start + step(releases=[0, 0, (1 << 32) - 1]) + good
+    yield "release_full", start + full + step((0, 0, 0, 0), (0, 0, 0, 0), [37450000, 0, 0]) + step((0, 0, 0, 0), (0, 0, 0, 0), [1, 0, 0])
+    yield "release_before_outside", between(step(outsides=(1000001, 0, 0, 0), releases=[0, 0, 100000100]))
+    yield "release_before_balance", between(step(fluxes=(-51, 50, 50, 50), releases=[0, 0, 100000100]))
+    yield "release_refused_whole", start + step(fluxes=(-51, 50, 50, 50), releases=[0, 20000, 0]) + good \
+        + step(outsides=(1000001, 0, 0, 0), releases=[0, 20000, 0]) + outfall
+
+    # kind 4: zero bits once, at the end; lengths by the kind; other kinds end the run
+    yield "outfall_padding", between(changed(outfall, 220, 1, 1)) + changed(outfall, 223, 1, 1) + outfall
+    yield "outfall_bit", between(changed(outfall, 31, 1, 1)) + outfall
+    yield "outfall_minus_zero", between(changed(outfall, 32, 13, 1 << 12)) + outfall
+    yield "outfall_head_short", start + outfall + outfall[:3]
+    yield "outfall_short", start + outfall + outfall[:-1]
+    yield "outfall_without", start + good + outfall[:16]
+    yield "outfall_as_water", start + good + changed(outfall, 0, 4, 3)
+    yield "outfall_kind", start + outfall + changed(outfall, 0, 4, 5) + outfall
+    yield "outfall_count", start + outfall + changed(outfall, 4, 13, 5) + outfall
+
 
 def largest():
-    """A ring of 1,023 cells in two layers of faces, 2,046 in all, with three steps around it."""
+    """A ring of 1,023 cells in two layers of faces, 2,046 in all, with three steps around it and two that release."""
     cells, faces = 1023, 2046
     firsts = [f % cells for f in range(faces)]
     seconds = [(f + 1) % cells for f in range(faces)]
@@ -118,7 +153,8 @@ def largest():
     data = pack_mesh(mesh) + pack_field(masses)
     for upper, lower in ((2000, 2095), (-4000, -95), (3000, -2000)):
         data += pack_step(mesh, [upper] * cells + [lower] * cells, [0] * faces)
-    return data
+    data += pack_step(mesh, [1000] * faces, [0] * faces, [c * 4095 % 100_000 for c in range(cells)])
+    return data + pack_step(mesh, [0] * faces, [0] * faces, [(1 << 32) - 1] * cells)
 
 
 def long():

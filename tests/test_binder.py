@@ -96,8 +96,9 @@ def last_of(data):
     at = lagoon.mesh_length(cells, faces)
     mesh = lagoon.accept_mesh(data[:at])
     masses = lagoon.accept_field(data[at:at + lagoon.field_length(cells)], mesh)
-    data, length = data[at + lagoon.field_length(cells):], lagoon.step_length(faces, mesh.seconds)
+    data = data[at + lagoon.field_length(cells):]
     while data:
+        length = lagoon.step_ends(data, mesh)
         try:
             masses = lagoon.accept_step(data[:length], mesh, masses).masses
         except lagoon.Refusal as refusal:

@@ -28,6 +28,7 @@ def test_the_tide():
     equal((status, said), (0, ""), "the tide's budget")
     report = out.decode()
     equal(figures(report), {"first total": 245000000, "in, face 0 (sea)": 210000000, "in, face 8 (river)": 1568000, "in, all rim faces": 211568000,
+                            "released, all cells": 0,
                             "out, face 0 (sea)": 270312000, "out, face 8 (river)": 1851900, "out, all rim faces": 272163900,
                             "last total": 184404100, "difference": 0}, "its figures")
     holds("49 steps, 48 accepted, 1 refused" in report and "masses in units of g" in report, report)
@@ -36,7 +37,7 @@ def test_the_tide():
 
 def test_beside_the_reference():
     """Sums of the lines that the reference prints, of generated sessions; and every row of --csv."""
-    tried = 0
+    tried = released = 0
     for number in range(40):
         data = generate.session(23, number).data
         lines = [line.split() for line in lagoon.run(data).splitlines()]
@@ -48,16 +49,30 @@ def test_beside_the_reference():
         steps = [line for line in lines if line[0] != "B"]
         accepted = [line for line in steps if line[1] != "R"]
         found = figures(said)
-        equal((status, found["first total"], found["in, all rim faces"], found["out, all rim faces"], found["last total"], found["difference"]),
-              (0, int(steps[0][3]), sum(int(line[1]) for line in accepted), sum(int(line[2]) for line in accepted), int(accepted[-1][3]), 0),
-              f"session {number}")
+        released += sum(int(line[4]) for line in accepted)
+        words = ("first total", "in, all rim faces", "out, all rim faces", "released, all cells", "last total", "difference")
+        sums = [sum(int(line[i]) for line in accepted) for i in (1, 2, 4)]
+        equal((status, *(found[each] for each in words)), (0, int(steps[0][3]), *sums, int(accepted[-1][3]), 0), f"session {number}")
         rows = list(csv.reader(io.StringIO(out.decode())))[1:]
         equal(len(rows), len(steps), f"session {number}, rows")
         for row, line in zip(rows, steps):
-            wanted = [line[0], "0", "0", row[3], *line[2:]] if line[1] == "R" else [*line, "", ""]
-            equal(row[:6], wanted, f"session {number}, row {line[0]}")
-            equal((sum(map(int, row[6::2])), sum(map(int, row[7::2]))), (int(row[1]), int(row[2])), f"session {number}, row {line[0]}, by face")
-    holds(tried > 10, f"only {tried} sessions with steps")
+            wanted = [line[0], "0", "0", row[3], "0", *line[2:]] if line[1] == "R" else [*line, "", ""]
+            equal(row[:7], wanted, f"session {number}, row {line[0]}")
+            equal((sum(map(int, row[7::2])), sum(map(int, row[8::2]))), (int(row[1]), int(row[2])), f"session {number}, row {line[0]}, by face")
+    holds(tried > 10 and released > 0, f"only {tried} sessions with steps, released {released}")
+
+
+def test_outfalls():
+    """What was released, by cell, with its name; and a release that the field refuses."""
+    session = CHANNEL.replace("field", "name cell 1 pump\nfield") + "step times 2\nface 0 flux 0\ncell 1 release 20000\ncell 2 release 5\n" \
+        + "step\ncell 0 release 99900001\n"
+    status, out, said = command("budget.py", "--run", RUN, data=session.encode())
+    report = out.decode()
+    equal((status, said, figures(report)), (0, "", {
+        "first total": 100000, "in, face 0": 100000, "in, all rim faces": 100000, "released, cell 1 (pump)": 40000, "released, cell 2": 10,
+        "released, all cells": 40010, "out, all rim faces": 0, "last total": 240010, "difference": 0}), report)
+    holds("1 step refused by cause 18: too high a concentration with a release\n  step 5: cell 0: mass 100,099 and release 99,900,001 in volume "
+          "100 are a concentration of 1,000,001, above 1,000,000 (cause 18)\n" in report, report)
 
 
 def test_months_follow_one_another():

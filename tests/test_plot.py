@@ -111,10 +111,23 @@ def test_profile_and_table():
     equal(list(profiles), ["after step 0", "after step 2", "after step 49"], "steps drawn")
     near(profiles["after step 0"], [35000, 30000, 20000, 10000, 5000, 0, 0, 0], 200, "the first field")
     equal(list(drawn(panels[CONCENTRATION])), ["1 Bay"], "the cell's name")
-    equal(rows[0], ["step", "q cell 1 (Bay)", "total", "in", "out", "cause"], "heading of the table")
-    equal([rows[1][:3], rows[-1][0], rows[26][5], len(rows)], [["0", "30000", "245000000"], "49", "9", 51], "its rows")
+    equal(rows[0], ["step", "q cell 1 (Bay)", "total", "in", "out", "released", "cause"], "heading of the table")
+    equal([rows[1][:3], rows[-1][0], rows[26][6], len(rows)], [["0", "30000", "245000000"], "49", "9", 51], "its rows")
     lines = [line.split() for line in lagoon.run(sessiontext.pack(TIDE)[0]).splitlines() if line[0] != "B"]
-    equal([row[3:5] + [row[2]] for row in rows[1:] if not row[5]], [line[1:] for line in lines if line[1] != "R"], "in, out and total")
+    equal([row[3:5] + [row[2], row[5]] for row in rows[1:] if not row[6]], [line[1:] for line in lines if line[1] != "R"],
+          "in, out, total and released")
+
+
+def test_outfalls():
+    """Released mass has a line of its own, and a place in the budget below the panels."""
+    session = CHANNEL + "step\nface 0 flux -50 outside 1000\nface 1 flux 50\nface 2 flux 50\nface 3 flux 50\ncell 1 release 20000\n"
+    panels, out = picture("--run", RUN, data=session.encode())
+    rates = drawn(panels["In-mass, out-mass and released mass of each step"])
+    near(rates["released"], [0, 0, 20000], 100, "released mass")
+    near(rates["out"], [0, 0, 9350], 100, "out-mass")
+    near(drawn(panels[TOTAL])["total"], [100000, 150000, 200000, 260650], 200, "total")
+    holds("total 260,650 = first total 100,000 + in 150,000 + released 20,000 − out 9,350" in out, "the budget")
+    holds("released" not in picture(data=CHANNEL.encode())[1], "a session without releases says nothing of them")
 
 
 def test_titles():
@@ -130,7 +143,7 @@ def test_an_engine_that_differs():
     with folder() as made:
         program = f"{made}/run"
         with open(program, "w") as file:
-            file.write("#!/bin/sh\ncat > /dev/null\necho 0 0 0 100000\n")
+            file.write("#!/bin/sh\ncat > /dev/null\necho 0 0 0 100000 0\n")
         (ROOT / program).chmod(0o755)
         refuses("line 2 of", "plot.py", "--run", program, data=data)
 

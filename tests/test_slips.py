@@ -1,5 +1,6 @@
 #!/usr/bin/env python3
-"""docs/ARITHMETIC.md, section 8: each slip that the page names gives another printed line of examples/second.txt.
+"""docs/ARITHMETIC.md, sections 8 and 9: each slip that the page names gives another printed line of examples/second.txt, and those of
+releases of examples/outfall.txt.
 
 The step is written here once more, with a switch for each slip, so that a slip is one changed line of it."""
 
@@ -11,7 +12,7 @@ ROOT = Path(__file__).resolve().parent.parent
 sys.path[:0] = [str(ROOT / "tools"), str(ROOT / "reference")]
 
 import lagoon
-from worked import CHANNEL, SECOND
+from worked import CHANNEL, OUTFALL, SECOND
 
 SLIPS = ("s where the second cell is upwind", "correction with the other sign", "quotient rounded down", "q after stage 1 for d",
          "still face met", "rest dropped", "G by V hi alone", "next masses from the low-order masses",
@@ -19,14 +20,19 @@ SLIPS = ("s where the second cell is upwind", "correction with the other sign", 
          "limit rounded up", "limits multiplied", "P netted", "smoothing corrections kept", "larger and smaller q exchanged",
          "equal q cancelled", "cancelled by the water's direction", "cancelled by q before the step", "cancelled by unrounded q",
          "cancelled after P and N")
+RELEASE_SLIPS = ("releases after the step", "bounds of the field before its releases", "out-mass by q before the releases", "releases forgotten",
+                 "released mass not printed")
 
 
 def step(session, slip=None):
-    """The masses after the session's first step, with one slip or none, and what crossed the rim."""
-    M, U, outside, m = session.mesh, session.fluxes, session.outsides, session.first
+    """The masses after the session's first step, with one slip or none, what crossed the rim, and what was released."""
+    M, U, outside, released = session.mesh, session.fluxes, session.outsides, session.releases
     cells, faces = session.cells, session.faces
     rim = [second == lagoon.RIM for second in M.seconds]
+    raised = [mass + release for mass, release in zip(session.first, released)]
+    m = session.first if slip in ("releases after the step", "releases forgotten") else raised
     q = [mass // V for mass, V in zip(m, M.volumes)]
+    q_lent = [mass // V for mass, V in zip(session.first, M.volumes)]
     if slip == "rest dropped":
         m = [V * c for V, c in zip(M.volumes, q)]
 
@@ -75,11 +81,12 @@ def step(session, slip=None):
         x = [0 if f in gone_by else x[f] for f in faces]
 
     def met(c):
-        near = [q[c]]
+        over = q_lent if slip == "bounds of the field before its releases" else q
+        near = [over[c]]
         for f in faces:
             if c in (M.firsts[f], M.seconds[f]) and (U[f] != 0 or slip == "still face met"):
                 if not rim[f]:
-                    near.append(q[M.firsts[f] + M.seconds[f] - c])
+                    near.append(over[M.firsts[f] + M.seconds[f] - c])
                 elif U[f] < 0 and slip != "outside value not met":
                     near.append(outside[f])
         return near
@@ -109,26 +116,32 @@ def step(session, slip=None):
     moved = [carried[f] + limited(f) for f in faces]
     after = flowed(low if slip == "next masses from the low-order masses" else m, moved)
     entered = sum(-U[f] * outside[f] for f in faces if rim[f] and U[f] < 0)
-    gone = sum(U[f] * q[M.firsts[f]] for f in faces if rim[f] and U[f] > 0)
-    return after, entered, gone
+    leaves = q_lent if slip == "out-mass by q before the releases" else q
+    gone = sum(U[f] * leaves[M.firsts[f]] for f in faces if rim[f] and U[f] > 0)
+    if slip == "releases after the step":
+        after = [mass + release for mass, release in zip(after, released)]
+    return after, entered, gone, 0 if slip in ("releases forgotten", "released mass not printed") else sum(released)
 
 
 def lines(session, slip=None):
     """What the run would print of the step: its line, and the board."""
-    after, entered, gone = step(session, slip)
+    after, entered, gone, released = step(session, slip)
     order = sorted(session.cells, key=lambda c: (-Fraction(after[c], session.mesh.volumes[c]), c))[:8]
     board = [f"B {c} {after[c] // session.mesh.volumes[c]} {after[c] % session.mesh.volumes[c]}" for c in order]
-    return [f"1 {entered} {gone} {sum(after)}", *board]
+    return [f"1 {entered} {gone} {sum(after)} {released}", *board]
 
 
 def main():
     right = SECOND.printed()[1:]
     if lines(SECOND) != right or step(CHANNEL)[0] != lagoon.advance(CHANNEL.mesh, CHANNEL.first, CHANNEL.fluxes, CHANNEL.outsides).masses:
         raise SystemExit("test_slips.py: the step written here is not the engine's")
-    unseen = [slip for slip in SLIPS if lines(SECOND, slip) == right]
-    if unseen:
-        raise SystemExit(f"test_slips.py: examples/second.txt does not show: {', '.join(unseen)}")
-    print(f"{len(SLIPS)} slips, each with other lines than examples/second.txt has")
+    if lines(OUTFALL) != OUTFALL.printed()[1:]:
+        raise SystemExit("test_slips.py: the step written here adds releases otherwise than the engine")
+    for session, slips, name in ((SECOND, SLIPS, "second.txt"), (OUTFALL, RELEASE_SLIPS, "outfall.txt")):
+        unseen = [slip for slip in slips if lines(session, slip) == session.printed()[1:]]
+        if unseen:
+            raise SystemExit(f"test_slips.py: examples/{name} does not show: {', '.join(unseen)}")
+        print(f"{len(slips)} slips, each with other lines than examples/{name} has")
 
 
 if __name__ == "__main__":

@@ -1,5 +1,5 @@
 #!/usr/bin/env python3
-"""The salt budget of a session: first total, what entered and what left over each rim face, last total, and the difference."""
+"""The salt budget of a session: first total, what entered and left over each rim face, what was released, last total, and the difference."""
 
 import csv
 import io
@@ -14,15 +14,15 @@ from session import open_session
 
 HELP = """\
 The session is text or packed. The engine steps through it, by the C call of the library (`make lib`); in-mass and out-mass are summed
-here, face by face, as document 01 defines them, and the totals are those of the engine's fields. So the difference,
-first total + in - out - last total, is a check: it is 0, and where it is not the exit status is 1.
+here, face by face, as document 01 defines them, and releases cell by cell; the totals are those of the engine's fields. So the
+difference, first total + in + released - out - last total, is a check: it is 0, and where it is not the exit status is 1.
 
 --field writes the field after the last step as a record. The next month begins with it:
 
   tools/budget.py june.in --field june.field
   tools/records.py pack july.txt --field june.field -o july.in
 
---csv has a row for each step: step, in, out, total, cause and place of a refusal, then in and out of each rim face.
+--csv has a row for each step: step, in, out, total, released, cause and place of a refusal, then in and out of each rim face.
 
 examples:
   tools/budget.py examples/tide.txt
@@ -39,6 +39,7 @@ class Budget:
         self.first = self.last = sum(session.masses)
         self.rim = session.mesh.rim
         self.entered, self.gone = Counter(), Counter()          # by rim face
+        self.released = Counter()                               # by cell
         self.accepted, self.refused, self.causes = 0, [], Counter()
 
     def add(self, moment):
@@ -48,6 +49,7 @@ class Budget:
             self.accepted += 1
             self.entered.update(moment.entered)
             self.gone.update(moment.gone)
+            self.released.update(moment.released)
             self.last = sum(moment.masses)
 
     def refuse(self, number, refusal):
@@ -59,7 +61,7 @@ class Budget:
             self.refused.append([number, number, refusal])
 
     def difference(self):
-        return self.first + sum(self.entered.values()) - sum(self.gone.values()) - self.last
+        return self.first + sum(self.entered.values()) + sum(self.released.values()) - sum(self.gone.values()) - self.last
 
 
 def report(budget, session, name):
@@ -70,9 +72,11 @@ def report(budget, session, name):
              f"{count(len(mesh.volumes), 'cell')}, {count(len(mesh.faces), 'face')} ({len(mesh.rim):,} at the rim); "
              f"{count(steps, 'step')}, {budget.accepted:,} accepted, {sum(budget.causes.values()):,} refused", ""]
     rows = [("first total", "", budget.first)]
-    for sign, words, sums in (("+", "in", budget.entered), ("-", "out", budget.gone)):
-        rows += [(f"  {words}, {labels.of('face', face)}", sign, sums[face]) for face in mesh.rim if sums[face]]
-        rows.append((f"{words}, all rim faces", sign, sum(sums.values())))
+    for sign, words, sums, thing, places, every in (("+", "in", budget.entered, "face", mesh.rim, "all rim faces"),
+                                                    ("+", "released", budget.released, "cell", range(len(mesh.volumes)), "all cells"),
+                                                    ("-", "out", budget.gone, "face", mesh.rim, "all rim faces")):
+        rows += [(f"  {words}, {labels.of(thing, place)}", sign, sums[place]) for place in places if sums[place]]
+        rows.append((f"{words}, {every}", sign, sum(sums.values())))
     rows += [("last total", "=", budget.last), ("difference", "", budget.difference())]
     wide, figures = max(len(row[0]) for row in rows), max(len(f"{row[2]:,}") for row in rows)
     lines += [f"{words:{wide}} {sign:1} {value:>{figures},}" for words, sign, value in rows]
@@ -101,7 +105,7 @@ class Rows:
         self.output, self.rim, self.text = output, session.mesh.rim, io.StringIO()
         self.writer = csv.writer(self.text, lineterminator="\n")
         faces = [f"{words} {session.labels.of('face', face)}" for face in self.rim for words in ("in", "out")]
-        self.row(["step", "in", "out", "total", "cause", "place", *faces])
+        self.row(["step", "in", "out", "total", "released", "cause", "place", *faces])
 
     def row(self, row):
         self.writer.writerow(row)
@@ -112,7 +116,8 @@ class Rows:
     def add(self, moment):
         refused = (moment.refusal.cause, moment.refusal.place) if moment.refusal else ("", "")
         faces = [sums.get(face, 0) for face in self.rim for sums in (moment.entered, moment.gone)]
-        self.row([moment.number, sum(moment.entered.values()), sum(moment.gone.values()), sum(moment.masses), *refused, *faces])
+        sums = [sum(part.values()) for part in (moment.entered, moment.gone, moment.released)]
+        self.row([moment.number, *sums[:2], sum(moment.masses), sums[2], *refused, *faces])
 
 
 def run(options):

@@ -1,4 +1,4 @@
-"""What the run refuses, in words: document 01's table of causes for values that have been read. Shares nothing with the engine."""
+"""What the run refuses, in words: the causes of documents 01 and 02 for values that have been read. Shares nothing with the engine."""
 
 from collections import namedtuple
 
@@ -16,7 +16,8 @@ CELL, FACE = "cell", "face"
 IN_WORDS = {1: "too many cells or faces, or no cell", 3: "a volume out of its range", 4: "a face's ends",
             5: "a share or reach out of its range", 6: "too high a concentration", 7: "an outside value out of its range or place",
             8: "a flux too large for its face", 9: "a cell whose inflow and outflow differ", 10: "a cell's outflow above its volume",
-            11: "a record of the wrong length", 12: "a wrong bit in a record", 13: "a record of the wrong kind or count"}
+            11: "a record of the wrong length", 12: "a wrong bit in a record", 13: "a record of the wrong kind or count",
+            18: "too high a concentration with a release"}
 
 Refusal = namedtuple("Refusal", "cause thing place words")      # thing: what the place counts, or "" where the words say all
 
@@ -87,8 +88,23 @@ def mass_words(row):
 
 # ---------------------------------------------------------------- A step
 
-def step_refusal(mesh, step):
-    return outside_refusal(mesh, step) or size_refusal(mesh, step.fluxes) or flow_refusal(mesh, step.fluxes)
+def step_refusal(mesh, step, masses=None):
+    """Without masses, of the field before the step, a release is judged alone: with them it may be refused for less."""
+    return (release_refusal(mesh, step.releases, masses) or outside_refusal(mesh, step) or size_refusal(mesh, step.fluxes)
+            or flow_refusal(mesh, step.fluxes))
+
+
+def release_refusal(mesh, releases, masses):
+    if releases is None:
+        return None
+    return first_of(18, CELL, zip(releases, masses or [0] * len(releases), mesh.volumes), release_words)
+
+
+def release_words(row):
+    release, mass, volume = row
+    q = (mass + release) // volume
+    both = f"mass {mass:,} and release {release:,} in volume {volume:,} are" if mass else f"release {release:,} in volume {volume:,} is"
+    return "" if q <= TOP else f"{both} a concentration of {q:,}, above {TOP:,}"
 
 
 def outside_refusal(mesh, step):
@@ -130,9 +146,9 @@ def flow_refusal(mesh, fluxes):
                     f"{row[0]:,} leaves, more than its volume {row[1]:,}")
 
 
-def refused_step(source, mesh):
-    """Why the run refuses the step record that the source holds; None where it accepts it."""
+def refused_step(source, mesh, masses=None):
+    """Why the run refuses the step record that the source holds, on a field of these masses; None where it accepts it."""
     try:
-        return step_refusal(mesh, source.step(mesh))
+        return step_refusal(mesh, source.step(mesh), masses)
     except layout.Damage as damage:
         return damaged(damage)

@@ -13,8 +13,9 @@ from command import ROOT, Bad
 
 SHARED = ROOT / "target" / "lib" / "liblagoon.so"
 
-# One step of a session: its number, None or the refusal, the masses after it, and its in-mass and out-mass by rim face.
-Moment = namedtuple("Moment", "number refusal masses entered gone")
+# One step of a session: its number, None or the refusal, the masses after it, its in-mass and out-mass by rim face, and what it released
+# by cell.
+Moment = namedtuple("Moment", "number refusal masses entered gone released")
 
 
 def options(parser):
@@ -58,7 +59,7 @@ class History:
         self.lines, self.records = [], None     # as the run prints them, and what it reads
         if program:
             self.records = tempfile.TemporaryFile()
-            self.keep(f"0 0 0 {sum(session.masses)}", session.mesh_record + session.field_record)
+            self.keep(f"0 0 0 {sum(session.masses)} 0", session.mesh_record + session.field_record)
 
     def keep(self, line, record=b""):
         if self.program:
@@ -67,34 +68,35 @@ class History:
 
     def moments(self):
         masses, number = self.session.masses, 0
-        yield Moment(0, None, masses, {}, {})
+        yield Moment(0, None, masses, {}, {}, {})
         for record, damage in self.session.steps():
             number += 1
             field, refused = self.engine.step(self.field, record)
             if refused:
                 self.keep(f"{number} R {refused[0]} {refused[1]}", record)
-                yield Moment(number, self.words(number, damage, refused), masses, {}, {})
+                yield Moment(number, self.words(number, damage, refused, masses), masses, {}, {}, {})
                 continue
-            entered, gone = self.over_the_rim(record, masses)
+            releases = layout.releases_in(record, self.mesh)
+            entered, gone = self.over_the_rim(record, [mass + release for mass, release in zip(masses, releases)])
             self.field, masses = field, layout.masses_in(field)
-            self.keep(f"{number} {sum(entered.values())} {sum(gone.values())} {sum(masses)}", record)
-            yield Moment(number, None, masses, entered, gone)
+            self.keep(f"{number} {sum(entered.values())} {sum(gone.values())} {sum(masses)} {sum(releases)}", record)
+            yield Moment(number, None, masses, entered, gone, {cell: release for cell, release in enumerate(releases) if release})
         for cell, q, rest in board(self.mesh.volumes, masses):
             self.keep(f"B {cell} {q} {rest}")
         if self.program:
             self.records.seek(0)
             agree(self.program, self.records, self.lines)
 
-    def words(self, number, damage, refused):
+    def words(self, number, damage, refused, masses):
         """The words of a refusal, which have to be about the engine's cause and place."""
-        refusal = causes.damaged(damage) if damage else causes.refused_step(self.session.source, self.mesh)
+        refusal = causes.damaged(damage) if damage else causes.refused_step(self.session.source, self.mesh, masses)
         if refusal is None or (refusal.cause, refusal.place) != refused:
             raise Bad(f"step {number}: the engine refuses it by cause {refused[0]}, place {refused[1]}, and tools/causes.py finds "
                       + (causes.told(refusal) if refusal else "nothing wrong with it"))
         return refusal
 
     def over_the_rim(self, record, masses):
-        """In-mass and out-mass of an accepted step, by rim face: document 01's two sums, face by face."""
+        """In-mass and out-mass of an accepted step on these raised masses, by rim face: document 01's two sums, face by face."""
         entered, gone = {}, {}
         for face, (flux, outside) in zip(self.mesh.rim, layout.rim_values(record, self.mesh)):
             first = self.mesh.faces[face].first

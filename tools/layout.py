@@ -1,4 +1,4 @@
-"""Records as document 01 lays them out in "Record layouts": the one place of the tools that knows the widths.
+"""Records as document 01 lays them out in "Record layouts", and document 02 in S-6: the one place of the tools that knows the widths.
 
 Written from the document; shares nothing with the engine. Reading does not judge values: tools/causes.py does.
 """
@@ -7,7 +7,7 @@ import struct
 from collections import namedtuple
 
 # Widths in bits.
-MESH, FIELD, STEP = 1, 2, 3
+MESH, FIELD, STEP, OUTFALLS = 1, 2, 3, 4       # a step is of kind 3, or of kind 4 with releases
 KIND_BITS, CELLS_BITS, FACES_BITS, MESH_ZEROS, STEP_ZEROS = 4, 12, 13, 3, 15
 VOLUME_BITS, END_BITS, SHARE_BITS, REACH_BITS, MASS_BITS, SIZE_BITS, OUTSIDE_BITS = 12, 12, 8, 12, 32, 12, 20
 FLUX_BITS = 1 + SIZE_BITS
@@ -21,7 +21,8 @@ MINUS_ZERO = "-0"               # a minus with size 0, which a record can say an
 
 Face = namedtuple("Face", "first second share reach")
 Mesh = namedtuple("Mesh", "volumes faces rim")          # rim: the numbers of the rim faces
-Step = namedtuple("Step", "fluxes outsides")            # outsides: of the rim faces, in their order
+# outsides: of the rim faces, in their order; releases: None in kind 3
+Step = namedtuple("Step", "fluxes outsides releases", defaults=(None,))
 
 
 def most(width):
@@ -52,8 +53,13 @@ def field_bytes(cells):
     return whole_bytes(FIELD_HEAD + cells * MASS_BITS)
 
 
-def step_bytes(mesh):
-    return whole_bytes(STEP_HEAD + len(mesh.faces) * FLUX_BITS + len(mesh.rim) * OUTSIDE_BITS)
+def releases_at(mesh):
+    """The bit after the last outside value of a step record, at which the releases of kind 4 begin."""
+    return STEP_HEAD + len(mesh.faces) * FLUX_BITS + len(mesh.rim) * OUTSIDE_BITS
+
+
+def step_bytes(mesh, kind):
+    return whole_bytes(releases_at(mesh) + (len(mesh.volumes) * MASS_BITS if kind == OUTFALLS else 0))
 
 
 # ---------------------------------------------------------------- Bits
@@ -94,9 +100,11 @@ def field_record(masses):
 
 
 def step_record(step):
-    head = written([(STEP, KIND_BITS), (len(step.fluxes), FACES_BITS), (0, STEP_ZEROS)])
+    kind = STEP if step.releases is None else OUTFALLS
+    head = written([(kind, KIND_BITS), (len(step.fluxes), FACES_BITS), (0, STEP_ZEROS)])
     fluxes = "".join([BITS_OF_FLUX[flux] for flux in step.fluxes])
-    return bytes_of(head + fluxes + written([(outside, OUTSIDE_BITS) for outside in step.outsides]))
+    values = [(outside, OUTSIDE_BITS) for outside in step.outsides] + [(release, MASS_BITS) for release in step.releases or []]
+    return bytes_of(head + fluxes + written(values))
 
 
 # ---------------------------------------------------------------- Reading
@@ -140,11 +148,12 @@ class Source:
     def damage(self, words, bit, cause, place, goes_on=False):
         return Damage(words, bit, cause, place, self.record, goes_on)
 
-    def head(self, bits, kind):
-        """The head's bits; its kind is the one expected."""
+    def head(self, bits, *kinds):
+        """The head's bits; its kind is one of those expected."""
         head = bits_of(self.hold(bits // 8))
-        if int(head[:KIND_BITS], 2) != kind:
-            raise self.damage(f"kind {head[:KIND_BITS]} in binary where a {self.name} record has {kind:04b}", 0, 13, 0)
+        if int(head[:KIND_BITS], 2) not in kinds:
+            wanted = " or ".join(f"{kind:04b}" for kind in kinds)
+            raise self.damage(f"kind {head[:KIND_BITS]} in binary where a {self.name} record has {wanted}", 0, 13, 0)
         return head
 
     def count(self, head, width, expected, what):
@@ -181,12 +190,13 @@ class Source:
         return masses_in(self.hold(field_bytes(cells)))
 
     def next_step(self, mesh):
-        """The bytes of the next step record, which has the kind, count and length of one; None where no byte is left."""
+        """The bytes of the next step record, which has a kind, count and length of one; None where no byte is left."""
         self.begin("step")
         if not self.more():
             return None
-        self.count(self.head(STEP_HEAD, STEP), FACES_BITS, len(mesh.faces), "faces")
-        return self.hold(step_bytes(mesh))
+        head = self.head(STEP_HEAD, STEP, OUTFALLS)
+        self.count(head, FACES_BITS, len(mesh.faces), "faces")
+        return self.hold(step_bytes(mesh, kind_of(self.record)))
 
     def step(self, mesh):
         """The values of the step record that next_step gave."""
@@ -199,9 +209,25 @@ class Source:
         if MINUS_ZERO in fluxes:
             bit = STEP_HEAD + FLUX_BITS * fluxes.index(MINUS_ZERO)
             raise self.damage("a minus with size 0", bit, 12, bit, True)
-        end = at + len(mesh.rim) * OUTSIDE_BITS
+        start = end = releases_at(mesh)
+        releases = None
+        if int(bits[:KIND_BITS], 2) == OUTFALLS:
+            end = start + len(mesh.volumes) * MASS_BITS
+            releases = [int(bits[i:i + MASS_BITS], 2) for i in range(start, end, MASS_BITS)]
         self.zeros(bits, end, len(bits), True)
-        return Step(fluxes, [int(bits[i:i + OUTSIDE_BITS], 2) for i in range(at, end, OUTSIDE_BITS)])
+        return Step(fluxes, [int(bits[i:i + OUTSIDE_BITS], 2) for i in range(at, start, OUTSIDE_BITS)], releases)
+
+
+def kind_of(record):
+    return record[0] >> 8 - KIND_BITS
+
+
+def releases_in(record, mesh):
+    """The release into each cell, of a step record that follows its layout; 0 in kind 3."""
+    if kind_of(record) != OUTFALLS:
+        return [0] * len(mesh.volumes)
+    start = releases_at(mesh)
+    return [number_at(record, start + cell * MASS_BITS, MASS_BITS) for cell in range(len(mesh.volumes))]
 
 
 def rim_values(record, mesh):

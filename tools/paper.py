@@ -32,7 +32,7 @@ td, th { border: 0.4pt solid #666; padding: 1mm 2mm; text-align: left; vertical-
 """
 
 # sections that begin a page of their own: the worked examples and the form
-OWN_PAGE = ("6.", "8.", "9.")
+OWN_PAGE = ("6.", "8.", "9.", "10.")
 
 
 def inline(text):

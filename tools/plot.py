@@ -19,8 +19,9 @@ from session import Session
 
 HELP = """\
 The session is text or packed; names and units of a text stand in the picture. The panels show q, the mass of a cell
-divided by its volume and rounded down, after each step; the total of all masses on an axis of its own; and the in-mass
-and out-mass of each step. At every step total = first total + all in - all out; the last line says it of the whole session.
+divided by its volume and rounded down, after each step; the total of all masses on an axis of its own; and the in-mass,
+out-mass and, where there are releases, the released mass of each step. At every step total = first total + all in + all
+released - all out; the last line says it of the whole session.
 
 Where there are more steps than the picture has room for, a line becomes a band: for each column of pixels from the
 least to the greatest value there, with the mean over ten columns as a line. A refused step changes nothing and is marked under the axis,
@@ -54,13 +55,13 @@ Panel = namedtuple("Panel", "title unit axis span xs lines marks")      # marks:
 # ---------------------------------------------------------------- Figures
 
 class Figures:
-    """What is drawn of a session: after each step that is kept q of the chosen cells, total, in-mass and out-mass."""
+    """What is drawn of a session: after each step that is kept q of the chosen cells, total, in-mass, out-mass and released mass."""
 
     def __init__(self, history, cells, every, profiles):
         self.session, self.mesh, self.cells = history.session, history.mesh, cells
         self.steps, self.q = array("Q"), {cell: array("Q") for cell in cells}
-        self.total, self.entered, self.gone = array("Q"), array("Q"), array("Q")
-        self.all_in = self.all_out = self.last = 0
+        self.total, self.entered, self.gone, self.released = array("Q"), array("Q"), array("Q"), array("Q")
+        self.all_in = self.all_out = self.all_released = self.last = 0
         self.refused, self.causes, self.profiles = [], Counter(), {}
         held = None
         for moment in history.moments():
@@ -85,6 +86,7 @@ class Figures:
             self.causes[moment.refusal.cause] += 1
         self.all_in += sum(moment.entered.values())
         self.all_out += sum(moment.gone.values())
+        self.all_released += sum(moment.released.values())
 
     def keep(self, moment):
         self.steps.append(moment.number)
@@ -93,6 +95,7 @@ class Figures:
         self.total.append(sum(moment.masses))
         self.entered.append(sum(moment.entered.values()))
         self.gone.append(sum(moment.gone.values()))
+        self.released.append(sum(moment.released.values()))
 
     def profile(self, masses):
         return [mass // volume for mass, volume in zip(masses, self.mesh.volumes)]
@@ -344,7 +347,9 @@ class Drawing:
         """The budget in a line, and the causes of what was refused."""
         figures = self.figures
         self.top -= GAP - BELOW
-        self.text(LEFT, self.top, f"total {figures.total[-1]:,} = first total {figures.total[0]:,} + in {figures.all_in:,} − out {figures.all_out:,}")
+        released = f" + released {figures.all_released:,}" if figures.all_released else ""
+        self.text(LEFT, self.top, f"total {figures.total[-1]:,} = first total {figures.total[0]:,} + in {figures.all_in:,}{released}"
+                                  f" − out {figures.all_out:,}")
         for cause, number in figures.causes.most_common(MOST_CAUSES):
             self.top += 20
             self.text(LEFT, self.top, f"{count(number, 'step')} refused by cause {cause}: {causes.IN_WORDS[cause]}")
@@ -386,8 +391,12 @@ def picture(figures, title):
                              for (step, values), colour in zip(sorted(figures.profiles.items()), COLOURS)], False))
     drawing.panel(Panel("Total of all masses", unit, axis, steps, figures.steps, [Line("total", "#000000", "", figures.total)], True))
     if len(figures.steps) > 1:
-        drawing.panel(Panel("In-mass and out-mass of each step", unit, axis, steps, figures.steps[1:],
-                            [Line("in", "#0072b2", "", figures.entered[1:]), Line("out", "#d55e00", "6 3", figures.gone[1:])], True))
+        title = "In-mass and out-mass of each step"
+        lines = [Line("in", "#0072b2", "", figures.entered[1:]), Line("out", "#d55e00", "6 3", figures.gone[1:])]
+        if figures.all_released:
+            title = "In-mass, out-mass and released mass of each step"
+            lines.append(Line("released", "#009e73", "2 3", figures.released[1:]))
+        drawing.panel(Panel(title, unit, axis, steps, figures.steps[1:], lines, True))
     drawing.foot()
     return drawing.svg()
 
@@ -396,9 +405,9 @@ def table(figures):
     """The figures that are drawn, a row for each step that is kept."""
     labels, text = figures.session.labels, io.StringIO()
     writer = csv.writer(text, lineterminator="\n")
-    writer.writerow(["step", *(f"q {labels.of('cell', cell)}" for cell in figures.cells), "total", "in", "out", "cause"])
+    writer.writerow(["step", *(f"q {labels.of('cell', cell)}" for cell in figures.cells), "total", "in", "out", "released", "cause"])
     refused = {step: refusal.cause for step, refusal in figures.refused}
-    for row in zip(figures.steps, *(figures.q[cell] for cell in figures.cells), figures.total, figures.entered, figures.gone):
+    for row in zip(figures.steps, *(figures.q[cell] for cell in figures.cells), figures.total, figures.entered, figures.gone, figures.released):
         writer.writerow([*row, refused.get(row[0], "")])
     return text.getvalue()
 

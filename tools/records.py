@@ -1,6 +1,6 @@
 #!/usr/bin/env python3
 """A session's records to readable text and back, and what the run would refuse in them. Written from document 01, "Record
-layouts" and "Causes"; shares nothing with the engine."""
+layouts" and "Causes", and document 02, S-6; shares nothing with the engine."""
 
 import io
 import sys
@@ -29,6 +29,9 @@ The text has one item on a line; words are separated by blanks, and # begins a c
   face N flux U                                   U -4095 to 4095, positive from first to second cell (outward
                                                   at the rim); a face left out has flux 0
   face N flux U outside Q                         Q 0 to 1048575, at a rim face; 0 unless written
+  cell N release R                                R 0 to 4294967295, the mass released into the cell, after the faces
+                                                  of the step; a cell left out has release 0. A step with such a
+                                                  line is a record of kind 4, one without is of kind 3
   bytes 30 02 00 00                               these bytes as they are, in hexadecimal
   unit volume 1000 m3                             what one unit is: volume, mass or step, in words; before the steps
   name cell N Inlet                               the name of a cell or a face, in words; before the steps
@@ -68,9 +71,13 @@ PACK_EXAMPLES = """\
 """
 
 CHECK_HELP = """\
-One line for each record that the run refuses, with the cause that it would print: the lowest number that applies, at its
+One line for each record that the run refuses, with the cause that it would print: the first that applies, at its
 lowest place. Of a text FILE:LINE is the line of that cell or face (or of the step, where it has none), of bytes the byte
 where the record begins. The exit status is 1 where anything is refused, and for bad text.
+
+No step is made here, so the field is known until the first accepted step only. A later step with releases may be
+refused by cause 18 for what its cells then hold; the last line counts those steps, and budget.py, which asks the engine,
+says it of each.
 """
 
 CHECK_EXAMPLES = """\
@@ -166,6 +173,7 @@ class Checker:
     def __init__(self, name, labels):
         self.name, self.labels, self.lines = name, labels, []
         self.mesh, self.steps, self.refused, self.ended = None, 0, 0, ""
+        self.masses, self.open = None, 0        # the field, up to the first accepted step; steps whose releases need a later one
         self.held = None        # the refusal, where it stands, and the first and last of the steps that have it
 
     def judge(self, kind, refusal, where):
@@ -173,6 +181,13 @@ class Checker:
             self.lines.append(f"{where}: {kind}: {causes.told(refusal, self.labels)}")
             self.ended = f"the run ends at this {kind}"
         return not refusal
+
+    def water(self, refusal, where, releases, times=1):
+        """Equal steps with their refusal, on the field where it is known."""
+        if not refusal:
+            self.open += (times if self.masses is None else times - 1) if releases else 0
+            self.masses = None
+        self.step(refusal, where, times)
 
     def step(self, refusal, where, times=1):
         first, self.steps = self.steps + 1, self.steps + times
@@ -199,6 +214,8 @@ class Checker:
         said = f"the run refuses {self.refused:,} of them" if self.refused else "the run accepts all"
         if not self.steps:
             said = "there is nothing to refuse"
+        if self.open:
+            said += f"; whether cause 18 refuses {self.open:,} with releases, budget.py says"
         mesh = self.mesh
         return self.lines + [f"{self.name}: {count(len(mesh.volumes), 'cell')}, {count(len(mesh.faces), 'face')} ({len(mesh.rim):,} at the rim), "
                              f"{count(self.steps, 'step')}: {said}"]
@@ -222,31 +239,35 @@ def check_text(parser, name):
             refusal = causes.field_refusal(checker.mesh, item.value)
             if not checker.judge("field", refusal, place_in(name, item, refusal, checker.mesh)):
                 return checker
+            checker.masses = item.value
         else:
-            refusal = step_refusal(checker.mesh, item.value)
-            checker.step(refusal, place_in(name, item, refusal, checker.mesh), item.times)
+            refusal = step_refusal(checker.mesh, item.value, checker.masses)
+            checker.water(refusal, place_in(name, item, refusal, checker.mesh), any(item.value.releases or []), item.times)
     if not parser.has_field:
         checker.ended = "there is no field, and the run refuses such a session (cause 11)"
     return checker
 
 
-def step_refusal(mesh, step):
+def step_refusal(mesh, step, masses):
     """As causes.step_refusal, of a step that may say a minus with size 0."""
     if MINUS_ZERO in step.fluxes:
         face = step.fluxes.index(MINUS_ZERO)
         return causes.Refusal(12, "face", face, "flux -0, a minus with size 0")
-    return causes.step_refusal(mesh, step)
+    return causes.step_refusal(mesh, step, masses)
 
 
 def place_in(name, item, refusal, mesh):
-    """FILE:LINE of the cell or face that is refused; of a cell in a step, its first face that is written."""
+    """FILE:LINE of the cell or face that is refused; of a cell in a step, its release or its first face that is written."""
     if not refusal:
         return ""
     line = item.line
     if item.kind == "mesh":
         line = item.lines.get((refusal.thing, refusal.place), line)
+    elif item.kind == "step" and refusal.cause == 18:
+        line = item.lines.get(("cell", refusal.place), line)
     elif item.kind == "step" and refusal.thing == "cell":
-        line = next((item.lines[face] for face in sorted(item.lines) if refusal.place in mesh.faces[face][:2]), line)
+        written = sorted(face for face in item.lines if isinstance(face, int))
+        line = next((item.lines[face] for face in written if refusal.place in mesh.faces[face][:2]), line)
     else:
         line = item.lines.get(refusal.place, line)
     return f"{name}:{line}"
@@ -258,13 +279,13 @@ def check_packed(file, name):
         checker.mesh = mesh = source.mesh(causes.LIMITS)
         if not checker.judge("mesh", causes.mesh_refusal(mesh), f"{name}: byte {source.at}"):
             return checker
-        masses = source.field(len(mesh.volumes))
-        if not checker.judge("field", causes.field_refusal(mesh, masses), f"{name}: byte {source.at}"):
+        checker.masses = source.field(len(mesh.volumes))
+        if not checker.judge("field", causes.field_refusal(mesh, checker.masses), f"{name}: byte {source.at}"):
             return checker
     except Damage as damage:
         checker.judge(source.name, causes.damaged(damage), f"{name}: byte {source.at}")
         return checker
-    held, refusal = None, None
+    held, refusal, releases = None, None, False
     while True:
         try:
             record = source.next_step(mesh)
@@ -274,8 +295,9 @@ def check_packed(file, name):
         if record is None:
             return checker
         if record != held:
-            held, refusal = record, causes.refused_step(source, mesh)
-        checker.step(refusal, f"{name}: byte {source.at}")
+            held, refusal = record, causes.refused_step(source, mesh, checker.masses)
+            releases = any(layout.releases_in(record, mesh))
+        checker.water(refusal, f"{name}: byte {source.at}", releases)
 
 
 def run_check(options):

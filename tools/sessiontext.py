@@ -1,4 +1,4 @@
-"""A session as text, both ways: the words of document 01, one item on a line. `tools/records.py --help` says the format."""
+"""A session as text, both ways: the words of the documents, one item on a line. `tools/records.py --help` says the format."""
 
 import io
 import re
@@ -44,7 +44,8 @@ class StepText:
             if outside or step.fluxes[face] < 0:
                 fluxes[face] = f"{fluxes[face]} outside {outside}"
         head = f"\nstep  # {first}\n" if times == 1 else f"\nstep times {times}  # {first} to {first + times - 1}\n"
-        return head + self.lines % tuple(fluxes)
+        released = [f"cell {cell} release {release}\n" for cell, release in enumerate(step.releases or [])]
+        return head + self.lines % tuple(fluxes) + "".join(released)
 
 
 # ---------------------------------------------------------------- From text
@@ -146,7 +147,7 @@ class Parser:
         self.file, self.number = file, 0
         self.labels, self.named = Labels(), []
         self.section, self.volumes, self.faces, self.mesh, self.has_field = None, None, None, None, False
-        self.values, self.outsides, self.next, self.times, self.begun, self.lines = [], [], 0, 1, 0, {}
+        self.values, self.outsides, self.releases, self.next, self.times, self.begun, self.lines = [], [], None, 0, 1, 0, {}
 
     def items(self):
         for raw in self.raw_lines():
@@ -175,7 +176,7 @@ class Parser:
     def flux_line(self, raw):
         """Takes a plain line of a step; every other line is left to the words."""
         found = FLUX_LINE.fullmatch(raw)
-        if not found:
+        if not found or self.releases is not None:
             return False
         face, flux, outside = found.groups()
         face, size = int(face), int(flux)
@@ -192,7 +193,7 @@ class Parser:
 
     def take(self, line):
         items = {"mesh": {"cell": self.mesh_cell, "face": self.mesh_face}, "field": {"cell": self.field_cell},
-                 "step": {"face": self.step_face}}.get(self.section, {})
+                 "step": {"face": self.step_face, "cell": self.step_cell}}.get(self.section, {})
         keyword = line.keyword(*items, "mesh", "field", "step", "bytes", "unit", "name")
         if keyword in items:
             items[keyword](line)
@@ -223,7 +224,7 @@ class Parser:
             if not self.has_field:
                 raise line.error("a step follows a field, and there is none above")
             self.times = self.step_times(line)
-            self.values, self.outsides = [0] * len(self.faces), dict.fromkeys(self.mesh.rim, 0)
+            self.values, self.outsides, self.releases = [0] * len(self.faces), dict.fromkeys(self.mesh.rim, 0), None
         else:
             self.has_field = self.has_field or self.volumes is not None
         self.section = section
@@ -246,7 +247,7 @@ class Parser:
         elif section == "field":
             yield Item("field", self.values, 1, self.begun, self.lines)
         elif section == "step":
-            yield Item("step", Step(self.values, list(self.outsides.values())), self.times, self.begun, self.lines)
+            yield Item("step", Step(self.values, list(self.outsides.values()), self.releases), self.times, self.begun, self.lines)
 
     def bytes_line(self, line):
         found = bytearray()
@@ -317,16 +318,28 @@ class Parser:
         if found < self.next:
             raise line.error(f"{what} {found} should stand above {what} {self.next - 1}, and once")
         self.next = found + 1
-        self.lines[found] = line.number
         return found
 
     def field_cell(self, line):
         cell = self.in_mesh(line, "cell", self.volumes)
+        self.lines[cell] = line.number
         line.keyword("mass")
         self.values[cell] = line.number_of("a mass", most(MASS_BITS))
 
+    def step_cell(self, line):
+        """A release: the step is of kind 4 then."""
+        if self.releases is None:
+            self.releases, self.next = [0] * len(self.volumes), 0
+        cell = self.in_mesh(line, "cell", self.volumes)
+        self.lines["cell", cell] = line.number
+        line.keyword("release")
+        self.releases[cell] = line.number_of("a release", most(MASS_BITS))
+
     def step_face(self, line):
+        if self.releases is not None:
+            raise line.error("the faces of a step stand before its releases")
         face = self.in_mesh(line, "face", self.faces)
+        self.lines[face] = line.number
         line.keyword("flux")
         found = line.word("a flux")
         size = line.number_in(found, "the size of a flux", most(SIZE_BITS), "a flux")

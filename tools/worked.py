@@ -1,5 +1,5 @@
 #!/usr/bin/env python3
-"""The figures of docs/ARITHMETIC.md: two sessions worked from their bytes, each number shown."""
+"""The figures of docs/ARITHMETIC.md: sessions worked from their bytes, each number shown."""
 
 import re
 import sys
@@ -16,8 +16,8 @@ import sessiontext
 
 HELP = """\
 The page holds blocks between lines <!-- worked: NAME --> and <!-- end -->. Every number is worked out here by its
-formula and has to be the one of reference/lagoon.py; the bytes are packed from examples/channel.txt and
-examples/second.txt.
+formula and has to be the one of reference/lagoon.py; the bytes are packed from examples/channel.txt,
+examples/second.txt and examples/outfall.txt.
 
 examples:
   tools/worked.py                               prints all blocks
@@ -52,17 +52,18 @@ class Session:
         self.cells, self.faces = range(cells), range(faces)
         self.mesh = lagoon.accept_mesh(data[:mesh])
         self.first = lagoon.accept_field(data[mesh:mesh + field], self.mesh)
-        rims = self.mesh.seconds.count(lagoon.RIM)
-        step = layout.whole_bytes(layout.STEP_HEAD + faces * layout.FLUX_BITS + rims * layout.OUTSIDE_BITS)
-        ends = [0, mesh, *range(mesh + field, len(data) + 1, step)]
-        self.records = [data[a:b] for a, b in zip(ends, ends[1:])]
-        self.fluxes, self.outsides = lagoon.read_step(self.records[2], faces, self.mesh.seconds)
+        self.records, rest = [data[:mesh], data[mesh:mesh + field]], data[mesh + field:]
+        while rest:
+            end = lagoon.step_ends(rest, self.mesh)
+            self.records.append(rest[:end])
+            rest = rest[end:]
+        self.kind, self.fluxes, self.outsides, self.releases = lagoon.read_step(self.records[2], cells, faces, self.mesh.seconds)
 
     def printed(self):
         return lagoon.run(b"".join(self.records)).splitlines()
 
 
-CHANNEL, SECOND = Session("channel.txt"), Session("second.txt")
+CHANNEL, SECOND, OUTFALL = Session("channel.txt"), Session("second.txt"), Session("outfall.txt")
 
 
 def columns(rows):
@@ -96,7 +97,9 @@ def layouts():
              f"per cell V ({layout.VOLUME_BITS}); then per face first ({end}), second ({end}), s ({layout.SHARE_BITS}), K ({layout.REACH_BITS})"),
             ("field", head.format(layout.FIELD, cells), f"per cell m ({mass})"),
             ("step", head.format(layout.STEP, f"{faces}, zeros ({layout.STEP_ZEROS})"),
-             f"per face sign (1) and size of U ({layout.SIZE_BITS}); then per rim face outside value ({layout.OUTSIDE_BITS})")]
+             f"per face sign (1) and size of U ({layout.SIZE_BITS}); then per rim face outside value ({layout.OUTSIDE_BITS})"),
+            ("step with releases", head.format(layout.OUTFALLS, f"{faces}, zeros ({layout.STEP_ZEROS})"),
+             f"as of kind {layout.STEP}; then per cell release ({mass})")]
     return table(rows)
 
 
@@ -146,11 +149,18 @@ def mesh_bits():
 
 def field_and_step_bits():
     field = [("kind: field", 4), ("cells", 12)] + [(f"m of cell {c}", 32) for c in CHANNEL.cells]
-    step = [("kind: step", 4), ("faces", 13), ("zeros", 15)]
-    for f in CHANNEL.faces:
+    return by_bits(CHANNEL.records[1], field) + [""] + step_bits(CHANNEL, "step")
+
+
+def step_bits(session, name):
+    """The first step record of a session, field by field."""
+    step = [(f"kind: {name}", 4), ("faces", 13), ("zeros", 15)]
+    for f in session.faces:
         step += [(f"face {f}: sign of U, 1 is minus", 1), (f"face {f}: size of U", 12)]
-    step += [(f"face {f}: outside value", 20) for f in CHANNEL.faces if CHANNEL.mesh.seconds[f] == lagoon.RIM]
-    return by_bits(CHANNEL.records[1], field) + [""] + by_bits(CHANNEL.records[2], step)
+    step += [(f"face {f}: outside value", 20) for f in session.faces if session.mesh.seconds[f] == lagoon.RIM]
+    if session.kind == lagoon.OUTFALLS:
+        step += [(f"release of cell {c}", 32) for c in session.cells]
+    return by_bits(session.records[2], step)
 
 
 # ---------------------------------------------------------------- One step
@@ -158,9 +168,10 @@ def field_and_step_bits():
 class Step:
     """All numbers of one step, worked by the formulas of the page and compared with the reference."""
 
-    def __init__(self, session, masses):
-        self.session, self.mesh, self.U, self.outside, self.m = session, session.mesh, session.fluxes, session.outsides, masses
-        self.cells, self.faces = session.cells, session.faces
+    def __init__(self, session, lent):
+        self.session, self.mesh, self.U, self.outside, self.lent = session, session.mesh, session.fluxes, session.outsides, lent
+        self.cells, self.faces, self.releases = session.cells, session.faces, session.releases
+        self.m = masses = same([m + release for m, release in zip(lent, self.releases)], lagoon.raised(lent, self.releases))
         self.q = same([m // V for m, V in zip(masses, self.mesh.volumes)], lagoon.concentrations(self.mesh.volumes, masses))
         self.upwind = [self.upwind_of(f) for f in self.faces]
         carried, low = lagoon.upwind(self.mesh, masses, self.q, self.U, self.outside)
@@ -177,12 +188,13 @@ class Step:
         self.P = [self.into(c, self.kept) for c in self.cells]
         self.N = [self.out_of(c, self.kept) for c in self.cells]
         self.limited = same([self.limited_of(f)[-1] for f in self.faces], lagoon.limiter(self.mesh, self.kept, self.G, self.L))
-        result = lagoon.advance(self.mesh, masses, self.U, self.outside)
+        result = lagoon.advance(self.mesh, lent, self.U, self.outside, self.releases)
         self.moved = same([c + a for c, a in zip(self.carried, self.limited)], result.moved)
         self.next = same([masses[c] + self.into(c, self.moved) - self.out_of(c, self.moved) for c in self.cells], result.masses)
         rim = [f for f in self.faces if self.at_rim(f)]
         self.entered = same(sum(-self.U[f] * self.outside[f] for f in rim if self.U[f] < 0), result.in_mass)
         self.gone = same(sum(self.U[f] * self.q[self.mesh.firsts[f]] for f in rim if self.U[f] > 0), result.out_mass)
+        self.released = same(sum(self.releases), result.released)
 
     def at_rim(self, f):
         return self.mesh.seconds[f] == lagoon.RIM
@@ -254,7 +266,7 @@ class Step:
     # ------------------------------------------------------------ as text
 
     def lines(self):
-        stages = (self.before(), self.stage_1(), self.stage_2(), self.smoothing(), self.stage_3(), self.stage_4(), self.stage_5())
+        stages = (*self.raising(), self.before(), self.stage_1(), self.stage_2(), self.smoothing(), self.stage_3(), self.stage_4(), self.stage_5())
         return [line for stage in stages for line in [*stage, ""]][:-1]
 
     def given(self):
@@ -265,6 +277,13 @@ class Step:
         faces += [(f, M.firsts[f], "rim" if self.at_rim(f) else M.seconds[f], M.shares[f], M.reaches[f], signed(self.U[f]), self.outside[f])
                   for f in self.faces]
         return columns(cells) + [""] + columns(faces)
+
+    def raising(self):
+        """The stage that a step of kind 4 has before the others."""
+        if self.session.kind != lagoon.OUTFALLS:
+            return []
+        rows = [("cell", "raised m = m + release")] + [(c, f"{self.lent[c]} + {self.releases[c]} = {self.m[c]}") for c in self.cells]
+        return [["Releases", *columns(rows)]]
 
     def before(self):
         V = self.mesh.volumes
@@ -339,14 +358,18 @@ class Step:
         cells = [("cell", "next mass = m + entering − leaving", "q", "rest")]
         cells += [(c, f"{self.m[c]} + {self.into(c, self.moved)} − {self.out_of(c, self.moved)} = {self.next[c]}", self.next[c] // V[c], self.next[c] % V[c])
                   for c in self.cells]
-        before, after = sum(self.m), same(sum(self.next), sum(self.m) + self.entered - self.gone)
-        return ["Stage 5, moved and next masses", *columns(faces), *columns(cells),
-                f"in-mass {self.entered}, out-mass {self.gone}; total {before} + {self.entered} − {self.gone} = {after}"]
+        before, after = sum(self.lent), same(sum(self.next), sum(self.lent) + self.entered + self.released - self.gone)
+        crossed, total = f"in-mass {self.entered}, out-mass {self.gone}", f"total {before} + {self.entered} − {self.gone} = {after}"
+        budget = [f"{crossed}; {total}"]
+        if self.session.kind == lagoon.OUTFALLS:
+            budget = [f"{crossed}, released mass {self.released}", f"total {before} + {self.entered} + {self.released} − {self.gone} = {after}"]
+        return ["Stage 5, moved and next masses", *columns(faces), *columns(cells), *budget]
 
 
 STEP_1 = Step(CHANNEL, CHANNEL.first)
 STEP_2 = Step(CHANNEL, STEP_1.next)
 SECOND_STEP = Step(SECOND, SECOND.first)
+OUTFALL_STEP = Step(OUTFALL, OUTFALL.first)
 
 
 def year():
@@ -390,12 +413,13 @@ def form():
         heads = "|" + "|".join(f" {name:{wide}} " for name, wide in names) + "|"
         empty = "|" + "|".join(" " * (wide + 2) for _, wide in names) + "|"
         return [line, heads, line] + [empty, line] * rows
-    cells = [("cell", 4), ("V", 4), ("m", 8), ("q", 6), ("low", 8), ("lo", 5), ("hi", 5), ("next m", 8)]
+    cells = [("cell", 4), ("V", 4), ("release", 7), ("m", 7), ("q", 5), ("low", 6), ("lo", 4), ("hi", 4), ("next m", 7)]
     sums = [("cell", 4), ("low q", 6), ("P", 7), ("G", 7), ("N", 7), ("L", 7), ("next q", 7), ("rest", 5)]
     faces = [("face", 4), ("U", 4), ("carried", 8), ("d", 6), ("t", 3), ("correction", 10), ("limited", 8), ("moved", 8)]
     return (["Step ______    worked by ____________    checked by ____________", ""]
             + blank(cells, 4) + [""] + blank(sums, 4) + [""] + blank(faces, 5)
-            + ["a correction that is not kept is struck out", "", "in-mass ________  out-mass ________  total before ________  after ________"])
+            + ["m with its release added; a correction that is not kept is struck out", "",
+               "in-mass ________  released ________  out-mass ________", "total before ________  after ________"])
 
 
 def binder_page():
@@ -417,7 +441,9 @@ def page_back():
 BLOCKS = {"layouts": layouts, "bytes": the_bytes, "mesh-bits": lambda: fenced(mesh_bits()), "step-bits": lambda: fenced(field_and_step_bits()),
           "step-1": lambda: fenced(STEP_1.lines()), "step-2": lambda: fenced(STEP_2.lines()), "printed": lambda: fenced(CHANNEL.printed()),
           "second-given": lambda: fenced(SECOND_STEP.given()), "second-step": lambda: fenced(SECOND_STEP.lines()),
-          "second-printed": lambda: fenced(SECOND.printed()), "year": lambda: fenced(year()), "widest": lambda: fenced(widest()),
+          "second-printed": lambda: fenced(SECOND.printed()), "outfall-bits": lambda: fenced(step_bits(OUTFALL, "step with releases")),
+          "outfall-step": lambda: fenced(OUTFALL_STEP.lines()), "outfall-printed": lambda: fenced(OUTFALL.printed()),
+          "year": lambda: fenced(year()), "widest": lambda: fenced(widest()),
           "edition": edition, "form": lambda: fenced(form()), "page": lambda: fenced(binder_page()), "page-back": lambda: fenced(page_back())}
 WIDEST_LINE = 76        # columns of a fenced block that an A4 page holds
 

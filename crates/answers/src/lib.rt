@@ -11,6 +11,7 @@ use model::Answer;
 use model::Refusal;
 use page::PageAnswer;
 use reading::MeshAnswer;
+use reading::StepRead;
 use survey::ShareAnswer;
 use transport::StepAnswer;
 use writing::WriteAnswer;
@@ -45,12 +46,13 @@ pub fn total(said: TotalAnswer) {
     }
 }
 
-// In-mass and out-mass.
+// In-mass, out-mass and released mass.
 pub fn step(said: StepAnswer) {
     match said {
         StepAnswer::Stepped(crossing) => {
             accepted_with(crossing.entered);
             show::number(crossing.gone);
+            show::number(crossing.released);
         }
         StepAnswer::Refused(refusal) => refused(refusal),
     }
@@ -71,6 +73,14 @@ pub fn mesh(said: MeshAnswer) {
             show::number(counts.faces as u64);
         }
         MeshAnswer::Refused(refusal) => refused(refusal),
+    }
+}
+
+// The number of the kind.
+pub fn step_read(said: StepRead) {
+    match said {
+        StepRead::Read(kind) => accepted_with(heads::kind_number(kind)),
+        StepRead::Refused(refusal) => refused(refusal),
     }
 }
 

@@ -54,6 +54,7 @@ fn pair(
     next: &mut [u64; MAX_CELLS],
     moved: &mut [i64; MAX_FACES],
     work: &mut [u64; WORK],
+    releases: &[u64; MAX_CELLS],
     sums: Sums,
 ) -> Sums {
     let there = transport::step(
@@ -70,6 +71,7 @@ fn pair(
         next,
         moved,
         work,
+        releases,
     );
     let back = transport::step(
         cells,
@@ -85,6 +87,7 @@ fn pair(
         masses,
         moved,
         work,
+        releases,
     );
     with(with(sums, there), back)
 }
@@ -102,6 +105,7 @@ fn repeat(
     field: &[u64; MAX_CELLS],
     fluxes: &[i64; MAX_FACES],
     outsides: &[u64; MAX_FACES],
+    releases: &[u64; MAX_CELLS],
 )
     requires { ⌜ cells ≤ maxCells ⌝ }
 {
@@ -133,6 +137,7 @@ fn repeat(
             &mut next,
             &mut moved,
             &mut work,
+            releases,
             sums,
         );
         i += 1;
@@ -154,6 +159,7 @@ fn run(cells: usize, width: u64, height: u64, rounds: u64)
     let mut field = [0u64; MAX_CELLS];
     let mut fluxes = [0i64; MAX_FACES];
     let mut outsides = [0u64; MAX_FACES];
+    let releases = [0u64; MAX_CELLS];
     grid::make_cells(cells, width, &mut volumes, &mut field);
     grid::make_faces(
         2 * cells,
@@ -178,6 +184,7 @@ fn run(cells: usize, width: u64, height: u64, rounds: u64)
         &field,
         &fluxes,
         &outsides,
+        &releases,
     );
 }
 

@@ -1,35 +1,47 @@
--- What is read of a step's body are its columns: the fluxes, and the outside values at the rim.
-use Prim.Native.Nat.{ℕ, _+_, _*_}
+-- What is read of a step's body are its columns: the fluxes, the outside values at the rim, and the releases.
+use Prim.Native.Nat.{ℕ, _+_, _*_, _^_, _≤_, _<_}
 use mathlib.Core.Path.{_≡_, ap, _∙_}
 use mathlib.Core.Bool.{cond}
 use mathlib.Core.List.{List}
 use native.Mathlib.Omega.{arith}
 use lib.Dec.{eqb}
 use lib.IntN.{pos}
+use lib.ListN.{length}
 use Rattle.lists.specs.Table.{table}
 use Rattle.lists.proofs.Tables.{table-cong}
 use Rattle.signed.specs.Sign.{withSign}
 use Rattle.bits.specs.Field.{bitsAt}
-use Rattle.sections.specs.Sections.{place, valueIn, columnIn}
-use Rattle.heads.specs.Layouts.{sizeBits, fluxBits, outsideBits, isRim, rimFaces, stepBody}
-use Rattle.heads.proofs.Layouts.{outside-at}
+use Rattle.sections.specs.Sections.{shapeBits, place, valueIn, columnIn}
+use Rattle.sections.proofs.Bodies.{column-is, column-room}
+use Rattle.heads.specs.Layouts.{sizeBits, fluxBits, outsideBits, releaseBits, isRim, rimFaces, stepBody}
+use Rattle.heads.proofs.Layouts.{release-wide, outside-at, releases-at}
 
-module _ (body : List ℕ) (faces : ℕ) (seconds : List ℕ) where
+module _ (body : List ℕ) (kind cells faces : ℕ) (seconds : List ℕ) where
   pub fluxes-taken : table faces (λ f. withSign (eqb (bitsAt body (0 + f * (1 + sizeBits)) 1) 1) (bitsAt body (0 + f * (1 + sizeBits) + 1) sizeBits))
-      ≡ table faces (λ f. withSign (eqb (valueIn body (stepBody faces seconds) 0 0 f) 1) (valueIn body (stepBody faces seconds) 0 1 f))
+      ≡ table faces (λ f. withSign (eqb (valueIn body (stepBody kind cells faces seconds) 0 0 f) 1) (valueIn body (stepBody kind cells faces seconds) 0 1 f))
   fluxes-taken = table-cong (pos 0) faces _ _ (λ f l. one f)
     where
       one : (f : ℕ) → withSign (eqb (bitsAt body (0 + f * (1 + sizeBits)) 1) 1) (bitsAt body (0 + f * (1 + sizeBits) + 1) sizeBits)
-          ≡ withSign (eqb (valueIn body (stepBody faces seconds) 0 0 f) 1) (valueIn body (stepBody faces seconds) 0 1 f)
+          ≡ withSign (eqb (valueIn body (stepBody kind cells faces seconds) 0 0 f) 1) (valueIn body (stepBody kind cells faces seconds) 0 1 f)
       one f =
-          let p : 0 + f * (1 + sizeBits) ≡ place (stepBody faces seconds) 0 0 f = omega arith in
-          let q : 0 + f * (1 + sizeBits) + 1 ≡ place (stepBody faces seconds) 0 1 f = omega arith in
+          let p : 0 + f * (1 + sizeBits) ≡ place (stepBody kind cells faces seconds) 0 0 f = omega arith in
+          let q : 0 + f * (1 + sizeBits) + 1 ≡ place (stepBody kind cells faces seconds) 0 1 f = omega arith in
           ap (λ (x : ℕ). withSign (eqb (bitsAt body x 1) 1) (bitsAt body (0 + f * (1 + sizeBits) + 1) sizeBits)) p
-          ∙ ap (λ (x : ℕ). withSign (eqb (valueIn body (stepBody faces seconds) 0 0 f) 1) (bitsAt body x sizeBits)) q
+          ∙ ap (λ (x : ℕ). withSign (eqb (valueIn body (stepBody kind cells faces seconds) 0 0 f) 1) (bitsAt body x sizeBits)) q
 
   pub outsides-taken : {p : ℕ} → p ≡ faces * fluxBits
-      → table faces (λ f. cond (isRim seconds f) (bitsAt body (p + rimFaces seconds f * outsideBits) outsideBits) 0) ≡ columnIn body (stepBody faces seconds) 1 0
+      → table faces (λ f. cond (isRim seconds f) (bitsAt body (p + rimFaces seconds f * outsideBits) outsideBits) 0) ≡ columnIn body (stepBody kind cells faces seconds) 1 0
   outsides-taken {p} e = table-cong {A = ℕ} 0 faces _ _ (λ f l. ap (λ (x : ℕ). cond (isRim seconds f) (bitsAt body x outsideBits) 0) (at f))
     where
-      at : (f : ℕ) → p + rimFaces seconds f * outsideBits ≡ place (stepBody faces seconds) 1 0 f
-      at f = omega (arith, e, outside-at faces seconds f)
+      at : (f : ℕ) → p + rimFaces seconds f * outsideBits ≡ place (stepBody kind cells faces seconds) 1 0 f
+      at f = omega (arith, e, outside-at kind cells faces seconds f)
+
+  -- the releases, at the place and of the width that the code reckons
+  module _ {p w : ℕ} (e : p ≡ faces * fluxBits + rimFaces seconds faces * outsideBits) (d : w ≡ releaseBits kind) where
+    pub releases-ask : {m : ℕ} → 8 * length body < 2 ^ 64 → shapeBits (stepBody kind cells faces seconds) ≤ 8 * length body → cells ≤ m
+        → ((8 * length body < 2 ^ 64) × (w ≤ 40) × (cells ≤ m)) × ((i : ℕ) → i < cells → p + i * w + w ≤ 8 * length body)
+    releases-ask small holds long =
+        rw d ((small, omega (arith, release-wide kind), long), λ i l. column-room (releases-at kind cells faces seconds e) holds i l)
+
+    pub releases-taken : table cells (λ i. bitsAt body (p + i * w) w) ≡ columnIn body (stepBody kind cells faces seconds) 2 0
+    releases-taken = rw d (column-is (releases-at kind cells faces seconds e) body)

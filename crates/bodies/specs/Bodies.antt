@@ -29,14 +29,16 @@ pub record MeshFilled (bs : List ℕ) (S : List Section) (k : ℕ) (volumes firs
   pub reaches-full : reaches′ ≡ over (columnIn bs S (suc k) 3) reaches
 
 -- a step's body, likewise
-pub record StepRoom (faces : ℕ) (seconds body : List ℕ) (fluxes outsides : ℕ) : Type 0 where
+pub record StepRoom (kind cells faces : ℕ) (seconds body : List ℕ) (fluxes outsides releases : ℕ) : Type 0 where
   pub small : 8 * length body + outsideBits < 2 ^ 64
-  pub holds : shapeBits (stepBody faces seconds) ≤ 8 * length body
+  pub holds : shapeBits (stepBody kind cells faces seconds) ≤ 8 * length body
   pub seconds-long : faces ≤ length seconds
   pub fluxes-long : faces ≤ fluxes
   pub outsides-long : faces ≤ outsides
+  pub releases-long : cells ≤ releases
 
--- the tables hold the fluxes of section k and the outside values of section k + 1
-pub record StepFilled (faces : ℕ) (bs : List ℕ) (S : List Section) (k : ℕ) (fluxes : List ℤ) (outsides : List ℕ) (fluxes′ : List ℤ) (outsides′ : List ℕ) : Type 0 where
+-- the tables hold the fluxes of section k, the outside values of section k + 1 and the releases of section k + 2
+pub record StepFilled (faces : ℕ) (bs : List ℕ) (S : List Section) (k : ℕ) (fluxes : List ℤ) (outsides releases : List ℕ) (fluxes′ : List ℤ) (outsides′ releases′ : List ℕ) : Type 0 where
   pub fluxes-full : fluxes′ ≡ over (table faces (λ f. withSign (eqb (valueIn bs S k 0 f) 1) (valueIn bs S k 1 f))) fluxes
   pub outsides-full : outsides′ ≡ over (columnIn bs S (suc k) 0) outsides
+  pub releases-full : releases′ ≡ over (columnIn bs S (suc (suc k)) 0) releases

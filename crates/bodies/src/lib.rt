@@ -1,5 +1,8 @@
 // The body of a record, read from the part of the record that begins at the head's end, into the counted entries of the tables.
+use heads::StepKind;
 use heads::body::Body;
+use heads::lengths;
+use sections::count_marked;
 use sections::read_column;
 use sections::read_marked;
 use sections::read_signed;
@@ -8,7 +11,7 @@ ghost use Prim.Native.Nat.{_*_, _^_, _≤_, _<_};
 ghost use lib.ListN.{length};
 ghost use Rattle.lists.specs.Table.{over};
 ghost use Rattle.sections.specs.Sections.{shapeBits, columnIn};
-ghost use Rattle.heads.specs.Layouts.{meshBody, fieldBody, stepBody};
+ghost use Rattle.heads.specs.Layouts.{kindNumber, meshBody, fieldBody, stepBody};
 ghost use Rattle.bodies.specs.Bodies.{MeshRoom, MeshFilled, StepRoom, StepFilled};
 
 pub fn mesh(
@@ -44,13 +47,25 @@ pub fn field(cells: usize, body: &[u8], masses: &mut [u64])
     read_column(body, 0, Body::MASS, Body::MASS, cells, masses);
 }
 
-// The fluxes of all faces, then the outside values.
-pub fn step(faces: usize, seconds: &[u64], body: &[u8], fluxes: &mut [i64], outsides: &mut [u64])
-    requires { ⌜ StepRoom faces (now seconds) (now body) (length (now fluxes)) (length (now outsides)) ⌝ }
-    ensures { λ _. ⌜ StepFilled faces (now (body .entry)) (stepBody faces (now (seconds .entry))) 0
-        (now (fluxes .entry)) (now (outsides .entry)) (now (fluxes .exit)) (now (outsides .exit)) ⌝ }
+// The fluxes of all faces, then the outside values, then the releases, which have no bits in the kind without outfalls and read 0 there.
+pub fn step(
+    kind: StepKind,
+    cells: usize,
+    faces: usize,
+    seconds: &[u64],
+    body: &[u8],
+    fluxes: &mut [i64],
+    outsides: &mut [u64],
+    releases: &mut [u64],
+)
+    requires { ⌜ StepRoom (kindNumber kind) cells faces (now seconds) (now body) (length (now fluxes)) (length (now outsides)) (length (now releases)) ⌝ }
+    ensures { λ _. ⌜ StepFilled faces (now (body .entry)) (stepBody (kindNumber kind) cells faces (now (seconds .entry))) 0
+        (now (fluxes .entry)) (now (outsides .entry)) (now (releases .entry)) (now (fluxes .exit)) (now (outsides .exit)) (now (releases .exit)) ⌝ }
 {
     let first = Body::new(faces * Body::FLUX);
+    let outside = count_marked(model::RIM, faces, seconds);
+    let release = lengths::after_outsides(first.at, outside);
+    let width = lengths::release_width(kind);
     read_signed(body, 0, Body::SIZE, faces, fluxes);
     read_marked(
         body,
@@ -61,4 +76,5 @@ pub fn step(faces: usize, seconds: &[u64], body: &[u8], fluxes: &mut [i64], outs
         seconds,
         outsides,
     );
+    read_column(body, release, width, width, cells, releases);
 }

@@ -11,16 +11,17 @@ use Rattle.lists.specs.Fold.{sum, least, greatest}
 use Rattle.signed.specs.Sign.{size, forward, backward}
 use Rattle.model.specs.Mesh.{meshOf, rim, maxConcentration, maxRimFlux, maxShare, maxReach, atRim, first}
 use Rattle.model.specs.Step.{StepInput, flux, outside, mass, concentration, carried, correction, adjacent}
+use Rattle.model.specs.Causes.{inputOf, waterOf}
 use Rattle.face.specs.Correction.{coded, correctionOf}
 use Rattle.face.specs.Exchange.{brings, takes, Transferred, EndsIn, Flowing}
 use Rattle.cell.specs.Work.{ofCell, ofFace, Filling, widenedAcross}
 
 -- what a step works on, from the tables lent to a pass
-abbrev pub inputFrom : ℕ → ℕ → List ℕ → List ℕ → List ℕ → List ℕ → List ℕ → List ℕ → List ℤ → List ℕ → StepInput
-inputFrom cells faces volumes firsts seconds shares reaches masses fluxes outsides =
-    record { mesh = meshOf cells faces volumes firsts seconds shares reaches; masses = masses; fluxes = fluxes; outsides = outsides }
+abbrev pub inputFrom : ℕ → ℕ → List ℕ → List ℕ → List ℕ → List ℕ → List ℕ → List ℕ → List ℤ → List ℕ → List ℕ → StepInput
+inputFrom cells faces volumes firsts seconds shares reaches masses fluxes outsides releases =
+    inputOf (meshOf cells faces volumes firsts seconds shares reaches) masses (waterOf fluxes outsides releases)
 
--- Pass 1, after the cells below i: next masses are the masses, and a cell's entries are q three times
+-- Pass 1 on the raised masses, after the cells below i: next masses are these, and a cell's entries are q three times
 pub record Concentrations (volumes masses w : List ℕ) (i : ℕ) (next work : List ℕ) : Type 0 where
   pub next-at : (c : ℕ) → c < i → getD next c 0 ≡ getD masses c 0
   pub filling : let q : ℕ → ℕ = λ c. getD masses c 0 / getD volumes c 0 in Filling w q q q (λ c. 0) i work

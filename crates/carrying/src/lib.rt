@@ -11,13 +11,13 @@ use model::RIM;
 ghost use mathlib.Core.Path.{_≡_};
 ghost use mathlib.Core.Bool.{cond};
 ghost use mathlib.Core.Logic.{_≢_};
-ghost use Prim.Native.Nat.{ℕ, _≤_, _<_, _+_, _*_, _/_};
+ghost use Prim.Native.Nat.{ℕ, _≤_, _<_, _+_, _*_, _/_, _^_};
 ghost use lib.Dec.{eqb};
 ghost use lib.ListN.{length, getD, set};
 ghost use Rattle.signed.specs.Sign.{withSign};
 ghost use Rattle.model.specs.Accepted.{Ready};
 ghost use Rattle.model.specs.Mesh.{rim, maxCells};
-ghost use Rattle.model.specs.Step.{StepInput};
+ghost use Rattle.model.specs.Step.{StepInput, raised};
 ghost use Rattle.cell.specs.Work.{ofCell, filled};
 ghost use Rattle.carrying.specs.Carrying.{inputFrom, Concentrations, FaceAsks, FaceDone, CarriedTo};
 
@@ -27,7 +27,15 @@ pub struct Carried {
     pub gone: u64,
 }
 
-// One cell of the first pass: its mass, whose rest stays in it, and its concentration, which is its least and greatest
+// What a cell holds before all stages: its mass and what is released into it.
+fn raised_mass(mass: u64, release: u64) -> u64
+    requires { ⌜ mass + release < 2 ^ 64 ⌝ }
+    ensures { λ r. ⌜ r ≡ mass + release ⌝ }
+{
+    mass + release
+}
+
+// One cell of the first pass: its raised mass, whose rest stays in it, and its concentration, which is its least and greatest
 // before it has met others.
 fn start_cell(c: usize, mass: u64, volume: u64, next: &mut [u64], work: &mut [u64])
     requires { ⌜ (1 ≤ volume) × (c < length (now next)) × (4 * c + 3 < length (now work)) × (c < maxCells) ⌝ }
@@ -39,22 +47,25 @@ fn start_cell(c: usize, mass: u64, volume: u64, next: &mut [u64], work: &mut [u6
     fill(work, c, q, q, q, 0);
 }
 
-// First pass: each cell's concentration, and next masses that start as the masses.
+// First pass: each cell's mass raised by its release, and the concentration of that; next masses start as the raised ones.
 pub fn concentrations(
     cells: usize,
     volumes: &[u64],
     masses: &[u64],
+    releases: &[u64],
     next: &mut [u64],
     work: &mut [u64],
 )
-    requires { ⌜ (cells ≤ maxCells) × (cells ≤ length (now volumes)) × (cells ≤ length (now masses)) ⌝ }
+    requires { ⌜ (cells ≤ maxCells) × (cells ≤ length (now volumes)) × (cells ≤ length (now masses)) × (cells ≤ length (now releases)) ⌝ }
     requires { ⌜ (cells ≤ length (now next)) × (4 * cells ≤ length (now work)) ⌝ }
-    requires { ⌜ ((c : ℕ) → c < cells → 1 ≤ getD (now volumes) c 0) ⌝ }
-    ensures { λ _. ⌜ Concentrations (now (volumes .entry)) (now (masses .entry)) (now (work .entry)) cells (now (next .exit)) (now (work .exit)) ⌝ }
+    requires { ⌜ ((c : ℕ) → c < cells → (1 ≤ getD (now volumes) c 0) × (getD (now masses) c 0 + getD (now releases) c 0 < 2 ^ 64)) ⌝ }
+    ensures { λ _. ⌜ Concentrations (now (volumes .entry)) (raised cells (now (masses .entry)) (now (releases .entry))) (now (work .entry)) cells
+        (now (next .exit)) (now (work .exit)) ⌝ }
 {
     let mut c = 0;
     while c < cells {
-        start_cell(c, masses[c], volumes[c], next, work);
+        let mass = raised_mass(masses[c], releases[c]);
+        start_cell(c, mass, volumes[c], next, work);
         c += 1;
     }
 }
@@ -123,10 +134,11 @@ fn carry_turn(
     next: &mut [u64],
     moved: &mut [i64],
     work: &mut [u64],
+    releases: &[u64],
     so_far: Carried,
 ) -> Carried
     ghost { StepInput }
-    requires { λ S. ⌜ inputFrom cells faces (now volumes) (now firsts) (now seconds) (now shares) (now reaches) (now masses) (now fluxes) (now outsides) ≡ S ⌝ }
+    requires { λ S. ⌜ inputFrom cells faces (now volumes) (now firsts) (now seconds) (now shares) (now reaches) (now masses) (now fluxes) (now outsides) (now releases) ≡ S ⌝ }
     requires { λ S. ⌜ Ready S ⌝ }
     requires { λ S. ⌜ f < faces ⌝ }
     requires { λ S. ⌜ CarriedTo S f («so_far» .entered) («so_far» .gone) (now next) (now moved) (now work) ⌝ }
@@ -163,7 +175,7 @@ fn carry_turn(
     }
 }
 
-// Second pass. Volumes and masses are lent so that its contract can speak of the whole step.
+// Second pass. Volumes, masses and releases are lent so that its contract can speak of the whole step.
 pub fn carry(
     cells: usize,
     faces: usize,
@@ -178,9 +190,10 @@ pub fn carry(
     next: &mut [u64],
     moved: &mut [i64],
     work: &mut [u64],
+    releases: &[u64],
 ) -> Carried
     ghost { StepInput }
-    requires { λ S. ⌜ inputFrom cells faces (now volumes) (now firsts) (now seconds) (now shares) (now reaches) (now masses) (now fluxes) (now outsides) ≡ S ⌝ }
+    requires { λ S. ⌜ inputFrom cells faces (now volumes) (now firsts) (now seconds) (now shares) (now reaches) (now masses) (now fluxes) (now outsides) (now releases) ≡ S ⌝ }
     requires { λ S. ⌜ Ready S ⌝ }
     requires { λ S. ⌜ CarriedTo S 0 0 0 (now next) (now moved) (now work) ⌝ }
     ensures { λ S r. ⌜ CarriedTo S faces (r .entered) (r .gone) (now (next .exit)) (now (moved .exit)) (now (work .exit)) ⌝ }
@@ -206,6 +219,7 @@ pub fn carry(
             next,
             moved,
             work,
+            releases,
             so_far,
         );
         f += 1;

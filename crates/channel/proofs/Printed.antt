@@ -13,24 +13,23 @@ use Rattle.lists.specs.Table.{table, over}
 use Rattle.lists.proofs.Tables.{length-table}
 use Rattle.model.specs.Mesh.{Mesh, runCells, runFaces, entering, leaving, incoming, outgoing, updated, total}
 use Rattle.model.specs.Step.{StepInput, portion, receiver, giver, limitedBy, concentration, beyond, upwind, downwind, carried, low, upwindShare, correction, smooths, keptBy, lowConcentration, kept, adjacent, lo, hi, maxGain}
-use Rattle.model.specs.Step.{maxLoss, limited, moved, next, inMass, outMass}
+use Rattle.model.specs.Step.{maxLoss, limited, moved, next, inMass, outMass, raised, releasedMass}
 use Rattle.model.specs.Causes.{Outcome, accepted, Verdict, fine, Call, inputOf, workEntries, _andThen_, need, each, countsWithin, counts, meshTables, volumeGood, endsGood, spacingGood, meshValues}
-use Rattle.model.specs.Causes.{fieldTable, saltGood, fieldValues, meshFieldVerdict, stepTables, outsideGood, fluxGood, balanceGood, outflowGood, stepValues, verdict}
+use Rattle.model.specs.Causes.{fieldTable, saltGood, fieldValues, meshFieldVerdict, stepTables, raisedGood, raisedValues, outsideGood, fluxGood, balanceGood, outflowGood, stepValues, verdict}
 use Rattle.model.proofs.Figures.{channel}
 use Rattle.bits.specs.Field.{bitAt, bitsAt}
 use Rattle.bits.specs.Layout.{bytesFor}
 use Rattle.sections.specs.Sections.{those}
-use Rattle.heads.specs.Layouts.{meshLength, fieldLength, stepLength}
+use Rattle.heads.specs.Layouts.{releaseBits, meshLength, fieldLength, stepLength}
 use Rattle.zeros.specs.Zeros.{zeroBitGood, minusZero}
-use Rattle.reading.specs.Reading.{meshIn, volumesIn, firstsIn, secondsIn, sharesIn, reachesIn, massesIn, fluxesIn, outsidesIn, meshBitGood, stepBitGood}
-use Rattle.heads.specs.Heads.{meshHeadVerdict, fieldHeadVerdict, stepHeadVerdict, meshNeeds, fieldNeeds, stepNeeds}
+use Rattle.reading.specs.Reading.{meshIn, volumesIn, firstsIn, secondsIn, sharesIn, reachesIn, massesIn, fluxesIn, outsidesIn, releasesIn, meshBitGood, stepBitGood}
+use Rattle.heads.specs.Heads.{kindIn, meshHeadVerdict, fieldHeadVerdict, stepHeadVerdict, meshNeeds, fieldNeeds, stepNeeds}
 use Rattle.reading.specs.Reading.{meshBodyVerdict, fieldBodyVerdict, stepBodyVerdict, fieldRead}
-use Rattle.reading.specs.Reading.{stepRead}
 use Rattle.reading.specs.declared.MeshCounts.{MeshCounts}
 use Rattle.order.specs.Order.{rankedOf, fuller, asFull, comesBefore, insertInOrder, inOrder}
 use Rattle.board.specs.Board.{entryOf, entryAt, rankedAt, before, listed}
 use Rattle.mesh_taking.specs.MeshTaking.{meshRecordFound, meshJudged}
-use Rattle.taking.specs.Taking.{fieldJudged, stepJudged, stepIn, ownTables, blank, printedOf, massesAfter}
+use Rattle.taking.specs.Taking.{fieldJudged, stepRecordFound, stepJudged, stepIn, ownTables, blank, printedOf, massesAfter}
 use Rattle.taking.specs.declared.Printed.{Printed}
 use Rattle.text.specs.Digits.{digits}
 use Rattle.text.specs.Lines.{word, mark}
@@ -50,16 +49,16 @@ from-mesh input bs rest text counts a r s e =
 
 module _ (M : Mesh) where
   from-field : (input bs rest text : List ℕ) (sum : ℕ) → fieldAt M input ≡ bs → following bs input ≡ rest → fieldSaid M bs ≡ accepted sum
-      → stepsPrinted M (length rest) 1 (inTable runCells (massesIn bs (M .cells))) rest ≡ text → fieldPrinted M input ≡ stepLine 0 0 0 sum ++ text
+      → stepsPrinted M (length rest) 1 (inTable runCells (massesIn bs (M .cells))) rest ≡ text → fieldPrinted M input ≡ stepLine 0 0 0 sum 0 ++ text
   unfolding fieldPrinted
   from-field input bs rest text sum a r s e =
       ap (λ (x : List ℕ). fromField M (fieldSaid M x) (inTable runCells (massesIn x (M .cells))) (following x input)) a
       ∙ ap (λ (x : List ℕ). fromField M (fieldSaid M bs) (inTable runCells (massesIn bs (M .cells))) x) r
-      ∙ ap (λ (o : Outcome ℕ). fromField M o (inTable runCells (massesIn bs (M .cells))) rest) s ∙ ap (λ (x : List ℕ). stepLine 0 0 0 sum ++ x) e
+      ∙ ap (λ (o : Outcome ℕ). fromField M o (inTable runCells (massesIn bs (M .cells))) rest) s ∙ ap (λ (x : List ℕ). stepLine 0 0 0 sum 0 ++ x) e
 
   from-step : (most step b : ℕ) (masses masses′ input bs rest text : List ℕ) (p : Printed) → stepAt M (b ∷ input) ≡ bs → following bs (b ∷ input) ≡ rest
       → stepSaid M masses bs ≡ accepted p → fieldThen M masses bs ≡ masses′ → stepsPrinted M most (step + 1) masses′ rest ≡ text
-      → stepsPrinted M (suc most) step masses (b ∷ input) ≡ stepLine step (p .entered) (p .gone) (p .total) ++ text
+      → stepsPrinted M (suc most) step masses (b ∷ input) ≡ stepLine step (p .entered) (p .gone) (p .total) (p .released) ++ text
   unfolding stepsPrinted
   from-step most step b masses masses′ input bs rest text p a r s m e =
       ap (λ (x : List ℕ). stepText step (stepSaid M masses x)
@@ -67,9 +66,9 @@ module _ (M : Mesh) where
       ∙ ap (λ (o : Outcome Printed). stepText step o ++ cond (goesOnAfter o)
       (stepsPrinted M most (step + 1) (fieldThen M masses bs) (following bs (b ∷ input)))
       (boardPrinted M (fieldThen M masses bs))) s
-      ∙ ap (λ (x : List ℕ). stepLine step (p .entered) (p .gone) (p .total) ++ stepsPrinted M most (step + 1) x (following bs (b ∷ input))) m
-      ∙ ap (λ (x : List ℕ). stepLine step (p .entered) (p .gone) (p .total) ++ stepsPrinted M most (step + 1) masses′ x) r
-      ∙ ap (λ (x : List ℕ). stepLine step (p .entered) (p .gone) (p .total) ++ x) e
+      ∙ ap (λ (x : List ℕ). stepLine step (p .entered) (p .gone) (p .total) (p .released) ++ stepsPrinted M most (step + 1) x (following bs (b ∷ input))) m
+      ∙ ap (λ (x : List ℕ). stepLine step (p .entered) (p .gone) (p .total) (p .released) ++ stepsPrinted M most (step + 1) masses′ x) r
+      ∙ ap (λ (x : List ℕ). stepLine step (p .entered) (p .gone) (p .total) (p .released) ++ x) e
 
 -- names for all that is computed through: to unfold one is to unfold what it names
 of-sums : Unit {0}
@@ -82,7 +81,7 @@ of-faces = tt
 
 of-step : Unit {0}
 unfolding portion receiver giver limitedBy concentration beyond upwind downwind carried low upwindShare correction smooths keptBy
-    lowConcentration kept adjacent lo hi maxGain maxLoss limited moved next inMass outMass
+    lowConcentration kept adjacent lo hi maxGain maxLoss limited moved next inMass outMass raised releasedMass
 of-step = tt
 
 of-causes : Unit {0}
@@ -90,19 +89,19 @@ unfolding _andThen_ need each countsWithin counts meshTables volumeGood endsGood
 of-causes = tt
 
 of-step-causes : Unit {0}
-unfolding stepTables outsideGood fluxGood balanceGood outflowGood stepValues verdict
+unfolding stepTables raisedGood raisedValues outsideGood fluxGood balanceGood outflowGood stepValues verdict
 of-step-causes = tt
 
 of-bits : Unit {0}
-unfolding bitAt bitsAt bytesFor those meshLength fieldLength stepLength
+unfolding bitAt bitsAt bytesFor those releaseBits meshLength fieldLength stepLength
 of-bits = tt
 
 of-values : Unit {0}
-unfolding volumesIn firstsIn secondsIn sharesIn reachesIn massesIn fluxesIn outsidesIn zeroBitGood minusZero meshBitGood stepBitGood
+unfolding volumesIn firstsIn secondsIn sharesIn reachesIn massesIn fluxesIn outsidesIn releasesIn zeroBitGood minusZero meshBitGood stepBitGood
 of-values = tt
 
 of-reading : Unit {0}
-unfolding meshHeadVerdict fieldHeadVerdict stepHeadVerdict meshNeeds fieldNeeds stepNeeds meshBodyVerdict fieldBodyVerdict stepBodyVerdict fieldRead stepRead
+unfolding meshHeadVerdict fieldHeadVerdict stepHeadVerdict meshNeeds fieldNeeds stepNeeds meshBodyVerdict fieldBodyVerdict stepBodyVerdict fieldRead
 of-reading = tt
 
 of-board : Unit {0}
@@ -110,7 +109,7 @@ unfolding entryOf rankedOf fuller asFull comesBefore insertInOrder inOrder entry
 of-board = tt
 
 of-taking : Unit {0}
-unfolding meshRecordFound meshJudged fieldJudged stepJudged
+unfolding meshRecordFound meshJudged fieldJudged stepRecordFound stepJudged
 of-taking = tt
 
 of-lines : Unit {0}
@@ -189,21 +188,25 @@ field-said = refl
 abbrev stepHead : List ℕ
 stepHead = 48 ∷ 2 ∷ 0 ∷ 0 ∷ []
 
-step-head : stepHeadVerdict 4 (M .seconds) stepHead ≡ fine
+step-head : stepHeadVerdict 3 4 (M .seconds) stepHead ≡ fine
 unfolding of-causes of-bits of-reading
 step-head = rw seconds-long
 
-step-headed : stepHeadVerdict 4 (M .seconds) channelStep ≡ fine
+step-headed : stepHeadVerdict 3 4 (M .seconds) channelStep ≡ fine
 unfolding of-causes of-bits of-reading
 step-headed = rw seconds-long
 
-step-length : stepLength 4 (M .seconds) ≡ 16
+step-kind : kindIn stepHead ≡ 3
+unfolding of-bits
+step-kind = refl
+
+step-length : stepLength 3 3 4 (M .seconds) ≡ 16
 unfolding everything
 step-length = refl
 
-step-needs : stepNeeds 4 (M .seconds) stepHead ≡ accepted 16
+step-needs : stepNeeds 3 4 (M .seconds) stepHead ≡ accepted 16
 unfolding stepNeeds _andThen_
-step-needs = rw (step-head, step-length)
+step-needs = rw (step-head, step-kind, step-length)
 
 step-front₁ : stepAt M (channelStep ++ channelStep) ≡ channelStep
 unfolding recordAt bytesFor meshLength
@@ -215,7 +218,7 @@ step-front₂ = ap (λ (o : Outcome ℕ). take (4 + stillNeeded o 4) channelStep
 
 -- the call that the step record makes
 abbrev call : Call
-call = ownTables (negsuc 49 ∷ pos 50 ∷ pos 50 ∷ pos 50 ∷ []) (1000 ∷ 0 ∷ 0 ∷ 0 ∷ [])
+call = ownTables (negsuc 49 ∷ pos 50 ∷ pos 50 ∷ pos 50 ∷ []) (1000 ∷ 0 ∷ 0 ∷ 0 ∷ []) (0 ∷ 0 ∷ 0 ∷ [])
 
 fluxes-are : fluxesIn channelStep 4 ≡ negsuc 49 ∷ pos 50 ∷ pos 50 ∷ pos 50 ∷ []
 unfolding everything
@@ -225,16 +228,20 @@ outsides-are : outsidesIn channelStep 4 (M .seconds) ≡ 1000 ∷ 0 ∷ 0 ∷ 0 
 unfolding everything
 outsides-are = refl
 
-body-fine : stepBodyVerdict 4 (M .seconds) channelStep runFaces runFaces ≡ fine
+releases-are : releasesIn channelStep 3 4 (M .seconds) ≡ 0 ∷ 0 ∷ 0 ∷ []
+unfolding everything
+releases-are = refl
+
+body-fine : stepBodyVerdict 3 4 (M .seconds) channelStep runFaces runFaces runCells ≡ fine
 unfolding everything
 body-fine = refl
 
-read-fine : stepRead 4 (M .seconds) channelStep runFaces runFaces ≡ fine
-unfolding stepRead _andThen_
+read-fine : stepRecordFound M channelStep ≡ fine
+unfolding stepRecordFound _andThen_
 read-fine = rw (step-headed, body-fine)
 
 call-is : stepIn M channelStep ≡ call
-call-is = rw (fluxes-are, outsides-are)
+call-is = rw (fluxes-are, outsides-are, releases-are)
 
 -- a step of this call on a field of three masses over zeros
 module _ (masses masses′ : List ℕ) (p : Printed) (v : verdict M masses call ≡ fine) (said : printedOf M masses call ≡ p)
@@ -305,6 +312,14 @@ field-values₂ : fieldValues M field₁ ≡ fine
 unfolding everything
 field-values₂ = refl
 
+raised-values₁ : raisedValues M field₀ call ≡ fine
+unfolding everything
+raised-values₁ = refl
+
+raised-values₂ : raisedValues M field₁ call ≡ fine
+unfolding everything
+raised-values₂ = refl
+
 step-values₁ : stepValues M field₀ call ≡ fine
 unfolding everything
 step-values₁ = refl
@@ -315,11 +330,11 @@ step-values₂ = refl
 
 verdict₁ : verdict M field₀ call ≡ fine
 unfolding verdict _andThen_
-verdict₁ = rw (counts-fine, mesh-tables, field-table 100000 0 0, step-tables field₀, mesh-values, field-values₁, step-values₁)
+verdict₁ = rw (counts-fine, mesh-tables, field-table 100000 0 0, step-tables field₀, mesh-values, field-values₁, raised-values₁, step-values₁)
 
 verdict₂ : verdict M field₁ call ≡ fine
 unfolding verdict _andThen_
-verdict₂ = rw (counts-fine, mesh-tables, field-table 100099 49901 0, step-tables field₁, mesh-values, field-values₂, step-values₂)
+verdict₂ = rw (counts-fine, mesh-tables, field-table 100099 49901 0, step-tables field₁, mesh-values, field-values₂, raised-values₂, step-values₂)
 
 next₁ : table 3 (next S₁) ≡ 100099 ∷ 49901 ∷ 0 ∷ []
 unfolding everything
@@ -356,11 +371,15 @@ out₂ : outMass S₂ ≡ 0
 unfolding everything
 out₂ = refl
 
-printed₁ : printedOf M field₀ call ≡ record { entered = 50000; gone = 0; total = 150000 }
-printed₁ = rw (in₁, out₁, total₁)
+released-none : releasedMass 3 (0 ∷ 0 ∷ 0 ∷ []) ≡ 0
+unfolding everything
+released-none = refl
 
-printed₂ : printedOf M field₁ call ≡ record { entered = 50000; gone = 0; total = 200000 }
-printed₂ = rw (in₂, out₂, total₂)
+printed₁ : printedOf M field₀ call ≡ record { entered = 50000; gone = 0; total = 150000; released = 0 }
+printed₁ = rw (in₁, out₁, total₁, released-none)
+
+printed₂ : printedOf M field₁ call ≡ record { entered = 50000; gone = 0; total = 200000; released = 0 }
+printed₂ = rw (in₂, out₂, total₂, released-none)
 
 moves₁ : over (table 3 (next S₁)) field₀ ≡ field₁
 moves₁ = ap (λ (xs : List ℕ). over xs field₀) next₁ ∙ over-field (100099 ∷ 49901 ∷ 0 ∷ []) (100000 ∷ 0 ∷ 0 ∷ []) refl
@@ -377,7 +396,8 @@ unfolding stepsPrinted
 board-last most step = refl
 
 abbrev channelLines : List ℕ
-channelLines = stepLine 0 0 0 100000 ++ (stepLine 1 50000 0 150000 ++ (stepLine 2 50000 0 200000 ++ (boardLine 0 1000 99 ++ (boardLine 1 811 88 ++ boardLine 2 187 13))))
+channelLines = stepLine 0 0 0 100000 0
+    ++ (stepLine 1 50000 0 150000 0 ++ (stepLine 2 50000 0 200000 0 ++ (boardLine 0 1000 99 ++ (boardLine 1 811 88 ++ boardLine 2 187 13))))
 
 lines : printed channelInput ≡ channelLines
 lines =
@@ -396,12 +416,12 @@ lines =
 -- the six lines, byte by byte
 abbrev pub channelText : List ℕ
 channelText =
-    -- 0 0 0 100000
-    48 ∷ 32 ∷ 48 ∷ 32 ∷ 48 ∷ 32 ∷ 49 ∷ 48 ∷ 48 ∷ 48 ∷ 48 ∷ 48 ∷ 10 ∷
-    -- 1 50000 0 150000
-    49 ∷ 32 ∷ 53 ∷ 48 ∷ 48 ∷ 48 ∷ 48 ∷ 32 ∷ 48 ∷ 32 ∷ 49 ∷ 53 ∷ 48 ∷ 48 ∷ 48 ∷ 48 ∷ 10 ∷
-    -- 2 50000 0 200000
-    50 ∷ 32 ∷ 53 ∷ 48 ∷ 48 ∷ 48 ∷ 48 ∷ 32 ∷ 48 ∷ 32 ∷ 50 ∷ 48 ∷ 48 ∷ 48 ∷ 48 ∷ 48 ∷ 10 ∷
+    -- 0 0 0 100000 0
+    48 ∷ 32 ∷ 48 ∷ 32 ∷ 48 ∷ 32 ∷ 49 ∷ 48 ∷ 48 ∷ 48 ∷ 48 ∷ 48 ∷ 32 ∷ 48 ∷ 10 ∷
+    -- 1 50000 0 150000 0
+    49 ∷ 32 ∷ 53 ∷ 48 ∷ 48 ∷ 48 ∷ 48 ∷ 32 ∷ 48 ∷ 32 ∷ 49 ∷ 53 ∷ 48 ∷ 48 ∷ 48 ∷ 48 ∷ 32 ∷ 48 ∷ 10 ∷
+    -- 2 50000 0 200000 0
+    50 ∷ 32 ∷ 53 ∷ 48 ∷ 48 ∷ 48 ∷ 48 ∷ 32 ∷ 48 ∷ 32 ∷ 50 ∷ 48 ∷ 48 ∷ 48 ∷ 48 ∷ 48 ∷ 32 ∷ 48 ∷ 10 ∷
     -- B 0 1000 99
     66 ∷ 32 ∷ 48 ∷ 32 ∷ 49 ∷ 48 ∷ 48 ∷ 48 ∷ 32 ∷ 57 ∷ 57 ∷ 10 ∷
     -- B 1 811 88

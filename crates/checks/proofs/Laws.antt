@@ -1,6 +1,6 @@
 -- What the tests of this crate come to, over numbers and verdicts.
-use Prim.Native.Nat.{ℕ, _+_, _*_, _/_, _^_, _≤_, _<_}
-use mathlib.Core.Path.{_≡_}
+use Prim.Native.Nat.{ℕ, suc, _+_, _-_, _*_, _/_, _^_, _≤_, _<_}
+use mathlib.Core.Path.{_≡_, sym, _∙_}
 use mathlib.Core.Bool.{Bool, true, false}
 use mathlib.Core.List.{List}
 use native.Mathlib.Nat.{div-lt-iff-lt-mul, div-mul-le-self, mul-le-mul-right}
@@ -13,7 +13,7 @@ use Rattle.lists.proofs.Tests.{Fits, fits, exceeds, fits?}
 use Rattle.signed.specs.Sign.{size}
 use Rattle.model.specs.Mesh.{Mesh, maxVolume, volume, first, second, total, rim, maxCells, maxFaces, maxConcentration, maxRimFlux}
 use Rattle.model.specs.Step.{flux}
-use Rattle.model.specs.Causes.{Verdict, waterOf, valuesVerdict, fine, _andThen_, each, counts, meshTables, fieldTable, meshValues, fieldValues, meshFieldVerdict, Call, inputOf, stepTables, outsideGood, fluxGood, balanceGood, outflowGood, stepValues, verdict}
+use Rattle.model.specs.Causes.{Verdict, waterOf, valuesVerdict, fine, _andThen_, each, counts, meshTables, fieldTable, meshValues, fieldValues, raisedGood, raisedValues, meshFieldVerdict, Call, inputOf, stepTables, outsideGood, fluxGood, balanceGood, outflowGood, stepValues, verdict}
 use Rattle.model.specs.Accepted.{StepLent, MeshFit}
 use Rattle.model.specs.Calls.{massIn}
 use Rattle.model.proofs.Verdicts.{both-fine, andThen-assoc}
@@ -28,6 +28,20 @@ salt-test m v h = go (leb (m / v) maxConcentration) (fits? (m / v) maxConcentrat
     go : (b : Bool) → Fits (m / v) maxConcentration b → ltb m ((maxConcentration + 1) * v) ≡ b
     go true (fits l) = lt-ltb m ((maxConcentration + 1) * v) (div-lt-iff-lt-mul {k = v} {x = m} {y = maxConcentration + 1} h .0 (omega arith))
     go false (exceeds l) = le-ltb m ((maxConcentration + 1) * v) (omega (arith, div-mul-le-self m v, mul-le-mul-right v l))
+
+-- cause 18 without a sum: what is left of the ceiling after the mass
+pub raised-test : (m r v : ℕ) → 1 ≤ v → m < (maxConcentration + 1) * v → ltb r ((maxConcentration + 1) * v - m) ≡ leb ((m + r) / v) maxConcentration
+raised-test m r v h l = left (ltb r (end - m)) (fits? (suc r) (end - m)) ∙ salt-test (m + r) v h
+  where
+    end : ℕ
+    end = (maxConcentration + 1) * v
+
+    left : (b : Bool) → Fits (suc r) (end - m) b → b ≡ ltb (m + r) end
+    left true (fits k) = sym (lt-ltb (m + r) end (omega arith))
+    left false (exceeds k) = sym (le-ltb (m + r) end (omega arith))
+
+pub raised-over : (m r v : ℕ) → 1 ≤ v → (maxConcentration + 1) * v ≤ m → false ≡ leb ((m + r) / v) maxConcentration
+raised-over m r v h l = sym (le-ltb (m + r) ((maxConcentration + 1) * v) (omega arith)) ∙ salt-test (m + r) v h
 
 -- what the sum of the masses asks for
 pub sum-asks : (M : Mesh) (field : List ℕ) → meshFieldVerdict M field ≡ fine → (M .cells ≤ length field) × (sum (M .cells) (massIn field) < 2 ^ 64)
@@ -44,34 +58,42 @@ sum-asks M field e =
       ),
     )
 
-regroup : (m f p q r s : Verdict) → (m andThen f andThen (p andThen q andThen r andThen s)) ≡ (m andThen (f andThen (p andThen q)) andThen (r andThen s))
-regroup m f p q r s = simp andThen-assoc
+regroup : (m f u p q r s : Verdict) → (m andThen f andThen u andThen (p andThen q andThen r andThen s)) ≡ (m andThen (f andThen u andThen (p andThen q)) andThen (r andThen s))
+regroup m f u p q r s = simp andThen-assoc
 
-after-lengths : (t m f s : Verdict) → (t andThen m andThen f andThen s) ≡ (t andThen (m andThen f andThen s))
-after-lengths t m f s = simp andThen-assoc
+after-lengths : (t m f u s : Verdict) → (t andThen m andThen f andThen u andThen s) ≡ (t andThen (m andThen f andThen u andThen s))
+after-lengths t m f u s = simp andThen-assoc
 
 module _ (M : Mesh) (field : List ℕ) (k : Call) where
-  -- all causes: those of lengths, then those of values, which rest on the water alone
+  -- all causes: those of lengths, then those of values, which rest on water and releases alone
   pub lengths-first : verdict M field k ≡ (counts M andThen meshTables M andThen fieldTable M field andThen stepTables M field k
-      andThen valuesVerdict M field (waterOf (k .fluxes) (k .outsides)))
-  unfolding verdict valuesVerdict stepValues outsideGood fluxGood balanceGood outflowGood
-  lengths-first = after-lengths (counts M andThen meshTables M andThen fieldTable M field andThen stepTables M field k) (meshValues M) (fieldValues M field) (stepValues M field k)
+      andThen valuesVerdict M field (waterOf (k .fluxes) (k .outsides) (k .releases)))
+  unfolding verdict valuesVerdict raisedValues raisedGood stepValues outsideGood fluxGood balanceGood outflowGood
+  lengths-first = after-lengths (counts M andThen meshTables M andThen fieldTable M field andThen stepTables M field k)
+      (meshValues M) (fieldValues M field) (raisedValues M field k) (stepValues M field k)
 
   -- causes of values as they are tested: those that rest on nothing together
   pub in-groups : valuesVerdict M field k ≡ (meshValues M
-      andThen (fieldValues M field andThen (each 7 (M .faces) (outsideGood M field k) andThen each 8 (M .faces) (fluxGood M field k)))
+      andThen (fieldValues M field andThen raisedValues M field k andThen (each 7 (M .faces) (outsideGood M field k) andThen each 8 (M .faces) (fluxGood M field k)))
       andThen (each 9 (M .cells) (balanceGood M field k) andThen each 10 (M .cells) (outflowGood M field k)))
   unfolding valuesVerdict stepValues
-  in-groups = regroup (meshValues M) (fieldValues M field)
+  in-groups = regroup (meshValues M) (fieldValues M field) (raisedValues M field k)
       (each 7 (M .faces) (outsideGood M field k)) (each 8 (M .faces) (fluxGood M field k)) (each 9 (M .cells) (balanceGood M field k)) (each 10 (M .cells) (outflowGood M field k))
 
   -- what the tests of values ask for
-  pub step-lent : (counts M andThen meshTables M andThen fieldTable M field) ≡ fine → stepTables M field k ≡ fine → StepLent M field (waterOf (k .fluxes) (k .outsides))
+  pub step-lent : (counts M andThen meshTables M andThen fieldTable M field) ≡ fine → stepTables M field k ≡ fine → StepLent M field (waterOf (k .fluxes) (k .outsides) (k .releases))
   step-lent e d =
       let f = both-fine _ _ e in
       let m = both-fine _ _ (f .0) in
       let l = call-lent M field k d in
-      record { counts-fit = counted M (m .0); lent = mesh-lent M (m .1); masses-long = field-lent M field (f .1); fluxes-long = l .fluxes-long; outsides-long = l .outsides-long }
+      record {
+        counts-fit = counted M (m .0);
+        lent = mesh-lent M (m .1);
+        masses-long = field-lent M field (f .1);
+        fluxes-long = l .fluxes-long;
+        outsides-long = l .outsides-long;
+        releases-long = l .releases-long;
+      }
 
   module _ (l : StepLent M field k) where
     pub shape-asks : (M .cells ≤ length (M .volumes)) × (M .faces ≤ length (M .firsts)) × (M .faces ≤ length (M .seconds)) × (M .faces ≤ length (M .shares)) × (M .faces ≤ length (M .reaches))
@@ -87,7 +109,11 @@ module _ (M : Mesh) (field : List ℕ) (k : Call) where
       pub field-asks : ((M .cells ≤ length (M .volumes)) × (M .cells ≤ length field)) × ((c : ℕ) → c < M .cells → (1 ≤ volume M c) × (volume M c ≤ maxVolume))
       field-asks = ((l .lent .volumes-long, l .masses-long), λ c h. (fit .volume-some c h, fit .volume-most c h))
 
-      pub flows-ask : (fieldValues M field andThen (each 7 (M .faces) (outsideGood M field k) andThen each 8 (M .faces) (fluxGood M field k))) ≡ fine
+      pub raised-asks : ((M .cells ≤ length (M .volumes)) × (M .cells ≤ length field) × (M .cells ≤ length (k .releases)))
+          × ((c : ℕ) → c < M .cells → (1 ≤ volume M c) × (volume M c ≤ maxVolume))
+      raised-asks = ((l .lent .volumes-long, l .masses-long, l .releases-long), λ c h. (fit .volume-some c h, fit .volume-most c h))
+
+      pub flows-ask : (fieldValues M field andThen raisedValues M field k andThen (each 7 (M .faces) (outsideGood M field k) andThen each 8 (M .faces) (fluxGood M field k))) ≡ fine
           → ((M .cells ≤ maxCells) × (M .faces ≤ maxFaces) × (M .cells ≤ length (M .volumes)) × (M .faces ≤ length (M .firsts)) × (M .faces ≤ length (M .seconds)) × (M .faces ≤ length (k .fluxes)))
           × ((f : ℕ) → f < M .faces → (first M f ≤ rim) × (second M f ≤ rim) × (size (flux (inputOf M field k) f) ≤ maxRimFlux))
       flows-ask v =

@@ -1,5 +1,6 @@
-// Causes 1 to 10 of document 01 on lent tables. No table is written.
+// Causes 1 to 10 of document 01, and 18 of document 02, on lent tables. No table is written.
 pub mod field;
+mod raised;
 
 use model::Answer;
 use model::Refusal;
@@ -103,7 +104,7 @@ pub fn total(cells: usize, volumes: &[u64], masses: &[u64]) -> TotalAnswer
     TotalAnswer::Total(field::sum_of(cells, masses))
 }
 
-// Causes 3 to 10, of tables that are long enough.
+// Causes 3 to 10 and 18, of tables that are long enough.
 fn step_values(
     cells: usize,
     faces: usize,
@@ -115,22 +116,27 @@ fn step_values(
     masses: &[u64],
     fluxes: &[i64],
     outsides: &[u64],
+    releases: &[u64],
 ) -> Answer
     requires { ⌜ StepLent
         (meshOf cells faces (now volumes) (now firsts) (now seconds) (now shares) (now reaches))
         (now masses)
-        (waterOf (now fluxes) (now outsides)) ⌝ }
+        (waterOf (now fluxes) (now outsides) (now releases)) ⌝ }
     ensures { λ r. ⌜ said r ≡ valuesVerdict
         (meshOf cells faces (now (volumes .entry)) (now (firsts .entry)) (now (seconds .entry)) (now (shares .entry)) (now (reaches .entry)))
         (now (masses .entry))
-        (waterOf (now (fluxes .entry)) (now (outsides .entry))) ⌝ }
+        (waterOf (now (fluxes .entry)) (now (outsides .entry)) (now (releases .entry))) ⌝ }
 {
     let a = shape::values(cells, faces, volumes, firsts, seconds, shares, reaches);
     if let Answer::Refused(r) = a {
         return Answer::Refused(r);
     }
-    let b = and_then(
+    let salt = and_then(
         field::values(cells, volumes, masses),
+        raised::values(cells, volumes, masses, releases),
+    );
+    let b = and_then(
+        salt,
         water::values(faces, seconds, reaches, fluxes, outsides),
     );
     if let Answer::Refused(r) = b {
@@ -139,7 +145,7 @@ fn step_values(
     flows::values(cells, faces, volumes, firsts, seconds, fluxes)
 }
 
-// Causes 1 to 10.
+// Causes 1 to 10 and 18.
 pub fn check_step(
     cells: usize,
     faces: usize,
@@ -154,11 +160,12 @@ pub fn check_step(
     next: &[u64],
     moved: &[i64],
     work: &[u64],
+    releases: &[u64],
 ) -> Answer
     ensures { λ r. ⌜ said r ≡ verdict
         (meshOf cells faces (now (volumes .entry)) (now (firsts .entry)) (now (seconds .entry)) (now (shares .entry)) (now (reaches .entry)))
         (now (masses .entry))
-        (callOf (now (fluxes .entry)) (now (outsides .entry)) (now (next .entry)) (now (moved .entry)) (now (work .entry))) ⌝ }
+        (callOf (now (fluxes .entry)) (now (outsides .entry)) (now (next .entry)) (now (moved .entry)) (now (work .entry)) (now (releases .entry))) ⌝ }
 {
     let a = lent::field_lent(
         cells,
@@ -173,7 +180,7 @@ pub fn check_step(
     if let Answer::Refused(r) = a {
         return Answer::Refused(r);
     }
-    let b = lent::step_lent(cells, faces, fluxes, outsides, next, moved, work);
+    let b = lent::step_lent(cells, faces, fluxes, outsides, next, moved, work, releases);
     if let Answer::Refused(r) = b {
         return Answer::Refused(r);
     }
@@ -188,5 +195,6 @@ pub fn check_step(
         masses,
         fluxes,
         outsides,
+        releases,
     )
 }

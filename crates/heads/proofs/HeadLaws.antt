@@ -1,6 +1,7 @@
 -- What a head that is fine says, and how an answer and its verdict go together.
 use Prim.Native.Nat.{ℕ, _+_, _≤_, min}
 use mathlib.Core.Path.{_≡_}
+use mathlib.Core.Bool.{true}
 use mathlib.Core.List.{List}
 use native.Mathlib.Nat.{le-trans}
 use native.Mathlib.Omega.{arith}
@@ -17,9 +18,9 @@ use Rattle.model.proofs.Verdicts.{both-fine, need-fine, passes}
 use Rattle.bits.specs.Field.{bitsAt}
 use Rattle.bits.specs.Layout.{bytesFor}
 use Rattle.sections.proofs.Columns.{those-le}
-use Rattle.heads.specs.Layouts.{meshKind, fieldKind, stepKind, isRim, rimFaces}
+use Rattle.heads.specs.Layouts.{meshKind, fieldKind, isRim, rimFaces}
 use Rattle.heads.specs.Numbers.{widest, furthest, numberAt, numberOf}
-use Rattle.heads.specs.Heads.{kindIn, cellsIn, facesIn, stepFacesIn, meshHeadVerdict, fieldHeadVerdict, stepHeadVerdict}
+use Rattle.heads.specs.Heads.{kindIn, cellsIn, facesIn, stepFacesIn, isStepKind, meshHeadVerdict, fieldHeadVerdict, stepHeadVerdict}
 
 -- no more faces are at the rim than there are
 pub rim-le : (seconds : List ℕ) (n : ℕ) → rimFaces seconds n ≤ n
@@ -81,24 +82,30 @@ field-head-says cells bs e =
       few-cells = leb-true _ _ (d .1);
     }
 
-pub record StepHeadSays (faces : ℕ) (seconds bs : List ℕ) : Type 0 where
+pub record StepHeadSays (cells faces : ℕ) (seconds bs : List ℕ) : Type 0 where
   pub long : 4 ≤ length bs
-  pub kind : kindIn bs ≡ stepKind
+  pub kind : isStepKind (kindIn bs) ≡ true
   pub same-count : stepFacesIn bs ≡ faces
+  pub some-cells : 1 ≤ cells
+  pub few-cells : cells ≤ maxCells
   pub few-faces : faces ≤ maxFaces
   pub lent : faces ≤ length seconds
 
-pub step-head-says : (faces : ℕ) (seconds bs : List ℕ) → stepHeadVerdict faces seconds bs ≡ fine → StepHeadSays faces seconds bs
-unfolding stepHeadVerdict bytesFor
-step-head-says faces seconds bs e =
+pub step-head-says : (cells faces : ℕ) (seconds bs : List ℕ) → stepHeadVerdict cells faces seconds bs ≡ fine → StepHeadSays cells faces seconds bs
+unfolding stepHeadVerdict countsWithin bytesFor
+step-head-says cells faces seconds bs e =
     let a = both-fine _ _ e in
     let b = both-fine _ _ (a .0) in
     let c = both-fine _ _ (b .0) in
     let d = both-fine _ _ (c .0) in
+    let n = both-fine _ _ (b .1) in
+    let m = both-true (leb 1 cells) (leb cells maxCells) (need-fine 1 0 _ (n .0)) in
     record {
       long = leb-true _ _ (need-fine 11 0 _ (d .0));
-      kind = eqb-true _ _ (need-fine 13 0 _ (d .1));
+      kind = need-fine 13 0 _ (d .1);
       same-count = eqb-true _ _ (need-fine 13 1 _ (c .1));
-      few-faces = leb-true _ _ (need-fine 1 1 _ (b .1));
+      some-cells = leb-true _ _ (m .0);
+      few-cells = leb-true _ _ (m .1);
+      few-faces = leb-true _ _ (need-fine 1 1 _ (n .1));
       lent = leb-true _ _ (need-fine 2 2 _ (a .1));
     }

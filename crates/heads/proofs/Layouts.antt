@@ -1,20 +1,26 @@
 -- Where the columns of each record stand, in its body and in the whole record, and how large a record is.
 use Prim.Native.Nat.{ℕ, _+_, _*_, _≤_}
 use mathlib.Core.Path.{_≡_, refl}
+use mathlib.Core.Bool.{Bool, true, false, cond}
 use mathlib.Core.List.{List, [], _∷_}
+use native.Mathlib.Nat.{add-zero, mul-le-mul}
 use native.Mathlib.Omega.{arith}
+use lib.Dec.{eqb}
 use Rattle.model.specs.Mesh.{maxCells, maxFaces}
 use Rattle.sections.specs.Sections.{place}
 use Rattle.sections.proofs.Bodies.{Column, column-after}
-use Rattle.heads.specs.Layouts.{kindBits, cellsBits, facesBits, meshZeroBits, stepZeroBits, volumeBits, endBits, shareBits, reachBits, massBits, signBits, sizeBits, outsideBits, meshHeadBits, fieldHeadBits, stepHeadBits, faceBits, fluxBits, rimFaces, meshHead, meshBody, meshShape, fieldHead, fieldBody, fieldShape, stepHead, stepBody, stepShape, meshBits, fieldBits, stepBits}
+use Rattle.heads.specs.Layouts.{outfallKind, kindBits, cellsBits, facesBits, meshZeroBits, stepZeroBits, volumeBits, endBits, shareBits, reachBits, massBits, signBits, sizeBits, outsideBits, releaseBits, meshHeadBits, fieldHeadBits, stepHeadBits, faceBits, fluxBits, rimFaces, meshHead, meshBody, meshShape, fieldHead, fieldBody, fieldShape, stepHead, stepBody, stepShape, meshBits, fieldBits, stepBits}
 use Rattle.heads.proofs.HeadLaws.{rim-le}
 
--- where a step's outside values begin, and the most bits that it has
+-- where a step's outside values begin, where its releases do, and the most bits that it has
 abbrev pub rimPlace : ℕ → ℕ
 rimPlace faces = stepHeadBits + faces * fluxBits
 
+abbrev pub releasePlace : ℕ → List ℕ → ℕ
+releasePlace faces seconds = rimPlace faces + rimFaces seconds faces * outsideBits
+
 abbrev pub stepMost : ℕ
-stepMost = rimPlace maxFaces + maxFaces * outsideBits
+stepMost = rimPlace maxFaces + maxFaces * outsideBits + maxCells * massBits
 
 -- a mesh: its body's columns, each from a place p on
 module _ (cells faces : ℕ) where
@@ -89,40 +95,59 @@ module _ (cells : ℕ) where
   pub field-some : fieldHeadBits ≤ fieldBits cells
   field-some = omega arith
 
+-- a release has at most the bits of a mass, so all of them have at most those of a field
+pub release-wide : (kind : ℕ) → releaseBits kind ≤ massBits
+unfolding releaseBits
+release-wide kind = go (eqb kind outfallKind)
+  where
+    go : (b : Bool) → cond b massBits 0 ≤ massBits
+    go true = omega arith
+    go false = omega arith
+
+pub releases-most : (kind : ℕ) {cells : ℕ} → cells ≤ maxCells → cells * releaseBits kind ≤ maxCells * massBits
+releases-most kind l = mul-le-mul l (release-wide kind)
+
 -- a step
-module _ (faces : ℕ) (seconds : List ℕ) where
-  pub signs-at : Column (stepBody faces seconds) 0 0 faces 0 fluxBits signBits
+module _ (kind cells faces : ℕ) (seconds : List ℕ) where
+  pub signs-at : Column (stepBody kind cells faces seconds) 0 0 faces 0 fluxBits signBits
   signs-at = record { widths = signBits ∷ sizeBits ∷ []; every = refl; among = omega arith; wide = refl; apart = refl; begins = refl }
 
-  pub sizes-at : Column (stepBody faces seconds) 0 1 faces signBits fluxBits sizeBits
+  pub sizes-at : Column (stepBody kind cells faces seconds) 0 1 faces signBits fluxBits sizeBits
   sizes-at = record { widths = signBits ∷ sizeBits ∷ []; every = refl; among = omega arith; wide = refl; apart = refl; begins = refl }
 
-  pub outside-at : (f : ℕ) → place (stepBody faces seconds) 1 0 f ≡ faces * fluxBits + rimFaces seconds f * outsideBits
+  pub outside-at : (f : ℕ) → place (stepBody kind cells faces seconds) 1 0 f ≡ faces * fluxBits + rimFaces seconds f * outsideBits
   outside-at f = omega arith
 
-  pub step-kind-in : Column (stepShape faces seconds) 0 0 1 0 stepHeadBits kindBits
+  pub releases-at : {p : ℕ} → p ≡ faces * fluxBits + rimFaces seconds faces * outsideBits
+      → Column (stepBody kind cells faces seconds) 2 0 cells p (releaseBits kind) (releaseBits kind)
+  releases-at e = record { widths = releaseBits kind ∷ []; every = refl; among = omega arith; wide = refl; apart = add-zero (releaseBits kind); begins = omega (arith, e) }
+
+  pub step-kind-in : Column (stepShape kind cells faces seconds) 0 0 1 0 stepHeadBits kindBits
   step-kind-in = record { widths = kindBits ∷ facesBits ∷ stepZeroBits ∷ []; every = refl; among = omega arith; wide = refl; apart = refl; begins = refl }
 
-  pub step-faces-in : Column (stepShape faces seconds) 0 1 1 kindBits stepHeadBits facesBits
+  pub step-faces-in : Column (stepShape kind cells faces seconds) 0 1 1 kindBits stepHeadBits facesBits
   step-faces-in = record { widths = kindBits ∷ facesBits ∷ stepZeroBits ∷ []; every = refl; among = omega arith; wide = refl; apart = refl; begins = refl }
 
-  pub step-zeros-in : Column (stepShape faces seconds) 0 2 1 (kindBits + facesBits) stepHeadBits stepZeroBits
+  pub step-zeros-in : Column (stepShape kind cells faces seconds) 0 2 1 (kindBits + facesBits) stepHeadBits stepZeroBits
   step-zeros-in = record { widths = kindBits ∷ facesBits ∷ stepZeroBits ∷ []; every = refl; among = omega arith; wide = refl; apart = refl; begins = refl }
 
-  pub signs-in : Column (stepShape faces seconds) 1 0 faces stepHeadBits fluxBits signBits
+  pub signs-in : Column (stepShape kind cells faces seconds) 1 0 faces stepHeadBits fluxBits signBits
   signs-in = column-after stepHead stepHeadBits signs-at refl
 
-  pub sizes-in : Column (stepShape faces seconds) 1 1 faces (stepHeadBits + signBits) fluxBits sizeBits
+  pub sizes-in : Column (stepShape kind cells faces seconds) 1 1 faces (stepHeadBits + signBits) fluxBits sizeBits
   sizes-in = column-after stepHead (stepHeadBits + signBits) sizes-at refl
 
-  pub outside-in : (f : ℕ) → place (stepShape faces seconds) 2 0 f ≡ rimPlace faces + rimFaces seconds f * outsideBits
+  pub outside-in : (f : ℕ) → place (stepShape kind cells faces seconds) 2 0 f ≡ rimPlace faces + rimFaces seconds f * outsideBits
   outside-in f = omega arith
 
-  pub step-is : stepBits faces seconds ≡ rimPlace faces + rimFaces seconds faces * outsideBits
-  step-is = omega arith
+  pub releases-in : {p : ℕ} → p ≡ releasePlace faces seconds → Column (stepShape kind cells faces seconds) 3 0 cells p (releaseBits kind) (releaseBits kind)
+  releases-in {p} e = column-after stepHead p (releases-at refl) (omega (arith, e))
 
-  pub step-most : faces ≤ maxFaces → stepBits faces seconds ≤ stepMost
-  step-most l = omega (arith, rim-le seconds faces)
+  pub step-is : stepBits kind cells faces seconds ≡ releasePlace faces seconds + cells * releaseBits kind
+  step-is = let e : cells * (releaseBits kind + 0) ≡ cells * releaseBits kind = rw (add-zero (releaseBits kind)) in omega arith
 
-  pub step-some : rimPlace faces ≤ stepBits faces seconds
-  step-some = omega arith
+  pub step-most : cells ≤ maxCells → faces ≤ maxFaces → stepBits kind cells faces seconds ≤ stepMost
+  step-most l m = omega (arith, step-is, releases-most kind l, rim-le seconds faces)
+
+  pub step-some : releasePlace faces seconds ≤ stepBits kind cells faces seconds
+  step-some = omega (arith, step-is)

@@ -1,5 +1,7 @@
--- Document 01, "Causes", of reading: what a record's head says, what it is refused for, and how many bytes the record needs.
+-- Document 01, "Causes", of reading: what a record's head says, what it is refused for, and how many bytes the record needs. Document 02, S-6:
+-- the head of a step says one of two kinds.
 use Prim.Native.Nat.{ℕ, _+_, min}
+use mathlib.Core.Bool.{Bool, _||_}
 use mathlib.Core.List.{List}
 use lib.ListN.{length}
 use lib.Dec.{eqb, leb}
@@ -8,7 +10,7 @@ use Rattle.model.specs.Causes.{Outcome, accepted, Verdict, _andThen_, need, bet
 use Rattle.model.specs.Answers.{told}
 use Rattle.bits.specs.Field.{bitsAt}
 use Rattle.bits.specs.Layout.{bytesFor}
-use Rattle.heads.specs.Layouts.{meshKind, fieldKind, stepKind, kindBits, cellsBits, facesBits, meshHeadBits, fieldHeadBits, stepHeadBits, meshLength, fieldLength, stepLength}
+use Rattle.heads.specs.Layouts.{meshKind, fieldKind, stepKind, outfallKind, kindBits, cellsBits, facesBits, meshHeadBits, fieldHeadBits, stepHeadBits, meshLength, fieldLength, stepLength}
 use Rattle.heads.specs.declared.LengthAnswer.{LengthAnswer}
 use Rattle.heads.specs.declared.LengthAnswer.the-variants as needs
 
@@ -36,6 +38,12 @@ hasLength bs n = need 11 0 (eqb (length bs) n)
 abbrev pub hasKind : List ℕ → ℕ → Verdict
 hasKind bs kind = need 13 0 (eqb (kindIn bs) kind)
 
+abbrev pub isStepKind : ℕ → Bool
+isStepKind kind = eqb kind stepKind || eqb kind outfallKind
+
+abbrev pub hasStepKind : List ℕ → Verdict
+hasStepKind bs = need 13 0 (isStepKind (kindIn bs))
+
 abbrev pub hasCount : ℕ → ℕ → Verdict
 hasCount count expected = need 13 1 (eqb count expected)
 
@@ -48,10 +56,11 @@ unfoldable pub fieldHeadVerdict : ℕ → List ℕ → Verdict
 fieldHeadVerdict cells bs = hasHead bs fieldHeadBits andThen hasKind bs fieldKind andThen hasCount (cellsIn bs) cells
     andThen need 1 0 (between 1 maxCells cells)
 
--- A step's length rests on the seconds, so a table of seconds that is too short is 2 before that length.
-unfoldable pub stepHeadVerdict : ℕ → List ℕ → List ℕ → Verdict
-stepHeadVerdict faces seconds bs = hasHead bs stepHeadBits andThen hasKind bs stepKind andThen hasCount (stepFacesIn bs) faces
-    andThen need 1 1 (leb faces maxFaces) andThen long 2 faces (length seconds)
+-- A step's length rests on the cells and the seconds, so that both are tested before that length: the cells by 1, a table of seconds that is
+-- too short by 2.
+unfoldable pub stepHeadVerdict : (cells faces : ℕ) → List ℕ → List ℕ → Verdict
+stepHeadVerdict cells faces seconds bs = hasHead bs stepHeadBits andThen hasStepKind bs andThen hasCount (stepFacesIn bs) faces
+    andThen countsWithin maxCells maxFaces cells faces andThen long 2 faces (length seconds)
 
 -- How many bytes a record needs, as its head and the mesh that it belongs to say.
 unfoldable pub meshNeeds : ℕ → ℕ → List ℕ → Outcome ℕ
@@ -60,8 +69,8 @@ meshNeeds mostCells mostFaces bs = meshHeadVerdict mostCells mostFaces bs andThe
 unfoldable pub fieldNeeds : ℕ → List ℕ → Outcome ℕ
 fieldNeeds cells bs = fieldHeadVerdict cells bs andThen accepted (fieldLength cells)
 
-unfoldable pub stepNeeds : ℕ → List ℕ → List ℕ → Outcome ℕ
-stepNeeds faces seconds bs = stepHeadVerdict faces seconds bs andThen accepted (stepLength faces seconds)
+unfoldable pub stepNeeds : (cells faces : ℕ) → List ℕ → List ℕ → Outcome ℕ
+stepNeeds cells faces seconds bs = stepHeadVerdict cells faces seconds bs andThen accepted (stepLength (kindIn bs) cells faces seconds)
 
 -- What the answer of a length says.
 abbrev pub lengthSaid : LengthAnswer → Outcome ℕ

@@ -1,13 +1,17 @@
--- Document 01, "Record layouts": the table of the three records as sections, the values that they hold, and how long each is.
+-- Document 01, "Record layouts": the table of the three records as sections, the values that they hold, and how long each is. Document 02,
+-- S-6: the step record of kind 4, which has a release for each cell besides.
 use Prim.Native.Nat.{ℕ, _+_}
 use mathlib.Core.Bool.{Bool, cond}
 use mathlib.Core.List.{List, [], _∷_}
+use lib.Dec.{eqb}
 use lib.ListN.{getD}
 use lib.IntN.{ℤ, pos}
 use Rattle.signed.specs.Sign.{size, isNegative}
 use Rattle.model.specs.Mesh.{Mesh, volume, first, second, share, reach, rim}
 use Rattle.bits.specs.Layout.{bytesFor}
 use Rattle.sections.specs.Sections.{Section, per, perThat, once, those, marked, shapeBits, Values, always, values, recordOf}
+use Rattle.heads.specs.declared.StepKind.{StepKind}
+use Rattle.heads.specs.declared.StepKind.the-variants.{Water, Outfalls}
 
 -- The kinds.
 abbrev pub meshKind : ℕ
@@ -18,6 +22,14 @@ fieldKind = 2
 
 abbrev pub stepKind : ℕ
 stepKind = 3
+
+abbrev pub outfallKind : ℕ
+outfallKind = 4
+
+-- S-6, the kind that a reading of a step answers and that its writer is told, by its number.
+abbrev pub kindNumber : StepKind → ℕ
+kindNumber Water = stepKind
+kindNumber Outfalls = outfallKind
 
 -- The widths of the head's fields: kind, cells, faces, and the zero bits that end a mesh's head and a step's.
 abbrev pub kindBits : ℕ
@@ -59,6 +71,10 @@ sizeBits = 12
 
 abbrev pub outsideBits : ℕ
 outsideBits = 20
+
+-- S-6: a release is as wide as m in kind 4, and has no bits in kind 3.
+unfoldable pub releaseBits : ℕ → ℕ
+releaseBits kind = cond (eqb kind outfallKind) massBits 0
 
 -- Heads in bits, and one face's part of a mesh and of a step.
 abbrev pub meshHeadBits : ℕ
@@ -112,8 +128,8 @@ fieldValue cells masses = values
     ∷ (massOf masses ∷ [])
     ∷ [])
 
--- A step: the sign of U, 1 for minus, and its size for each face; then the outside value for each rim face, in the order of the faces. A rim
--- face is one whose second is the rim: a step record needs no more of the mesh than its seconds.
+-- A step: the sign of U, 1 for minus, and its size for each face; then the outside value for each rim face, in the order of the faces; then
+-- the release for each cell. A rim face is one whose second is the rim: a step record needs no more of the mesh than its counts and its seconds.
 abbrev pub isRim : List ℕ → ℕ → Bool
 isRim seconds f = marked rim seconds f
 
@@ -130,11 +146,14 @@ fluxSection faces = per faces (signBits ∷ sizeBits ∷ [])
 abbrev pub outsideSection : ℕ → List ℕ → Section
 outsideSection faces seconds = perThat faces (isRim seconds) (outsideBits ∷ [])
 
-abbrev pub stepBody : ℕ → List ℕ → List Section
-stepBody faces seconds = fluxSection faces ∷ outsideSection faces seconds ∷ []
+abbrev pub releaseSection : (kind cells : ℕ) → Section
+releaseSection kind cells = per cells (releaseBits kind ∷ [])
 
-abbrev pub stepShape : ℕ → List ℕ → List Section
-stepShape faces seconds = stepHead ∷ stepBody faces seconds
+abbrev pub stepBody : (kind cells faces : ℕ) → List ℕ → List Section
+stepBody kind cells faces seconds = fluxSection faces ∷ outsideSection faces seconds ∷ releaseSection kind cells ∷ []
+
+abbrev pub stepShape : (kind cells faces : ℕ) → List ℕ → List Section
+stepShape kind cells faces seconds = stepHead ∷ stepBody kind cells faces seconds
 
 abbrev pub signOf : List ℤ → ℕ → ℕ
 signOf fluxes f = cond (isNegative (getD fluxes f (pos 0))) 1 0
@@ -145,11 +164,15 @@ sizeOf fluxes f = size (getD fluxes f (pos 0))
 abbrev pub outsideOf : List ℕ → ℕ → ℕ
 outsideOf outsides f = getD outsides f 0
 
-abbrev pub stepValue : ℕ → List ℤ → List ℕ → Values
-stepValue faces fluxes outsides = values
-    ((always stepKind ∷ always faces ∷ always 0 ∷ [])
+abbrev pub releaseOf : List ℕ → ℕ → ℕ
+releaseOf releases c = getD releases c 0
+
+abbrev pub stepValue : (kind faces : ℕ) → List ℤ → List ℕ → List ℕ → Values
+stepValue kind faces fluxes outsides releases = values
+    ((always kind ∷ always faces ∷ always 0 ∷ [])
     ∷ (signOf fluxes ∷ sizeOf fluxes ∷ [])
     ∷ (outsideOf outsides ∷ [])
+    ∷ (releaseOf releases ∷ [])
     ∷ [])
 
 -- The bytes of each record.
@@ -159,8 +182,8 @@ meshRecord M = recordOf (meshShape (M .cells) (M .faces)) (meshValue M)
 unfoldable pub fieldRecord : ℕ → List ℕ → List ℕ
 fieldRecord cells masses = recordOf (fieldShape cells) (fieldValue cells masses)
 
-unfoldable pub stepRecord : ℕ → List ℕ → List ℤ → List ℕ → List ℕ
-stepRecord faces seconds fluxes outsides = recordOf (stepShape faces seconds) (stepValue faces fluxes outsides)
+unfoldable pub stepRecord : (kind cells faces : ℕ) → List ℕ → List ℤ → List ℕ → List ℕ → List ℕ
+stepRecord kind cells faces seconds fluxes outsides releases = recordOf (stepShape kind cells faces seconds) (stepValue kind faces fluxes outsides releases)
 
 -- How many bits the fields of each record have, and how many bytes it is long: zero bits follow up to a whole byte.
 abbrev pub meshBits : ℕ → ℕ → ℕ
@@ -169,8 +192,8 @@ meshBits cells faces = shapeBits (meshShape cells faces)
 abbrev pub fieldBits : ℕ → ℕ
 fieldBits cells = shapeBits (fieldShape cells)
 
-abbrev pub stepBits : ℕ → List ℕ → ℕ
-stepBits faces seconds = shapeBits (stepShape faces seconds)
+abbrev pub stepBits : (kind cells faces : ℕ) → List ℕ → ℕ
+stepBits kind cells faces seconds = shapeBits (stepShape kind cells faces seconds)
 
 unfoldable pub meshLength : ℕ → ℕ → ℕ
 meshLength cells faces = bytesFor (meshBits cells faces)
@@ -178,5 +201,5 @@ meshLength cells faces = bytesFor (meshBits cells faces)
 unfoldable pub fieldLength : ℕ → ℕ
 fieldLength cells = bytesFor (fieldBits cells)
 
-unfoldable pub stepLength : ℕ → List ℕ → ℕ
-stepLength faces seconds = bytesFor (stepBits faces seconds)
+unfoldable pub stepLength : (kind cells faces : ℕ) → List ℕ → ℕ
+stepLength kind cells faces seconds = bytesFor (stepBits kind cells faces seconds)

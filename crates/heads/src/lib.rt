@@ -1,4 +1,5 @@
-// The three records of document 01 up to their bodies: where each field stands, how long a record is, and its head.
+// The three records of document 01 up to their bodies: where each field stands, how long a record is, and its head. A step record is of one
+// of two kinds, by document 02's S-6.
 pub mod body;
 pub mod lengths;
 pub mod reader;
@@ -14,13 +15,15 @@ use model::needs::between;
 use model::needs::need;
 use reader::Spelled;
 ghost use mathlib.Core.Path.{_≡_};
+ghost use mathlib.Core.Bool.{true};
 ghost use Prim.Native.Nat.{_≤_, min};
 ghost use lib.ListN.{length};
 ghost use Rattle.model.specs.Mesh.{maxCells, maxFaces};
 ghost use Rattle.model.specs.Causes.{countsWithin};
 ghost use Rattle.model.specs.Answers.{said};
 ghost use Rattle.heads.specs.Numbers.{numberAt, numberOf};
-ghost use Rattle.heads.specs.Heads.{kindIn, cellsIn, facesIn, stepFacesIn, meshHeadVerdict, fieldHeadVerdict, stepHeadVerdict, meshNeeds, fieldNeeds, stepNeeds, lengthSaid};
+ghost use Rattle.heads.specs.Layouts.{kindNumber};
+ghost use Rattle.heads.specs.Heads.{kindIn, cellsIn, facesIn, stepFacesIn, isStepKind, meshHeadVerdict, fieldHeadVerdict, stepHeadVerdict, meshNeeds, fieldNeeds, stepNeeds, lengthSaid};
 
 // The widths of a head's fields.
 pub const KIND: usize = 4;
@@ -40,10 +43,18 @@ pub const FIELD_KIND: u64 = 2;
 
 pub const STEP_KIND: u64 = 3;
 
+pub const OUTFALL_KIND: u64 = 4;
+
 // Bits of a cell and of a face in a mesh record.
 pub const CELL_BITS: usize = body::Body::VOLUME;
 
 pub const FACE_BITS: usize = body::Body::FACE;
+
+// The kind of a step record: the water alone, or with what outfalls release into the cells.
+pub enum StepKind {
+    Water,
+    Outfalls,
+}
 
 // How many bytes a record needs, or why its head is refused.
 pub enum LengthAnswer {
@@ -101,6 +112,37 @@ fn step_faces(bytes: &[u8]) -> usize
     field_after(bytes, KIND, FACES) as usize
 }
 
+// The number that a step's head says for a kind.
+pub fn kind_number(kind: StepKind) -> u64
+    ensures { λ r. ⌜ r ≡ kindNumber kind ⌝ }
+{
+    match kind {
+        StepKind::Water => STEP_KIND,
+        StepKind::Outfalls => OUTFALL_KIND,
+    }
+}
+
+// Whether a head's kind is one of a step's.
+fn is_step(kind: u64) -> bool
+    ensures { λ r. ⌜ r ≡ isStepKind kind ⌝ }
+{
+    if kind == STEP_KIND {
+        return true;
+    }
+    kind == OUTFALL_KIND
+}
+
+// The kind that the head of a step says.
+pub fn step_kind(bytes: &[u8]) -> StepKind
+    requires { ⌜ (2 ≤ length (now bytes)) × (isStepKind (kindIn (now bytes)) ≡ true) ⌝ }
+    ensures { λ r. ⌜ kindNumber r ≡ kindIn (now (bytes .entry)) ⌝ }
+{
+    if kind(bytes) == OUTFALL_KIND {
+        return StepKind::Outfalls;
+    }
+    StepKind::Water
+}
+
 // What the head of a mesh is refused for. No limit is above document 01's, whatever the caller sets.
 pub fn mesh(most_cells: usize, most_faces: usize, bytes: &[u8]) -> Answer
     ensures { λ r. ⌜ said r ≡ meshHeadVerdict «most_cells» «most_faces» (now (bytes .entry)) ⌝ }
@@ -130,17 +172,18 @@ pub fn field(expected: usize, bytes: &[u8]) -> Answer
     and_then(d, need(Cause::Limits, 0, few))
 }
 
-// What the head of a step through so many faces is refused for.
-pub fn step(expected: usize, seconds: &[u64], bytes: &[u8]) -> Answer
-    ensures { λ r. ⌜ said r ≡ stepHeadVerdict expected (now (seconds .entry)) (now (bytes .entry)) ⌝ }
+// What the head of a step on so many cells, through so many faces, is refused for.
+pub fn step(cells: usize, expected: usize, seconds: &[u64], bytes: &[u8]) -> Answer
+    ensures { λ r. ⌜ said r ≡ stepHeadVerdict cells expected (now (seconds .entry)) (now (bytes .entry)) ⌝ }
 {
     let a = need(Cause::Length, 0, STEP_HEAD <= bytes.len());
     if let Answer::Refused(r) = a {
         return Answer::Refused(r);
     }
-    let b = need(Cause::Head, 0, kind(bytes) == STEP_KIND);
+    let b = need(Cause::Head, 0, is_step(kind(bytes)));
     let d = and_then(b, need(Cause::Head, 1, step_faces(bytes) == expected));
-    let e = and_then(d, need(Cause::Limits, 1, expected <= model::MAX_FACES));
+    let few = lent::counts_within(model::MAX_CELLS, model::MAX_FACES, cells, expected);
+    let e = and_then(d, few);
     and_then(e, need(Cause::Table, 2, expected <= seconds.len()))
 }
 
@@ -168,13 +211,14 @@ pub fn field_length(cells: usize, bytes: &[u8]) -> LengthAnswer
     LengthAnswer::Needs(lengths::field_bytes(cells))
 }
 
-// How many bytes the record of a step through these faces needs.
-pub fn step_length(faces: usize, seconds: &[u64], bytes: &[u8]) -> LengthAnswer
-    ensures { λ r. ⌜ lengthSaid r ≡ stepNeeds faces (now (seconds .entry)) (now (bytes .entry)) ⌝ }
+// How many bytes the record of a step on these cells and faces needs, of the kind that its head says.
+pub fn step_length(cells: usize, faces: usize, seconds: &[u64], bytes: &[u8]) -> LengthAnswer
+    ensures { λ r. ⌜ lengthSaid r ≡ stepNeeds cells faces (now (seconds .entry)) (now (bytes .entry)) ⌝ }
 {
-    let a = step(faces, seconds, bytes);
+    let a = step(cells, faces, seconds, bytes);
     if let Answer::Refused(r) = a {
         return LengthAnswer::Refused(r);
     }
-    LengthAnswer::Needs(lengths::step_bytes(faces, seconds))
+    let length = lengths::step_bytes(step_kind(bytes), cells, faces, seconds);
+    LengthAnswer::Needs(length)
 }

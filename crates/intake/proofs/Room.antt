@@ -2,6 +2,7 @@
 use Prim.Native.Nat.{ℕ, _+_, _≤_}
 use mathlib.Core.Path.{_≡_, refl}
 use mathlib.Core.List.{List}
+use native.Mathlib.Nat.{mul-le-mul}
 use native.Mathlib.Omega.{arith}
 use borrow.Author.Tests.{leb-true}
 use lib.Dec.{leb}
@@ -12,8 +13,9 @@ use Rattle.model.proofs.Verdicts.{both-fine, need-fine}
 use Rattle.bits.specs.Layout.{bytesFor}
 use Rattle.bits.proofs.Layouts.{bytes-most}
 use Rattle.heads.specs.Layouts.{meshBits, fieldBits, stepBits, meshLength, fieldLength, stepLength}
-use Rattle.heads.specs.Heads.{cellsIn, facesIn, meshHeadVerdict, meshNeeds, fieldNeeds, stepNeeds}
+use Rattle.heads.specs.Heads.{kindIn, cellsIn, facesIn, meshHeadVerdict, meshNeeds, fieldNeeds, stepNeeds}
 use Rattle.heads.proofs.HeadLaws.{rim-le}
+use Rattle.heads.proofs.Layouts.{release-wide}
 use Rattle.intake.specs.Intake.{recordBytes}
 
 -- the same in bytes, as the run's buffer has them
@@ -40,12 +42,19 @@ field-in-room cells bs n l e =
     let q : bytesFor (fieldBits cells) ≡ n = cc in
     rw record-is (omega (arith, q, bytes-most (fieldBits cells)))
 
-pub step-in-room : (faces : ℕ) (seconds bs : List ℕ) (n : ℕ) → faces ≤ runFaces → stepNeeds faces seconds bs ≡ accepted n → n ≤ recordBytes
+-- a release has the width of a mass, or none
+pub step-in-room : (cells faces : ℕ) (seconds bs : List ℕ) (n : ℕ) → cells ≤ runCells → faces ≤ runFaces → stepNeeds cells faces seconds bs ≡ accepted n → n ≤ recordBytes
 unfolding stepNeeds stepLength
-step-in-room faces seconds bs n l e =
+step-in-room cells faces seconds bs n k l e =
     let p = both-fine _ _ e .1 in
-    let q : bytesFor (stepBits faces seconds) ≡ n = cc in
-    rw record-is (omega (arith, q, bytes-most (stepBits faces seconds), rim-le seconds faces))
+    let q : bytesFor (stepBits (kindIn bs) cells faces seconds) ≡ n = cc in
+    rw record-is (omega (
+      arith,
+      q,
+      bytes-most (stepBits (kindIn bs) cells faces seconds),
+      rim-le seconds faces,
+      mul-le-mul k (release-wide (kindIn bs)),
+    ))
 
 pub room-left : (got more : ℕ) → (got ≤ recordBytes → got + more ≤ recordBytes) → got ≤ longest → got + more ≤ longest
 room-left got more h l = let q : got ≤ recordBytes = rw record-is l in rw record-is at (h q)

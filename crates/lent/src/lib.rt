@@ -79,15 +79,17 @@ pub fn step_lent(
     next: &[u64],
     moved: &[i64],
     work: &[u64],
+    releases: &[u64],
 ) -> Answer
     requires { ⌜ (cells ≤ maxCells) × (faces ≤ maxFaces) ⌝ }
     ensures { λ r. ⌜ said r ≡ stepLong cells faces
-        (callOf (now (fluxes .entry)) (now (outsides .entry)) (now (next .entry)) (now (moved .entry)) (now (work .entry))) ⌝ }
+        (callOf (now (fluxes .entry)) (now (outsides .entry)) (now (next .entry)) (now (moved .entry)) (now (work .entry)) (now (releases .entry))) ⌝ }
 {
     let wanted = model::work_length(cells, faces);
     let a = long(6, faces, fluxes.len());
     let a = and_then(a, long(7, faces, outsides.len()));
     let a = and_then(a, long(8, cells, next.len()));
     let a = and_then(a, long(9, faces, moved.len()));
-    and_then(a, long(10, wanted, work.len()))
+    let a = and_then(a, long(10, wanted, work.len()));
+    and_then(a, long(14, cells, releases.len()))
 }

@@ -1,5 +1,5 @@
 -- What an accepted call has passed.
-use Prim.Native.Nat.{ℕ, suc, _/_, _≤_, _<_}
+use Prim.Native.Nat.{ℕ, suc, _+_, _/_, _≤_, _<_}
 use mathlib.Core.Path.{_≡_}
 use mathlib.Core.Logic.{_≢_}
 use mathlib.Core.Bool.{Bool, true, false, not, cond, _&&_, _||_}
@@ -14,10 +14,11 @@ use Rattle.lists.proofs.Tests.{Same, same, other, same?, both-true, either-true
 use Rattle.lists.proofs.Sums.{greatest-le}
 use Rattle.model.specs.Mesh.{Mesh, volume, first, second, share, reach, atRim, rim, incoming, outgoing, maxCells, maxFaces, maxVolume, maxShare, maxReach, maxConcentration, maxRimFlux}
 use Rattle.model.specs.Step.{StepInput, flux, outside, concentration, adjacent, hi}
-use Rattle.model.specs.Causes.{meshLengths, stepLengths, meshCauses, waterCauses, stepCauses, fine, _andThen_, each, between, Call, inputOf, countsWithin, counts, meshTables, volumeGood, endsGood, spacingGood, meshValues, fieldTable, fieldValues, saltGood, fieldVerdict, stepTables, outsideGood, fluxGood, balanceGood, outflowGood, stepValues, verdict, meshFieldVerdict}
+use Rattle.model.specs.Causes.{meshLengths, stepLengths, meshCauses, release, raisedGood, raisedValues, waterCauses, stepCauses, fine, _andThen_, each, between, Call, inputOf, countsWithin, counts, meshTables, volumeGood, endsGood, spacingGood, meshValues, fieldTable, fieldValues, saltGood, fieldVerdict, stepTables, outsideGood, fluxGood, balanceGood, outflowGood, stepValues, verdict, meshFieldVerdict}
 use Rattle.model.specs.Accepted.{Counted, MeshLent, CallLent, MeshFit, WaterFit, Ready, maxMass}
 use Rattle.model.proofs.Verdicts.{both-fine, all-fine, need-fine, need-met, long-fine, each-fine, fine-each}
 use Rattle.model.proofs.Low.{met-any}
+use Rattle.model.proofs.Raised.{raised-long, raised-at}
 
 -- past cause 1
 pub counted : (M : Mesh) → counts M ≡ fine → Counted M
@@ -54,6 +55,7 @@ call-lent M field k e =
       nexts-long = long-fine _ _ _ (p .1 .1 .0);
       moveds-long = long-fine _ _ _ (p .1 .1 .1 .0);
       work-long = long-fine _ _ _ (p .1 .1 .1 .1 .0);
+      releases-long = long-fine _ _ _ (p .1 .1 .1 .1 .1 .0);
     }
 
 -- past causes 3 to 5
@@ -110,6 +112,12 @@ pub field-accepted : (M : Mesh) (field : List ℕ) → M .cells ≤ length field
 unfolding fieldVerdict fieldTable fieldValues saltGood _andThen_
 field-accepted M field long fresh =
     rw (need-met 2 5 (le-leb (M .cells) (length field) long)) (fine-each 6 (M .cells) (saltGood M field) (λ c h. le-leb (getD field c 0 / volume M c) maxConcentration (fresh c h)))
+
+-- past cause 18
+pub raised-fit : (M : Mesh) (field : List ℕ) (k : Call) → raisedValues M field k ≡ fine → (c : ℕ) → c < M .cells
+    → (getD field c 0 + release k c) / volume M c ≤ maxConcentration
+unfolding raisedValues raisedGood
+raised-fit M field k e c h = leb-true _ _ (each-fine 18 (M .cells) (raisedGood M field k) e c h)
 
 -- past causes 7 and 8
 outside-says : (o : ℕ) (b : Bool) → leb o (cond b maxConcentration 0) ≡ true → o ≤ maxConcentration
@@ -193,6 +201,7 @@ pub record Passed (M : Mesh) (field : List ℕ) (k : Call) : Type 0 where
   pub step-tables-fine : stepTables M field k ≡ fine
   pub mesh-values-fine : meshValues M ≡ fine
   pub field-values-fine : fieldValues M field ≡ fine
+  pub raised-values-fine : raisedValues M field k ≡ fine
   pub step-values-fine : stepValues M field k ≡ fine
 
 module _ (M : Mesh) (field : List ℕ) (k : Call) where
@@ -208,7 +217,8 @@ module _ (M : Mesh) (field : List ℕ) (k : Call) where
         step-tables-fine = p .1 .1 .1 .0;
         mesh-values-fine = values .0;
         field-values-fine = values .1 .0;
-        step-values-fine = values .1 .1 .0;
+        raised-values-fine = values .1 .1 .0;
+        step-values-fine = values .1 .1 .1 .0;
       }
 
   pub ready-of : Passed M field k → Ready (inputOf M field k)
@@ -222,10 +232,10 @@ module _ (M : Mesh) (field : List ℕ) (k : Call) where
         counts-fit = c;
         lent = mesh-lent M (p .mesh-tables-fine);
         fit = m;
-        masses-long = field-lent M field (p .field-table-fine);
+        masses-long = omega (arith, raised-long (M .cells) field (k .releases));
         fluxes-long = l .fluxes-long;
         outsides-long = l .outsides-long;
-        salt-most = field-fit M field (p .field-values-fine);
+        salt-most = λ c h. rw (raised-at (M .cells) field (k .releases) c h) (raised-fit M field k (p .raised-values-fine) c h);
         water = water-fit M field k (w .0) (w .1 .0);
         sound = record {
           joined = record { few = c .few-cells; first-in = m .first-in; second-in = m .second-in };

@@ -7,6 +7,7 @@ use mathlib.Core.List.{List}
 use native.Mathlib.Omega.{arith}
 use lib.Dec.{eqb}
 use lib.IntN.{ℤ, pos}
+use lib.ListN.{getD}
 use Rattle.lists.specs.Fold.{sum}
 use Rattle.lists.specs.Renumbering.{unmoved}
 use Rattle.lists.specs.Table.{table, over}
@@ -14,14 +15,15 @@ use Rattle.lists.proofs.Tests.{Same, same, same?}
 use Rattle.lists.proofs.Sums.{sum-cong}
 use Rattle.lists.proofs.Tables.{table-cong}
 use Rattle.model.specs.Mesh.{Mesh, first, second, rim, entering, leaving, incoming, outgoing, total}
-use Rattle.model.specs.Step.{StepInput, flux, lo, hi, moved, next, inMass, outMass}
-use Rattle.model.specs.Alike.{straight, AlikeEnds, Alike, AgreeMesh, Agree}
-use Rattle.model.specs.Causes.{accepted, refused, Verdict, fine, _andThen_, taken, each, Call, inputOf, counts, meshTables, fieldTable, stepTables, meshValues, volumeGood, endsGood, spacingGood, fieldValues, fieldVerdict, saltGood, stepValues, outsideGood, fluxGood, balanceGood, outflowGood, verdict}
+use Rattle.model.specs.Step.{StepInput, flux, raised, releasedMass, lo, hi, moved, next, inMass, outMass}
+use Rattle.model.specs.Alike.{straight, AlikeEnds, Alike, AgreeMesh, Agree, AgreeCall}
+use Rattle.model.specs.Causes.{accepted, refused, Verdict, fine, _andThen_, taken, each, Call, inputOf, counts, meshTables, fieldTable, stepTables, meshValues, volumeGood, endsGood, spacingGood, fieldValues, fieldVerdict, saltGood, release, raisedGood, raisedValues, stepValues, outsideGood, fluxGood, balanceGood, outflowGood, verdict}
 use Rattle.model.specs.Calls.{massIn, Bounded, Left, crossingOf, corrected, stepAnswer, nextTable, movedTable}
 use Rattle.model.specs.Accepted.{MeshFit}
 use Rattle.model.proofs.Verdicts.{each-cong}
 use Rattle.model.proofs.Accepted.{ready}
 use Rattle.model.proofs.Lists.{Fair}
+use Rattle.model.proofs.Raised.{raised-at}
 use Rattle.model.proofs.AlikeStages.{lo-alike, hi-alike, moved-alike, next-alike, in-mass-alike, out-mass-alike}
 
 whole : (k : ℕ) → k ≡ cond (eqb k rim) rim k
@@ -109,24 +111,29 @@ module _ (M M′ : Mesh) (g : AgreeMesh M M′) where
   unfolding total
   total-agree m m′ same-masses = ap (λ (n : ℕ). sum n m′) (g .cells-same) ∙ sum-cong (M .cells) m′ m same-masses
 
+-- every mesh agrees with itself
+pub same-mesh : (M : Mesh) → AgreeMesh M M
+same-mesh M = record {
+  cells-same = refl;
+  faces-same = refl;
+  volumes = λ c h. refl;
+  firsts = λ f l. refl;
+  seconds = λ f l. refl;
+  shares = λ f l. refl;
+  reaches = λ f l. refl;
+}
+
 -- the same mesh and water, with another field
-pub field-agrees : (M : Mesh) (k : Call) (field field′ : List ℕ) → ((c : ℕ) → c < M .cells → massIn field′ c ≡ massIn field c) → Agree (inputOf M field k) (inputOf M field′ k)
+pub field-agrees : (M : Mesh) (k : Call) (field field′ : List ℕ) → ((c : ℕ) → c < M .cells → massIn field′ c ≡ massIn field c) → AgreeCall M M field field′ k k
 field-agrees M k field field′ same-masses = record {
-  mesh-agrees = record {
-    cells-same = refl;
-    faces-same = refl;
-    volumes = λ c h. refl;
-    firsts = λ f l. refl;
-    seconds = λ f l. refl;
-    shares = λ f l. refl;
-    reaches = λ f l. refl;
-  };
+  mesh-agrees = same-mesh M;
   masses = same-masses;
   fluxes = λ f l. refl;
   outsides = λ f l. refl;
+  releases = λ c h. refl;
 }
 
-module _ (M M′ : Mesh) (field field′ : List ℕ) (k k′ : Call) (g : Agree (inputOf M field k) (inputOf M′ field′ k′)) where
+module _ (M M′ : Mesh) (field field′ : List ℕ) (k k′ : Call) (a : AgreeCall M M′ field field′ k k′) where
   abbrev S : StepInput
   S = inputOf M field k
 
@@ -134,13 +141,31 @@ module _ (M M′ : Mesh) (field field′ : List ℕ) (k k′ : Call) (g : Agree 
   S′ = inputOf M′ field′ k′
 
   abbrev m : AgreeMesh M M′
-  m = g .mesh-agrees
+  m = a .mesh-agrees
+
+  -- fields that agree, raised by releases that do
+  raised-agree : (c : ℕ) → c < M .cells → getD (raised (M′ .cells) field′ (k′ .releases)) c 0 ≡ getD (raised (M .cells) field (k .releases)) c 0
+  raised-agree c h =
+      let n : c < M′ .cells = omega (arith, m .cells-same) in
+      raised-at (M′ .cells) field′ (k′ .releases) c n ∙ rw (a .masses c h, a .releases c h, raised-at (M .cells) field (k .releases) c h)
+
+  pub inputs-agree : Agree S S′
+  inputs-agree = record { mesh-agrees = m; masses = raised-agree; fluxes = a .fluxes; outsides = a .outsides }
+
+  abbrev g : Agree S S′
+  g = inputs-agree
 
   inflow-agree : (c : ℕ) → incoming M′ (flux S′) c ≡ incoming M (flux S) c
   inflow-agree = incoming-agree M M′ (m .faces-same) (λ f l. (m .firsts f l, m .seconds f l)) (flux S) (flux S′) (g .fluxes)
 
   outflow-agree : (c : ℕ) → outgoing M′ (flux S′) c ≡ outgoing M (flux S) c
   outflow-agree = outgoing-agree M M′ (m .faces-same) (λ f l. (m .firsts f l, m .seconds f l)) (flux S) (flux S′) (g .fluxes)
+
+  -- cause 18
+  pub raised-values-agree : raisedValues M′ field′ k′ ≡ raisedValues M field k
+  unfolding raisedValues raisedGood
+  raised-values-agree = each-agree 18 (M .cells) (raisedGood M field k) (raisedGood M′ field′ k′) (m .cells-same)
+      (λ c h. rw (a .masses c h, a .releases c h, m .volumes c h))
 
   -- causes 7 to 10
   pub step-values-agree : stepValues M′ field′ k′ ≡ stepValues M field k
@@ -152,11 +177,15 @@ module _ (M M′ : Mesh) (field field′ : List ℕ) (k k′ : Call) (g : Agree 
     each-agree 10 (M .cells) (outflowGood M field k) (outflowGood M′ field′ k′) (m .cells-same) (λ c h. rw (outflow-agree c, m .volumes c h)),
   )
 
+  pub released-agree : releasedMass (M′ .cells) (k′ .releases) ≡ releasedMass (M .cells) (k .releases)
+  unfolding releasedMass
+  released-agree = ap (λ (n : ℕ). sum n (release k′)) (m .cells-same) ∙ sum-cong (M .cells) (release k′) (release k) (a .releases)
+
   -- where cause 2 finds the same too, as in tables that are all long enough
   module _ (mesh-lent : meshTables M′ ≡ meshTables M) (field-lent : fieldTable M′ field′ ≡ fieldTable M field) (call-lent : stepTables M′ field′ k′ ≡ stepTables M field k) where
     pub verdict-agree : verdict M′ field′ k′ ≡ verdict M field k
     unfolding verdict counts
-    verdict-agree = rw (mesh-lent, field-lent, call-lent, mesh-values-agree M M′ m, field-values-agree M M′ m field field′ (g .masses), step-values-agree, m .cells-same, m .faces-same)
+    verdict-agree = rw (mesh-lent, field-lent, call-lent, mesh-values-agree M M′ m, field-values-agree M M′ m field field′ (a .masses), raised-values-agree, step-values-agree, m .cells-same, m .faces-same)
 
     -- what an accepted call makes of the stages is the same; a refused one makes nothing of them
     after-agree : {A : Type 0} (x x′ y y′ : A) → (verdict M field k ≡ fine → x′ ≡ x) → y′ ≡ y → taken (verdict M′ field′ k′) x′ y′ ≡ taken (verdict M field k) x y
@@ -170,8 +199,9 @@ module _ (M M′ : Mesh) (field field′ : List ℕ) (k k′ : Call) (g : Agree 
     unfolding stepAnswer _andThen_
     answer-agree = rw verdict-agree (go (verdict M field k) refl)
       where
-        go : (v : Verdict) → verdict M field k ≡ v → (v andThen accepted (crossingOf S′)) ≡ (v andThen accepted (crossingOf S))
-        go (accepted t) e = let r = ready M field k e in rw (in-agree S S′ (r .counts-fit .few-cells) (r .fit) g, out-agree S S′ (r .counts-fit .few-cells) (r .fit) g)
+        go : (v : Verdict) → verdict M field k ≡ v → (v andThen accepted (crossingOf M′ field′ k′)) ≡ (v andThen accepted (crossingOf M field k))
+        go (accepted t) e = let r = ready M field k e in
+            rw (in-agree S S′ (r .counts-fit .few-cells) (r .fit) g, out-agree S S′ (r .counts-fit .few-cells) (r .fit) g, released-agree)
         go (refused i j) e = refl
 
     pub next-table-agree : k′ .nexts ≡ k .nexts → nextTable corrected M′ k′ field′ ≡ nextTable corrected M k field
@@ -197,7 +227,7 @@ module _ (M M′ : Mesh) (field field′ : List ℕ) (k k′ : Call) (g : Agree 
 
     pub fair-agree : (l : Left) → Fair M′ (Bounded S′ (l .field)) field′ l → Fair M (Bounded S (l .field)) field l
     fair-agree l f = record {
-      budget = omega (arith, f .budget, total-agree M M′ m (massIn field) (massIn field′) (g .masses), total-agree M M′ m (massIn (l .field)) (massIn (l .field)) (λ c h. refl));
+      budget = omega (arith, f .budget, total-agree M M′ m (massIn field) (massIn field′) (a .masses), total-agree M M′ m (massIn (l .field)) (massIn (l .field)) (λ c h. refl));
       holds = bounded-agree (l .field) (f .holds);
       field-accepted = sym (field-verdict-agree M M′ m (l .field)) ∙ f .field-accepted;
     }

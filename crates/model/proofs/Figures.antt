@@ -1,25 +1,28 @@
--- Document 01, "Figures by hand": the lines marked P, gathered and proved together, those of document 02's S-5, and figures that hold
+-- Document 01, "Figures by hand": the lines marked P, gathered and proved together, those of document 02's S-5 and S-6, and figures that hold
 -- the slips off which those lines leave open.
-use Prim.Native.Nat.{ℕ, suc, _<_}
-use mathlib.Core.Path.{_≡_, refl}
+use Prim.Native.Nat.{ℕ, suc, _+_, _<_}
+use mathlib.Core.Path.{_≡_, refl, _∙_}
 use mathlib.Core.Bool.{true}
 use mathlib.Core.List.{List, [], _∷_}
+use native.Mathlib.Nat.{add-zero}
+use native.Mathlib.Omega.{arith}
 use lib.IntN.{ℤ, pos, negsuc}
 use lib.ListN.{replicate}
 use Rattle.lists.specs.Fold.{sum, least, greatest}
 use Rattle.lists.specs.Table.{table, over}
 use Rattle.signed.specs.Sign.{isNegative}
 use Rattle.model.specs.Mesh.{Mesh, second, rim, entering, leaving, incoming, outgoing, updated}
-use Rattle.model.specs.Step.{StepInput, flux, outside, mass, inMass, next, moved, concentration, beyond, upwind, downwind, carried, low, upwindShare, correction, smooths, keptBy, lowConcentration, kept, adjacent, lo, hi, maxGain, maxLoss, receiver, giver, limitedBy, limited, portion}
-use Rattle.model.specs.Causes.{Call, inputOf, fine, refused, _andThen_, need, each, countsWithin, counts, meshTables, volumeGood, endsGood, spacingGood, meshValues, fieldTable, saltGood, fieldValues, fieldVerdict, stepTables, outsideGood, fluxGood, balanceGood, outflowGood, stepValues, verdict}
-use Rattle.model.specs.Calls.{corrected, stepOnTables, nextTable, afterAll, totalIn, totalOut}
+use Rattle.model.specs.Step.{StepInput, raised, releasedMass, flux, outside, mass, inMass, outMass, next, moved, concentration, beyond, upwind, downwind, carried, low, upwindShare, correction, smooths, keptBy, lowConcentration, kept, adjacent, lo, hi, maxGain, maxLoss, receiver, giver, limitedBy, limited, portion}
+use Rattle.model.specs.Causes.{Call, release, inputOf, fine, refused, _andThen_, need, each, countsWithin, counts, meshTables, volumeGood, endsGood, spacingGood, meshValues, fieldTable, saltGood, fieldValues, fieldVerdict, raisedGood, raisedValues, stepTables, outsideGood, fluxGood, balanceGood, outflowGood, stepValues, verdict}
+use Rattle.model.specs.Calls.{massIn, corrected, stepOnTables, nextTable, afterAll, totalIn, totalOut}
 use Rattle.model.proofs.Accepted.{ready}
+use Rattle.model.proofs.Raised.{raised-at}
 use Rattle.model.proofs.Uniform.{uniform, no-faces}
 
 -- a name for all that a figure computes through: to unfold it is to unfold what its `unfolding` line names
 everything : Unit {0}
-unfolding afterAll totalIn totalOut stepOnTables nextTable inMass over verdict counts countsWithin meshTables fieldTable stepTables
-    meshValues fieldValues saltGood stepValues volumeGood endsGood spacingGood outsideGood fluxGood balanceGood outflowGood need each
+unfolding afterAll totalIn totalOut stepOnTables nextTable inMass outMass over verdict counts countsWithin meshTables fieldTable stepTables
+    meshValues fieldValues saltGood raised raisedGood raisedValues releasedMass stepValues volumeGood endsGood spacingGood outsideGood fluxGood balanceGood outflowGood need each
     _andThen_ table sum least greatest entering leaving incoming outgoing updated next moved concentration beyond upwind downwind carried
     low upwindShare correction smooths keptBy lowConcentration kept adjacent lo hi maxGain maxLoss receiver giver limitedBy limited portion
     fieldVerdict
@@ -44,6 +47,7 @@ channelCall = record {
   nexts = 7 ∷ 7 ∷ 7 ∷ [];
   moveds = pos 0 ∷ pos 0 ∷ pos 0 ∷ pos 0 ∷ [];
   work = replicate 16 0;
+  releases = 0 ∷ 0 ∷ 0 ∷ [];
 }
 
 abbrev pub channelStep : List ℕ → StepInput
@@ -63,21 +67,21 @@ abbrev pub pair : Mesh
 pair = record { cells = 2; faces = 2; volumes = 10 ∷ 10 ∷ []; firsts = 0 ∷ 0 ∷ []; seconds = 1 ∷ 1 ∷ []; shares = 128 ∷ 128 ∷ []; reaches = 10 ∷ 10 ∷ [] }
 
 abbrev pub exchangeCall : Call
-exchangeCall = record { fluxes = pos 10 ∷ negsuc 9 ∷ []; outsides = 0 ∷ 0 ∷ []; nexts = 0 ∷ 0 ∷ []; moveds = pos 0 ∷ pos 0 ∷ []; work = replicate 10 0 }
+exchangeCall = record { fluxes = pos 10 ∷ negsuc 9 ∷ []; outsides = 0 ∷ 0 ∷ []; nexts = 0 ∷ 0 ∷ []; moveds = pos 0 ∷ pos 0 ∷ []; work = replicate 10 0; releases = 0 ∷ 0 ∷ [] }
 
 -- one cell of volume v, no faces
 abbrev pub lake : ℕ → Mesh
 lake v = record { cells = 1; faces = 0; volumes = v ∷ []; firsts = []; seconds = []; shares = []; reaches = [] }
 
 abbrev pub lakeCall : Call
-lakeCall = record { fluxes = []; outsides = []; nexts = 0 ∷ []; moveds = []; work = replicate 4 0 }
+lakeCall = record { fluxes = []; outsides = []; nexts = 0 ∷ []; moveds = []; work = replicate 4 0; releases = 0 ∷ [] }
 
 -- one cell of V 100 with two faces over the rim
 abbrev pub strait : Mesh
 strait = record { cells = 1; faces = 2; volumes = 100 ∷ []; firsts = 0 ∷ 0 ∷ []; seconds = rim ∷ rim ∷ []; shares = 0 ∷ 0 ∷ []; reaches = 0 ∷ 0 ∷ [] }
 
 abbrev pub through : ℕ → Call
-through u = record { fluxes = pos (suc u) ∷ negsuc u ∷ []; outsides = 0 ∷ 0 ∷ []; nexts = 0 ∷ []; moveds = pos 0 ∷ pos 0 ∷ []; work = replicate 6 0 }
+through u = record { fluxes = pos (suc u) ∷ negsuc u ∷ []; outsides = 0 ∷ 0 ∷ []; nexts = 0 ∷ []; moveds = pos 0 ∷ pos 0 ∷ []; work = replicate 6 0; releases = 0 ∷ [] }
 
 -- The lines marked P, in document 01's order. Each step is accepted.
 pub record Figures : Type 0 where
@@ -96,11 +100,11 @@ pub record Figures : Type 0 where
   -- 4 and 5: the correction of one face, of size 0 and of size 49609: the quotient, before document 02's S-5
   pub correction-none : correction (between 3 0 (pos 1) 128 2) 0 ≡ pos 0
   pub correction-downwind : correction (between 1000 0 (pos 100) 1 100) 0 ≡ pos 49609
-  -- 6: one concentration everywhere, for every mesh and every concentration
+  -- 6: one concentration everywhere, for every mesh and every concentration: no mass changes but by its release
   pub unchanged : (M : Mesh) (field : List ℕ) (k : Call) (q : ℕ) → verdict M field k ≡ fine
       → ((c : ℕ) → c < M .cells → concentration (inputOf M field k) c ≡ q)
       → ((f : ℕ) → f < M .faces → second M f ≡ rim → isNegative (flux (inputOf M field k) f) ≡ true → outside (inputOf M field k) f ≡ q)
-      → (c : ℕ) → c < M .cells → next (inputOf M field k) c ≡ mass (inputOf M field k) c
+      → (c : ℕ) → c < M .cells → next (inputOf M field k) c ≡ massIn field c + release k c
   -- 7: the fullest cell of V 4,095, and one too full
   pub fullest : fieldVerdict (lake 4095) (4095004094 ∷ []) ≡ fine
   pub too-full : fieldVerdict (lake 4095) (4095004095 ∷ []) ≡ refused 6 0
@@ -188,13 +192,14 @@ figures = record {
   exchange = exchange-is;
   correction-none = correction-none-is;
   correction-downwind = correction-downwind-is;
-  unchanged = λ M field k q e alike outside-alike c h. uniform (inputOf M field k) (ready M field k e .sound) q alike outside-alike c h;
+  unchanged = λ M field k q e alike outside-alike c h.
+      uniform (inputOf M field k) (ready M field k e .sound) q alike outside-alike c h ∙ raised-at (M .cells) field (k .releases) c h;
   fullest = fullest-is;
   too-full = too-full-is;
   outflow-100 = outflow-100-is;
   outflow-101 = outflow-101-is;
   alone-accepted = alone-accepted-is;
-  alone = λ v m. no-faces (inputOf (lake v) (m ∷ []) lakeCall) refl 0;
+  alone = λ v m. no-faces (inputOf (lake v) (m ∷ []) lakeCall) refl 0 ∙ raised-at 1 (m ∷ []) (0 ∷ []) 0 (omega arith) ∙ add-zero m;
 }
 
 -- Document 02, S-5. Two cells of V 100 in a row, with line 5's face between them; U through them, and 1000 outside.
@@ -202,7 +207,7 @@ abbrev pub sluice : Mesh
 sluice = record { cells = 2; faces = 3; volumes = 100 ∷ 100 ∷ []; firsts = 0 ∷ 0 ∷ 1 ∷ []; seconds = rim ∷ 1 ∷ rim ∷ []; shares = 0 ∷ 1 ∷ 0 ∷ []; reaches = 0 ∷ 100 ∷ 0 ∷ [] }
 
 abbrev pub sluiceCall : ℕ → Call
-sluiceCall u = record { fluxes = negsuc u ∷ pos (suc u) ∷ pos (suc u) ∷ []; outsides = 1000 ∷ 0 ∷ 0 ∷ []; nexts = 0 ∷ 0 ∷ []; moveds = pos 0 ∷ pos 0 ∷ pos 0 ∷ []; work = replicate 11 0 }
+sluiceCall u = record { fluxes = negsuc u ∷ pos (suc u) ∷ pos (suc u) ∷ []; outsides = 1000 ∷ 0 ∷ 0 ∷ []; nexts = 0 ∷ 0 ∷ []; moveds = pos 0 ∷ pos 0 ∷ pos 0 ∷ []; work = replicate 11 0; releases = 0 ∷ 0 ∷ [] }
 
 abbrev pub sluiceStep : ℕ → List ℕ → StepInput
 sluiceStep u masses = inputOf sluice masses (sluiceCall u)
@@ -288,6 +293,53 @@ kept-figures = record {
   uncounted-next = refl;
   channel-low = refl;
   channel-kept = refl;
+}
+
+-- Document 02, S-6. The strait with U 10 through it from fresh water, and a release.
+abbrev pub outfallCall : ℕ → Call
+outfallCall r = record { fluxes = pos 10 ∷ negsuc 9 ∷ []; outsides = 0 ∷ 0 ∷ []; nexts = 0 ∷ []; moveds = pos 0 ∷ pos 0 ∷ []; work = replicate 6 0; releases = r ∷ [] }
+
+-- the channel without salt, and step 1's first mass as a release
+abbrev pub channelOutfall : Call
+channelOutfall = record {
+  fluxes = channelCall .fluxes;
+  outsides = channelCall .outsides;
+  nexts = channelCall .nexts;
+  moveds = channelCall .moveds;
+  work = channelCall .work;
+  releases = 100000 ∷ 0 ∷ 0 ∷ [];
+}
+
+-- one cell, no faces, and a release
+abbrev pub lakeOutfall : ℕ → Call
+lakeOutfall r = record { fluxes = []; outsides = []; nexts = 0 ∷ []; moveds = []; work = replicate 4 0; releases = r ∷ [] }
+
+pub record ReleaseFigures : Type 0 where
+  -- added first: m 5000 and a release of 5000 leave at q 100, so U 10 takes 1000 out
+  pub outfall-accepted : verdict strait (5000 ∷ []) (outfallCall 5000) ≡ fine
+  pub outfall-next : table 1 (next (inputOf strait (5000 ∷ []) (outfallCall 5000))) ≡ 9000 ∷ []
+  pub outfall-out : outMass (inputOf strait (5000 ∷ []) (outfallCall 5000)) ≡ 1000
+  pub outfall-released : releasedMass 1 (5000 ∷ []) ≡ 5000
+  -- bounds of the raised field: what channel step 1 gives of masses 100000, 0, 0, it gives of releases 100000, 0, 0 into fresh water
+  pub raised-accepted : verdict channel (0 ∷ 0 ∷ 0 ∷ []) channelOutfall ≡ fine
+  pub raised-next : table 3 (next (inputOf channel (0 ∷ 0 ∷ 0 ∷ []) channelOutfall)) ≡ 100099 ∷ 49901 ∷ 0 ∷ []
+  -- 18: the fullest raised cell of V 4,095, and one too full; 6 before it
+  pub raised-fullest : verdict (lake 4095) (4095004093 ∷ []) (lakeOutfall 1) ≡ fine
+  pub raised-too-full : verdict (lake 4095) (4095004093 ∷ []) (lakeOutfall 2) ≡ refused 18 0
+  pub too-full-before : verdict (lake 4095) (4095004095 ∷ []) (lakeOutfall 1) ≡ refused 6 0
+
+pub release-figures : ReleaseFigures
+unfolding everything
+release-figures = record {
+  outfall-accepted = refl;
+  outfall-next = refl;
+  outfall-out = refl;
+  outfall-released = refl;
+  raised-accepted = refl;
+  raised-next = refl;
+  raised-fullest = refl;
+  raised-too-full = refl;
+  too-full-before = refl;
 }
 
 -- Besides the lines marked P.

@@ -1,12 +1,14 @@
 pub mod Verdicts
 pub mod Budget
 pub mod Low
+pub mod Raised
 pub mod Limit
 pub mod Next
 pub mod Accepted
 pub mod AlikeFaces
 pub mod AlikeStages
 pub mod Agree
+pub mod Unreleased
 pub mod Lists
 pub mod Uniform
 pub mod Sizes

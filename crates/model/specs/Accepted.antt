@@ -37,6 +37,7 @@ pub record CallLent (M : Mesh) (k : Call) : Type 0 where
   pub nexts-long : M .cells ≤ length (k .nexts)
   pub moveds-long : M .faces ≤ length (k .moveds)
   pub work-long : workLength M ≤ length (k .work)
+  pub releases-long : M .cells ≤ length (k .releases)
 
 -- as far as the tests of a step's values read tables, past causes 1 and 2
 pub record StepLent (M : Mesh) (field : List ℕ) (k : Call) : Type 0 where
@@ -45,6 +46,7 @@ pub record StepLent (M : Mesh) (field : List ℕ) (k : Call) : Type 0 where
   pub masses-long : M .cells ≤ length field
   pub fluxes-long : M .faces ≤ length (k .fluxes)
   pub outsides-long : M .faces ≤ length (k .outsides)
+  pub releases-long : M .cells ≤ length (k .releases)
 
 -- past causes 3 to 5
 pub record MeshFit (M : Mesh) : Type 0 where

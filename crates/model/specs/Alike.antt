@@ -4,10 +4,14 @@ use Prim.Native.Nat.{ℕ, _-_, _<_}
 use mathlib.Core.Path.{_≡_}
 use mathlib.Core.Logic.{_≢_}
 use mathlib.Core.Bool.{Bool, true, false, cond}
+use mathlib.Core.List.{List}
+use lib.ListN.{getD}
+use lib.IntN.{pos}
 use Rattle.lists.specs.Renumbering.{Renumbering}
 use Rattle.signed.specs.Sign.{turn}
 use Rattle.model.specs.Mesh.{Mesh, volume, first, second, share, reach, atRim, rim}
 use Rattle.model.specs.Step.{StepInput, flux, outside, mass}
+use Rattle.model.specs.Causes.{Call, release}
 
 -- Face f′ of M′ is face f of M: as it was, or turned. Only an interior face is turned.
 pub data Facing (M M′ : Mesh) (cell : ℕ → ℕ) (f f′ : ℕ) : Bool → Type 0 where
@@ -50,3 +54,11 @@ pub record Agree (S S′ : StepInput) : Type 0 where
   pub masses : (c : ℕ) → c < S .mesh .cells → mass S′ c ≡ mass S c
   pub fluxes : (f : ℕ) → f < S .mesh .faces → flux S′ f ≡ flux S f
   pub outsides : (f : ℕ) → f < S .mesh .faces → outside S′ f ≡ outside S f
+
+-- and two calls, each with the field lent to it
+pub record AgreeCall (M M′ : Mesh) (field field′ : List ℕ) (k k′ : Call) : Type 0 where
+  pub mesh-agrees : AgreeMesh M M′
+  pub masses : (c : ℕ) → c < M .cells → getD field′ c 0 ≡ getD field c 0
+  pub fluxes : (f : ℕ) → f < M .faces → getD (k′ .fluxes) f (pos 0) ≡ getD (k .fluxes) f (pos 0)
+  pub outsides : (f : ℕ) → f < M .faces → getD (k′ .outsides) f 0 ≡ getD (k .outsides) f 0
+  pub releases : (c : ℕ) → c < M .cells → release k′ c ≡ release k c

@@ -2,7 +2,7 @@
 use Prim.Native.Nat.{ℕ}
 use Rattle.model.specs.Causes.{Outcome, refused, Verdict, fine}
 use Rattle.model.specs.declared.Cause.{Cause}
-use Rattle.model.specs.declared.Cause.the-variants.{Limits, Table, Volume, Ends, Spacing, Concentration, Outside, Flux, Balance, Outflow, Length, Bit, Head, Page, Name, Room, Unkept, Coordinate, Ratio}
+use Rattle.model.specs.declared.Cause.the-variants.{Limits, Table, Volume, Ends, Spacing, Concentration, Outside, Flux, Balance, Outflow, Length, Bit, Head, Page, Name, Room, Unkept, Release, Coordinate, Ratio}
 use Rattle.model.specs.declared.Refusal.{Refusal}
 use Rattle.model.specs.declared.Answer.{Answer}
 use Rattle.model.specs.declared.Answer.the-variants.{Done, Refused}
@@ -28,6 +28,8 @@ number Page = 14
 number Name = 15
 number Room = 16
 number Unkept = 17
+-- S-6
+number Release = 18
 -- S-7
 number Coordinate = 19
 number Ratio = 20

@@ -7,27 +7,29 @@ use lib.ListN.{getD}
 use lib.IntN.{ℤ}
 use Rattle.lists.specs.Table.{table, over}
 use Rattle.model.specs.Mesh.{Mesh, volume, updated, total}
-use Rattle.model.specs.Step.{StepInput, lo, hi, moved, inMass, outMass}
+use Rattle.model.specs.Step.{StepInput, mass, lo, hi, moved, inMass, outMass, releasedMass}
 use Rattle.model.specs.Causes.{Outcome, accepted, refused, Verdict, taken, fine, _andThen_, Call, inputOf, workLength, fieldVerdict, verdict}
 
 -- the mass that a field has in cell c
 abbrev pub massIn : List ℕ → ℕ → ℕ
 massIn field c = getD field c 0
 
--- Demand 3, the bounds: q after a step lies between lo and hi of before it.
+-- Demand 3, the bounds: q after a step lies between lo and hi of before it, of the raised field where there are releases.
 abbrev pub Bounded : StepInput → List ℕ → Type 0
 Bounded S after = (c : ℕ) → c < S .mesh .cells
     → (lo S c ≤ massIn after c / volume (S .mesh) c) × (massIn after c / volume (S .mesh) c ≤ hi S c)
 
--- A step's in-mass and out-mass.
+-- A step's in-mass and out-mass, and document 02's S-6: its released mass.
 pub record Crossing : Type 0 where
   pub entered : ℕ
   pub gone : ℕ
+  pub released : ℕ
 
-abbrev pub crossingOf : StepInput → Crossing
-crossingOf S = record { entered = inMass S; gone = outMass S }
+abbrev pub crossingOf : Mesh → List ℕ → Call → Crossing
+crossingOf M field k =
+    record { entered = inMass (inputOf M field k); gone = outMass (inputOf M field k); released = releasedMass (M .cells) (k .releases) }
 
--- What an accepted call leaves: the field, and what crossed the rim.
+-- What an accepted call leaves: the field, and what came in and went out.
 pub record Left : Type 0 where
   pub field : List ℕ
   pub crossing : Crossing
@@ -45,23 +47,27 @@ abbrev pub goneBy : Outcome Left → ℕ
 goneBy (accepted l) = l .crossing .gone
 goneBy (refused _ _) = 0
 
+abbrev pub releasedBy : Outcome Left → ℕ
+releasedBy (accepted l) = l .crossing .released
+releasedBy (refused _ _) = 0
+
 -- A way to make a step: what it finds in a call, and the amounts that it moves through the faces.
 pub record Scheme : Type 0 where
   pub finds : Mesh → List ℕ → Call → Verdict
   pub moves : Mesh → List ℕ → Call → ℕ → ℤ
 
--- "One step": causes 1 to 10, and the moved masses of stage 5
+-- "One step": causes 1 to 10 and 18, and the moved masses of stage 5
 abbrev pub corrected : Scheme
 corrected = record { finds = verdict; moves = λ M field k. moved (inputOf M field k) }
 
 -- What a step call on tables answers: its crossing where no cause applies.
 module _ (s : Scheme) (M : Mesh) (k : Call) (field : List ℕ) where
   unfoldable pub stepAnswer : Outcome Crossing
-  stepAnswer = s .finds M field k andThen accepted (crossingOf (inputOf M field k))
+  stepAnswer = s .finds M field k andThen accepted (crossingOf M field k)
 
   -- "Tables lent to a step": after acceptance the results in the counted parts of next masses and moved, zeros in that of work
   unfoldable pub nextTable : List ℕ
-  nextTable = taken (s .finds M field k) (over (table (M .cells) (updated M (massIn field) (s .moves M field k))) (k .nexts)) (k .nexts)
+  nextTable = taken (s .finds M field k) (over (table (M .cells) (updated M (mass (inputOf M field k)) (s .moves M field k))) (k .nexts)) (k .nexts)
 
   unfoldable pub movedTable : List ℤ
   movedTable = taken (s .finds M field k) (over (table (M .faces) (s .moves M field k)) (k .moveds)) (k .moveds)
@@ -71,11 +77,11 @@ module _ (s : Scheme) (M : Mesh) (k : Call) (field : List ℕ) where
 
   -- the same call as one of a list
   unfoldable pub stepOnTables : Outcome Left
-  stepOnTables = s .finds M field k andThen accepted (record { field = nextTable; crossing = crossingOf (inputOf M field k) })
+  stepOnTables = s .finds M field k andThen accepted (record { field = nextTable; crossing = crossingOf M field k })
 
 -- Calls of some kind K, each with what it comes to on the field that it is lent.
 module _ {K : Type 0} (comes : K → List ℕ → Outcome Left) where
-  -- The calls run one after another: the field after all of them, and the in- and out-masses of those accepted.
+  -- The calls run one after another: the field after all of them, and the in-, out- and released masses of those accepted.
   unfoldable pub afterAll : List ℕ → List K → List ℕ
   afterAll field [] = field
   afterAll field (k ∷ ks) = afterAll (fieldAfter (comes k field) field) ks
@@ -88,6 +94,10 @@ module _ {K : Type 0} (comes : K → List ℕ → Outcome Left) where
   totalOut field [] = 0
   totalOut field (k ∷ ks) = goneBy (comes k field) + totalOut (fieldAfter (comes k field) field) ks
 
+  unfoldable pub totalReleased : List ℕ → List K → ℕ
+  totalReleased field [] = 0
+  totalReleased field (k ∷ ks) = releasedBy (comes k field) + totalReleased (fieldAfter (comes k field) field) ks
+
   -- P holds of each accepted call, the field lent to it and what it leaves.
   abbrev pub EachAccepted : (K → List ℕ → Left → Type 0) → List ℕ → List K → Type 0
   EachAccepted P field [] = Unit {0}
@@ -95,7 +105,8 @@ module _ {K : Type 0} (comes : K → List ℕ → Outcome Left) where
 
 -- Demand 3: the budget over all calls; what P says of each accepted one, as the bounds; and the field is an accepted one again.
 pub record Claim (M : Mesh) {K : Type 0} (comes : K → List ℕ → Outcome Left) (P : K → List ℕ → Left → Type 0) (field : List ℕ) (ks : List K) : Type 0 where
-  pub budget : total M (massIn (afterAll comes field ks)) + totalOut comes field ks ≡ total M (massIn field) + totalIn comes field ks
+  pub budget : total M (massIn (afterAll comes field ks)) + totalOut comes field ks
+      ≡ total M (massIn field) + totalIn comes field ks + totalReleased comes field ks
   pub each-call : EachAccepted comes P field ks
   pub field-accepted : fieldVerdict M (afterAll comes field ks) ≡ fine
 
@@ -118,19 +129,25 @@ fieldBy (accepted (givenBack back)) field = back
 fieldBy (accepted storeOnly) field = field
 fieldBy (refused _ _) field = field
 
--- The salt budget: the total that it starts from, and what crossed the rim since then.
+-- The salt budget: the total that it starts from, and what came in and went out since then.
 pub record Account : Type 0 where
   pub start : ℕ
   pub since : Crossing
 
 module _ (M : Mesh) where
   abbrev pub startsAt : List ℕ → Account
-  startsAt field = record { start = total M (massIn field); since = record { entered = 0; gone = 0 } }
+  startsAt field = record { start = total M (massIn field); since = record { entered = 0; gone = 0; released = 0 } }
 
   -- a step counts on, a return starts anew from the total of the masses given back
   abbrev pub accountBy : Outcome Deed → Account → Account
-  accountBy (accepted (stepped l)) a =
-      record { start = a .start; since = record { entered = a .since .entered + l .crossing .entered; gone = a .since .gone + l .crossing .gone } }
+  accountBy (accepted (stepped l)) a = record {
+    start = a .start;
+    since = record {
+      entered = a .since .entered + l .crossing .entered;
+      gone = a .since .gone + l .crossing .gone;
+      released = a .since .released + l .crossing .released;
+    };
+  }
   accountBy (accepted (givenBack back)) a = startsAt back
   accountBy (accepted storeOnly) a = a
   accountBy (refused _ _) a = a
@@ -154,5 +171,6 @@ module _ (M : Mesh) where
     pub record Ledger (P : K → List ℕ → Deed → Type 0) (field : List ℕ) (ks : List K) : Type 0 where
       pub budget : total M (massIn (lastField field ks)) + lastAccount (startsAt field) field ks .since .gone
           ≡ lastAccount (startsAt field) field ks .start + lastAccount (startsAt field) field ks .since .entered
+          + lastAccount (startsAt field) field ks .since .released
       pub each-call : EachDone P field ks
       pub field-accepted : fieldVerdict M (lastField field ks) ≡ fine

@@ -1,13 +1,13 @@
--- Document 01, "Causes", 1 to 10: what each tests, and which of them a call answers.
+-- Document 01, "Causes", 1 to 10, and document 02's 18: what each tests, and which of them a call answers.
 use Prim.Native.Nat.{ℕ, zero, suc, _+_, _*_, _/_}
 use mathlib.Core.Bool.{Bool, not, cond, _&&_, _||_}
-use mathlib.Core.List.{List, [], _∷_}
+use mathlib.Core.List.{List, [], _∷_, _++_}
 use lib.ListN.{length, getD}
 use lib.Dec.{eqb, leb, ltb}
 use lib.IntN.{ℤ}
 use Rattle.signed.specs.Sign.{size, isNegative}
 use Rattle.model.specs.Mesh.{Mesh, meshOf, volume, first, second, share, reach, rim, incoming, outgoing, maxCells, maxFaces, maxVolume, maxShare, maxReach, maxConcentration, maxRimFlux}
-use Rattle.model.specs.Step.{StepInput, flux, outside}
+use Rattle.model.specs.Step.{StepInput, flux, outside, raised}
 
 -- The first sentence: a result, or a refusal by the numbers of its cause and its place.
 pub data Outcome (A : Type 0) : Type 0 where
@@ -80,6 +80,10 @@ spacingFit second s K = cond (eqb second rim) (eqb s 0 && eqb K 0) (between 1 ma
 abbrev pub saltFit : (v m : ℕ) → Bool
 saltFit v m = leb (m / v) maxConcentration
 
+-- Document 02, S-6, 18: the raised q within the same ceiling, r being the release.
+abbrev pub raisedFit : (v m r : ℕ) → Bool
+raisedFit v m r = saltFit v (m + r)
+
 -- 7: an outside value within the same ceiling, and 0 elsewhere than at a rim inflow.
 abbrev pub outsideFit : (second : ℕ) (inward : Bool) (outside : ℕ) → Bool
 outsideFit second inward outside = leb outside (cond (eqb second rim && inward) maxConcentration 0)
@@ -88,20 +92,26 @@ outsideFit second inward outside = leb outside (cond (eqb second rim && inward) 
 abbrev pub fluxFit : (second K amount : ℕ) → Bool
 fluxFit second K amount = leb amount (cond (eqb second rim) maxRimFlux K)
 
--- "Tables lent to a step", besides mesh and masses.
+-- "Tables lent to a step", besides mesh and masses; and S-6's releases, one per cell.
 pub record Call : Type 0 where
   pub fluxes : List ℤ
   pub outsides : List ℕ
   pub nexts : List ℕ
   pub moveds : List ℤ
   pub work : List ℕ
+  pub releases : List ℕ
 
-abbrev pub callOf : List ℤ → List ℕ → List ℕ → List ℤ → List ℕ → Call
-callOf fluxes outsides nexts moveds work = record { fluxes = fluxes; outsides = outsides; nexts = nexts; moveds = moveds; work = work }
+abbrev pub callOf : List ℤ → List ℕ → List ℕ → List ℤ → List ℕ → List ℕ → Call
+callOf fluxes outsides nexts moveds work releases =
+    record { fluxes = fluxes; outsides = outsides; nexts = nexts; moveds = moveds; work = work; releases = releases }
 
--- a step of which the water alone is lent, as a writer has it
-abbrev pub waterOf : List ℤ → List ℕ → Call
-waterOf fluxes outsides = callOf fluxes outsides [] [] []
+-- a step of which water and releases alone are lent, as a record holds it
+abbrev pub waterOf : List ℤ → List ℕ → List ℕ → Call
+waterOf fluxes outsides releases = callOf fluxes outsides [] [] [] releases
+
+-- the release of a cell
+abbrev pub release : Call → ℕ → ℕ
+release k c = getD (k .releases) c 0
 
 -- The length of work: 4 entries a cell, and one a face.
 abbrev pub workEntries : ℕ → ℕ → ℕ
@@ -110,15 +120,18 @@ workEntries cells faces = 4 * cells + faces
 abbrev pub workLength : Mesh → ℕ
 workLength M = workEntries (M .cells) (M .faces)
 
--- Cause 2 of those tables.
-abbrev pub stepLengths : (cells faces : ℕ) → Call → List Verdict
-stepLengths cells faces k =
+-- Cause 2 of document 01's tables among these; the releases have the position 14.
+abbrev pub lengths01 : (cells faces : ℕ) → Call → List Verdict
+lengths01 cells faces k =
     long 6 faces (length (k .fluxes))
     ∷ long 7 faces (length (k .outsides))
     ∷ long 8 cells (length (k .nexts))
     ∷ long 9 faces (length (k .moveds))
     ∷ long 10 (workEntries cells faces) (length (k .work))
     ∷ []
+
+abbrev pub stepLengths : (cells faces : ℕ) → Call → List Verdict
+stepLengths cells faces k = lengths01 cells faces k ++ (long 14 cells (length (k .releases)) ∷ [])
 
 abbrev pub stepLong : (cells faces : ℕ) → Call → Verdict
 stepLong cells faces k = inTurn (stepLengths cells faces k)
@@ -131,8 +144,9 @@ cellsOnly cells volumes = meshOf cells 0 volumes [] [] [] []
 abbrev pub facesOnly : ℕ → List ℕ → List ℕ → Mesh
 facesOnly faces firsts seconds = meshOf 0 faces [] firsts seconds [] []
 
+-- What the stages of a step work on: the raised field.
 abbrev pub inputOf : Mesh → List ℕ → Call → StepInput
-inputOf M field k = record { mesh = M; masses = field; fluxes = k .fluxes; outsides = k .outsides }
+inputOf M field k = record { mesh = M; masses = raised (M .cells) field (k .releases); fluxes = k .fluxes; outsides = k .outsides }
 
 -- The causes of what is lent: a mesh (1 to 5), a field on it (2 and 6), a step (all).
 module _ (M : Mesh) where
@@ -190,6 +204,12 @@ module _ (M : Mesh) where
       unfoldable pub stepTables : Verdict
       stepTables = stepLong (M .cells) (M .faces) k
 
+      unfoldable pub raisedGood : ℕ → Bool
+      raisedGood c = raisedFit (volume M c) (getD field c 0) (release k c)
+
+      unfoldable pub raisedValues : Verdict
+      raisedValues = each 18 (M .cells) raisedGood
+
       unfoldable pub outsideGood : ℕ → Bool
       outsideGood f = outsideFit (second M f) (isNegative (flux (inputOf M field k) f)) (outside (inputOf M field k) f)
 
@@ -211,10 +231,11 @@ module _ (M : Mesh) where
 
       -- of tables that are long enough
       unfoldable pub valuesVerdict : Verdict
-      valuesVerdict = inTurn (meshValues ∷ fieldValues ∷ stepValues ∷ [])
+      valuesVerdict = inTurn (meshValues ∷ fieldValues ∷ raisedValues ∷ stepValues ∷ [])
 
+      -- S-6 places 18 after 6 and before 7
       abbrev pub stepCauses : List Verdict
-      stepCauses = counts ∷ meshTables ∷ fieldTable ∷ stepTables ∷ meshValues ∷ fieldValues ∷ stepValues ∷ []
+      stepCauses = counts ∷ meshTables ∷ fieldTable ∷ stepTables ∷ meshValues ∷ fieldValues ∷ raisedValues ∷ stepValues ∷ []
 
       unfoldable pub verdict : Verdict
       verdict = inTurn stepCauses

@@ -1,4 +1,4 @@
--- Document 01, "One step": the five stages, in order, with document 02's S-5 between the second and the third.
+-- Document 01, "One step": the five stages, in order, with document 02's S-6 before them and its S-5 between the second and the third.
 use Prim.Native.Nat.{ℕ, _+_, _-_, _*_, _/_, min}
 use mathlib.Core.Bool.{Bool, cond, _||_}
 use mathlib.Core.List.{List}
@@ -7,6 +7,7 @@ use lib.Dec.{eqb, leb, ltb}
 use lib.IntN.{ℤ, pos, _+ℤ_, _-ℤ_, _*ℤ_}
 use lib.Signed.{quotZ}
 use Rattle.lists.specs.Fold.{sum, least, greatest}
+use Rattle.lists.specs.Table.{table}
 use Rattle.signed.specs.Sign.{forward, backward, size, isZero, isNegative, withSign}
 use Rattle.model.specs.Mesh.{Mesh, volume, first, second, share, reach, atRim, incoming, outgoing, updated}
 
@@ -35,6 +36,14 @@ unfoldable pub limitedBy : Mesh → (gain loss : ℕ → ℕ) → (ℕ → ℤ) 
 limitedBy M gain loss x f = withSign (isNegative (x f))
     (min (portion (size (x f)) (gain (receiver M x f)) (incoming M x (receiver M x f)))
     (portion (size (x f)) (loss (giver M x f)) (outgoing M x (giver M x f))))
+
+-- Document 02, S-6: a field raised by the releases, cell by cell. They are added first, and all stages start from the raised field.
+unfoldable pub raised : (cells : ℕ) (field releases : List ℕ) → List ℕ
+raised cells field releases = table cells (λ c. getD field c 0 + getD releases c 0)
+
+-- the released mass: all releases together
+unfoldable pub releasedMass : (cells : ℕ) (releases : List ℕ) → ℕ
+releasedMass cells releases = sum cells (λ c. getD releases c 0)
 
 -- "Mesh, water and salt", items 4 and 5: what a step works on, m per cell, U and an outside value per face.
 pub record StepInput : Type 0 where

@@ -54,6 +54,7 @@ pub enum Cause {
     Name,
     Room,
     Unkept,
+    Release,
     Coordinate,
     Ratio,
 }
@@ -91,6 +92,7 @@ pub fn number(cause: Cause) -> u64
         Cause::Name => 15,
         Cause::Room => 16,
         Cause::Unkept => 17,
+        Cause::Release => 18,
         Cause::Coordinate => 19,
         Cause::Ratio => 20,
     }

@@ -9,17 +9,17 @@ use lib.ListN.{length, getD}
 use Rattle.lists.specs.Table.{table, over}
 use Rattle.lists.proofs.Tables.{length-table, getD-table, length-over, getD-over}
 use Rattle.model.specs.Mesh.{Mesh, meshOf, runCells, runFaces}
-use Rattle.model.specs.Alike.{AgreeMesh, Agree}
-use Rattle.model.specs.Causes.{fine, long, cellsOnly, inputOf, counts, meshTables, fieldTable, stepTables, meshFieldVerdict}
+use Rattle.model.specs.Alike.{AgreeMesh, AgreeCall}
+use Rattle.model.specs.Causes.{fine, long, cellsOnly, counts, meshTables, fieldTable, stepTables, meshFieldVerdict}
 use Rattle.model.proofs.Verdicts.{both-fine, need-met}
 use Rattle.model.proofs.Agree.{mesh-values-agree, field-values-agree, verdict-agree}
 use Rattle.heads.specs.Heads.{cellsIn, facesIn}
-use Rattle.reading.specs.Reading.{volumesIn, firstsIn, secondsIn, sharesIn, reachesIn, meshIn, massesIn, outsidesIn}
+use Rattle.reading.specs.Reading.{volumesIn, firstsIn, secondsIn, sharesIn, reachesIn, meshIn, massesIn, outsidesIn, releasesIn}
 use Rattle.mesh_taking.specs.MeshTaking.{meshJudged}
-use Rattle.taking.specs.Taking.{fieldJudged, stepIn, stepJudged}
+use Rattle.taking.specs.Taking.{fieldJudged, stepIn, stepRecordFound, stepJudged}
 use Rattle.mesh_taking.proofs.MeshLaws.{limits}
 use Rattle.lagoon.specs.Host.{meshTested, fieldTested, stepTested}
-use Rattle.promises.proofs.Counted.{outsides-same, read-same}
+use Rattle.promises.proofs.Counted.{outsides-same, releases-same, found-same}
 
 -- a table read into a longer one: its length, and its counted entries
 held-long : (n : ℕ) (f : ℕ → ℕ) (ys : List ℕ) → n ≤ length ys → n ≤ length (over (table n f) ys)
@@ -128,15 +128,19 @@ module _ (mesh field step volumes firsts seconds shares reaches masses : List �
     seconds-same = agrees .seconds
 
     outsides-are : outsidesIn step (facesIn mesh) (over (secondsIn mesh) seconds) ≡ outsidesIn step (facesIn mesh) (secondsIn mesh)
-    outsides-are = outsides-same step (facesIn mesh) (secondsIn mesh) (over (secondsIn mesh) seconds) seconds-same
+    outsides-are = outsides-same step (cellsIn mesh) (facesIn mesh) (secondsIn mesh) (over (secondsIn mesh) seconds) seconds-same
 
-    step-agrees : Agree (inputOf (meshIn mesh) (massesIn field (cellsIn mesh)) (stepIn (meshIn mesh) step)) (inputOf lent lentField (stepIn lent step))
+    releases-are : releasesIn step (cellsIn mesh) (facesIn mesh) (over (secondsIn mesh) seconds) ≡ releasesIn step (cellsIn mesh) (facesIn mesh) (secondsIn mesh)
+    releases-are = releases-same step (cellsIn mesh) (facesIn mesh) (secondsIn mesh) (over (secondsIn mesh) seconds) seconds-same
+
+    step-agrees : AgreeCall (meshIn mesh) lent (massesIn field (cellsIn mesh)) lentField (stepIn (meshIn mesh) step) (stepIn lent step)
     unfolding massesIn
     step-agrees = record {
       mesh-agrees = agrees;
       masses = held-same _ _ masses;
       fluxes = λ f l. refl;
       outsides = λ f l. rw outsides-are;
+      releases = λ c h. rw releases-are;
     }
 
     field-lent : fieldTable lent lentField ≡ fieldTable (meshIn mesh) (massesIn field (cellsIn mesh))
@@ -145,11 +149,11 @@ module _ (mesh field step volumes firsts seconds shares reaches masses : List �
 
     call-lent : stepTables lent lentField (stepIn lent step) ≡ stepTables (meshIn mesh) (massesIn field (cellsIn mesh)) (stepIn (meshIn mesh) step)
     unfolding stepTables
-    call-lent = rw outsides-are
+    call-lent = rw (outsides-are, releases-are)
 
     pub step-as-the-run : stepJudged lent lentField step ≡ stepTested mesh field step
-    unfolding stepJudged
+    unfolding stepJudged stepRecordFound
     step-as-the-run = rw (
-      read-same step (facesIn mesh) (secondsIn mesh) (over (secondsIn mesh) seconds) seconds-same (seconds-long .0) (seconds-long .1),
+      found-same step (cellsIn mesh) (facesIn mesh) (secondsIn mesh) (over (secondsIn mesh) seconds) seconds-same (seconds-long .0) (seconds-long .1),
       verdict-agree (meshIn mesh) lent (massesIn field (cellsIn mesh)) lentField (stepIn (meshIn mesh) step) (stepIn lent step) step-agrees tables-same field-lent call-lent,
     )

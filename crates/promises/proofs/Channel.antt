@@ -7,31 +7,32 @@ use lib.ListN.{take, replicate}
 use Rattle.lists.specs.Fold.{sum, least, greatest}
 use Rattle.lists.specs.Table.{table, over}
 use Rattle.model.specs.Mesh.{entering, leaving, incoming, outgoing, updated}
-use Rattle.model.specs.Step.{inMass, outMass, next, moved, concentration, beyond, upwind, downwind, carried, low, upwindShare, correction, smooths, keptBy, lowConcentration, kept, adjacent, lo, hi, maxGain, maxLoss, receiver, giver, limitedBy, limited, portion}
-use Rattle.model.specs.Causes.{accepted, fine, _andThen_, Call, inputOf, need, each, countsWithin, counts, meshTables, volumeGood, endsGood, spacingGood, meshValues, fieldTable, saltGood, fieldValues, meshFieldVerdict, stepTables, outsideGood, fluxGood, balanceGood, outflowGood, stepValues, verdict, callOf}
+use Rattle.model.specs.Step.{raised, releasedMass, inMass, outMass, next, moved, concentration, beyond, upwind, downwind, carried, low, upwindShare, correction, smooths, keptBy, lowConcentration, kept, adjacent, lo, hi, maxGain, maxLoss, receiver, giver, limitedBy, limited, portion}
+use Rattle.model.specs.Causes.{accepted, fine, _andThen_, Call, need, each, countsWithin, counts, meshTables, volumeGood, endsGood, spacingGood, meshValues, fieldTable, saltGood, fieldValues, raisedGood, raisedValues, meshFieldVerdict, stepTables, outsideGood, fluxGood, balanceGood, outflowGood, stepValues, verdict, callOf}
 use Rattle.model.specs.Calls.{crossingOf, corrected, stepOnTables, nextTable, afterAll, totalIn}
 use Rattle.model.proofs.Figures.{channel}
 use Rattle.bits.specs.Field.{bitAt, bitsAt}
 use Rattle.bits.specs.Layout.{spelled, bitsOf, widthOf, bytesFor, octet, packed, rows}
 use Rattle.sections.specs.Sections.{those, row, fieldsOf, recordOf}
-use Rattle.heads.specs.Layouts.{meshRecord, fieldRecord, meshLength, fieldLength, stepLength}
+use Rattle.heads.specs.Layouts.{releaseBits, meshRecord, fieldRecord, meshLength, fieldLength, stepLength}
 use Rattle.heads.specs.Heads.{meshHeadVerdict, fieldHeadVerdict, stepHeadVerdict}
 use Rattle.zeros.specs.Zeros.{zeroBitGood, minusZero}
-use Rattle.reading.specs.Reading.{meshIn, volumesIn, firstsIn, secondsIn, sharesIn, reachesIn, massesIn, fluxesIn, outsidesIn, meshBitGood, stepBitGood, meshBodyVerdict, fieldBodyVerdict, stepBodyVerdict, fieldRead, stepRead}
+use Rattle.reading.specs.Reading.{meshIn, volumesIn, firstsIn, secondsIn, sharesIn, reachesIn, massesIn, fluxesIn, outsidesIn, releasesIn, meshBitGood, stepBitGood, meshBodyVerdict, fieldBodyVerdict, stepBodyVerdict, fieldRead}
 use Rattle.mesh_taking.specs.MeshTaking.{meshRecordFound, meshJudged}
-use Rattle.taking.specs.Taking.{fieldJudged, blank, stepJudged}
+use Rattle.taking.specs.Taking.{fieldJudged, blank, stepRecordFound, stepJudged}
 use Rattle.lagoon.specs.Host.{hostInput, hostVerdict, hostBytes}
 use Rattle.promises.specs.Demand3.{StepCall, onTables, onRecords, waterIn, lentMasses, stepOnRecords, comes}
 
 -- the definitions that the figures compute
 figures : Unit {0}
-unfolding stepOnTables nextTable inMass outMass over verdict counts countsWithin meshTables fieldTable stepTables meshValues fieldValues saltGood stepValues volumeGood
+unfolding stepOnTables nextTable inMass outMass over verdict counts countsWithin meshTables fieldTable stepTables meshValues fieldValues saltGood raised releasedMass
+    raisedGood raisedValues stepValues volumeGood
     endsGood spacingGood outsideGood fluxGood balanceGood outflowGood need each _andThen_ table sum least greatest entering leaving incoming outgoing updated next moved
     concentration beyond upwind downwind carried low upwindShare correction smooths keptBy lowConcentration kept adjacent lo hi maxGain
     maxLoss receiver giver limitedBy limited portion bitAt bitsAt spelled
-    bitsOf widthOf bytesFor octet packed rows those row fieldsOf recordOf meshRecord fieldRecord meshLength fieldLength stepLength volumesIn firstsIn secondsIn sharesIn reachesIn massesIn
-    fluxesIn outsidesIn zeroBitGood minusZero meshBitGood stepBitGood meshHeadVerdict fieldHeadVerdict stepHeadVerdict meshBodyVerdict fieldBodyVerdict stepBodyVerdict
-    fieldRead stepRead meshFieldVerdict meshRecordFound meshJudged fieldJudged stepJudged blank
+    bitsOf widthOf bytesFor octet packed rows those row fieldsOf recordOf releaseBits meshRecord fieldRecord meshLength fieldLength stepLength volumesIn firstsIn secondsIn sharesIn reachesIn massesIn
+    fluxesIn outsidesIn releasesIn zeroBitGood minusZero meshBitGood stepBitGood meshHeadVerdict fieldHeadVerdict stepHeadVerdict meshBodyVerdict fieldBodyVerdict stepBodyVerdict
+    fieldRead stepRecordFound meshFieldVerdict meshRecordFound meshJudged fieldJudged stepJudged blank
 figures = tt
 
 -- the fields of the session
@@ -46,7 +47,7 @@ after = 100099 ∷ 81188 ∷ 18713 ∷ []
 
 -- one step on tables with two entries more in the masses, one from its record with a byte more for the next field
 abbrev water : Call
-water = callOf (negsuc 49 ∷ pos 50 ∷ pos 50 ∷ pos 50 ∷ []) (1000 ∷ 0 ∷ 0 ∷ 0 ∷ []) (7 ∷ 7 ∷ 7 ∷ []) (pos 0 ∷ pos 0 ∷ pos 0 ∷ pos 0 ∷ []) (replicate 16 7)
+water = callOf (negsuc 49 ∷ pos 50 ∷ pos 50 ∷ pos 50 ∷ []) (1000 ∷ 0 ∷ 0 ∷ 0 ∷ []) (7 ∷ 7 ∷ 7 ∷ []) (pos 0 ∷ pos 0 ∷ pos 0 ∷ pos 0 ∷ []) (replicate 16 7) (0 ∷ 0 ∷ 0 ∷ [])
 
 abbrev step : List ℕ
 step = 0x30 ∷ 0x02 ∷ 0x00 ∷ 0x00 ∷ 0x81 ∷ 0x90 ∷ 0x0c ∷ 0x80 ∷ 0x64 ∷ 0x03 ∷ 0x20 ∷ 0x03 ∷ 0xe8 ∷ 0x00 ∷ 0x00 ∷ 0x00 ∷ []
@@ -57,7 +58,7 @@ room = replicate 15 7
 abbrev calls : List StepCall
 calls = onTables (7 ∷ 7 ∷ []) water ∷ onRecords step room ∷ []
 
-on-tables : stepOnTables corrected channel water (lentMasses channel (7 ∷ 7 ∷ []) before) ≡ accepted (record { field = between; crossing = record { entered = 50000; gone = 0 } })
+on-tables : stepOnTables corrected channel water (lentMasses channel (7 ∷ 7 ∷ []) before) ≡ accepted (record { field = between; crossing = record { entered = 50000; gone = 0; released = 0 } })
 unfolding figures
 on-tables = refl
 
@@ -82,11 +83,11 @@ read-back : massesIn (take (fieldLength 3) (over (fieldRecord 3 after) room)) 3 
 unfolding figures
 read-back = refl
 
-crossed : crossingOf (inputOf channel between (waterIn channel step)) ≡ record { entered = 50000; gone = 0 }
+crossed : crossingOf channel between (waterIn channel step) ≡ record { entered = 50000; gone = 0; released = 0 }
 unfolding figures
 crossed = refl
 
-on-records : stepOnRecords channel step room between ≡ accepted (record { field = after; crossing = record { entered = 50000; gone = 0 } })
+on-records : stepOnRecords channel step room between ≡ accepted (record { field = after; crossing = record { entered = 50000; gone = 0; released = 0 } })
 unfolding stepOnRecords _andThen_
 on-records = rw (found, bytes-are, read-back, crossed)
 

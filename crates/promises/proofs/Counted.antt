@@ -9,20 +9,20 @@ use borrow.Author.Tests.{le-leb}
 use lib.ListN.{length, getD}
 use Rattle.lists.proofs.Sums.{sum-cong}
 use Rattle.lists.proofs.Tables.{getD-table, table-cong}
-use Rattle.model.specs.Mesh.{Mesh, volume, first, second, share, reach, runFaces}
-use Rattle.model.specs.Alike.{Agree}
-use Rattle.model.specs.Causes.{Call, inputOf}
+use Rattle.model.specs.Mesh.{Mesh, volume, first, second, share, reach, runCells, runFaces}
+use Rattle.model.specs.Alike.{AgreeCall}
+use Rattle.model.specs.Causes.{_andThen_, Call}
 use Rattle.model.specs.Calls.{massIn}
 use Rattle.model.proofs.Verdicts.{need-met, each-cong}
 use Rattle.bits.specs.Field.{bitsAt}
-use Rattle.sections.specs.Sections.{those}
+use Rattle.sections.specs.Sections.{those, entryIn}
 use Rattle.heads.specs.Layouts.{outsideBits, rimFaces, isRim, stepLength}
 use Rattle.heads.specs.Heads.{stepHeadVerdict}
-use Rattle.reading.specs.Reading.{outsidesIn, outsidePlace, stepBitGood, stepBodyVerdict, stepRead}
+use Rattle.reading.specs.Reading.{outsidesIn, outsidePlace, stepShapeIn, releasesIn, stepBitGood, stepBodyVerdict}
 use Rattle.promises.specs.Held.{cut, cutField}
 
 -- a step record on seconds that agree below the faces
-module _ (step : List ℕ) (faces : ℕ) (seconds other : List ℕ) (same : (f : ℕ) → f < faces → getD other f 0 ≡ getD seconds f 0) where
+module _ (step : List ℕ) (cells faces : ℕ) (seconds other : List ℕ) (same : (f : ℕ) → f < faces → getD other f 0 ≡ getD seconds f 0) where
   rims-same : (f : ℕ) → f ≤ faces → rimFaces other f ≡ rimFaces seconds f
   unfolding those
   rims-same f h = sum-cong f (λ g. cond (isRim other g) 1 0) (λ g. cond (isRim seconds g) 1 0) (λ g l. rw (same g (omega arith)))
@@ -34,20 +34,27 @@ module _ (step : List ℕ) (faces : ℕ) (seconds other : List ℕ) (same : (f :
       (λ f. cond (isRim seconds f) (bitsAt step (outsidePlace step faces seconds f) outsideBits) 0)
       (λ f h. rw (same f h, rims-same f (omega arith)))
 
-  bit-same : (i : ℕ) → stepBitGood step faces other i ≡ stepBitGood step faces seconds i
+  pub releases-same : releasesIn step cells faces other ≡ releasesIn step cells faces seconds
+  unfolding releasesIn
+  releases-same = table-cong 0 cells (entryIn step (stepShapeIn step cells faces other) 3 0) (entryIn step (stepShapeIn step cells faces seconds) 3 0)
+      (λ c h. rw (rims-same faces (omega arith)))
+
+  bit-same : (i : ℕ) → stepBitGood step cells faces other i ≡ stepBitGood step cells faces seconds i
   unfolding stepBitGood
   bit-same i = rw (rims-same faces (omega arith))
 
-  pub read-same : faces ≤ length seconds → faces ≤ length other → stepRead faces other step runFaces runFaces ≡ stepRead faces seconds step runFaces runFaces
-  unfolding stepRead stepHeadVerdict stepBodyVerdict stepLength
-  read-same l m = rw (
+  pub found-same : faces ≤ length seconds → faces ≤ length other
+      → (stepHeadVerdict cells faces other step andThen stepBodyVerdict cells faces other step runFaces runFaces runCells)
+      ≡ (stepHeadVerdict cells faces seconds step andThen stepBodyVerdict cells faces seconds step runFaces runFaces runCells)
+  unfolding stepHeadVerdict stepBodyVerdict stepLength
+  found-same l m = rw (
     need-met 2 2 (le-leb faces (length other) m),
     need-met 2 2 (le-leb faces (length seconds) l),
     rims-same faces (omega arith),
-    each-cong 12 (8 * length step) (stepBitGood step faces other) (stepBitGood step faces seconds) (λ i h. bit-same i),
+    each-cong 12 (8 * length step) (stepBitGood step cells faces other) (stepBitGood step cells faces seconds) (λ i h. bit-same i),
   )
 
-pub cut-agrees : (M : Mesh) (field : List ℕ) (k : Call) → Agree (inputOf M field k) (inputOf (cut M) (cutField M field) k)
+pub cut-agrees : (M : Mesh) (field : List ℕ) (k : Call) → AgreeCall M (cut M) field (cutField M field) k k
 cut-agrees M field k = record {
   mesh-agrees = record {
     cells-same = refl;
@@ -61,4 +68,5 @@ cut-agrees M field k = record {
   masses = getD-table (M .cells) (massIn field) 0;
   fluxes = λ f l. refl;
   outsides = λ f l. refl;
+  releases = λ c h. refl;
 }

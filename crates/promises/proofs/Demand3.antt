@@ -2,14 +2,15 @@
 -- calls of any kind, in model/specs/Calls.antt (`Ledger`).
 --
 -- In plain words: take any mesh that causes 1 to 5 accept, any first field that 2 and 6 accept, and any list of calls. A call is a step on
--- tables, with any fluxes, outside values, next masses, moved masses and work, of any values and lengths, and anything after the field in
+-- tables, with any fluxes, outside values, next masses, moved masses, work and releases, of any values and lengths, and anything after the field in
 -- its table of masses; or the host's call on records, with any bytes as step record and any bytes lent for the next field; or a keep, a drop
 -- or a return on a store of any values and any length. Run them one after another, each on the field that the one before it left. Then
 --   budget             the total of the last field, plus all that the water of accepted steps took out since the last accepted return, is
---                      the total of the masses then given back (of the first field, where there was none) plus all that it brought in since;
+--                      the total of the masses then given back (of the first field, where there was none) plus all that it brought in since,
+--                      plus all that those steps released;
 --                      refused calls, keeps and drops count nothing and leave the field as it was;
 --   each-call          after each accepted step every cell's concentration lies between the least and the greatest that stood in its
---                      neighbourhood before that call, and the field stands where the paper says: in the table of next masses, or as the
+--                      neighbourhood before that call, once its releases were added, and the field stands where the paper says: in the table of next masses, or as the
 --                      next field record; each accepted keep adds the field to those of the store, each drop takes the first of its name
 --                      from them, and after each return the field is the one kept;
 --   field-accepted     the last field is accepted again, so the list may go on;
@@ -17,7 +18,7 @@
 -- `demand-3-steps` is the case without store calls, document 01's claim as it was. `field-returns` adds what holds where nobody else writes
 -- the store: a field comes back exactly as kept.
 --
--- What ties it to the code: a call on tables comes to `stepOnTables`, whose verdict, next masses and in- and out-mass are the very ones
+-- What ties it to the code: a call on tables comes to `stepOnTables`, whose verdict, next masses, in-, out- and released mass are the very ones
 -- that the contract of `transport::step` (`StepPromise`) equates its answer and tables with; a call on records comes to `hostVerdict` and
 -- `hostBytes`, with which the contract of `lagoon_step` (`HostPromise`) equates its number and its bytes; the store calls come to the
 -- verdicts and tables of `KeepPromise`, `DropPromise` and `ReturnPromise`. Ties.antt proves each.

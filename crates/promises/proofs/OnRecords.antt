@@ -9,34 +9,47 @@ use lib.Seq.{take-at}
 use Rattle.lists.specs.Table.{table, over}
 use Rattle.lists.proofs.Tables.{length-table, getD-table, table-cong}
 use Rattle.model.specs.Mesh.{Mesh, second}
-use Rattle.model.specs.Step.{StepInput, moved, next}
+use Rattle.model.specs.Step.{StepInput, releasedMass, moved, next}
 use Rattle.model.specs.Accepted.{Ready}
-use Rattle.model.specs.Causes.{accepted, fine, inputOf, meshVerdict, fieldValues, fieldVerdict, verdict, waterOf}
+use Rattle.model.specs.Causes.{accepted, fine, Call, inputOf, meshVerdict, fieldValues, fieldVerdict, verdict}
 use Rattle.model.specs.Calls.{massIn, Bounded, Left, crossingOf}
 use Rattle.model.proofs.Verdicts.{both-fine}
 use Rattle.model.proofs.Accepted.{ready, passed, counted, mesh-fit}
 use Rattle.model.proofs.Next.{moved-keeps}
-use Rattle.model.proofs.Lists.{Fair, amounts-fair}
-use Rattle.model.proofs.Agree.{in-agree, out-agree, fair-agree}
+use Rattle.model.proofs.Lists.{Fair, amounts-fair, raised-total}
+use Rattle.model.proofs.Agree.{in-agree, out-agree, inputs-agree, fair-agree}
 use Rattle.heads.specs.Layouts.{meshRecord, fieldRecord, fieldLength}
-use Rattle.reading.specs.Reading.{meshIn, massesIn, fluxesIn, outsidesIn}
+use Rattle.reading.specs.Reading.{meshIn, massesIn}
 use Rattle.writing.proofs.Back.{field-record-length}
 use Rattle.writing.proofs.RoundTrip.{masses-read-back}
 use Rattle.taking.specs.Taking.{ownTables, stepJudged}
 use Rattle.lagoon.specs.Host.{hostVerdict, hostBytes}
 use Rattle.promises.specs.Held.{cut, cutField}
 use Rattle.promises.specs.Demand3.{onRecords, waterIn, nextRecord, stepOnRecords, Kept}
-use Rattle.promises.proofs.Counted.{outsides-same, cut-agrees}
+use Rattle.promises.proofs.Counted.{outsides-same, releases-same, cut-agrees}
 use Rattle.promises.proofs.Held.{within, passes, mesh-holds, field-holds}
+
+-- a step record holds the same water and releases on a mesh cut to its counts
+water-same : (M : Mesh) (step : List ℕ) → waterIn (cut M) step ≡ waterIn M step
+water-same M step =
+    let same = getD-table (M .faces) (second M) 0 in
+    rw (
+      outsides-same step (M .cells) (M .faces) (M .seconds) (table (M .faces) (second M)) same,
+      releases-same step (M .cells) (M .faces) (M .seconds) (table (M .faces) (second M)) same,
+    )
+
+-- that water in a call with tables of its own
+abbrev own : Call → Call
+own k = ownTables (k .fluxes) (k .outsides) (k .releases)
 
 module _ (M : Mesh) (mesh-fine : meshVerdict M ≡ fine) (field : List ℕ) (field-fine : fieldVerdict M field ≡ fine) (step : List ℕ) where
   -- whatever is said of what the records hold is said of the counted entries
-  carry : {A : Type 0} (F : Mesh → List ℕ → List ℕ → A)
-      → F (meshIn (meshRecord M)) (massesIn (fieldRecord (M .cells) field) (meshIn (meshRecord M) .cells)) (outsidesIn step (meshIn (meshRecord M) .faces) (meshIn (meshRecord M) .seconds))
-      ≡ F (cut M) (cutField M field) (outsidesIn step (M .faces) (M .seconds))
-  carry F = ap (λ (N : Mesh). F N (massesIn (fieldRecord (M .cells) field) (N .cells)) (outsidesIn step (N .faces) (N .seconds))) (mesh-holds M mesh-fine .mesh-held)
-      ∙ ap (λ (m : List ℕ). F (cut M) m (outsidesIn step (M .faces) (table (M .faces) (second M)))) (field-holds M mesh-fine field field-fine .field-held)
-      ∙ ap (λ (o : List ℕ). F (cut M) (cutField M field) o) (outsides-same step (M .faces) (M .seconds) (table (M .faces) (second M)) (getD-table (M .faces) (second M) 0))
+  carry : {A : Type 0} (F : Mesh → List ℕ → Call → A)
+      → F (meshIn (meshRecord M)) (massesIn (fieldRecord (M .cells) field) (meshIn (meshRecord M) .cells)) (waterIn (meshIn (meshRecord M)) step)
+      ≡ F (cut M) (cutField M field) (waterIn M step)
+  carry F = ap (λ (N : Mesh). F N (massesIn (fieldRecord (M .cells) field) (N .cells)) (waterIn N step)) (mesh-holds M mesh-fine .mesh-held)
+      ∙ ap (λ (m : List ℕ). F (cut M) m (waterIn (cut M) step)) (field-holds M mesh-fine field field-fine .field-held)
+      ∙ ap (λ (k : Call). F (cut M) (cutField M field) k) (water-same M step)
 
   -- the step that the records hold, and the masses after it
   abbrev cutStep : StepInput
@@ -49,23 +62,24 @@ module _ (M : Mesh) (mesh-fine : meshVerdict M ≡ fine) (field : List ℕ) (fie
   after = table (M .cells) (next cutStep)
 
   abbrev left : Left
-  left = record { field = after; crossing = crossingOf whole }
+  left = record { field = after; crossing = crossingOf M field (waterIn M step) }
 
   module _ (room : ℕ) (ok : hostVerdict (meshRecord M) (fieldRecord (M .cells) field) step room ≡ fine) where
-    found : verdict (cut M) (cutField M field) (ownTables (fluxesIn step (M .faces)) (outsidesIn step (M .faces) (M .seconds))) ≡ fine
+    found : verdict (cut M) (cutField M field) (own (waterIn M step)) ≡ fine
     unfolding hostVerdict stepJudged
-    found = sym (carry (λ N m o. verdict N m (ownTables (fluxesIn step (N .faces)) o))) ∙ both-fine _ _ (both-fine _ _ (both-fine _ _ ok .0) .1) .1
+    found = sym (carry (λ N m k. verdict N m (own k))) ∙ both-fine _ _ (both-fine _ _ (both-fine _ _ ok .0) .1) .1
 
     cut-ready : Ready cutStep
-    cut-ready = ready (cut M) (cutField M field) (ownTables (fluxesIn step (M .faces)) (outsidesIn step (M .faces) (M .seconds))) found
+    cut-ready = ready (cut M) (cutField M field) (own (waterIn M step)) found
 
     cut-fair : Fair (cut M) (Bounded cutStep after) (cutField M field) left
     unfolding next
     cut-fair =
         let few-cells = counted M (within M mesh-fine) .few-cells in
         let fit = mesh-fit M (passes M mesh-fine) in
-        let g = cut-agrees M field (waterIn M step) in
-        amounts-fair cutStep cut-ready (moved cutStep) (moved-keeps cutStep (cut-ready .sound)) after (omega (arith, length-table (M .cells) (next cutStep)))
+        let g = inputs-agree M (cut M) field (cutField M field) (waterIn M step) (waterIn M step) (cut-agrees M field (waterIn M step)) in
+        amounts-fair cutStep cut-ready (moved cutStep) (moved-keeps cutStep (cut-ready .sound)) (cutField M field)
+        (releasedMass (M .cells) (waterIn M step .releases)) (raised-total (cut M) (cutField M field) (waterIn M step)) after (omega (arith, length-table (M .cells) (next cutStep)))
         (λ c h. getD-table (M .cells) (next cutStep) 0 c h)
         left refl (rw (in-agree whole cutStep few-cells fit g, out-agree whole cutStep few-cells fit g))
 
@@ -92,7 +106,7 @@ module _ (M : Mesh) (mesh-fine : meshVerdict M ≡ fine) (field : List ℕ) (fie
     next-record-is : nextRecord M step bytes field ≡ fieldRecord (M .cells) after
     unfolding hostBytes over
     next-record-is =
-        rw (ok, carry (λ N m o. fieldRecord (N .cells) (table (N .cells) (next (inputOf N m (waterOf (fluxesIn step (N .faces)) o))))))
+        rw (ok, carry (λ N m k. fieldRecord (N .cells) (table (N .cells) (next (inputOf N m k)))))
         (take-at (fieldRecord (M .cells) after) (drop (length (fieldRecord (M .cells) after)) bytes) (fieldLength (M .cells)) (record-long (length bytes) ok))
 
     masses-are : massesIn (nextRecord M step bytes field) (M .cells) ≡ after

@@ -7,7 +7,7 @@ use native.Mathlib.Omega.{arith}
 use lib.IntN.{ℤ}
 use lib.ListN.{length, take}
 use Rattle.model.specs.Mesh.{Mesh}
-use Rattle.model.specs.Causes.{Outcome, accepted, refused, Verdict, fine, _andThen_, Call, inputOf, meshVerdict, fieldVerdict, verdict}
+use Rattle.model.specs.Causes.{Outcome, accepted, refused, Verdict, fine, _andThen_, Call, meshVerdict, fieldVerdict, verdict}
 use Rattle.model.specs.Answers.{said}
 use Rattle.model.specs.declared.Answer.{Answer}
 use Rattle.model.specs.Calls.{Crossing, Left, crossingOf, corrected, stepAnswer, stepOnTables, Deed, givenBack, storeOnly}
@@ -61,7 +61,7 @@ module _ (M : Mesh) (mesh-fine : meshVerdict M ≡ fine) (field : List ℕ) (fie
 
   -- 0: the call is accepted, with the field that the next field record holds
   pub host-accepted : r ≡ 0
-      → comes M (onRecords step next) field ≡ accepted (record { field = massesIn (take (fieldLength (M .cells)) next′) (M .cells); crossing = crossingOf (inputOf M field (waterIn M step)) })
+      → comes M (onRecords step next) field ≡ accepted (record { field = massesIn (take (fieldLength (M .cells)) next′) (M .cells); crossing = crossingOf M field (waterIn M step) })
   unfolding stepOnRecords _andThen_
   host-accepted z = rw (zero-is-fine z, promised .next-field)
 

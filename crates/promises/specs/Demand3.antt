@@ -1,5 +1,5 @@
 -- Document 01, "A list of steps": the step calls of a list, on tables and on records, and demand 3 about every list of them; with
--- document 02's S-4, of steps and of calls on a store.
+-- document 02's S-4, of steps and of calls on a store, and its S-6, of steps with releases.
 use Prim.Native.Nat.{ℕ}
 use mathlib.Core.Path.{_≡_}
 use mathlib.Core.Logic.{_≢_}
@@ -11,7 +11,7 @@ use Rattle.model.specs.Step.{StepInput}
 use Rattle.model.specs.Causes.{Outcome, accepted, refused, fine, _andThen_, Call, inputOf, meshVerdict, fieldVerdict, waterOf}
 use Rattle.model.specs.Calls.{massIn, Bounded, Left, crossingOf, fieldAfter, corrected, nextTable, movedTable, workTable, stepOnTables, Claim, Deed, stepped, givenBack, storeOnly, stepping, fieldBy, lastField, Ledger}
 use Rattle.heads.specs.Layouts.{meshRecord, fieldRecord, fieldLength}
-use Rattle.reading.specs.Reading.{massesIn, fluxesIn, outsidesIn}
+use Rattle.reading.specs.Reading.{massesIn, fluxesIn, outsidesIn, releasesIn}
 use Rattle.kept.specs.Store.{fieldsIn, heldUnder, without}
 use Rattle.store.specs.Calls.{keepVerdict, keepStore, dropVerdict, dropStore, returnVerdict, returnMasses}
 use Rattle.lagoon.specs.Host.{hostVerdict, hostBytes}
@@ -24,15 +24,15 @@ pub data StepCall : Type 0 where
   onRecords : List ℕ → List ℕ → StepCall
 
 module _ (M : Mesh) where
-  -- the fluxes and outside values that a step record holds
+  -- the fluxes, outside values and releases that a step record holds
   abbrev pub waterIn : List ℕ → Call
-  waterIn step = waterOf (fluxesIn step (M .faces)) (outsidesIn step (M .faces) (M .seconds))
+  waterIn step = waterOf (fluxesIn step (M .faces)) (outsidesIn step (M .faces) (M .seconds)) (releasesIn step (M .cells) (M .faces) (M .seconds))
 
   -- the table of masses lent to a call on tables
   abbrev pub lentMasses : List ℕ → List ℕ → List ℕ
   lentMasses past field = table (M .cells) (massIn field) ++ past
 
-  -- what a call works on: the mesh, the field lent to it, and its fluxes and outside values
+  -- what a call works on: the mesh, the field lent to it raised by its releases, and its fluxes and outside values
   abbrev pub workedOn : StepCall → List ℕ → StepInput
   workedOn (onTables past k) field = inputOf M field k
   workedOn (onRecords step next) field = inputOf M field (waterIn step)
@@ -50,7 +50,7 @@ module _ (M : Mesh) where
     -- The host's call as one of a list: after an accepted step the field is what the next field record holds.
     unfoldable pub stepOnRecords : Outcome Left
     stepOnRecords = hostVerdict (meshRecord M) (fieldRecord (M .cells) field) step (length next) andThen
-        accepted (record { field = massesIn nextRecord (M .cells); crossing = crossingOf (inputOf M field (waterIn step)) })
+        accepted (record { field = massesIn nextRecord (M .cells); crossing = crossingOf M field (waterIn step) })
 
   -- what a call comes to that is lent the mesh and, as masses, the field: refused, or accepted with the field that it leaves
   abbrev pub comes : StepCall → List ℕ → Outcome Left

@@ -24,14 +24,16 @@ pub record FieldWhole (cells : ℕ) (masses bs : List ℕ) : Type 0 where
   pub fits : Fits (fieldShape cells) (fieldValue cells masses)
   pub enough : fieldLength cells ≤ length bs
 
-pub record StepWhole (faces : ℕ) (seconds : List ℕ) (fluxes : List ℤ) (outsides bs : List ℕ) : Type 0 where
+pub record StepWhole (kind cells faces : ℕ) (seconds : List ℕ) (fluxes : List ℤ) (outsides releases bs : List ℕ) : Type 0 where
+  pub few-cells : cells ≤ maxCells
   pub few-faces : faces ≤ maxFaces
   pub seconds-long : faces ≤ length seconds
   pub fluxes-long : faces ≤ length fluxes
   pub outsides-long : faces ≤ length outsides
-  pub fits : Fits (stepShape faces seconds) (stepValue faces fluxes outsides)
+  pub releases-long : cells ≤ length releases
+  pub fits : Fits (stepShape kind cells faces seconds) (stepValue kind faces fluxes outsides releases)
   pub outsides-fit : (f : ℕ) → f < faces → outsideOf outsides f < 2 ^ outsideBits
-  pub enough : stepLength faces seconds ≤ length bs
+  pub enough : stepLength kind cells faces seconds ≤ length bs
 
 -- the record is written into the bytes, and takes so many
 pub record Wrote (bs : List ℕ) (record-bytes : List ℕ) (n : ℕ) (out : List ℕ) (r : ℕ) : Type 0 where

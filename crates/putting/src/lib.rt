@@ -1,5 +1,6 @@
 // A record that passed, put into the bytes field by field of its head and column by column of its body, and how many bytes it takes.
 use bits::write_bits;
+use heads::StepKind;
 use heads::body::Body;
 use heads::lengths;
 use sections::count_marked;
@@ -9,7 +10,7 @@ use sections::put_marked;
 use sections::put_signs;
 use sections::put_sizes;
 ghost use Rattle.model.specs.Mesh.{meshOf};
-ghost use Rattle.heads.specs.Layouts.{meshRecord, fieldRecord, stepRecord, meshLength, fieldLength, stepLength};
+ghost use Rattle.heads.specs.Layouts.{kindNumber, meshRecord, fieldRecord, stepRecord, meshLength, fieldLength, stepLength};
 ghost use Rattle.putting.specs.Putting.{MeshWhole, FieldWhole, StepWhole, Wrote};
 
 pub fn mesh(
@@ -61,24 +62,30 @@ pub fn field(cells: usize, masses: &[u64], bytes: &mut [u8]) -> usize
     pad(bytes, head + cells * Body::MASS)
 }
 
+// Zero bits up to a whole byte come once, after the releases.
 pub fn step(
+    kind: StepKind,
+    cells: usize,
     faces: usize,
     seconds: &[u64],
     fluxes: &[i64],
     outsides: &[u64],
     bytes: &mut [u8],
+    releases: &[u64],
 ) -> usize
-    requires { ⌜ StepWhole faces (now seconds) (now fluxes) (now outsides) (now bytes) ⌝ }
+    requires { ⌜ StepWhole (kindNumber kind) cells faces (now seconds) (now fluxes) (now outsides) (now releases) (now bytes) ⌝ }
     ensures { λ r. ⌜ Wrote (now (bytes .entry))
-        (stepRecord faces (now (seconds .entry)) (now (fluxes .entry)) (now (outsides .entry)))
-        (stepLength faces (now (seconds .entry))) (now (bytes .exit)) r ⌝ }
+        (stepRecord (kindNumber kind) cells faces (now (seconds .entry)) (now (fluxes .entry)) (now (outsides .entry)) (now (releases .entry)))
+        (stepLength (kindNumber kind) cells faces (now (seconds .entry))) (now (bytes .exit)) r ⌝ }
 {
     let head = 8 * lengths::STEP_HEAD;
     let zeros = head - heads::STEP_ZEROS;
     let size = head + Body::SIGN;
     let first = head + faces * Body::FLUX;
-    let end = first + count_marked(model::RIM, faces, seconds) * Body::OUTSIDE;
-    write_bits(bytes, 0, heads::KIND, heads::STEP_KIND);
+    let outside = count_marked(model::RIM, faces, seconds);
+    let release = lengths::after_outsides(first, outside);
+    let width = lengths::release_width(kind);
+    write_bits(bytes, 0, heads::KIND, heads::kind_number(kind));
     write_bits(bytes, heads::KIND, heads::FACES, faces as u64);
     write_bits(bytes, zeros, heads::STEP_ZEROS, 0);
     put_signs(bytes, head, Body::FLUX, faces, fluxes);
@@ -92,5 +99,6 @@ pub fn step(
         seconds,
         outsides,
     );
-    pad(bytes, end)
+    put_column(bytes, release, width, width, cells, releases);
+    pad(bytes, release + cells * width)
 }

@@ -1,5 +1,5 @@
 -- A record that passed its tests: its body holds what the tables are to take, and they then hold the record's columns.
-use Prim.Native.Nat.{ℕ, suc, _-_, _*_, _^_, _≤_, _<_}
+use Prim.Native.Nat.{ℕ, suc, _*_, _^_, _≤_, _<_}
 use mathlib.Core.Path.{_≡_, refl, ap, _∙_}
 use mathlib.Core.List.{List}
 use native.Mathlib.Omega.{arith}
@@ -13,12 +13,12 @@ use Rattle.model.specs.Mesh.{maxCells, maxFaces}
 use Rattle.model.specs.Causes.{fine}
 use Rattle.model.proofs.Verdicts.{both-fine}
 use Rattle.bits.proofs.Layouts.{bytes-hold, bytes-most}
-use Rattle.sections.specs.Sections.{shapeBits, valueIn, columnIn}
+use Rattle.sections.specs.Sections.{Section, shapeBits, valueIn, columnIn}
 use Rattle.sections.proofs.Bodies.{bodyOf, body-length, body-value, body-column}
-use Rattle.heads.specs.Layouts.{meshHead, meshBody, fieldHead, fieldBody, stepHead, stepBody, stepShape, meshBits, fieldBits, stepBits}
-use Rattle.heads.specs.Heads.{cellsIn, facesIn}
+use Rattle.heads.specs.Layouts.{meshHead, meshBody, fieldHead, fieldBody, stepHead, stepBody, meshBits, fieldBits, stepBits}
+use Rattle.heads.specs.Heads.{kindIn, cellsIn, facesIn}
 use Rattle.heads.proofs.Layouts.{mesh-most, field-most, step-most}
-use Rattle.reading.specs.Reading.{shapeIn, massesIn, meshBodyVerdict, fieldBodyVerdict, stepBodyVerdict}
+use Rattle.reading.specs.Reading.{shapeIn, massesIn, stepShapeIn, meshBodyVerdict, fieldBodyVerdict, stepBodyVerdict}
 use Rattle.bodies.specs.Bodies.{MeshRoom, MeshFilled, StepRoom, StepFilled}
 use Rattle.reading.proofs.ReadLaws.{mesh-tables-say, field-tables-say, step-tables-say}
 
@@ -88,29 +88,42 @@ module _ (cells : ℕ) (bs : List ℕ) where
   field-filled ys e = e ∙ ap (λ xs. over xs ys) (body-column fieldHeadBytes bs fieldHead (fieldBody cells) 0 0 refl)
 
 -- a step
-module _ (faces : ℕ) (seconds bs : List ℕ) where
-  pub step-room : {u x : ℕ} → faces ≤ maxFaces → faces ≤ length seconds → stepBodyVerdict faces seconds bs u x ≡ fine
-      → (stepHeadBytes ≤ length bs) × StepRoom faces seconds (bodyOf stepHeadBytes bs) u x
+module _ (cells faces : ℕ) (seconds bs : List ℕ) where
+  abbrev T : List Section
+  T = stepBody (kindIn bs) cells faces seconds
+
+  pub step-room : {u x y : ℕ} → cells ≤ maxCells → faces ≤ maxFaces → faces ≤ length seconds → stepBodyVerdict cells faces seconds bs u x y ≡ fine
+      → (stepHeadBytes ≤ length bs) × StepRoom (kindIn bs) cells faces seconds (bodyOf stepHeadBytes bs) u x y
   unfolding stepBodyVerdict
-  step-room {u} {x} few lent passed =
-      let says = step-tables-say faces seconds bs u x (both-fine _ _ passed .0) in
-      let held = bytes-hold (stepBits faces seconds) in
-      let most = bytes-most (stepBits faces seconds) in
-      let small = step-most faces seconds few in
+  step-room {u} {x} {y} few-cells few-faces lent passed =
+      let says = step-tables-say (kindIn bs) cells faces seconds bs u x y (both-fine _ _ passed .0) in
+      let end = stepBits (kindIn bs) cells faces seconds in
+      let held = bytes-hold end in
+      let most = bytes-most end in
+      let small = step-most (kindIn bs) cells faces seconds few-cells few-faces in
       let same = says .same-length in
       let body = body-length stepHeadBytes bs in (
         omega arith,
-        record { small = omega arith; holds = omega arith; seconds-long = lent; fluxes-long = says .fluxes-long; outsides-long = says .outsides-long },
+        record {
+          small = omega arith;
+          holds = omega arith;
+          seconds-long = lent;
+          fluxes-long = says .fluxes-long;
+          outsides-long = says .outsides-long;
+          releases-long = says .releases-long;
+        },
       )
 
-  pub step-filled : {u u′ : List ℤ} {x x′ : List ℕ} → StepFilled faces (bodyOf stepHeadBytes bs) (stepBody faces seconds) 0 u x u′ x′ → StepFilled faces bs (stepShape faces seconds) 1 u x u′ x′
-  step-filled {u} {u′} {x} b = record {
+  pub step-filled : {u u′ : List ℤ} {x x′ y y′ : List ℕ} → StepFilled faces (bodyOf stepHeadBytes bs) T 0 u x y u′ x′ y′
+      → StepFilled faces bs (stepShapeIn bs cells faces seconds) 1 u x y u′ x′ y′
+  step-filled {u} {u′} {x} {x′} {y} b = record {
     fluxes-full = b .fluxes-full ∙ ap (λ zs. over zs u) (table-cong (pos 0) faces _ _ (λ f l. flux f));
-    outsides-full = b .outsides-full ∙ ap (λ xs. over xs x) (body-column stepHeadBytes bs stepHead (stepBody faces seconds) 1 0 refl);
+    outsides-full = b .outsides-full ∙ ap (λ xs. over xs x) (body-column stepHeadBytes bs stepHead T 1 0 refl);
+    releases-full = b .releases-full ∙ ap (λ xs. over xs y) (body-column stepHeadBytes bs stepHead T 2 0 refl);
   }
     where
-      flux : (f : ℕ) → withSign (eqb (valueIn (bodyOf stepHeadBytes bs) (stepBody faces seconds) 0 0 f) 1) (valueIn (bodyOf stepHeadBytes bs) (stepBody faces seconds) 0 1 f)
-          ≡ withSign (eqb (valueIn bs (stepShape faces seconds) 1 0 f) 1) (valueIn bs (stepShape faces seconds) 1 1 f)
+      flux : (f : ℕ) → withSign (eqb (valueIn (bodyOf stepHeadBytes bs) T 0 0 f) 1) (valueIn (bodyOf stepHeadBytes bs) T 0 1 f)
+          ≡ withSign (eqb (valueIn bs (stepShapeIn bs cells faces seconds) 1 0 f) 1) (valueIn bs (stepShapeIn bs cells faces seconds) 1 1 f)
       flux f =
-          ap (λ (s : ℕ). withSign (eqb s 1) (valueIn (bodyOf stepHeadBytes bs) (stepBody faces seconds) 0 1 f)) (body-value stepHeadBytes bs stepHead (stepBody faces seconds) 0 0 f refl)
-          ∙ ap (λ (n : ℕ). withSign (eqb (valueIn bs (stepShape faces seconds) 1 0 f) 1) n) (body-value stepHeadBytes bs stepHead (stepBody faces seconds) 0 1 f refl)
+          ap (λ (s : ℕ). withSign (eqb s 1) (valueIn (bodyOf stepHeadBytes bs) T 0 1 f)) (body-value stepHeadBytes bs stepHead T 0 0 f refl)
+          ∙ ap (λ (n : ℕ). withSign (eqb (valueIn bs (stepShapeIn bs cells faces seconds) 1 0 f) 1) n) (body-value stepHeadBytes bs stepHead T 0 1 f refl)

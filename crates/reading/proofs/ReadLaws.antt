@@ -12,14 +12,16 @@ use Rattle.model.specs.declared.Answer.the-variants as call
 use Rattle.model.specs.declared.Refusal.{Refusal}
 use Rattle.model.proofs.Verdicts.{past, both-fine, need-fine}
 use Rattle.bits.specs.Layout.{bytesFor}
-use Rattle.heads.specs.Layouts.{meshBits, fieldBits, stepBits, meshLength, fieldLength, stepLength, stepShape}
-use Rattle.heads.specs.Heads.{cellsIn, facesIn, hasLength, meshHeadVerdict}
-use Rattle.heads.proofs.HeadLaws.{MeshHeadSays, mesh-head-says}
-use Rattle.reading.specs.Reading.{shapeIn, countsIn, volumesIn, firstsIn, secondsIn, sharesIn, reachesIn, massesIn, fluxesIn, outsidesIn, meshBodyVerdict, fieldBodyVerdict, meshRead}
+use Rattle.heads.specs.Layouts.{kindNumber, meshBits, fieldBits, stepBits, meshLength, fieldLength, stepLength}
+use Rattle.heads.specs.Heads.{kindIn, cellsIn, facesIn, hasLength, meshHeadVerdict, stepHeadVerdict}
+use Rattle.heads.specs.declared.StepKind.{StepKind}
+use Rattle.heads.proofs.HeadLaws.{MeshHeadSays, mesh-head-says, StepHeadSays, step-head-says}
+use Rattle.reading.specs.Reading.{shapeIn, countsIn, volumesIn, firstsIn, secondsIn, sharesIn, reachesIn, massesIn, fluxesIn, outsidesIn, stepShapeIn, releasesIn, meshBodyVerdict, fieldBodyVerdict, stepBodyVerdict, meshRead, stepRead}
 use Rattle.reading.specs.Answers.{MeshReading, FieldReading, StepReading}
 use Rattle.bodies.specs.Bodies.{MeshFilled, StepFilled}
 use Rattle.reading.specs.declared.MeshCounts.{MeshCounts}
 use Rattle.reading.specs.declared.MeshAnswer.the-variants as mesh
+use Rattle.reading.specs.declared.StepRead.the-variants as step
 
 -- the second of two tests refuses, or both pass
 pub second-out : {u v : Verdict} {k i : ℕ} → u ≡ fine → v ≡ refused k i → (u andThen v) ≡ refused k i
@@ -67,18 +69,26 @@ field-tables-say cells bs masses e =
     let a = both-fine _ _ e in
     record { same-length = eqb-true _ _ (need-fine 11 0 _ (a .0)); masses-long = leb-true _ _ (need-fine 2 5 _ (a .1)) }
 
-pub record StepTablesSay (faces : ℕ) (seconds bs : List ℕ) (fluxes outsides : ℕ) : Type 0 where
-  pub same-length : length bs ≡ bytesFor (stepBits faces seconds)
+pub record StepTablesSay (kind cells faces : ℕ) (seconds bs : List ℕ) (fluxes outsides releases : ℕ) : Type 0 where
+  pub same-length : length bs ≡ bytesFor (stepBits kind cells faces seconds)
   pub fluxes-long : faces ≤ fluxes
   pub outsides-long : faces ≤ outsides
+  pub releases-long : cells ≤ releases
 
-pub step-tables-say : (faces : ℕ) (seconds bs : List ℕ) (fluxes outsides : ℕ)
-    → (hasLength bs (stepLength faces seconds) andThen long 6 faces fluxes andThen long 7 faces outsides) ≡ fine → StepTablesSay faces seconds bs fluxes outsides
+pub step-tables-say : (kind cells faces : ℕ) (seconds bs : List ℕ) (fluxes outsides releases : ℕ)
+    → (hasLength bs (stepLength kind cells faces seconds) andThen long 6 faces fluxes andThen long 7 faces outsides andThen long 14 cells releases) ≡ fine
+    → StepTablesSay kind cells faces seconds bs fluxes outsides releases
 unfolding stepLength
-step-tables-say faces seconds bs fluxes outsides e =
+step-tables-say kind cells faces seconds bs fluxes outsides releases e =
     let a = both-fine _ _ e in
     let b = both-fine _ _ (a .0) in
-    record { same-length = eqb-true _ _ (need-fine 11 0 _ (b .0)); fluxes-long = leb-true _ _ (need-fine 2 6 _ (b .1)); outsides-long = leb-true _ _ (need-fine 2 7 _ (a .1)) }
+    let c = both-fine _ _ (b .0) in
+    record {
+      same-length = eqb-true _ _ (need-fine 11 0 _ (c .0));
+      fluxes-long = leb-true _ _ (need-fine 2 6 _ (c .1));
+      outsides-long = leb-true _ _ (need-fine 2 7 _ (b .1));
+      releases-long = leb-true _ _ (need-fine 2 14 _ (a .1));
+    }
 
 -- what a mesh reading that is accepted has passed
 pub record ReadSays (mostCells mostFaces : ℕ) (bs : List ℕ) (n : MeshCounts) (v f s g k : ℕ) : Type 0 where
@@ -92,6 +102,19 @@ read-says mostCells mostFaces bs v f s g k e =
     let a = both-fine (meshHeadVerdict mostCells mostFaces bs andThen meshBodyVerdict bs v f s g k) (accepted (countsIn bs)) e in
     let b = both-fine (meshHeadVerdict mostCells mostFaces bs) (meshBodyVerdict bs v f s g k) (a .0) in
     record { counts-are = cc; head = mesh-head-says mostCells mostFaces bs (b .0); body-fine = b .1 }
+
+-- what a step reading that is accepted has passed
+pub record StepReadSays (cells faces : ℕ) (seconds bs : List ℕ) (n u x y : ℕ) : Type 0 where
+  pub kind-is : n ≡ kindIn bs
+  pub head : StepHeadSays cells faces seconds bs
+  pub body-fine : stepBodyVerdict cells faces seconds bs u x y ≡ fine
+
+pub step-read-says : (cells faces : ℕ) (seconds bs : List ℕ) (u x y : ℕ) {n : ℕ} → stepRead cells faces seconds bs u x y ≡ accepted n → StepReadSays cells faces seconds bs n u x y
+unfolding stepRead _andThen_
+step-read-says cells faces seconds bs u x y e =
+    let a = both-fine (stepHeadVerdict cells faces seconds bs andThen stepBodyVerdict cells faces seconds bs u x y) (accepted (kindIn bs)) e in
+    let b = both-fine (stepHeadVerdict cells faces seconds bs) (stepBodyVerdict cells faces seconds bs u x y) (a .0) in
+    record { kind-is = cc; head = step-head-says cells faces seconds bs (b .0); body-fine = b .1 }
 
 -- the answer and the tables
 module _ {bs v f s w k : List ℕ} {o : Outcome MeshCounts} where
@@ -116,10 +139,11 @@ module _ {cells : ℕ} {bs m : List ℕ} {o : Verdict} where
   pub field-accepted : {m′ : List ℕ} → o ≡ fine → m′ ≡ over (massesIn bs cells) m → FieldReading o cells bs m call.Done m′
   field-accepted e d = record { answer = sym e; masses-read = rw e d }
 
-module _ {faces : ℕ} {seconds bs : List ℕ} {u : List ℤ} {x : List ℕ} {o : Verdict} where
-  pub step-refused : {r : Refusal} → o ≡ told r → StepReading o faces seconds bs u x (call.Refused r) u x
-  step-refused e = record { answer = sym e; fluxes-read = rw e; outsides-read = rw e }
+module _ {cells faces : ℕ} {seconds bs : List ℕ} {u : List ℤ} {x y : List ℕ} {o : Outcome ℕ} where
+  pub step-refused : {r : Refusal} → o ≡ told r → StepReading o cells faces seconds bs u x y (step.Refused r) u x y
+  step-refused e = record { answer = sym e; fluxes-read = rw e; outsides-read = rw e; releases-read = rw e }
 
-  pub step-accepted : {u′ : List ℤ} {x′ : List ℕ} → o ≡ fine → StepFilled faces bs (stepShape faces seconds) 1 u x u′ x′ → StepReading o faces seconds bs u x call.Done u′ x′
-  unfolding fluxesIn outsidesIn
-  step-accepted e d = record { answer = sym e; fluxes-read = rw e (d .fluxes-full); outsides-read = rw e (d .outsides-full) }
+  pub step-accepted : {k : StepKind} {u′ : List ℤ} {x′ y′ : List ℕ} → o ≡ accepted (kindNumber k) → StepFilled faces bs (stepShapeIn bs cells faces seconds) 1 u x y u′ x′ y′
+      → StepReading o cells faces seconds bs u x y (step.Read k) u′ x′ y′
+  unfolding fluxesIn outsidesIn releasesIn
+  step-accepted e d = record { answer = sym e; fluxes-read = rw e (d .fluxes-full); outsides-read = rw e (d .outsides-full); releases-read = rw e (d .releases-full) }

@@ -7,14 +7,22 @@ use Rattle.lists.specs.Table.{over}
 use Rattle.model.specs.Causes.{Outcome, accepted, Verdict, taken}
 use Rattle.model.specs.Answers.{told, said}
 use Rattle.model.specs.declared.Answer.{Answer}
+use Rattle.heads.specs.Layouts.{kindNumber}
 use Rattle.reading.specs.declared.MeshCounts.{MeshCounts}
 use Rattle.reading.specs.declared.MeshAnswer.{MeshAnswer}
 use Rattle.reading.specs.declared.MeshAnswer.the-variants as mesh
-use Rattle.reading.specs.Reading.{volumesIn, firstsIn, secondsIn, sharesIn, reachesIn, massesIn, fluxesIn, outsidesIn}
+use Rattle.reading.specs.declared.StepRead.{StepRead}
+use Rattle.reading.specs.declared.StepRead.the-variants as step
+use Rattle.reading.specs.Reading.{volumesIn, firstsIn, secondsIn, sharesIn, reachesIn, massesIn, fluxesIn, outsidesIn, releasesIn}
 
 abbrev pub meshSaid : MeshAnswer → Outcome MeshCounts
 meshSaid (mesh.Read n) = accepted n
 meshSaid (mesh.Refused r) = told r
+
+-- document 02, S-6: a step's answer says the number of its kind
+abbrev pub stepSaid : StepRead → Outcome ℕ
+stepSaid (step.Read kind) = accepted (kindNumber kind)
+stepSaid (step.Refused r) = told r
 
 -- Document 01, "Causes", of reading. A reading that comes to o: its answer, and each table afterwards. The counted entries are filled and
 -- no others; a refused reading fills nothing.
@@ -30,7 +38,8 @@ pub record FieldReading (o : Verdict) (cells : ℕ) (bs masses : List ℕ) (r : 
   pub answer : said r ≡ o
   pub masses-read : masses′ ≡ taken o (over (massesIn bs cells) masses) masses
 
-pub record StepReading (o : Verdict) (faces : ℕ) (seconds bs : List ℕ) (fluxes : List ℤ) (outsides : List ℕ) (r : Answer) (fluxes′ : List ℤ) (outsides′ : List ℕ) : Type 0 where
-  pub answer : said r ≡ o
+pub record StepReading (o : Outcome ℕ) (cells faces : ℕ) (seconds bs : List ℕ) (fluxes : List ℤ) (outsides releases : List ℕ) (r : StepRead) (fluxes′ : List ℤ) (outsides′ releases′ : List ℕ) : Type 0 where
+  pub answer : stepSaid r ≡ o
   pub fluxes-read : fluxes′ ≡ taken o (over (fluxesIn bs faces) fluxes) fluxes
   pub outsides-read : outsides′ ≡ taken o (over (outsidesIn bs faces seconds) outsides) outsides
+  pub releases-read : releases′ ≡ taken o (over (releasesIn bs cells faces seconds) releases) releases

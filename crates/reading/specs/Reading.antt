@@ -1,4 +1,4 @@
--- Document 01, "Causes", of reading: what reading a record gives, and what it refuses.
+-- Document 01, "Causes", of reading: what reading a record gives, and what it refuses. Document 02, S-6: releases, and the kind of a step.
 use Prim.Native.Nat.{ℕ, _*_}
 use mathlib.Core.Bool.{Bool, not, _&&_}
 use mathlib.Core.List.{List, [], _∷_}
@@ -10,10 +10,14 @@ use Rattle.signed.specs.Sign.{withSign}
 use Rattle.model.specs.Mesh.{Mesh, meshOf}
 use Rattle.model.specs.Causes.{Outcome, accepted, Verdict, _andThen_, each, long}
 use Rattle.sections.specs.Sections.{Section, place, valueIn, columnIn}
-use Rattle.heads.specs.Layouts.{meshZeroBits, stepZeroBits, meshHeadBits, stepHeadBits, meshShape, fieldShape, stepHead, fluxSection, stepShape, meshBits, stepBits, meshLength, fieldLength, stepLength}
-use Rattle.heads.specs.Heads.{cellsIn, facesIn, hasLength, meshHeadVerdict, fieldHeadVerdict, stepHeadVerdict}
+use Rattle.heads.specs.Layouts.{meshZeroBits, stepZeroBits, meshHeadBits, stepHeadBits, meshShape, fieldShape, stepHead, fluxSection, outsideSection, stepShape, meshBits, stepBits, meshLength, fieldLength, stepLength}
+use Rattle.heads.specs.Heads.{kindIn, cellsIn, facesIn, hasLength, meshHeadVerdict, fieldHeadVerdict, stepHeadVerdict}
 use Rattle.zeros.specs.Zeros.{zeroBitGood, minusZero}
 use Rattle.reading.specs.declared.MeshCounts.{MeshCounts}
+
+-- A step up to its releases: what stands there rests neither on the kind nor on the cells.
+abbrev pub waterShape : ℕ → List ℕ → List Section
+waterShape faces seconds = stepHead ∷ fluxSection faces ∷ outsideSection faces seconds ∷ []
 
 -- Values: reading does not judge them. Each is the number that the bits at its place spell; places count from the record's first bit.
 module _ (bs : List ℕ) where
@@ -58,17 +62,24 @@ module _ (bs : List ℕ) where
 
   -- outside values away from the rim read 0: there is no row
   abbrev pub outsidePlace : ℕ → List ℕ → ℕ → ℕ
-  outsidePlace faces seconds f = place (stepShape faces seconds) 2 0 f
+  outsidePlace faces seconds f = place (waterShape faces seconds) 2 0 f
 
   unfoldable pub outsidesIn : ℕ → List ℕ → List ℕ
-  outsidesIn faces seconds = columnIn bs (stepShape faces seconds) 2 0
+  outsidesIn faces seconds = columnIn bs (waterShape faces seconds) 2 0
+
+  -- S-6: the shape of the kind that the head says; in kind 3 the releases read 0, for they have no bits
+  abbrev pub stepShapeIn : (cells faces : ℕ) → List ℕ → List Section
+  stepShapeIn cells faces seconds = stepShape (kindIn bs) cells faces seconds
+
+  unfoldable pub releasesIn : (cells faces : ℕ) → List ℕ → List ℕ
+  releasesIn cells faces seconds = columnIn bs (stepShapeIn cells faces seconds) 3 0
 
 -- Cause 12, by the bit at i: the zero bits, and in a step the minus with size 0.
 unfoldable pub meshBitGood : List ℕ → ℕ → Bool
 meshBitGood bs i = zeroBitGood bs meshZeroBits meshHeadBits (meshBits (cellsIn bs) (facesIn bs)) i
 
-unfoldable pub stepBitGood : List ℕ → ℕ → List ℕ → ℕ → Bool
-stepBitGood bs faces seconds i = zeroBitGood bs stepZeroBits stepHeadBits (stepBits faces seconds) i && not (minusZero bs faces i)
+unfoldable pub stepBitGood : List ℕ → (cells faces : ℕ) → List ℕ → ℕ → Bool
+stepBitGood bs cells faces seconds i = zeroBitGood bs stepZeroBits stepHeadBits (stepBits (kindIn bs) cells faces seconds) i && not (minusZero bs faces i)
 
 -- The order of reading past the head: length 11, then 2, then 12: what a record whose head is fine is refused for, read into tables of so
 -- many entries.
@@ -81,10 +92,11 @@ meshBodyVerdict bs volumes firsts seconds shares reaches = hasLength bs (meshLen
 unfoldable pub fieldBodyVerdict : ℕ → List ℕ → ℕ → Verdict
 fieldBodyVerdict cells bs masses = hasLength bs (fieldLength cells) andThen long 5 cells masses
 
-unfoldable pub stepBodyVerdict : ℕ → List ℕ → List ℕ → ℕ → ℕ → Verdict
-stepBodyVerdict faces seconds bs fluxes outsides = hasLength bs (stepLength faces seconds)
-    andThen long 6 faces fluxes andThen long 7 faces outsides
-    andThen each 12 (8 * length bs) (stepBitGood bs faces seconds)
+-- the releases are table 14, in kind 3 too
+unfoldable pub stepBodyVerdict : (cells faces : ℕ) → List ℕ → List ℕ → (fluxes outsides releases : ℕ) → Verdict
+stepBodyVerdict cells faces seconds bs fluxes outsides releases = hasLength bs (stepLength (kindIn bs) cells faces seconds)
+    andThen long 6 faces fluxes andThen long 7 faces outsides andThen long 14 cells releases
+    andThen each 12 (8 * length bs) (stepBitGood bs cells faces seconds)
 
 -- What each reading comes to.
 unfoldable pub meshRead : ℕ → ℕ → List ℕ → ℕ → ℕ → ℕ → ℕ → ℕ → Outcome MeshCounts
@@ -94,5 +106,7 @@ meshRead mostCells mostFaces bs volumes firsts seconds shares reaches =
 unfoldable pub fieldRead : ℕ → List ℕ → ℕ → Verdict
 fieldRead cells bs masses = fieldHeadVerdict cells bs andThen fieldBodyVerdict cells bs masses
 
-unfoldable pub stepRead : ℕ → List ℕ → List ℕ → ℕ → ℕ → Verdict
-stepRead faces seconds bs fluxes outsides = stepHeadVerdict faces seconds bs andThen stepBodyVerdict faces seconds bs fluxes outsides
+-- the reading of a step answers its kind
+unfoldable pub stepRead : (cells faces : ℕ) → List ℕ → List ℕ → (fluxes outsides releases : ℕ) → Outcome ℕ
+stepRead cells faces seconds bs fluxes outsides releases =
+    stepHeadVerdict cells faces seconds bs andThen stepBodyVerdict cells faces seconds bs fluxes outsides releases andThen accepted (kindIn bs)

@@ -1,6 +1,7 @@
-// The three records of document 01, read.
+// The three records of document 01, read; a step record of either kind of document 02's S-6.
 mod verdicts;
 
+use heads::StepKind;
 use model::Answer;
 use model::Refusal;
 ghost use lib.ListN.{length};
@@ -15,6 +16,12 @@ pub struct MeshCounts {
 
 pub enum MeshAnswer {
     Read(MeshCounts),
+    Refused(Refusal),
+}
+
+// The kind of a step that has been read.
+pub enum StepRead {
+    Read(StepKind),
     Refused(Refusal),
 }
 
@@ -77,23 +84,44 @@ pub fn read_field(cells: usize, bytes: &[u8], masses: &mut [u64]) -> Answer
     Answer::Done
 }
 
-// The record of a step through these faces. Of the mesh only the seconds are looked at, for the rim.
+// The record of a step on these cells and faces. Of the mesh only the seconds are looked at, for the rim. In the kind without outfalls the
+// releases become 0.
 pub fn read_step(
+    cells: usize,
     faces: usize,
     seconds: &[u64],
     bytes: &[u8],
     fluxes: &mut [i64],
     outsides: &mut [u64],
-) -> Answer
+    releases: &mut [u64],
+) -> StepRead
     ensures { λ r. ⌜ StepReading
-        (stepRead faces (now (seconds .entry)) (now (bytes .entry)) (length (now (fluxes .entry))) (length (now (outsides .entry))))
-        faces (now (seconds .entry)) (now (bytes .entry)) (now (fluxes .entry)) (now (outsides .entry))
-        r (now (fluxes .exit)) (now (outsides .exit)) ⌝ }
+        (stepRead cells faces (now (seconds .entry)) (now (bytes .entry))
+        (length (now (fluxes .entry))) (length (now (outsides .entry))) (length (now (releases .entry))))
+        cells faces (now (seconds .entry)) (now (bytes .entry)) (now (fluxes .entry)) (now (outsides .entry)) (now (releases .entry))
+        r (now (fluxes .exit)) (now (outsides .exit)) (now (releases .exit)) ⌝ }
 {
-    let a = verdicts::step(faces, seconds, bytes, fluxes.len(), outsides.len());
-    if let Answer::Refused(r) = a {
-        return Answer::Refused(r);
-    }
-    bodies::step(faces, seconds, &bytes[heads::STEP_HEAD..], fluxes, outsides);
-    Answer::Done
+    let a = verdicts::step(
+        cells,
+        faces,
+        seconds,
+        bytes,
+        fluxes.len(),
+        outsides.len(),
+        releases.len(),
+    );
+    let StepRead::Read(kind) = a else {
+        return a;
+    };
+    bodies::step(
+        kind,
+        cells,
+        faces,
+        seconds,
+        &bytes[heads::STEP_HEAD..],
+        fluxes,
+        outsides,
+        releases,
+    );
+    StepRead::Read(kind)
 }

@@ -1,6 +1,8 @@
 // What a reading comes to, for tables of so many entries: the head's causes, then 11, 2 and 12.
 use crate::MeshAnswer;
 use crate::MeshCounts;
+use crate::StepRead;
+use heads::StepKind;
 use heads::lengths;
 use model::Answer;
 use model::Cause;
@@ -13,9 +15,13 @@ ghost use lib.ListN.{length};
 ghost use Rattle.model.specs.Mesh.{maxCells, maxFaces};
 ghost use Rattle.model.specs.Causes.{long as longOf, _andThen_};
 ghost use Rattle.model.specs.Answers.{said};
-ghost use Rattle.heads.specs.Heads.{cellsIn, facesIn};
+ghost use Rattle.heads.specs.Layouts.{kindNumber};
+ghost use Rattle.heads.specs.Heads.{kindIn, cellsIn, facesIn};
 ghost use Rattle.reading.specs.Reading.{meshBodyVerdict, fieldBodyVerdict, stepBodyVerdict, meshRead, fieldRead, stepRead};
-ghost use Rattle.reading.specs.Answers.{meshSaid};
+ghost use Rattle.reading.specs.Answers.{meshSaid, stepSaid};
+
+// The position of the releases among the tables of cause 2.
+const RELEASES: u64 = 14;
 
 // After other tests, whether a table has as many entries as wanted.
 fn then_long(a: Answer, position: u64, wanted: usize, has: usize) -> Answer
@@ -58,15 +64,25 @@ fn field_body(cells: usize, bytes: &[u8], masses: usize) -> Answer
     then_long(a, 5, cells, masses)
 }
 
-fn step_body(faces: usize, seconds: &[u64], bytes: &[u8], fluxes: usize, outsides: usize) -> Answer
-    requires { ⌜ (faces ≤ maxFaces) × (faces ≤ length (now seconds)) ⌝ }
-    ensures { λ r. ⌜ said r ≡ stepBodyVerdict faces (now (seconds .entry)) (now (bytes .entry)) fluxes outsides ⌝ }
+fn step_body(
+    kind: StepKind,
+    cells: usize,
+    faces: usize,
+    seconds: &[u64],
+    bytes: &[u8],
+    fluxes: usize,
+    outsides: usize,
+    releases: usize,
+) -> Answer
+    requires { ⌜ (kindNumber kind ≡ kindIn (now bytes)) × (cells ≤ maxCells) × (faces ≤ maxFaces) × (faces ≤ length (now seconds)) ⌝ }
+    ensures { λ r. ⌜ said r ≡ stepBodyVerdict cells faces (now (seconds .entry)) (now (bytes .entry)) fluxes outsides releases ⌝ }
 {
-    let end = lengths::step_bits(faces, seconds);
+    let end = lengths::step_bits(kind, cells, faces, seconds);
     let a = need(Cause::Length, 0, bytes.len() == bits::bytes_for(end));
     let b = then_long(a, 6, faces, fluxes);
     let d = then_long(b, 7, faces, outsides);
-    if let Answer::Refused(r) = d {
+    let e = then_long(d, RELEASES, cells, releases);
+    if let Answer::Refused(r) = e {
         return Answer::Refused(r);
     }
     zeros::step(bytes, faces, end)
@@ -116,12 +132,34 @@ pub fn field(cells: usize, bytes: &[u8], masses: usize) -> Answer
     field_body(cells, bytes, masses)
 }
 
-pub fn step(faces: usize, seconds: &[u64], bytes: &[u8], fluxes: usize, outsides: usize) -> Answer
-    ensures { λ r. ⌜ said r ≡ stepRead faces (now (seconds .entry)) (now (bytes .entry)) fluxes outsides ⌝ }
+pub fn step(
+    cells: usize,
+    faces: usize,
+    seconds: &[u64],
+    bytes: &[u8],
+    fluxes: usize,
+    outsides: usize,
+    releases: usize,
+) -> StepRead
+    ensures { λ r. ⌜ stepSaid r ≡ stepRead cells faces (now (seconds .entry)) (now (bytes .entry)) fluxes outsides releases ⌝ }
 {
-    let a = heads::step(faces, seconds, bytes);
+    let a = heads::step(cells, faces, seconds, bytes);
     if let Answer::Refused(r) = a {
-        return Answer::Refused(r);
+        return StepRead::Refused(r);
     }
-    step_body(faces, seconds, bytes, fluxes, outsides)
+    let kind = heads::step_kind(bytes);
+    let b = step_body(
+        kind,
+        cells,
+        faces,
+        seconds,
+        bytes,
+        fluxes,
+        outsides,
+        releases,
+    );
+    if let Answer::Refused(r) = b {
+        return StepRead::Refused(r);
+    }
+    StepRead::Read(kind)
 }

@@ -9,6 +9,7 @@ use arguments::parts::number;
 use arguments::parts::octets;
 use arguments::parts::table;
 use arguments::show;
+use heads::StepKind;
 
 pub fn mesh_length(words: &[u64], bytes: &[u8]) {
     show::word(b"mesh_length:");
@@ -26,7 +27,12 @@ pub fn field_length(words: &[u64], bytes: &[u8]) {
 
 pub fn step_length(words: &[u64], bytes: &[u8]) {
     show::word(b"step_length:");
-    answers::length(heads::step_length(number(words, 0), table(words, 1), octets(words, bytes, 2)));
+    answers::length(heads::step_length(
+        number(words, 0),
+        number(words, 1),
+        table(words, 2),
+        octets(words, bytes, 3),
+    ));
 }
 
 pub fn read_mesh(words: &[u64], bytes: &[u8]) {
@@ -104,33 +110,43 @@ pub fn read_step(words: &[u64], ints: &[i64], bytes: &[u8]) {
     show::word(b"read_step:");
     fill_step(
         number(words, 0),
-        table(words, 1),
-        octets(words, bytes, 2),
-        amounts(words, ints, 3),
-        table(words, 4),
+        number(words, 1),
+        table(words, 2),
+        octets(words, bytes, 3),
+        amounts(words, ints, 4),
+        table(words, 5),
+        table(words, 6),
     );
 }
 
+// A step record read into arrays that hold the entries given.
 fn fill_step(
+    cells: usize,
     faces: usize,
     seconds: &[u64],
     record: &[u8],
     given_fluxes: &[i64],
     given_outsides: &[u64],
+    given_releases: &[u64],
 ) {
     let mut fluxes = [0i64; ROOM];
     let mut outsides = [0u64; ROOM];
+    let mut releases = [0u64; ROOM];
     let f = copy_amounts(given_fluxes, &mut fluxes);
     let o = copy(given_outsides, &mut outsides);
-    answers::verdict(reading::read_step(
+    let r = copy(given_releases, &mut releases);
+    answers::step_read(reading::read_step(
+        cells,
         faces,
         seconds,
         record,
         &mut fluxes[..f],
         &mut outsides[..o],
+        &mut releases[..r],
     ));
     show::amounts(b"; fluxes", f, &fluxes);
     show::numbers(b"; outsides", o, &outsides);
+    show::numbers(b"; releases", r, &releases);
 }
 
 pub fn write_mesh(words: &[u64]) {
@@ -168,21 +184,32 @@ pub fn write_field(words: &[u64]) {
     show::octets(b"; bytes", b, &record);
 }
 
+// The kind of a step that a script names: 4, or any other number for 3.
+fn kind(named: usize) -> StepKind {
+    if named as u64 == heads::OUTFALL_KIND {
+        StepKind::Outfalls
+    } else {
+        StepKind::Water
+    }
+}
+
 pub fn write_step(words: &[u64], ints: &[i64]) {
     let mut record = [0u8; BYTES_ROOM];
     show::word(b"write_step:");
-    let b = bytes(table(words, 9), &mut record);
+    let b = bytes(table(words, 10), &mut record);
     answers::written(writing::write_step(
-        number(words, 0),
+        kind(number(words, 0)),
         number(words, 1),
-        table(words, 2),
+        number(words, 2),
         table(words, 3),
         table(words, 4),
         table(words, 5),
         table(words, 6),
-        amounts(words, ints, 7),
-        table(words, 8),
+        table(words, 7),
+        amounts(words, ints, 8),
+        table(words, 9),
         &mut record[..b],
+        table(words, 11),
     ));
     show::octets(b"; bytes", b, &record);
 }

@@ -70,7 +70,7 @@ fn step_once(
 ) -> Next
     requires { do ⌜ (← ⟦intake::RECORD⟧) ≤ length (now buffer) ⌝ }
 {
-    let read = intake::step(faces, seconds, buffer);
+    let read = intake::step(cells, faces, seconds, buffer);
     if read.failed {
         return Next::Nothing;
     }
@@ -176,7 +176,7 @@ fn run_on(
 
 // Step 0, the first field.
 fn print_start(total: u64) -> bool {
-    print(session::step_line(0, 0, 0, total))
+    print(session::step_line(0, 0, 0, total, 0))
 }
 
 // A word to whoever gives arguments or sits at a terminal and does not know that a session is awaited.

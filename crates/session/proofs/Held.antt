@@ -12,7 +12,7 @@ use Rattle.session.specs.Lines.{refusalLine, stepLine, refusedStepLine, 
 
 -- The bytes of the longest line.
 abbrev lineBytes : ℕ
-lineBytes = 84
+lineBytes = 105
 
 refusal-fits : (letter number place : ℕ) → length (refusalLine letter number place) ≤ 44
 unfolding refusalLine
@@ -25,11 +25,13 @@ module _ {lent bytes : List ℕ} {r : ℕ} (wide : length lent ≡ lineBytes) wh
   pub refusal-held : (letter number place : ℕ) → Puts lent 0 (refusalLine letter number place) r bytes → Counts r bytes × (take r bytes ≡ refusalLine letter number place)
   refusal-held letter number place = held (refusalLine letter number place) (omega (arith, refusal-fits letter number place))
 
-  pub step-held : (step entered gone total : ℕ) → Puts lent 0 (stepLine step entered gone total) r bytes → Counts r bytes × (take r bytes ≡ stepLine step entered gone total)
+  pub step-held : (step entered gone total released : ℕ) → Puts lent 0 (stepLine step entered gone total released) r bytes
+      → Counts r bytes × (take r bytes ≡ stepLine step entered gone total released)
   unfolding stepLine
-  step-held step entered gone total =
-      held (stepLine step entered gone total)
-      (simp length-append (omega (arith, length-word step space, length-word entered space, length-word gone space, length-word total newline)))
+  step-held step entered gone total released =
+      held (stepLine step entered gone total released)
+      (simp length-append
+      (omega (arith, length-word step space, length-word entered space, length-word gone space, length-word total space, length-word released newline)))
 
   pub refused-step-held : (step number place : ℕ) → Puts lent 0 (refusedStepLine step number place) r bytes → Counts r bytes × (take r bytes ≡ refusedStepLine step number place)
   unfolding refusedStepLine

@@ -100,7 +100,7 @@ module _ (M : Mesh) where
   headBytes = bytesFor stepHeadBits
 
   abbrev needs : List ℕ → Outcome ℕ
-  needs = stepNeeds (M .faces) (M .seconds)
+  needs = stepNeeds (M .cells) (M .faces) (M .seconds)
 
   turn : (most step : ℕ) (masses input : List ℕ) → 0 < length (stepAt M input)
       → stepText step (stepSaid M masses (stepAt M input))
@@ -149,7 +149,7 @@ module _ (M : Mesh) where
       let held : masses ≡ inTable runCells (massesIn (fieldAt M input) cells) = rw (q, cells-long, v .0) at (t .masses-after) in
       let rest = steps-printed p (length (drop (length bs) input)) (omega arith) in
       ap (λ (x : List ℕ). x ++ out) (h .1)
-      ∙ ap (λ (x : List ℕ). stepLine 0 0 0 sum ++ x) (rest ∙ ap (λ (x : List ℕ). stepsPrinted M (length (drop (length bs) input)) 1 x (drop (length bs) input)) held
+      ∙ ap (λ (x : List ℕ). stepLine 0 0 0 sum 0 ++ x) (rest ∙ ap (λ (x : List ℕ). stepsPrinted M (length (drop (length bs) input)) 1 x (drop (length bs) input)) held
       ∙ ap (λ (x : List ℕ). stepsPrinted M (length (drop (length x) input)) 1 (inTable runCells (massesIn (fieldAt M input) cells)) (drop (length x) input)) q)
       ∙ ap (λ (o : Outcome ℕ). fromField M o (inTable runCells (massesIn (fieldAt M input) cells)) (following (fieldAt M input) input)) said
 

@@ -1,4 +1,4 @@
--- Document 01, "The board and the run": the lines that the run program prints, as bytes.
+-- Document 01, "The board and the run", and document 02's S-6: the lines that the run program prints, as bytes.
 use Prim.Native.Nat.{ℕ}
 use mathlib.Core.List.{List, _++_}
 use Rattle.text.specs.Lines.{word, mark, space, newline}
@@ -20,9 +20,10 @@ letterB = 66
 unfoldable pub refusalLine : ℕ → ℕ → ℕ → List ℕ
 refusalLine letter number place = mark letter ++ (word number space ++ word place newline)
 
--- An accepted step: its number, in-mass, out-mass, total.
-unfoldable pub stepLine : ℕ → ℕ → ℕ → ℕ → List ℕ
-stepLine step entered gone total = word step space ++ (word entered space ++ (word gone space ++ word total newline))
+-- An accepted step: its number, in-mass, out-mass, total, and S-6's released mass.
+unfoldable pub stepLine : ℕ → ℕ → ℕ → ℕ → ℕ → List ℕ
+stepLine step entered gone total released =
+    word step space ++ (word entered space ++ (word gone space ++ (word total space ++ word released newline)))
 
 -- A refused step: its number, the letter, the number of the cause, the place.
 unfoldable pub refusedStepLine : ℕ → ℕ → ℕ → List ℕ

@@ -55,14 +55,14 @@ pub record BoardPrints (M : Mesh) (masses out : List ℕ) : Type 0 where
 
 -- `steps`: a record is read; where no byte came, or after a refusal that ends the run, the board; else another step.
 pub data StepsPrint (M : Mesh) : ℕ → List ℕ → List ℕ → List ℕ → Type 0 where
-  no-byte : {step : ℕ} {masses input out : List ℕ} (bs : List ℕ) → Reads (bytesFor stepHeadBits) (stepNeeds (M .faces) (M .seconds)) input bs
+  no-byte : {step : ℕ} {masses input out : List ℕ} (bs : List ℕ) → Reads (bytesFor stepHeadBits) (stepNeeds (M .cells) (M .faces) (M .seconds)) input bs
       → length bs ≡ 0 → BoardPrints M masses out → StepsPrint M step masses input out
   step-ends : {step : ℕ} {masses input masses′ out : List ℕ} (bs : List ℕ) (r : StepTaken) (line : Line)
-      → Reads (bytesFor stepHeadBits) (stepNeeds (M .faces) (M .seconds)) input bs → 0 < length bs
+      → Reads (bytesFor stepHeadBits) (stepNeeds (M .cells) (M .faces) (M .seconds)) input bs → 0 < length bs
       → StepTaking M masses bs r masses′ → Holds line (lineOf step r) → false ≡ goesOn r
       → BoardPrints M masses′ out → StepsPrint M step masses input (shown line ++ out)
   step-goes-on : {step : ℕ} {masses input masses′ out : List ℕ} (bs : List ℕ) (r : StepTaken) (line : Line)
-      → Reads (bytesFor stepHeadBits) (stepNeeds (M .faces) (M .seconds)) input bs → 0 < length bs
+      → Reads (bytesFor stepHeadBits) (stepNeeds (M .cells) (M .faces) (M .seconds)) input bs → 0 < length bs
       → StepTaking M masses bs r masses′ → Holds line (lineOf step r) → true ≡ goesOn r
       → StepsPrint M (step + 1) masses′ (drop (length bs) input) out → StepsPrint M step masses input (shown line ++ out)
 
@@ -73,7 +73,7 @@ pub data FieldPrints (M : Mesh) (input : List ℕ) : List ℕ → Type 0 where
       → Holds line (refusalLine letterF (number (refusal .cause)) (refusal .place)) → FieldPrints M input (shown line)
   field-accepted : {out : List ℕ} (bs masses : List ℕ) (sum : ℕ) (line : Line) → Reads (bytesFor fieldHeadBits) (fieldNeeds (M .cells)) input bs
       → FieldTaking (M .cells) (M .volumes) bs (table runCells (λ i. 0)) (total.Total sum) masses
-      → Holds line (stepLine 0 0 0 sum) → StepsPrint M 1 masses (drop (length bs) input) out → FieldPrints M input (shown line ++ out)
+      → Holds line (stepLine 0 0 0 sum 0) → StepsPrint M 1 masses (drop (length bs) input) out → FieldPrints M input (shown line ++ out)
 
 -- `main`: the mesh, in tables of zeros; refused, it has the only line.
 pub data Prints (input : List ℕ) : List ℕ → Type 0 where

@@ -36,7 +36,7 @@ abbrev pub fieldAt : Mesh → List ℕ → List ℕ
 fieldAt M input = recordAt (bytesFor fieldHeadBits) (fieldNeeds (M .cells)) input
 
 abbrev pub stepAt : Mesh → List ℕ → List ℕ
-stepAt M input = recordAt (bytesFor stepHeadBits) (stepNeeds (M .faces) (M .seconds)) input
+stepAt M input = recordAt (bytesFor stepHeadBits) (stepNeeds (M .cells) (M .faces) (M .seconds)) input
 
 -- what is left of the input after a record
 abbrev pub following : List ℕ → List ℕ → List ℕ
@@ -73,7 +73,7 @@ module _ (M : Mesh) where
   fieldSaid bs = fieldJudged (M .cells) (M .volumes) bs runCells andThen accepted (total (cellsOnly (M .cells) (M .volumes)) (massIn (massesIn bs (M .cells))))
 
   abbrev pub fromField : Outcome ℕ → List ℕ → List ℕ → List ℕ
-  fromField (accepted sum) masses input = stepLine 0 0 0 sum ++ stepsPrinted (length input) 1 masses input
+  fromField (accepted sum) masses input = stepLine 0 0 0 sum 0 ++ stepsPrinted (length input) 1 masses input
   fromField (refused i j) masses input = refusalLine letterF i j
 
   unfoldable pub fieldPrinted : List ℕ → List ℕ

@@ -28,7 +28,7 @@ endsRun c = endsBy (number c)
 
 -- A step's line: its number and what is printed of it, or why it is refused.
 abbrev pub stepText : ℕ → Outcome Printed → List ℕ
-stepText step (accepted p) = stepLine step (p .entered) (p .gone) (p .total)
+stepText step (accepted p) = stepLine step (p .entered) (p .gone) (p .total) (p .released)
 stepText step (refused cause place) = refusedStepLine step cause place
 
 abbrev pub lineOf : ℕ → StepTaken → List ℕ

@@ -45,7 +45,13 @@ pub fn taken_line(step: u64, taken: StepTaken) -> Line
 {
     match taken {
         StepTaken::Stepped(printed) => {
-            lines::step_line(step, printed.entered, printed.gone, printed.total)
+            lines::step_line(
+                step,
+                printed.entered,
+                printed.gone,
+                printed.total,
+                printed.released,
+            )
         }
         StepTaken::Refused(refusal) => {
             let cause = refusal.cause;

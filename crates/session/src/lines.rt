@@ -8,8 +8,8 @@ use text::word;
 ghost use Rattle.session.specs.Session.{Holds};
 ghost use Rattle.session.specs.Lines.{refusalLine, stepLine, refusedStepLine, boardLine};
 
-// The longest line: four numbers, each with a byte after it.
-pub const LINE: usize = 4 * (DIGITS + 1);
+// The longest line: five numbers, each with a byte after it.
+pub const LINE: usize = 5 * (DIGITS + 1);
 
 // `M` or `F`, number, place.
 pub fn refusal_line(letter: u8, number: u64, place: u64) -> Line
@@ -25,15 +25,16 @@ pub fn refusal_line(letter: u8, number: u64, place: u64) -> Line
     }
 }
 
-// Step number, in-mass, out-mass, total.
-pub fn step_line(step: u64, entered: u64, gone: u64, total: u64) -> Line
-    ensures { λ r. ⌜ Holds r (stepLine step entered gone total) ⌝ }
+// Step number, in-mass, out-mass, total, released mass.
+pub fn step_line(step: u64, entered: u64, gone: u64, total: u64, released: u64) -> Line
+    ensures { λ r. ⌜ Holds r (stepLine step entered gone total released) ⌝ }
 {
     let mut bytes = [0u8; LINE];
     let a = word(&mut bytes, 0, step, SPACE);
     let b = word(&mut bytes, a, entered, SPACE);
     let c = word(&mut bytes, b, gone, SPACE);
-    let used = word(&mut bytes, c, total, NEWLINE);
+    let d = word(&mut bytes, c, total, SPACE);
+    let used = word(&mut bytes, d, released, NEWLINE);
     Line {
         bytes: bytes,
         used: used,

@@ -65,6 +65,7 @@ pub fn check_step(words: &[u64], ints: &[i64]) {
         table(words, 10),
         amounts(words, ints, 11),
         table(words, 12),
+        table(words, 13),
     ));
 }
 
@@ -94,6 +95,7 @@ pub fn step(words: &[u64], ints: &[i64]) {
         table(words, 10),
         amounts(words, ints, 11),
         table(words, 12),
+        table(words, 13),
     );
 }
 
@@ -112,6 +114,7 @@ fn fill(
     given_next: &[u64],
     given_moved: &[i64],
     given_work: &[u64],
+    releases: &[u64],
 ) {
     let mut next = [0u64; ROOM];
     let mut moved = [0i64; ROOM];
@@ -133,6 +136,7 @@ fn fill(
         &mut next[..n],
         &mut moved[..m],
         &mut work[..w],
+        releases,
     ));
     show::numbers(b"; next", n, &next);
     show::amounts(b"; moved", m, &moved);

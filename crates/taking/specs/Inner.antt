@@ -8,5 +8,6 @@ use Rattle.taking.specs.declared.StepTaken.{StepTaken}
 use Rattle.taking.specs.Taking.{ownTables, Stepping}
 
 -- a step through water that has been read
-abbrev pub SteppedIn : Mesh → List ℕ → List ℤ → List ℕ → StepTaken → List ℕ → Type 0
-SteppedIn M masses fluxes outsides = Stepping M masses (verdict M masses (ownTables fluxes outsides)) (ownTables fluxes outsides)
+abbrev pub SteppedIn : Mesh → List ℕ → List ℤ → List ℕ → List ℕ → StepTaken → List ℕ → Type 0
+SteppedIn M masses fluxes outsides releases =
+    Stepping M masses (verdict M masses (ownTables fluxes outsides releases)) (ownTables fluxes outsides releases)

@@ -7,13 +7,14 @@ use lib.ListN.{length, replicate}
 use lib.IntN.{ℤ, pos}
 use Rattle.lists.specs.Table.{table, over}
 use Rattle.model.specs.Mesh.{Mesh, total, runCells, runFaces}
-use Rattle.model.specs.Step.{next, inMass, outMass}
+use Rattle.model.specs.Step.{next, inMass, outMass, releasedMass}
 use Rattle.model.specs.Causes.{Outcome, accepted, Verdict, _andThen_, taken, long, Call, callOf, workEntries, cellsOnly, inputOf, meshFieldVerdict, verdict}
 use Rattle.model.specs.Answers.{told}
 use Rattle.model.specs.Calls.{massIn}
 use Rattle.checks.specs.Total.{totalSaid}
 use Rattle.checks.specs.declared.TotalAnswer.{TotalAnswer}
-use Rattle.reading.specs.Reading.{massesIn, fluxesIn, outsidesIn, fieldRead, stepRead}
+use Rattle.heads.specs.Heads.{stepHeadVerdict}
+use Rattle.reading.specs.Reading.{massesIn, fluxesIn, outsidesIn, releasesIn, fieldRead, stepBodyVerdict}
 use Rattle.taking.specs.declared.Printed.{Printed}
 use Rattle.taking.specs.declared.StepTaken.{StepTaken}
 use Rattle.taking.specs.declared.StepTaken.the-variants.{Stepped, Refused}
@@ -38,17 +39,28 @@ unfoldable pub blank : {A : Type 0} → ℕ → A → List A
 blank n x = replicate n x
 
 -- "Tables lent to a step": the tables of results and work are the call's own, as long as the run's limits. What they held is no matter.
-abbrev pub ownTables : List ℤ → List ℕ → Call
-ownTables fluxes outsides = callOf fluxes outsides (blank runCells 0) (blank runFaces (pos 0)) (blank (workEntries runCells runFaces) 0)
+abbrev pub ownTables : List ℤ → List ℕ → List ℕ → Call
+ownTables fluxes outsides releases =
+    callOf fluxes outsides (blank runCells 0) (blank runFaces (pos 0)) (blank (workEntries runCells runFaces) 0) releases
 
 -- the step that a record holds
 abbrev pub stepIn : Mesh → List ℕ → Call
-stepIn M bs = ownTables (fluxesIn bs (M .faces)) (outsidesIn bs (M .faces) (M .seconds))
+stepIn M bs = ownTables (fluxesIn bs (M .faces)) (outsidesIn bs (M .faces) (M .seconds)) (releasesIn bs (M .cells) (M .faces) (M .seconds))
+
+-- The causes of reading, of a record of either kind; it is read into tables of the call's own, as long as the run's limits.
+unfoldable pub stepRecordFound : Mesh → List ℕ → Verdict
+stepRecordFound M bs =
+    stepHeadVerdict (M .cells) (M .faces) (M .seconds) bs andThen stepBodyVerdict (M .cells) (M .faces) (M .seconds) bs runFaces runFaces runCells
 
 module _ (M : Mesh) (masses : List ℕ) where
-  -- "The board and the run": in-mass, out-mass, and the total of the field that the step leaves
+  -- "The board and the run": in-mass, out-mass, and the total of the field that the step leaves; and S-6's released mass
   abbrev pub printedOf : Call → Printed
-  printedOf k = record { entered = inMass (inputOf M masses k); gone = outMass (inputOf M masses k); total = total M (next (inputOf M masses k)) }
+  printedOf k = record {
+    entered = inMass (inputOf M masses k);
+    gone = outMass (inputOf M masses k);
+    total = total M (next (inputOf M masses k));
+    released = releasedMass (M .cells) (k .releases);
+  }
 
   -- "A list of steps": the field after a step of which v is found
   abbrev pub massesAfter : Verdict → Call → List ℕ
@@ -58,9 +70,9 @@ module _ (M : Mesh) (masses : List ℕ) where
     pub answer : takenSaid r ≡ (v andThen accepted (printedOf k))
     pub masses-after : masses′ ≡ massesAfter v k
 
-  -- The causes of reading, then those of the step.
+  -- Then those of the step.
   unfoldable pub stepJudged : List ℕ → Verdict
-  stepJudged bs = stepRead (M .faces) (M .seconds) bs runFaces runFaces andThen verdict M masses (stepIn M bs)
+  stepJudged bs = stepRecordFound M bs andThen verdict M masses (stepIn M bs)
 
   abbrev pub StepTaking : List ℕ → StepTaken → List ℕ → Type 0
   StepTaking bs = Stepping (stepJudged bs) (stepIn M bs)

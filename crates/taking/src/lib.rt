@@ -12,6 +12,7 @@ pub struct Printed {
     pub entered: u64,
     pub gone: u64,
     pub total: u64,
+    pub released: u64,
 }
 
 // What a step record comes to.

@@ -1,10 +1,10 @@
 // A step record.
 use crate::Printed;
 use crate::StepTaken;
-use model::Answer;
 use model::RUN_CELLS;
 use model::RUN_FACES;
 use model::RUN_WORK;
+use reading::StepRead;
 use transport::StepAnswer;
 ghost use Rattle.model.specs.Mesh.{meshOf};
 ghost use Rattle.taking.specs.Taking.{StepTaking};
@@ -22,9 +22,10 @@ fn stepped(
     masses: &mut [u64],
     fluxes: &[i64],
     outsides: &[u64],
+    releases: &[u64],
 ) -> StepTaken
     ensures { λ r. ⌜ SteppedIn (meshOf cells faces (now (volumes .entry)) (now (firsts .entry)) (now (seconds .entry)) (now (shares .entry)) (now (reaches .entry)))
-        (now (masses .entry)) (now (fluxes .entry)) (now (outsides .entry)) r (now (masses .exit)) ⌝ }
+        (now (masses .entry)) (now (fluxes .entry)) (now (outsides .entry)) (now (releases .entry)) r (now (masses .exit)) ⌝ }
 {
     let mut next = [0u64; RUN_CELLS];
     let mut moved = [0i64; RUN_FACES];
@@ -43,6 +44,7 @@ fn stepped(
         &mut next,
         &mut moved,
         &mut work,
+        releases,
     );
     match answer {
         StepAnswer::Refused(refusal) => StepTaken::Refused(refusal),
@@ -52,6 +54,7 @@ fn stepped(
                 entered: crossing.entered,
                 gone: crossing.gone,
                 total: checks::field::sum_of(cells, masses),
+                released: crossing.released,
             })
         }
     }
@@ -74,8 +77,17 @@ pub fn take_step(
 {
     let mut fluxes = [0i64; RUN_FACES];
     let mut outsides = [0u64; RUN_FACES];
-    let read = reading::read_step(faces, seconds, bytes, &mut fluxes, &mut outsides);
-    if let Answer::Refused(refusal) = read {
+    let mut releases = [0u64; RUN_CELLS];
+    let read = reading::read_step(
+        cells,
+        faces,
+        seconds,
+        bytes,
+        &mut fluxes,
+        &mut outsides,
+        &mut releases,
+    );
+    if let StepRead::Refused(refusal) = read {
         return StepTaken::Refused(refusal);
     }
     stepped(
@@ -89,5 +101,6 @@ pub fn take_step(
         masses,
         &fluxes[..faces],
         &outsides[..faces],
+        &releases[..cells],
     )
 }

@@ -89,13 +89,14 @@ pub fn take_field(words: &[u64], records: &[u8]) {
     show::numbers(b"; masses", m, &masses);
 }
 
-// In-mass, out-mass and the total afterwards.
+// In-mass, out-mass, the total afterwards and the released mass.
 fn taken(said: StepTaken) {
     match said {
         StepTaken::Stepped(printed) => {
             answers::accepted_with(printed.entered);
             show::number(printed.gone);
             show::number(printed.total);
+            show::number(printed.released);
         }
         StepTaken::Refused(refusal) => answers::refused(refusal),
     }

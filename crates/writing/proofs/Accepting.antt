@@ -11,13 +11,13 @@ use Rattle.model.specs.Mesh.{maxCells, maxFaces}
 use Rattle.model.specs.Causes.{accepted, fine, countsWithin}
 use Rattle.model.proofs.Verdicts.{need-met, fine-each, each-fine, both-fine, past}
 use Rattle.bits.specs.Layout.{bytesFor}
-use Rattle.heads.specs.Layouts.{meshKind, fieldKind, stepKind, meshZeroBits, stepZeroBits, meshHeadBits, stepHeadBits, meshBits, fieldBits, stepBits, meshLength, fieldLength, stepLength}
-use Rattle.heads.specs.Heads.{kindIn, cellsIn, facesIn, stepFacesIn, meshHeadVerdict, fieldHeadVerdict, stepHeadVerdict}
-use Rattle.heads.proofs.HeadLaws.{field-head-says, step-head-says}
+use Rattle.heads.specs.Layouts.{meshKind, fieldKind, meshZeroBits, stepZeroBits, meshHeadBits, stepHeadBits, meshBits, fieldBits, stepBits, meshLength, fieldLength, stepLength}
+use Rattle.heads.specs.Heads.{kindIn, cellsIn, facesIn, stepFacesIn, isStepKind, meshHeadVerdict, fieldHeadVerdict, stepHeadVerdict}
+use Rattle.heads.proofs.HeadLaws.{field-head-says}
 use Rattle.zeros.specs.Zeros.{zeroBitGood, minusZero}
 use Rattle.reading.specs.Reading.{countsIn, meshBitGood, stepBitGood, meshBodyVerdict, fieldBodyVerdict, stepBodyVerdict, meshRead, fieldRead, stepRead}
 use Rattle.reading.specs.declared.MeshCounts.{MeshCounts}
-use Rattle.reading.proofs.ReadLaws.{both-past, mesh-tables-say, field-tables-say, step-tables-say, read-says}
+use Rattle.reading.proofs.ReadLaws.{both-past, mesh-tables-say, field-tables-say, step-tables-say, read-says, step-read-says}
 
 module _ (bs : List ℕ) where
   pub mesh-reads : (mostCells mostFaces v f s w k : ℕ) → kindIn bs ≡ meshKind
@@ -38,15 +38,19 @@ module _ (bs : List ℕ) where
       (both-past (both-past (both-past (both-past (need-met 11 0 (le-leb 2 (length bs) (omega (arith, len)))) (need-met 13 0 refl)) (need-met 13 1 (eq-eqb cells cells refl)))
       (need-met 1 0 (rw (le-leb 1 cells some) (le-leb cells maxCells few)))) (both-past (need-met 11 0 (eq-eqb _ _ len)) (need-met 2 5 (le-leb _ _ lm))))
 
-  pub step-reads : (faces : ℕ) (seconds : List ℕ) (u x : ℕ) → kindIn bs ≡ stepKind → stepFacesIn bs ≡ faces → faces ≤ maxFaces → faces ≤ length seconds → length bs ≡ bytesFor (stepBits faces seconds)
-      → faces ≤ u → faces ≤ x → ((i : ℕ) → (zeroBitGood bs stepZeroBits stepHeadBits (stepBits faces seconds) i && not (minusZero bs faces i)) ≡ true) → stepRead faces seconds bs u x ≡ fine
+  pub step-reads : (cells faces : ℕ) (seconds : List ℕ) (u x y : ℕ) → isStepKind (kindIn bs) ≡ true → stepFacesIn bs ≡ faces
+      → countsWithin maxCells maxFaces cells faces ≡ fine → faces ≤ length seconds → length bs ≡ bytesFor (stepBits (kindIn bs) cells faces seconds)
+      → faces ≤ u → faces ≤ x → cells ≤ y
+      → ((i : ℕ) → (zeroBitGood bs stepZeroBits stepHeadBits (stepBits (kindIn bs) cells faces seconds) i && not (minusZero bs faces i)) ≡ true)
+      → stepRead cells faces seconds bs u x y ≡ accepted (kindIn bs)
   unfolding stepRead stepHeadVerdict stepBodyVerdict stepLength stepBitGood bytesFor
-  step-reads faces seconds u x kind n few lent len lu lx good =
-      rw (kind, n)
+  step-reads cells faces seconds u x y kind n within lent len lu lx ly good =
+      past _
       (both-past
-      (both-past (both-past (both-past (both-past (need-met 11 0 (le-leb 4 (length bs) (omega (arith, len)))) (need-met 13 0 refl)) (need-met 13 1 (eq-eqb faces faces refl)))
-      (need-met 1 1 (le-leb _ _ few))) (need-met 2 2 (le-leb _ _ lent)))
-      (both-past (both-past (both-past (need-met 11 0 (eq-eqb _ _ len)) (need-met 2 6 (le-leb _ _ lu))) (need-met 2 7 (le-leb _ _ lx))) (fine-each 12 _ _ (λ i l. good i))))
+      (both-past (both-past (both-past (both-past (need-met 11 0 (le-leb 4 (length bs) (omega (arith, len)))) (need-met 13 0 kind))
+      (need-met 13 1 (eq-eqb _ _ n))) within) (need-met 2 2 (le-leb _ _ lent)))
+      (both-past (both-past (both-past (both-past (need-met 11 0 (eq-eqb _ _ len)) (need-met 2 6 (le-leb _ _ lu))) (need-met 2 7 (le-leb _ _ lx)))
+      (need-met 2 14 (le-leb _ _ ly))) (fine-each 12 _ _ (λ i l. good i))))
 
 -- an accepted mesh
 pub record MeshPassed (bs : List ℕ) (n : MeshCounts) : Type 0 where
@@ -81,24 +85,23 @@ field-passed cells bs m e =
     record { kind = h .kind; same-count = h .same-count; same-length = field-tables-say cells bs m (a .1) .same-length }
 
 -- an accepted step
-pub record StepPassed (faces : ℕ) (seconds bs : List ℕ) : Type 0 where
-  pub kind : kindIn bs ≡ stepKind
+pub record StepPassed (cells faces : ℕ) (seconds bs : List ℕ) : Type 0 where
   pub same-count : stepFacesIn bs ≡ faces
-  pub same-length : length bs ≡ bytesFor (stepBits faces seconds)
-  pub good : (i : ℕ) → i < 8 * length bs → zeroBitGood bs stepZeroBits stepHeadBits (stepBits faces seconds) i ≡ true
+  pub same-length : length bs ≡ bytesFor (stepBits (kindIn bs) cells faces seconds)
+  pub good : (i : ℕ) → i < 8 * length bs → zeroBitGood bs stepZeroBits stepHeadBits (stepBits (kindIn bs) cells faces seconds) i ≡ true
   pub plain : (i : ℕ) → i < 8 * length bs → not (minusZero bs faces i) ≡ true
 
-pub step-passed : (faces : ℕ) (seconds bs : List ℕ) (u x : ℕ) → stepRead faces seconds bs u x ≡ fine → StepPassed faces seconds bs
-unfolding stepRead stepBodyVerdict stepBitGood
-step-passed faces seconds bs u x e =
-    let a = both-fine _ _ e in
-    let b = both-fine _ _ (a .1) in
-    let h = step-head-says faces seconds bs (a .0) in
-    let both = each-fine 12 (8 * length bs) (λ i. zeroBitGood bs stepZeroBits stepHeadBits (stepBits faces seconds) i && not (minusZero bs faces i)) (b .1) in
+pub step-passed : (cells faces : ℕ) (seconds bs : List ℕ) (u x y : ℕ) {n : ℕ} → stepRead cells faces seconds bs u x y ≡ accepted n
+    → StepPassed cells faces seconds bs
+unfolding stepBodyVerdict stepBitGood
+step-passed cells faces seconds bs u x y e =
+    let r = step-read-says cells faces seconds bs u x y e in
+    let b = both-fine _ _ (r .body-fine) in
+    let end = stepBits (kindIn bs) cells faces seconds in
+    let both = each-fine 12 (8 * length bs) (λ i. zeroBitGood bs stepZeroBits stepHeadBits end i && not (minusZero bs faces i)) (b .1) in
     record {
-      kind = h .kind;
-      same-count = h .same-count;
-      same-length = step-tables-say faces seconds bs u x (b .0) .same-length;
-      good = λ i l. both-true (zeroBitGood bs stepZeroBits stepHeadBits (stepBits faces seconds) i) _ (both i l) .0;
-      plain = λ i l. both-true (zeroBitGood bs stepZeroBits stepHeadBits (stepBits faces seconds) i) _ (both i l) .1;
+      same-count = r .head .same-count;
+      same-length = step-tables-say (kindIn bs) cells faces seconds bs u x y (b .0) .same-length;
+      good = λ i l. both-true (zeroBitGood bs stepZeroBits stepHeadBits end i) _ (both i l) .0;
+      plain = λ i l. both-true (zeroBitGood bs stepZeroBits stepHeadBits end i) _ (both i l) .1;
     }

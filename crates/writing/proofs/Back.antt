@@ -23,12 +23,12 @@ use Rattle.bits.proofs.Layouts.{bytes-hold}
 use Rattle.sections.specs.Sections.{Section, Values, Has, rowsOf, sectionIn, shapeBits, place, fieldsOf, recordOf, Fits, valueIn, entryIn, columnIn}
 use Rattle.sections.proofs.Sections.{width-fields, length-record, value-back, column-back, record-again}
 use Rattle.sections.proofs.Bodies.{column-has}
-use Rattle.heads.specs.Layouts.{meshZeroBits, stepZeroBits, signBits, sizeBits, fluxBits, meshHeadBits, stepHeadBits, meshKind, fieldKind, stepKind, isRim, signOf, sizeOf, outsideOf, massOf, meshShape, meshValue, fieldShape, fieldValue, stepShape, stepValue, meshBits, fieldBits, stepBits, meshRecord, fieldRecord, stepRecord}
+use Rattle.heads.specs.Layouts.{meshZeroBits, stepZeroBits, signBits, sizeBits, fluxBits, meshHeadBits, stepHeadBits, meshKind, fieldKind, isRim, signOf, sizeOf, outsideOf, releaseOf, massOf, meshShape, meshValue, fieldShape, fieldValue, stepShape, stepValue, meshBits, fieldBits, stepBits, meshRecord, fieldRecord, stepRecord}
 use Rattle.heads.specs.Heads.{kindIn, cellsIn, facesIn, stepFacesIn}
 use Rattle.heads.proofs.Layouts.{mesh-kind-in, mesh-cells-in, mesh-faces-in, mesh-zeros-in, mesh-some, field-kind-in, field-cells-in, step-kind-in, step-faces-in, step-zeros-in, signs-in, sizes-in, step-some}
 use Rattle.zeros.specs.Zeros.{zeroBitGood, minusZero}
 use Rattle.zeros.proofs.ZeroLaws.{good-clear, zeros-good, minus-at, no-minus}
-use Rattle.reading.specs.Reading.{shapeIn, volumesIn, firstsIn, secondsIn, sharesIn, reachesIn, massesIn, minusIn, sizeIn, fluxesIn, outsidesIn}
+use Rattle.reading.specs.Reading.{shapeIn, volumesIn, firstsIn, secondsIn, sharesIn, reachesIn, massesIn, minusIn, sizeIn, fluxesIn, outsidesIn, stepShapeIn, releasesIn}
 use Rattle.reading.specs.declared.MeshCounts.{MeshCounts}
 use Rattle.writing.proofs.Accepting.{MeshPassed, FieldPassed, StepPassed}
 
@@ -112,46 +112,49 @@ no-minus-zero : (z : ℤ) → (eqb (cond (isNegative z) 1 0) 1 && eqb (size z) 0
 no-minus-zero (pos n) = refl
 no-minus-zero (negsuc n) = ne-eqb (suc n) 0 (λ e. omega arith)
 
--- a step
-module _ (faces : ℕ) (seconds : List ℕ) (fluxes : List ℤ) (outsides : List ℕ) where
+-- a step, of either kind
+module _ (kind cells faces : ℕ) (seconds : List ℕ) (fluxes : List ℤ) (outsides releases : List ℕ) where
   abbrev TS : List Section
-  TS = stepShape faces seconds
+  TS = stepShape kind cells faces seconds
 
   abbrev TV : Values
-  TV = stepValue faces fluxes outsides
+  TV = stepValue kind faces fluxes outsides releases
 
-  pub step-record-length : length (stepRecord faces seconds fluxes outsides) ≡ bytesFor (stepBits faces seconds)
+  abbrev TR : List ℕ
+  TR = stepRecord kind cells faces seconds fluxes outsides releases
+
+  pub step-record-length : length TR ≡ bytesFor (stepBits kind cells faces seconds)
   unfolding stepRecord
   step-record-length = length-record TS TV
 
-  module _ (fits : Fits (stepShape faces seconds) (stepValue faces fluxes outsides)) where
-    pub step-kind-back : kindIn (stepRecord faces seconds fluxes outsides) ≡ stepKind
+  module _ (fits : Fits (stepShape kind cells faces seconds) (stepValue kind faces fluxes outsides releases)) where
+    pub step-kind-back : kindIn TR ≡ kind
     unfolding stepRecord
-    step-kind-back = value-back TS TV fits 0 0 0 (column-has (step-kind-in faces seconds) 0 (omega arith))
+    step-kind-back = value-back TS TV fits 0 0 0 (column-has (step-kind-in kind cells faces seconds) 0 (omega arith))
 
-    pub step-faces-back : stepFacesIn (stepRecord faces seconds fluxes outsides) ≡ faces
+    pub step-faces-back : stepFacesIn TR ≡ faces
     unfolding stepRecord
-    step-faces-back = value-back TS TV fits 0 1 0 (column-has (step-faces-in faces seconds) 0 (omega arith))
+    step-faces-back = value-back TS TV fits 0 1 0 (column-has (step-faces-in kind cells faces seconds) 0 (omega arith))
 
-    step-zeros-back : bitsAt (stepRecord faces seconds fluxes outsides) (stepHeadBits - stepZeroBits) stepZeroBits ≡ 0
+    step-zeros-back : bitsAt TR (stepHeadBits - stepZeroBits) stepZeroBits ≡ 0
     unfolding stepRecord
-    step-zeros-back = value-back TS TV fits 0 2 0 (column-has (step-zeros-in faces seconds) 0 (omega arith))
+    step-zeros-back = value-back TS TV fits 0 2 0 (column-has (step-zeros-in kind cells faces seconds) 0 (omega arith))
 
-    sign-read : (f : ℕ) → f < faces → valueIn (stepRecord faces seconds fluxes outsides) TS 1 0 f ≡ signOf fluxes f
+    sign-read : (f : ℕ) → f < faces → valueIn TR TS 1 0 f ≡ signOf fluxes f
     unfolding stepRecord
-    sign-read f l = value-back TS TV fits 1 0 f (column-has (signs-in faces seconds) f l)
+    sign-read f l = value-back TS TV fits 1 0 f (column-has (signs-in kind cells faces seconds) f l)
 
-    size-read : (f : ℕ) → f < faces → valueIn (stepRecord faces seconds fluxes outsides) TS 1 1 f ≡ sizeOf fluxes f
+    size-read : (f : ℕ) → f < faces → valueIn TR TS 1 1 f ≡ sizeOf fluxes f
     unfolding stepRecord
-    size-read f l = value-back TS TV fits 1 1 f (column-has (sizes-in faces seconds) f l)
+    size-read f l = value-back TS TV fits 1 1 f (column-has (sizes-in kind cells faces seconds) f l)
 
-    pub fluxes-back : fluxesIn (stepRecord faces seconds fluxes outsides) faces ≡ table faces (λ f. getD fluxes f (pos 0))
+    pub fluxes-back : fluxesIn TR faces ≡ table faces (λ f. getD fluxes f (pos 0))
     unfolding fluxesIn
     fluxes-back = table-cong (pos 0) faces _ (λ f. getD fluxes f (pos 0))
         (λ f l. rw (sign-read f l, size-read f l, sign-back (isNegative (getD fluxes f (pos 0)))) (withSign-of (getD fluxes f (pos 0))))
 
     pub outsides-back : ((f : ℕ) → f < faces → isRim seconds f ≡ false → outsideOf outsides f ≡ 0)
-        → outsidesIn (stepRecord faces seconds fluxes outsides) faces seconds ≡ table faces (outsideOf outsides)
+        → outsidesIn TR faces seconds ≡ table faces (outsideOf outsides)
     unfolding outsidesIn stepRecord
     outsides-back none =
         column-back TS TV fits 2 0 (omega arith)
@@ -161,13 +164,19 @@ module _ (faces : ℕ) (seconds : List ℕ) (fluxes : List ℤ) (outsides : List
         go f l true e = refl
         go f l false e = sym (none f l e)
 
-    step-zeros-good : (i : ℕ) → zeroBitGood (stepRecord faces seconds fluxes outsides) stepZeroBits stepHeadBits (stepBits faces seconds) i ≡ true
-    unfolding stepRecord recordOf
-    step-zeros-good = zeros-good (fieldsOf TS TV) stepZeroBits stepHeadBits (shapeBits TS) (omega arith) (omega (arith, step-some faces seconds)) (width-fields TS TV) step-zeros-back
+    -- the shape that the head says is the one that was written
+    pub releases-back : releasesIn TR cells faces seconds ≡ table cells (releaseOf releases)
+    unfolding releasesIn stepRecord
+    releases-back = ap (λ (k : ℕ). columnIn TR (stepShape k cells faces seconds) 3 0) step-kind-back ∙ column-back TS TV fits 3 0 (omega arith)
 
-    minus-read : (f : ℕ) → f < faces → minusZero (stepRecord faces seconds fluxes outsides) faces (stepHeadBits + f * fluxBits) ≡ false
+    step-zeros-good : (i : ℕ) → zeroBitGood TR stepZeroBits stepHeadBits (stepBits kind cells faces seconds) i ≡ true
+    unfolding stepRecord recordOf
+    step-zeros-good = zeros-good (fieldsOf TS TV) stepZeroBits stepHeadBits (shapeBits TS) (omega arith)
+        (omega (arith, step-some kind cells faces seconds)) (width-fields TS TV) step-zeros-back
+
+    minus-read : (f : ℕ) → f < faces → minusZero TR faces (stepHeadBits + f * fluxBits) ≡ false
     minus-read f l =
-        let R = stepRecord faces seconds fluxes outsides in
+        let R = TR in
         let p : stepHeadBits + f * fluxBits ≡ place TS 1 0 f = omega arith in
         let q : stepHeadBits + f * fluxBits + signBits ≡ place TS 1 1 f = omega arith in
         minus-at R faces f l
@@ -175,13 +184,12 @@ module _ (faces : ℕ) (seconds : List ℕ) (fluxes : List ℤ) (outsides : List
         ∙ ap (λ (x : ℕ). eqb (valueIn R TS 1 0 f) 1 && eqb (bitsAt R x sizeBits) 0) q
         ∙ rw (sign-read f l, size-read f l) (no-minus-zero (getD fluxes f (pos 0)))
 
-    pub step-bits-good : (i : ℕ) → let R = stepRecord faces seconds fluxes outsides in
-        (zeroBitGood R stepZeroBits stepHeadBits (stepBits faces seconds) i && not (minusZero R faces i)) ≡ true
+    pub step-bits-good : (i : ℕ) → (zeroBitGood TR stepZeroBits stepHeadBits (stepBits kind cells faces seconds) i && not (minusZero TR faces i)) ≡ true
     step-bits-good i = rw (step-zeros-good i, minus i (decLt i (stepHeadBits + faces * fluxBits)))
       where
-        minus : (j : ℕ) → Dec (j < stepHeadBits + faces * fluxBits) → minusZero (stepRecord faces seconds fluxes outsides) faces j ≡ false
-        minus j (yes l) = no-minus (stepRecord faces seconds fluxes outsides) faces faces minus-read j (inl l)
-        minus j (no f) = no-minus (stepRecord faces seconds fluxes outsides) faces faces minus-read j (inr (omega arith))
+        minus : (j : ℕ) → Dec (j < stepHeadBits + faces * fluxBits) → minusZero TR faces j ≡ false
+        minus j (yes l) = no-minus TR faces faces minus-read j (inl l)
+        minus j (no f) = no-minus TR faces faces minus-read j (inr (omega arith))
 
 -- Packing undoes reading: tables that a reading filled, which may be longer, are packed into the same bytes.
 
@@ -252,15 +260,17 @@ sign-again (suc zero) zero l e = absurd (true≢false e)
 sign-again (suc zero) (suc n) l e = refl
 sign-again (suc (suc s)) n l e = absurd (omega arith)
 
-module _ (faces : ℕ) (seconds bs : List ℕ) (bytes : (j : ℕ) → getD bs j 0 < 256) (passed : StepPassed faces seconds bs) (fluxes : List ℤ) (outsides : List ℕ) where
+module _ (cells faces : ℕ) (seconds bs : List ℕ) (bytes : (j : ℕ) → getD bs j 0 < 256) (passed : StepPassed cells faces seconds bs)
+    (fluxes : List ℤ) (outsides releases : List ℕ) where
   abbrev SN : List Section
-  SN = stepShape faces seconds
+  SN = stepShapeIn bs cells faces seconds
 
   abbrev WN : Values
-  WN = stepValue faces (over (fluxesIn bs faces) fluxes) (over (outsidesIn bs faces seconds) outsides)
+  WN = stepValue (kindIn bs) faces (over (fluxesIn bs faces) fluxes) (over (outsidesIn bs faces seconds) outsides)
+      (over (releasesIn bs cells faces seconds) releases)
 
-  room : stepBits faces seconds ≤ 8 * length bs
-  room = omega (arith, passed .same-length, bytes-hold (stepBits faces seconds))
+  room : stepBits (kindIn bs) cells faces seconds ≤ 8 * length bs
+  room = omega (arith, passed .same-length, bytes-hold (stepBits (kindIn bs) cells faces seconds))
 
   plain : (f : ℕ) → f < faces → (eqb (valueIn bs SN 1 0 f) 1 && eqb (valueIn bs SN 1 1 f) 0) ≡ false
   plain f l =
@@ -269,18 +279,19 @@ module _ (faces : ℕ) (seconds bs : List ℕ) (bytes : (j : ℕ) → getD bs j 
       sym (minus-at bs faces f l
       ∙ ap (λ (x : ℕ). eqb (bitsAt bs x signBits) 1 && eqb (bitsAt bs (stepHeadBits + f * fluxBits + signBits) sizeBits) 0) p
       ∙ ap (λ (x : ℕ). eqb (valueIn bs SN 1 0 f) 1 && eqb (bitsAt bs x sizeBits) 0) q)
-      ∙ not-true _ (passed .plain (stepHeadBits + f * fluxBits) (omega (arith, room, step-some faces seconds)))
+      ∙ not-true _ (passed .plain (stepHeadBits + f * fluxBits) (omega (arith, room, step-some (kindIn bs) cells faces seconds)))
 
   flux-is : (f : ℕ) → f < faces → getD (over (fluxesIn bs faces) fluxes) f (pos 0) ≡ withSign (minusIn bs faces f) (sizeIn bs faces f)
   unfolding fluxesIn
   flux-is f l = getD-over faces (λ k. withSign (minusIn bs faces k) (sizeIn bs faces k)) fluxes (pos 0) f l
 
   step-zeros : 0 ≡ bitsAt bs (stepHeadBits - stepZeroBits) stepZeroBits
-  step-zeros = head-zeros bs stepZeroBits stepHeadBits (stepBits faces seconds) (omega arith) (omega (arith, step-some faces seconds)) room (passed .good)
+  step-zeros = head-zeros bs stepZeroBits stepHeadBits (stepBits (kindIn bs) cells faces seconds) (omega arith)
+      (omega (arith, step-some (kindIn bs) cells faces seconds)) room (passed .good)
 
   step-agrees : (k j i : ℕ) → Has SN k j i → WN k j i ≡ valueIn bs SN k j i
-  unfolding outsidesIn
-  step-agrees zero zero i h = let z : i ≡ 0 = omega (arith, h .below) in rw z (sym (passed .kind))
+  unfolding outsidesIn releasesIn
+  step-agrees zero zero i h = let z : i ≡ 0 = omega (arith, h .below) in rw z
   step-agrees zero (suc zero) i h = let z : i ≡ 0 = omega (arith, h .below) in rw z (sym (passed .same-count))
   step-agrees zero (suc (suc zero)) i h = let z : i ≡ 0 = omega (arith, h .below) in rw z step-zeros
   step-agrees zero (suc (suc (suc j))) i h = absurd (omega (arith, h .among))
@@ -291,9 +302,12 @@ module _ (faces : ℕ) (seconds bs : List ℕ) (bytes : (j : ℕ) → getD bs j 
   step-agrees (suc zero) (suc (suc j)) i h = absurd (omega (arith, h .among))
   step-agrees (suc (suc zero)) zero i h = entry-over bs SN 2 0 i outsides h
   step-agrees (suc (suc zero)) (suc j) i h = absurd (omega (arith, h .among))
-  step-agrees (suc (suc (suc k))) j i h = absurd (omega (arith, h .below))
+  step-agrees (suc (suc (suc zero))) zero i h = entry-over bs SN 3 0 i releases h
+  step-agrees (suc (suc (suc zero))) (suc j) i h = absurd (omega (arith, h .among))
+  step-agrees (suc (suc (suc (suc k)))) j i h = absurd (omega (arith, h .below))
 
-  pub step-again : stepRecord faces seconds (over (fluxesIn bs faces) fluxes) (over (outsidesIn bs faces seconds) outsides) ≡ bs
+  pub step-again : stepRecord (kindIn bs) cells faces seconds (over (fluxesIn bs faces) fluxes) (over (outsidesIn bs faces seconds) outsides)
+      (over (releasesIn bs cells faces seconds) releases) ≡ bs
   unfolding stepRecord
   step-again = record-again bs SN WN (passed .same-length) bytes
-      (λ i l m. good-clear bs stepZeroBits stepHeadBits (stepBits faces seconds) i (passed .good i m) (inr l)) step-agrees
+      (λ i l m. good-clear bs stepZeroBits stepHeadBits (stepBits (kindIn bs) cells faces seconds) i (passed .good i m) (inr l)) step-agrees

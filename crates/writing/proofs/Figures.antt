@@ -10,16 +10,17 @@ use Rattle.model.specs.Causes.{accepted, refused, fine, _andThen_, need, each, 
 use Rattle.bits.specs.Field.{bitAt, bitsAt}
 use Rattle.bits.specs.Layout.{spelled, bitsOf, widthOf, bytesFor, octet, packed, rows}
 use Rattle.sections.specs.Sections.{those, row, fieldsOf, recordOf}
-use Rattle.heads.specs.Layouts.{meshRecord, fieldRecord, stepRecord, meshLength, fieldLength, stepLength}
+use Rattle.heads.specs.Layouts.{releaseBits, meshRecord, fieldRecord, stepRecord, meshLength, fieldLength, stepLength}
 use Rattle.heads.specs.Heads.{meshHeadVerdict, fieldHeadVerdict, stepHeadVerdict}
 use Rattle.zeros.specs.Zeros.{zeroBitGood, minusZero}
-use Rattle.reading.specs.Reading.{volumesIn, massesIn, fluxesIn, outsidesIn, meshBitGood, stepBitGood, meshBodyVerdict, fieldBodyVerdict, stepBodyVerdict, meshRead, fieldRead, stepRead}
+use Rattle.reading.specs.Reading.{volumesIn, massesIn, fluxesIn, outsidesIn, releasesIn, meshBitGood, stepBitGood, meshBodyVerdict, fieldBodyVerdict, stepBodyVerdict, meshRead, fieldRead, stepRead}
+use Rattle.writing.specs.Writing.{releasesFit}
 
 -- the definitions that a figure computes
 everything : Unit {0}
 unfolding sum table _andThen_ need each countsWithin bitAt bitsAt spelled bitsOf widthOf bytesFor octet packed rows those row fieldsOf recordOf
-    meshRecord fieldRecord stepRecord meshLength fieldLength stepLength volumesIn massesIn fluxesIn outsidesIn zeroBitGood minusZero meshBitGood stepBitGood
-    meshHeadVerdict fieldHeadVerdict stepHeadVerdict meshBodyVerdict fieldBodyVerdict stepBodyVerdict meshRead fieldRead stepRead
+    meshRecord fieldRecord stepRecord meshLength fieldLength stepLength volumesIn massesIn fluxesIn outsidesIn releaseBits releasesIn zeroBitGood minusZero
+    meshBitGood stepBitGood meshHeadVerdict fieldHeadVerdict stepHeadVerdict meshBodyVerdict fieldBodyVerdict stepBodyVerdict meshRead fieldRead stepRead
 everything = tt
 
 -- one cell of V 100 and no faces, and its field with m = 99
@@ -53,15 +54,15 @@ pub mass-is-read : massesIn field 1 ≡ 99 ∷ []
 unfolding everything
 mass-is-read = refl
 
--- one face at the rim with U −50 and outside value 1000
+-- one cell and one face at the rim with U −50 and outside value 1000
 abbrev step : List ℕ
 step = 0x30 ∷ 0x00 ∷ 0x80 ∷ 0x00 ∷ 0x81 ∷ 0x90 ∷ 0x01 ∷ 0xf4 ∷ 0x00 ∷ []
 
-pub step-written : stepRecord 1 (4095 ∷ []) (negsuc 49 ∷ []) (1000 ∷ []) ≡ step
+pub step-written : stepRecord 3 1 1 (4095 ∷ []) (negsuc 49 ∷ []) (1000 ∷ []) (0 ∷ []) ≡ step
 unfolding everything
 step-written = refl
 
-pub step-is-read : stepRead 1 (4095 ∷ []) step 1 1 ≡ fine
+pub step-is-read : stepRead 1 1 (4095 ∷ []) step 1 1 1 ≡ accepted 3
 unfolding everything
 step-is-read = refl
 
@@ -72,6 +73,35 @@ flux-is-read = refl
 pub outside-is-read : outsidesIn step 1 (4095 ∷ []) ≡ 1000 ∷ []
 unfolding everything
 outside-is-read = refl
+
+pub no-release-is-read : releasesIn step 1 1 (4095 ∷ []) ≡ 0 ∷ []
+unfolding everything
+no-release-is-read = refl
+
+-- document 02, S-6: the same of kind 4 with a release of 5, which begins at once after the outside value
+abbrev outfall : List ℕ
+outfall = 0x40 ∷ 0x00 ∷ 0x80 ∷ 0x00 ∷ 0x81 ∷ 0x90 ∷ 0x01 ∷ 0xf4 ∷ 0x00 ∷ 0x00 ∷ 0x00 ∷ 0x02 ∷ 0x80 ∷ []
+
+pub outfall-written : stepRecord 4 1 1 (4095 ∷ []) (negsuc 49 ∷ []) (1000 ∷ []) (5 ∷ []) ≡ outfall
+unfolding everything
+outfall-written = refl
+
+pub outfall-is-read : stepRead 1 1 (4095 ∷ []) outfall 1 1 1 ≡ accepted 4
+unfolding everything
+outfall-is-read = refl
+
+pub release-is-read : releasesIn outfall 1 1 (4095 ∷ []) ≡ 5 ∷ []
+unfolding everything
+release-is-read = refl
+
+-- 18 of a writer: in kind 3 a release of 1, in kind 4 one of 2^32
+pub release-in-water : releasesFit 3 2 (0 ∷ 1 ∷ []) ≡ refused 18 1
+unfolding everything
+release-in-water = refl
+
+pub largest-release : releasesFit 4 2 (4294967295 ∷ 4294967296 ∷ []) ≡ refused 18 1
+unfolding everything
+largest-release = refl
 
 -- 11 before 13: three bytes, whatever they say
 pub too-short : meshRead 1023 2046 (0x20 ∷ 0x01 ∷ 0x00 ∷ []) 1 0 0 0 0 ≡ refused 11 0
@@ -109,9 +139,22 @@ pub no-table : meshRead 1023 2046 (0x10 ∷ 0x01 ∷ 0x00 ∷ 0x01 ∷ 0x06 ∷ 
 unfolding everything
 no-table = refl
 
-pub no-seconds : stepRead 1 [] (0x30 ∷ 0x00 ∷ 0x80 ∷ 0x00 ∷ []) 1 1 ≡ refused 2 2
+pub no-seconds : stepRead 1 1 [] (0x30 ∷ 0x00 ∷ 0x80 ∷ 0x00 ∷ []) 1 1 1 ≡ refused 2 2
 unfolding everything
 no-seconds = refl
+
+-- S-6: kind 5; 1 before the length, of cells too; and a short table of releases, in kind 3 too
+pub kind-five : stepRead 1 0 [] (0x50 ∷ 0x00 ∷ 0x00 ∷ 0x00 ∷ []) 0 0 1 ≡ refused 13 0
+unfolding everything
+kind-five = refl
+
+pub step-no-cells : stepRead 0 0 [] (0x40 ∷ 0x00 ∷ 0x00 ∷ 0x00 ∷ 0x00 ∷ []) 0 0 0 ≡ refused 1 0
+unfolding everything
+step-no-cells = refl
+
+pub no-releases : stepRead 1 0 [] (0x30 ∷ 0x00 ∷ 0x00 ∷ 0x00 ∷ []) 0 0 0 ≡ refused 2 14
+unfolding everything
+no-releases = refl
 
 -- 12: the head's last bit, a bit of the padding, and the minus of a flux of size 0
 pub head-bit : meshRead 1023 2046 (0x10 ∷ 0x01 ∷ 0x00 ∷ 0x01 ∷ 0x06 ∷ 0x41 ∷ []) 1 0 0 0 0 ≡ refused 12 31
@@ -122,6 +165,6 @@ pub padding-bit : meshRead 1023 2046 (0x10 ∷ 0x01 ∷ 0x00 ∷ 0x00 ∷ 0x06 �
 unfolding everything
 padding-bit = refl
 
-pub minus-bit : stepRead 1 (0 ∷ []) (0x30 ∷ 0x00 ∷ 0x80 ∷ 0x00 ∷ 0x80 ∷ 0x00 ∷ []) 1 1 ≡ refused 12 32
+pub minus-bit : stepRead 1 1 (0 ∷ []) (0x30 ∷ 0x00 ∷ 0x80 ∷ 0x00 ∷ 0x80 ∷ 0x00 ∷ []) 1 1 1 ≡ refused 12 32
 unfolding everything
 minus-bit = refl

@@ -7,7 +7,8 @@
 -- Writing undoes reading: the tables that a reader that accepted filled, written by a writer that accepts them, give the same bytes and
 -- their length (`mesh-rejoined`, `field-rejoined`, `step-rejoined`); above them the same of the records alone. (`bytes` says that the list is one of bytes.)
 use Prim.Native.Nat.{ℕ, _≤_, _<_, min}
-use mathlib.Core.Path.{_≡_, sym, ap, _∙_}
+use mathlib.Core.Path.{_≡_, refl, sym, ap, _∙_}
+use mathlib.Core.Bool.{true}
 use mathlib.Core.List.{List, [], _++_, append-nil}
 use native.Mathlib.Omega.{arith}
 use lib.IntN.{ℤ, pos}
@@ -20,17 +21,27 @@ use Rattle.model.specs.Answers.{said}
 use Rattle.model.specs.declared.Answer.{Answer}
 use Rattle.model.proofs.Verdicts.{both-fine}
 use Rattle.model.proofs.Accepted.{counted}
-use Rattle.heads.specs.Layouts.{massOf, outsideOf, meshRecord, fieldRecord, stepRecord, meshLength, fieldLength, stepLength}
-use Rattle.heads.specs.Heads.{cellsIn, facesIn}
-use Rattle.reading.specs.Reading.{meshIn, countsIn, volumesIn, firstsIn, secondsIn, sharesIn, reachesIn, massesIn, fluxesIn, outsidesIn, meshRead, fieldRead, stepRead}
-use Rattle.reading.specs.Answers.{meshSaid, MeshReading, FieldReading, StepReading}
+use Rattle.sections.specs.Sections.{Fits}
+use Rattle.heads.specs.Layouts.{kindNumber, massOf, outsideOf, releaseOf, stepShape, stepValue, meshRecord, fieldRecord, stepRecord, meshLength, fieldLength, stepLength}
+use Rattle.heads.specs.Heads.{kindIn, cellsIn, facesIn, isStepKind}
+use Rattle.heads.specs.declared.StepKind.{StepKind}
+use Rattle.heads.specs.declared.StepKind.the-variants.{Water, Outfalls}
+use Rattle.reading.specs.Reading.{meshIn, countsIn, volumesIn, firstsIn, secondsIn, sharesIn, reachesIn, massesIn, fluxesIn, outsidesIn, releasesIn, meshRead, fieldRead, stepRead}
+use Rattle.reading.specs.Answers.{meshSaid, stepSaid, MeshReading, FieldReading, StepReading}
 use Rattle.reading.specs.declared.MeshCounts.{MeshCounts}
 use Rattle.reading.specs.declared.MeshAnswer.{MeshAnswer}
+use Rattle.reading.specs.declared.StepRead.{StepRead}
+use Rattle.reading.proofs.ReadLaws.{step-read-says}
 use Rattle.writing.specs.declared.WriteAnswer.{WriteAnswer}
-use Rattle.writing.specs.Writing.{meshWriteVerdict, fieldWriteVerdict, stepWriteVerdict, writeSaid, Writing, MeshWriting, FieldWriting, StepWriting}
+use Rattle.writing.specs.Writing.{releasesFit, meshWriteVerdict, fieldWriteVerdict, stepWriteVerdict, writeSaid, Writing, MeshWriting, FieldWriting, StepWriting}
 use Rattle.writing.proofs.WidthLaws.{mesh-fits, masses-fit, field-fits, step-fits, none-inside}
 use Rattle.writing.proofs.Accepting.{mesh-reads, field-reads, step-reads, mesh-passed, field-passed, step-passed}
-use Rattle.writing.proofs.Back.{mesh-kind-back, mesh-cells-back, mesh-faces-back, mesh-record-length, mesh-bits-good, volumes-back, firsts-back, seconds-back, shares-back, reaches-back, field-kind-back, field-cells-back, field-record-length, masses-back, step-kind-back, step-faces-back, step-record-length, step-bits-good, fluxes-back, outsides-back, mesh-again, field-again, step-again}
+use Rattle.writing.proofs.Back.{mesh-kind-back, mesh-cells-back, mesh-faces-back, mesh-record-length, mesh-bits-good, volumes-back, firsts-back, seconds-back, shares-back, reaches-back, field-kind-back, field-cells-back, field-record-length, masses-back, step-kind-back, step-faces-back, step-record-length, step-bits-good, fluxes-back, outsides-back, releases-back, mesh-again, field-again, step-again}
+
+-- each kind of a step is one that its reader takes
+step-kind : (kind : StepKind) → isStepKind (kindNumber kind) ≡ true
+step-kind Water = refl
+step-kind Outfalls = refl
 
 -- Reading undoes writing: a mesh.
 module _ (M : Mesh) (within : counts M ≡ fine) (passes : meshValues M ≡ fine) where
@@ -78,25 +89,39 @@ module _ (M : Mesh) (within : counts M ≡ fine) (passes : meshValues M ≡ fine
   pub masses-read-back : massesIn (fieldRecord (M .cells) field) (M .cells) ≡ table (M .cells) (λ c. getD field c 0)
   masses-read-back = masses-back (M .cells) field (field-fits (M .cells) field (counted M within .few-cells) (masses-fit M passes field salt))
 
--- A step through its faces.
+-- A step on its cells and faces, of either kind.
 module _ (M : Mesh) (within : counts M ≡ fine) (passes : meshValues M ≡ fine) (field : List ℕ) (k : Call)
-    (outsides-pass : each 7 (M .faces) (outsideGood M field k) ≡ fine) (fluxes-pass : each 8 (M .faces) (fluxGood M field k) ≡ fine) where
-  pub step-read-back : (fluxes outsides : ℕ) → M .faces ≤ length (M .seconds) → M .faces ≤ fluxes → M .faces ≤ outsides
-      → stepRead (M .faces) (M .seconds) (stepRecord (M .faces) (M .seconds) (k .fluxes) (k .outsides)) fluxes outsides ≡ fine
-  step-read-back fluxes outsides ls lu lx =
-      let n = counted M within in
-      let s = step-fits M passes field k outsides-pass fluxes-pass (n .few-faces) in
-      step-reads (stepRecord (M .faces) (M .seconds) (k .fluxes) (k .outsides)) (M .faces) (M .seconds) fluxes outsides
-      (step-kind-back (M .faces) (M .seconds) (k .fluxes) (k .outsides) s) (step-faces-back (M .faces) (M .seconds) (k .fluxes) (k .outsides) s) (n .few-faces) ls
-      (step-record-length (M .faces) (M .seconds) (k .fluxes) (k .outsides)) lu lx (step-bits-good (M .faces) (M .seconds) (k .fluxes) (k .outsides) s)
+    (outsides-pass : each 7 (M .faces) (outsideGood M field k) ≡ fine) (fluxes-pass : each 8 (M .faces) (fluxGood M field k) ≡ fine)
+    (kind : StepKind) (releases-pass : releasesFit (kindNumber kind) (M .cells) (k .releases) ≡ fine) where
+  abbrev SR : List ℕ
+  SR = stepRecord (kindNumber kind) (M .cells) (M .faces) (M .seconds) (k .fluxes) (k .outsides) (k .releases)
 
-  pub fluxes-read-back : fluxesIn (stepRecord (M .faces) (M .seconds) (k .fluxes) (k .outsides)) (M .faces) ≡ table (M .faces) (λ f. getD (k .fluxes) f (pos 0))
-  fluxes-read-back = fluxes-back (M .faces) (M .seconds) (k .fluxes) (k .outsides) (step-fits M passes field k outsides-pass fluxes-pass (counted M within .few-faces))
+  fits : Fits (stepShape (kindNumber kind) (M .cells) (M .faces) (M .seconds)) (stepValue (kindNumber kind) (M .faces) (k .fluxes) (k .outsides) (k .releases))
+  fits = step-fits M passes field k outsides-pass fluxes-pass kind releases-pass (counted M within .few-faces)
 
-  pub outsides-read-back : outsidesIn (stepRecord (M .faces) (M .seconds) (k .fluxes) (k .outsides)) (M .faces) (M .seconds) ≡ table (M .faces) (λ f. getD (k .outsides) f 0)
+  kind-back : kindIn SR ≡ kindNumber kind
+  kind-back = step-kind-back (kindNumber kind) (M .cells) (M .faces) (M .seconds) (k .fluxes) (k .outsides) (k .releases) fits
+
+  pub step-read-back : (fluxes outsides releases : ℕ) → M .faces ≤ length (M .seconds) → M .faces ≤ fluxes → M .faces ≤ outsides → M .cells ≤ releases
+      → stepRead (M .cells) (M .faces) (M .seconds) SR fluxes outsides releases ≡ accepted (kindNumber kind)
+  unfolding counts
+  step-read-back fluxes outsides releases ls lu lx ly =
+      step-reads SR (M .cells) (M .faces) (M .seconds) fluxes outsides releases (rw kind-back (step-kind kind))
+      (step-faces-back (kindNumber kind) (M .cells) (M .faces) (M .seconds) (k .fluxes) (k .outsides) (k .releases) fits) within ls
+      (rw kind-back (step-record-length (kindNumber kind) (M .cells) (M .faces) (M .seconds) (k .fluxes) (k .outsides) (k .releases))) lu lx ly
+      (λ i. rw kind-back (step-bits-good (kindNumber kind) (M .cells) (M .faces) (M .seconds) (k .fluxes) (k .outsides) (k .releases) fits i))
+      ∙ ap accepted kind-back
+
+  pub fluxes-read-back : fluxesIn SR (M .faces) ≡ table (M .faces) (λ f. getD (k .fluxes) f (pos 0))
+  fluxes-read-back = fluxes-back (kindNumber kind) (M .cells) (M .faces) (M .seconds) (k .fluxes) (k .outsides) (k .releases) fits
+
+  pub outsides-read-back : outsidesIn SR (M .faces) (M .seconds) ≡ table (M .faces) (λ f. getD (k .outsides) f 0)
   outsides-read-back =
-      outsides-back (M .faces) (M .seconds) (k .fluxes) (k .outsides) (step-fits M passes field k outsides-pass fluxes-pass (counted M within .few-faces))
+      outsides-back (kindNumber kind) (M .cells) (M .faces) (M .seconds) (k .fluxes) (k .outsides) (k .releases) fits
       (none-inside M passes field k outsides-pass fluxes-pass)
+
+  pub releases-read-back : releasesIn SR (M .cells) (M .faces) (M .seconds) ≡ table (M .cells) (λ c. getD (k .releases) c 0)
+  releases-read-back = releases-back (kindNumber kind) (M .cells) (M .faces) (M .seconds) (k .fluxes) (k .outsides) (k .releases) fits
 
 -- A writing that answered a length: its causes found nothing, and the bytes up to that length are the record's.
 wrote : {v : Verdict} {N : ℕ} {rec bytes bytes′ : List ℕ} {r : WriteAnswer} {n : ℕ} → Writing v N rec bytes r bytes′ → writeSaid r ≡ accepted n → length rec ≡ N → (v ≡ fine) × (take n bytes′ ≡ rec)
@@ -159,32 +184,40 @@ field-joined M field {bytes} {bytes′} {r} {n} w e {masses} {masses′} {a} lm 
     let q : FieldReading fine (M .cells) (fieldRecord (M .cells) field) masses a masses′ = rw back at (rw t at read) in
     (q .answer, q .masses-read ∙ ap (λ xs. over xs masses) (masses-read-back M (p .0) (p .1) field (p .2)))
 
--- A step: its reader is lent the seconds that its writer was lent.
-step-causes : (M : Mesh) (fluxes : List ℤ) (outsides : List ℕ) (room : ℕ) → stepWriteVerdict M fluxes outsides room ≡ fine
-    → (counts M ≡ fine) × (meshValues M ≡ fine) × (each 7 (M .faces) (outsideGood M [] (waterOf fluxes outsides)) ≡ fine) × (each 8 (M .faces) (fluxGood M [] (waterOf fluxes outsides)) ≡ fine)
+-- A step: its reader is lent the seconds that its writer was lent, and answers the kind that its writer was told.
+step-causes : (M : Mesh) (kind : ℕ) (fluxes : List ℤ) (outsides releases : List ℕ) (room : ℕ)
+    → stepWriteVerdict M kind fluxes outsides releases room ≡ fine → let k = waterOf fluxes outsides releases in (counts M ≡ fine) × (meshValues M ≡ fine)
+    × (each 7 (M .faces) (outsideGood M [] k) ≡ fine) × (each 8 (M .faces) (fluxGood M [] k) ≡ fine) × (releasesFit kind (M .cells) releases ≡ fine)
 unfolding stepWriteVerdict
-step-causes M fluxes outsides room e =
+step-causes M kind fluxes outsides releases room e =
     let a = both-fine _ _ e in
     let b = both-fine _ _ (a .0) in
-    let d = both-fine _ _ (b .0) in
-    let f = both-fine _ _ (d .0) in
-    (both-fine _ _ (both-fine _ _ (both-fine _ _ (f .0) .0) .0) .0, d .1, b .1, a .1)
+    let c = both-fine _ _ (b .0) in
+    let d = both-fine _ _ (c .0) in
+    let f = both-fine _ _ (both-fine _ _ (d .0) .0) in
+    (both-fine _ _ (both-fine _ _ (both-fine _ _ (f .0) .0) .0) .0, d .1, b .1, a .1, c .1)
 
-pub step-joined : (M : Mesh) (fluxes : List ℤ) (outsides : List ℕ) {bytes bytes′ : List ℕ} {r : WriteAnswer} {n : ℕ} → StepWriting M fluxes outsides bytes r bytes′ → writeSaid r ≡ accepted n
-    → {us us′ : List ℤ} {xs xs′ : List ℕ} {a : Answer} → M .faces ≤ length (M .seconds) → M .faces ≤ length us → M .faces ≤ length xs
-    → StepReading (stepRead (M .faces) (M .seconds) (take n bytes′) (length us) (length xs)) (M .faces) (M .seconds) (take n bytes′) us xs a us′ xs′
-    → (said a ≡ fine) × (us′ ≡ over (table (M .faces) (λ f. getD fluxes f (pos 0))) us) × (xs′ ≡ over (table (M .faces) (outsideOf outsides)) xs)
+pub step-joined : (M : Mesh) (kind : StepKind) (fluxes : List ℤ) (outsides releases : List ℕ) {bytes bytes′ : List ℕ} {r : WriteAnswer} {n : ℕ}
+    → StepWriting M (kindNumber kind) fluxes outsides releases bytes r bytes′ → writeSaid r ≡ accepted n
+    → {us us′ : List ℤ} {xs xs′ ys ys′ : List ℕ} {a : StepRead}
+    → M .faces ≤ length (M .seconds) → M .faces ≤ length us → M .faces ≤ length xs → M .cells ≤ length ys
+    → StepReading (stepRead (M .cells) (M .faces) (M .seconds) (take n bytes′) (length us) (length xs) (length ys))
+    (M .cells) (M .faces) (M .seconds) (take n bytes′) us xs ys a us′ xs′ ys′
+    → (stepSaid a ≡ accepted (kindNumber kind)) × (us′ ≡ over (table (M .faces) (λ f. getD fluxes f (pos 0))) us)
+    × (xs′ ≡ over (table (M .faces) (outsideOf outsides)) xs) × (ys′ ≡ over (table (M .cells) (releaseOf releases)) ys)
 unfolding stepLength
-step-joined M fluxes outsides {bytes} {bytes′} {r} {n} w e {us} {us′} {xs} {xs′} {a} ls lu lx read =
-    let v : stepWriteVerdict M fluxes outsides (length bytes) ≡ fine = both-fine _ _ (sym (w .answer) ∙ e) .0 in
-    let p = step-causes M fluxes outsides (length bytes) v in
-    let k : Call = waterOf fluxes outsides in
-    let t = wrote w e (step-record-length (M .faces) (M .seconds) fluxes outsides) .1 in
-    let back = step-read-back M (p .0) (p .1) [] k (p .2) (p .3) (length us) (length xs) ls lu lx in
-    let q : StepReading fine (M .faces) (M .seconds) (stepRecord (M .faces) (M .seconds) fluxes outsides) us xs a us′ xs′ = rw back at (rw t at read) in (
+step-joined M kind fluxes outsides releases {bytes} {bytes′} {r} {n} w e {us} {us′} {xs} {xs′} {ys} {ys′} {a} ls lu lx ly read =
+    let v : stepWriteVerdict M (kindNumber kind) fluxes outsides releases (length bytes) ≡ fine = both-fine _ _ (sym (w .answer) ∙ e) .0 in
+    let p = step-causes M (kindNumber kind) fluxes outsides releases (length bytes) v in
+    let k : Call = waterOf fluxes outsides releases in
+    let R = stepRecord (kindNumber kind) (M .cells) (M .faces) (M .seconds) fluxes outsides releases in
+    let t = wrote w e (step-record-length (kindNumber kind) (M .cells) (M .faces) (M .seconds) fluxes outsides releases) .1 in
+    let back = step-read-back M (p .0) (p .1) [] k (p .2) (p .3) kind (p .4) (length us) (length xs) (length ys) ls lu lx ly in
+    let q : StepReading (accepted (kindNumber kind)) (M .cells) (M .faces) (M .seconds) R us xs ys a us′ xs′ ys′ = rw back at (rw t at read) in (
       q .answer,
-      q .fluxes-read ∙ ap (λ zs. over zs us) (fluxes-read-back M (p .0) (p .1) [] k (p .2) (p .3)),
-      q .outsides-read ∙ ap (λ zs. over zs xs) (outsides-read-back M (p .0) (p .1) [] k (p .2) (p .3)),
+      q .fluxes-read ∙ ap (λ zs. over zs us) (fluxes-read-back M (p .0) (p .1) [] k (p .2) (p .3) kind (p .4)),
+      q .outsides-read ∙ ap (λ zs. over zs xs) (outsides-read-back M (p .0) (p .1) [] k (p .2) (p .3) kind (p .4)),
+      q .releases-read ∙ ap (λ zs. over zs ys) (releases-read-back M (p .0) (p .1) [] k (p .2) (p .3) kind (p .4)),
     )
 
 -- a table that was written over none
@@ -202,9 +235,11 @@ module _ (bs : List ℕ) (bytes : (j : ℕ) → getD bs j 0 < 256) where
   pub field-written-back : (cells m : ℕ) → fieldRead cells bs m ≡ fine → fieldRecord cells (massesIn bs cells) ≡ bs
   field-written-back cells m e = rw (over-nil (massesIn bs cells)) at (field-again cells bs bytes (field-passed cells bs m e) [])
 
-  pub step-written-back : (faces : ℕ) (seconds : List ℕ) (u x : ℕ) → stepRead faces seconds bs u x ≡ fine → stepRecord faces seconds (fluxesIn bs faces) (outsidesIn bs faces seconds) ≡ bs
-  step-written-back faces seconds u x e =
-      rw (over-nil (fluxesIn bs faces), over-nil (outsidesIn bs faces seconds)) at (step-again faces seconds bs bytes (step-passed faces seconds bs u x e) [] [])
+  pub step-written-back : (cells faces : ℕ) (seconds : List ℕ) (u x y : ℕ) {n : ℕ} → stepRead cells faces seconds bs u x y ≡ accepted n
+      → stepRecord (kindIn bs) cells faces seconds (fluxesIn bs faces) (outsidesIn bs faces seconds) (releasesIn bs cells faces seconds) ≡ bs
+  step-written-back cells faces seconds u x y e =
+      rw (over-nil (fluxesIn bs faces), over-nil (outsidesIn bs faces seconds), over-nil (releasesIn bs cells faces seconds)) at
+      (step-again cells faces seconds bs bytes (step-passed cells faces seconds bs u x y e) [] [] [])
 
   -- A writing of what was read: it answers the length of the record, and leaves its bytes.
   rewrote : {v : Verdict} {N : ℕ} {rec old new : List ℕ} {r : WriteAnswer} {k : ℕ} → Writing v N rec old r new → writeSaid r ≡ accepted k
@@ -245,14 +280,17 @@ module _ (bs : List ℕ) (bytes : (j : ℕ) → getD bs j 0 < 256) where
       let same : fieldRecord (M .cells) masses′ ≡ bs = rw (q .masses-read) (field-again (M .cells) bs bytes (field-passed (M .cells) bs (length masses) came) masses) in
       rewrote w e same (field-record-length (M .cells) masses′)
 
-  pub step-rejoined : (M : Mesh) {us us′ : List ℤ} {xs xs′ : List ℕ} {a : Answer} {old new : List ℕ} {r : WriteAnswer} {k : ℕ}
-      → StepReading (stepRead (M .faces) (M .seconds) bs (length us) (length xs)) (M .faces) (M .seconds) bs us xs a us′ xs′
-      → said a ≡ fine → StepWriting M us′ xs′ old r new → writeSaid r ≡ accepted k
+  -- the writer is told the kind that the reader answered
+  pub step-rejoined : (M : Mesh) {us us′ : List ℤ} {xs xs′ ys ys′ : List ℕ} {a : StepRead} {n : ℕ} {old new : List ℕ} {r : WriteAnswer} {k : ℕ}
+      → StepReading (stepRead (M .cells) (M .faces) (M .seconds) bs (length us) (length xs) (length ys))
+      (M .cells) (M .faces) (M .seconds) bs us xs ys a us′ xs′ ys′ → stepSaid a ≡ accepted n → StepWriting M n us′ xs′ ys′ old r new → writeSaid r ≡ accepted k
       → (k ≡ length bs) × (new ≡ over bs old)
   unfolding stepLength
-  step-rejoined M {us} {us′} {xs} {xs′} {a} {old} {new} {r} {k} read told w e =
+  step-rejoined M {us} {us′} {xs} {xs′} {ys} {ys′} {a} {n} {old} {new} {r} {k} read told w e =
       let came = sym (read .answer) ∙ told in
-      let q : StepReading fine (M .faces) (M .seconds) bs us xs a us′ xs′ = rw came at read in
-      let same : stepRecord (M .faces) (M .seconds) us′ xs′ ≡ bs =
-      rw (q .fluxes-read, q .outsides-read) (step-again (M .faces) (M .seconds) bs bytes (step-passed (M .faces) (M .seconds) bs (length us) (length xs) came) us xs) in
-      rewrote w e same (step-record-length (M .faces) (M .seconds) us′ xs′)
+      let says = step-read-says (M .cells) (M .faces) (M .seconds) bs (length us) (length xs) (length ys) came in
+      let passed = step-passed (M .cells) (M .faces) (M .seconds) bs (length us) (length xs) (length ys) came in
+      let q : StepReading (accepted n) (M .cells) (M .faces) (M .seconds) bs us xs ys a us′ xs′ ys′ = rw came at read in
+      let same : stepRecord n (M .cells) (M .faces) (M .seconds) us′ xs′ ys′ ≡ bs =
+      rw (says .kind-is, q .fluxes-read, q .outsides-read, q .releases-read) (step-again (M .cells) (M .faces) (M .seconds) bs bytes passed us xs ys) in
+      rewrote w e same (step-record-length n (M .cells) (M .faces) (M .seconds) us′ xs′ ys′)

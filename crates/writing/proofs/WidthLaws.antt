@@ -1,4 +1,4 @@
--- Values that pass document 01's causes 3 to 8 fit the widths of their fields.
+-- Values that pass document 01's causes 3 to 8, and releases that pass 18, fit the widths of their fields.
 use Prim.Native.Nat.{ℕ, zero, suc, _+_, _/_, _^_, _≤_, _<_}
 use mathlib.Core.Path.{_≡_}
 use mathlib.Core.Bool.{Bool, true, false, cond, _&&_}
@@ -7,7 +7,7 @@ use native.Mathlib.Nat.{div-lt-iff-lt-mul}
 use native.Mathlib.Omega.{arith}
 use lib.IntN.{pos}
 use lib.ListN.{getD}
-use borrow.Author.Tests.{leb-true}
+use borrow.Author.Tests.{leb-true, ltb-true}
 use Rattle.lists.proofs.Tests.{Same, same, other, same?}
 use Rattle.signed.specs.Sign.{isNegative}
 use Rattle.model.specs.Mesh.{Mesh, volume, second, reach, atRim, rim, maxCells, maxFaces, maxVolume, maxConcentration, maxRimFlux}
@@ -16,7 +16,10 @@ use Rattle.model.proofs.Accepted.{mesh-fit, field-fit, water-fit, counted}
 use Rattle.model.proofs.Verdicts.{each-fine}
 use Rattle.sections.specs.Sections.{Fits}
 use Rattle.sections.proofs.Columns.{sign-fits}
-use Rattle.heads.specs.Layouts.{endBits, massBits, sizeBits, outsideBits, isRim, massOf, sizeOf, outsideOf, meshShape, meshValue, fieldShape, fieldValue, stepShape, stepValue}
+use Rattle.heads.specs.Layouts.{kindNumber, kindBits, releaseBits, releaseOf, endBits, massBits, sizeBits, outsideBits, isRim, massOf, sizeOf, outsideOf, meshShape, meshValue, fieldShape, fieldValue, stepShape, stepValue}
+use Rattle.heads.specs.declared.StepKind.{StepKind}
+use Rattle.heads.specs.declared.StepKind.the-variants.{Water, Outfalls}
+use Rattle.writing.specs.Writing.{releaseFits, releasesFit}
 
 module _ (M : Mesh) (within : counts M ≡ fine) (passes : meshValues M ≡ fine) where
   second-fits : (f : ℕ) → f < M .faces → {b : Bool} → Same (second M f) rim b → second M f < 2 ^ endBits
@@ -74,14 +77,31 @@ module _ (M : Mesh) (passes : meshValues M ≡ fine) (field : List ℕ) (k : Cal
       let h : getD (k .outsides) f 0 ≤ 0 = rw e at g in
       omega arith
 
-  pub step-fits : M .faces ≤ maxFaces → Fits (stepShape (M .faces) (M .seconds)) (stepValue (M .faces) (k .fluxes) (k .outsides))
-  step-fits few zero zero i h = omega arith
+-- both kinds of a step fit the head's first field
+pub kind-fits : (kind : StepKind) → kindNumber kind < 2 ^ kindBits
+kind-fits Water = omega arith
+kind-fits Outfalls = omega arith
+
+pub releases-fit : (kind : StepKind) (cells : ℕ) (releases : List ℕ) → releasesFit (kindNumber kind) cells releases ≡ fine
+    → (c : ℕ) → c < cells → releaseOf releases c < 2 ^ releaseBits (kindNumber kind)
+releases-fit kind cells releases e c l =
+    ltb-true _ _ (each-fine 18 cells (λ i. releaseFits (kindNumber kind) (releaseOf releases i)) e c l)
+
+-- a step of a kind that its head can say, whose releases fit
+module _ (M : Mesh) (passes : meshValues M ≡ fine) (field : List ℕ) (k : Call)
+    (outsides-pass : each 7 (M .faces) (outsideGood M field k) ≡ fine) (fluxes-pass : each 8 (M .faces) (fluxGood M field k) ≡ fine)
+    (kind : StepKind) (releases-pass : releasesFit (kindNumber kind) (M .cells) (k .releases) ≡ fine) where
+  pub step-fits : M .faces ≤ maxFaces
+      → Fits (stepShape (kindNumber kind) (M .cells) (M .faces) (M .seconds)) (stepValue (kindNumber kind) (M .faces) (k .fluxes) (k .outsides) (k .releases))
+  step-fits few zero zero i h = kind-fits kind
   step-fits few zero (suc zero) i h = omega arith
   step-fits few zero (suc (suc zero)) i h = omega arith
   step-fits few zero (suc (suc (suc j))) i h = absurd (omega (arith, h .among))
   step-fits few (suc zero) zero i h = sign-fits (isNegative (getD (k .fluxes) i (pos 0)))
-  step-fits few (suc zero) (suc zero) i h = sizes-fit i (h .below)
+  step-fits few (suc zero) (suc zero) i h = sizes-fit M passes field k outsides-pass fluxes-pass i (h .below)
   step-fits few (suc zero) (suc (suc j)) i h = absurd (omega (arith, h .among))
-  step-fits few (suc (suc zero)) zero i h = outsides-fit i (h .below)
+  step-fits few (suc (suc zero)) zero i h = outsides-fit M passes field k outsides-pass fluxes-pass i (h .below)
   step-fits few (suc (suc zero)) (suc j) i h = absurd (omega (arith, h .among))
-  step-fits few (suc (suc (suc n))) j i h = absurd (omega (arith, h .below))
+  step-fits few (suc (suc (suc zero))) zero i h = releases-fit kind (M .cells) (k .releases) releases-pass i (h .below)
+  step-fits few (suc (suc (suc zero))) (suc j) i h = absurd (omega (arith, h .among))
+  step-fits few (suc (suc (suc (suc n)))) j i h = absurd (omega (arith, h .below))

@@ -6,14 +6,15 @@ use lib.ListN.{length}
 use lib.IntN.{ℤ}
 use borrow.Author.Tests.{leb-true}
 use Rattle.model.specs.Mesh.{Mesh}
-use Rattle.model.specs.Causes.{Verdict, fine, _andThen_, each, long, counts, meshTables, meshValues, outsideGood, fluxGood, bytesLong, waterOf}
+use Rattle.model.specs.Causes.{Verdict, fine, _andThen_, each, Call, long, counts, meshTables, meshValues, outsideGood, fluxGood, bytesLong, waterOf}
 use Rattle.model.specs.Answers.{told}
 use Rattle.model.specs.declared.Refusal.{Refusal}
 use Rattle.model.proofs.Verdicts.{both-fine, need-fine, past, andThen-assoc}
 use Rattle.model.proofs.Accepted.{counted, mesh-lent, field-lent}
-use Rattle.heads.specs.Layouts.{stepLength}
+use Rattle.heads.specs.Layouts.{kindNumber, stepLength}
+use Rattle.heads.specs.declared.StepKind.{StepKind}
 use Rattle.writing.specs.declared.WriteAnswer.the-variants as write
-use Rattle.writing.specs.Writing.{meshWriteVerdict, fieldWriteVerdict, stepWriteVerdict, Writing}
+use Rattle.writing.specs.Writing.{releasesFit, meshWriteVerdict, fieldWriteVerdict, stepWriteVerdict, Writing}
 use Rattle.putting.specs.Putting.{MeshWhole, FieldWhole, StepWhole, Wrote}
 use Rattle.writing.proofs.WidthLaws.{mesh-fits, masses-fit, field-fits, outsides-fit, step-fits}
 
@@ -37,10 +38,11 @@ pub past-first : {u : Verdict} (v w : Verdict) → u ≡ fine → (u andThen v a
 past-first v w e = rw (past v e)
 
 -- the tables of a step that are long enough
-pub water-long : (n a b : ℕ) (w : Verdict) → (long 6 n a andThen long 7 n b andThen w) ≡ fine → (n ≤ a) × (n ≤ b)
-water-long n a b w e =
-    let p = both-fine _ _ (both-fine _ _ e .0) in
-    (leb-true _ _ (need-fine 2 6 _ (p .0)), leb-true _ _ (need-fine 2 7 _ (p .1)))
+pub water-long : (n a b m r : ℕ) (w : Verdict) → (long 6 n a andThen long 7 n b andThen w andThen long 14 m r) ≡ fine → (n ≤ a) × (n ≤ b) × (m ≤ r)
+water-long n a b m r w e =
+    let o = both-fine _ _ e in
+    let p = both-fine _ _ (both-fine _ _ (o .0) .0) in
+    (leb-true _ _ (need-fine 2 6 _ (p .0)), leb-true _ _ (need-fine 2 7 _ (p .1)), leb-true _ _ (need-fine 2 14 _ (o .1)))
 
 -- what a record that is put has passed
 pub mesh-whole : (M : Mesh) {bs : List ℕ} → meshWriteVerdict M (length bs) ≡ fine → MeshWhole M bs
@@ -73,35 +75,49 @@ field-whole M masses e =
       enough = leb-true _ _ (need-fine 2 11 _ (d .1));
     }
 
-module _ (M : Mesh) (fluxes : List ℤ) (outsides : List ℕ) where
-  pub step-whole : {bs : List ℕ} → stepWriteVerdict M fluxes outsides (length bs) ≡ fine → StepWhole (M .faces) (M .seconds) fluxes outsides bs
+module _ (M : Mesh) (kind : StepKind) (fluxes : List ℤ) (outsides releases : List ℕ) where
+  pub step-whole : {bs : List ℕ} → stepWriteVerdict M (kindNumber kind) fluxes outsides releases (length bs) ≡ fine
+      → StepWhole (kindNumber kind) (M .cells) (M .faces) (M .seconds) fluxes outsides releases bs
   unfolding stepWriteVerdict
   step-whole e =
       let a = both-fine _ _ e in
       let b = both-fine _ _ (a .0) in
-      let d = both-fine _ _ (b .0) in
-      let f = both-fine _ _ (d .0) in
+      let c = both-fine _ _ (b .0) in
+      let d = both-fine _ _ (c .0) in
+      let o = both-fine _ _ (d .0) in
+      let f = both-fine _ _ (o .0) in
       let g = both-fine _ _ (f .0) in
       let h = both-fine _ _ (g .0) in
       let i = both-fine _ _ (h .0) in
       let n = counted M (i .0) in
+      let k = waterOf fluxes outsides releases in
       record {
+        few-cells = n .few-cells;
         few-faces = n .few-faces;
         seconds-long = mesh-lent M (i .1) .seconds-long;
         fluxes-long = leb-true _ _ (need-fine 2 6 _ (h .1));
         outsides-long = leb-true _ _ (need-fine 2 7 _ (g .1));
-        fits = step-fits M (d .1) [] (waterOf fluxes outsides) (b .1) (a .1) (n .few-faces);
-        outsides-fit = outsides-fit M (d .1) [] (waterOf fluxes outsides) (b .1) (a .1);
+        releases-long = leb-true _ _ (need-fine 2 14 _ (o .1));
+        fits = step-fits M (d .1) [] k (b .1) (a .1) kind (c .1) (n .few-faces);
+        outsides-fit = outsides-fit M (d .1) [] k (b .1) (a .1);
         enough = leb-true _ _ (need-fine 2 11 _ (f .1));
       }
 
-  -- the causes of a step as the writer tests them: those that rest on nothing together
-  regroup : (u p q r m s t : Verdict) → (u andThen p andThen q andThen r andThen m andThen s andThen t) ≡ (u andThen (p andThen q andThen r) andThen (m andThen (s andThen t)))
-  regroup u p q r m s t = simp andThen-assoc
+-- the causes of a step as the writer tests them: those that rest on nothing together
+module _ (M : Mesh) (kind : ℕ) (fluxes : List ℤ) (outsides releases : List ℕ) where
+  abbrev K : Call
+  K = waterOf fluxes outsides releases
 
-  pub step-groups : (room : ℕ) → stepWriteVerdict M fluxes outsides room ≡ (counts M andThen meshTables M
-      andThen (long 6 (M .faces) (length fluxes) andThen long 7 (M .faces) (length outsides) andThen bytesLong (stepLength (M .faces) (M .seconds)) room)
-      andThen (meshValues M andThen (each 7 (M .faces) (outsideGood M [] (waterOf fluxes outsides)) andThen each 8 (M .faces) (fluxGood M [] (waterOf fluxes outsides)))))
+  regroup : (u p q r o m x s t : Verdict) → (u andThen p andThen q andThen r andThen o andThen m andThen x andThen s andThen t)
+      ≡ (u andThen (p andThen q andThen r andThen o) andThen (m andThen x andThen (s andThen t)))
+  regroup u p q r o m x s t = simp andThen-assoc
+
+  pub step-groups : (room : ℕ) → stepWriteVerdict M kind fluxes outsides releases room ≡ (counts M andThen meshTables M
+      andThen (long 6 (M .faces) (length fluxes) andThen long 7 (M .faces) (length outsides)
+      andThen bytesLong (stepLength kind (M .cells) (M .faces) (M .seconds)) room andThen long 14 (M .cells) (length releases))
+      andThen (meshValues M andThen releasesFit kind (M .cells) releases
+      andThen (each 7 (M .faces) (outsideGood M [] K) andThen each 8 (M .faces) (fluxGood M [] K))))
   unfolding stepWriteVerdict
-  step-groups room = regroup (counts M andThen meshTables M) (long 6 (M .faces) (length fluxes)) (long 7 (M .faces) (length outsides)) (bytesLong (stepLength (M .faces) (M .seconds)) room)
-      (meshValues M) (each 7 (M .faces) (outsideGood M [] (waterOf fluxes outsides))) (each 8 (M .faces) (fluxGood M [] (waterOf fluxes outsides)))
+  step-groups room = regroup (counts M andThen meshTables M) (long 6 (M .faces) (length fluxes)) (long 7 (M .faces) (length outsides))
+      (bytesLong (stepLength kind (M .cells) (M .faces) (M .seconds)) room) (long 14 (M .cells) (length releases))
+      (meshValues M) (releasesFit kind (M .cells) releases) (each 7 (M .faces) (outsideGood M [] K)) (each 8 (M .faces) (fluxGood M [] K))

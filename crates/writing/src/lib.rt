@@ -1,9 +1,12 @@
 // The three records of document 01, written. What is refused is refused before the first byte is touched.
 mod refusals;
+mod releases;
 
+use heads::StepKind;
 use model::Answer;
 use model::Refusal;
 ghost use Rattle.model.specs.Mesh.{meshOf};
+ghost use Rattle.heads.specs.Layouts.{kindNumber};
 ghost use Rattle.writing.specs.Writing.{MeshWriting, FieldWriting, StepWriting};
 
 // How many bytes have been written.
@@ -87,8 +90,9 @@ pub fn write_field(
     WriteAnswer::Written(length as u64)
 }
 
-// The record of a step.
+// The record of a step, of the kind that the writer is told. The kind without outfalls holds no release but 0.
 pub fn write_step(
+    kind: StepKind,
     cells: usize,
     faces: usize,
     volumes: &[u64],
@@ -99,12 +103,14 @@ pub fn write_step(
     fluxes: &[i64],
     outsides: &[u64],
     bytes: &mut [u8],
+    releases: &[u64],
 ) -> WriteAnswer
     ensures { λ r. ⌜ StepWriting
         (meshOf cells faces (now (volumes .entry)) (now (firsts .entry)) (now (seconds .entry)) (now (shares .entry)) (now (reaches .entry)))
-        (now (fluxes .entry)) (now (outsides .entry)) (now (bytes .entry)) r (now (bytes .exit)) ⌝ }
+        (kindNumber kind) (now (fluxes .entry)) (now (outsides .entry)) (now (releases .entry)) (now (bytes .entry)) r (now (bytes .exit)) ⌝ }
 {
     let a = refusals::step(
+        kind,
         cells,
         faces,
         volumes,
@@ -115,10 +121,20 @@ pub fn write_step(
         fluxes,
         outsides,
         bytes.len(),
+        releases,
     );
     if let Answer::Refused(r) = a {
         return WriteAnswer::Refused(r);
     }
-    let length = putting::step(faces, seconds, fluxes, outsides, bytes);
+    let length = putting::step(
+        kind,
+        cells,
+        faces,
+        seconds,
+        fluxes,
+        outsides,
+        bytes,
+        releases,
+    );
     WriteAnswer::Written(length as u64)
 }

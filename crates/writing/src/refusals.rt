@@ -1,4 +1,6 @@
 // What a writing is refused for, before the first byte is touched.
+use crate::releases;
+use heads::StepKind;
 use heads::lengths;
 use model::Answer;
 use model::needs::and_then;
@@ -6,10 +8,14 @@ use model::needs::long;
 ghost use mathlib.Core.Path.{_≡_};
 ghost use Rattle.model.specs.Mesh.{meshOf};
 ghost use Rattle.model.specs.Answers.{said};
+ghost use Rattle.heads.specs.Layouts.{kindNumber};
 ghost use Rattle.writing.specs.Writing.{meshWriteVerdict, fieldWriteVerdict, stepWriteVerdict};
 
 // The position of the record's bytes among the tables of cause 2.
 const RECORD_BYTES: u64 = 11;
+
+// The position of the releases.
+const RELEASES: u64 = 14;
 
 // What writing a mesh into so many bytes is refused for.
 pub fn mesh(
@@ -75,6 +81,7 @@ pub fn field(
 
 // What writing a step into so many bytes is refused for. Its length rests on the seconds as they stand.
 pub fn step(
+    kind: StepKind,
     cells: usize,
     faces: usize,
     volumes: &[u64],
@@ -85,22 +92,29 @@ pub fn step(
     fluxes: &[i64],
     outsides: &[u64],
     room: usize,
+    releases: &[u64],
 ) -> Answer
     ensures { λ r. ⌜ said r ≡ stepWriteVerdict
         (meshOf cells faces (now (volumes .entry)) (now (firsts .entry)) (now (seconds .entry)) (now (shares .entry)) (now (reaches .entry)))
-        (now (fluxes .entry)) (now (outsides .entry)) room ⌝ }
+        (kindNumber kind) (now (fluxes .entry)) (now (outsides .entry)) (now (releases .entry)) room ⌝ }
 {
     let lent = lent::mesh_lent(cells, faces, volumes, firsts, seconds, shares, reaches);
     if let Answer::Refused(r) = lent {
         return Answer::Refused(r);
     }
     let water = and_then(long(6, faces, fluxes.len()), long(7, faces, outsides.len()));
-    let space = long(RECORD_BYTES, lengths::step_bytes(faces, seconds), room);
-    let tables = and_then(water, space);
+    let space = long(
+        RECORD_BYTES,
+        lengths::step_bytes(kind, cells, faces, seconds),
+        room,
+    );
+    let most = and_then(water, space);
+    let tables = and_then(most, long(RELEASES, cells, releases.len()));
     if let Answer::Refused(r) = tables {
         return Answer::Refused(r);
     }
     let mesh = shape::values(cells, faces, volumes, firsts, seconds, shares, reaches);
+    let fit = and_then(mesh, releases::values(kind, cells, releases));
     let values = water::values(faces, seconds, reaches, fluxes, outsides);
-    and_then(mesh, values)
+    and_then(fit, values)
 }

@@ -5,10 +5,10 @@ use Rattle.bench_step.proofs.repeat.Statement.{statement}
 use Rattle.bench_step.proofs.repeat.Tie as tie
 
 abbrev Inv-loop : tie.InvT-loop
-Inv-loop cells faces pairs volumes firsts seconds shares reaches field fluxes outsides masses₀ next₀ moved₀ work₀ sums₀ i₀ masses next moved work sums i = i ≤ pairs
+Inv-loop cells faces pairs volumes firsts seconds shares reaches field fluxes outsides releases masses₀ next₀ moved₀ work₀ sums₀ i₀ masses next moved work sums i = i ≤ pairs
 
 abbrev μ-loop : tie.MeasureT-loop
-μ-loop cells faces pairs volumes firsts seconds shares reaches field fluxes outsides masses₀ next₀ moved₀ work₀ sums₀ i₀ masses next moved work sums i = pairs - i
+μ-loop cells faces pairs volumes firsts seconds shares reaches field fluxes outsides releases masses₀ next₀ moved₀ work₀ sums₀ i₀ masses next moved work sums i = pairs - i
 
 pub repeat-spec : {M : Type 1} → statement M
 repeat-spec =

@@ -10,14 +10,17 @@ use Rattle.carrying.proofs.carry.Statement.{statement}
 use Rattle.carrying.proofs.carry.Tie as tie
 
 abbrev Inv-loop : tie.InvT-loop
-Inv-loop cells faces volumes firsts seconds shares reaches masses fluxes outsides next₀ moved₀ work₀ so-far₀ f₀ next moved work so-far f =
-    (f ≤ faces) × CarriedTo (inputFrom cells faces volumes firsts seconds shares reaches masses fluxes outsides) f (so-far .entered) (so-far .gone) next moved work
+Inv-loop cells faces volumes firsts seconds shares reaches masses fluxes outsides next₀ moved₀ work₀ releases so-far₀ f₀ next moved work so-far f =
+    (f ≤ faces) × CarriedTo (inputFrom cells faces volumes firsts seconds shares reaches masses fluxes outsides releases) f (so-far .entered) (so-far .gone) next moved work
 
 abbrev μ-loop : tie.MeasureT-loop
-μ-loop cells faces volumes firsts seconds shares reaches masses fluxes outsides next₀ moved₀ work₀ so-far₀ f₀ next moved work so-far f = faces - f
+μ-loop cells faces volumes firsts seconds shares reaches masses fluxes outsides next₀ moved₀ work₀ releases so-far₀ f₀ next moved work so-far f = faces - f
 
-abbrev begun : tie.After-slice-known2 Inv-loop μ-loop → tie.Start Inv-loop μ-loop
-begun c = c .before .before .before .before .before .before .before .before .before
+abbrev tables : tie.After-slice-known2 Inv-loop μ-loop → tie.Start Inv-loop μ-loop
+tables c = c .before .before .before .before .before .before .before .before .before
+
+abbrev begun : tie.After-shared-slice-known8 Inv-loop μ-loop → tie.Start Inv-loop μ-loop
+begun c = tables (c .before)
 
 abbrev start : tie.In-loop Inv-loop μ-loop → tie.Start Inv-loop μ-loop
 start c = begun (c .before .before)

@@ -12,11 +12,14 @@ use Rattle.carrying.proofs.carry_turn.Tie as tie
 
 abbrev input : tie.Start → StepInput
 input s = inputFrom (s .args .cells) (s .args .faces) (s .args .volumes .now) (s .args .firsts .now) (s .args .seconds .now) (s .args .shares .now) (s .args .reaches .now)
-    (s .args .masses .now) (s .args .fluxes .now) (s .args .outsides .now)
+    (s .args .masses .now) (s .args .fluxes .now) (s .args .outsides .now) (s .args .releases .now)
 
 -- from each call back to the one before
-abbrev start : tie.After-slice-known2 → tie.Start
-start c = c .before .before .before .before .before .before .before .before .before
+abbrev tables : tie.After-slice-known2 → tie.Start
+tables c = c .before .before .before .before .before .before .before .before .before
+
+abbrev start : tie.After-shared-slice-known8 → tie.Start
+start c = tables (c .before)
 
 abbrev signed : tie.After-is-negative-at → tie.Start
 signed c = start (c .before .before .before)
@@ -66,7 +69,7 @@ carry-face-requires c κs =
     (u .size-at .result) (q .concentration .result) (w .beyond .result)
     (u .before .is-negative-at .ensures) (u .size-at .ensures) (q .concentration .ensures) (w .beyond .ensures)
 
-add-entered : tie.Need-add-t29
+add-entered : tie.Need-add-t30
 add-entered c =
     let e = c .before .before in
     let t = carried e in
@@ -81,7 +84,7 @@ add-entered c =
           (e .entered .ensures);
     }
 
-add-gone : tie.Need-add-t44
+add-gone : tie.Need-add-t45
 add-gone c =
     let g = c .before .before in
     let t = carried (g .before) in

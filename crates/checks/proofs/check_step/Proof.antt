@@ -9,8 +9,8 @@ use Rattle.checks.proofs.check_step.Statement.{statement}
 use Rattle.checks.proofs.check_step.Tie as tie
 
 -- the call's start, from where its tables are known
-abbrev start : tie.After-shared-slice-known9 → tie.Start
-start c = c .before .before .before .before .before .before .before .before .before
+abbrev start : tie.After-shared-slice-known10 → tie.Start
+start c = c .before .before .before .before .before .before .before .before .before .before
 
 returns : tie.Need-returns
 returns c = sym (lengths-first _ _ _ ∙ out _ (out _ (refuses (c .before .before .before .field-lent .ensures) (c .before .a .given .1))))
@@ -30,7 +30,8 @@ unfolding stepTables
 step-values-requires c κs =
     let tested = c .before .before in
     let s = start (tested .before .before .before .before) in
-    step-lent _ _ (callOf (s .args .fluxes .now) (s .args .outsides .now) (s .args .next .now) (s .args .moved .now) (s .args .work .now))
+    step-lent _ _ (callOf (s .args .fluxes .now) (s .args .outsides .now) (s .args .next .now) (s .args .moved .now) (s .args .work .now)
+    (s .args .releases .now))
     (passes (tested .before .before .before .field-lent .ensures) (tested .before .enum-told .given .1)) (passes (tested .step-lent .ensures) (c .enum-told2 .given .1))
 
 returns-3 : tie.Need-returns-3

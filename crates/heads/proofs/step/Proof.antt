@@ -18,23 +18,24 @@ kind-requires : tie.Need-kind-requires
 kind-requires c κs = head-holds 4 (omega arith) (c .before .before .need .ensures) (c .enum-told .given .1)
 
 step-faces-requires : tie.Need-step-faces-requires
-step-faces-requires c κs = let k = c .before .before in head-holds 4 (omega arith) (k .before .before .need .ensures) (k .enum-told .given .1)
+step-faces-requires c κs = let k = c .before .before .before in head-holds 4 (omega arith) (k .before .before .need .ensures) (k .enum-told .given .1)
 
 returns-2 : tie.Need-returns-2
 unfolding stepHeadVerdict bytesFor _andThen_
 returns-2 c =
     let l = c .before .before .before .before in
     let m = l .before .before .before in
-    let k = m .before in
+    let k = m .before .before in
     rw (
       c .and-then3 .ensures,
-      c .before .need5 .ensures,
+      c .before .need4 .ensures,
       c .before .before .and-then2 .ensures,
-      c .before .before .before .need4 .ensures,
+      c .before .before .before .counts-within .ensures,
       l .and-then .ensures,
       l .before .need3 .ensures,
       l .before .before .step-faces .ensures,
       m .need2 .ensures,
+      m .before .is-step .ensures,
       k .kind .ensures,
       passes (k .before .before .before .need .ensures) (k .before .enum-told .given .1),
     )
@@ -42,5 +43,5 @@ returns-2 c =
 pub step-spec : {M : Type 1} → statement M
 step-spec =
     tie.close
-    (tie.spec (search needs) (search needs) returns (search needs) kind-requires (search needs) step-faces-requires (search needs)
+    (tie.spec (search needs) (search needs) returns (search needs) kind-requires (search needs) (search needs) step-faces-requires (search needs)
     (search needs) (search needs) (search needs) (search needs) (search needs) returns-2)

@@ -1,4 +1,5 @@
--- As the mesh is put: field by field of the head, the columns of signs and of sizes, then the outside values where there is a rim face.
+-- As the mesh is put: field by field of the head, the columns of signs and of sizes, the outside values where there is a rim face, and the
+-- releases, whose column has no bits in kind 3.
 use Prim.Native.Nat.{ℕ, _+_, _*_}
 use mathlib.Core.Path.{_≡_, refl, sym, ap, _∙_}
 use mathlib.Core.Bool.{Bool}
@@ -9,186 +10,228 @@ use Rattle.bits.specs.Layout.{bytesFor}
 use Rattle.bits.proofs.Layouts.{bytes-hold}
 use Rattle.sections.specs.Sections.{Section, Values, shapeBits}
 use Rattle.sections.proofs.Columns.{Written, none, and, written-none, written-column, written-all}
-use Rattle.sections.proofs.Bodies.{column-fits, column-small, column-written, head-written}
-use Rattle.heads.specs.Layouts.{kindBits, facesBits, stepZeroBits, outsideBits, stepHeadBits, rimFaces, stepShape, stepValue, stepLength, stepRecord}
+use Rattle.sections.proofs.Bodies.{Column, column-fits, column-small, column-written, head-written}
+use Rattle.heads.specs.Layouts.{kindNumber, kindBits, facesBits, stepZeroBits, stepHeadBits, releaseBits, stepShape, stepValue, stepLength, stepRecord}
 use Rattle.heads.proofs.HeadLaws.{rim-le}
-use Rattle.heads.proofs.Layouts.{rimPlace, step-is, step-some, step-most, step-kind-in, step-faces-in, step-zeros-in, signs-in, sizes-in, outside-in}
-use Rattle.putting.proofs.PutLaws.{Room, field-asks, rooms}
+use Rattle.heads.proofs.Layouts.{releasePlace, step-is, step-some, step-most, step-kind-in, step-faces-in, step-zeros-in, signs-in, sizes-in, outside-in}
+use Rattle.putting.proofs.PutLaws.{Room, field-asks, rooms, column-asks, releases-put, release-short, step-ends}
 use Rattle.putting.proofs.step.Statement.{statement}
 use Rattle.putting.proofs.step.Tie as tie
 
+abbrev kind : tie.Start → ℕ
+kind s = kindNumber (s .args .kind)
+
 abbrev shape : tie.Start → List Section
-shape s = stepShape (s .args .faces) (s .args .seconds .now)
+shape s = stepShape (kind s) (s .args .cells) (s .args .faces) (s .args .seconds .now)
 
 abbrev value : tie.Start → Values
-value s = stepValue (s .args .faces) (s .args .fluxes .now) (s .args .outsides .now)
+value s = stepValue (kind s) (s .args .faces) (s .args .fluxes .now) (s .args .outsides .now) (s .args .releases .now)
 
 -- the bytes with some of the record's columns put
 abbrev Some : tie.Start → (ℕ → ℕ → Bool) → List ℕ → Type 0
 Some s put out = Written (shape s) (value s) put (s .args .bytes .now) out
 
-abbrev rims : tie.Start → ℕ
-rims s = rimFaces (s .args .seconds .now) (s .args .faces)
-
 holds : (s : tie.Start) → Room (shape s) stepHeadBits (s .args .bytes .now)
 unfolding stepLength
-holds s = record {
-  short = omega arith;
-  some = omega (arith, step-some (s .args .faces) (s .args .seconds .now));
-  held = omega (arith, bytes-hold (shapeBits (shape s)), s .pre .enough);
-  small = omega (arith, step-most (s .args .faces) (s .args .seconds .now) (s .pre .few-faces));
-}
+holds s =
+    let m = s .args .cells in
+    let f = s .args .faces in
+    let q = s .args .seconds .now in
+    record {
+      short = omega arith;
+      some = omega (arith, step-some (kind s) m f q);
+      held = omega (arith, bytes-hold (shapeBits (shape s)), s .pre .enough);
+      small = omega (arith, step-most (kind s) m f q (s .pre .few-cells) (s .pre .few-faces));
+    }
 
-ends : (s : tie.Start) → shapeBits (shape s) ≡ rimPlace (s .args .faces) + rims s * outsideBits
-ends s = step-is (s .args .faces) (s .args .seconds .now)
+ends : (s : tie.Start) → shapeBits (shape s) ≡ releasePlace (s .args .faces) (s .args .seconds .now) + s .args .cells * releaseBits (kind s)
+ends s = step-is (kind s) (s .args .cells) (s .args .faces) (s .args .seconds .now)
 
 abbrev Head : ℕ → ℕ → Bool
 Head = and (and (and none 0 0) 0 1) 0 2
 
--- the start, from each place
-abbrev from-one : tie.After-write-bits → tie.Start
-from-one c = c .before .before .before .before .before .before
+abbrev Water : ℕ → ℕ → Bool
+Water = and (and (and Head 1 0) 1 1) 2 0
 
-abbrev from-two : tie.After-write-bits2 → tie.Start
+-- the start from where the releases' place and width are known, and that from each place
+abbrev start : tie.After-release-width → tie.Start
+start c = c .before .before .before .before .before .before .before
+
+abbrev from-one : tie.After-write-bits → tie.After-release-width
+from-one c = c .before .before .before
+
+abbrev from-two : tie.After-write-bits2 → tie.After-release-width
 from-two c = from-one (c .before .before .before .before)
 
-abbrev from-three : tie.After-write-bits3 → tie.Start
+abbrev from-three : tie.After-write-bits3 → tie.After-release-width
 from-three c = from-two (c .before .before .before .before)
 
-abbrev from-four : tie.After-put-signs → tie.Start
+abbrev from-four : tie.After-put-signs → tie.After-release-width
 from-four c = from-three (c .before .before .before .before)
 
-abbrev from-five : tie.After-put-sizes → tie.Start
+abbrev from-five : tie.After-put-sizes → tie.After-release-width
 from-five c = from-four (c .before .before .before .before)
 
-abbrev from-six : tie.After-put-marked → tie.Start
+abbrev from-six : tie.After-put-marked → tie.After-release-width
 from-six c = from-five (c .before .before .before .before)
 
--- the place after the last field, as the code reckons it
-end : (c : tie.After-count-marked) → let s = c .before .before .before .before in rimPlace (s .args .faces) + c .count-marked .result * outsideBits ≡ shapeBits (shape s)
-end c =
-    let s = c .before .before .before .before in
-    rw (c .count-marked .ensures) (sym (ends s))
+abbrev from-seven : tie.After-put-column → tie.After-release-width
+from-seven c = from-six (c .before .before .before .before)
 
-one : (c : tie.After-write-bits) → Some (from-one c) (and none 0 0) (c .write-bits .last .0)
+-- the releases as the code reckons them, and the place after the last of them
+module _ (c : tie.After-release-width) where
+  abbrev p : ℕ
+  p = c .before .after-outsides .result
+
+  abbrev w : ℕ
+  w = c .release-width .result
+
+  at : p ≡ releasePlace (start c .args .faces) (start c .args .seconds .now)
+  at = let k = c .before .before in omega (arith, c .before .after-outsides .ensures, k .count-marked .ensures)
+
+  releases : Column (shape (start c)) 3 0 (start c .args .cells) p w w
+  releases = releases-put (kind (start c)) (start c .args .cells) (start c .args .faces) (start c .args .seconds .now) at (c .release-width .ensures)
+
+  end : p + start c .args .cells * w ≡ shapeBits (shape (start c))
+  end = step-ends (kind (start c)) (start c .args .cells) (start c .args .faces) (start c .args .seconds .now) at (c .release-width .ensures)
+
+one : (c : tie.After-write-bits) → Some (start (from-one c)) (and none 0 0) (c .write-bits .last .0)
 one c =
-    let s = from-one c in
-    head-written (step-kind-in (s .args .faces) (s .args .seconds .now)) (value s) (s .pre .fits) (written-none (shape s) (value s) _) (c .write-bits .ensures) refl
+    let s = start (from-one c) in
+    head-written (step-kind-in (kind s) (s .args .cells) (s .args .faces) (s .args .seconds .now)) (value s) (s .pre .fits)
+    (written-none (shape s) (value s) _) (c .write-bits .ensures) (sym (c .before .kind-number .ensures))
 
-two : (c : tie.After-write-bits2) → Some (from-two c) (and (and none 0 0) 0 1) (c .write-bits2 .last .0)
+two : (c : tie.After-write-bits2) → Some (start (from-two c)) (and (and none 0 0) 0 1) (c .write-bits2 .last .0)
 two c =
     let p1 = c .before .before .before .before in
-    let s = from-two c in
-    head-written (step-faces-in (s .args .faces) (s .args .seconds .now)) (value s) (s .pre .fits) (one p1) (c .write-bits2 .ensures) refl
+    let s = start (from-two c) in
+    head-written (step-faces-in (kind s) (s .args .cells) (s .args .faces) (s .args .seconds .now)) (value s) (s .pre .fits)
+    (one p1) (c .write-bits2 .ensures) refl
 
-three : (c : tie.After-write-bits3) → Some (from-three c) Head (c .write-bits3 .last .0)
+three : (c : tie.After-write-bits3) → Some (start (from-three c)) Head (c .write-bits3 .last .0)
 three c =
     let p1 = c .before .before .before .before in
-    let s = from-three c in
-    head-written (step-zeros-in (s .args .faces) (s .args .seconds .now)) (value s) (s .pre .fits) (two p1) (c .write-bits3 .ensures) refl
+    let s = start (from-three c) in
+    head-written (step-zeros-in (kind s) (s .args .cells) (s .args .faces) (s .args .seconds .now)) (value s) (s .pre .fits)
+    (two p1) (c .write-bits3 .ensures) refl
 
-four : (c : tie.After-put-signs) → Some (from-four c) (and Head 1 0) (c .put-signs .last .0)
+four : (c : tie.After-put-signs) → Some (start (from-four c)) (and Head 1 0) (c .put-signs .last .0)
 four c =
     let p1 = c .before .before .before .before in
-    let s = from-four c in
-    column-written (signs-in (s .args .faces) (s .args .seconds .now)) (value s) (s .pre .fits) (three p1) (c .put-signs .ensures) (λ i l. refl)
+    let s = start (from-four c) in
+    column-written (signs-in (kind s) (s .args .cells) (s .args .faces) (s .args .seconds .now)) (value s) (s .pre .fits)
+    (three p1) (c .put-signs .ensures) (λ i l. refl)
 
-five : (c : tie.After-put-sizes) → Some (from-five c) (and (and Head 1 0) 1 1) (c .put-sizes .last .0)
+five : (c : tie.After-put-sizes) → Some (start (from-five c)) (and (and Head 1 0) 1 1) (c .put-sizes .last .0)
 five c =
     let p1 = c .before .before .before .before in
-    let s = from-five c in
-    column-written (sizes-in (s .args .faces) (s .args .seconds .now)) (value s) (s .pre .fits) (four p1) (c .put-sizes .ensures) (λ i l. refl)
+    let s = start (from-five c) in
+    column-written (sizes-in (kind s) (s .args .cells) (s .args .faces) (s .args .seconds .now)) (value s) (s .pre .fits)
+    (four p1) (c .put-sizes .ensures) (λ i l. refl)
 
-six : (c : tie.After-put-marked) → Some (from-six c) (and (and (and Head 1 0) 1 1) 2 0) (c .put-marked .last .0)
+six : (c : tie.After-put-marked) → Some (start (from-six c)) Water (c .put-marked .last .0)
 six c =
     let p1 = c .before .before .before .before in
-    let s = from-six c in
+    let s = start (from-six c) in
     written-column (shape s) (value s) (s .pre .fits) 2 0 (five p1) (c .put-marked .ensures) (omega arith) refl refl (λ i. refl)
-    (λ i l t. outside-in (s .args .faces) (s .args .seconds .now) i) (λ i l. refl)
+    (λ i l t. outside-in (kind s) (s .args .cells) (s .args .faces) (s .args .seconds .now) i) (λ i l. refl)
 
-mul-end : tie.Need-mul-end
-mul-end c =
-    let s = c .before .before .before .before in
+seven : (c : tie.After-put-column) → Some (start (from-seven c)) (and Water 3 0) (c .put-column .last .0)
+seven c =
+    let p1 = c .before .before .before .before in
+    let s = start (from-seven c) in
+    column-written (releases (from-seven c)) (value s) (s .pre .fits) (six p1) (c .put-column .ensures) (λ i l. refl)
+
+after-outsides-requires : tie.Need-after-outsides-requires
+after-outsides-requires c κs =
+    let s = c .before .before .before .before .before in
     omega (arith, c .count-marked .ensures, rim-le (s .args .seconds .now) (s .args .faces), s .pre .few-faces)
-
-add-end : tie.Need-add-end
-add-end c =
-    let s = c .before .before .before .before in
-    omega (arith, end c, holds s .small)
 
 write-bits-requires : tie.Need-write-bits-requires
 write-bits-requires c κs =
-    let s = c .before .before .before .before .before in
-    field-asks (holds s) (written-none (shape s) (value s) _) 0 kindBits _ (omega arith) (omega arith)
+    let s = start (c .before .before) in
+    let k = step-kind-in (kind s) (s .args .cells) (s .args .faces) (s .args .seconds .now) in
+    field-asks (holds s) (written-none (shape s) (value s) _) 0 kindBits _ (omega arith)
+    (rw (c .kind-number .ensures) (column-small k (value s) (s .pre .fits) 0 (omega arith)))
 
 write-bits-requires-2 : tie.Need-write-bits-requires-2
 write-bits-requires-2 c κs =
     let p1 = c .before .before .before in
-    let s = from-one p1 in
+    let s = start (from-one p1) in
     field-asks (holds s) (one p1) kindBits facesBits _ (omega arith) (omega (arith, s .pre .few-faces))
 
 write-bits-requires-3 : tie.Need-write-bits-requires-3
 write-bits-requires-3 c κs =
     let p1 = c .before .before .before in
-    let s = from-two p1 in
+    let s = start (from-two p1) in
     field-asks (holds s) (two p1) (kindBits + facesBits) stepZeroBits _ (omega arith) (omega arith)
 
 put-signs-requires : tie.Need-put-signs-requires
 put-signs-requires c κs =
     let p1 = c .before .before .before in
-    let s = from-three p1 in
-    ((omega arith, s .pre .fluxes-long), rooms (holds s) (three p1) (signs-in (s .args .faces) (s .args .seconds .now)))
+    let s = start (from-three p1) in
+    ((omega arith, s .pre .fluxes-long), rooms (holds s) (three p1) (signs-in (kind s) (s .args .cells) (s .args .faces) (s .args .seconds .now)))
 
 put-sizes-requires : tie.Need-put-sizes-requires
 put-sizes-requires c κs =
     let p1 = c .before .before .before in
-    let s = from-four p1 in
-    let k = sizes-in (s .args .faces) (s .args .seconds .now) in
+    let s = start (from-four p1) in
+    let k = sizes-in (kind s) (s .args .cells) (s .args .faces) (s .args .seconds .now) in
     ((omega arith, column-fits k, s .pre .fluxes-long), (rooms (holds s) (four p1) k, column-small k (value s) (s .pre .fits)))
 
 put-marked-requires : tie.Need-put-marked-requires
 put-marked-requires c κs =
     let p1 = c .before .before .before in
-    let s = from-five p1 in
+    let s = start (from-five p1) in
     let h = holds s in
     let r = five p1 in
     ((omega arith, s .pre .seconds-long, s .pre .outsides-long, omega (arith, r .same-length, h .held, ends s), omega (arith, h .small, ends s)), s .pre .outsides-fit)
+
+put-column-requires : tie.Need-put-column-requires
+put-column-requires c κs =
+    let p1 = c .before .before .before in
+    let k = from-six p1 in
+    let s = start k in
+    column-asks (holds s) (six p1) (releases k) (s .pre .fits) (s .args .releases .now)
+    (release-short (kind s) (s .args .cells) (s .args .faces) (s .args .seconds .now) (at k) (k .release-width .ensures)) (s .pre .releases-long) (λ i l. refl)
+
+mul-pad : tie.Need-mul-pad
+mul-pad c = let k = from-seven (c .before .before .before) in omega (arith, end k, holds (start k) .small)
+
+add-pad : tie.Need-add-pad
+add-pad c = let k = from-seven (c .before .before .before) in omega (arith, end k, holds (start k) .small)
 
 pad-requires : tie.Need-pad-requires
 unfolding stepLength
 pad-requires c κs =
     let p1 = c .before .before .before in
-    let p2 = p1 .before .before .before .before .before .before .before .before .before in
-    let p3 = p2 .before .before .before .before .before .before .before .before .before in
-    let p4 = p3 .before .before .before .before in
-    let s = from-six p1 in
-    rw (end p4) (rw (six p1 .same-length) (s .pre .enough), omega (arith, holds s .small))
+    let k = from-seven p1 in
+    rw (end k) (rw (seven p1 .same-length) (start k .pre .enough), omega (arith, holds (start k) .small))
 
 same-length : tie.Need-same-length
 same-length c =
     let p1 = c .before .before in
     let p2 = p1 .before .before .before .before in
-    p1 .pad .ensures .1 .same-length ∙ six p2 .same-length
+    p1 .pad .ensures .1 .same-length ∙ seven p2 .same-length
 
 returns : tie.Need-returns
 unfolding stepLength stepRecord
 returns c =
     let p1 = c .before .before in
     let p2 = p1 .before .before .before .before in
-    let p3 = p2 .before .before .before .before .before .before .before .before .before in
-    let p4 = p3 .before .before .before .before .before .before .before .before .before in
-    let p5 = p4 .before .before .before .before in
-    let p6 = p5 .before in
-    let s = from-six p2 in
-    let e = end p5 in
+    let k = from-seven p2 in
+    let n = k .before .before in
+    let s = start k in
+    let e = end k in
     record {
       takes = p1 .pad .ensures .0 ∙ ap bytesFor e;
-      written = written-all (shape s) (value s) (six p2) refl e (rw e (omega (arith, bytes-hold (shapeBits (shape s))))) (s .pre .enough)
-          (λ j. omega (arith, p6 .slice-known .given j)) (λ j. omega (arith, c .slice-known8 .given j)) (p1 .pad .ensures .1);
+      written = written-all (shape s) (value s) (seven p2) refl e (rw e (omega (arith, bytes-hold (shapeBits (shape s))))) (s .pre .enough)
+          (λ j. omega (arith, n .before .before .slice-known .given j)) (λ j. omega (arith, c .slice-known9 .given j)) (p1 .pad .ensures .1);
     }
 
 pub step-spec : {M : Type 1} → statement M
 step-spec =
     tie.close
-    (tie.spec (search needs) (search needs) (search needs) (search needs) (search needs) (search needs) mul-end add-end
-    write-bits-requires write-bits-requires-2 write-bits-requires-3 put-signs-requires put-sizes-requires put-marked-requires pad-requires same-length returns)
+    (tie.spec (search needs) (search needs) (search needs) (search needs) (search needs) (search needs) after-outsides-requires (search needs) (search needs)
+    write-bits-requires write-bits-requires-2 write-bits-requires-3 put-signs-requires put-sizes-requires put-marked-requires put-column-requires
+    mul-pad add-pad pad-requires same-length returns)

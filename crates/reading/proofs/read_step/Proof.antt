@@ -1,57 +1,70 @@
--- A record that passed has room for its body, so the body's slice is there and its reader may be called.
+-- The tests answer with the kind; then the body's tables hold the record's columns (`step-filled`).
 use Prim.Native.Nat.{ℕ, _≤_}
-use mathlib.Core.Path.{_≡_}
-use mathlib.Core.List.{List}
+use mathlib.Core.Path.{_≡_, sym, ap, _∙_}
 use borrow.Author.Needs.{needs}
 use lib.ListN.{length}
-use Rattle.model.specs.Causes.{fine}
-use Rattle.model.proofs.Verdicts.{both-fine, refuses, passes}
+use Rattle.model.specs.Causes.{accepted}
+use Rattle.heads.specs.Heads.{kindIn}
 use Rattle.sections.proofs.Bodies.{bodyOf}
-use Rattle.heads.proofs.HeadLaws.{step-head-says}
 use Rattle.reading.specs.Reading.{stepRead}
+use Rattle.reading.specs.Answers.{stepSaid}
 use Rattle.bodies.specs.Bodies.{StepRoom}
 use Rattle.reading.proofs.BodyLaws.{stepHeadBytes, step-room, step-filled}
-use Rattle.reading.proofs.ReadLaws.{step-refused, step-accepted}
+use Rattle.reading.proofs.ReadLaws.{StepReadSays, step-read-says, step-refused, step-accepted}
 use Rattle.reading.proofs.read_step.Statement.{statement}
 use Rattle.reading.proofs.read_step.Tie as tie
 
--- a reading that passed has room for its body
-room : (faces : ℕ) (seconds bs : List ℕ) {u x : ℕ} → stepRead faces seconds bs u x ≡ fine → (stepHeadBytes ≤ length bs) × StepRoom faces seconds (bodyOf stepHeadBytes bs) u x
-unfolding stepRead
-room faces seconds bs e = let a = both-fine _ _ e in let h = step-head-says faces seconds bs (a .0) in step-room faces seconds bs (h .few-faces) (h .lent) (a .1)
+abbrev comes : tie.Start → ℕ → Type 0
+comes s n = stepRead (s .args .cells) (s .args .faces) (s .args .seconds .now) (s .args .bytes .now)
+    (length (s .args .fluxes .now)) (length (s .args .outsides .now)) (length (s .args .releases .now)) ≡ accepted n
+
+says : (s : tie.Start) {n : ℕ} → comes s n → StepReadSays (s .args .cells) (s .args .faces) (s .args .seconds .now) (s .args .bytes .now) n
+    (length (s .args .fluxes .now)) (length (s .args .outsides .now)) (length (s .args .releases .now))
+says s e = step-read-says _ _ _ _ _ _ _ e
+
+room : (s : tie.Start) {n : ℕ} → comes s n → let bs = s .args .bytes .now in
+    (stepHeadBytes ≤ length bs) × StepRoom (kindIn bs) (s .args .cells) (s .args .faces) (s .args .seconds .now) (bodyOf stepHeadBytes bs)
+    (length (s .args .fluxes .now)) (length (s .args .outsides .now)) (length (s .args .releases .now))
+room s e = let k = says s e in step-room _ _ _ (s .args .bytes .now) (k .head .few-cells) (k .head .few-faces) (k .head .lent) (k .body-fine)
+
+-- the start, from where the tests were made
+abbrev start : tie.After-step → tie.Start
+start c = c .before .before .before .before .before
 
 returns : tie.Need-returns
-returns c =
-    let p1 = c .before in
-    let p2 = p1 .before .before in
-    step-refused (refuses (p2 .step .ensures) (p1 .a .given .1))
+returns c = let e = c .enum-told .given .1 in rw e (step-refused (sym (c .before .before .step .ensures) ∙ ap stepSaid e))
 
 sub-step : tie.Need-sub-step
 sub-step c =
-    let p1 = c .before .before in
-    let s = p1 .before .before .before .before in
-    room (s .args .faces) (s .args .seconds .now) (s .args .bytes .now) (passes (p1 .step .ensures) (c .enum-told .given .1)) .0
+    let p1 = c .before in
+    let p2 = p1 .before .before in
+    room (start p2) (sym (p2 .step .ensures) ∙ ap stepSaid (p1 .a .given .1)) .0
 
 part-step-start : tie.Need-part-step-start
 part-step-start c =
-    let p1 = c .before .before in
-    let s = p1 .before .before .before .before in
-    room (s .args .faces) (s .args .seconds .now) (s .args .bytes .now) (passes (p1 .step .ensures) (c .enum-told .given .1)) .0
+    let p1 = c .before in
+    let p2 = p1 .before .before in
+    room (start p2) (sym (p2 .step .ensures) ∙ ap stepSaid (p1 .a .given .1)) .0
 
 step-requires-2 : tie.Need-step-requires-2
 step-requires-2 c κs =
-    let p1 = c .before .before .before in
+    let p1 = c .before .before .before .before .before in
     let p2 = p1 .before .before in
-    let s = p2 .before .before .before .before in
-    room (s .args .faces) (s .args .seconds .now) (s .args .bytes .now) (passes (p2 .step .ensures) (p1 .enum-told .given .1)) .1
+    let s = start p2 in
+    let e = sym (p2 .step .ensures) ∙ ap stepSaid (p1 .a .given .1) in
+    rw (says s e .kind-is) (room s e .1)
 
 returns-2 : tie.Need-returns-2
 returns-2 c =
-    let p1 = c .before .before .before in
-    let p2 = p1 .before .before .before .before in
+    let p1 = c .before .before .before .before .before in
+    let p2 = p1 .before .before .before .before .before .before in
     let p3 = p2 .before .before in
-    let s = p3 .before .before .before .before in
-    step-accepted (passes (p3 .step .ensures) (p2 .enum-told .given .1)) (step-filled (s .args .faces) (s .args .seconds .now) (s .args .bytes .now) (p1 .step2 .ensures))
+    let s = start p3 in
+    let e = sym (p3 .step .ensures) ∙ ap stepSaid (p2 .a .given .1) in
+    step-accepted e (step-filled (s .args .cells) (s .args .faces) (s .args .seconds .now) (s .args .bytes .now) (rw (says s e .kind-is) at (p1 .step2 .ensures)))
 
 pub read-step-spec : {M : Type 1} → statement M
-read-step-spec = tie.close (tie.spec (search needs) (search needs) returns (search needs) sub-step part-step-start (search needs) step-requires-2 (search needs) (search needs) returns-2)
+read-step-spec =
+    tie.close
+    (tie.spec (search needs) (search needs) (search needs) returns sub-step part-step-start (search needs) step-requires-2
+    (search needs) (search needs) (search needs) returns-2)

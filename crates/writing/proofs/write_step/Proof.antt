@@ -8,7 +8,10 @@ returns : tie.Need-returns
 returns c = writing-refused (refuses (c .before .before .before .step .ensures) (c .before .a .given .1))
 
 step-requires-2 : tie.Need-step-requires-2
-step-requires-2 c κs = step-whole _ _ _ (passes (c .before .before .before .step .ensures) (c .before .enum-told .given .1))
+step-requires-2 c κs =
+    let p1 = c .before .before .before in
+    let s = p1 .before .before .before .before .before .before .before .before .before in
+    step-whole _ (s .args .kind) _ _ _ (passes (p1 .step .ensures) (c .before .enum-told .given .1))
 
 returns-2 : tie.Need-returns-2
 returns-2 c =

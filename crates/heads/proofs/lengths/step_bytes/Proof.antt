@@ -1,12 +1,14 @@
 use native.Mathlib.Omega.{arith}
 use borrow.Author.Needs.{needs}
-use Rattle.heads.specs.Layouts.{stepLength}
-use Rattle.heads.proofs.HeadLaws.{rim-le}
+use Rattle.heads.specs.Layouts.{kindNumber, stepLength}
+use Rattle.heads.proofs.Layouts.{step-most}
 use Rattle.heads.proofs.lengths.step_bytes.Statement.{statement}
 use Rattle.heads.proofs.lengths.step_bytes.Tie as tie
 
 bytes-for-requires : tie.Need-bytes-for-requires
-bytes-for-requires c κs = let s = c .before .before in omega (arith, rim-le (s .args .seconds .now) (s .args .faces))
+bytes-for-requires c κs =
+    let s = c .before .before in
+    omega (arith, c .step-bits .ensures, step-most (kindNumber (s .args .kind)) (s .args .cells) (s .args .faces) (s .args .seconds .now) (s .pre .0) (s .pre .1))
 
 returns : tie.Need-returns
 unfolding stepLength

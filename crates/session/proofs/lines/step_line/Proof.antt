@@ -9,17 +9,20 @@ use Rattle.session.proofs.lines.step_line.Tie as tie
 returns : tie.Need-returns
 unfolding stepLine
 returns c =
-    let total = c .before in
+    let released = c .before in
+    let total = released .before .before .before in
     let gone = total .before .before .before in
     let entered = gone .before .before .before in
     let step = entered .before .before .before in
     let args = step .before .before .args in
-    step-held refl (args .step) (args .entered) (args .gone) (args .total) (both _ (step .word .ensures) (both _ (entered .word2 .ensures) (both _ (gone .word3 .ensures) (total .word4 .ensures))))
+    step-held refl (args .step) (args .entered) (args .gone) (args .total) (args .released)
+    (both _ (step .word .ensures) (both _ (entered .word2 .ensures) (both _ (gone .word3 .ensures) (both _ (total .word4 .ensures) (released .word5 .ensures)))))
 
 pub step-line-spec : {M : Type 1} → statement M
 step-line-spec =
     tie.close
     (tie.spec
+    (λ c. search needs) (λ c κs. search needs)
     (λ c. search needs) (λ c κs. search needs)
     (λ c. search needs) (λ c κs. search needs)
     (λ c. search needs) (λ c κs. search needs)

@@ -1,9 +1,9 @@
--- `take_step`: the counted parts of the call's own tables are the fluxes and outside values that were read.
+-- `take_step`: the counted parts of the call's own tables are the fluxes, outside values and releases that were read.
 use mathlib.Core.Path.{refl}
 use borrow.Author.Needs.{needs}
 use Rattle.model.specs.Mesh.{Mesh, meshOf}
 use Rattle.mesh_taking.proofs.Parts.{part-long}
-use Rattle.taking.proofs.StepLaws.{step-unread, fluxes-part, outsides-part, step-took}
+use Rattle.taking.proofs.StepLaws.{step-unread, fluxes-part, outsides-part, releases-part, step-took}
 use Rattle.taking.proofs.step.take_step.Statement.{statement}
 use Rattle.taking.proofs.step.take_step.Tie as tie
 
@@ -14,39 +14,66 @@ abbrev start : tie.After-slice-known → tie.Start
 start c = c .before .before .before .before .before .before .before
 
 abbrev begun : tie.After-read-step → tie.Start
-begun c = start (c .before .before .before)
+begun c = start (c .before .before .before .before)
 
-abbrev read : tie.After-stepped → tie.After-read-step
-read c = c .before .before .before .before .before .before .before .before
+-- where the record has been read, from where it is known to be accepted
+abbrev reading : tie.After-enum-told → tie.After-read-step
+reading c = c .before .before .before .before .before
 
 returns : tie.Need-returns
-returns c = let s = begun (c .before .before .before .before .before) in step-unread (mesh s) (s .args .masses .now)
-    (c .before .before .before .before .before .read-step .ensures) refl refl (c .before .read .given .1)
+returns c =
+    let r = c .before .before .before .before .before .before in
+    let s = begun r in
+    step-unread (mesh s) (s .args .masses .now) (r .read-step .ensures) refl refl refl (c .before .read .given .1)
 
 array-share-prefix-fluxes : tie.Need-array-share-prefix-fluxes
-array-share-prefix-fluxes c = let s = begun (c .before .before .before .before .before) in fluxes-part (mesh s) (s .args .masses .now)
-    (c .before .before .before .before .before .read-step .ensures) refl refl (c .before .enum-told .given .1) .fits
+array-share-prefix-fluxes c =
+    let t = c .before in
+    let s = begun (reading t) in
+    fluxes-part (mesh s) (s .args .masses .now) (reading t .read-step .ensures) refl refl refl (t .enum-told .given .1) .fits
 
 slice-aggregate-stepped : tie.Need-slice-aggregate-stepped
-slice-aggregate-stepped c = let s = begun (c .before .before .before .before .before .before) in part-long
-    (fluxes-part (mesh s) (s .args .masses .now) (c .before .before .before .before .before .before .read-step .ensures) refl refl (c .before .before .enum-told .given .1))
+slice-aggregate-stepped c =
+    let t = c .before .before in
+    let s = begun (reading t) in
+    part-long (fluxes-part (mesh s) (s .args .masses .now) (reading t .read-step .ensures) refl refl refl (t .enum-told .given .1))
 
 array-share-prefix-outsides : tie.Need-array-share-prefix-outsides
-array-share-prefix-outsides c = let s = begun (c .before .before .before .before .before .before) in outsides-part (mesh s) (s .args .masses .now)
-    (c .before .before .before .before .before .before .read-step .ensures) refl refl (c .before .before .enum-told .given .1) .fits
+array-share-prefix-outsides c =
+    let t = c .before .before in
+    let s = begun (reading t) in
+    outsides-part (mesh s) (s .args .masses .now) (reading t .read-step .ensures) refl refl refl (t .enum-told .given .1) .fits
 
 slice-aggregate-stepped-2 : tie.Need-slice-aggregate-stepped-2
-slice-aggregate-stepped-2 c = let s = begun (c .before .before .before .before .before .before .before) in part-long
-    (outsides-part (mesh s) (s .args .masses .now) (c .before .before .before .before .before .before .before .read-step .ensures) refl refl (c .before .before .before .enum-told .given .1))
+slice-aggregate-stepped-2 c =
+    let t = c .before .before .before in
+    let s = begun (reading t) in
+    part-long (outsides-part (mesh s) (s .args .masses .now) (reading t .read-step .ensures) refl refl refl (t .enum-told .given .1))
+
+array-share-prefix-releases : tie.Need-array-share-prefix-releases
+array-share-prefix-releases c =
+    let t = c .before .before .before in
+    let s = begun (reading t) in
+    releases-part (mesh s) (s .args .masses .now) (reading t .read-step .ensures) refl refl refl (t .enum-told .given .1) .fits
+
+slice-aggregate-stepped-3 : tie.Need-slice-aggregate-stepped-3
+slice-aggregate-stepped-3 c =
+    let t = c .before .before .before .before in
+    let s = begun (reading t) in
+    part-long (releases-part (mesh s) (s .args .masses .now) (reading t .read-step .ensures) refl refl refl (t .enum-told .given .1))
 
 returns-2 : tie.Need-returns-2
-returns-2 c = let s = (begun (read (c .before .before))) in step-took (mesh s) (s .args .masses .now) (read (c .before .before) .read-step .ensures) refl refl
-    (c .before .before .before .before .before .before .enum-told .given .1) (c .before .before .stepped .ensures)
+returns-2 c =
+    let u = c .before .before in
+    let t = u .before .before .before .before .before in
+    let s = begun (reading t) in
+    step-took (mesh s) (s .args .masses .now) (reading t .read-step .ensures) refl refl refl (t .enum-told .given .1) (u .stepped .ensures)
 
 pub take-step-spec : {M : Type 1} → statement M
 take-step-spec =
     tie.close
     (tie.spec
+    (search needs)
     (search needs)
     (search needs)
     (search needs)
@@ -57,6 +84,8 @@ take-step-spec =
     slice-aggregate-stepped
     array-share-prefix-outsides
     slice-aggregate-stepped-2
+    array-share-prefix-releases
+    slice-aggregate-stepped-3
     (search needs)
     (search needs)
     returns-2)

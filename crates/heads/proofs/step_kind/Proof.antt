@@ -1,0 +1,18 @@
+use mathlib.Core.Path.{sym}
+use borrow.Author.Needs.{needs}
+use borrow.Author.Tests.{eqb-true, ne-eqb}
+use lib.Dec.{eqb}
+use Rattle.lists.proofs.Tests.{either-true}
+use Rattle.heads.specs.Layouts.{outfallKind}
+use Rattle.heads.specs.Heads.{kindIn}
+use Rattle.heads.proofs.step_kind.Statement.{statement}
+use Rattle.heads.proofs.step_kind.Tie as tie
+
+returns-2 : tie.Need-returns-2
+returns-2 c =
+    let k = c .before in
+    let s = k .before .before in
+    sym (eqb-true _ _ (either-true _ (eqb (kindIn (s .args .bytes .now)) outfallKind) (s .pre .1) (ne-eqb _ _ (rw (k .kind .ensures) at (c .if1 .left)))))
+
+pub step-kind-spec : {M : Type 1} → statement M
+step-kind-spec = tie.close (tie.spec (search needs) (search needs) returns-2)

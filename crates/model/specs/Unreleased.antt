@@ -1,0 +1,28 @@
+-- Document 02, S-6 beside document 01: a step whose releases are all 0 is the step of document 01.
+use Prim.Native.Nat.{ℕ, _≤_, _<_}
+use mathlib.Core.Path.{_≡_}
+use mathlib.Core.List.{List, [], _∷_}
+use lib.ListN.{length}
+use Rattle.lists.specs.Table.{table, over}
+use Rattle.model.specs.Mesh.{Mesh}
+use Rattle.model.specs.Step.{StepInput, next, moved, inMass, outMass}
+use Rattle.model.specs.Causes.{accepted, Verdict, _andThen_, inTurn, taken, Call, release, lengths01, counts, meshTables, fieldTable, meshValues, fieldValues, stepValues}
+use Rattle.model.specs.Calls.{corrected, stepAnswer, nextTable, movedTable}
+
+module _ (M : Mesh) (field : List ℕ) (k : Call) where
+  -- what document 01's step works on: the field as it is lent
+  abbrev pub unraised : StepInput
+  unraised = record { mesh = M; masses = field; fluxes = k .fluxes; outsides = k .outsides }
+
+  -- and the causes that it has
+  abbrev pub verdict01 : Verdict
+  verdict01 = inTurn
+      (counts M ∷ meshTables M ∷ fieldTable M field ∷ inTurn (lengths01 (M .cells) (M .faces) k) ∷ meshValues M ∷ fieldValues M field ∷ stepValues M field k ∷ [])
+
+  pub record AsBefore : Type 0 where
+    pub same-answer : stepAnswer corrected M k field ≡ (verdict01 andThen accepted (record { entered = inMass unraised; gone = outMass unraised; released = 0 }))
+    pub same-next : nextTable corrected M k field ≡ taken verdict01 (over (table (M .cells) (next unraised)) (k .nexts)) (k .nexts)
+    pub same-moved : movedTable corrected M k field ≡ taken verdict01 (over (table (M .faces) (moved unraised)) (k .moveds)) (k .moveds)
+
+abbrev pub Unreleased : Type 0
+Unreleased = (M : Mesh) (field : List ℕ) (k : Call) → M .cells ≤ length (k .releases) → ((c : ℕ) → c < M .cells → release k c ≡ 0) → AsBefore M field k
