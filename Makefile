@@ -68,7 +68,7 @@ soak:
 # the figures of docs/ACCURACY.md, and its picture
 accuracy:
 	reference/build.sh
-	python3 bench/accuracy.py --call target/compare/call_guarded --fine --svg docs/accuracy.svg
+	python3 bench/accuracy.py --call target/compare/call_guarded --script target/compare/calls --fine --svg docs/accuracy.svg
 
 clean:
 	rm -rf target

@@ -3,10 +3,11 @@
 
 As document 002 does in its section 3.1: the ring has length 1, the water goes once round at Courant number 0.4, and
 the profile should come back as it was. Its smooth profile is equation (46), its step the second part of (47).
-The corrected step is the engine's, through the C call; plain upwind is the reference's. Beside them stands the same
-scheme in real numbers, so that what whole numbers change can be told from what the scheme does.
+The corrected step is the engine's, through the C call, and so is plain upwind, document 02's S-8, through the program
+calls, which is asked for one step after another. Beside them stands the same scheme in real numbers, so that what whole
+numbers change can be told from what the scheme does.
 
-    accuracy.py --call DRIVER [--svg FILE] [--fine]         prints tables in Markdown
+    accuracy.py --call DRIVER --script CALLS [--svg FILE] [--fine]         prints tables in Markdown
 """
 
 import argparse
@@ -16,10 +17,12 @@ import sys
 from pathlib import Path
 
 ROOT = Path(__file__).resolve().parent.parent
-sys.path.insert(0, str(ROOT / "reference"))
+sys.path[:0] = [str(ROOT / "tools"), str(ROOT / "reference")]
 
 import engines
 import lagoon
+from calls import Calls, spelled
+from command import Bad
 
 VOLUME = 4000           # of every cell; the Courant number times it is whole
 COURANT = (2, 5)
@@ -29,6 +32,17 @@ FINE = (160, 320, 640)
 # Of the study of rounding.
 TOPS = (1_000_000, 10_000, 1_000, 100, 10)
 VOLUMES = (4000, 100, 5)
+
+
+class Engine:
+    """Both of the engine's steps: corrected by a call driver, plain by the program calls."""
+
+    def __init__(self, driver, calls):
+        self.driver, self.calls = engines.driver(driver), Calls(calls)
+
+    def finish(self):
+        self.calls.finish()
+        return self.driver.finish()
 
 
 # ---------------------------------------------------------------- Profiles, as means over a cell
@@ -71,20 +85,26 @@ class Ring:
         self.fluxes, self.outsides = [flux] * cells, [0] * cells
         self.steps = cells * COURANT[1] // COURANT[0]
 
-    def by_engine(self, driver):
+    def by_engine(self, engine):
         mesh, water = lagoon.pack_mesh(self.mesh), lagoon.pack_step(self.mesh, self.fluxes, self.outsides)
         field = lagoon.pack_field(self.masses)
         for _ in range(self.steps):
-            answer = driver(mesh, field, water, len(field))
+            answer = engine.driver(mesh, field, water, len(field))
             if isinstance(answer, str) or answer[0] != 0:
                 sys.exit(f"accuracy: the engine answers {answer}")
             field = answer[1]
         return self.values(struct.unpack(f">{len(self.masses)}I", field[lagoon.FIELD_HEAD:]))
 
-    def by_upwind(self):
-        masses = self.masses
+    def by_upwind(self, engine):
+        cells, masses = len(self.masses), self.masses
+        mesh = (cells, cells, *map(spelled, self.mesh))
+        filled = ([0] * cells, [0] * cells, [0] * (5 * cells))          # next masses, moved and work
+        water = tuple(map(spelled, (self.fluxes, self.outsides, *filled, [0] * cells)))
         for _ in range(self.steps):
-            masses = lagoon.advance_upwind(self.mesh, masses, self.fluxes, self.outsides).masses
+            said, left = engine.calls.ask("plain_step", *mesh, masses, *water)
+            if said[0] != "accepted":
+                sys.exit(f"accuracy: the engine answers {' '.join(said)}")
+            masses = left["next"]
         return self.values(masses)
 
     def by_all_corrections(self):
@@ -150,12 +170,12 @@ def table(title, head, rows):
     return lines + ["| " + " | ".join(row) + " |" for row in rows]
 
 
-def convergence(name, profile, driver, resolutions):
+def convergence(name, profile, engine, resolutions):
     rows, last = [], {}
     for cells in resolutions:
         ring = Ring(profile, cells)
-        for scheme, values in (("plain upwind", ring.by_upwind()), ("before S-5", ring.by_all_corrections()),
-                               ("corrected", ring.by_engine(driver))):
+        for scheme, values in (("plain upwind", ring.by_upwind(engine)), ("before S-5", ring.by_all_corrections()),
+                               ("corrected", ring.by_engine(engine))):
             error = norms(values, ring.exact)
             orders = f"{order(last[scheme], error[1]):.2f}" if scheme in last else ""
             last[scheme] = error[1]
@@ -165,14 +185,14 @@ def convergence(name, profile, driver, resolutions):
     return table(f"{name}, once round at Courant number 0.4", head, rows)
 
 
-def fine_convergence(name, profile, driver, resolutions):
+def fine_convergence(name, profile, engine, resolutions):
     """l2 with its order by five schemes, and how far the engine is from the same scheme in real numbers."""
     rows, last = [], [None] * 5
     for cells in resolutions:
         ring = Ring(profile, cells)
-        whole, real = ring.by_engine(driver), ring.by_reals()
+        whole, real = ring.by_engine(engine), ring.by_reals()
         errors = [norms(values, ring.exact)[1]
-                  for values in (ring.by_upwind(), whole, real, ring.by_reals(cancelled=False), ring.by_reals(limited=False))]
+                  for values in (ring.by_upwind(engine), whole, real, ring.by_reals(cancelled=False), ring.by_reals(limited=False))]
         row = [str(cells)]
         for error, before in zip(errors, last):
             row += [f"{error:.6f}", f"{order(before, error):.2f}" if before else ""]
@@ -183,11 +203,11 @@ def fine_convergence(name, profile, driver, resolutions):
     return table(f"{name}: l2 and its order", head, rows)
 
 
-def rounding(title, rings, driver):
+def rounding(title, rings, engine):
     """How far the engine is from real numbers, for rings that differ in what the first column says."""
     rows = []
     for label, ring in rings:
-        whole, real = ring.by_engine(driver), ring.by_reals()
+        whole, real = ring.by_engine(engine), ring.by_reals()
         rows.append([label, f"{norms(whole, ring.exact)[1]:.4f}", f"{norms(real, ring.exact)[1]:.4f}",
                      f"{norms(whole, real)[1]:.1e}"])
     return table(f"Smooth profile, 80 cells, by {title}", [title, "engine", "in reals", "engine against reals"], rows)
@@ -231,14 +251,14 @@ def panel(left, title, exact, upwind, corrected):
 def legend(y):
     parts, x = [], EDGE
     for name, style in (("exact, mean over each cell", 'stroke="#777" stroke-width="1.2"'),
-                        ("plain upwind, from the reference", 'stroke="#c25400" stroke-width="2" stroke-dasharray="6 4"'),
+                        ("plain upwind, by the engine", 'stroke="#c25400" stroke-width="2" stroke-dasharray="6 4"'),
                         ("corrected, by the engine", 'stroke="#0b5fa5" stroke-width="2"')):
         parts += [polyline([(x, y - 4), (x + 30, y - 4)], style), text(x + 36, y, name)]
         x += 280
     return parts
 
 
-def picture(driver):
+def picture(engine):
     """Both profiles after one turn, as SVG."""
     wide, high = 2 * (EDGE + PANEL) + GAP, EDGE + HIGH + 62
     parts = [f'<svg xmlns="http://www.w3.org/2000/svg" viewBox="0 0 {wide} {high}" width="{wide}" height="{high}" '
@@ -247,28 +267,32 @@ def picture(driver):
     for left, name, profile in ((EDGE, "Smooth", smooth), (EDGE + PANEL + GAP, "Step", step)):
         ring = Ring(profile, PLOTTED)
         parts += panel(left, f"{name} profile, {PLOTTED} cells, after {ring.steps} steps once round",
-                       ring.exact, ring.by_upwind(), ring.by_engine(driver))
+                       ring.exact, ring.by_upwind(engine), ring.by_engine(engine))
     return "\n".join(parts + legend(high - 16) + ["</svg>"]) + "\n"
 
 
 def main():
     parser = argparse.ArgumentParser(description=__doc__, formatter_class=argparse.RawDescriptionHelpFormatter)
     parser.add_argument("--call", required=True, help="a build of call_driver.c with the engine's library")
+    parser.add_argument("--script", required=True, metavar="CALLS", help="the program calls")
     parser.add_argument("--svg", type=Path, help="write a plot of both profiles to this file")
     parser.add_argument("--fine", action="store_true", help="up to 640 cells, and a study of rounding")
     options = parser.parse_args()
-    driver = engines.driver(options.call)
-    lines = convergence("Smooth profile", smooth, driver, RESOLUTIONS)
-    lines += convergence("Step profile", step, driver, RESOLUTIONS)
-    if options.fine:
-        lines += fine_convergence("Smooth profile", smooth, driver, RESOLUTIONS + FINE)
-        lines += fine_convergence("A wave, smooth everywhere", wave, driver, RESOLUTIONS + FINE)
-        lines += rounding("greatest concentration", [(f"{top:,}", Ring(smooth, 80, top=top)) for top in TOPS], driver)
-        lines += rounding("volume of a cell", [(f"{V:,}", Ring(smooth, 80, volume=V)) for V in VOLUMES], driver)
-    print("\n".join(lines))
-    if options.svg:
-        options.svg.write_text(picture(driver))
-    complaint = driver.finish()
+    try:
+        engine = Engine(options.call, options.script)
+        lines = convergence("Smooth profile", smooth, engine, RESOLUTIONS)
+        lines += convergence("Step profile", step, engine, RESOLUTIONS)
+        if options.fine:
+            lines += fine_convergence("Smooth profile", smooth, engine, RESOLUTIONS + FINE)
+            lines += fine_convergence("A wave, smooth everywhere", wave, engine, RESOLUTIONS + FINE)
+            lines += rounding("greatest concentration", [(f"{top:,}", Ring(smooth, 80, top=top)) for top in TOPS], engine)
+            lines += rounding("volume of a cell", [(f"{V:,}", Ring(smooth, 80, volume=V)) for V in VOLUMES], engine)
+        print("\n".join(lines))
+        if options.svg:
+            options.svg.write_text(picture(engine))
+    except Bad as bad:
+        sys.exit(f"accuracy: {bad}")
+    complaint = engine.finish()
     if complaint:
         sys.exit(complaint)
 

@@ -55,6 +55,7 @@ SCRIPT_CAUSES = {
     "check_step": STEP,
     "total": CELLS,
     "step": STEP,
+    "plain_step": STEP,
     "mesh_length": f"11 13/0 {COUNTS}",
     "field_length": "11 13/0 13/1 1/0",
     "step_length": "11 13/0 13/1 1/0 1/1 2/2",

@@ -22,7 +22,7 @@ GREATEST = (1 << 64) - 1
 LEAST, MOST = -(1 << 63), (1 << 63) - 1
 ENGINE = Engine(lagoon)
 NAMES = [name for name, _ in CALLS.values()]
-OFTEN = NAMES + ["step"] * 4            # most of the arithmetic is in a step
+OFTEN = NAMES + ["step"] * 4 + ["plain_step"] * 2      # most of the arithmetic is in a step
 CELLS, FACES = lagoon.LIBRARY_LIMITS
 COUNTS = [0, 1, CELLS - 1, CELLS, CELLS + 1, FACES, FACES + 1, 1 << 16, 1 << 63, GREATEST]
 
@@ -75,7 +75,7 @@ class Lent:
     def damage(self, positions, kinds):
         """One damage to the tables at these positions, or to the counts."""
         rng = self.rng
-        kind = rng.choice(["short", "short", "value", "value", "value", "counts", "near", "near", "flow"])
+        kind = rng.choice(["short", "short", "value", "value", "value", "counts", "near", "near"] + ["flow", "flow"] * (FLUXES in positions))
         position = rng.choice(positions)
         table = self.tables[position]
         if kind == "short":
@@ -90,7 +90,7 @@ class Lent:
             table[rng.randrange(len(table))] = rng.choice(EDGES[position])
         elif kind == "near":
             self.near(rng, position)
-        elif kind == "flow" and FLUXES in positions and self.faces == len(self.lag.faces):
+        elif kind == "flow" and self.faces == len(self.lag.faces):
             self.flow(rng)
         kinds.append(f"{kind} {position}" if kind != "counts" else kind)
 
@@ -115,14 +115,16 @@ class Lent:
             table[i] = rng.choice([1, TOP, TOP + 1])
 
     def flow(self, rng):
-        """Balanced water with outflow above a cell's volume, or water out of balance by one."""
-        if rng.random() < 0.6:
+        """Balanced water with outflow above a cell's volume; water out of balance by one; or a flux one past its reach."""
+        change = rng.choice(["outflow", "outflow", "balance", "reach"])
+        fluxes, counted = self.tables[FLUXES], min(self.faces, len(self.tables[FLUXES]))
+        if change == "outflow":
             self.tables[FLUXES] = self.lag.flow(rng, rng.choice([1, 5, 4095]))
             self.tables[OUTSIDES] = self.lag.outsides(rng, self.tables[FLUXES])
-        elif self.tables[FLUXES]:
-            face = rng.randrange(len(self.tables[FLUXES]))
-            flux = self.tables[FLUXES][face]
-            self.tables[FLUXES][face] = flux + (1 if flux < 0 else -1)
+        elif counted:
+            face = rng.randrange(counted)
+            toward = -1 if fluxes[face] < 0 else 1
+            fluxes[face] = toward * ((self.lag.faces[face][3] or 4095) + 1) if change == "reach" else fluxes[face] - toward
 
     def lengthen(self, positions):
         """Entries past the counts, which nobody tests or touches."""
@@ -307,7 +309,7 @@ def number_at(rng, large, kinds):
     return record, bit, width
 
 def lagoon_step(rng, large, kinds):
-    case = generate.call(rng.getrandbits(32), 40 if large else rng.choice([1, 1, 2, 2, 3]) + 4 * rng.randrange(200))
+    case = generate.call(rng.getrandbits(32), 40 if large else rng.choice([1, 2, 2, 2, 3]) + 4 * rng.randrange(200))
     kinds.extend(case.kinds)
     return list(case.mesh), list(case.field), list(case.step), [0xA5] * case.room
 
@@ -395,23 +397,22 @@ def with_store(names):
     return make
 
 def store_list(rng, kinds):
-    """Steps and store calls one after another on one lagoon and one store, each on what the last has left."""
+    """Steps, corrected and plain, and store calls one after another on one lagoon and one store, each on what the last has left."""
     lent = Lent(rng)
     cells, volumes, masses = lent.cells, lent.tables[VOLUMES], lent.tables[MASSES]
     store = [0] * (1 + rng.choice([1, 2, 3]) * (cells + 1) + rng.choice([0, cells]))
     calls = []
     for _ in range(rng.randint(6, 14)):
-        name = rng.choice(["keep", "keep", "keep", "drop", "give_back", "give_back", "step", "step"])
+        name = rng.choice(["keep", "keep", "keep", "drop", "give_back", "give_back", "step", "step", "plain_step", "plain_step"])
         arguments = {
             "keep": (cells, volumes, masses, store, rng.randint(1, 4)),
             "drop": (cells, store, rng.randint(1, 4)),
             "give_back": (cells, volumes, masses, store, rng.randint(1, 4)),
-            "step": (cells, lent.faces, *lent.tables.values()),
-        }[name]
+        }.get(name, (cells, lent.faces, *lent.tables.values()))
         calls.append(spell(name, *arguments))
         answer = answered(ENGINE, name, arguments)
         kinds.append(f"list: {name}{answer.split()[0].rjust(9)}")
-        if name == "step" and answer.startswith(" accepted"):
+        if name in ("step", "plain_step") and answer.startswith(" accepted"):
             masses[:cells] = lent.tables[NEXT][:cells]
     return "".join(calls)
 
@@ -471,6 +472,7 @@ MAKE = {
     "check_step": on_mesh(STEP_TABLES),
     "total": on_cells,
     "step": on_mesh(STEP_TABLES),
+    "plain_step": on_mesh(STEP_TABLES),
     "mesh_length": mesh_length,
     "field_length": field_length,
     "step_length": step_length,
@@ -568,6 +570,7 @@ def largest():
         spell("step", CELLS, FACES, *mesh, masses, still, none, *lent, [0] * CELLS),
         spell("step", CELLS, FACES, *mesh, filled_up, still, none, *lent, released),
         spell("step", 1, FACES, *pool, [0], inflow, outsides, *lent, [0]),
+        spell("plain_step", CELLS, FACES, *mesh, filled_up, still, none, *lent, released),
         "# more cells and faces than the run takes\n",
         spell("take_mesh", mesh_record, *([7] * len(column) for column in mesh)),
         spell("take_field", CELLS, field_record, volumes, [7] * CELLS),

@@ -171,13 +171,19 @@ def advance(mesh, masses, fluxes, outsides, releases=None):
     moved, masses = finish(mesh, masses, carried, limited)
     return Result(masses, moved, in_mass(mesh, fluxes, outsides), out_mass(mesh, q, fluxes), released_mass(releases))
 
-def advance_upwind(mesh, masses, fluxes, outsides, releases=None):
-    """Plain upwind, stages 1 and 5 alone, for studies of accuracy."""
+def advance_plain(mesh, masses, fluxes, outsides, releases=None):
+    """Document 02, S-8: stages 1 and 5 alone of the raised field, so what a face moves is what its water carries."""
     masses = raised(masses, releases)
     q = concentrations(mesh.volumes, masses)
     carried, _ = upwind(mesh, masses, q, fluxes, outsides)
     moved, masses = finish(mesh, masses, carried, [0] * len(carried))
     return Result(masses, moved, in_mass(mesh, fluxes, outsides), out_mass(mesh, q, fluxes), released_mass(releases))
+
+def advance_unrounded(mesh, masses, fluxes, outsides, releases=None):
+    """Document 02, S-8: the same with q = m / V as an exact fraction. Gives the next masses, fractions too, and the out-mass."""
+    masses = raised(masses, releases)
+    q = [Fraction(m) / V for V, m in zip(mesh.volumes, masses)]
+    return upwind(mesh, masses, q, fluxes, outsides)[1], out_mass(mesh, q, fluxes)
 
 
 # ---------------------------------------------------------------- Causes
@@ -253,8 +259,8 @@ def mesh_needs(cells, faces):
 def counted_mesh(cells, faces, tables):
     return Mesh(tables[VOLUMES][:cells], *(tables[i][:faces] for i in (FIRSTS, SECONDS, SHARES, REACHES)))
 
-def step_on_tables(cells, faces, tables):
-    """The step on its tables by position: gives in-mass, out-mass and released mass, and fills next masses, moved and work."""
+def judge_step(cells, faces, tables):
+    """All causes of a step, corrected or plain, on its tables by position; what is counted of those that it reads."""
     judge_counts(cells, faces, LIBRARY_LIMITS)
     judge_lengths(lengths_of(tables), {**mesh_needs(cells, faces), MASSES: cells, FLUXES: faces,
                                        OUTSIDES: faces, NEXT: cells, MOVED: faces,
@@ -266,11 +272,20 @@ def step_on_tables(cells, faces, tables):
     judge_raised(mesh, masses, releases)
     judge_values(mesh, fluxes, outsides)
     judge_flow(mesh, fluxes)
-    result = advance(mesh, masses, fluxes, outsides, releases)
+    return mesh, masses, fluxes, outsides, releases
+
+def fill_tables(cells, faces, tables, result):
+    """Next masses, moved and work after an accepted step; gives in-mass, out-mass and released mass."""
     tables[NEXT][:cells] = result.masses
     tables[MOVED][:faces] = result.moved
     tables[WORK][:4 * cells + faces] = [0] * (4 * cells + faces)
     return result.in_mass, result.out_mass, result.released
+
+def step_on_tables(cells, faces, tables):
+    return fill_tables(cells, faces, tables, advance(*judge_step(cells, faces, tables)))
+
+def plain_step_on_tables(cells, faces, tables):
+    return fill_tables(cells, faces, tables, advance_plain(*judge_step(cells, faces, tables)))
 
 
 # ---------------------------------------------------------------- Record layouts

@@ -41,6 +41,7 @@ CALLS = {
     26: ("give_back", "ntttn"),
     27: ("middle_stage", "nnnnnnnn"),
     28: ("face_share", "nnnnnnnn"),
+    29: ("plain_step", "nnttttttsttstt"),
 }
 NUMBER_OF = {name: number for number, (name, _) in CALLS.items()}
 
@@ -189,6 +190,9 @@ class Engine:
     def step(self, cells, faces, *tables):
         return self.lagoon.step_on_tables(cells, faces, dict(zip(self.lagoon.STEP_TABLES, tables, strict=True)))
 
+    def plain_step(self, cells, faces, *tables):
+        return self.lagoon.plain_step_on_tables(cells, faces, dict(zip(self.lagoon.STEP_TABLES, tables, strict=True)))
+
     def limits(self, cells, faces):
         """Limits that a caller sets do not widen document 01's."""
         most = self.lagoon.LIBRARY_LIMITS
@@ -313,6 +317,7 @@ class Engine:
 # The tables that a call may change, by their place among its arguments.
 CHANGED = {
     "step": {10: "next", 11: "moved", 12: "work"},
+    "plain_step": {10: "next", 11: "moved", 12: "work"},
     "read_mesh": {3: "volumes", 4: "firsts", 5: "seconds", 6: "shares", 7: "reaches"},
     "read_field": {2: "masses"},
     "read_step": {4: "fluxes", 5: "outsides", 6: "releases"},

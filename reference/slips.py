@@ -345,5 +345,66 @@ def exchanged(lagoon):
     lagoon.sides = lambda ends, centres: right(ends, centres)[::-1]
 
 
+# ---------------------------------------------------------------- Document 02, S-8: the plain step
+
+def corrects(lagoon):
+    """A plain step that corrects."""
+    lagoon.advance_plain = lagoon.advance
+
+
+def bare(lagoon):
+    """A plain step of the field before its releases, though it answers their mass."""
+    right = lagoon.advance_plain
+    lagoon.advance_plain = lambda mesh, masses, fluxes, outsides, releases: right(
+        mesh, masses, fluxes, outsides)._replace(released=lagoon.released_mass(releases))
+
+
+def mingled(lagoon):
+    """Plain next masses with the moved masses of the corrected step."""
+    right = lagoon.advance_plain
+    lagoon.advance_plain = lambda *step: right(*step)._replace(moved=lagoon.advance(*step).moved)
+
+
+def rounded(lagoon):
+    """A plain step whose masses are rounded down to whole concentrations first."""
+    right = lagoon.advance_plain
+    lagoon.advance_plain = lambda mesh, masses, fluxes, outsides, releases: right(
+        mesh, [m - m % V for m, V in zip(masses, mesh.volumes)], fluxes, outsides, releases)
+
+
+def lenient(lagoon):
+    """Share and reach not judged in a plain step, whose arithmetic needs neither."""
+    right_step, right_mesh = lagoon.plain_step_on_tables, lagoon.judge_mesh
+
+    def judge_mesh(mesh):
+        try:
+            right_mesh(mesh)
+        except lagoon.Refusal as refusal:
+            if refusal.cause != 5:
+                raise
+
+    def plain_step_on_tables(cells, faces, tables):
+        lagoon.judge_mesh = judge_mesh
+        try:
+            return right_step(cells, faces, tables)
+        finally:
+            lagoon.judge_mesh = right_mesh
+
+    lagoon.plain_step_on_tables = plain_step_on_tables
+
+
+def uncleared(lagoon):
+    """Work left as it was by a plain step, which needs none."""
+    right = lagoon.plain_step_on_tables
+
+    def plain_step_on_tables(cells, faces, tables):
+        before = list(tables[lagoon.WORK])
+        result = right(cells, faces, tables)
+        tables[lagoon.WORK][:] = before
+        return result
+
+    lagoon.plain_step_on_tables = plain_step_on_tables
+
+
 ANSWER_SLIPS = {slip.__name__: slip for slip in (place, table, beyond, bit, dropped, binder, fresher, unweighed, higher, first, freed, nearest,
-                                                 exchanged)}
+                                                 exchanged, corrects, bare, mingled, rounded, lenient, uncleared)}

@@ -4,6 +4,7 @@
 import argparse
 import subprocess
 import sys
+from fractions import Fraction
 from pathlib import Path
 
 HERE = Path(__file__).resolve().parent
@@ -13,6 +14,7 @@ import generate
 import generate_script
 import lagoon
 import script
+import unrounded
 from lagoon import RIM, Mesh
 
 
@@ -36,11 +38,15 @@ def tables_for(mesh, masses, fluxes, outsides, releases=None):
     return dict(zip(lagoon.STEP_TABLES, map(list, tables), strict=True))
 
 
-def step(mesh, masses, fluxes, outsides, releases=None):
+def step(mesh, masses, fluxes, outsides, releases=None, call=lagoon.step_on_tables):
     """The step on tables: next masses and moved."""
     tables = tables_for(mesh, masses, fluxes, outsides, releases)
-    lagoon.step_on_tables(len(mesh.volumes), len(mesh.firsts), tables)
+    call(len(mesh.volumes), len(mesh.firsts), tables)
     return tables[lagoon.NEXT], tables[lagoon.MOVED]
+
+
+def plain(mesh, masses, fluxes, outsides, releases=None):
+    return step(mesh, masses, fluxes, outsides, releases, lagoon.plain_step_on_tables)
 
 
 CHANNEL = Mesh([100] * 3, [0, 0, 1, 2], [RIM, 1, 2, RIM], [0, 128, 128, 0], [0, 100, 100, 0])
@@ -78,8 +84,6 @@ def test_channel():
     equal(limited, [0, -99, 0, 0], "P channel step 1, cut to 99")
     equal(carried, [-50000, 50000, 0, 0], "channel step 1, carried")
     equal(step(CHANNEL, first, FLOW, OUTSIDE)[0], [100099, 81188, 18713], "P channel step 2")
-    equal(lagoon.advance_upwind(CHANNEL, [100000, 0, 0], FLOW, OUTSIDE).masses, [100000, 50000, 0],
-          "plain upwind, channel step 1")
 
 
 def test_figures_by_hand():
@@ -137,6 +141,63 @@ def test_releases():
     short = tables_for(CHANNEL, [0] * 3, FLOW, OUTSIDE, [0, 0])
     refused(2, 11, "bytes before releases", lagoon.write_step, lagoon.OUTFALLS, 3, 4, short, 27)
     refused(2, 14, "releases in kind 3 too", lagoon.write_step, lagoon.WATER, 3, 4, short, 28)
+
+
+def test_plain():
+    """Document 02, S-8: stages 1 and 5 alone, with the step's causes."""
+    equal(plain(CHANNEL, [100000, 0, 0], FLOW, OUTSIDE), ([100000, 50000, 0], [-50000, 50000, 0, 0]), "plain channel, step 1")
+    equal(plain(CHANNEL, [100000, 50000, 0], FLOW, OUTSIDE), ([100000, 75000, 25000], [-50000, 50000, 25000, 0]), "plain channel, step 2")
+    tables = tables_for(CHANNEL, [100000, 0, 0], FLOW, OUTSIDE, [150, 20000, 150])
+    longer = {position: table + [99] for position, table in tables.items()}
+    equal(lagoon.plain_step_on_tables(3, 4, longer), (50000, 50, 20300), "a plain step with releases: in-mass, out-mass, released mass")
+    equal([longer[i] for i in (lagoon.NEXT, lagoon.MOVED, lagoon.WORK)],
+          [[100100, 60050, 10100, 99], [-50000, 50050, 10000, 50, 99], [0] * 16 + [99]], "it works on the raised field and clears work")
+    for position in lagoon.STEP_TABLES:
+        short = {i: list(table) for i, table in tables.items()}
+        short[position].pop()
+        before = {i: list(table) for i, table in short.items()}
+        refused(2, position, "short table", lagoon.plain_step_on_tables, 3, 4, short)
+        equal(short, before, "tables after a refusal")
+    refused(5, 1, "a share of 0, which no plain step needs", plain, CHANNEL._replace(shares=[0, 0, 128, 0]), [0] * 3, FLOW, OUTSIDE)
+    refused(8, 1, "a flux above the reach", plain, CHANNEL._replace(reaches=[0, 49, 100, 0]), [0] * 3, FLOW, OUTSIDE)
+    refused(18, 2, "18 before 7", plain, CHANNEL, [0, 0, 0], FLOW, [1000, 1, 0, 0], [0, 0, 100_000_100])
+    refused(10, 0, "outflow 101 from V 100", plain, pool(100, 2), [5], [-101, 101], [9, 0])
+
+
+def test_unrounded():
+    """Document 02, S-8: the same steps with q not rounded, worked by hand; and how near the error comes to n."""
+    strait = unrounded.Walk(Mesh([2, 3], [0, 0, 1], [RIM, 1, RIM], [0, 128, 0], [0, 2, 0]), [1, 1])
+    strait.step([-1, 1, 1], [0] * 3, [0, 0])
+    equal((strait.masses, strait.exact), ([1, 1], [Fraction(1, 2), Fraction(7, 6)]), "1/2 and 1/3 leave, which a plain step does not see")
+    strait.step([-1, 1, 1], [0] * 3, [1, 0])
+    equal((strait.masses, strait.exact), ([1, 2], [Fraction(27, 36), Fraction(55, 36)]), "once more, 1 released into the first")
+    pair = unrounded.Walk(Mesh([3, 3], [0, 0], [1, 1], [128, 128], [3, 3]), [2, 0])
+    for releases, masses, exact, error in (([0, 0], [2, 0], [0, 2], Fraction(2, 3)), ([1, 2], [0, 5], [4, 1], Fraction(4, 3))):
+        pair.step([3, -3], [0, 0], releases)
+        equal((pair.masses, pair.exact, max(map(abs, pair.errors()))), (masses, exact, error), "two cells that exchange all their water")
+    channel = unrounded.Walk(CHANNEL, [100000, 0, 0])
+    for fluxes in (FLOW, FLOW, [-51, 50, 50, 50], FLOW, FLOW, FLOW):
+        channel.step(fluxes, OUTSIDE, [0] * 3)
+    equal((channel.accepted, channel.masses[1], channel.exact[1]), (5, 96900, 96875), "a refused step changes neither")
+    for steps in (1, 2, 3, 40):
+        equal(max(unrounded.ladder(steps).errors()), Fraction(4094 * steps, 4095), f"the ladder after {steps} steps")
+
+
+def test_errors_are_seen():
+    """Lists with a plain step that corrects, and with an unrounded one that leaves releases out, are found wrong."""
+    right_plain, right_unrounded = lagoon.advance_plain, lagoon.advance_unrounded
+    forgetful = lambda mesh, masses, fluxes, outsides, releases: right_unrounded(mesh, masses, fluxes, outsides)
+    for wrong in ({"advance_plain": lagoon.advance}, {"advance_unrounded": forgetful}):
+        tally, seen = unrounded.Tally(), False
+        vars(lagoon).update(wrong)
+        try:
+            for number in range(60):
+                tally.add(1, number, None)
+        except unrounded.Wrong:
+            seen = True
+        finally:
+            lagoon.advance_plain, lagoon.advance_unrounded = right_plain, right_unrounded
+        equal(seen, True, f"{list(wrong)} wrong")
 
 
 def test_records():

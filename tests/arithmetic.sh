@@ -20,6 +20,8 @@ found 's/285 · 367 \/ 400 = 261/285 · 367 \/ 400 = 262/'
 found 's/99 > 91: 0/99 > 91: 211/'
 found 's/0 + 20000 = 20000/0 + 20000 = 20001/'
 found 's/50000 + 20300 − 50 = 170250/50000 − 50 = 149950/'
+found 's/0\.40625/0.40624/'
+found 's/1\/3, 4\/3/1\/3, 5\/3/'
 
 # the worked steps tell each slip that the page names from the right figures
 python3 tests/test_slips.py

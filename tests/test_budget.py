@@ -9,7 +9,8 @@ import io
 import re
 import stat
 
-from toolcase import CHANNEL, ROOT, RUN, TIDE, breaks, command, equal, folder, holds, interrupted, known, refuses, run_all
+from toolcase import (CHANNEL, ONE_SIDED, ROOT, RUN, TIDE, breaks, command, equal, folder, holds, interrupted, known, plain_run, refuses,
+                      run_all, without_calls)
 
 import generate
 import lagoon
@@ -75,6 +76,58 @@ def test_outfalls():
           "100 are a concentration of 1,000,001, above 1,000,000 (cause 18)\n" in report, report)
 
 
+def both(report):
+    """The two numbers of each row of a report with plain upwind, by their words."""
+    found = re.findall(r"^ *(\S.*?) +[-+=]? +(-?[\d,]+) +(-?[\d,]+)$", report, re.MULTILINE)
+    return {words: tuple(int(value.replace(",", "")) for value in values) for words, *values in found}
+
+
+def test_plain():
+    """The first-order answer beside the corrected one: of four steps of the channel."""
+    status, out, said = command("budget.py", "--plain", "--run", RUN, data=CHANNEL.replace("times 2", "times 4").encode())
+    report = out.decode()
+    equal((status, said), (0, ""), "the channel with plain upwind")
+    equal(both(report), {"first total": (100000, 100000), "in, face 0": (200000, 200000), "in, all rim faces": (200000, 200000),
+                         "released, all cells": (0, 0), "out, face 3": (30400, 37500), "out, all rim faces": (30400, 37500),
+                         "last total": (269600, 262500), "difference": (0, 0)}, report)
+    holds("corrected  plain upwind\n" in report and "last q farthest apart in cell 1: corrected 1,000, plain 937\n" in report, report)
+    holds("plain upwind, 4 accepted steps: m / V of every cell is less than 4 from steps that round nothing" in report, report)
+
+
+def test_plain_beside_the_reference():
+    """Every row of --csv by plain steps of the reference, of generated sessions, and the other columns as without --plain."""
+    tried = apart = 0
+    for number in range(24):
+        data = generate.session(29, number).data
+        lines = [line.split() for line in plain_run(data).splitlines() if line[0] != "B"]
+        if lines[0][0] in "MF":
+            continue
+        tried += 1
+        status, out, said = command("budget.py", "--plain", "--csv", "-", data=data)
+        alone = command("budget.py", "--csv", "-", data=data)[1]
+        equal((status, both(said)["difference"]), (0, (0, 0)), f"session {number}: {said}")
+        rows, corrected = (list(csv.reader(io.StringIO(text.decode()))) for text in (out, alone))
+        wide = len(corrected[0])
+        equal([row[:wide] for row in rows], corrected, f"session {number}, the corrected steps")
+        equal(rows[0][wide:], [f"plain {head}" for head in rows[0][1:wide]], f"session {number}, heads")
+        for row, line in zip(rows[1:], lines, strict=True):
+            wanted = ["0", "0", row[wide + 2], "0", *line[2:]] if line[1] == "R" else [*line[1:], "", ""]
+            equal(row[wide:wide + 6], wanted, f"session {number}, row {line[0]}")
+            apart += row[wide:] != row[1:wide]
+    holds(tried > 10 and apart > 10, f"only {tried} sessions with steps, {apart} steps with other figures")
+
+
+def test_refused_by_one_alone():
+    """A release that is too much for one of the two fields."""
+    session = CHANNEL.replace("step times 2", "step") + ONE_SIDED
+    status, out, said = command("budget.py", "--plain", "--run", RUN, data=session.encode())
+    report = out.decode()
+    equal((status, said, both(report)["released, all cells"], both(report)["difference"]), (0, "", (99950100, 99900001), (0, 0)), report)
+    holds("  step 2: cell 0: mass 100,099 and release 99,900,001" in report, report)
+    holds("refused by plain upwind:\n1 step refused by cause 18" in report, report)
+    holds("  step 3: cell 1: mass 50,000 and release 99,950,100" in report, report)
+
+
 def test_months_follow_one_another():
     """The second half from the last field of the first gives the whole."""
     with folder() as made:
@@ -136,6 +189,7 @@ def test_the_command():
     refuses("<stdin>:2:15: a volume", "budget.py", data=b"mesh\ncell 0 volume x\n")
     refuses("the mesh is refused: cell 0: volume 0", "budget.py", data=CHANNEL.replace("volume 100", "volume 0", 1).encode())
     refuses("nowhere: No such file", "budget.py", "nowhere")
+    without_calls("budget.py", data=CHANNEL.encode())
     tide = ROOT / "examples" / "tide.txt"
     refuses("is read", "budget.py", tide, "--field", tide)
 

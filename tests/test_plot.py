@@ -7,7 +7,8 @@
 import csv
 import xml.etree.ElementTree as xml
 
-from toolcase import CHANNEL, ROOT, RUN, TIDE, breaks, command, equal, folder, holds, interrupted, known, refuses, run_all
+from toolcase import (CHANNEL, ONE_SIDED, ROOT, RUN, TIDE, breaks, command, equal, folder, holds, interrupted, known, plain_run, refuses,
+                      run_all, without_calls)
 
 import lagoon
 import plot
@@ -130,6 +131,39 @@ def test_outfalls():
     holds("released" not in picture(data=CHANNEL.encode())[1], "a session without releases says nothing of them")
 
 
+def test_plain():
+    """Plain upwind beside the corrected step: lines, profiles, budget and table; where nothing differs it has no line."""
+    with folder() as made:
+        panels, out = picture("--plain", "--cells", "0,3", "--profile", "last", "--csv", f"{made}/both.csv", "--run", RUN, data=TIDE.encode())
+        with open(f"{made}/both.csv") as file:
+            rows = list(csv.reader(file))
+    lines = [line.split() for line in plain_run(sessiontext.pack(TIDE)[0]).splitlines() if line[0] != "B"]
+    heads = ["q cell 0", "q cell 3", "total", "in", "out", "released", "cause"]
+    equal(rows[0], ["step", *heads, *(f"plain {head}" for head in heads)], "heading of the table")
+    equal([[row[11], row[12], row[10], row[13], row[14]] for row in rows[1:]],
+          [["0", "0", row[10], "0", "9"] if line[1] == "R" else [*line[1:], ""] for row, line in zip(rows[1:], lines, strict=True)],
+          "in, out, total, released and cause by plain upwind")
+    cells = drawn(panels[CONCENTRATION])
+    equal(list(cells), ["cell 0", "cell 0, plain", "cell 3", "cell 3, plain"], "lines")
+    near(cells["cell 3"], [int(row[2]) for row in rows[1:]], 200, "cell 3")
+    near(cells["cell 3, plain"], [int(row[9]) for row in rows[1:]], 200, "cell 3 by plain upwind")
+    equal(list(drawn(panels["Concentration q over the cells"])), ["after step 49", "after step 49, plain"], "profiles")
+    near(drawn(panels[TOTAL])["total, plain"], [int(row[10]) for row in rows[1:]], 10 ** 6, "total by plain upwind")
+    equal(list(drawn(panels[RATES])), ["in", "out", "out, plain"], "what enters is the same")
+    holds("plain upwind: total 197,065,520 = first total 245,000,000 + in 211,568,000 − out 259,502,480" in out, "the budget")
+    equal(len(marks(panels[TOTAL])), 2, "one refusal, by both, and the legend's cross")
+    equal(picture("--cells", "0,3", data=TIDE.encode())[1].count("plain"), 0, "without --plain nothing is said of it")
+
+
+def test_refused_by_one_alone():
+    panels, out = picture("--plain", data=(CHANNEL.replace("step times 2", "step") + ONE_SIDED).encode())
+    told = marks(panels[TOTAL])
+    holds(told[0].startswith("step 2 refused: cell 0: mass 100,099 and"), told)
+    holds(told[1].startswith("step 3 refused by plain upwind: cell 1: mass 50,000 and"), told)
+    equal(told[2], "1 refused, plain 1", "the legend")
+    holds("plain upwind: 1 step refused by cause 18" in out, "its cause below")
+
+
 def test_titles():
     """Any title makes a picture that can be read as XML: long, with control characters, with signs of XML, empty."""
     for title in ("long " * 80, "wide" * 100, "\x1b[31mred\x07", "<b>&amp;\"'", "", "塩" * 90, "\udcff"):
@@ -174,6 +208,7 @@ def test_the_command():
     channel = ROOT / "examples" / "channel.txt"
     refuses("is read", "plot.py", channel, "-o", channel)
     refuses("nowhere: No such file", "plot.py", "nowhere")
+    without_calls("plot.py", data=CHANNEL.encode())
 
 
 if __name__ == "__main__":

@@ -13,6 +13,8 @@ TOOLS = ROOT / "tools"
 RUN = ROOT / "target" / "bin" / "run"
 sys.path[:0] = [str(TOOLS), str(ROOT / "reference")]
 
+import engines
+
 CHANNEL = (ROOT / "examples" / "channel.txt").read_text()
 TIDE = (ROOT / "examples" / "tide.txt").read_text()
 
@@ -73,6 +75,32 @@ def known(name, commands=((),)):
         status, out, _ = command(name, *words, "--help")
         equal((status, b"examples:" in out), (0, True), f"help of {name} {words}")
     equal(command(name, "--version"), (0, f"{name} {(ROOT / 'VERSION').read_text().strip()}\n".encode(), ""), f"version of {name}")
+
+
+# two releases after the channel's first step: the first is too much for the corrected field alone, the second for the plain one alone
+ONE_SIDED = "".join(f"step\nface 0 flux 0\nface 1 flux 0\nface 2 flux 0\nface 3 flux 0\n{release}\n"
+                    for release in ("cell 0 release 99900001", "cell 1 release 99950100"))
+
+
+def plain_run(data):
+    """What the run would print of a session if its steps were plain."""
+    plain = engines.load(ROOT / "reference" / "lagoon.py", "plain_lagoon")
+    plain.advance = plain.advance_plain
+    return plain.run(data)
+
+
+def without_calls(*arguments, data):
+    """A tool that is to make plain steps, beside no program, one that is no `calls`, and one without the call."""
+    refuses("nowhere is not there: `rt check calls` makes it", *arguments, "--plain", "--calls", "nowhere", data=data)
+    refuses("asked for read_step, says 'M 13 0'", *arguments, "--plain", "--calls", RUN, data=data)
+    refuses("asked for read_step, says ''", *arguments, "--plain", "--calls", "/bin/true", data=data)
+    with folder() as made:
+        program = Path(made, "calls")
+        program.write_text("#!/bin/sh\nread script\necho 'read_step: accepted 3; fluxes 0; outsides 0; releases 0'\nread script\n"
+                           "echo 'bad input: line 2, byte 30: no such call'\n")
+        program.chmod(0o700)
+        refuses("asked for plain_step, says 'bad input: line 2, byte 30: no such call': is it the program of this tree?",
+                *arguments, "--plain", "--calls", program, data=data)
 
 
 def session_of(data):

@@ -5,6 +5,7 @@ import csv
 import io
 import sys
 from collections import Counter
+from fractions import Fraction
 
 import causes
 import command
@@ -17,16 +18,23 @@ The session is text or packed. The engine steps through it, by the C call of the
 here, face by face, as document 01 defines them, and releases cell by cell; the totals are those of the engine's fields. So the
 difference, first total + in + released - out - last total, is a check: it is 0, and where it is not the exit status is 1.
 
+--plain sets the first-order answer beside it: plain upwind (document 02, S-8) from the same first field, step by step, with a column of
+its own in the report and columns of its own in --csv. The C call makes corrected steps only, so the plain ones are made by the program
+`calls` (`rt check calls`, or --calls). Its error is a promise: after n accepted plain steps m / V of every cell is less than n from what
+the same steps give when q is not rounded down. --field is of the corrected steps, and so is what --run is held against.
+
 --field writes the field after the last step as a record. The next month begins with it:
 
   tools/budget.py june.in --field june.field
   tools/records.py pack july.txt --field june.field -o july.in
 
---csv has a row for each step: step, in, out, total, released, cause and place of a refusal, then in and out of each rim face.
+--csv has a row for each step: step, in, out, total, released, cause and place of a refusal, then in and out of each rim face; with
+--plain, then the same but the step's number by plain upwind.
 
 examples:
   tools/budget.py examples/tide.txt
   tools/budget.py session.in --run target/bin/run --csv budget.csv --field last.field
+  tools/budget.py session.in --plain
 """
 
 MOST_REFUSALS = 20
@@ -37,7 +45,7 @@ class Budget:
 
     def __init__(self, session):
         self.first = self.last = sum(session.masses)
-        self.rim = session.mesh.rim
+        self.rim, self.masses = session.mesh.rim, session.masses
         self.entered, self.gone = Counter(), Counter()          # by rim face
         self.released = Counter()                               # by cell
         self.accepted, self.refused, self.causes = 0, [], Counter()
@@ -50,7 +58,7 @@ class Budget:
             self.entered.update(moment.entered)
             self.gone.update(moment.gone)
             self.released.update(moment.released)
-            self.last = sum(moment.masses)
+            self.masses, self.last = moment.masses, sum(moment.masses)
 
     def refuse(self, number, refusal):
         """Equal refusals of steps that follow one another are one."""
@@ -64,23 +72,33 @@ class Budget:
         return self.first + sum(self.entered.values()) + sum(self.released.values()) - sum(self.gone.values()) - self.last
 
 
-def report(budget, session, name):
-    mesh, labels = session.mesh, session.labels
-    steps = budget.accepted + sum(budget.causes.values())
+def report(budgets, session, name):
+    """The budget of the corrected steps and, where it is asked for, of plain upwind."""
+    mesh, labels, corrected = session.mesh, session.labels, budgets[0]
+    steps = corrected.accepted + sum(corrected.causes.values())
     unit = labels.units.get("mass")
     lines = [f"Salt budget of {name}" + (f", masses in units of {unit}" if unit else ""),
              f"{count(len(mesh.volumes), 'cell')}, {count(len(mesh.faces), 'face')} ({len(mesh.rim):,} at the rim); "
-             f"{count(steps, 'step')}, {budget.accepted:,} accepted, {sum(budget.causes.values()):,} refused", ""]
-    rows = [("first total", "", budget.first)]
-    for sign, words, sums, thing, places, every in (("+", "in", budget.entered, "face", mesh.rim, "all rim faces"),
-                                                    ("+", "released", budget.released, "cell", range(len(mesh.volumes)), "all cells"),
-                                                    ("-", "out", budget.gone, "face", mesh.rim, "all rim faces")):
-        rows += [(f"  {words}, {labels.of(thing, place)}", sign, sums[place]) for place in places if sums[place]]
-        rows.append((f"{words}, {every}", sign, sum(sums.values())))
-    rows += [("last total", "=", budget.last), ("difference", "", budget.difference())]
-    wide, figures = max(len(row[0]) for row in rows), max(len(f"{row[2]:,}") for row in rows)
-    lines += [f"{words:{wide}} {sign:1} {value:>{figures},}" for words, sign, value in rows]
-    return lines + refusals(budget, labels)
+             f"{count(steps, 'step')}, {corrected.accepted:,} accepted, {sum(corrected.causes.values()):,} refused", ""]
+    rows = [("first total", "", [budget.first for budget in budgets])]
+    for sign, words, thing, places, every in (("+", "in", "face", mesh.rim, "all rim faces"),
+                                              ("+", "released", "cell", range(len(mesh.volumes)), "all cells"),
+                                              ("-", "out", "face", mesh.rim, "all rim faces")):
+        sums = [{"in": budget.entered, "released": budget.released, "out": budget.gone}[words] for budget in budgets]
+        rows += [(f"  {words}, {labels.of(thing, place)}", sign, [each[place] for each in sums])
+                 for place in places if any(each[place] for each in sums)]
+        rows.append((f"{words}, {every}", sign, [sum(each.values()) for each in sums]))
+    rows += [("last total", "=", [budget.last for budget in budgets]), ("difference", "", [budget.difference() for budget in budgets])]
+    lines += columns(rows, ("corrected", "plain upwind") if len(budgets) > 1 else ("",)) + refusals(corrected, labels)
+    return lines + (beside(*budgets, session) if len(budgets) > 1 else [])
+
+
+def columns(rows, heads):
+    """Words, a sign and a figure under each head; a single column has an empty head, which is not shown."""
+    wide = max(len(row[0]) for row in rows)
+    rooms = [max(len(head), *(len(f"{row[2][i]:,}") for row in rows)) for i, head in enumerate(heads)]
+    line = lambda words, sign, values: f"{words:{wide}} {sign:1} " + "  ".join(f"{value:>{room}}" for value, room in zip(values, rooms))
+    return [line("", "", heads)] * (len(heads) > 1) + [line(words, sign, [f"{value:,}" for value in values]) for words, sign, values in rows]
 
 
 def refusals(budget, labels):
@@ -94,6 +112,21 @@ def refusals(budget, labels):
     return lines
 
 
+def beside(corrected, plain, session):
+    """How far the two last fields are apart, what plain upwind's error is, and its refusals where they are others."""
+    volumes = session.mesh.volumes
+    apart = lambda cell: abs(Fraction(corrected.masses[cell] - plain.masses[cell], volumes[cell]))
+    cell = max(range(len(volumes)), key=lambda cell: (apart(cell), -cell))
+    lines = ["", f"last q farthest apart in {session.labels.of('cell', cell)}: corrected {corrected.masses[cell] // volumes[cell]:,}, "
+                 f"plain {plain.masses[cell] // volumes[cell]:,}"]
+    if plain.accepted:
+        lines.append(f"plain upwind, {count(plain.accepted, 'accepted step')}: "
+                     f"m / V of every cell is less than {plain.accepted:,} from steps that round nothing")
+    if plain.refused != corrected.refused:
+        lines += ["", "refused by plain upwind:" if plain.refused else "plain upwind refuses no step", *refusals(plain, session.labels)[1:]]
+    return lines
+
+
 def steps_words(first, last):
     return f"step {first}" if first == last else f"steps {first} to {last}"
 
@@ -101,11 +134,12 @@ def steps_words(first, last):
 class Rows:
     """The rows of --csv."""
 
-    def __init__(self, output, session):
+    def __init__(self, output, session, plain):
         self.output, self.rim, self.text = output, session.mesh.rim, io.StringIO()
         self.writer = csv.writer(self.text, lineterminator="\n")
-        faces = [f"{words} {session.labels.of('face', face)}" for face in self.rim for words in ("in", "out")]
-        self.row(["step", "in", "out", "total", "released", "cause", "place", *faces])
+        heads = ["in", "out", "total", "released", "cause", "place"]
+        heads += [f"{words} {session.labels.of('face', face)}" for face in self.rim for words in ("in", "out")]
+        self.row(["step", *heads, *([f"plain {head}" for head in heads] if plain else [])])
 
     def row(self, row):
         self.writer.writerow(row)
@@ -113,33 +147,44 @@ class Rows:
         self.text.seek(0)
         self.text.truncate()
 
-    def add(self, moment):
+    def add(self, moments):
+        self.row([moments[0].number, *(figure for moment in moments for figure in self.figures(moment))])
+
+    def figures(self, moment):
         refused = (moment.refusal.cause, moment.refusal.place) if moment.refusal else ("", "")
         faces = [sums.get(face, 0) for face in self.rim for sums in (moment.entered, moment.gone)]
-        sums = [sum(part.values()) for part in (moment.entered, moment.gone, moment.released)]
-        self.row([moment.number, *sums[:2], sum(moment.masses), sums[2], *refused, *faces])
+        entered, gone, released = (sum(part.values()) for part in (moment.entered, moment.gone, moment.released))
+        return [entered, gone, sum(moment.masses), released, *refused, *faces]
+
+
+def walked(history, budgets, rows=None):
+    """Adds every step to its budgets, and its row."""
+    for both in history.both():
+        moments = both[:len(budgets)]
+        for budget, moment in zip(budgets, moments):
+            budget.add(moment)
+        if rows:
+            rows.add(moments)
 
 
 def run(options):
     session = open_session(options.file)
-    history, budget = engine.History(session, options.library, options.run), Budget(session)
+    plain = engine.Plain(session.mesh, options.calls) if options.plain else None
+    history = engine.History(session, options.library, options.run, plain)
+    budgets = [Budget(session) for _ in range(2 if plain else 1)]
     if options.csv:
         with Output(options.csv) as output:
-            rows = Rows(output, session)
-            for moment in history.moments():
-                budget.add(moment)
-                rows.add(moment)
+            walked(history, budgets, Rows(output, session, plain))
     else:
-        for moment in history.moments():
-            budget.add(moment)
+        walked(history, budgets)
     if options.field:
-        command.write_whole(options.field, history.field)
-    lines = report(budget, session, command.named(options.file))
+        command.write_whole(options.field, history.corrected.field)
+    lines = report(budgets, session, command.named(options.file))
     if options.csv == "-" or options.field == "-":
         command.say("\n".join(lines))
     else:
         print("\n".join(lines))
-    return 1 if budget.difference() else 0
+    return 1 if any(budget.difference() for budget in budgets) else 0
 
 
 def arguments():
@@ -148,6 +193,7 @@ def arguments():
     parser.add_argument("--csv", metavar="FILE", help="write a row for each step (- is standard output; the report is then on standard error)")
     parser.add_argument("--field", metavar="FILE", help="write the last field record")
     engine.options(parser)
+    engine.plain_options(parser)
     return parser.parse_args()
 
 
@@ -155,7 +201,7 @@ def main():
     options = arguments()
     for output in (options.csv, options.field):
         if output:
-            command.apart(output, options.file, *([options.library] if options.library else []))
+            command.apart(output, options.file, *(path for path in (options.library, options.calls) if path))
     return run(options)
 
 

@@ -1,4 +1,5 @@
-"""The proved step, called from Python through the library's shared object, and a session stepped through it."""
+"""The proved steps, called from Python, and a session stepped through them: the corrected step through the library's shared object, the
+plain one of document 02's S-8 through the program `calls`."""
 
 import ctypes
 import os
@@ -9,6 +10,7 @@ from fractions import Fraction
 
 import causes
 import layout
+from calls import Calls, spelled
 from command import ROOT, Bad
 
 SHARED = ROOT / "target" / "lib" / "liblagoon.so"
@@ -21,6 +23,12 @@ Moment = namedtuple("Moment", "number refusal masses entered gone released")
 def options(parser):
     parser.add_argument("--library", metavar="FILE", help="the shared object of the library (default: target/lib/liblagoon.so, which `make lib` makes)")
     parser.add_argument("--run", metavar="PROGRAM", help="the run program: its lines have to say the same of every step and of the board")
+
+
+def plain_options(parser):
+    parser.add_argument("--plain", action="store_true", help="show plain upwind beside the corrected step")
+    parser.add_argument("--calls", metavar="PROGRAM",
+                        help="the program that makes the plain steps (default: target/bin/calls, which `rt check calls` makes)")
 
 
 def loaded(path):
@@ -49,47 +57,50 @@ class Engine:
         return (None, (answer >> 32, answer & 0xffffffff)) if answer else (room.raw, None)
 
 
-class History:
-    """A session stepped through the engine. What the engine refuses has to be what the words of tools/causes.py say."""
+class Plain:
+    """The plain step on a mesh, by the program `calls`: the C call makes corrected steps only."""
 
-    def __init__(self, session, library=None, program=None):
-        self.session, self.mesh, self.program = session, session.mesh, program
-        self.engine = Engine(session.mesh_record, library)
-        self.field = session.field_record
-        self.lines, self.records = [], None     # as the run prints them, and what it reads
-        if program:
-            self.records = tempfile.TemporaryFile()
-            self.keep(f"0 0 0 {sum(session.masses)} 0", session.mesh_record + session.field_record)
+    def __init__(self, mesh, program=None):
+        self.calls = Calls(program)
+        cells, faces = len(mesh.volumes), len(mesh.faces)
+        columns = [spelled([face[column] for face in mesh.faces]) for column in range(4)]
+        self.read = (cells, faces, columns[1])
+        self.fluxes_outsides_releases = ([0] * faces, [0] * faces, [0] * cells)
+        self.mesh = (cells, faces, spelled(mesh.volumes), *columns)
+        self.next_moved_work = tuple(map(spelled, ([0] * cells, [0] * faces, [0] * (4 * cells + faces))))
 
-    def keep(self, line, record=b""):
-        if self.program:
-            self.lines.append(line)
-            self.records.write(record)
+    def step(self, field, step):
+        """The next field record, or None and the answer's cause and place."""
+        said, read = self.calls.ask("read_step", *self.read, list(step), *self.fluxes_outsides_releases)
+        if said[0] == "accepted":
+            said, left = self.calls.ask("plain_step", *self.mesh, layout.masses_in(field), read["fluxes"], read["outsides"],
+                                        *self.next_moved_work, read["releases"])
+        return (layout.field_record(left["next"]), None) if said[0] == "accepted" else (None, tuple(map(int, said[1:])))
 
-    def moments(self):
-        masses, number = self.session.masses, 0
-        yield Moment(0, None, masses, {}, {}, {})
-        for record, damage in self.session.steps():
-            number += 1
-            field, refused = self.engine.step(self.field, record)
-            if refused:
-                self.keep(f"{number} R {refused[0]} {refused[1]}", record)
-                yield Moment(number, self.words(number, damage, refused, masses), masses, {}, {}, {})
-                continue
-            releases = layout.releases_in(record, self.mesh)
-            entered, gone = self.over_the_rim(record, [mass + release for mass, release in zip(masses, releases)])
-            self.field, masses = field, layout.masses_in(field)
-            self.keep(f"{number} {sum(entered.values())} {sum(gone.values())} {sum(masses)} {sum(releases)}", record)
-            yield Moment(number, None, masses, entered, gone, {cell: release for cell, release in enumerate(releases) if release})
-        for cell, q, rest in board(self.mesh.volumes, masses):
-            self.keep(f"B {cell} {q} {rest}")
-        if self.program:
-            self.records.seek(0)
-            agree(self.program, self.records, self.lines)
 
-    def words(self, number, damage, refused, masses):
+class Walk:
+    """A field carried on by one of the engine's steps. What the engine refuses has to be what the words of tools/causes.py say."""
+
+    def __init__(self, session, step):
+        self.session, self.mesh, self.step = session, session.mesh, step
+        self.field, self.masses = session.field_record, session.masses
+
+    def first(self):
+        return Moment(0, None, self.masses, {}, {}, {})
+
+    def after(self, number, record, damage):
+        """The moment after one step more."""
+        field, refused = self.step(self.field, record)
+        if refused:
+            return Moment(number, self.words(number, damage, refused), self.masses, {}, {}, {})
+        releases = layout.releases_in(record, self.mesh)
+        entered, gone = self.over_the_rim(record, [mass + release for mass, release in zip(self.masses, releases)])
+        self.field, self.masses = field, layout.masses_in(field)
+        return Moment(number, None, self.masses, entered, gone, {cell: release for cell, release in enumerate(releases) if release})
+
+    def words(self, number, damage, refused):
         """The words of a refusal, which have to be about the engine's cause and place."""
-        refusal = causes.damaged(damage) if damage else causes.refused_step(self.session.source, self.mesh, masses)
+        refusal = causes.damaged(damage) if damage else causes.refused_step(self.session.source, self.mesh, self.masses)
         if refusal is None or (refusal.cause, refusal.place) != refused:
             raise Bad(f"step {number}: the engine refuses it by cause {refused[0]}, place {refused[1]}, and tools/causes.py finds "
                       + (causes.told(refusal) if refusal else "nothing wrong with it"))
@@ -105,6 +116,50 @@ class History:
             elif flux:
                 gone[face] = flux * (masses[first] // self.mesh.volumes[first])
         return entered, gone
+
+
+class History:
+    """A session stepped through the engine; with plain, a Plain, by plain upwind as well."""
+
+    def __init__(self, session, library=None, program=None, plain=None):
+        self.session, self.mesh, self.program = session, session.mesh, program
+        self.corrected = Walk(session, Engine(session.mesh_record, library).step)
+        self.plain = Walk(session, plain.step) if plain else None
+        self.lines, self.records = [], None     # as the run prints them, and what it reads
+        if program:
+            self.records = tempfile.TemporaryFile()
+            self.records.write(session.mesh_record + session.field_record)
+
+    def moments(self):
+        """A moment for the first field and for each step, by the corrected step."""
+        for corrected, _ in self.both():
+            yield corrected
+
+    def both(self):
+        """The same, and beside it the moment by plain upwind, or None."""
+        yield self.kept(self.corrected.first()), self.plain and self.plain.first()
+        for number, (record, damage) in enumerate(self.session.steps(), 1):
+            corrected = self.corrected.after(number, record, damage)
+            yield self.kept(corrected, record), self.plain and self.plain.after(number, record, damage)
+        if self.program:
+            self.lines += [f"B {cell} {q} {rest}" for cell, q, rest in board(self.mesh.volumes, self.corrected.masses)]
+            self.records.seek(0)
+            agree(self.program, self.records, self.lines)
+
+    def kept(self, moment, record=b""):
+        """The moment, for the run program as it should print it."""
+        if self.program:
+            self.lines.append(line(moment))
+            self.records.write(record)
+        return moment
+
+
+def line(moment):
+    """What the run prints of a step."""
+    if moment.refusal:
+        return f"{moment.number} R {moment.refusal.cause} {moment.refusal.place}"
+    entered, gone, released = (sum(part.values()) for part in (moment.entered, moment.gone, moment.released))
+    return f"{moment.number} {entered} {gone} {sum(moment.masses)} {released}"
 
 
 def board(volumes, masses):

@@ -31,10 +31,15 @@ by a cross or, where there are more than a few, by a tick; its cause is in its t
 may show a tide falsely: with N near its period all points are of one phase. --csv writes the figures that are drawn.
 The engine is the C call of the library (`make lib`); with --run the run program has to print the same lines, else nothing is drawn.
 
+--plain draws the first-order answer beside it, dashed: plain upwind (document 02, S-8) from the same first field, step by step, and its
+budget below. The C call makes corrected steps only, so the plain ones are made by the program `calls` (`rt check calls`, or --calls).
+After n accepted plain steps m / V of every cell is less than n from what the same steps give when q is not rounded down.
+
 examples:
   tools/plot.py tests/sessions/channel.in -o channel.svg
   tools/records.py pack examples/channel.txt | tools/plot.py --cells 0-2 > channel.svg
   tools/plot.py session.in --cells 0,7,30-33 --title "East basin, June" --profile 0,last --run target/bin/run -o june.svg
+  tools/plot.py session.in --plain --cells 0,7 -o both.svg
 """
 
 MOST_CELLS = MOST_PROFILES = 8
@@ -48,7 +53,9 @@ WIDTH, LEFT, RIGHT, PANEL, GAP, BELOW = 960, 115, 215, 210, 92, 60
 PLOT = WIDTH - LEFT - RIGHT
 LINE_WIDE, LEGEND_WIDE, TITLE_LINES = 74, 23, 2     # in letters
 
-Line = namedtuple("Line", "name colour dash values")
+PLAIN_DASH = "2 3"
+
+Line = namedtuple("Line", "name colour dash values plain", defaults=(False,))       # plain: by plain upwind, and not in the legend by its name
 Panel = namedtuple("Panel", "title unit axis span xs lines marks")      # marks: is it over steps, so that refusals are marked
 
 
@@ -57,27 +64,30 @@ Panel = namedtuple("Panel", "title unit axis span xs lines marks")      # marks:
 class Figures:
     """What is drawn of a session: after each step that is kept q of the chosen cells, total, in-mass, out-mass and released mass."""
 
-    def __init__(self, history, cells, every, profiles):
-        self.session, self.mesh, self.cells = history.session, history.mesh, cells
+    def __init__(self, session, cells, every, wanted):
+        self.session, self.mesh, self.cells, self.every, self.wanted = session, session.mesh, cells, every, wanted
         self.steps, self.q = array("Q"), {cell: array("Q") for cell in cells}
         self.total, self.entered, self.gone, self.released = array("Q"), array("Q"), array("Q"), array("Q")
         self.all_in = self.all_out = self.all_released = self.last = 0
-        self.refused, self.causes, self.profiles = [], Counter(), {}
-        held = None
-        for moment in history.moments():
-            self.add(moment)
-            if moment.number in profiles:
-                self.profiles[moment.number] = self.profile(moment.masses)
-            held = moment
-            if moment.number % every == 0:
-                self.keep(moment)
-        if held.number % every:
-            self.keep(held)
-        if "last" in profiles:
-            self.profiles[held.number] = self.profile(held.masses)
-        beyond = [step for step in profiles if step != "last" and step > held.number]
+        self.refused, self.causes, self.profiles, self.held = [], Counter(), {}, None
+
+    def take(self, moment):
+        self.add(moment)
+        if moment.number in self.wanted:
+            self.profiles[moment.number] = self.profile(moment.masses)
+        self.held = moment
+        if moment.number % self.every == 0:
+            self.keep(moment)
+
+    def finish(self):
+        """The last step is kept too."""
+        if self.last % self.every:
+            self.keep(self.held)
+        if "last" in self.wanted:
+            self.profiles[self.last] = self.profile(self.held.masses)
+        beyond = [step for step in self.wanted if step != "last" and step > self.last]
         if beyond:
-            raise Bad(f"--profile: there is no step {beyond[0]}, the last is {held.number}")
+            raise Bad(f"--profile: there is no step {beyond[0]}, the last is {self.last}")
 
     def add(self, moment):
         self.last = moment.number
@@ -99,6 +109,20 @@ class Figures:
 
     def profile(self, masses):
         return [mass // volume for mass, volume in zip(masses, self.mesh.volumes)]
+
+
+def figures_of(history, cells, every, profiles):
+    """The figures of the corrected steps, and of the plain ones, or None."""
+    corrected = Figures(history.session, cells, every, profiles)
+    plain = Figures(history.session, cells, every, profiles) if history.plain else None
+    for moments in history.both():
+        for figures, moment in zip((corrected, plain), moments):
+            if figures:
+                figures.take(moment)
+    for figures in (corrected, plain):
+        if figures:
+            figures.finish()
+    return corrected, plain
 
 
 def last_board(history):
@@ -235,8 +259,9 @@ def means(xs, values, first, last):
 class Drawing:
     """The parts of the picture, from the top down."""
 
-    def __init__(self, figures, title):
-        self.figures, self.parts, self.top = figures, [], 30
+    def __init__(self, figures, plain, title):
+        self.figures, self.plain, self.parts, self.top = figures, plain, [], 30
+        self.others = plain is not None and plain.refused != figures.refused        # does plain upwind refuse other steps?
         for line in wrapped(title, LINE_WIDE, TITLE_LINES):
             self.text(LEFT, self.top, line, size=18, weight="bold")
             self.top += 24
@@ -291,7 +316,7 @@ class Drawing:
         self.parts.append(f'<g class="line" fill="{line.colour}">{self.titled(line.name)}')
         self.parts.append(f'<polyline fill="none" stroke="{line.colour}" stroke-width="2" stroke-linejoin="round"{dashed(line.dash)} '
                           f'points="{joined(points)}"/>')
-        if len(points) <= MARKED:
+        if len(points) <= MARKED and not line.plain:
             self.parts += [f'<circle cx="{at:.2f}" cy="{height:.2f}" r="3"/>' for at, height in points]
         self.parts.append("</g>")
 
@@ -305,17 +330,21 @@ class Drawing:
                           f'points="{joined([(at, y(mean)) for at, mean in means(panel.xs, line.values, first, last)])}"/></g>')
 
     def refusals(self, x, bottom):
+        told = [(step, "refused", refusal) for step, refusal in self.figures.refused]
+        if self.others:
+            known = {step for step, _, _ in told}
+            told = sorted(told + [(step, "refused by plain upwind", refusal) for step, refusal in self.plain.refused if step not in known])
         labels = self.figures.session.labels
-        if len(self.figures.refused) <= MOST_CROSSES:
-            for step, refusal in self.figures.refused:
-                self.cross(x(step), bottom, f"step {step} refused: {causes.told(refusal, labels)}")
+        if len(told) <= MOST_CROSSES:
+            for step, verb, refusal in told:
+                self.cross(x(step), bottom, f"step {step} {verb}: {causes.told(refusal, labels)}")
             return
         by_column = {}
-        for step, refusal in self.figures.refused:
-            by_column.setdefault(int(x(step)), []).append((step, refusal))
+        for row in told:
+            by_column.setdefault(int(x(row[0])), []).append(row)
         for rows in by_column.values():
-            (first, refusal), (last, _) = rows[0], rows[-1]
-            words = f"step {first} refused: {causes.told(refusal, labels)}"
+            (first, verb, refusal), (last, *_) = rows[0], rows[-1]
+            words = f"step {first} {verb}: {causes.told(refusal, labels)}"
             if len(rows) > 1:
                 words = f"{len(rows)} of the steps {first} to {last} refused; the first: {causes.told(refusal, labels)}"
             self.tick(x(first), bottom, words)
@@ -329,14 +358,17 @@ class Drawing:
 
     def legend(self, panel, top):
         x = LEFT + PLOT + 18
-        for row, line in enumerate(panel.lines):
+        lines = [line for line in panel.lines if not line.plain]
+        if len(lines) < len(panel.lines):
+            lines.append(Line("plain upwind", "#222222", PLAIN_DASH, None))
+        for row, line in enumerate(lines):
             y = top + 8 + 22 * row
             self.parts.append(f'<line x1="{x}" y1="{y}" x2="{x + 28}" y2="{y}" stroke="{line.colour}" stroke-width="2"{dashed(line.dash)}/>')
             self.text(x + 36, y + 4, cut(line.name, LEGEND_WIDE))
         refused = len(self.figures.refused)
-        if refused and panel.marks:
-            y = top + 8 + 22 * len(panel.lines)
-            words = f"{refused:,} refused"
+        if (refused or self.others) and panel.marks:
+            y = top + 8 + 22 * len(lines)
+            words = f"{refused:,} refused" + (f", plain {len(self.plain.refused):,}" if self.others else "")
             if refused <= MOST_CROSSES:
                 self.cross(x + 14, y, words)
             else:
@@ -344,18 +376,31 @@ class Drawing:
             self.text(x + 36, y + 4, words)
 
     def foot(self):
-        """The budget in a line, and the causes of what was refused."""
-        figures = self.figures
+        """The budget in a line, and the causes of what was refused; then those of plain upwind, its causes where they are others."""
         self.top -= GAP - BELOW
+        self.budget(self.figures, "")
+        self.refused_by(self.figures, "")
+        if self.plain:
+            self.top += 20
+            self.budget(self.plain, "plain upwind: ")
+            if self.others:
+                self.refused_by(self.plain, "plain upwind: ")
+
+    def budget(self, figures, whose):
         released = f" + released {figures.all_released:,}" if figures.all_released else ""
-        self.text(LEFT, self.top, f"total {figures.total[-1]:,} = first total {figures.total[0]:,} + in {figures.all_in:,}{released}"
+        self.text(LEFT, self.top, f"{whose}total {figures.total[-1]:,} = first total {figures.total[0]:,} + in {figures.all_in:,}{released}"
                                   f" − out {figures.all_out:,}")
-        for cause, number in figures.causes.most_common(MOST_CAUSES):
-            self.top += 20
-            self.text(LEFT, self.top, f"{count(number, 'step')} refused by cause {cause}: {causes.IN_WORDS[cause]}")
+
+    def refused_by(self, figures, whose):
+        lines = [f"{count(number, 'step')} refused by cause {cause}: {causes.IN_WORDS[cause]}"
+                 for cause, number in figures.causes.most_common(MOST_CAUSES)]
         if len(figures.causes) > MOST_CAUSES:
+            lines.append(f"and {count(len(figures.causes) - MOST_CAUSES, 'more cause')}")
+        if whose and not lines:
+            lines.append("no step refused")
+        for line in lines:
             self.top += 20
-            self.text(LEFT, self.top, f"and {count(len(figures.causes) - MOST_CAUSES, 'more cause')}")
+            self.text(LEFT, self.top, whose + line)
 
     def svg(self):
         height = self.top + 20
@@ -378,38 +423,60 @@ def named(labels, cell):
     return f"{cell} {name}" if name else f"cell {cell}"
 
 
-def picture(figures, title):
-    labels, drawing = figures.session.labels, Drawing(figures, title)
+def twice(name, colour, dash, values, others):
+    """A line, and beside it that of plain upwind, where there is one."""
+    return [Line(name, colour, dash, values)] + ([] if others is None else [Line(f"{name}, plain", colour, PLAIN_DASH, others, True)])
+
+
+def picture(figures, plain, title):
+    labels, drawing = figures.session.labels, Drawing(figures, plain, title)
     step_unit = labels.units.get("step")
     axis = f"step of {step_unit}" if step_unit else "step"
     q_unit, unit, steps = per_unit(labels.units), mass_unit(labels.units), (0, figures.last)
-    drawing.panel(Panel("Concentration q after each step", q_unit, axis, steps, figures.steps,
-                        [Line(named(labels, cell), colour, "", figures.q[cell]) for cell, colour in zip(figures.cells, COLOURS)], True))
+    lines = [line for cell, colour in zip(figures.cells, COLOURS)
+             for line in twice(named(labels, cell), colour, "", figures.q[cell], plain and plain.q[cell])]
+    drawing.panel(Panel("Concentration q after each step", q_unit, axis, steps, figures.steps, lines, True))
     if figures.profiles:
-        drawing.panel(Panel("Concentration q over the cells", q_unit, "cell", (0, len(figures.mesh.volumes) - 1), range(len(figures.mesh.volumes)),
-                            [Line(f"after step {step:,}", colour, "", values)
-                             for (step, values), colour in zip(sorted(figures.profiles.items()), COLOURS)], False))
-    drawing.panel(Panel("Total of all masses", unit, axis, steps, figures.steps, [Line("total", "#000000", "", figures.total)], True))
+        lines = [line for (step, values), colour in zip(sorted(figures.profiles.items()), COLOURS)
+                 for line in twice(f"after step {step:,}", colour, "", values, plain and plain.profiles[step])]
+        cells = len(figures.mesh.volumes)
+        drawing.panel(Panel("Concentration q over the cells", q_unit, "cell", (0, cells - 1), range(cells), lines, False))
+    lines = twice("total", "#000000", "", figures.total, plain and plain.total)
+    drawing.panel(Panel("Total of all masses", unit, axis, steps, figures.steps, lines, True))
     if len(figures.steps) > 1:
-        title = "In-mass and out-mass of each step"
-        lines = [Line("in", "#0072b2", "", figures.entered[1:]), Line("out", "#d55e00", "6 3", figures.gone[1:])]
-        if figures.all_released:
-            title = "In-mass, out-mass and released mass of each step"
-            lines.append(Line("released", "#009e73", "2 3", figures.released[1:]))
-        drawing.panel(Panel(title, unit, axis, steps, figures.steps[1:], lines, True))
+        drawing.panel(rates(figures, plain, unit, axis, steps))
     drawing.foot()
     return drawing.svg()
 
 
-def table(figures):
+def rates(figures, plain, unit, axis, steps):
+    """The panel of what crosses the rim; of plain upwind what is other than by the corrected steps."""
+    title, names = "In-mass and out-mass of each step", ["in", "out"]
+    if figures.all_released or plain and plain.all_released:
+        title, names = "In-mass, out-mass and released mass of each step", ["in", "out", "released"]
+    lines = []
+    for name, colour, dash in zip(names, ("#0072b2", "#d55e00", "#009e73"), ("", "6 3", "2 3")):
+        values, others = (whose and {"in": whose.entered, "out": whose.gone, "released": whose.released}[name][1:] for whose in (figures, plain))
+        lines += twice(name, colour, dash, values, others if others != values else None)
+    return Panel(title, unit, axis, steps, figures.steps[1:], lines, True)
+
+
+def table(figures, plain):
     """The figures that are drawn, a row for each step that is kept."""
     labels, text = figures.session.labels, io.StringIO()
     writer = csv.writer(text, lineterminator="\n")
-    writer.writerow(["step", *(f"q {labels.of('cell', cell)}" for cell in figures.cells), "total", "in", "out", "released", "cause"])
-    refused = {step: refusal.cause for step, refusal in figures.refused}
-    for row in zip(figures.steps, *(figures.q[cell] for cell in figures.cells), figures.total, figures.entered, figures.gone, figures.released):
-        writer.writerow([*row, refused.get(row[0], "")])
+    heads = [*(f"q {labels.of('cell', cell)}" for cell in figures.cells), "total", "in", "out", "released", "cause"]
+    writer.writerow(["step", *heads, *([f"plain {head}" for head in heads] if plain else [])])
+    for row in zip(figures.steps, *table_columns(figures), *(table_columns(plain) if plain else [])):
+        writer.writerow(row)
     return text.getvalue()
+
+
+def table_columns(figures):
+    """The columns of a table, the last of them the causes."""
+    refused = {step: refusal.cause for step, refusal in figures.refused}
+    return [*(figures.q[cell] for cell in figures.cells), figures.total, figures.entered, figures.gone, figures.released,
+            [refused.get(step, "") for step in figures.steps]]
 
 
 # ---------------------------------------------------------------- The command
@@ -438,11 +505,12 @@ def run(options):
     else:
         cells = last_board(engine.History(session, options.library))
         session = given.session()
-    figures = Figures(engine.History(session, options.library, options.run), cells, options.every, profiles)
+    plain = engine.Plain(session.mesh, options.calls) if options.plain else None
+    figures = figures_of(engine.History(session, options.library, options.run, plain), cells, options.every, profiles)
     title = options.title if options.title is not None else "Session" if options.file == "-" else options.file.rpartition("/")[2]
     if options.csv:
-        command.write_whole(options.csv, table(figures).encode())
-    command.write_whole(options.output, picture(figures, title).encode())
+        command.write_whole(options.csv, table(*figures).encode())
+    command.write_whole(options.output, picture(*figures, title).encode())
     return 0
 
 
@@ -457,6 +525,7 @@ def arguments():
     parser.add_argument("--title", help="the words above the panels (default: the file's name)")
     parser.add_argument("--csv", metavar="FILE", help="write the figures that are drawn")
     engine.options(parser)
+    engine.plain_options(parser)
     return parser.parse_args()
 
 

@@ -3,6 +3,7 @@
 
 import re
 import sys
+from fractions import Fraction
 from pathlib import Path
 
 HERE = Path(__file__).resolve().parent
@@ -27,6 +28,7 @@ examples:
 """
 
 YEAR = 24 * 365
+PLAIN_STEPS = 8         # of the channel, in the table of plain upwind's error
 BLOCK = re.compile(r"(<!-- worked: (\S+) -->\n).*?(<!-- end -->)", re.DOTALL)
 SMALL = 14              # numbers up to here name stages, causes and positions
 
@@ -290,12 +292,22 @@ class Step:
         rows = [("cell", "V", "m", "q", "rest")] + [(c, V[c], self.m[c], self.q[c], self.m[c] - self.q[c] * V[c]) for c in self.cells]
         return ["Before the step"] + columns(rows)
 
-    def stage_1(self):
+    def plain_lines(self):
+        """The same by stages 1 and 5 alone."""
+        plain = lagoon.advance_plain(self.mesh, self.lent, self.U, self.outside, self.releases)
+        moved, after = same(self.carried, plain.moved), same(self.low, plain.masses)
+        ending = ["Stage 5: every face moves what it carries", *self.ending(moved, after)]
+        return [line for stage in (*self.raising(), self.before(), self.carrying(), ending) for line in [*stage, ""]][:-1]
+
+    def carrying(self):
         faces = [("face", "U", "upwind", "q there", "carried = U · q")]
         faces += [(f, signed(self.U[f]), *self.upwind[f], f"{signed(self.U[f])} · {self.upwind[f][1]} = {signed(self.carried[f])}") for f in self.faces]
+        return ["Stage 1, upwind"] + columns(faces)
+
+    def stage_1(self):
         cells = [("cell", "low-order mass = m + entering − leaving")]
         cells += [(c, f"{self.m[c]} + {self.into(c, self.carried)} − {self.out_of(c, self.carried)} = {self.low[c]}") for c in self.cells]
-        return ["Stage 1, upwind"] + columns(faces) + columns(cells)
+        return self.carrying() + columns(cells)
 
     def stage_2(self):
         lines = ["Stage 2, correction (0 at the rim, and where U is 0)"]
@@ -352,24 +364,97 @@ class Step:
         return f"{sum_name} > {room_name}: {a} · {rooms[cell]} / {sums[cell]} = {result}"
 
     def stage_5(self):
-        V = self.mesh.volumes
         faces = [("face", "moved = carried + limited")]
         faces += [(f, f"{signed(self.carried[f])} + {factor(self.limited[f])} = {signed(self.moved[f])}") for f in self.faces]
+        return ["Stage 5, moved and next masses", *columns(faces), *self.ending(self.moved, self.next)]
+
+    def ending(self, moved, after):
+        """The next masses, and the budget of the step."""
+        V = self.mesh.volumes
         cells = [("cell", "next mass = m + entering − leaving", "q", "rest")]
-        cells += [(c, f"{self.m[c]} + {self.into(c, self.moved)} − {self.out_of(c, self.moved)} = {self.next[c]}", self.next[c] // V[c], self.next[c] % V[c])
+        cells += [(c, f"{self.m[c]} + {self.into(c, moved)} − {self.out_of(c, moved)} = {after[c]}", after[c] // V[c], after[c] % V[c])
                   for c in self.cells]
-        before, after = sum(self.lent), same(sum(self.next), sum(self.lent) + self.entered + self.released - self.gone)
-        crossed, total = f"in-mass {self.entered}, out-mass {self.gone}", f"total {before} + {self.entered} − {self.gone} = {after}"
-        budget = [f"{crossed}; {total}"]
+        before, total = sum(self.lent), same(sum(after), sum(self.lent) + self.entered + self.released - self.gone)
+        crossed, sums = f"in-mass {self.entered}, out-mass {self.gone}", f"total {before} + {self.entered} − {self.gone} = {total}"
+        budget = [f"{crossed}; {sums}"]
         if self.session.kind == lagoon.OUTFALLS:
-            budget = [f"{crossed}, released mass {self.released}", f"total {before} + {self.entered} + {self.released} − {self.gone} = {after}"]
-        return ["Stage 5, moved and next masses", *columns(faces), *columns(cells), *budget]
+            budget = [f"{crossed}, released mass {self.released}", f"total {before} + {self.entered} + {self.released} − {self.gone} = {total}"]
+        return [*columns(cells), *budget]
 
 
 STEP_1 = Step(CHANNEL, CHANNEL.first)
 STEP_2 = Step(CHANNEL, STEP_1.next)
 SECOND_STEP = Step(SECOND, SECOND.first)
 OUTFALL_STEP = Step(OUTFALL, OUTFALL.first)
+PLAIN_2 = Step(CHANNEL, STEP_1.low)         # after one plain step
+
+
+# ---------------------------------------------------------------- Plain upwind and its error
+
+class Beside:
+    """Plain steps, and the same steps with q not rounded: m and e of each cell, as the page works them and as the reference does."""
+
+    def __init__(self, mesh, first):
+        self.mesh, self.m, self.e = mesh, list(first), list(map(Fraction, first))
+
+    def step(self, fluxes, outsides, releases):
+        raised = [m + release for m, release in zip(self.m, releases)]
+        m = self.moved(raised, [mass // V for mass, V in zip(raised, self.mesh.volumes)], fluxes, outsides)
+        raised = [e + release for e, release in zip(self.e, releases)]
+        e = self.moved(raised, [mass / V for mass, V in zip(raised, self.mesh.volumes)], fluxes, outsides)
+        self.m = same(m, lagoon.advance_plain(self.mesh, self.m, fluxes, outsides, releases).masses)
+        self.e = same(e, lagoon.advance_unrounded(self.mesh, self.e, fluxes, outsides, releases)[0])
+
+    def moved(self, masses, q, fluxes, outsides):
+        """Stage 1 with these concentrations."""
+        after = list(masses)
+        for first, second, U, outside in zip(self.mesh.firsts, self.mesh.seconds, fluxes, outsides):
+            carried = U * (q[first] if U >= 0 else outside if second == lagoon.RIM else q[second])
+            after[first] -= carried
+            if second != lagoon.RIM:
+                after[second] += carried
+        return after
+
+    def apart(self):
+        """How far m/V is from e/V, where it is farthest."""
+        return max(abs(m - e) / V for m, e, V in zip(self.m, self.e, self.mesh.volumes))
+
+
+def exact(value):
+    """A fraction as decimals where they end, else with its bar."""
+    value, digits = Fraction(value), 0
+    while digits < 6 and (value * 10 ** digits).denominator > 1:
+        digits += 1
+    if (value * 10 ** digits).denominator > 1:
+        return f"{value.numerator}/{value.denominator}"
+    whole, part = divmod(int(value * 10 ** digits), 10 ** digits)
+    return f"{whole}.{part:0{digits}}" if digits else str(whole)
+
+
+def plain_error():
+    """The channel by plain steps and by unrounded ones."""
+    beside = Beside(CHANNEL.mesh, CHANNEL.first)
+    shown = [c for c in CHANNEL.cells if c]             # cell 0 stays as it is
+    rows = [("n", *(f"{name} of cell {c}" for c in shown for name in "me"), "apart")]
+    for n in range(1, PLAIN_STEPS + 1):
+        beside.step(CHANNEL.fluxes, CHANNEL.outsides, CHANNEL.releases)
+        same((beside.apart() < n, beside.m[0], beside.e[0]), (True, CHANNEL.first[0], CHANNEL.first[0]))
+        rows.append((n, *(exact(side[c]) for c in shown for side in (beside.m, beside.e)), exact(beside.apart())))
+    return columns(rows)
+
+
+def plain_pair():
+    """Two cells of V 3 that exchange all their water."""
+    beside = Beside(lagoon.Mesh([3, 3], [0, 0], [1, 1], [128, 128], [3, 3]), [2, 0])
+    rows = [("n", "releases", "raised m", "q", "next m", "raised e", "e/V", "next e", "apart")]
+    for n, releases in enumerate(([0, 0], [1, 2], [2, 1]), 1):
+        m, e = ([mass + release for mass, release in zip(masses, releases)] for masses in (beside.m, beside.e))
+        beside.step([3, -3], [0, 0], releases)
+        same(beside.apart() < n, True)
+        both = lambda values: ", ".join(map(exact, values))
+        rows.append((n, both(releases), both(m), both(mass // 3 for mass in m), both(beside.m), both(e), both(mass / 3 for mass in e),
+                     both(beside.e), exact(beside.apart())))
+    return columns(rows)
 
 
 def year():
@@ -443,6 +528,8 @@ BLOCKS = {"layouts": layouts, "bytes": the_bytes, "mesh-bits": lambda: fenced(me
           "second-given": lambda: fenced(SECOND_STEP.given()), "second-step": lambda: fenced(SECOND_STEP.lines()),
           "second-printed": lambda: fenced(SECOND.printed()), "outfall-bits": lambda: fenced(step_bits(OUTFALL, "step with releases")),
           "outfall-step": lambda: fenced(OUTFALL_STEP.lines()), "outfall-printed": lambda: fenced(OUTFALL.printed()),
+          "plain-1": lambda: fenced(STEP_1.plain_lines()), "plain-2": lambda: fenced(PLAIN_2.plain_lines()),
+          "plain-error": lambda: fenced(plain_error()), "plain-pair": lambda: fenced(plain_pair()),
           "year": lambda: fenced(year()), "widest": lambda: fenced(widest()),
           "edition": edition, "form": lambda: fenced(form()), "page": lambda: fenced(binder_page()), "page-back": lambda: fenced(page_back())}
 WIDEST_LINE = 76        # columns of a fenced block that an A4 page holds

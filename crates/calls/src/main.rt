@@ -66,6 +66,8 @@ const MIDDLE_STAGE: u64 = 27;
 
 const FACE_SHARE: u64 = 28;
 
+const PLAIN_STEP: u64 = 29;
+
 // The arguments of a call from the left: 1 a number, 2 a table, 3 a table of signed numbers, 4 bytes. No call has the shape 0.
 fn shape(call: u64) -> u64 {
     match call {
@@ -73,7 +75,7 @@ fn shape(call: u64) -> u64 {
         CHECK_MESH => 0x1122_2220_0000_0000,
         CHECK_FIELD => 0x1122_2222_0000_0000,
         CHECK_CELLS | TOTAL | BOARD => 0x1220_0000_0000_0000,
-        CHECK_STEP | STEP => 0x1122_2222_3223_2200,
+        CHECK_STEP | STEP | PLAIN_STEP => 0x1122_2222_3223_2200,
         MESH_LENGTH => 0x1140_0000_0000_0000,
         FIELD_LENGTH => 0x1400_0000_0000_0000,
         STEP_LENGTH => 0x1124_0000_0000_0000,
@@ -105,6 +107,7 @@ fn make_on_tables(call: u64, words: &[u64], ints: &[i64]) {
         CHECK_STEP => table_calls::check_step(words, ints),
         TOTAL => table_calls::total(words),
         STEP => table_calls::step(words, ints),
+        PLAIN_STEP => table_calls::plain_step(words, ints),
         _ => table_calls::board(words),
     }
 }

@@ -12,7 +12,7 @@ use Rattle.lists.specs.Fold.{sum, least, greatest}
 use Rattle.lists.specs.Table.{table, over}
 use Rattle.signed.specs.Sign.{isNegative}
 use Rattle.model.specs.Mesh.{Mesh, second, rim, entering, leaving, incoming, outgoing, updated}
-use Rattle.model.specs.Step.{StepInput, raised, releasedMass, flux, outside, mass, inMass, outMass, next, moved, concentration, beyond, upwind, downwind, carried, low, upwindShare, correction, smooths, keptBy, lowConcentration, kept, adjacent, lo, hi, maxGain, maxLoss, receiver, giver, limitedBy, limited, portion}
+use Rattle.model.specs.Step.{StepInput, raised, releasedMass, flux, outside, inMass, outMass, next, moved, concentration, beyond, upwind, downwind, carried, low, upwindShare, correction, smooths, keptBy, lowConcentration, kept, adjacent, lo, hi, maxGain, maxLoss, receiver, giver, limitedBy, limited, portion}
 use Rattle.model.specs.Causes.{Call, release, inputOf, fine, refused, _andThen_, need, each, countsWithin, counts, meshTables, volumeGood, endsGood, spacingGood, meshValues, fieldTable, saltGood, fieldValues, fieldVerdict, raisedGood, raisedValues, stepTables, outsideGood, fluxGood, balanceGood, outflowGood, stepValues, verdict}
 use Rattle.model.specs.Calls.{massIn, corrected, stepOnTables, nextTable, afterAll, totalIn, totalOut}
 use Rattle.model.proofs.Accepted.{ready}

@@ -5,16 +5,16 @@ use mathlib.Core.List.{List, [], _∷_, map}
 use native.Mathlib.Nat.{le-trans, add-zero, add-assoc}
 use native.Mathlib.Omega.{arith}
 use lib.IntN.{ℤ}
-use lib.ListN.{length}
+use lib.ListN.{length, List·getD-append}
 use Rattle.lists.specs.Table.{table, over}
 use Rattle.lists.proofs.Sums.{sum-cong}
-use Rattle.lists.proofs.Tables.{length-over, getD-over}
+use Rattle.lists.proofs.Tables.{length-table, getD-table, length-over, getD-over}
 use Rattle.model.specs.Mesh.{Mesh, updated, total}
 use Rattle.model.specs.Step.{StepInput, mass, inMass, outMass, releasedMass}
 use Rattle.model.specs.Causes.{Outcome, accepted, refused, fine, Call, inputOf, fieldVerdict, verdict}
-use Rattle.model.specs.Calls.{massIn, Bounded, Left, fieldAfter, enteredBy, goneBy, releasedBy, crossingOf, Scheme, corrected, nextTable, stepOnTables, afterAll, totalIn, totalOut, totalReleased, EachAccepted, Claim, Deed, stepped, givenBack, storeOnly, stepping, fieldBy, Account, startsAt, accountBy, lastField, lastAccount, EachDone, Ledger}
+use Rattle.model.specs.Calls.{massIn, Bounded, Left, fieldAfter, enteredBy, goneBy, releasedBy, crossingOf, Scheme, corrected, plain, lentMasses, nextTable, stepOnTables, afterAll, totalIn, totalOut, totalReleased, EachAccepted, Claim, Deed, stepped, givenBack, storeOnly, stepping, fieldBy, Account, startsAt, accountBy, lastField, lastAccount, EachDone, Ledger}
 use Rattle.model.proofs.Verdicts.{both-fine}
-use Rattle.model.proofs.Next.{Keeps, amounts-budget, moved-keeps}
+use Rattle.model.proofs.Next.{Keeps, amounts-budget, moved-keeps, carried-keeps}
 use Rattle.model.proofs.Raised.{raised-sum}
 use Rattle.model.proofs.Accepted.{ready, passed, call-lent, field-accepted, hi-most}
 use Rattle.model.specs.Accepted.{Ready}
@@ -156,6 +156,9 @@ pub record Keeping (s : Scheme) : Type 0 where
 pub corrected-keeping : Keeping corrected
 corrected-keeping = record { passes = λ M field k e. e; keeps = λ M field k e. moved-keeps (inputOf M field k) (ready M field k e .sound) }
 
+pub plain-keeping : Keeping plain
+plain-keeping = record { passes = λ M field k e. e; keeps = λ M field k e. carried-keeps (inputOf M field k) (ready M field k e .sound) }
+
 -- releases bring their sum into the field
 pub raised-total : (M : Mesh) (field : List ℕ) (k : Call)
     → total M (mass (inputOf M field k)) ≡ total M (massIn field) + releasedMass (M .cells) (k .releases)
@@ -164,7 +167,7 @@ raised-total M field k = raised-sum (M .cells) field (k .releases)
 
 -- a step on tables, by such a scheme
 module _ (s : Scheme) (keeping : Keeping s) (M : Mesh) (k : Call) (field : List ℕ) (l : Left) (e : stepOnTables s M k field ≡ accepted l) where
-  found-fine : s .finds M field k ≡ fine
+  pub found-fine : s .finds M field k ≡ fine
   unfolding stepOnTables
   found-fine = both-fine _ _ e .0
 
@@ -179,6 +182,10 @@ module _ (s : Scheme) (keeping : Keeping s) (M : Mesh) (k : Call) (field : List 
   unfolding nextTable result
   table-is = rw found-fine
 
+  pub left-mass : (c : ℕ) → c < M .cells → massIn (l .field) c ≡ updated M (mass (inputOf M field k)) (s .moves M field k) c
+  unfolding result
+  left-mass c h = rw (← left-is, table-is) (getD-over (M .cells) (updated M (mass (inputOf M field k)) (s .moves M field k)) (k .nexts) 0 c h)
+
   pub tables-fair : Fair M (Bounded (inputOf M field k) (l .field)) field l
   unfolding result
   tables-fair =
@@ -190,3 +197,8 @@ module _ (s : Scheme) (keeping : Keeping s) (M : Mesh) (k : Call) (field : List 
       (rw (length-over (M .cells) after (k .nexts) n) n)
       (λ c h. getD-over (M .cells) after (k .nexts) 0 c h)
       l (rw (← left-is) table-is) (rw (← left-is))
+
+-- the table of masses lent to a call holds the field
+pub lent-same : (M : Mesh) (past field : List ℕ) (c : ℕ) → c < M .cells → massIn (lentMasses M past field) c ≡ massIn field c
+lent-same M past field c h =
+    List·getD-append (table (M .cells) (massIn field)) past 0 c (omega (arith, length-table (M .cells) (massIn field))) ∙ getD-table (M .cells) (massIn field) 0 c h

@@ -2,12 +2,12 @@
 -- field and are refused, or leave another field.
 use Prim.Native.Nat.{ℕ, _+_, _/_, _≤_, _<_}
 use mathlib.Core.Path.{_≡_}
-use mathlib.Core.List.{List, [], _∷_}
+use mathlib.Core.List.{List, [], _∷_, _++_}
 use lib.ListN.{getD}
 use lib.IntN.{ℤ}
 use Rattle.lists.specs.Table.{table, over}
 use Rattle.model.specs.Mesh.{Mesh, volume, updated, total}
-use Rattle.model.specs.Step.{StepInput, mass, lo, hi, moved, inMass, outMass, releasedMass}
+use Rattle.model.specs.Step.{StepInput, mass, lo, hi, carried, moved, inMass, outMass, releasedMass}
 use Rattle.model.specs.Causes.{Outcome, accepted, refused, Verdict, taken, fine, _andThen_, Call, inputOf, workLength, fieldVerdict, verdict}
 
 -- the mass that a field has in cell c
@@ -60,6 +60,10 @@ pub record Scheme : Type 0 where
 abbrev pub corrected : Scheme
 corrected = record { finds = verdict; moves = λ M field k. moved (inputOf M field k) }
 
+-- Document 02, S-8: the same causes, and no stage between the first and the fifth, so that the moved masses are the carried ones
+abbrev pub plain : Scheme
+plain = record { finds = verdict; moves = λ M field k. carried (inputOf M field k) }
+
 -- What a step call on tables answers: its crossing where no cause applies.
 module _ (s : Scheme) (M : Mesh) (k : Call) (field : List ℕ) where
   unfoldable pub stepAnswer : Outcome Crossing
@@ -78,6 +82,10 @@ module _ (s : Scheme) (M : Mesh) (k : Call) (field : List ℕ) where
   -- the same call as one of a list
   unfoldable pub stepOnTables : Outcome Left
   stepOnTables = s .finds M field k andThen accepted (record { field = nextTable; crossing = crossingOf M field k })
+
+-- "A list of steps": the table of masses lent to a call on tables, the field with anything past it
+abbrev pub lentMasses : Mesh → List ℕ → List ℕ → List ℕ
+lentMasses M past field = table (M .cells) (massIn field) ++ past
 
 -- Calls of some kind K, each with what it comes to on the field that it is lent.
 module _ {K : Type 0} (comes : K → List ℕ → Outcome Left) where

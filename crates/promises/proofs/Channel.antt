@@ -9,7 +9,7 @@ use Rattle.lists.specs.Table.{table, over}
 use Rattle.model.specs.Mesh.{entering, leaving, incoming, outgoing, updated}
 use Rattle.model.specs.Step.{raised, releasedMass, inMass, outMass, next, moved, concentration, beyond, upwind, downwind, carried, low, upwindShare, correction, smooths, keptBy, lowConcentration, kept, adjacent, lo, hi, maxGain, maxLoss, receiver, giver, limitedBy, limited, portion}
 use Rattle.model.specs.Causes.{accepted, fine, _andThen_, Call, need, each, countsWithin, counts, meshTables, volumeGood, endsGood, spacingGood, meshValues, fieldTable, saltGood, fieldValues, raisedGood, raisedValues, meshFieldVerdict, stepTables, outsideGood, fluxGood, balanceGood, outflowGood, stepValues, verdict, callOf}
-use Rattle.model.specs.Calls.{crossingOf, corrected, stepOnTables, nextTable, afterAll, totalIn}
+use Rattle.model.specs.Calls.{lentMasses, crossingOf, corrected, stepOnTables, nextTable, afterAll, totalIn}
 use Rattle.model.proofs.Figures.{channel}
 use Rattle.bits.specs.Field.{bitAt, bitsAt}
 use Rattle.bits.specs.Layout.{spelled, bitsOf, widthOf, bytesFor, octet, packed, rows}
@@ -21,7 +21,7 @@ use Rattle.reading.specs.Reading.{meshIn, volumesIn, firstsIn, secondsIn, share
 use Rattle.mesh_taking.specs.MeshTaking.{meshRecordFound, meshJudged}
 use Rattle.taking.specs.Taking.{fieldJudged, blank, stepRecordFound, stepJudged}
 use Rattle.lagoon.specs.Host.{hostInput, hostVerdict, hostBytes}
-use Rattle.promises.specs.Demand3.{StepCall, onTables, onRecords, waterIn, lentMasses, stepOnRecords, comes}
+use Rattle.promises.specs.Demand3.{correcting, StepCall, onTables, onRecords, waterIn, stepOnRecords, comes}
 
 -- the definitions that the figures compute
 figures : Unit {0}
@@ -56,7 +56,7 @@ abbrev room : List ℕ
 room = replicate 15 7
 
 abbrev calls : List StepCall
-calls = onTables (7 ∷ 7 ∷ []) water ∷ onRecords step room ∷ []
+calls = onTables correcting (7 ∷ 7 ∷ []) water ∷ onRecords step room ∷ []
 
 on-tables : stepOnTables corrected channel water (lentMasses channel (7 ∷ 7 ∷ []) before) ≡ accepted (record { field = between; crossing = record { entered = 50000; gone = 0; released = 0 } })
 unfolding figures

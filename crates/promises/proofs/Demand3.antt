@@ -2,9 +2,10 @@
 -- calls of any kind, in model/specs/Calls.antt (`Ledger`).
 --
 -- In plain words: take any mesh that causes 1 to 5 accept, any first field that 2 and 6 accept, and any list of calls. A call is a step on
--- tables, with any fluxes, outside values, next masses, moved masses, work and releases, of any values and lengths, and anything after the field in
--- its table of masses; or the host's call on records, with any bytes as step record and any bytes lent for the next field; or a keep, a drop
--- or a return on a store of any values and any length. Run them one after another, each on the field that the one before it left. Then
+-- tables, corrected or plain, with any fluxes, outside values, next masses, moved masses, work and releases, of any values and lengths, and
+-- anything after the field in its table of masses; or the host's call on records, with any bytes as step record and any bytes lent for the
+-- next field; or a keep, a drop or a return on a store of any values and any length. Run them one after another, each on the field that the
+-- one before it left. Then
 --   budget             the total of the last field, plus all that the water of accepted steps took out since the last accepted return, is
 --                      the total of the masses then given back (of the first field, where there was none) plus all that it brought in since,
 --                      plus all that those steps released;
@@ -19,24 +20,24 @@
 -- the store: a field comes back exactly as kept.
 --
 -- What ties it to the code: a call on tables comes to `stepOnTables`, whose verdict, next masses, in-, out- and released mass are the very ones
--- that the contract of `transport::step` (`StepPromise`) equates its answer and tables with; a call on records comes to `hostVerdict` and
+-- that the contracts of `transport::step` and of `transport::plain_step` (`StepPromise`) equate their answers and tables with; a call on records comes to `hostVerdict` and
 -- `hostBytes`, with which the contract of `lagoon_step` (`HostPromise`) equates its number and its bytes; the store calls come to the
 -- verdicts and tables of `KeepPromise`, `DropPromise` and `ReturnPromise`. Ties.antt proves each.
-use Prim.Native.Nat.{ℕ, _≤_, _<_}
+use Prim.Native.Nat.{ℕ, _≤_}
 use mathlib.Core.Path.{_≡_, refl, sym, _∙_}
 use mathlib.Core.List.{List, [], _∷_, _++_, map}
 use native.Mathlib.Omega.{arith}
 use lib.ListN.{length, take, length-append, List·getD-append}
 use lib.Seq.{take-at}
 use Rattle.lists.specs.Table.{table}
-use Rattle.lists.proofs.Tables.{length-table, getD-table}
+use Rattle.lists.proofs.Tables.{length-table}
 use Rattle.model.specs.Mesh.{Mesh}
-use Rattle.model.specs.Causes.{Outcome, accepted, refused, fine, _andThen_, Call, cellsOnly, meshVerdict, saltGood, fieldValues, fieldVerdict, verdict}
-use Rattle.model.specs.Calls.{massIn, Left, fieldAfter, corrected, nextTable, movedTable, workTable, stepOnTables, Deed, stepped, givenBack, storeOnly, stepping, fieldBy, lastField}
+use Rattle.model.specs.Causes.{Outcome, accepted, refused, fine, _andThen_, Call, cellsOnly, meshVerdict, saltGood, fieldValues, fieldVerdict}
+use Rattle.model.specs.Calls.{massIn, Left, fieldAfter, lentMasses, nextTable, movedTable, workTable, stepOnTables, Deed, stepped, givenBack, storeOnly, stepping, fieldBy, lastField}
 use Rattle.model.proofs.Verdicts.{both-fine, refused-of}
 use Rattle.model.proofs.Accepted.{counted, mesh-fit, field-fit, field-accepted}
 use Rattle.model.proofs.Agree.{field-agrees, fair-agree}
-use Rattle.model.proofs.Lists.{Fair, Owes, ledger-law, steps-alone, corrected-keeping, tables-fair}
+use Rattle.model.proofs.Lists.{Fair, Owes, ledger-law, steps-alone, Keeping, corrected-keeping, plain-keeping, tables-fair, lent-same}
 use Rattle.model.proofs.Figures.{Figures, figures}
 use Rattle.heads.specs.Layouts.{meshRecord, fieldRecord}
 use Rattle.kept.specs.Store.{fieldsIn, heldUnder}
@@ -46,14 +47,16 @@ use Rattle.entries.proofs.Written.{over-front}
 use Rattle.store.proofs.Effects.{keep-effect, drop-effect, held-length, held-salt}
 use Rattle.store.proofs.Back.{Holding, after-one, holding, return-fine, return-gives}
 use Rattle.lagoon.specs.Host.{hostVerdict, hostBytes}
-use Rattle.promises.specs.Demand3.{StepCall, onTables, onRecords, lentMasses, stepOnRecords, comes, Kept, Unchanged, EachRefused, Demand3Steps, ListCall, aStep, keeping, dropping, returning, does, Owed, Untouched, AllRefused, Demand3, storeLeft, storeLeftBy, LentIt, Alone, FieldReturns}
+use Rattle.promises.specs.Demand3.{Way, correcting, plainly, schemeOf, StepCall, onTables, onRecords, stepOnRecords, comes, Kept, Unchanged, EachRefused, Demand3Steps, ListCall, aStep, keeping, dropping, returning, does, Owed, Untouched, AllRefused, Demand3, storeLeft, storeLeftBy, LentIt, Alone, FieldReturns}
 use Rattle.promises.proofs.Held.{within, passes}
 use Rattle.promises.proofs.OnRecords.{records-fair}
 
 -- A refused call.
 unchanged : (M : Mesh) (call : StepCall) (field : List ℕ) (i j : ℕ) → comes M call field ≡ refused i j → Unchanged M call field
 unfolding stepOnTables stepOnRecords nextTable movedTable workTable hostBytes
-unchanged M (onTables past k) field i j e = let r = refused-of (verdict M (lentMasses M past field) k) _ i j (sym e) in (rw r, rw r, rw r)
+unchanged M (onTables way past k) field i j e =
+    let r = refused-of (schemeOf way .finds M (lentMasses M past field) k) _ i j (sym e) in
+    (rw r, rw r, rw r)
 unchanged M (onRecords step next) field i j e = rw (refused-of (hostVerdict (meshRecord M) (fieldRecord (M .cells) field) step (length next)) _ i j (sym e))
 
 all-unchanged : (M : Mesh) (field : List ℕ) (calls : List StepCall) → EachRefused M field calls
@@ -65,20 +68,21 @@ step-refused (accepted l) i j e = let z : _≡_ {A = ℕ} 0 1 = cc in absurd (om
 step-refused (refused a b) i j e = cc
 
 -- An accepted call on tables.
-lent-same : (M : Mesh) (past field : List ℕ) (c : ℕ) → c < M .cells → massIn (lentMasses M past field) c ≡ massIn field c
-lent-same M past field c h =
-    List·getD-append (table (M .cells) (massIn field)) past 0 c (omega (arith, length-table (M .cells) (massIn field))) ∙ getD-table (M .cells) (massIn field) 0 c h
+keeping-of : (way : Way) → Keeping (schemeOf way)
+keeping-of correcting = corrected-keeping
+keeping-of plainly = plain-keeping
 
-module _ (M : Mesh) (mesh-fine : meshVerdict M ≡ fine) (past : List ℕ) (k : Call) (field : List ℕ) (l : Left) (e : stepOnTables corrected M k (lentMasses M past field) ≡ accepted l) where
-  table-stands : nextTable corrected M k (lentMasses M past field) ≡ l .field
+module _ (M : Mesh) (mesh-fine : meshVerdict M ≡ fine) (way : Way) (past : List ℕ) (k : Call) (field : List ℕ) (l : Left)
+    (e : stepOnTables (schemeOf way) M k (lentMasses M past field) ≡ accepted l) where
+  table-stands : nextTable (schemeOf way) M k (lentMasses M past field) ≡ l .field
   unfolding stepOnTables
   table-stands = let d = both-fine _ _ e .1 in cc
 
-  on-tables : Fair M (Kept M (onTables past k) field l) field l
+  on-tables : Fair M (Kept M (onTables way past k) field l) field l
   on-tables =
       let f = fair-agree M M field (lentMasses M past field) k k (field-agrees M k field (lentMasses M past field) (lent-same M past field))
       (counted M (within M mesh-fine) .few-cells) (mesh-fit M (passes M mesh-fine)) l
-      (tables-fair corrected corrected-keeping M k (lentMasses M past field) l e) in
+      (tables-fair (schemeOf way) (keeping-of way) M k (lentMasses M past field) l e) in
       record { budget = f .budget; holds = (f .holds, table-stands); field-accepted = f .field-accepted }
 
 -- An accepted call on a store.
@@ -119,7 +123,7 @@ all-untouched M field (call ∷ calls) = ((λ i j e. untouched M call field i j 
 
 module _ (M : Mesh) (mesh-fine : meshVerdict M ≡ fine) where
   step-fair : (call : StepCall) (before : List ℕ) (l : Left) → fieldVerdict M before ≡ fine → comes M call before ≡ accepted l → Fair M (Kept M call before l) before l
-  step-fair (onTables past k) before l g e = on-tables M mesh-fine past k before l e
+  step-fair (onTables way past k) before l g e = on-tables M mesh-fine way past k before l e
   step-fair (onRecords step next) before l g e = records-fair M mesh-fine before g step next l e
 
   owes : (call : ListCall) (before : List ℕ) (d : Deed) → fieldVerdict M before ≡ fine → does M call before ≡ accepted d → Owes M (Owed M call before d) before d

@@ -7,38 +7,27 @@ use native.Mathlib.Omega.{arith}
 use lib.IntN.{ℤ}
 use lib.ListN.{length, take}
 use Rattle.model.specs.Mesh.{Mesh}
-use Rattle.model.specs.Causes.{Outcome, accepted, refused, Verdict, fine, _andThen_, Call, meshVerdict, fieldVerdict, verdict}
+use Rattle.model.specs.Causes.{accepted, refused, Verdict, fine, _andThen_, Call, meshVerdict, fieldVerdict}
 use Rattle.model.specs.Answers.{said}
 use Rattle.model.specs.declared.Answer.{Answer}
-use Rattle.model.specs.Calls.{Crossing, Left, crossingOf, corrected, stepAnswer, stepOnTables, Deed, givenBack, storeOnly}
+use Rattle.model.specs.Calls.{lentMasses, crossingOf, Deed, givenBack, storeOnly}
 use Rattle.model.proofs.Verdicts.{out}
-use Rattle.transport.specs.Promise.{stepSaid, StepPromise}
+use Rattle.transport.specs.Promise.{stepSaid, leftBy, StepPromise}
+use Rattle.transport.proofs.Promises.{promised-comes}
 use Rattle.transport.specs.declared.StepAnswer.{StepAnswer}
 use Rattle.store.specs.Calls.{KeepPromise, DropPromise, ReturnPromise}
 use Rattle.heads.specs.Layouts.{meshRecord, fieldRecord, fieldLength}
 use Rattle.reading.specs.Reading.{massesIn}
 use Rattle.lagoon.specs.Host.{causeStep, hostVerdict, hostBytes, HostPromise}
 use Rattle.lagoon.proofs.Small.{taken-apart}
-use Rattle.promises.specs.Demand3.{onTables, onRecords, lentMasses, waterIn, stepOnRecords, comes, keeping, dropping, returning, does, storeLeft}
+use Rattle.promises.specs.Demand3.{Way, schemeOf, onTables, onRecords, waterIn, stepOnRecords, comes, keeping, dropping, returning, does, storeLeft}
 use Rattle.promises.specs.Held.{Bytes, HoldsMesh, HoldsField}
 use Rattle.promises.proofs.Held.{mesh-alone, field-alone}
 
--- an answer with the table of next masses afterwards
-abbrev pub leftBy : Outcome Crossing → List ℕ → Outcome Left
-leftBy (accepted x) next = accepted (record { field = next; crossing = x })
-leftBy (refused i j) next = refused i j
-
-joined : (v : Verdict) (x : Crossing) (said : Outcome Crossing) (next table : List ℕ) → said ≡ (v andThen accepted x) → next ≡ table
-    → (v andThen accepted (record { field = table; crossing = x })) ≡ leftBy said next
-unfolding _andThen_
-joined (accepted t) x said next table e q = rw (e, q)
-joined (refused i j) x said next table e q = rw e
-
--- The step on tables: from what it answers and leaves in the table of next masses.
-pub step-comes : (M : Mesh) (past : List ℕ) (k : Call) (field : List ℕ) (r : StepAnswer) (next : List ℕ) (moved : List ℤ) (work : List ℕ)
-    → StepPromise corrected M (lentMasses M past field) k r next moved work → comes M (onTables past k) field ≡ leftBy (stepSaid r) next
-unfolding stepOnTables stepAnswer
-step-comes M past k field r next moved work p = joined (verdict M (lentMasses M past field) k) _ (stepSaid r) next _ (p .answer) (p .next-masses)
+-- The step on tables, corrected and plain: from what it answers and leaves in the table of next masses.
+pub step-comes : (M : Mesh) (way : Way) (past : List ℕ) (k : Call) (field : List ℕ) (r : StepAnswer) (next : List ℕ) (moved : List ℤ) (work : List ℕ)
+    → StepPromise (schemeOf way) M (lentMasses M past field) k r next moved work → comes M (onTables way past k) field ≡ leftBy (stepSaid r) next
+step-comes M way past k field r next moved work p = promised-comes (schemeOf way) M (lentMasses M past field) k r next moved work p
 
 -- The host's call on records that hold a mesh and a field.
 module _ (M : Mesh) (mesh-fine : meshVerdict M ≡ fine) (field : List ℕ) (field-fine : fieldVerdict M field ≡ fine)

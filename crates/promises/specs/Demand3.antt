@@ -1,5 +1,5 @@
 -- Document 01, "A list of steps": the step calls of a list, on tables and on records, and demand 3 about every list of them; with
--- document 02's S-4, of steps and of calls on a store, and its S-6, of steps with releases.
+-- document 02's S-4, of steps and of calls on a store, its S-6, of steps with releases, and its S-8, of plain steps.
 use Prim.Native.Nat.{ℕ}
 use mathlib.Core.Path.{_≡_}
 use mathlib.Core.Logic.{_≢_}
@@ -9,18 +9,27 @@ use Rattle.lists.specs.Table.{table}
 use Rattle.model.specs.Mesh.{Mesh}
 use Rattle.model.specs.Step.{StepInput}
 use Rattle.model.specs.Causes.{Outcome, accepted, refused, fine, _andThen_, Call, inputOf, meshVerdict, fieldVerdict, waterOf}
-use Rattle.model.specs.Calls.{massIn, Bounded, Left, crossingOf, fieldAfter, corrected, nextTable, movedTable, workTable, stepOnTables, Claim, Deed, stepped, givenBack, storeOnly, stepping, fieldBy, lastField, Ledger}
+use Rattle.model.specs.Calls.{massIn, Bounded, Left, crossingOf, fieldAfter, Scheme, corrected, plain, lentMasses, nextTable, movedTable, workTable, stepOnTables, Claim, Deed, stepped, givenBack, storeOnly, stepping, fieldBy, lastField, Ledger}
 use Rattle.heads.specs.Layouts.{meshRecord, fieldRecord, fieldLength}
 use Rattle.reading.specs.Reading.{massesIn, fluxesIn, outsidesIn, releasesIn}
 use Rattle.kept.specs.Store.{fieldsIn, heldUnder, without}
 use Rattle.store.specs.Calls.{keepVerdict, keepStore, dropVerdict, dropStore, returnVerdict, returnMasses}
 use Rattle.lagoon.specs.Host.{hostVerdict, hostBytes}
 
--- A step call of a list, with what is lent to it besides mesh and field; of any values and of any length. On tables: what stands in the
--- table of masses past the counts, and all other tables of a step. On records: the bytes of a step record, and the bytes lent for the next
--- field record.
+-- How a step call on tables steps: with the correction, or plainly (S-8).
+pub data Way : Type 0 where
+  correcting : Way
+  plainly : Way
+
+abbrev pub schemeOf : Way → Scheme
+schemeOf correcting = corrected
+schemeOf plainly = plain
+
+-- A step call of a list, with what is lent to it besides mesh and field; of any values and of any length. On tables: the way it steps, what
+-- stands in the table of masses past the counts, and all other tables of a step. On records: the bytes of a step record, and the bytes lent
+-- for the next field record.
 pub data StepCall : Type 0 where
-  onTables : List ℕ → Call → StepCall
+  onTables : Way → List ℕ → Call → StepCall
   onRecords : List ℕ → List ℕ → StepCall
 
 module _ (M : Mesh) where
@@ -28,13 +37,9 @@ module _ (M : Mesh) where
   abbrev pub waterIn : List ℕ → Call
   waterIn step = waterOf (fluxesIn step (M .faces)) (outsidesIn step (M .faces) (M .seconds)) (releasesIn step (M .cells) (M .faces) (M .seconds))
 
-  -- the table of masses lent to a call on tables
-  abbrev pub lentMasses : List ℕ → List ℕ → List ℕ
-  lentMasses past field = table (M .cells) (massIn field) ++ past
-
   -- what a call works on: the mesh, the field lent to it raised by its releases, and its fluxes and outside values
   abbrev pub workedOn : StepCall → List ℕ → StepInput
-  workedOn (onTables past k) field = inputOf M field k
+  workedOn (onTables way past k) field = inputOf M field k
   workedOn (onRecords step next) field = inputOf M field (waterIn step)
 
   module _ (step next field : List ℕ) where
@@ -54,12 +59,12 @@ module _ (M : Mesh) where
 
   -- what a call comes to that is lent the mesh and, as masses, the field: refused, or accepted with the field that it leaves
   abbrev pub comes : StepCall → List ℕ → Outcome Left
-  comes (onTables past k) field = stepOnTables corrected M k (lentMasses past field)
+  comes (onTables way past k) field = stepOnTables (schemeOf way) M k (lentMasses M past field)
   comes (onRecords step next) field = stepOnRecords step next field
 
   -- where the field of an accepted call stands: in the table of next masses, or as the next field record
   abbrev pub NextHolds : StepCall → List ℕ → Left → Type 0
-  NextHolds (onTables past k) field l = nextTable corrected M k (lentMasses past field) ≡ l .field
+  NextHolds (onTables way past k) field l = nextTable (schemeOf way) M k (lentMasses M past field) ≡ l .field
   NextHolds (onRecords step next) field l = nextRecord step next field ≡ fieldRecord (M .cells) (l .field)
 
   -- What is owed of each accepted call: the bounds, and where the field stands.
@@ -68,8 +73,10 @@ module _ (M : Mesh) where
 
   -- What is owed of a refused call: what is lent to be filled is as it was. That the field is, `fieldAfter` says.
   abbrev pub Unchanged : StepCall → List ℕ → Type 0
-  Unchanged (onTables past k) field =
-      (nextTable corrected M k (lentMasses past field) ≡ k .nexts) × (movedTable corrected M k (lentMasses past field) ≡ k .moveds) × (workTable corrected M k (lentMasses past field) ≡ k .work)
+  Unchanged (onTables way past k) field =
+      (nextTable (schemeOf way) M k (lentMasses M past field) ≡ k .nexts)
+      × (movedTable (schemeOf way) M k (lentMasses M past field) ≡ k .moveds)
+      × (workTable (schemeOf way) M k (lentMasses M past field) ≡ k .work)
   Unchanged (onRecords step next) field = bytesAfter step next field ≡ next
 
   abbrev pub EachRefused : List ℕ → List StepCall → Type 0
@@ -81,8 +88,8 @@ module _ (M : Mesh) where
     pub claim : Claim M comes Kept field calls
     pub refused-unchanged : EachRefused field calls
 
--- Demand 3 of document 01, the case without store calls: from any accepted mesh and first field, after any list of calls on tables and on
--- records, whichever of them are refused
+-- Demand 3 of document 01, the case without store calls: from any accepted mesh and first field, after any list of calls on tables, corrected
+-- and plain, and on records, whichever of them are refused
 abbrev pub Demand3Steps : Type 0
 Demand3Steps = (M : Mesh) → meshVerdict M ≡ fine → (field : List ℕ) → fieldVerdict M field ≡ fine → (calls : List StepCall) → Budgeted M field calls
 

@@ -1,4 +1,4 @@
-// The calls on tables: tests, total, board and step.
+// The calls on tables: tests, total, board, step and plain step.
 use arguments::ROOM;
 use arguments::parts::amounts;
 use arguments::parts::copy;
@@ -6,6 +6,7 @@ use arguments::parts::copy_amounts;
 use arguments::parts::number;
 use arguments::parts::table;
 use arguments::show;
+use transport::StepAnswer;
 
 pub fn counts_within(words: &[u64]) {
     show::word(b"counts_within:");
@@ -81,7 +82,17 @@ pub fn board(words: &[u64]) {
 
 pub fn step(words: &[u64], ints: &[i64]) {
     show::word(b"step:");
+    stepped(false, words, ints);
+}
+
+pub fn plain_step(words: &[u64], ints: &[i64]) {
+    show::word(b"plain_step:");
+    stepped(true, words, ints);
+}
+
+fn stepped(plainly: bool, words: &[u64], ints: &[i64]) {
     fill(
+        plainly,
         number(words, 0),
         number(words, 1),
         table(words, 2),
@@ -99,8 +110,63 @@ pub fn step(words: &[u64], ints: &[i64]) {
     );
 }
 
+// A step, plain or not.
+fn step_by(
+    plainly: bool,
+    cells: usize,
+    faces: usize,
+    volumes: &[u64],
+    firsts: &[u64],
+    seconds: &[u64],
+    shares: &[u64],
+    reaches: &[u64],
+    masses: &[u64],
+    fluxes: &[i64],
+    outsides: &[u64],
+    next: &mut [u64],
+    moved: &mut [i64],
+    work: &mut [u64],
+    releases: &[u64],
+) -> StepAnswer {
+    if plainly {
+        return transport::plain_step(
+            cells,
+            faces,
+            volumes,
+            firsts,
+            seconds,
+            shares,
+            reaches,
+            masses,
+            fluxes,
+            outsides,
+            next,
+            moved,
+            work,
+            releases,
+        );
+    }
+    transport::step(
+        cells,
+        faces,
+        volumes,
+        firsts,
+        seconds,
+        shares,
+        reaches,
+        masses,
+        fluxes,
+        outsides,
+        next,
+        moved,
+        work,
+        releases,
+    )
+}
+
 // A step that writes into arrays which hold the entries given.
 fn fill(
+    plainly: bool,
     cells: usize,
     faces: usize,
     volumes: &[u64],
@@ -122,7 +188,8 @@ fn fill(
     let n = copy(given_next, &mut next);
     let m = copy_amounts(given_moved, &mut moved);
     let w = copy(given_work, &mut work);
-    answers::step(transport::step(
+    answers::step(step_by(
+        plainly,
         cells,
         faces,
         volumes,

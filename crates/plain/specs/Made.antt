@@ -1,0 +1,35 @@
+-- Document 02, S-8: the error, of plain calls as they were made and answered.
+use Prim.Native.Nat.{ℕ}
+use mathlib.Core.List.{List, [], _∷_}
+use lib.IntN.{ℤ}
+use Rattle.model.specs.Mesh.{Mesh}
+use Rattle.model.specs.Causes.{Outcome, Call}
+use Rattle.model.specs.Calls.{Left, fieldAfter, plain, lentMasses}
+use Rattle.plain.specs.Error.{ErrorBelow}
+use Rattle.transport.specs.Promise.{stepSaid, leftBy, StepPromise}
+use Rattle.transport.specs.declared.StepAnswer.{StepAnswer}
+
+-- A call of `plain_step`: what stood in its table of masses past the field, the other tables lent to it, its answer, and its next masses,
+-- moved and work afterwards.
+pub record Made : Type 0 where
+  pub past : List ℕ
+  pub tables : Call
+  pub answer : StepAnswer
+  pub next : List ℕ
+  pub moved : List ℤ
+  pub work : List ℕ
+
+-- what it came to: the next masses it left, or its refusal
+abbrev pub cameTo : Made → List ℕ → Outcome Left
+cameTo m field = leftBy (stepSaid (m .answer)) (m .next)
+
+-- Each call was lent the mesh and, as masses, the field as the last left it, and it kept the contract of `plain_step`.
+abbrev pub KeptOn : Mesh → List ℕ → List Made → Type 0
+KeptOn M field [] = Unit {0}
+KeptOn M field (m ∷ ms) =
+    StepPromise plain M (lentMasses M (m .past) field) (m .tables) (m .answer) (m .next) (m .moved) (m .work)
+    × KeptOn M (fieldAfter (cameTo m field) field) ms
+
+-- S-8's error, of whatever such calls answered and left
+abbrev pub ErrorOfCalls : Type 0
+ErrorOfCalls = (M : Mesh) (field : List ℕ) (calls : List Made) → KeptOn M field calls → ErrorBelow M (λ m. m .tables) cameTo field calls
