@@ -1,6 +1,6 @@
 #!/usr/bin/env bash
 # The engine's run program, host's call and every call from a script against the reference on fixed cases; then each slip, put
-# into the reference, has to be seen by the same comparison; last, the pages show what the engine gives.
+# into the reference, has to be seen by the same comparison; the engine in two numberings; last, the pages show what the engine gives.
 set -eu
 [ "${1:-}" != --help ] || { sed -n '2,3s/^# //p' "$0"; exit 0; }
 cd "$(dirname "$0")/.."
@@ -9,6 +9,11 @@ programs=(--run target/compare/run --script target/compare/calls
   --call target/compare/call_sanitized --call target/compare/call_guarded)
 python3 reference/compare.py "${programs[@]}" --sessions 2000 --seed 1
 python3 reference/compare.py "${programs[@]}" --slips
+
+# sessions, records and steps on tables in two numberings, with faces turned round; and numberings that are wrong in one figure
+numberings=(--run target/compare/run --script target/compare/calls --call target/compare/call_guarded)
+python3 reference/numberings.py "${numberings[@]}" --cases 400 --seed 1
+python3 reference/numberings.py "${numberings[@]}" --cases 100 --slips
 
 # what is stored is the reference's answer, and what docs/CALLS.md shows is the program's
 python3 reference/script.py < crates/calls/stdin | cmp - crates/calls/stdout

@@ -1,15 +1,20 @@
 -- Sums, least and greatest values of things that are renumbered: each sum is written as one over both numberings, and the two change places.
+-- Tables carried along: their lengths, their entries, and what is written over one.
 use Prim.Native.Nat.{ℕ, zero, suc, _≤_, _<_}
 use mathlib.Core.Path.{_≡_, refl, sym, ap, _∙_}
 use mathlib.Core.Logic.{_≢_}
 use mathlib.Core.Bool.{Bool, true, false, cond}
 use native.Mathlib.Omega.{arith}
-use borrow.Author.Tests.{eq-eqb, ne-eqb}
-use lib.Dec.{eqb}
+use mathlib.Core.List.{List}
+use borrow.Author.Tests.{eq-eqb, ne-eqb, le-leb}
+use lib.Dec.{eqb, ltb}
+use lib.ListN.{length, getD}
 use Rattle.lists.specs.Fold.{sum, least, greatest}
-use Rattle.lists.proofs.Tests.{Same, same, other, same?, cond-same}
+use Rattle.lists.specs.Table.{table, over}
+use Rattle.lists.proofs.Tests.{Same, same, other, same?, Fits, fits, exceeds, fits?, cond-same}
 use Rattle.lists.proofs.Sums.{sum-cong, sum-zeros, sum-swap, sum-pick, least-start, least-each, greatest-start, greatest-each, greatest-le}
-use Rattle.lists.specs.Renumbering.{Renumbering}
+use Rattle.lists.proofs.Tables.{length-table, getD-table, is-table, length-over, getD-over, getD-past}
+use Rattle.lists.specs.Renumbering.{Renumbering, carriedAlong}
 
 -- The m things of g among the n of f, thing j of g at `to j`: the sums are the same where f is 0 at all others.
 module _ (m n : ℕ) (g f : ℕ → ℕ) (to from : ℕ → ℕ) (to-in : (j : ℕ) → j < m → to j < n) (from-to : (j : ℕ) → j < m → from (to j) ≡ j)
@@ -75,3 +80,22 @@ renumbered-eqb n r i j h l = go (eqb i j) (same? i j)
     go : (b : Bool) → Same i j b → eqb (r .new i) (r .new j) ≡ b
     go true (same e) = eq-eqb _ _ (ap (r .new) e)
     go false (other d) = ne-eqb _ _ (λ e. d (sym (r .old-new i h) ∙ ap (r .old) e ∙ r .old-new j l))
+
+-- tables carried along
+module _ {A : Type 0} (n : ℕ) (r : Renumbering n) (entry : ℕ → A) (d : A) (xs : List A) where
+  pub length-carried : length (carriedAlong n r entry d xs) ≡ length xs
+  unfolding carriedAlong
+  length-carried = length-table (length xs) _
+
+  pub getD-carried : n ≤ length xs → (i : ℕ) → i < n → getD (carriedAlong n r entry d xs) (r .new i) d ≡ entry i
+  unfolding carriedAlong
+  getD-carried long i h = let l = r .new-in i h in getD-table (length xs) _ d (r .new i) (omega arith) ∙ rw (le-leb (suc (r .new i)) n l, r .old-new i h)
+
+  -- a table of things by their new numbers, written over a longer one
+  pub over-carried : (f : ℕ → A) → ((i : ℕ) → i < n → f (r .new i) ≡ entry i) → n ≤ length xs → over (table n f) xs ≡ carriedAlong n r entry d xs
+  unfolding carriedAlong
+  over-carried f same-at long = is-table d (over (table n f) xs) (length xs) _ (length-over n f xs long) (λ i l. go i (ltb i n) (fits? (suc i) n))
+    where
+      go : (i : ℕ) (b : Bool) → Fits (suc i) n b → getD (over (table n f) xs) i d ≡ cond b (entry (r .old i)) (getD xs i d)
+      go i true (fits h) = getD-over n f xs d i h ∙ ap f (sym (r .new-old i h)) ∙ same-at (r .old i) (r .old-in i h)
+      go i false (exceeds h) = getD-past n f xs d i (omega arith)

@@ -1,16 +1,17 @@
 -- Laws of tables: their length, their entries, and a loop that writes one entry after another.
-use Prim.Native.Nat.{ℕ, zero, suc, _+_, _≤_, _<_}
+use Prim.Native.Nat.{ℕ, zero, suc, _+_, _-_, _≤_, _<_}
 use mathlib.Core.Path.{_≡_, refl, sym, ap, _∙_}
 use mathlib.Core.Bool.{Bool, true, false, cond}
 use mathlib.Core.List.{List, [], _∷_, _++_, append-nil}
 use native.Mathlib.Nat.{not-suc-le-zero, le-of-suc-le-suc}
 use native.Mathlib.Numerals.{add-one}
 use native.Mathlib.Omega.{arith}
-use lib.Dec.{eqb}
-use lib.ListN.{length, getD, set, drop, length-append, length-drop, drop-of-length-le, List·getD-append}
-use lib.Seq.{ext-getD, getD-set-same, getD-set-other}
+use borrow.Author.Tests.{ne-eqb}
+use lib.Dec.{eqb, leb}
+use lib.ListN.{length, getD, set, drop, length-set, length-append, length-drop, drop-of-length-le, List·getD-append}
+use lib.Seq.{ext-getD, getD-set-same, getD-set-other, getD-append-add, getD-drop}
 use Rattle.lists.specs.Table.{table, over}
-use Rattle.lists.proofs.Tests.{Same, same, other, same?}
+use Rattle.lists.proofs.Tests.{Same, same, other, same?, Fits, fits, exceeds, fits?}
 
 pub length-table {ℓ} : {A : Type ℓ} (n : ℕ) (f : ℕ → A) → length (table n f) ≡ n
 unfolding table
@@ -53,6 +54,25 @@ length-over n f ys l = rw (over-table n f ys) (simp (length-append, length-table
 
 pub getD-over {ℓ} : {A : Type ℓ} (n : ℕ) (f : ℕ → A) (ys : List A) (d : A) (i : ℕ) → i < n → getD (over (table n f) ys) i d ≡ f i
 getD-over n f ys d i h = rw (over-table n f ys) (List·getD-append (table n f) (drop n ys) d i (omega (arith, length-table n f)) ∙ getD-table n f d i h)
+
+pub getD-past {ℓ} : {A : Type ℓ} (n : ℕ) (f : ℕ → A) (ys : List A) (d : A) (i : ℕ) → n ≤ i → getD (over (table n f) ys) i d ≡ getD ys i d
+getD-past n f ys d i h =
+    let e : length (table n f) + (i - n) ≡ i = omega (arith, length-table n f) in
+    let q : n + (i - n) ≡ i = omega arith in
+    rw (over-table n f ys)
+    (ap (λ (k : ℕ). getD (table n f ++ drop n ys) k d) (sym e) ∙ getD-append-add (table n f) (drop n ys) (i - n) d
+    ∙ getD-drop n ys (i - n) d ∙ ap (λ (k : ℕ). getD ys k d) q)
+
+-- one entry of what is written, otherwise
+pub over-set {ℓ} : {A : Type ℓ} (n : ℕ) (f g : ℕ → A) (ys : List A) (i : ℕ) (v d : A) → n ≤ length ys → i < n
+    → ((k : ℕ) → k < n → g k ≡ cond (eqb i k) v (f k))
+    → over (table n g) ys ≡ set (over (table n f) ys) i v
+over-set n f g ys i v d long h same-at = ext-getD d _ _ (length-over n g ys long ∙ sym (length-set (over (table n f) ys) i v ∙ length-over n f ys long))
+    (λ k l. go k (leb (suc k) n) (fits? (suc k) n) ∙ sym (getD-set (over (table n f) ys) i k v d (omega (arith, length-over n f ys long))))
+  where
+    go : (k : ℕ) (b : Bool) → Fits (suc k) n b → getD (over (table n g) ys) k d ≡ cond (eqb i k) v (getD (over (table n f) ys) k d)
+    go k true (fits m) = getD-over n g ys d k m ∙ same-at k m ∙ rw (getD-over n f ys d k m)
+    go k false (exceeds m) = rw (ne-eqb i k (omega arith)) (getD-past n g ys d k (omega arith) ∙ sym (getD-past n f ys d k (omega arith)))
 
 -- a loop that writes f i at each i in turn: its first state, its step and its last
 pub over-start {ℓ} : {A : Type ℓ} (f : ℕ → A) (ys : List A) → ys ≡ over (table 0 f) ys

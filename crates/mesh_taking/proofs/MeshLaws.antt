@@ -94,7 +94,7 @@ module _ (bs : List ℕ) (e : meshRecordFound bs ≡ fine) where
     need-met 2 4 (le-leb (facesIn bs) (length (reachesIn bs)) (omega (arith, c .reaches-cut))),
   )
 
-  values-left : meshVerdict (meshIn bs) ≡ meshValues (meshIn bs)
+  pub values-left : meshVerdict (meshIn bs) ≡ meshValues (meshIn bs)
   unfolding meshVerdict counts _andThen_
   values-left = rw (counts-pass, tables-pass)
 

@@ -1,5 +1,5 @@
 -- Entries past the counts mean nothing: steps that agree below their counts are alike, each cell and face with its own number, and so
--- have the same stages; scans of tests that agree find the same, so they have the same verdicts and answers.
+-- have the same stages, verdicts and answers, by the laws of those that are alike. Causes 3 to 5 agree of any mesh, accepted or not.
 use Prim.Native.Nat.{ℕ, _≤_, _<_}
 use mathlib.Core.Path.{_≡_, refl, sym, ap, ap₂, _∙_}
 use mathlib.Core.Bool.{Bool, true, false, cond}
@@ -7,7 +7,6 @@ use mathlib.Core.List.{List}
 use native.Mathlib.Omega.{arith}
 use lib.Dec.{eqb}
 use lib.IntN.{ℤ, pos}
-use lib.ListN.{getD}
 use Rattle.lists.specs.Fold.{sum}
 use Rattle.lists.specs.Renumbering.{unmoved}
 use Rattle.lists.specs.Table.{table, over}
@@ -15,18 +14,17 @@ use Rattle.lists.proofs.Tests.{Same, same, same?}
 use Rattle.lists.proofs.Sums.{sum-cong}
 use Rattle.lists.proofs.Tables.{table-cong}
 use Rattle.model.specs.Mesh.{Mesh, first, second, rim, entering, leaving, incoming, outgoing, total}
-use Rattle.model.specs.Step.{StepInput, flux, raised, releasedMass, lo, hi, moved, next, inMass, outMass}
-use Rattle.model.specs.Alike.{straight, AlikeEnds, Alike, AgreeMesh, Agree, AgreeCall}
-use Rattle.model.specs.Causes.{accepted, refused, Verdict, fine, _andThen_, taken, each, Call, inputOf, counts, meshTables, fieldTable, stepTables, meshValues, volumeGood, endsGood, spacingGood, fieldValues, fieldVerdict, saltGood, release, raisedGood, raisedValues, stepValues, outsideGood, fluxGood, balanceGood, outflowGood, verdict}
-use Rattle.model.specs.Calls.{massIn, Bounded, Left, crossingOf, corrected, stepAnswer, nextTable, movedTable}
+use Rattle.model.specs.Step.{StepInput, lo, hi, moved, next, inMass, outMass}
+use Rattle.model.specs.Alike.{straight, AlikeEnds, AlikeMesh, Alike, AlikeCall, AgreeMesh, Agree, AgreeCall}
+use Rattle.model.specs.Causes.{accepted, refused, Verdict, fine, taken, each, Call, inputOf, meshTables, fieldTable, stepTables, meshValues, volumeGood, endsGood, spacingGood, fieldValues, fieldVerdict, verdict}
+use Rattle.model.specs.Calls.{massIn, Bounded, Left, corrected, stepAnswer, nextTable, movedTable}
 use Rattle.model.specs.Accepted.{MeshFit}
-use Rattle.model.proofs.Verdicts.{each-cong}
 use Rattle.model.proofs.Accepted.{ready}
 use Rattle.model.proofs.Lists.{Fair}
-use Rattle.model.proofs.Raised.{raised-at}
 use Rattle.model.proofs.AlikeStages.{lo-alike, hi-alike, moved-alike, next-alike, in-mass-alike, out-mass-alike}
+use Rattle.model.proofs.AlikeCauses.{each-alike, field-values-alike, raised-alike, verdict-alike, answer-alike}
 
-whole : (k : ℕ) → k ≡ cond (eqb k rim) rim k
+pub whole : (k : ℕ) → k ≡ cond (eqb k rim) rim k
 whole k = go (eqb k rim) (same? k rim)
   where
     go : (b : Bool) → Same k rim b → k ≡ cond b rim k
@@ -38,18 +36,17 @@ pub same-ends : (M M′ : Mesh) → M′ .cells ≡ M .cells → M′ .faces ≡
     → AlikeEnds M M′ (unmoved (M .cells)) (unmoved (M .faces)) (λ f. false)
 same-ends M M′ c n ends = record { cells-same = c; faces-same = n; facing = λ f l. straight (ends f l .0) (ends f l .1 ∙ whole (second M f)) }
 
-agree-alike : (S S′ : StepInput) → Agree S S′ → Alike S S′ (unmoved (S .mesh .cells)) (unmoved (S .mesh .faces)) (λ f. false)
-agree-alike S S′ g = let m = g .mesh-agrees in record {
-  mesh-alike = record {
-    ends-alike = same-ends (S .mesh) (S′ .mesh) (m .cells-same) (m .faces-same) (λ f l. (m .firsts f l, m .seconds f l));
-    volume-same = m .volumes;
-    share-same = m .shares;
-    reach-same = m .reaches;
-  };
-  mass-same = g .masses;
-  flux-same = g .fluxes;
-  outside-same = g .outsides;
+meshes-alike : (M M′ : Mesh) → AgreeMesh M M′ → AlikeMesh M M′ (unmoved (M .cells)) (unmoved (M .faces)) (λ f. false)
+meshes-alike M M′ m = record {
+  ends-alike = same-ends M M′ (m .cells-same) (m .faces-same) (λ f l. (m .firsts f l, m .seconds f l));
+  volume-same = m .volumes;
+  share-same = m .shares;
+  reach-same = m .reaches;
 }
+
+agree-alike : (S S′ : StepInput) → Agree S S′ → Alike S S′ (unmoved (S .mesh .cells)) (unmoved (S .mesh .faces)) (λ f. false)
+agree-alike S S′ g =
+    record { mesh-alike = meshes-alike (S .mesh) (S′ .mesh) (g .mesh-agrees); mass-same = g .masses; flux-same = g .fluxes; outside-same = g .outsides }
 
 -- the stages
 module _ (S S′ : StepInput) (few : S .mesh .cells ≤ rim) (fit : MeshFit (S .mesh)) (g : Agree S S′) where
@@ -85,7 +82,7 @@ module _ (M M′ : Mesh) (same-faces : M′ .faces ≡ M .faces)
 
 -- a scan of tests that agree finds the same, at the same place
 each-agree : (k n : ℕ) {n′ : ℕ} (good good′ : ℕ → Bool) → n′ ≡ n → ((i : ℕ) → i < n → good′ i ≡ good i) → each k n′ good′ ≡ each k n good
-each-agree k n good good′ e h = ap (λ (m : ℕ). each k m good′) e ∙ each-cong k n good′ good h
+each-agree k n = each-alike true k n (unmoved n) (λ q i l. refl)
 
 -- causes 3 to 5
 module _ (M M′ : Mesh) (g : AgreeMesh M M′) where
@@ -99,9 +96,7 @@ module _ (M M′ : Mesh) (g : AgreeMesh M M′) where
 
   -- cause 6
   pub field-values-agree : (field field′ : List ℕ) → ((c : ℕ) → c < M .cells → massIn field′ c ≡ massIn field c) → fieldValues M′ field′ ≡ fieldValues M field
-  unfolding fieldValues saltGood
-  field-values-agree field field′ same-masses =
-      each-agree 6 (M .cells) (saltGood M field) (saltGood M′ field′) (g .cells-same) (λ c h. rw (same-masses c h, g .volumes c h))
+  field-values-agree field field′ = field-values-alike true M M′ (unmoved (M .cells)) (λ q c h. refl) field field′ (g .cells-same) (g .volumes)
 
   pub field-verdict-agree : (field : List ℕ) → fieldVerdict M′ field ≡ fieldVerdict M field
   unfolding fieldVerdict fieldTable
@@ -143,49 +138,25 @@ module _ (M M′ : Mesh) (field field′ : List ℕ) (k k′ : Call) (a : AgreeC
   abbrev m : AgreeMesh M M′
   m = a .mesh-agrees
 
-  -- fields that agree, raised by releases that do
-  raised-agree : (c : ℕ) → c < M .cells → getD (raised (M′ .cells) field′ (k′ .releases)) c 0 ≡ getD (raised (M .cells) field (k .releases)) c 0
-  raised-agree c h =
-      let n : c < M′ .cells = omega (arith, m .cells-same) in
-      raised-at (M′ .cells) field′ (k′ .releases) c n ∙ rw (a .masses c h, a .releases c h, raised-at (M .cells) field (k .releases) c h)
+  calls-alike : AlikeCall M M′ field field′ k k′ (unmoved (M .cells)) (unmoved (M .faces)) (λ f. false)
+  calls-alike = record {
+    mesh-alike = meshes-alike M M′ m;
+    mass-same = a .masses;
+    release-same = a .releases;
+    flux-same = a .fluxes;
+    outside-same = a .outsides;
+  }
 
   pub inputs-agree : Agree S S′
-  inputs-agree = record { mesh-agrees = m; masses = raised-agree; fluxes = a .fluxes; outsides = a .outsides }
+  inputs-agree = record { mesh-agrees = m; masses = raised-alike M M′ _ _ _ field field′ k k′ calls-alike; fluxes = a .fluxes; outsides = a .outsides }
 
   abbrev g : Agree S S′
   g = inputs-agree
 
-  inflow-agree : (c : ℕ) → incoming M′ (flux S′) c ≡ incoming M (flux S) c
-  inflow-agree = incoming-agree M M′ (m .faces-same) (λ f l. (m .firsts f l, m .seconds f l)) (flux S) (flux S′) (g .fluxes)
-
-  outflow-agree : (c : ℕ) → outgoing M′ (flux S′) c ≡ outgoing M (flux S) c
-  outflow-agree = outgoing-agree M M′ (m .faces-same) (λ f l. (m .firsts f l, m .seconds f l)) (flux S) (flux S′) (g .fluxes)
-
-  -- cause 18
-  pub raised-values-agree : raisedValues M′ field′ k′ ≡ raisedValues M field k
-  unfolding raisedValues raisedGood
-  raised-values-agree = each-agree 18 (M .cells) (raisedGood M field k) (raisedGood M′ field′ k′) (m .cells-same)
-      (λ c h. rw (a .masses c h, a .releases c h, m .volumes c h))
-
-  -- causes 7 to 10
-  pub step-values-agree : stepValues M′ field′ k′ ≡ stepValues M field k
-  unfolding stepValues outsideGood fluxGood balanceGood outflowGood
-  step-values-agree = rw (
-    each-agree 7 (M .faces) (outsideGood M field k) (outsideGood M′ field′ k′) (m .faces-same) (λ f l. rw (m .seconds f l, g .fluxes f l, g .outsides f l)),
-    each-agree 8 (M .faces) (fluxGood M field k) (fluxGood M′ field′ k′) (m .faces-same) (λ f l. rw (m .seconds f l, m .reaches f l, g .fluxes f l)),
-    each-agree 9 (M .cells) (balanceGood M field k) (balanceGood M′ field′ k′) (m .cells-same) (λ c h. rw (inflow-agree c, outflow-agree c)),
-    each-agree 10 (M .cells) (outflowGood M field k) (outflowGood M′ field′ k′) (m .cells-same) (λ c h. rw (outflow-agree c, m .volumes c h)),
-  )
-
-  pub released-agree : releasedMass (M′ .cells) (k′ .releases) ≡ releasedMass (M .cells) (k .releases)
-  unfolding releasedMass
-  released-agree = ap (λ (n : ℕ). sum n (release k′)) (m .cells-same) ∙ sum-cong (M .cells) (release k′) (release k) (a .releases)
-
   -- where cause 2 finds the same too, as in tables that are all long enough
   module _ (mesh-lent : meshTables M′ ≡ meshTables M) (field-lent : fieldTable M′ field′ ≡ fieldTable M field) (call-lent : stepTables M′ field′ k′ ≡ stepTables M field k) where
     pub verdict-agree : verdict M′ field′ k′ ≡ verdict M field k
-    unfolding verdict counts
-    verdict-agree = rw (mesh-lent, field-lent, call-lent, mesh-values-agree M M′ m, field-values-agree M M′ m field field′ (a .masses), raised-values-agree, step-values-agree, m .cells-same, m .faces-same)
+    verdict-agree = verdict-alike true M M′ _ _ _ (λ q c h. refl) (λ q f l. refl) field field′ k k′ calls-alike mesh-lent field-lent call-lent (mesh-values-agree M M′ m)
 
     -- what an accepted call makes of the stages is the same; a refused one makes nothing of them
     after-agree : {A : Type 0} (x x′ y y′ : A) → (verdict M field k ≡ fine → x′ ≡ x) → y′ ≡ y → taken (verdict M′ field′ k′) x′ y′ ≡ taken (verdict M field k) x y
@@ -196,13 +167,8 @@ module _ (M M′ : Mesh) (field field′ : List ℕ) (k k′ : Call) (a : AgreeC
         go (refused i j) e = refl
 
     pub answer-agree : stepAnswer corrected M′ k′ field′ ≡ stepAnswer corrected M k field
-    unfolding stepAnswer _andThen_
-    answer-agree = rw verdict-agree (go (verdict M field k) refl)
-      where
-        go : (v : Verdict) → verdict M field k ≡ v → (v andThen accepted (crossingOf M′ field′ k′)) ≡ (v andThen accepted (crossingOf M field k))
-        go (accepted t) e = let r = ready M field k e in
-            rw (in-agree S S′ (r .counts-fit .few-cells) (r .fit) g, out-agree S S′ (r .counts-fit .few-cells) (r .fit) g, released-agree)
-        go (refused i j) e = refl
+    unfolding stepAnswer
+    answer-agree = answer-alike true M M′ _ _ _ (λ q c h. refl) (λ q f l. refl) field field′ k k′ calls-alike mesh-lent field-lent call-lent (mesh-values-agree M M′ m)
 
     pub next-table-agree : k′ .nexts ≡ k .nexts → nextTable corrected M′ k′ field′ ≡ nextTable corrected M k field
     unfolding nextTable next

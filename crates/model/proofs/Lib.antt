@@ -7,6 +7,7 @@ pub mod Next
 pub mod Accepted
 pub mod AlikeFaces
 pub mod AlikeStages
+pub mod AlikeCauses
 pub mod Agree
 pub mod Unreleased
 pub mod Lists

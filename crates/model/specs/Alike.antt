@@ -11,7 +11,7 @@ use Rattle.lists.specs.Renumbering.{Renumbering}
 use Rattle.signed.specs.Sign.{turn}
 use Rattle.model.specs.Mesh.{Mesh, volume, first, second, share, reach, atRim, rim}
 use Rattle.model.specs.Step.{StepInput, flux, outside, mass}
-use Rattle.model.specs.Causes.{Call, release}
+use Rattle.model.specs.Causes.{Outcome, accepted, refused, Call, release}
 
 -- Face f′ of M′ is face f of M: as it was, or turned. Only an interior face is turned.
 pub data Facing (M M′ : Mesh) (cell : ℕ → ℕ) (f f′ : ℕ) : Bool → Type 0 where
@@ -37,6 +37,20 @@ pub record Alike (S S′ : StepInput) (cell : Renumbering (S .mesh .cells)) (fac
   pub mass-same : (c : ℕ) → c < S .mesh .cells → mass S′ (cell .new c) ≡ mass S c
   pub flux-same : (f : ℕ) → f < S .mesh .faces → flux S′ (face .new f) ≡ turn (turns f) (flux S f)
   pub outside-same : (f : ℕ) → f < S .mesh .faces → outside S′ (face .new f) ≡ outside S f
+
+-- and two calls, each with the field lent to it: masses and releases by cells, fluxes and outside values by faces
+pub record AlikeCall (M M′ : Mesh) (field field′ : List ℕ) (k k′ : Call)
+    (cell : Renumbering (M .cells)) (face : Renumbering (M .faces)) (turns : ℕ → Bool) : Type 0 where
+  pub mesh-alike : AlikeMesh M M′ cell face turns
+  pub mass-same : (c : ℕ) → c < M .cells → getD field′ (cell .new c) 0 ≡ getD field c 0
+  pub release-same : (c : ℕ) → c < M .cells → release k′ (cell .new c) ≡ release k c
+  pub flux-same : (f : ℕ) → f < M .faces → getD (k′ .fluxes) (face .new f) (pos 0) ≡ turn (turns f) (getD (k .fluxes) f (pos 0))
+  pub outside-same : (f : ℕ) → f < M .faces → getD (k′ .outsides) (face .new f) 0 ≡ getD (k .outsides) f 0
+
+-- "refused with the same number", whatever the place: an outcome without its place
+abbrev pub unplaced : {A : Type 0} → Outcome A → Outcome A
+unplaced (accepted a) = accepted a
+unplaced (refused cause place) = refused cause 0
 
 -- M′ has M's entries below the counts
 pub record AgreeMesh (M M′ : Mesh) : Type 0 where

@@ -1,0 +1,5 @@
+pub mod Schemes
+pub mod NewMesh
+pub mod TwoSteps
+pub mod Renumbered
+pub mod TurnedFace

@@ -1,0 +1,5 @@
+pub mod Tables
+pub mod Salt
+pub mod Judged
+pub mod Anew
+pub mod Hosts

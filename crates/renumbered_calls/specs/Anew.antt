@@ -1,0 +1,43 @@
+-- Document 02, S-9, on records: the mesh, field and step records of the second office. Only records that read have a renumbering.
+use Prim.Native.Nat.{ℕ}
+use mathlib.Core.Path.{_≡_}
+use mathlib.Core.Bool.{Bool}
+use mathlib.Core.List.{List}
+use Rattle.lists.specs.Renumbering.{Renumbering}
+use Rattle.model.specs.Mesh.{Mesh, runCells, runFaces}
+use Rattle.model.specs.Causes.{fine, Call}
+use Rattle.heads.specs.Layouts.{meshRecord, fieldRecord, stepRecord}
+use Rattle.heads.specs.Heads.{kindIn, cellsIn, facesIn}
+use Rattle.reading.specs.Reading.{meshIn, massesIn, fieldRead}
+use Rattle.mesh_taking.specs.MeshTaking.{meshJudged}
+use Rattle.taking.specs.Taking.{stepIn, stepRecordFound}
+use Rattle.renumbered.specs.Renumbered.{renumberedMesh, renumberedField, renumberedCall}
+
+-- The first office's records: the mesh is accepted, and field and step read; their values may be refused.
+pub record Reads (mesh field step : List ℕ) : Type 0 where
+  pub mesh-accepted : meshJudged mesh runCells runFaces runFaces runFaces runFaces ≡ fine
+  pub field-reads : fieldRead (cellsIn mesh) field runCells ≡ fine
+  pub step-reads : stepRecordFound (meshIn mesh) step ≡ fine
+
+module _ (mesh : List ℕ) (cell : Renumbering (cellsIn mesh)) (face : Renumbering (facesIn mesh)) (turns : ℕ → Bool) where
+  -- the mesh that a record holds, numbered anew, and its record
+  abbrev pub newMesh : Mesh
+  newMesh = renumberedMesh (meshIn mesh) cell face turns
+
+  abbrev pub meshAnew : List ℕ
+  meshAnew = meshRecord newMesh
+
+  -- a field on it
+  abbrev pub newField : List ℕ → List ℕ
+  newField field = renumberedField (meshIn mesh) cell face turns (massesIn field (cellsIn mesh))
+
+  abbrev pub fieldAnew : List ℕ → List ℕ
+  fieldAnew field = fieldRecord (cellsIn mesh) (newField field)
+
+  -- A step, its record of the same kind. A flux of 0 stays without a sign; outside values follow the new order of the faces.
+  abbrev pub newCall : List ℕ → Call
+  newCall step = let k = stepIn (meshIn mesh) step in renumberedCall (meshIn mesh) cell face turns k (k .nexts) (k .moveds) (k .work)
+
+  abbrev pub stepAnew : List ℕ → List ℕ
+  stepAnew step = let k = newCall step in
+      stepRecord (kindIn step) (cellsIn mesh) (facesIn mesh) (newMesh .seconds) (k .fluxes) (k .outsides) (k .releases)
