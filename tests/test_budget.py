@@ -90,8 +90,12 @@ def test_plain():
     equal(both(report), {"first total": (100000, 100000), "in, face 0": (200000, 200000), "in, all rim faces": (200000, 200000),
                          "released, all cells": (0, 0), "out, face 3": (30400, 37500), "out, all rim faces": (30400, 37500),
                          "last total": (269600, 262500), "difference": (0, 0)}, report)
-    holds("corrected  plain upwind\n" in report and "last q farthest apart in cell 1: corrected 1,000, plain 937\n" in report, report)
+    holds("corrected  plain upwind\n" in report, report)
+    holds("last fields farthest apart in cell 1: corrected q 1,000, rest 99; plain q 937, rest 50\n" in report, report)
     holds("plain upwind, 4 accepted steps: m / V of every cell is less than 4 from steps that round nothing" in report, report)
+    still = CHANNEL[:CHANNEL.index("step times 2")] + "step\ncell 0 release 99900100\n"
+    report = command("budget.py", "--plain", data=still.encode())[1].decode()
+    holds("both last fields are the same\n" in report and report.count("cause 18") == 2, f"refused by both, and no plain step is accepted: {report}")
 
 
 def test_plain_beside_the_reference():

@@ -68,6 +68,10 @@ class Budget:
         else:
             self.refused.append([number, number, refusal])
 
+    def refused_where(self):
+        """Step, cause and place of each refusal."""
+        return [(step, refusal.cause, refusal.place) for first, last, refusal in self.refused for step in range(first, last + 1)]
+
     def difference(self):
         return self.first + sum(self.entered.values()) + sum(self.released.values()) - sum(self.gone.values()) - self.last
 
@@ -115,14 +119,16 @@ def refusals(budget, labels):
 def beside(corrected, plain, session):
     """How far the two last fields are apart, what plain upwind's error is, and its refusals where they are others."""
     volumes = session.mesh.volumes
-    apart = lambda cell: abs(Fraction(corrected.masses[cell] - plain.masses[cell], volumes[cell]))
-    cell = max(range(len(volumes)), key=lambda cell: (apart(cell), -cell))
-    lines = ["", f"last q farthest apart in {session.labels.of('cell', cell)}: corrected {corrected.masses[cell] // volumes[cell]:,}, "
-                 f"plain {plain.masses[cell] // volumes[cell]:,}"]
+    apart = [abs(Fraction(mine - other, volume)) for mine, other, volume in zip(corrected.masses, plain.masses, volumes)]
+    cell = apart.index(max(apart))
+    said = [f"{words} q {budget.masses[cell] // volumes[cell]:,}, rest {budget.masses[cell] % volumes[cell]:,}"
+            for words, budget in (("corrected", corrected), ("plain", plain))]
+    far = f"last fields farthest apart in {session.labels.of('cell', cell)}: {'; '.join(said)}"
+    lines = ["", far if apart[cell] else "both last fields are the same"]
     if plain.accepted:
         lines.append(f"plain upwind, {count(plain.accepted, 'accepted step')}: "
                      f"m / V of every cell is less than {plain.accepted:,} from steps that round nothing")
-    if plain.refused != corrected.refused:
+    if plain.refused_where() != corrected.refused_where():
         lines += ["", "refused by plain upwind:" if plain.refused else "plain upwind refuses no step", *refusals(plain, session.labels)[1:]]
     return lines
 
@@ -177,6 +183,8 @@ def run(options):
             walked(history, budgets, Rows(output, session, plain))
     else:
         walked(history, budgets)
+    if plain:
+        plain.calls.finish()
     if options.field:
         command.write_whole(options.field, history.corrected.field)
     lines = report(budgets, session, command.named(options.file))

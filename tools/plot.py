@@ -107,6 +107,9 @@ class Figures:
         self.gone.append(sum(moment.gone.values()))
         self.released.append(sum(moment.released.values()))
 
+    def refused_where(self):
+        return [(step, refusal.cause, refusal.place) for step, refusal in self.refused]
+
     def profile(self, masses):
         return [mass // volume for mass, volume in zip(masses, self.mesh.volumes)]
 
@@ -261,7 +264,7 @@ class Drawing:
 
     def __init__(self, figures, plain, title):
         self.figures, self.plain, self.parts, self.top = figures, plain, [], 30
-        self.others = plain is not None and plain.refused != figures.refused        # does plain upwind refuse other steps?
+        self.others = plain is not None and plain.refused_where() != figures.refused_where()        # does plain upwind refuse other steps?
         for line in wrapped(title, LINE_WIDE, TITLE_LINES):
             self.text(LEFT, self.top, line, size=18, weight="bold")
             self.top += 24
@@ -507,6 +510,8 @@ def run(options):
         session = given.session()
     plain = engine.Plain(session.mesh, options.calls) if options.plain else None
     figures = figures_of(engine.History(session, options.library, options.run, plain), cells, options.every, profiles)
+    if plain:
+        plain.calls.finish()
     title = options.title if options.title is not None else "Session" if options.file == "-" else options.file.rpartition("/")[2]
     if options.csv:
         command.write_whole(options.csv, table(*figures).encode())

@@ -301,7 +301,8 @@ class Step:
 
     def carrying(self):
         faces = [("face", "U", "upwind", "q there", "carried = U · q")]
-        faces += [(f, signed(self.U[f]), *self.upwind[f], f"{signed(self.U[f])} · {self.upwind[f][1]} = {signed(self.carried[f])}") for f in self.faces]
+        faces += [(f, signed(self.U[f]), *self.upwind[f], f"{signed(self.U[f])} · {self.upwind[f][1]} = {signed(self.carried[f])}")
+                  for f in self.faces]
         return ["Stage 1, upwind"] + columns(faces)
 
     def stage_1(self):
