@@ -25,7 +25,8 @@ python3 reference/unrounded.py --script target/compare/calls --lists 300 --seed 
 # shares from survey points: the tool's and the engine's
 python3 tests/points.py target/compare/calls
 
-python3 bench/accuracy.py --call target/compare/call_guarded --script target/compare/calls --svg target/compare/accuracy.svg >target/compare/accuracy.md
+python3 bench/accuracy.py --call target/compare/call_guarded --script target/compare/calls \
+  --svg target/compare/accuracy.svg >target/compare/accuracy.md
 cmp target/compare/accuracy.svg docs/accuracy.svg
 if grep -vxFf docs/ACCURACY.md target/compare/accuracy.md; then
   echo "compare: docs/ACCURACY.md has other figures; make accuracy prints them" >&2
