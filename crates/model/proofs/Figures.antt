@@ -14,14 +14,14 @@ use Rattle.signed.specs.Sign.{isNegative}
 use Rattle.model.specs.Mesh.{Mesh, second, rim, entering, leaving, incoming, outgoing, updated}
 use Rattle.model.specs.Step.{StepInput, raised, releasedMass, flux, outside, inMass, outMass, next, moved, concentration, beyond, upwind, downwind, carried, low, upwindShare, correction, smooths, keptBy, lowConcentration, kept, adjacent, lo, hi, maxGain, maxLoss, receiver, giver, limitedBy, limited, portion}
 use Rattle.model.specs.Causes.{Call, release, inputOf, fine, refused, _andThen_, need, each, countsWithin, counts, meshTables, volumeGood, endsGood, spacingGood, meshValues, fieldTable, saltGood, fieldValues, fieldVerdict, raisedGood, raisedValues, stepTables, outsideGood, fluxGood, balanceGood, outflowGood, stepValues, verdict}
-use Rattle.model.specs.Calls.{massIn, corrected, stepOnTables, nextTable, afterAll, totalIn, totalOut}
+use Rattle.model.specs.Calls.{massIn, corrected, stepOnTables, nextTable, afterAll, totalIn, totalOut, totalReleased}
 use Rattle.model.proofs.Accepted.{ready}
 use Rattle.model.proofs.Raised.{raised-at}
 use Rattle.model.proofs.Uniform.{uniform, no-faces}
 
 -- a name for all that a figure computes through: to unfold it is to unfold what its `unfolding` line names
 everything : Unit {0}
-unfolding afterAll totalIn totalOut stepOnTables nextTable inMass outMass over verdict counts countsWithin meshTables fieldTable stepTables
+unfolding afterAll totalIn totalOut totalReleased stepOnTables nextTable inMass outMass over verdict counts countsWithin meshTables fieldTable stepTables
     meshValues fieldValues saltGood raised raisedGood raisedValues releasedMass stepValues volumeGood endsGood spacingGood outsideGood fluxGood balanceGood outflowGood need each
     _andThen_ table sum least greatest entering leaving incoming outgoing updated next moved concentration beyond upwind downwind carried
     low upwindShare correction smooths keptBy lowConcentration kept adjacent lo hi maxGain maxLoss receiver giver limitedBy limited portion
@@ -207,7 +207,14 @@ abbrev pub sluice : Mesh
 sluice = record { cells = 2; faces = 3; volumes = 100 ∷ 100 ∷ []; firsts = 0 ∷ 0 ∷ 1 ∷ []; seconds = rim ∷ 1 ∷ rim ∷ []; shares = 0 ∷ 1 ∷ 0 ∷ []; reaches = 0 ∷ 100 ∷ 0 ∷ [] }
 
 abbrev pub sluiceCall : ℕ → Call
-sluiceCall u = record { fluxes = negsuc u ∷ pos (suc u) ∷ pos (suc u) ∷ []; outsides = 1000 ∷ 0 ∷ 0 ∷ []; nexts = 0 ∷ 0 ∷ []; moveds = pos 0 ∷ pos 0 ∷ pos 0 ∷ []; work = replicate 11 0; releases = 0 ∷ 0 ∷ [] }
+sluiceCall u = record {
+  fluxes = negsuc u ∷ pos (suc u) ∷ pos (suc u) ∷ [];
+  outsides = 1000 ∷ 0 ∷ 0 ∷ [];
+  nexts = 0 ∷ 0 ∷ [];
+  moveds = pos 0 ∷ pos 0 ∷ pos 0 ∷ [];
+  work = replicate 11 0;
+  releases = 0 ∷ 0 ∷ [];
+}
 
 abbrev pub sluiceStep : ℕ → List ℕ → StepInput
 sluiceStep u masses = inputOf sluice masses (sluiceCall u)
@@ -220,13 +227,29 @@ abbrev pub wideStep : StepInput
 wideStep = inputOf widePair (93 ∷ 15 ∷ []) exchangeCall
 
 -- the channel with s 1, and U 80 through it from fresh water
-abbrev pub steepStep : StepInput
-steepStep = record {
-  mesh = record { cells = 3; faces = 4; volumes = 100 ∷ 100 ∷ 100 ∷ []; firsts = 0 ∷ 0 ∷ 1 ∷ 2 ∷ []; seconds = rim ∷ 1 ∷ 2 ∷ rim ∷ []; shares = 0 ∷ 1 ∷ 1 ∷ 0 ∷ []; reaches = 0 ∷ 100 ∷ 100 ∷ 0 ∷ [] };
-  masses = 0 ∷ 50000 ∷ 0 ∷ [];
+abbrev pub steep : Mesh
+steep = record {
+  cells = 3;
+  faces = 4;
+  volumes = 100 ∷ 100 ∷ 100 ∷ [];
+  firsts = 0 ∷ 0 ∷ 1 ∷ 2 ∷ [];
+  seconds = rim ∷ 1 ∷ 2 ∷ rim ∷ [];
+  shares = 0 ∷ 1 ∷ 1 ∷ 0 ∷ [];
+  reaches = 0 ∷ 100 ∷ 100 ∷ 0 ∷ [];
+}
+
+abbrev pub steepCall : Call
+steepCall = record {
   fluxes = negsuc 79 ∷ pos 80 ∷ pos 80 ∷ pos 80 ∷ [];
   outsides = 0 ∷ 0 ∷ 0 ∷ 0 ∷ [];
+  nexts = 0 ∷ 0 ∷ 0 ∷ [];
+  moveds = pos 0 ∷ pos 0 ∷ pos 0 ∷ pos 0 ∷ [];
+  work = replicate 16 0;
+  releases = 0 ∷ 0 ∷ 0 ∷ [];
 }
+
+abbrev pub steepStep : StepInput
+steepStep = inputOf steep (0 ∷ 50000 ∷ 0 ∷ []) steepCall
 
 pub record KeptFigures : Type 0 where
   -- cancelled: U 90 leaves low-order q 1000 and 900, and the correction would run from 1000 to 900
@@ -254,6 +277,7 @@ pub record KeptFigures : Type 0 where
   pub against-kept : table 2 (kept wideStep) ≡ pos 0 ∷ pos 0 ∷ []
   pub against-next : table 2 (next wideStep) ≡ 13 ∷ 95 ∷ []
   -- in neither P nor N: cell 1, at 100, gives to cell 0, at 0, and to cell 2, at 400. Only the second counts in N, so all of L goes there.
+  pub uncounted-accepted : verdict steep (0 ∷ 50000 ∷ 0 ∷ []) steepCall ≡ fine
   pub uncounted-low : table 3 (lowConcentration steepStep) ≡ 0 ∷ 100 ∷ 400 ∷ []
   pub uncounted-corrections : table 4 (correction steepStep) ≡ pos 0 ∷ negsuc 15842 ∷ pos 15843 ∷ pos 0 ∷ []
   pub uncounted-kept : table 4 (kept steepStep) ≡ pos 0 ∷ pos 0 ∷ pos 15843 ∷ pos 0 ∷ []
@@ -286,6 +310,7 @@ kept-figures = record {
   against-corrections = refl;
   against-kept = refl;
   against-next = refl;
+  uncounted-accepted = refl;
   uncounted-low = refl;
   uncounted-corrections = refl;
   uncounted-kept = refl;
@@ -299,6 +324,17 @@ kept-figures = record {
 abbrev pub outfallCall : ℕ → Call
 outfallCall r = record { fluxes = pos 10 ∷ negsuc 9 ∷ []; outsides = 0 ∷ 0 ∷ []; nexts = 0 ∷ []; moveds = pos 0 ∷ pos 0 ∷ []; work = replicate 6 0; releases = r ∷ [] }
 
+-- too much released, and an outside value where water leaves
+abbrev pub badOutfall : Call
+badOutfall = record {
+  fluxes = pos 10 ∷ negsuc 9 ∷ [];
+  outsides = 5 ∷ 0 ∷ [];
+  nexts = 0 ∷ [];
+  moveds = pos 0 ∷ pos 0 ∷ [];
+  work = replicate 6 0;
+  releases = 100000100 ∷ [];
+}
+
 -- the channel without salt, and step 1's first mass as a release
 abbrev pub channelOutfall : Call
 channelOutfall = record {
@@ -308,6 +344,17 @@ channelOutfall = record {
   moveds = channelCall .moveds;
   work = channelCall .work;
   releases = 100000 ∷ 0 ∷ 0 ∷ [];
+}
+
+-- the same with more than a cell of V 100 holds
+abbrev pub tooMuch : Call
+tooMuch = record {
+  fluxes = channelCall .fluxes;
+  outsides = channelCall .outsides;
+  nexts = channelCall .nexts;
+  moveds = channelCall .moveds;
+  work = channelCall .work;
+  releases = 0 ∷ 100000100 ∷ 0 ∷ [];
 }
 
 -- one cell, no faces, and a release
@@ -323,9 +370,10 @@ pub record ReleaseFigures : Type 0 where
   -- bounds of the raised field: what channel step 1 gives of masses 100000, 0, 0, it gives of releases 100000, 0, 0 into fresh water
   pub raised-accepted : verdict channel (0 ∷ 0 ∷ 0 ∷ []) channelOutfall ≡ fine
   pub raised-next : table 3 (next (inputOf channel (0 ∷ 0 ∷ 0 ∷ []) channelOutfall)) ≡ 100099 ∷ 49901 ∷ 0 ∷ []
-  -- 18: the fullest raised cell of V 4,095, and one too full; 6 before it
+  -- 18: the fullest raised cell of V 4,095, and one too full; 7 after it, 6 before it
   pub raised-fullest : verdict (lake 4095) (4095004093 ∷ []) (lakeOutfall 1) ≡ fine
   pub raised-too-full : verdict (lake 4095) (4095004093 ∷ []) (lakeOutfall 2) ≡ refused 18 0
+  pub raised-before-water : verdict strait (0 ∷ []) badOutfall ≡ refused 18 0
   pub too-full-before : verdict (lake 4095) (4095004095 ∷ []) (lakeOutfall 1) ≡ refused 6 0
 
 pub release-figures : ReleaseFigures
@@ -339,6 +387,7 @@ release-figures = record {
   raised-next = refl;
   raised-fullest = refl;
   raised-too-full = refl;
+  raised-before-water = refl;
   too-full-before = refl;
 }
 
@@ -366,6 +415,15 @@ session = refl
 session-in : totalIn (stepOnTables corrected channel) (100000 ∷ 0 ∷ 0 ∷ []) (channelCall ∷ channelCall ∷ []) ≡ 100000
 unfolding everything
 session-in = refl
+
+-- a release of 100000 into fresh water, one that is refused by 18, and the channel's own step
+session-released : totalReleased (stepOnTables corrected channel) (0 ∷ 0 ∷ 0 ∷ []) (channelOutfall ∷ tooMuch ∷ channelCall ∷ []) ≡ 100000
+unfolding everything
+session-released = refl
+
+session-after : afterAll (stepOnTables corrected channel) (0 ∷ 0 ∷ 0 ∷ []) (channelOutfall ∷ tooMuch ∷ channelCall ∷ []) ≡ 100099 ∷ 81188 ∷ 18713 ∷ []
+unfolding everything
+session-after = refl
 
 -- all V 7, all m 30, outside 4, on the channel
 all-30 : table 3 (next (record {

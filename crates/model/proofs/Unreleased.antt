@@ -14,7 +14,7 @@ use Rattle.model.specs.Mesh.{Mesh, volume, maxConcentration}
 use Rattle.model.specs.Step.{StepInput, releasedMass, next, moved, inMass, outMass}
 use Rattle.model.specs.Alike.{Agree}
 use Rattle.model.specs.Causes.{accepted, refused, Verdict, fine, _andThen_, inTurn, taken, Call, inputOf, release, lengths01, stepTables, fieldValues, saltGood, raisedGood, raisedValues, stepValues, verdict}
-use Rattle.model.specs.Calls.{crossingOf, stepAnswer, nextTable, movedTable}
+use Rattle.model.specs.Calls.{crossingOf, stepAnswer, nextTable, movedTable, workTable}
 use Rattle.model.specs.Accepted.{Ready}
 use Rattle.model.specs.Unreleased.{unraised, verdict01, AsBefore, Unreleased}
 use Rattle.model.proofs.Verdicts.{both-fine, need-met, each-fine, fine-each}
@@ -83,11 +83,12 @@ module _ (M : Mesh) (field : List ℕ) (k : Call) (long : M .cells ≤ length (k
   moved-same r = table-cong (pos 0) (M .faces) (moved S) (moved S₀) (λ f l. sym (moved-agree S S₀ (r .counts-fit .few-cells) (r .fit) agrees f l))
 
   pub as-before : AsBefore M field k
-  unfolding stepAnswer nextTable movedTable next
+  unfolding stepAnswer nextTable movedTable workTable next
   as-before = record {
     same-answer = answer-same (verdict M field k) refl
         ∙ ap (λ (v : Verdict). v andThen accepted (record { entered = inMass S₀; gone = outMass S₀; released = 0 })) verdict-same;
     same-next = after-same _ _ (k .nexts) (λ r. ap (λ (xs : List ℕ). over xs (k .nexts)) (next-same r));
+    same-work = after-same _ _ (k .work) (λ r. refl);
     same-moved = after-same _ _ (k .moveds) (λ r. ap (λ (xs : List ℤ). over xs (k .moveds)) (moved-same r));
   }
 

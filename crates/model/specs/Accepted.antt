@@ -1,4 +1,4 @@
--- What document 01's causes leave true of a call that passes them; contracts ask for it by these names.
+-- What the causes of documents 01 and 02 leave true of a call that passes them; contracts ask for it by these names.
 use Prim.Native.Nat.{ℕ, _+_, _-_, _*_, _≤_, _<_}
 use mathlib.Core.Path.{_≡_}
 use mathlib.Core.Logic.{_≢_}

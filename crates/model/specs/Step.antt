@@ -37,7 +37,7 @@ limitedBy M gain loss x f = withSign (isNegative (x f))
     (min (portion (size (x f)) (gain (receiver M x f)) (incoming M x (receiver M x f)))
     (portion (size (x f)) (loss (giver M x f)) (outgoing M x (giver M x f))))
 
--- Document 02, S-6: a field raised by the releases, cell by cell. They are added first, and all stages start from the raised field.
+-- Document 02, S-6: a field raised by the releases, cell by cell. It is what the stages below are given.
 unfoldable pub raised : (cells : ℕ) (field releases : List ℕ) → List ℕ
 raised cells field releases = table cells (λ c. getD field c 0 + getD releases c 0)
 

@@ -6,15 +6,15 @@ use lib.ListN.{length}
 use Rattle.lists.specs.Table.{table, over}
 use Rattle.model.specs.Mesh.{Mesh}
 use Rattle.model.specs.Step.{StepInput, next, moved, inMass, outMass}
-use Rattle.model.specs.Causes.{accepted, Verdict, _andThen_, inTurn, taken, Call, release, lengths01, counts, meshTables, fieldTable, meshValues, fieldValues, stepValues}
-use Rattle.model.specs.Calls.{corrected, stepAnswer, nextTable, movedTable}
+use Rattle.model.specs.Causes.{accepted, Verdict, _andThen_, inTurn, taken, Call, release, workLength, lengths01, counts, meshTables, fieldTable, meshValues, fieldValues, stepValues}
+use Rattle.model.specs.Calls.{corrected, stepAnswer, nextTable, movedTable, workTable}
 
 module _ (M : Mesh) (field : List ℕ) (k : Call) where
   -- what document 01's step works on: the field as it is lent
   abbrev pub unraised : StepInput
   unraised = record { mesh = M; masses = field; fluxes = k .fluxes; outsides = k .outsides }
 
-  -- and the causes that it has
+  -- and the causes that it has; those of water read fluxes and outside values, and no masses
   abbrev pub verdict01 : Verdict
   verdict01 = inTurn
       (counts M ∷ meshTables M ∷ fieldTable M field ∷ inTurn (lengths01 (M .cells) (M .faces) k) ∷ meshValues M ∷ fieldValues M field ∷ stepValues M field k ∷ [])
@@ -23,6 +23,7 @@ module _ (M : Mesh) (field : List ℕ) (k : Call) where
     pub same-answer : stepAnswer corrected M k field ≡ (verdict01 andThen accepted (record { entered = inMass unraised; gone = outMass unraised; released = 0 }))
     pub same-next : nextTable corrected M k field ≡ taken verdict01 (over (table (M .cells) (next unraised)) (k .nexts)) (k .nexts)
     pub same-moved : movedTable corrected M k field ≡ taken verdict01 (over (table (M .faces) (moved unraised)) (k .moveds)) (k .moveds)
+    pub same-work : workTable corrected M k field ≡ taken verdict01 (over (table (workLength M) (λ i. 0)) (k .work)) (k .work)
 
 abbrev pub Unreleased : Type 0
 Unreleased = (M : Mesh) (field : List ℕ) (k : Call) → M .cells ≤ length (k .releases) → ((c : ℕ) → c < M .cells → release k c ≡ 0) → AsBefore M field k
