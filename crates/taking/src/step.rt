@@ -60,7 +60,7 @@ fn stepped(
     }
 }
 
-// A step on an accepted mesh and field.
+// A step record on a mesh and a field, which are judged with it.
 pub fn take_step(
     cells: usize,
     faces: usize,
