@@ -3,3 +3,4 @@ pub mod NewMesh
 pub mod TwoSteps
 pub mod Renumbered
 pub mod TurnedFace
+pub mod Figures

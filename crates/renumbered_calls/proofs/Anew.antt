@@ -39,8 +39,8 @@ use Rattle.taking.specs.Taking.{stepIn, stepRecordFound}
 use Rattle.renumbered.specs.Renumbered.{amountIn, isTurned, newSecond}
 use Rattle.renumbered.proofs.TwoSteps.{fine-counts, fine-values}
 use Rattle.renumbered.proofs.Renumbered.{alike, s9-corrected}
-use Rattle.renumbered_calls.specs.Anew.{newMesh, meshAnew, newField, fieldAnew, newCall, stepAnew, Reads}
-use Rattle.renumbered_calls.proofs.Judged.{found, mesh-fine, few, masses-long, Held}
+use Rattle.renumbered_calls.specs.Anew.{newMesh, meshAnew, newField, fieldAnew, newCall, stepAnew, Reads, Held}
+use Rattle.renumbered_calls.proofs.Judged.{found, mesh-fine, few, masses-long}
 
 -- a list is the table of its entries
 pub exact : {A : Type 0} (d : A) (n : ℕ) (xs : List A) → length xs ≡ n → table n (λ i. getD xs i d) ≡ xs

@@ -28,9 +28,9 @@ use Rattle.taking.specs.Taking.{stepIn}
 use Rattle.lagoon.specs.Host.{causeStep, numberOf, hostVerdict, hostBytes}
 use Rattle.lagoon.proofs.Small.{Parts, taken-apart}
 use Rattle.renumbered.specs.Renumbered.{renumberedField}
-use Rattle.renumbered_calls.specs.Anew.{meshAnew, fieldAnew, stepAnew, Reads}
+use Rattle.renumbered_calls.specs.Anew.{meshAnew, fieldAnew, stepAnew, Reads, Held}
 use Rattle.renumbered_calls.specs.Hosts.{TwoHosts}
-use Rattle.renumbered_calls.proofs.Judged.{judged, judged-is, few, Held, judged-alike, as-held, next-anew}
+use Rattle.renumbered_calls.proofs.Judged.{judged, judged-is, few, judged-alike, as-held, next-anew}
 use Rattle.renumbered_calls.proofs.Anew.{exact, held}
 
 -- the number of a verdict: 0 of none, and else its cause and its place taken apart
@@ -136,6 +136,7 @@ module _ (mesh : List ℕ) (cell : Renumbering (cellsIn mesh)) (face : Renumberi
 
 pub two-hosts : TwoHosts
 two-hosts mesh cell face turns field step reads lent lent′ after after′ r r′ same-room first second = record {
+  anew-held = held mesh cell face turns field step reads;
   cause-same = rw (first .number, second .number) (causes-agree mesh cell face turns field step reads lent lent′ same-room);
   next-field = second .next-field ∙ rw (first .number, first .next-field) (bytes-are mesh cell face turns field step reads lent lent′ same-room);
 }

@@ -26,7 +26,7 @@ use Rattle.renumbered.specs.Renumbered.{isTurned, renumberedField}
 use Rattle.renumbered.proofs.Schemes.{corrected-numberless}
 use Rattle.renumbered.proofs.TwoSteps.{Calls, verdict-same, masses-same}
 use Rattle.renumbered.proofs.Renumbered.{alike, both}
-use Rattle.renumbered_calls.specs.Anew.{newMesh, meshAnew, newField, fieldAnew, newCall, stepAnew, Reads}
+use Rattle.renumbered_calls.specs.Anew.{newMesh, meshAnew, newField, fieldAnew, newCall, stepAnew, Reads, Held}
 use Rattle.renumbered_calls.proofs.Salt.{salt-left}
 
 -- the three records, judged one after another as the host judges them
@@ -66,13 +66,6 @@ module _ (mesh field step : List ℕ) (reads : Reads mesh field step) where
     need-met 2 5 (le-leb (M .cells) runCells (few .0)),
     salt-left M m mesh-fine (omega (arith, masses-long)),
   )
-
--- the second office's records read too, and hold what they should
-pub record Held (mesh : List ℕ) (cell : Renumbering (cellsIn mesh)) (face : Renumbering (facesIn mesh)) (turns : ℕ → Bool) (field step : List ℕ) : Type 0 where
-  pub reads-anew : Reads (meshAnew mesh cell face turns) (fieldAnew mesh cell face turns field) (stepAnew mesh cell face turns step)
-  pub mesh-held : meshIn (meshAnew mesh cell face turns) ≡ newMesh mesh cell face turns
-  pub field-held : massesIn (fieldAnew mesh cell face turns field) (cellsIn mesh) ≡ newField mesh cell face turns field
-  pub step-held : stepIn (newMesh mesh cell face turns) (stepAnew mesh cell face turns step) ≡ newCall mesh cell face turns step
 
 module _ (mesh : List ℕ) (cell : Renumbering (cellsIn mesh)) (face : Renumbering (facesIn mesh)) (turns : ℕ → Bool) (field step : List ℕ)
     (reads : Reads mesh field step) (held : Held mesh cell face turns field step) where

@@ -7,8 +7,10 @@ use Rattle.model.specs.Causes.{accepted, refused, Verdict, _andThen_, taken, Ca
 use Rattle.model.specs.Calls.{crossingOf, Scheme, corrected, plain, stepAnswer}
 use Rattle.model.specs.Alike.{unplaced}
 use Rattle.renumbered.specs.Renumbered.{S9}
+use Rattle.renumbered.specs.Turned.{S9Turned}
 use Rattle.renumbered.proofs.Renumbered.{s9-corrected, s9-plain}
-use Rattle.renumbered_calls.specs.Tables.{TwoCalls}
+use Rattle.renumbered.proofs.TurnedFace.{s9-turned-corrected, s9-turned-plain}
+use Rattle.renumbered_calls.specs.Tables.{TwoCalls, TurnedCalls}
 
 -- an answer is accepted where nothing is found
 taken-answer : {A : Type 0} (s : Scheme) (M : Mesh) (k : Call) (field : List ℕ) (x y : A) → taken (s .finds M field k) x y ≡ taken (stepAnswer s M k field) x y
@@ -33,3 +35,19 @@ corrected-calls = two-calls corrected s9-corrected
 
 pub plain-calls : TwoCalls plain
 plain-calls = two-calls plain s9-plain
+
+-- one face turned round
+pub turned-calls : (s : Scheme) → S9Turned s → TurnedCalls s
+turned-calls s law M mesh-fine g within inside field k a b =
+    let t = law M mesh-fine g within inside .1 field k in
+    record {
+      answers = b .promised .answer ∙ t .answer ∙ sym (a .promised .answer);
+      next-masses = b .promised .next-masses ∙ t .next-masses ∙ sym (a .promised .next-masses);
+      moved-masses = b .promised .moved-masses ∙ t .moved-masses ∙ rw (a .promised .moved-masses, a .promised .answer) (taken-answer s M k field _ (k .moveds));
+    }
+
+pub corrected-turned-calls : TurnedCalls corrected
+corrected-turned-calls = turned-calls corrected s9-turned-corrected
+
+pub plain-turned-calls : TurnedCalls plain
+plain-turned-calls = turned-calls plain s9-turned-plain

@@ -41,3 +41,10 @@ module _ (mesh : List ℕ) (cell : Renumbering (cellsIn mesh)) (face : Renumberi
   abbrev pub stepAnew : List ℕ → List ℕ
   stepAnew step = let k = newCall step in
       stepRecord (kindIn step) (cellsIn mesh) (facesIn mesh) (newMesh .seconds) (k .fluxes) (k .outsides) (k .releases)
+
+-- The second office's records read too, and hold the same lagoon, numbered anew.
+pub record Held (mesh : List ℕ) (cell : Renumbering (cellsIn mesh)) (face : Renumbering (facesIn mesh)) (turns : ℕ → Bool) (field step : List ℕ) : Type 0 where
+  pub reads-anew : Reads (meshAnew mesh cell face turns) (fieldAnew mesh cell face turns field) (stepAnew mesh cell face turns step)
+  pub mesh-held : meshIn (meshAnew mesh cell face turns) ≡ newMesh mesh cell face turns
+  pub field-held : massesIn (fieldAnew mesh cell face turns field) (cellsIn mesh) ≡ newField mesh cell face turns field
+  pub step-held : stepIn (newMesh mesh cell face turns) (stepAnew mesh cell face turns step) ≡ newCall mesh cell face turns step

@@ -10,12 +10,13 @@ use Rattle.lists.specs.Table.{over}
 use Rattle.heads.specs.Layouts.{fieldLength}
 use Rattle.heads.specs.Heads.{cellsIn, facesIn}
 use Rattle.lagoon.specs.Host.{causeStep, HostPromise}
-use Rattle.renumbered_calls.specs.Anew.{meshAnew, fieldAnew, stepAnew, Reads}
+use Rattle.renumbered_calls.specs.Anew.{meshAnew, fieldAnew, stepAnew, Reads, Held}
 
 module _ (mesh : List ℕ) (cell : Renumbering (cellsIn mesh)) (face : Renumbering (facesIn mesh)) (turns : ℕ → Bool) where
-  -- Two calls, with numbers r and r′. Their causes are the same; where the first is accepted, so that its bytes hold a next field record
+  -- Two calls, with numbers r and r′. The second's records hold the first's lagoon, numbered anew. Their causes are the same; where the first is accepted, so that its bytes hold a next field record
   -- afterwards, the second's hold that record numbered anew, over what was lent.
-  pub record HostsAgree (lent′ after after′ : List ℕ) (r r′ : ℕ) : Type 0 where
+  pub record HostsAgree (field step lent′ after after′ : List ℕ) (r r′ : ℕ) : Type 0 where
+    pub anew-held : Held mesh cell face turns field step
     pub cause-same : r′ / causeStep ≡ r / causeStep
     pub next-field : after′ ≡ cond (eqb r 0) (over (fieldAnew mesh cell face turns (take (fieldLength (cellsIn mesh)) after)) lent′) lent′
 
@@ -24,4 +25,4 @@ TwoHosts = (mesh : List ℕ) (cell : Renumbering (cellsIn mesh)) (face : Renumbe
     → Reads mesh field step → (lent lent′ after after′ : List ℕ) (r r′ : ℕ) → length lent′ ≡ length lent
     → HostPromise mesh field step lent r after
     → HostPromise (meshAnew mesh cell face turns) (fieldAnew mesh cell face turns field) (stepAnew mesh cell face turns step) lent′ r′ after′
-    → HostsAgree mesh cell face turns lent′ after after′ r r′
+    → HostsAgree mesh cell face turns field step lent′ after after′ r r′

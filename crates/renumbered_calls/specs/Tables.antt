@@ -1,18 +1,21 @@
 -- Document 02, S-9, of the code: the first office's call of the step and the second's, each as its promise says. That a negated U fits its entry
 -- is no premise: the tables of a call hold 64-bit entries, and a call that would need a larger one cannot be made.
-use Prim.Native.Nat.{ℕ}
+use Prim.Native.Nat.{ℕ, _<_}
 use mathlib.Core.Path.{_≡_}
+use mathlib.Core.Logic.{_≢_}
 use mathlib.Core.Bool.{Bool}
 use mathlib.Core.List.{List}
-use lib.IntN.{ℤ}
+use lib.IntN.{ℤ, negℤ}
+use lib.ListN.{set}
 use Rattle.lists.specs.Renumbering.{Renumbering}
-use Rattle.model.specs.Mesh.{Mesh}
+use Rattle.model.specs.Mesh.{Mesh, second, rim}
 use Rattle.model.specs.Causes.{fine, taken, Call, meshVerdict}
 use Rattle.model.specs.Calls.{massIn, Scheme}
 use Rattle.model.specs.Alike.{unplaced}
 use Rattle.transport.specs.Promise.{stepSaid, StepPromise}
 use Rattle.transport.specs.declared.StepAnswer.{StepAnswer}
 use Rattle.renumbered.specs.Renumbered.{amountIn, byCell, amountByFace, renumberedMesh, renumberedField, renumberedCall, SameRoom}
+use Rattle.renumbered.specs.Turned.{turnedMesh, turnedCall}
 
 -- what is lent, and what a call by the scheme s leaves of it
 pub record Called (s : Scheme) (M : Mesh) (field : List ℕ) (k : Call) : Type 0 where
@@ -41,3 +44,14 @@ TwoCalls s = (M : Mesh) → meshVerdict M ≡ fine → (cell : Renumbering (M .c
     (field : List ℕ) (k : Call) (nexts : List ℕ) (moveds : List ℤ) (work : List ℕ) → SameRoom k nexts moveds work
     → (a : First s M cell face turns field k nexts moveds work) (b : Second s M cell face turns field k nexts moveds work)
     → Agrees s M cell face turns field k nexts moveds work a b
+
+-- One interior face g turned round, and nothing else: the same answer with its place, the same masses, and the moved mass of g negated.
+pub record TurnedAgrees (s : Scheme) (M : Mesh) (g : ℕ) (field : List ℕ) (k : Call)
+    (a : Called s M field k) (b : Called s (turnedMesh M g) field (turnedCall M g k)) : Type 0 where
+  pub answers : stepSaid (b .answer) ≡ stepSaid (a .answer)
+  pub next-masses : b .next ≡ a .next
+  pub moved-masses : b .moved ≡ taken (stepSaid (a .answer)) (set (a .moved) g (negℤ (amountIn (a .moved) g))) (k .moveds)
+
+abbrev pub TurnedCalls : Scheme → Type 0
+TurnedCalls s = (M : Mesh) → meshVerdict M ≡ fine → (g : ℕ) → g < M .faces → second M g ≢ rim → (field : List ℕ) (k : Call)
+    → (a : Called s M field k) (b : Called s (turnedMesh M g) field (turnedCall M g k)) → TurnedAgrees s M g field k a b
