@@ -10,7 +10,7 @@ use Rattle.model.specs.Causes.{Outcome, accepted, Verdict, _andThen_, need, bet
 use Rattle.model.specs.Answers.{told}
 use Rattle.bits.specs.Field.{bitsAt}
 use Rattle.bits.specs.Layout.{bytesFor}
-use Rattle.heads.specs.Layouts.{meshKind, fieldKind, stepKind, outfallKind, kindBits, cellsBits, facesBits, meshHeadBits, fieldHeadBits, stepHeadBits, meshLength, fieldLength, stepLength}
+use Rattle.heads.specs.Layouts.{meshKind, fieldKind, waterKind, outfallKind, kindBits, cellsBits, facesBits, meshHeadBits, fieldHeadBits, stepHeadBits, meshLength, fieldLength, stepLength}
 use Rattle.heads.specs.declared.LengthAnswer.{LengthAnswer}
 use Rattle.heads.specs.declared.LengthAnswer.the-variants as needs
 
@@ -39,7 +39,7 @@ abbrev pub hasKind : List ℕ → ℕ → Verdict
 hasKind bs kind = need 13 0 (eqb (kindIn bs) kind)
 
 abbrev pub isStepKind : ℕ → Bool
-isStepKind kind = eqb kind stepKind || eqb kind outfallKind
+isStepKind kind = eqb kind waterKind || eqb kind outfallKind
 
 abbrev pub hasStepKind : List ℕ → Verdict
 hasStepKind bs = need 13 0 (isStepKind (kindIn bs))

@@ -20,15 +20,15 @@ meshKind = 1
 abbrev pub fieldKind : ℕ
 fieldKind = 2
 
-abbrev pub stepKind : ℕ
-stepKind = 3
+abbrev pub waterKind : ℕ
+waterKind = 3
 
 abbrev pub outfallKind : ℕ
 outfallKind = 4
 
 -- S-6, the kind that a reading of a step answers and that its writer is told, by its number.
 abbrev pub kindNumber : StepKind → ℕ
-kindNumber Water = stepKind
+kindNumber Water = waterKind
 kindNumber Outfalls = outfallKind
 
 -- The widths of the head's fields: kind, cells, faces, and the zero bits that end a mesh's head and a step's.

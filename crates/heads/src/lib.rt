@@ -41,7 +41,7 @@ pub const MESH_KIND: u64 = 1;
 
 pub const FIELD_KIND: u64 = 2;
 
-pub const STEP_KIND: u64 = 3;
+pub const WATER_KIND: u64 = 3;
 
 pub const OUTFALL_KIND: u64 = 4;
 
@@ -117,7 +117,7 @@ pub fn kind_number(kind: StepKind) -> u64
     ensures { λ r. ⌜ r ≡ kindNumber kind ⌝ }
 {
     match kind {
-        StepKind::Water => STEP_KIND,
+        StepKind::Water => WATER_KIND,
         StepKind::Outfalls => OUTFALL_KIND,
     }
 }
@@ -126,7 +126,7 @@ pub fn kind_number(kind: StepKind) -> u64
 fn is_step(kind: u64) -> bool
     ensures { λ r. ⌜ r ≡ isStepKind kind ⌝ }
 {
-    if kind == STEP_KIND {
+    if kind == WATER_KIND {
         return true;
     }
     kind == OUTFALL_KIND
