@@ -23,7 +23,7 @@ pub record Made : Type 0 where
 abbrev pub cameTo : Made → List ℕ → Outcome Left
 cameTo m field = leftBy (stepSaid (m .answer)) (m .next)
 
--- Each call was lent the mesh and, as masses, the field as the last left it, and it kept the contract of `plain_step`.
+-- Each call was made on the field that the one before it had come to, and it kept the contract of `plain_step`.
 abbrev pub KeptOn : Mesh → List ℕ → List Made → Type 0
 KeptOn M field [] = Unit {0}
 KeptOn M field (m ∷ ms) =

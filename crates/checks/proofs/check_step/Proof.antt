@@ -8,9 +8,12 @@ use Rattle.checks.proofs.Laws.{lengths-first, step-lent}
 use Rattle.checks.proofs.check_step.Statement.{statement}
 use Rattle.checks.proofs.check_step.Tie as tie
 
--- the call's start, from where its tables are known
+-- the call's start, from where its tables are known; half way the first five are
+abbrev half : tie.After-shared-slice-known5 → tie.Start
+half c = c .before .before .before .before .before
+
 abbrev start : tie.After-shared-slice-known10 → tie.Start
-start c = c .before .before .before .before .before .before .before .before .before .before
+start c = half (c .before .before .before .before .before)
 
 returns : tie.Need-returns
 returns c = sym (lengths-first _ _ _ ∙ out _ (out _ (refuses (c .before .before .before .field-lent .ensures) (c .before .a .given .1))))
