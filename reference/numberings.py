@@ -58,7 +58,7 @@ class FluxKept(renumber.Numbering):
         return self.by_face(entries)
 
 
-class RimTurned(renumber.Numbering):
+class RimRenumbered(renumber.Numbering):
     """The mark of the rim is taken for the last cell."""
 
     def face(self, number, face):
@@ -73,7 +73,7 @@ class OldOrder(renumber.Numbering):
         return list(entries)
 
 
-SLIPS = [ShareKept, FluxKept, RimTurned, OldOrder]
+SLIPS = [ShareKept, FluxKept, RimRenumbered, OldOrder]
 
 
 def other_numbering(rng, mesh, kind):

@@ -38,7 +38,8 @@ pub record FieldReading (o : Verdict) (cells : ℕ) (bs masses : List ℕ) (r : 
   pub answer : said r ≡ o
   pub masses-read : masses′ ≡ taken o (over (massesIn bs cells) masses) masses
 
-pub record StepReading (o : Outcome ℕ) (cells faces : ℕ) (seconds bs : List ℕ) (fluxes : List ℤ) (outsides releases : List ℕ) (r : StepRead) (fluxes′ : List ℤ) (outsides′ releases′ : List ℕ) : Type 0 where
+pub record StepReading (o : Outcome ℕ) (cells faces : ℕ) (seconds bs : List ℕ) (fluxes : List ℤ) (outsides releases : List ℕ)
+    (r : StepRead) (fluxes′ : List ℤ) (outsides′ releases′ : List ℕ) : Type 0 where
   pub answer : stepSaid r ≡ o
   pub fluxes-read : fluxes′ ≡ taken o (over (fluxesIn bs faces) fluxes) fluxes
   pub outsides-read : outsides′ ≡ taken o (over (outsidesIn bs faces seconds) outsides) outsides

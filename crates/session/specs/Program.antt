@@ -30,7 +30,7 @@ use Rattle.intake.specs.Intake.{stillNeeded}
 use Rattle.session.specs.Session.{Holds, lineOf, goesOn}
 use Rattle.session.specs.declared.Line.{Line}
 
--- reading.rt: the head, what `records` says of it, what `intake::still_needed` says is still to come.
+-- intake: the head, what `heads` says of it, what `intake::still_needed` says is still to come.
 pub record Reads (head : ℕ) (needs : List ℕ → Outcome ℕ) (input bs : List ℕ) : Type 0 where
   pub answer : LengthAnswer
   pub more : ℕ

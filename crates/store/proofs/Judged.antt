@@ -52,7 +52,9 @@ module _ (cells : ℕ) (store : List ℕ) (name : ℕ) where
     keep-stays e = rw e
 
     pub return-groups : returnVerdict cells volumes masses store name
-        ≡ (openedVerdict cells volumes masses store andThen (countGood cells store andThen nameKept cells store name andThen fieldValues (cellsOnly cells volumes) (heldUnder name (fieldsIn cells store))))
+        ≡ (openedVerdict cells volumes masses store
+        andThen (countGood cells store andThen nameKept cells store name
+        andThen fieldValues (cellsOnly cells volumes) (heldUnder name (fieldsIn cells store))))
     unfolding returnVerdict
     return-groups = regroup3 _ _ _ _
       where

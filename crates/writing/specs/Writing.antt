@@ -1,4 +1,4 @@
--- Document 01, "Causes", of writing: what writing a record gives, and what it refuses. Causes 1 to 8 apply; the writers of a field and of a
+-- Document 01, "Causes", of writing: what writing a record gives, and what it refuses. Causes 1 to 8 apply, and to a step 18; the writers of a field and of a
 -- step are lent the mesh's tables too. Document 02, S-6: the writer of a step is told its kind and lent the releases.
 use mathlib.Core.Path.{_≡_}
 use mathlib.Core.List.{List, []}

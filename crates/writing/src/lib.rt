@@ -1,4 +1,4 @@
-// The three records of document 01, written. What is refused is refused before the first byte is touched.
+// The records of documents 01 and 02, written. What is refused is refused before the first byte is touched.
 mod refusals;
 mod releases;
 
