@@ -40,31 +40,31 @@ holds s =
 ends : (s : tie.Start) → fieldHeadBits + s .args .cells * massBits ≡ shapeBits (shape s)
 ends s = omega arith
 
--- the start, from each place
-abbrev from-one : tie.After-write-bits → tie.Start
-from-one c = c .before .before .before .before
+-- the start from where the first field of the head is put, and that place from each later one
+abbrev start : tie.After-write-bits → tie.Start
+start c = c .before .before .before .before
 
-abbrev from-two : tie.After-write-bits2 → tie.Start
-from-two c = from-one (c .before .before .before .before)
+abbrev from-two : tie.After-write-bits2 → tie.After-write-bits
+from-two c = c .before .before .before .before
 
-abbrev from-three : tie.After-put-column → tie.Start
+abbrev from-three : tie.After-put-column → tie.After-write-bits
 from-three c = from-two (c .before .before .before .before)
 
-one : (c : tie.After-write-bits) → Some (from-one c) (and none 0 0) (c .write-bits .last .0)
+one : (c : tie.After-write-bits) → Some (start c) (and none 0 0) (c .write-bits .last .0)
 one c =
-    let s = from-one c in
+    let s = start c in
     head-written (field-kind-in (s .args .cells)) (value s) (s .pre .fits) (written-none (shape s) (value s) _) (c .write-bits .ensures) refl
 
-two : (c : tie.After-write-bits2) → Some (from-two c) (and (and none 0 0) 0 1) (c .write-bits2 .last .0)
+two : (c : tie.After-write-bits2) → Some (start (from-two c)) (and (and none 0 0) 0 1) (c .write-bits2 .last .0)
 two c =
     let p1 = c .before .before .before .before in
-    let s = from-two c in
+    let s = start (from-two c) in
     head-written (field-cells-in (s .args .cells)) (value s) (s .pre .fits) (one p1) (c .write-bits2 .ensures) refl
 
-three : (c : tie.After-put-column) → Some (from-three c) (and (and (and none 0 0) 0 1) 1 0) (c .put-column .last .0)
+three : (c : tie.After-put-column) → Some (start (from-three c)) (and (and (and none 0 0) 0 1) 1 0) (c .put-column .last .0)
 three c =
     let p1 = c .before .before .before .before in
-    let s = from-three c in
+    let s = start (from-three c) in
     column-written (masses-in (s .args .cells)) (value s) (s .pre .fits) (two p1) (c .put-column .ensures) (λ i l. refl)
 
 write-bits-requires : tie.Need-write-bits-requires
@@ -75,32 +75,26 @@ write-bits-requires c κs =
 write-bits-requires-2 : tie.Need-write-bits-requires-2
 write-bits-requires-2 c κs =
     let p1 = c .before .before .before in
-    let s = from-one p1 in
+    let s = start p1 in
     field-asks (holds s) (one p1) kindBits cellsBits _ (omega arith) (omega (arith, s .pre .few-cells))
 
 put-column-requires : tie.Need-put-column-requires
 put-column-requires c κs =
     let p1 = c .before .before .before in
-    let s = from-two p1 in
+    let s = start (from-two p1) in
     column-asks (holds s) (two p1) (masses-in (s .args .cells)) (s .pre .fits) (s .args .masses .now) (omega arith) (s .pre .masses-long) (λ i l. refl)
 
 mul-pad : tie.Need-mul-pad
-mul-pad c =
-    let p1 = c .before .before .before .before .before .before .before .before .before in
-    let s = p1 .before .before .before .before .before .before in
-    let p = s .pre in omega (arith, p .few-cells)
+mul-pad c = let s = start (from-three (c .before .before .before)) in omega (arith, s .pre .few-cells)
 
 add-pad : tie.Need-add-pad
-add-pad c =
-    let p1 = c .before .before .before .before .before .before .before .before .before in
-    let s = p1 .before .before .before .before .before .before in
-    omega (arith, ends s, holds s .small)
+add-pad c = let s = start (from-three (c .before .before .before)) in omega (arith, ends s, holds s .small)
 
 pad-requires : tie.Need-pad-requires
 unfolding fieldLength
 pad-requires c κs =
     let p1 = c .before .before .before in
-    let s = from-three p1 in
+    let s = start (from-three p1) in
     rw (ends s) (rw (three p1 .same-length) (s .pre .enough), omega (arith, holds s .small))
 
 same-length : tie.Need-same-length
@@ -114,14 +108,13 @@ unfolding fieldLength fieldRecord
 returns c =
     let p1 = c .before .before in
     let p2 = p1 .before .before .before .before in
-    let p3 = p2 .before .before .before .before .before .before .before .before .before in
-    let p4 = p3 .before in
-    let s = from-three p2 in
+    let f = from-three p2 in
+    let s = start f in
     let e = ends s in
     record {
       takes = p1 .pad .ensures .0 ∙ ap bytesFor e;
       written = written-all (shape s) (value s) (three p2) refl e (rw e (omega (arith, bytes-hold (shapeBits (shape s))))) (s .pre .enough)
-          (λ j. omega (arith, p4 .slice-known .given j)) (λ j. omega (arith, c .slice-known5 .given j)) (p1 .pad .ensures .1);
+          (λ j. omega (arith, f .before .before .slice-known .given j)) (λ j. omega (arith, c .slice-known5 .given j)) (p1 .pad .ensures .1);
     }
 
 pub field-spec : {M : Type 1} → statement M

@@ -48,85 +48,85 @@ ends s = omega arith
 abbrev Head : ℕ → ℕ → Bool
 Head = and (and (and (and none 0 0) 0 1) 0 2) 0 3
 
--- the start, from each place
-abbrev from-one : tie.After-write-bits → tie.Start
-from-one c = c .before .before .before .before .before .before .before .before
+-- the start from where the first field of the head is put, and that place from each later one
+abbrev start : tie.After-write-bits → tie.Start
+start c = c .before .before .before .before .before .before .before .before
 
-abbrev from-two : tie.After-write-bits2 → tie.Start
-from-two c = from-one (c .before .before .before .before)
+abbrev from-two : tie.After-write-bits2 → tie.After-write-bits
+from-two c = c .before .before .before .before
 
-abbrev from-three : tie.After-write-bits3 → tie.Start
+abbrev from-three : tie.After-write-bits3 → tie.After-write-bits
 from-three c = from-two (c .before .before .before .before)
 
-abbrev from-four : tie.After-write-bits4 → tie.Start
+abbrev from-four : tie.After-write-bits4 → tie.After-write-bits
 from-four c = from-three (c .before .before .before .before)
 
-abbrev from-five : tie.After-put-column → tie.Start
+abbrev from-five : tie.After-put-column → tie.After-write-bits
 from-five c = from-four (c .before .before .before .before)
 
-abbrev from-six : tie.After-put-column2 → tie.Start
+abbrev from-six : tie.After-put-column2 → tie.After-write-bits
 from-six c = from-five (c .before .before .before .before)
 
-abbrev from-seven : tie.After-put-column3 → tie.Start
+abbrev from-seven : tie.After-put-column3 → tie.After-write-bits
 from-seven c = from-six (c .before .before .before .before)
 
-abbrev from-eight : tie.After-put-column4 → tie.Start
+abbrev from-eight : tie.After-put-column4 → tie.After-write-bits
 from-eight c = from-seven (c .before .before .before .before)
 
-abbrev from-nine : tie.After-put-column5 → tie.Start
+abbrev from-nine : tie.After-put-column5 → tie.After-write-bits
 from-nine c = from-eight (c .before .before .before .before)
 
-one : (c : tie.After-write-bits) → Some (from-one c) (and none 0 0) (c .write-bits .last .0)
+one : (c : tie.After-write-bits) → Some (start c) (and none 0 0) (c .write-bits .last .0)
 one c =
-    let s = from-one c in
+    let s = start c in
     head-written (mesh-kind-in (s .args .cells) (s .args .faces)) (value s) (s .pre .fits) (written-none (shape s) (value s) _) (c .write-bits .ensures) refl
 
-two : (c : tie.After-write-bits2) → Some (from-two c) (and (and none 0 0) 0 1) (c .write-bits2 .last .0)
+two : (c : tie.After-write-bits2) → Some (start (from-two c)) (and (and none 0 0) 0 1) (c .write-bits2 .last .0)
 two c =
     let p1 = c .before .before .before .before in
-    let s = from-two c in
+    let s = start (from-two c) in
     head-written (mesh-cells-in (s .args .cells) (s .args .faces)) (value s) (s .pre .fits) (one p1) (c .write-bits2 .ensures) refl
 
-three : (c : tie.After-write-bits3) → Some (from-three c) (and (and (and none 0 0) 0 1) 0 2) (c .write-bits3 .last .0)
+three : (c : tie.After-write-bits3) → Some (start (from-three c)) (and (and (and none 0 0) 0 1) 0 2) (c .write-bits3 .last .0)
 three c =
     let p1 = c .before .before .before .before in
-    let s = from-three c in
+    let s = start (from-three c) in
     head-written (mesh-faces-in (s .args .cells) (s .args .faces)) (value s) (s .pre .fits) (two p1) (c .write-bits3 .ensures) refl
 
-four : (c : tie.After-write-bits4) → Some (from-four c) Head (c .write-bits4 .last .0)
+four : (c : tie.After-write-bits4) → Some (start (from-four c)) Head (c .write-bits4 .last .0)
 four c =
     let p1 = c .before .before .before .before in
-    let s = from-four c in
+    let s = start (from-four c) in
     head-written (mesh-zeros-in (s .args .cells) (s .args .faces)) (value s) (s .pre .fits) (three p1) (c .write-bits4 .ensures) refl
 
-five : (c : tie.After-put-column) → Some (from-five c) (and Head 1 0) (c .put-column .last .0)
+five : (c : tie.After-put-column) → Some (start (from-five c)) (and Head 1 0) (c .put-column .last .0)
 five c =
     let p1 = c .before .before .before .before in
-    let s = from-five c in
+    let s = start (from-five c) in
     column-written (volumes-in (s .args .cells) (s .args .faces)) (value s) (s .pre .fits) (four p1) (c .put-column .ensures) (λ i l. refl)
 
-six : (c : tie.After-put-column2) → Some (from-six c) (and (and Head 1 0) 2 0) (c .put-column2 .last .0)
+six : (c : tie.After-put-column2) → Some (start (from-six c)) (and (and Head 1 0) 2 0) (c .put-column2 .last .0)
 six c =
     let p1 = c .before .before .before .before in
-    let s = from-six c in
+    let s = start (from-six c) in
     column-written (firsts-in (s .args .cells) (s .args .faces) refl) (value s) (s .pre .fits) (five p1) (c .put-column2 .ensures) (λ i l. refl)
 
-seven : (c : tie.After-put-column3) → Some (from-seven c) (and (and (and Head 1 0) 2 0) 2 1) (c .put-column3 .last .0)
+seven : (c : tie.After-put-column3) → Some (start (from-seven c)) (and (and (and Head 1 0) 2 0) 2 1) (c .put-column3 .last .0)
 seven c =
     let p1 = c .before .before .before .before in
-    let s = from-seven c in
+    let s = start (from-seven c) in
     column-written (seconds-in (s .args .cells) (s .args .faces) refl) (value s) (s .pre .fits) (six p1) (c .put-column3 .ensures) (λ i l. refl)
 
-eight : (c : tie.After-put-column4) → Some (from-eight c) (and (and (and (and Head 1 0) 2 0) 2 1) 2 2) (c .put-column4 .last .0)
+eight : (c : tie.After-put-column4) → Some (start (from-eight c)) (and (and (and (and Head 1 0) 2 0) 2 1) 2 2) (c .put-column4 .last .0)
 eight c =
     let p1 = c .before .before .before .before in
-    let s = from-eight c in
+    let s = start (from-eight c) in
     column-written (shares-in (s .args .cells) (s .args .faces) refl) (value s) (s .pre .fits) (seven p1) (c .put-column4 .ensures) (λ i l. refl)
 
-nine : (c : tie.After-put-column5) → Some (from-nine c) (and (and (and (and (and Head 1 0) 2 0) 2 1) 2 2) 2 3) (c .put-column5 .last .0)
+nine : (c : tie.After-put-column5) → Some (start (from-nine c)) (and (and (and (and (and Head 1 0) 2 0) 2 1) 2 2) 2 3) (c .put-column5 .last .0)
 nine c =
     let p1 = c .before .before .before .before in
-    let s = from-nine c in
+    let s = start (from-nine c) in
     column-written (reaches-in (s .args .cells) (s .args .faces) refl) (value s) (s .pre .fits) (eight p1) (c .put-column5 .ensures) (λ i l. refl)
 
 write-bits-requires : tie.Need-write-bits-requires
@@ -137,74 +137,62 @@ write-bits-requires c κs =
 write-bits-requires-2 : tie.Need-write-bits-requires-2
 write-bits-requires-2 c κs =
     let p1 = c .before .before .before in
-    let s = from-one p1 in
+    let s = start p1 in
     field-asks (holds s) (one p1) kindBits cellsBits _ (omega arith) (omega (arith, s .pre .few-cells))
 
 write-bits-requires-3 : tie.Need-write-bits-requires-3
 write-bits-requires-3 c κs =
     let p1 = c .before .before .before in
-    let s = from-two p1 in
+    let s = start (from-two p1) in
     field-asks (holds s) (two p1) (kindBits + cellsBits) facesBits _ (omega arith) (omega (arith, s .pre .few-faces))
 
 write-bits-requires-4 : tie.Need-write-bits-requires-4
 write-bits-requires-4 c κs =
     let p1 = c .before .before .before in
-    let s = from-three p1 in
+    let s = start (from-three p1) in
     field-asks (holds s) (three p1) (kindBits + cellsBits + facesBits) meshZeroBits _ (omega arith) (omega arith)
 
 put-column-requires : tie.Need-put-column-requires
 put-column-requires c κs =
     let p1 = c .before .before .before in
-    let s = from-four p1 in
+    let s = start (from-four p1) in
     column-asks (holds s) (four p1) (volumes-in (s .args .cells) (s .args .faces)) (s .pre .fits) (s .args .volumes .now) (omega arith) (s .pre .lent .volumes-long) (λ i l. refl)
 
 put-column-requires-2 : tie.Need-put-column-requires-2
 put-column-requires-2 c κs =
     let p1 = c .before .before .before in
-    let s = from-five p1 in
+    let s = start (from-five p1) in
     column-asks (holds s) (five p1) (firsts-in (s .args .cells) (s .args .faces) refl) (s .pre .fits) (s .args .firsts .now) (omega arith) (s .pre .lent .firsts-long) (λ i l. refl)
 
 put-column-requires-3 : tie.Need-put-column-requires-3
 put-column-requires-3 c κs =
     let p1 = c .before .before .before in
-    let s = from-six p1 in
+    let s = start (from-six p1) in
     column-asks (holds s) (six p1) (seconds-in (s .args .cells) (s .args .faces) refl) (s .pre .fits) (s .args .seconds .now) (omega arith) (s .pre .lent .seconds-long) (λ i l. refl)
 
 put-column-requires-4 : tie.Need-put-column-requires-4
 put-column-requires-4 c κs =
     let p1 = c .before .before .before in
-    let s = from-seven p1 in
+    let s = start (from-seven p1) in
     column-asks (holds s) (seven p1) (shares-in (s .args .cells) (s .args .faces) refl) (s .pre .fits) (s .args .shares .now) (omega arith) (s .pre .lent .shares-long) (λ i l. refl)
 
 put-column-requires-5 : tie.Need-put-column-requires-5
 put-column-requires-5 c κs =
     let p1 = c .before .before .before in
-    let s = from-eight p1 in
+    let s = start (from-eight p1) in
     column-asks (holds s) (eight p1) (reaches-in (s .args .cells) (s .args .faces) refl) (s .pre .fits) (s .args .reaches .now) (omega arith) (s .pre .lent .reaches-long) (λ i l. refl)
 
 mul-pad : tie.Need-mul-pad
-mul-pad c =
-    let p1 = c .before .before .before .before .before .before .before .before .before in
-    let p2 = p1 .before .before .before .before .before .before .before .before .before in
-    let p3 = p2 .before .before .before .before .before .before .before .before .before in
-    let p4 = p3 .before .before .before .before .before .before .before .before .before in
-    let s = p4 .before .before .before .before .before .before .before in
-    let p = s .pre in omega (arith, p .few-faces)
+mul-pad c = let s = start (from-nine (c .before .before .before)) in omega (arith, s .pre .few-faces)
 
 add-pad : tie.Need-add-pad
-add-pad c =
-    let p1 = c .before .before .before .before .before .before .before .before .before in
-    let p2 = p1 .before .before .before .before .before .before .before .before .before in
-    let p3 = p2 .before .before .before .before .before .before .before .before .before in
-    let p4 = p3 .before .before .before .before .before .before .before .before .before in
-    let s = p4 .before .before .before .before .before .before .before in
-    omega (arith, ends s, holds s .small)
+add-pad c = let s = start (from-nine (c .before .before .before)) in omega (arith, ends s, holds s .small)
 
 pad-requires : tie.Need-pad-requires
 unfolding meshLength
 pad-requires c κs =
     let p1 = c .before .before .before in
-    let s = from-nine p1 in
+    let s = start (from-nine p1) in
     rw (ends s) (rw (nine p1 .same-length) (s .pre .enough), omega (arith, holds s .small))
 
 same-length : tie.Need-same-length
@@ -218,16 +206,13 @@ unfolding meshLength meshRecord
 returns c =
     let p1 = c .before .before in
     let p2 = p1 .before .before .before .before in
-    let p3 = p2 .before .before .before .before .before .before .before .before .before in
-    let p4 = p3 .before .before .before .before .before .before .before .before .before in
-    let p5 = p4 .before .before .before .before .before .before .before .before .before in
-    let p6 = p5 .before .before .before .before .before .before .before in
-    let s = from-nine p2 in
+    let f = from-nine p2 in
+    let s = start f in
     let e = ends s in
     record {
       takes = p1 .pad .ensures .0 ∙ ap bytesFor e;
       written = written-all (shape s) (value s) (nine p2) refl e (rw e (omega (arith, bytes-hold (shapeBits (shape s))))) (s .pre .enough)
-          (λ j. omega (arith, p6 .slice-known .given j)) (λ j. omega (arith, c .slice-known11 .given j)) (p1 .pad .ensures .1);
+          (λ j. omega (arith, f .before .before .slice-known .given j)) (λ j. omega (arith, c .slice-known11 .given j)) (p1 .pad .ensures .1);
     }
 
 pub mesh-spec : {M : Type 1} → statement M
