@@ -11,7 +11,7 @@ use lib.ListN.{replicate}
 use Rattle.lists.specs.Fold.{sum, least, greatest}
 use Rattle.lists.specs.Table.{table, over}
 use Rattle.signed.specs.Sign.{isNegative}
-use Rattle.model.specs.Mesh.{Mesh, second, rim, entering, leaving, incoming, outgoing, updated}
+use Rattle.model.specs.Mesh.{Mesh, meshOf, second, rim, entering, leaving, incoming, outgoing, updated}
 use Rattle.model.specs.Step.{StepInput, raised, releasedMass, flux, outside, inMass, outMass, next, moved, concentration, beyond, upwind, downwind, carried, low, upwindShare, correction, smooths, keptBy, lowConcentration, kept, adjacent, lo, hi, maxGain, maxLoss, receiver, giver, limitedBy, limited, portion}
 use Rattle.model.specs.Causes.{Call, release, inputOf, fine, refused, _andThen_, need, each, countsWithin, counts, meshTables, volumeGood, endsGood, spacingGood, meshValues, fieldTable, saltGood, fieldValues, fieldVerdict, raisedGood, raisedValues, stepTables, outsideGood, fluxGood, balanceGood, outflowGood, stepValues, verdict}
 use Rattle.model.specs.Calls.{massIn, corrected, stepOnTables, nextTable, afterAll, totalIn, totalOut, totalReleased}
@@ -228,15 +228,7 @@ wideStep = inputOf widePair (93 ∷ 15 ∷ []) exchangeCall
 
 -- the channel with s 1, and U 80 through it from fresh water
 abbrev pub steep : Mesh
-steep = record {
-  cells = 3;
-  faces = 4;
-  volumes = 100 ∷ 100 ∷ 100 ∷ [];
-  firsts = 0 ∷ 0 ∷ 1 ∷ 2 ∷ [];
-  seconds = rim ∷ 1 ∷ 2 ∷ rim ∷ [];
-  shares = 0 ∷ 1 ∷ 1 ∷ 0 ∷ [];
-  reaches = 0 ∷ 100 ∷ 100 ∷ 0 ∷ [];
-}
+steep = meshOf 3 4 (channel .volumes) (channel .firsts) (channel .seconds) (0 ∷ 1 ∷ 1 ∷ 0 ∷ []) (channel .reaches)
 
 abbrev pub steepCall : Call
 steepCall = record {
