@@ -19,6 +19,7 @@ use Rattle.model.specs.Mesh.{Mesh, first, second, rim, maxCells, maxFaces, maxR
 use Rattle.model.specs.Causes.{each, facesOnly}
 use Rattle.model.proofs.Sizes.{incoming-most, outgoing-most}
 use Rattle.model.proofs.Verdicts.{each-cong}
+use Rattle.flows.specs.Flows.{inflow, outflow, FacesFit}
 
 pub zeros : (n : ℕ) → replicate {A = ℕ} n 0 ≡ table n (λ c. 0)
 zeros n = is-table {A = ℕ} 0 (replicate n 0) n (λ c. 0) (length-replicate n 0) (λ k l. getD-replicate n k 0 0 l)
@@ -65,8 +66,7 @@ either-end true l k h m = omega arith
 either-end false l k h m = omega arith
 
 -- the turn of face f, over the tables lent
-module _ (faces : ℕ) (firsts seconds : List ℕ) (fluxes : List ℤ) (few : faces ≤ maxFaces)
-    (fit : (f : ℕ) → f < faces → (getD firsts f 0 ≤ rim) × (getD seconds f 0 ≤ rim) × (size (getD fluxes f (pos 0)) ≤ maxRimFlux))
+module _ (faces : ℕ) (firsts seconds : List ℕ) (fluxes : List ℤ) (few : faces ≤ maxFaces) (fit : FacesFit faces firsts seconds fluxes)
     (f : ℕ) (l : f < faces) (b : Bool) (s : ℕ) (n : b ≡ isNegative (getD fluxes f (pos 0))) (z : s ≡ size (getD fluxes f (pos 0))) (i : ℕ) (xs : List ℕ) where
   abbrev M : Mesh
   M = facesOnly faces firsts seconds
@@ -100,25 +100,24 @@ module _ (faces : ℕ) (firsts seconds : List ℕ) (fluxes : List ℤ) (few : fa
 
 -- causes 9 and 10 read off the tables gathered
 module _ (cells faces : ℕ) (volumes firsts seconds : List ℕ) (fluxes : List ℤ) (few : cells ≤ maxCells) (xs ys : List ℕ)
-    (e : xs ≡ table (maxCells + 1) (incoming (facesOnly faces firsts seconds) (λ f. getD fluxes f (pos 0))))
-    (d : ys ≡ table (maxCells + 1) (outgoing (facesOnly faces firsts seconds) (λ f. getD fluxes f (pos 0)))) where
-  abbrev inflow : ℕ → ℕ
-  inflow = incoming (facesOnly faces firsts seconds) (λ f. getD fluxes f (pos 0))
+    (e : xs ≡ table (maxCells + 1) (inflow faces firsts seconds fluxes)) (d : ys ≡ table (maxCells + 1) (outflow faces firsts seconds fluxes)) where
+  abbrev into : ℕ → ℕ
+  into = inflow faces firsts seconds fluxes
 
-  abbrev outflow : ℕ → ℕ
-  outflow = outgoing (facesOnly faces firsts seconds) (λ f. getD fluxes f (pos 0))
+  abbrev out-of : ℕ → ℕ
+  out-of = outflow faces firsts seconds fluxes
 
   pub long-enough : (cells ≤ length xs) × (cells ≤ length ys)
   long-enough = (omega (arith, ap length e ∙ length-table _ _), omega (arith, ap length d ∙ length-table _ _))
 
-  inflow-is : (c : ℕ) → c < cells → getD xs c 0 ≡ inflow c
-  inflow-is c h = rw e (getD-table (maxCells + 1) inflow 0 c (omega arith))
+  inflow-is : (c : ℕ) → c < cells → getD xs c 0 ≡ into c
+  inflow-is c h = rw e (getD-table (maxCells + 1) into 0 c (omega arith))
 
-  outflow-is : (c : ℕ) → c < cells → getD ys c 0 ≡ outflow c
-  outflow-is c h = rw d (getD-table (maxCells + 1) outflow 0 c (omega arith))
+  outflow-is : (c : ℕ) → c < cells → getD ys c 0 ≡ out-of c
+  outflow-is c h = rw d (getD-table (maxCells + 1) out-of 0 c (omega arith))
 
-  pub balance-read : each 9 cells (λ c. eqb (getD xs c 0) (getD ys c 0)) ≡ each 9 cells (λ c. eqb (inflow c) (outflow c))
+  pub balance-read : each 9 cells (λ c. eqb (getD xs c 0) (getD ys c 0)) ≡ each 9 cells (λ c. eqb (into c) (out-of c))
   balance-read = each-cong 9 cells _ _ (λ c h. rw (inflow-is c h, outflow-is c h))
 
-  pub outflow-read : each 10 cells (λ c. leb (getD ys c 0) (getD volumes c 0)) ≡ each 10 cells (λ c. leb (outflow c) (getD volumes c 0))
+  pub outflow-read : each 10 cells (λ c. leb (getD ys c 0) (getD volumes c 0)) ≡ each 10 cells (λ c. leb (out-of c) (getD volumes c 0))
   outflow-read = each-cong 10 cells _ _ (λ c h. rw (outflow-is c h))

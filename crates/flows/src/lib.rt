@@ -8,15 +8,14 @@ use signed::raise;
 use signed::size_at;
 ghost use mathlib.Core.Path.{_≡_};
 ghost use mathlib.Core.Bool.{cond};
-ghost use Prim.Native.Nat.{ℕ, _+_, _≤_, _<_};
+ghost use Prim.Native.Nat.{_+_, _≤_};
 ghost use lib.Dec.{eqb, leb};
-ghost use lib.IntN.{pos};
 ghost use lib.ListN.{length, getD};
 ghost use Rattle.lists.specs.Table.{table};
-ghost use Rattle.signed.specs.Sign.{size as sizeOf};
-ghost use Rattle.model.specs.Mesh.{maxCells, maxFaces, rim, maxRimFlux, incoming, outgoing};
-ghost use Rattle.model.specs.Causes.{_andThen_, each, facesOnly};
+ghost use Rattle.model.specs.Mesh.{maxCells, maxFaces};
+ghost use Rattle.model.specs.Causes.{each};
 ghost use Rattle.model.specs.Answers.{said};
+ghost use Rattle.flows.specs.Flows.{inflow as inflowOf, outflow as outflowOf, FacesFit, LongEnough, flowsVerdict};
 
 // One entry for each cell, and one at the rim's mark: a rim face needs no case of its own.
 const ENDS: usize = model::MAX_CELLS + 1;
@@ -54,14 +53,11 @@ pub fn gather(
         × (faces ≤ length (now firsts))
         × (faces ≤ length (now seconds))
         × (faces ≤ length (now fluxes)) ⌝ }
-    requires { ⌜ ((f : ℕ) → f < faces
-        → (getD (now firsts) f 0 ≤ rim)
-        × (getD (now seconds) f 0 ≤ rim)
-        × (sizeOf (getD (now fluxes) f (pos 0)) ≤ maxRimFlux)) ⌝ }
+    requires { ⌜ FacesFit faces (now firsts) (now seconds) (now fluxes) ⌝ }
     requires { ⌜ (now inflow ≡ table (maxCells + 1) (λ c. 0)) × (now outflow ≡ table (maxCells + 1) (λ c. 0)) ⌝ }
     ensures { λ _. ⌜
-        (now (inflow .exit) ≡ table (maxCells + 1) (incoming (facesOnly faces (now (firsts .entry)) (now (seconds .entry))) (λ f. getD (now (fluxes .entry)) f (pos 0))))
-        × (now (outflow .exit) ≡ table (maxCells + 1) (outgoing (facesOnly faces (now (firsts .entry)) (now (seconds .entry))) (λ f. getD (now (fluxes .entry)) f (pos 0))))
+        (now (inflow .exit) ≡ table (maxCells + 1) (inflowOf faces (now (firsts .entry)) (now (seconds .entry)) (now (fluxes .entry))))
+        × (now (outflow .exit) ≡ table (maxCells + 1) (outflowOf faces (now (firsts .entry)) (now (seconds .entry)) (now (fluxes .entry))))
         ⌝ }
 {
     let mut f = 0;
@@ -123,25 +119,10 @@ pub fn values_in(
     inflow: &mut [u64],
     outflow: &mut [u64],
 ) -> Answer
-    requires { ⌜ (cells ≤ maxCells)
-        × (faces ≤ maxFaces)
-        × (cells ≤ length (now volumes))
-        × (faces ≤ length (now firsts))
-        × (faces ≤ length (now seconds))
-        × (faces ≤ length (now fluxes)) ⌝ }
-    requires { ⌜ ((f : ℕ) → f < faces
-        → (getD (now firsts) f 0 ≤ rim)
-        × (getD (now seconds) f 0 ≤ rim)
-        × (sizeOf (getD (now fluxes) f (pos 0)) ≤ maxRimFlux)) ⌝ }
+    requires { ⌜ LongEnough faces (now firsts) (now seconds) (now fluxes) cells (now volumes) ⌝ }
+    requires { ⌜ FacesFit faces (now firsts) (now seconds) (now fluxes) ⌝ }
     requires { ⌜ (now inflow ≡ table (maxCells + 1) (λ c. 0)) × (now outflow ≡ table (maxCells + 1) (λ c. 0)) ⌝ }
-    ensures { λ r. ⌜ said r ≡ (
-        each 9 cells (λ c. eqb
-        (incoming (facesOnly faces (now (firsts .entry)) (now (seconds .entry))) (λ f. getD (now (fluxes .entry)) f (pos 0)) c)
-        (outgoing (facesOnly faces (now (firsts .entry)) (now (seconds .entry))) (λ f. getD (now (fluxes .entry)) f (pos 0)) c))
-        andThen each 10 cells (λ c. leb
-        (outgoing (facesOnly faces (now (firsts .entry)) (now (seconds .entry))) (λ f. getD (now (fluxes .entry)) f (pos 0)) c)
-        (getD (now (volumes .entry)) c 0))
-        ) ⌝ }
+    ensures { λ r. ⌜ said r ≡ flowsVerdict faces (now (firsts .entry)) (now (seconds .entry)) (now (fluxes .entry)) cells (now (volumes .entry)) ⌝ }
 {
     gather(faces, firsts, seconds, fluxes, inflow, outflow);
     let a = balanced(cells, inflow, outflow);
@@ -157,24 +138,9 @@ pub fn values(
     seconds: &[u64],
     fluxes: &[i64],
 ) -> Answer
-    requires { ⌜ (cells ≤ maxCells)
-        × (faces ≤ maxFaces)
-        × (cells ≤ length (now volumes))
-        × (faces ≤ length (now firsts))
-        × (faces ≤ length (now seconds))
-        × (faces ≤ length (now fluxes)) ⌝ }
-    requires { ⌜ ((f : ℕ) → f < faces
-        → (getD (now firsts) f 0 ≤ rim)
-        × (getD (now seconds) f 0 ≤ rim)
-        × (sizeOf (getD (now fluxes) f (pos 0)) ≤ maxRimFlux)) ⌝ }
-    ensures { λ r. ⌜ said r ≡ (
-        each 9 cells (λ c. eqb
-        (incoming (facesOnly faces (now (firsts .entry)) (now (seconds .entry))) (λ f. getD (now (fluxes .entry)) f (pos 0)) c)
-        (outgoing (facesOnly faces (now (firsts .entry)) (now (seconds .entry))) (λ f. getD (now (fluxes .entry)) f (pos 0)) c))
-        andThen each 10 cells (λ c. leb
-        (outgoing (facesOnly faces (now (firsts .entry)) (now (seconds .entry))) (λ f. getD (now (fluxes .entry)) f (pos 0)) c)
-        (getD (now (volumes .entry)) c 0))
-        ) ⌝ }
+    requires { ⌜ LongEnough faces (now firsts) (now seconds) (now fluxes) cells (now volumes) ⌝ }
+    requires { ⌜ FacesFit faces (now firsts) (now seconds) (now fluxes) ⌝ }
+    ensures { λ r. ⌜ said r ≡ flowsVerdict faces (now (firsts .entry)) (now (seconds .entry)) (now (fluxes .entry)) cells (now (volumes .entry)) ⌝ }
 {
     let mut inflow = [0u64; ENDS];
     let mut outflow = [0u64; ENDS];
