@@ -17,8 +17,8 @@ use Rattle.lists.specs.Fold.{least, greatest}
 use Rattle.lists.proofs.Tests.{Same, same, other, same?}
 use Rattle.lists.proofs.Sums.{sum-zero, sum-more, sum-term, least-start, greatest-start, least-more, greatest-more}
 use Rattle.model.specs.Accepted.{Ready, maxCarried}
-use Rattle.model.specs.Mesh.{rim, atRim, first, second, share, reach, incoming, outgoing}
-use Rattle.model.specs.Step.{StepInput, flux, outside, mass, concentration, beyond, upwind, downwind, upwindShare, carried, correction, adjacent, inMass, outMass}
+use Rattle.model.specs.Mesh.{Mesh, rim, atRim, first, second, share, reach, incoming, outgoing}
+use Rattle.model.specs.Step.{StepInput, roundedInput, flux, outside, mass, concentration, beyond, upwind, downwind, upwindShare, carried, correction, adjacent, inMass, outMass}
 use Rattle.model.proofs.Low.{low-affords}
 use Rattle.model.proofs.Accepted.{flux-few, flux-reach}
 use Rattle.model.proofs.Sizes.{mass-most, beyond-most, carried-size, incoming-most, inMass-most, outMass-most}
@@ -33,13 +33,14 @@ use Rattle.cell.proofs.BoundLaws.{length-across, across-q, across-face, across-
 use Rattle.carrying.specs.Carrying.{Concentrations, CarriedTo, FaceAsks, FaceDone, inMassTo, outMassTo}
 
 -- from the first pass
-pub carried-to-start : (S : StepInput) (next work w : List ℕ) (moved : List ℤ) → length next ≡ S .mesh .cells → length moved ≡ S .mesh .faces → length work ≡ 4 * S .mesh .cells + S .mesh .faces
-    → Concentrations (S .mesh .volumes) (S .masses) w (S .mesh .cells) next work → CarriedTo S 0 0 0 next moved work
-unfolding least greatest concentration
-carried-to-start S next work w moved n m l o = record {
+pub carried-to-start : (M : Mesh) (masses : List ℕ) (fluxes : List ℤ) (outsides next work w : List ℕ) (moved : List ℤ)
+    → length next ≡ M .cells → length moved ≡ M .faces → length work ≡ 4 * M .cells + M .faces
+    → Concentrations (M .volumes) masses w (M .cells) next work → CarriedTo (roundedInput M masses fluxes outsides) 0 0 0 next moved work
+unfolding least greatest
+carried-to-start M masses fluxes outsides next work w moved n m l o = record {
   entered-is = sym (sum-zero _);
   gone-is = sym (sum-zero _);
-  flowing = flow-start (S .mesh) (carried S) (mass S) next n (o .next-at);
+  flowing = flow-start M (carried (roundedInput M masses fluxes outsides)) (λ c. getD masses c 0) next n (o .next-at);
   moved-long = m;
   moved-at = below-none _;
   work-long = l;

@@ -1,5 +1,5 @@
 -- The states of the passes that carry salt: document 01, "One step", stages 1 to 3, as far as cells and faces have been passed.
-use Prim.Native.Nat.{ℕ, _+_, _*_, _/_, _^_, _≤_, _<_}
+use Prim.Native.Nat.{ℕ, _+_, _*_, _^_, _≤_, _<_}
 use mathlib.Core.Path.{_≡_}
 use mathlib.Core.Logic.{_≢_}
 use mathlib.Core.Bool.{cond}
@@ -10,8 +10,9 @@ use lib.ListN.{length, getD, set}
 use Rattle.lists.specs.Fold.{sum, least, greatest}
 use Rattle.signed.specs.Sign.{size, forward, backward}
 use Rattle.model.specs.Mesh.{meshOf, rim, maxConcentration, maxRimFlux, maxShare, maxReach, atRim, first}
-use Rattle.model.specs.Step.{StepInput, flux, outside, mass, concentration, carried, correction, adjacent}
+use Rattle.model.specs.Step.{StepInput, rounded, flux, outside, mass, concentration, carried, correction, adjacent}
 use Rattle.model.specs.Causes.{inputOf, waterOf}
+use Rattle.model.specs.Accepted.{Ready}
 use Rattle.face.specs.Correction.{coded, correctionOf}
 use Rattle.face.specs.Exchange.{brings, takes, Transferred, EndsIn, Flowing}
 use Rattle.cell.specs.Work.{ofCell, ofFace, Filling, widenedAcross}
@@ -24,7 +25,7 @@ inputFrom cells faces volumes firsts seconds shares reaches masses fluxes outsid
 -- Pass 1 on the raised masses, after the cells below i: next masses are these, and a cell's entries are q three times
 pub record Concentrations (volumes masses w : List ℕ) (i : ℕ) (next work : List ℕ) : Type 0 where
   pub next-at : (c : ℕ) → c < i → getD next c 0 ≡ getD masses c 0
-  pub filling : let q : ℕ → ℕ = λ c. getD masses c 0 / getD volumes c 0 in Filling w q q q (λ c. 0) i work
+  pub filling : let q : ℕ → ℕ = rounded volumes masses in Filling w q q q (λ c. 0) i work
 
 -- the in-mass and the out-mass of the faces below f
 abbrev pub inMassTo : StepInput → ℕ → ℕ
@@ -45,6 +46,28 @@ pub record CarriedTo (S : StepInput) (f entered gone : ℕ) (next : List ℕ) (m
   pub lo-at : (c : ℕ) → c < S .mesh .cells → ofCell work c 1 ≡ least f (concentration S c) (adjacent S c)
   pub hi-at : (c : ℕ) → c < S .mesh .cells → ofCell work c 2 ≡ greatest f (concentration S c) (adjacent S c)
   pub code-at : (g : ℕ) → g < f → ofFace work (S .mesh .cells) g ≡ coded (correction S g)
+
+-- What the pass by faces is not lent of a step: the masses start in next, q stands in work, and no face asks a volume.
+pub record Unseen : Type 0 where
+  pub volumes : List ℕ
+  pub masses : List ℕ
+  pub q : ℕ → ℕ
+
+-- the step through the faces that it is lent
+abbrev pub stepThrough : ℕ → ℕ → List ℕ → List ℕ → List ℕ → List ℕ → List ℤ → List ℕ → Unseen → StepInput
+stepThrough cells faces firsts seconds shares reaches fluxes outsides u =
+    record { mesh = meshOf cells faces (u .volumes) firsts seconds shares reaches; masses = u .masses; q = u .q; fluxes = fluxes; outsides = outsides }
+
+-- pass 2 of an accepted step has come to face f
+pub record AtFace (through : Unseen → StepInput) (f entered gone : ℕ) (next : List ℕ) (moved : List ℤ) (work : List ℕ) : Type 0 where
+  pub unseen : Unseen
+  pub ready : Ready (through unseen)
+  pub so-far : CarriedTo (through unseen) f entered gone next moved work
+
+-- of whichever step it is, pass 2 goes on from face f to face g
+abbrev pub Carries : (Unseen → StepInput) → (f entered gone : ℕ) → List ℕ → List ℤ → List ℕ → (g entered′ gone′ : ℕ) → List ℕ → List ℤ → List ℕ → Type 0
+Carries through f entered gone next moved work g entered′ gone′ next′ moved′ work′ =
+    (u : Unseen) → Ready (through u) → CarriedTo (through u) f entered gone next moved work → CarriedTo (through u) g entered′ gone′ next′ moved′ work′
 
 -- one face of pass 2, with the concentrations a of its first cell and b beyond it: z is what it carries
 pub record FaceAsks (f first second size share reach a b cells : ℕ) (z : ℤ) (next : List ℕ) (moved : List ℤ) (work : List ℕ) : Type 0 where

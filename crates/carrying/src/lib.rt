@@ -15,11 +15,10 @@ ghost use Prim.Native.Nat.{ℕ, _≤_, _<_, _+_, _*_, _/_, _^_};
 ghost use lib.Dec.{eqb};
 ghost use lib.ListN.{length, getD, set};
 ghost use Rattle.signed.specs.Sign.{withSign};
-ghost use Rattle.model.specs.Accepted.{Ready};
 ghost use Rattle.model.specs.Mesh.{rim, maxCells};
-ghost use Rattle.model.specs.Step.{StepInput, raised};
+ghost use Rattle.model.specs.Step.{raised};
 ghost use Rattle.cell.specs.Work.{ofCell, filled};
-ghost use Rattle.carrying.specs.Carrying.{inputFrom, Concentrations, FaceAsks, FaceDone, CarriedTo};
+ghost use Rattle.carrying.specs.Carrying.{stepThrough, Concentrations, FaceAsks, FaceDone, AtFace, Carries};
 
 // What the water has carried over the rim: the in-mass and the out-mass.
 pub struct Carried {
@@ -123,26 +122,23 @@ fn carry_turn(
     f: usize,
     cells: usize,
     faces: usize,
-    volumes: &[u64],
     firsts: &[u64],
     seconds: &[u64],
     shares: &[u64],
     reaches: &[u64],
-    masses: &[u64],
     fluxes: &[i64],
     outsides: &[u64],
     next: &mut [u64],
     moved: &mut [i64],
     work: &mut [u64],
-    releases: &[u64],
     so_far: Carried,
 ) -> Carried
-    ghost { StepInput }
-    requires { λ S. ⌜ inputFrom cells faces (now volumes) (now firsts) (now seconds) (now shares) (now reaches) (now masses) (now fluxes) (now outsides) (now releases) ≡ S ⌝ }
-    requires { λ S. ⌜ Ready S ⌝ }
-    requires { λ S. ⌜ f < faces ⌝ }
-    requires { λ S. ⌜ CarriedTo S f («so_far» .entered) («so_far» .gone) (now next) (now moved) (now work) ⌝ }
-    ensures { λ S r. ⌜ CarriedTo S (f + 1) (r .entered) (r .gone) (now (next .exit)) (now (moved .exit)) (now (work .exit)) ⌝ }
+    requires { ⌜ f < faces ⌝ }
+    requires { ⌜ AtFace (stepThrough cells faces (now firsts) (now seconds) (now shares) (now reaches) (now fluxes) (now outsides))
+        f («so_far» .entered) («so_far» .gone) (now next) (now moved) (now work) ⌝ }
+    ensures { λ r. ⌜ Carries (stepThrough cells faces (now (firsts .entry)) (now (seconds .entry)) (now (shares .entry)) (now (reaches .entry)) (now (fluxes .entry)) (now (outsides .entry)))
+        f («so_far» .entered) («so_far» .gone) (now (next .entry)) (now (moved .entry)) (now (work .entry))
+        (f + 1) (r .entered) (r .gone) (now (next .exit)) (now (moved .exit)) (now (work .exit)) ⌝ }
 {
     let first = firsts[f];
     let second = seconds[f];
@@ -175,28 +171,25 @@ fn carry_turn(
     }
 }
 
-// Second pass. Volumes, masses and releases are lent so that its contract can speak of the whole step.
+// Second pass, on the concentrations in work and the masses in next.
 pub fn carry(
     cells: usize,
     faces: usize,
-    volumes: &[u64],
     firsts: &[u64],
     seconds: &[u64],
     shares: &[u64],
     reaches: &[u64],
-    masses: &[u64],
     fluxes: &[i64],
     outsides: &[u64],
     next: &mut [u64],
     moved: &mut [i64],
     work: &mut [u64],
-    releases: &[u64],
 ) -> Carried
-    ghost { StepInput }
-    requires { λ S. ⌜ inputFrom cells faces (now volumes) (now firsts) (now seconds) (now shares) (now reaches) (now masses) (now fluxes) (now outsides) (now releases) ≡ S ⌝ }
-    requires { λ S. ⌜ Ready S ⌝ }
-    requires { λ S. ⌜ CarriedTo S 0 0 0 (now next) (now moved) (now work) ⌝ }
-    ensures { λ S r. ⌜ CarriedTo S faces (r .entered) (r .gone) (now (next .exit)) (now (moved .exit)) (now (work .exit)) ⌝ }
+    requires { ⌜ AtFace (stepThrough cells faces (now firsts) (now seconds) (now shares) (now reaches) (now fluxes) (now outsides))
+        0 0 0 (now next) (now moved) (now work) ⌝ }
+    ensures { λ r. ⌜ Carries (stepThrough cells faces (now (firsts .entry)) (now (seconds .entry)) (now (shares .entry)) (now (reaches .entry)) (now (fluxes .entry)) (now (outsides .entry)))
+        0 0 0 (now (next .entry)) (now (moved .entry)) (now (work .entry))
+        faces (r .entered) (r .gone) (now (next .exit)) (now (moved .exit)) (now (work .exit)) ⌝ }
 {
     let mut so_far = Carried {
         entered: 0,
@@ -208,18 +201,15 @@ pub fn carry(
             f,
             cells,
             faces,
-            volumes,
             firsts,
             seconds,
             shares,
             reaches,
-            masses,
             fluxes,
             outsides,
             next,
             moved,
             work,
-            releases,
             so_far,
         );
         f += 1;

@@ -12,7 +12,7 @@ use Rattle.lists.specs.Fold.{sum, least, greatest}
 use Rattle.lists.specs.Table.{table, over}
 use Rattle.lists.proofs.Tables.{length-table}
 use Rattle.model.specs.Mesh.{Mesh, runCells, runFaces, entering, leaving, incoming, outgoing, updated, total}
-use Rattle.model.specs.Step.{StepInput, portion, receiver, giver, limitedBy, concentration, beyond, upwind, downwind, carried, low, upwindShare, correction, smooths, keptBy, lowConcentration, kept, adjacent, lo, hi, maxGain}
+use Rattle.model.specs.Step.{StepInput, portion, receiver, giver, limitedBy, rounded, beyond, upwind, downwind, carried, low, upwindShare, correction, smooths, keptBy, lowConcentration, kept, adjacent, lo, hi, maxGain}
 use Rattle.model.specs.Step.{maxLoss, limited, moved, next, inMass, outMass, raised, releasedMass}
 use Rattle.model.specs.Causes.{Outcome, accepted, Verdict, fine, Call, inputOf, workEntries, _andThen_, need, each, countsWithin, counts, meshTables, volumeGood, endsGood, spacingGood, meshValues}
 use Rattle.model.specs.Causes.{fieldTable, saltGood, fieldValues, meshFieldVerdict, stepTables, raisedGood, raisedValues, outsideGood, fluxGood, balanceGood, outflowGood, stepValues, verdict}
@@ -80,7 +80,7 @@ unfolding entering leaving incoming outgoing updated total
 of-faces = tt
 
 of-step : Unit {0}
-unfolding portion receiver giver limitedBy concentration beyond upwind downwind carried low upwindShare correction smooths keptBy
+unfolding portion receiver giver limitedBy rounded beyond upwind downwind carried low upwindShare correction smooths keptBy
     lowConcentration kept adjacent lo hi maxGain maxLoss limited moved next inMass outMass raised releasedMass
 of-step = tt
 

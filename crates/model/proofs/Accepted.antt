@@ -13,12 +13,13 @@ use Rattle.signed.specs.Sign.{size, isNegative}
 use Rattle.lists.proofs.Tests.{Same, same, other, same?, both-true, either-true}
 use Rattle.lists.proofs.Sums.{greatest-le}
 use Rattle.model.specs.Mesh.{Mesh, volume, first, second, share, reach, atRim, rim, incoming, outgoing, maxCells, maxFaces, maxVolume, maxShare, maxReach, maxConcentration, maxRimFlux}
-use Rattle.model.specs.Step.{StepInput, flux, outside, concentration, adjacent, hi}
+use Rattle.model.specs.Step.{StepInput, raised, rounded, flux, outside, concentration, adjacent, hi}
 use Rattle.model.specs.Causes.{meshLengths, stepLengths, meshCauses, release, raisedGood, raisedValues, waterCauses, stepCauses, fine, _andThen_, each, between, Call, inputOf, countsWithin, counts, meshTables, volumeGood, endsGood, spacingGood, meshValues, fieldTable, fieldValues, saltGood, fieldVerdict, stepTables, outsideGood, fluxGood, balanceGood, outflowGood, stepValues, verdict, meshFieldVerdict}
 use Rattle.model.specs.Accepted.{Counted, MeshLent, CallLent, MeshFit, WaterFit, Ready, maxMass}
 use Rattle.model.proofs.Verdicts.{both-fine, all-fine, need-fine, need-met, long-fine, each-fine, fine-each}
 use Rattle.model.proofs.Low.{met-any}
 use Rattle.model.proofs.Raised.{raised-long, raised-at}
+use Rattle.model.proofs.Rounded.{rounded-there, rounded-rest}
 
 -- past cause 1
 pub counted : (M : Mesh) → counts M ≡ fine → Counted M
@@ -222,7 +223,7 @@ module _ (M : Mesh) (field : List ℕ) (k : Call) where
       }
 
   pub ready-of : Passed M field k → Ready (inputOf M field k)
-  unfolding stepValues concentration
+  unfolding stepValues rounded
   ready-of p =
       let c = counted M (p .counts-fine) in
       let m = mesh-fit M (p .mesh-values-fine) in
@@ -240,6 +241,8 @@ module _ (M : Mesh) (field : List ℕ) (k : Call) where
         sound = record {
           joined = record { few = c .few-cells; first-in = m .first-in; second-in = m .second-in };
           roomy = m .volume-some;
+          salt-there = λ c h. rounded-there M (raised (M .cells) field (k .releases)) c;
+          rest-below = λ c h. rounded-rest M (raised (M .cells) field (k .releases)) c (m .volume-some c h);
           level = level M field k (w .1 .1 .0);
           courant = courant M field k (w .1 .1 .1 .0);
         };

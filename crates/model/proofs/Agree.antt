@@ -22,7 +22,7 @@ use Rattle.model.specs.Accepted.{MeshFit}
 use Rattle.model.proofs.Accepted.{ready}
 use Rattle.model.proofs.Lists.{Fair}
 use Rattle.model.proofs.AlikeStages.{lo-alike, hi-alike, moved-alike, next-alike, in-mass-alike, out-mass-alike}
-use Rattle.model.proofs.AlikeCauses.{each-alike, field-values-alike, raised-alike, verdict-alike, answer-alike}
+use Rattle.model.proofs.AlikeCauses.{each-alike, field-values-alike, raised-alike, q-alike, verdict-alike, answer-alike}
 
 pub whole : (k : ℕ) → k ≡ cond (eqb k rim) rim k
 whole k = go (eqb k rim) (same? k rim)
@@ -46,7 +46,7 @@ meshes-alike M M′ m = record {
 
 agree-alike : (S S′ : StepInput) → Agree S S′ → Alike S S′ (unmoved (S .mesh .cells)) (unmoved (S .mesh .faces)) (λ f. false)
 agree-alike S S′ g =
-    record { mesh-alike = meshes-alike (S .mesh) (S′ .mesh) (g .mesh-agrees); mass-same = g .masses; flux-same = g .fluxes; outside-same = g .outsides }
+    record { mesh-alike = meshes-alike (S .mesh) (S′ .mesh) (g .mesh-agrees); mass-same = g .masses; q-same = g .q-agrees; flux-same = g .fluxes; outside-same = g .outsides }
 
 -- the stages
 module _ (S S′ : StepInput) (few : S .mesh .cells ≤ rim) (fit : MeshFit (S .mesh)) (g : Agree S S′) where
@@ -148,7 +148,13 @@ module _ (M M′ : Mesh) (field field′ : List ℕ) (k k′ : Call) (a : AgreeC
   }
 
   pub inputs-agree : Agree S S′
-  inputs-agree = record { mesh-agrees = m; masses = raised-alike M M′ _ _ _ field field′ k k′ calls-alike; fluxes = a .fluxes; outsides = a .outsides }
+  inputs-agree = record {
+    mesh-agrees = m;
+    masses = raised-alike M M′ _ _ _ field field′ k k′ calls-alike;
+    q-agrees = q-alike M M′ _ _ _ field field′ k k′ calls-alike;
+    fluxes = a .fluxes;
+    outsides = a .outsides;
+  }
 
   abbrev g : Agree S S′
   g = inputs-agree

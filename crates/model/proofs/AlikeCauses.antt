@@ -15,7 +15,7 @@ use Rattle.lists.proofs.Renumbered.{sum-renumbered}
 use Rattle.signed.specs.Sign.{isNegative, turn}
 use Rattle.signed.proofs.Turns.{size-turn}
 use Rattle.model.specs.Mesh.{Mesh, volume, second, atRim, rim, incoming, outgoing, maxConcentration}
-use Rattle.model.specs.Step.{StepInput, flux, outside, mass, releasedMass}
+use Rattle.model.specs.Step.{StepInput, flux, outside, mass, concentration, releasedMass}
 use Rattle.model.specs.Causes.{Outcome, accepted, refused, Verdict, fine, _andThen_, need, each, Call, inputOf, release, counts, meshTables, meshValues, fieldTable, saltGood, fieldValues, stepTables, raisedGood, raisedValues, outsideGood, fluxGood, balanceGood, outflowGood, stepValues, verdict}
 use Rattle.model.specs.Calls.{Crossing, crossingOf}
 use Rattle.model.specs.Accepted.{Joined, MeshFit}
@@ -23,6 +23,7 @@ use Rattle.model.specs.Alike.{Facing, turned, AlikeMesh, Alike, AlikeCal
 use Rattle.model.proofs.Verdicts.{both-fine, each-cong}
 use Rattle.model.proofs.Accepted.{few, mesh-fit, ready}
 use Rattle.model.proofs.Raised.{raised-at}
+use Rattle.model.proofs.Rounded.{rounded-same}
 use Rattle.model.proofs.AlikeFaces.{rim-same, incoming-alike, outgoing-alike}
 use Rattle.model.proofs.AlikeStages.{joined, in-mass-alike, out-mass-alike}
 
@@ -97,8 +98,11 @@ module _ (M M′ : Mesh) (cell : Renumbering (M .cells)) (face : Renumbering (M 
       let n : cell .new c < M′ .cells = omega (arith, a .mesh-alike .ends-alike .cells-same, cell .new-in c h) in
       raised-at (M′ .cells) field′ (k′ .releases) (cell .new c) n ∙ rw (a .mass-same c h, a .release-same c h, raised-at (M .cells) field (k .releases) c h)
 
+  pub q-alike : (c : ℕ) → c < M .cells → concentration (inputOf M′ field′ k′) (cell .new c) ≡ concentration (inputOf M field k) c
+  q-alike c h = rounded-same M M′ _ _ c (cell .new c) (a .mesh-alike .volume-same c h) (raised-alike c h)
+
   pub inputs-alike : Alike (inputOf M field k) (inputOf M′ field′ k′) cell face turns
-  inputs-alike = record { mesh-alike = a .mesh-alike; mass-same = raised-alike; flux-same = a .flux-same; outside-same = a .outside-same }
+  inputs-alike = record { mesh-alike = a .mesh-alike; mass-same = raised-alike; q-same = q-alike; flux-same = a .flux-same; outside-same = a .outside-same }
 
   released-alike : releasedMass (M′ .cells) (k′ .releases) ≡ releasedMass (M .cells) (k .releases)
   unfolding releasedMass

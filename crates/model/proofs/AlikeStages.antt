@@ -54,10 +54,6 @@ module _ (S S′ : StepInput) (few : S .mesh .cells ≤ rim) (fit : MeshFit (S .
   at-rim : (f : ℕ) → f < M .faces → atRim M′ (face .new f) ≡ atRim M f
   at-rim = rim-same M M′ j cell face turns ends
 
-  pub concentration-alike : (c : ℕ) → c < M .cells → concentration S′ (cell .new c) ≡ concentration S c
-  unfolding concentration
-  concentration-alike c h = rw (a .mass-same c h, a .mesh-alike .volume-same c h)
-
   -- the two sides of a face
   near-alike : (f : ℕ) → f < M .faces → concentration S′ (first M′ (face .new f)) ≡ cond (turns f) (beyond S f) (concentration S (first M f))
   unfolding beyond
@@ -65,16 +61,16 @@ module _ (S S′ : StepInput) (few : S .mesh .cells ≤ rim) (fit : MeshFit (S .
     where
       go : (t : Bool) → Facing M M′ (cell .new) f (face .new f) t
           → concentration S′ (first M′ (face .new f)) ≡ cond t (cond (atRim M f) (outside S f) (concentration S (second M f))) (concentration S (first M f))
-      go false (straight p q) = rw p (concentration-alike (first M f) (fit .first-in f l))
-      go true (turned d p q) = rw (p, ne-eqb (second M f) rim d) (concentration-alike (second M f) (fit .second-in f l d))
+      go false (straight p q) = rw p (a .q-same (first M f) (fit .first-in f l))
+      go true (turned d p q) = rw (p, ne-eqb (second M f) rim d) (a .q-same (second M f) (fit .second-in f l d))
 
   far-alike : (f : ℕ) → f < M .faces → second M f ≢ rim → concentration S′ (second M′ (face .new f)) ≡ cond (turns f) (concentration S (first M f)) (concentration S (second M f))
   far-alike f l d = go (turns f) (ends .facing f l)
     where
       go : (t : Bool) → Facing M M′ (cell .new) f (face .new f) t
           → concentration S′ (second M′ (face .new f)) ≡ cond t (concentration S (first M f)) (concentration S (second M f))
-      go false (straight p q) = rw (q, ne-eqb (second M f) rim d) (concentration-alike (second M f) (fit .second-in f l d))
-      go true (turned _ p q) = rw q (concentration-alike (first M f) (fit .first-in f l))
+      go false (straight p q) = rw (q, ne-eqb (second M f) rim d) (a .q-same (second M f) (fit .second-in f l d))
+      go true (turned _ p q) = rw q (a .q-same (first M f) (fit .first-in f l))
 
   beyond-alike : (f : ℕ) → f < M .faces → beyond S′ (face .new f) ≡ cond (turns f) (concentration S (first M f)) (beyond S f)
   unfolding beyond
@@ -83,9 +79,9 @@ module _ (S S′ : StepInput) (few : S .mesh .cells ≤ rim) (fit : MeshFit (S .
       go : (t : Bool) → Facing M M′ (cell .new) f (face .new f) t → (r : Bool) → Same (second M f) rim r
           → cond r (outside S f) (concentration S′ (second M′ (face .new f))) ≡ cond t (concentration S (first M f)) (cond r (outside S f) (concentration S (second M f)))
       go false g true s = refl
-      go false (straight p q) false (other d) = rw (q, ne-eqb (second M f) rim d) (concentration-alike (second M f) (fit .second-in f l d))
+      go false (straight p q) false (other d) = rw (q, ne-eqb (second M f) rim d) (a .q-same (second M f) (fit .second-in f l d))
       go true (turned d p q) true (same e) = absurd (d e)
-      go true (turned d p q) false s = rw q (concentration-alike (first M f) (fit .first-in f l))
+      go true (turned d p q) false s = rw q (a .q-same (first M f) (fit .first-in f l))
 
   pub carried-alike : (f : ℕ) → f < M .faces → carried S′ (face .new f) ≡ turn (turns f) (carried S f)
   unfolding carried upwind
@@ -140,7 +136,7 @@ module _ (S S′ : StepInput) (few : S .mesh .cells ≤ rim) (fit : MeshFit (S .
         a .flux-same f l,
         isZero-turn (turns f) (flux S f),
         a .outside-same f l,
-        concentration-alike c h,
+        a .q-same c h,
       )
       (go (concentration S c) (concentration S (first M f)) (concentration S (second M f)) (outside S f) _ _ (turns f) (ends .facing f l) (near-alike f l) (far-alike f l)
       (isZero (flux S f)) (atRim M f) (same? (second M f) rim) (eqb (first M f) c) (same? (first M f) c) (eqb (second M f) c) (same? (second M f) c))
@@ -163,12 +159,12 @@ module _ (S S′ : StepInput) (few : S .mesh .cells ≤ rim) (fit : MeshFit (S .
   pub lo-alike : (c : ℕ) → c < M .cells → lo S′ (cell .new c) ≡ lo S c
   unfolding lo
   lo-alike c h = ap (λ (n : ℕ). least n (concentration S′ (cell .new c)) (adjacent S′ (cell .new c))) (ends .faces-same)
-      ∙ least-renumbered (M .faces) face (adjacent S′ (cell .new c)) (adjacent S c) (λ f l. adjacent-alike c f h l) _ _ (concentration-alike c h)
+      ∙ least-renumbered (M .faces) face (adjacent S′ (cell .new c)) (adjacent S c) (λ f l. adjacent-alike c f h l) _ _ (a .q-same c h)
 
   pub hi-alike : (c : ℕ) → c < M .cells → hi S′ (cell .new c) ≡ hi S c
   unfolding hi
   hi-alike c h = ap (λ (n : ℕ). greatest n (concentration S′ (cell .new c)) (adjacent S′ (cell .new c))) (ends .faces-same)
-      ∙ greatest-renumbered (M .faces) face (adjacent S′ (cell .new c)) (adjacent S c) (λ f l. adjacent-alike c f h l) _ _ (concentration-alike c h)
+      ∙ greatest-renumbered (M .faces) face (adjacent S′ (cell .new c)) (adjacent S c) (λ f l. adjacent-alike c f h l) _ _ (a .q-same c h)
 
   gain-alike : (c : ℕ) → c < M .cells → maxGain S′ (cell .new c) ≡ maxGain S c
   unfolding maxGain
@@ -218,5 +214,5 @@ module _ (S S′ : StepInput) (few : S .mesh .cells ≤ rim) (fit : MeshFit (S .
           go : (t : Bool) → Facing M M′ (cell .new) f (face .new f) t → (r : Bool) → Same (second M f) rim r
               → cond r (forward (turn t (flux S f)) * concentration S′ (first M′ (face .new f))) 0 ≡ cond r (forward (flux S f) * concentration S (first M f)) 0
           go t x false s = refl
-          go false (straight p q) true s = rw (p, concentration-alike (first M f) (fit .first-in f l))
+          go false (straight p q) true s = rw (p, a .q-same (first M f) (fit .first-in f l))
           go true (turned d _ _) true (same e) = absurd (d e)

@@ -12,7 +12,7 @@ use Rattle.lists.specs.Fold.{sum, least, greatest}
 use Rattle.lists.specs.Table.{table, over}
 use Rattle.signed.specs.Sign.{isNegative}
 use Rattle.model.specs.Mesh.{Mesh, meshOf, second, rim, entering, leaving, incoming, outgoing, updated}
-use Rattle.model.specs.Step.{StepInput, raised, releasedMass, flux, outside, inMass, outMass, next, moved, concentration, beyond, upwind, downwind, carried, low, upwindShare, correction, smooths, keptBy, lowConcentration, kept, adjacent, lo, hi, maxGain, maxLoss, receiver, giver, limitedBy, limited, portion}
+use Rattle.model.specs.Step.{StepInput, rounded, roundedInput, raised, releasedMass, flux, outside, inMass, outMass, next, moved, concentration, beyond, upwind, downwind, carried, low, upwindShare, correction, smooths, keptBy, lowConcentration, kept, adjacent, lo, hi, maxGain, maxLoss, receiver, giver, limitedBy, limited, portion}
 use Rattle.model.specs.Causes.{Call, release, inputOf, fine, refused, _andThen_, need, each, countsWithin, counts, meshTables, volumeGood, endsGood, spacingGood, meshValues, fieldTable, saltGood, fieldValues, fieldVerdict, raisedGood, raisedValues, stepTables, outsideGood, fluxGood, balanceGood, outflowGood, stepValues, verdict}
 use Rattle.model.specs.Calls.{massIn, corrected, stepOnTables, nextTable, afterAll, totalIn, totalOut, totalReleased}
 use Rattle.model.proofs.Accepted.{ready}
@@ -23,7 +23,7 @@ use Rattle.model.proofs.Uniform.{uniform, no-faces}
 everything : Unit {0}
 unfolding afterAll totalIn totalOut totalReleased stepOnTables nextTable inMass outMass over verdict counts countsWithin meshTables fieldTable stepTables
     meshValues fieldValues saltGood raised raisedGood raisedValues releasedMass stepValues volumeGood endsGood spacingGood outsideGood fluxGood balanceGood outflowGood need each
-    _andThen_ table sum least greatest entering leaving incoming outgoing updated next moved concentration beyond upwind downwind carried
+    _andThen_ table sum least greatest entering leaving incoming outgoing updated next moved rounded beyond upwind downwind carried
     low upwindShare correction smooths keptBy lowConcentration kept adjacent lo hi maxGain maxLoss receiver giver limitedBy limited portion
     fieldVerdict
 everything = tt
@@ -55,12 +55,9 @@ channelStep masses = inputOf channel masses channelCall
 
 -- one face between two cells of V 1 with concentrations a and b
 abbrev pub between : ℕ → ℕ → ℤ → ℕ → ℕ → StepInput
-between a b u s k = record {
-  mesh = record { cells = 2; faces = 1; volumes = 1 ∷ 1 ∷ []; firsts = 0 ∷ []; seconds = 1 ∷ []; shares = s ∷ []; reaches = k ∷ [] };
-  masses = a ∷ b ∷ [];
-  fluxes = u ∷ [];
-  outsides = 0 ∷ [];
-}
+between a b u s k = roundedInput
+    (record { cells = 2; faces = 1; volumes = 1 ∷ 1 ∷ []; firsts = 0 ∷ []; seconds = 1 ∷ []; shares = s ∷ []; reaches = k ∷ [] })
+    (a ∷ b ∷ []) (u ∷ []) (0 ∷ [])
 
 -- two cells of V 10 and two faces from 0 to 1, s 128, K 10
 abbrev pub pair : Mesh
@@ -418,12 +415,9 @@ unfolding everything
 session-after = refl
 
 -- all V 7, all m 30, outside 4, on the channel
-all-30 : table 3 (next (record {
-  mesh = record { cells = 3; faces = 4; volumes = 7 ∷ 7 ∷ 7 ∷ []; firsts = 0 ∷ 0 ∷ 1 ∷ 2 ∷ []; seconds = rim ∷ 1 ∷ 2 ∷ rim ∷ []; shares = 0 ∷ 128 ∷ 128 ∷ 0 ∷ []; reaches = 0 ∷ 7 ∷ 7 ∷ 0 ∷ [] };
-  masses = 30 ∷ 30 ∷ 30 ∷ [];
-  fluxes = negsuc 4 ∷ pos 5 ∷ pos 5 ∷ pos 5 ∷ [];
-  outsides = 4 ∷ 0 ∷ 0 ∷ 0 ∷ [];
-}))
+all-30 : table 3 (next (roundedInput
+    (record { cells = 3; faces = 4; volumes = 7 ∷ 7 ∷ 7 ∷ []; firsts = 0 ∷ 0 ∷ 1 ∷ 2 ∷ []; seconds = rim ∷ 1 ∷ 2 ∷ rim ∷ []; shares = 0 ∷ 128 ∷ 128 ∷ 0 ∷ []; reaches = 0 ∷ 7 ∷ 7 ∷ 0 ∷ [] })
+    (30 ∷ 30 ∷ 30 ∷ []) (negsuc 4 ∷ pos 5 ∷ pos 5 ∷ pos 5 ∷ []) (4 ∷ 0 ∷ 0 ∷ 0 ∷ [])))
     ≡ 30 ∷ 30 ∷ 30 ∷ []
 unfolding everything
 all-30 = refl

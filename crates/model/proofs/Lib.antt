@@ -2,6 +2,7 @@ pub mod Verdicts
 pub mod Budget
 pub mod Low
 pub mod Raised
+pub mod Rounded
 pub mod Limit
 pub mod Next
 pub mod Accepted

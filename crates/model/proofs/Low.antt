@@ -3,7 +3,7 @@ use Prim.Native.Nat.{ℕ, zero, suc, _+_, _-_, _*_, _≤_, _<_}
 use mathlib.Core.Path.{_≡_, refl, sym, _∙_}
 use mathlib.Core.Logic.{_≢_}
 use mathlib.Core.Bool.{Bool, true, false, cond}
-use native.Mathlib.Nat.{mul-le-mul-left, mul-le-mul-right, mul-div-le, lt-div-mul-add, add-sub-of-le}
+use native.Mathlib.Nat.{mul-le-mul-left, mul-le-mul-right, add-sub-of-le}
 use native.Mathlib.Omega.{arith}
 use lib.Dec.{eqb}
 use lib.IntN.{ℤ, pos, negsuc, _*ℤ_}
@@ -59,7 +59,7 @@ enters z k l c o q n = go z (eqb l c) (same? l c) (eqb k c) (same? k c) (eqb k r
     go (negsuc m) true (same d) true (same e) false rr = rw (d, e) (omega arith)
 
 -- a cell of volume O + D that loses O at its own concentration q and gains G between O at lo and O at hi
-mixed : (O D q m G lo hi low : ℕ) → lo ≤ q → q ≤ hi → (O + D) * q ≤ m → m < q * (O + D) + (O + D) → O * lo ≤ G → G ≤ O * hi → low + O * q ≡ m + G
+mixed : (O D q m G lo hi low : ℕ) → lo ≤ q → q ≤ hi → (O + D) * q ≤ m → m < (O + D) * q + (O + D) → O * lo ≤ G → G ≤ O * hi → low + O * q ≡ m + G
     → ((O + D) * lo ≤ low) × (low ≤ (O + D) * hi + (O + D) - 1)
 mixed O D q m G lo hi low a b c d e f g = omega (arith, mul-le-mul-left D a, mul-le-mul-left D b)
 
@@ -123,20 +123,19 @@ module _ (S : StepInput) (ok : Sound S) where
 
   -- a cell has the salt that the water takes from it
   pub low-affords : (c : ℕ) → c < M .cells → outgoing M (carried S) c ≤ mass S c
-  unfolding concentration
-  low-affords c h = rw (outgoing-carried c h) (omega (arith, mul-le-mul-right (concentration S c) (ok .courant c h), mul-div-le (mass S c) (volume M c)))
+  low-affords c h = rw (outgoing-carried c h) (omega (arith, mul-le-mul-right (concentration S c) (ok .courant c h), ok .salt-there c h))
 
   pub low-is : (c : ℕ) → c < M .cells → low S c + outgoing M (carried S) c ≡ mass S c + incoming M (carried S) c
   unfolding low updated
   low-is c h = omega (arith, low-affords c h)
 
   pub low-bounds : (c : ℕ) → c < M .cells → (volume M c * lo S c ≤ low S c) × (low S c ≤ volume M c * hi S c + volume M c - 1)
-  unfolding lo hi concentration
+  unfolding lo hi
   low-bounds c h = rw (add-sub-of-le (ok .courant c h)) at
       (mixed (outgoing M (flux S) c) (volume M c - outgoing M (flux S) c) (concentration S c) (mass S c) (incoming M (carried S) c) (lo S c) (hi S c) (low S c)
       (least-start (M .faces) (concentration S c) (adjacent S c)) (greatest-start (M .faces) (concentration S c) (adjacent S c))
-      (rw (add-sub-of-le (ok .courant c h)) (mul-div-le (mass S c) (volume M c)))
-      (rw (add-sub-of-le (ok .courant c h)) (lt-div-mul-add (ok .roomy c h)))
+      (rw (add-sub-of-le (ok .courant c h)) (ok .salt-there c h))
+      (rw (add-sub-of-le (ok .courant c h)) (ok .rest-below c h))
       (rw (ok .level c h) at (incoming-lo c h))
       (rw (ok .level c h) at (incoming-hi c h))
       (rw (outgoing-carried c h) at (low-is c h)))

@@ -1,7 +1,7 @@
 -- How large the numbers of an accepted step get: what the code's words have to hold.
 use Prim.Native.Nat.{ℕ, _+_, _-_, _*_, _/_, _≤_, _<_}
 use mathlib.Core.Bool.{Bool, true, false, cond, _||_}
-use native.Mathlib.Nat.{mul-le-mul, mul-le-mul-left, mul-le-mul-right, div-le-of-le-mul, lt-div-mul-add, le-trans}
+use native.Mathlib.Nat.{mul-le-mul, mul-le-mul-left, mul-le-mul-right, div-le-of-le-mul, le-trans}
 use native.Mathlib.Omega.{arith}
 use lib.Dec.{eqb, leb}
 use lib.IntN.{ℤ, pos, _-ℤ_, _*ℤ_}
@@ -131,8 +131,7 @@ module _ (S : StepInput) (r : Ready S) where
   loss-most c h = omega (arith, low-most c h)
 
   pub mass-most : (c : ℕ) → c < M .cells → mass S c ≤ maxMass
-  unfolding concentration
-  mass-most c h = omega (arith, lt-div-mul-add {a = mass S c} (r .fit .volume-some c h), r .fit .volume-most c h, mul-le-mul (r .salt-most c h) (r .fit .volume-most c h))
+  mass-most c h = omega (arith, r .sound .rest-below c h, r .fit .volume-most c h, mul-le-mul (r .fit .volume-most c h) (r .salt-most c h))
 
   -- one rim face's part of the in-mass and of the out-mass, and all of them
   entered-most : (f : ℕ) → f < M .faces → cond (atRim M f) (backward (flux S f) * outside S f) 0 ≤ maxCarried

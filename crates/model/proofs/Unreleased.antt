@@ -11,7 +11,7 @@ use Rattle.lists.specs.Table.{table, over}
 use Rattle.lists.proofs.Sums.{sum-cong, sum-zeros}
 use Rattle.lists.proofs.Tables.{table-cong}
 use Rattle.model.specs.Mesh.{Mesh, volume, maxConcentration}
-use Rattle.model.specs.Step.{StepInput, releasedMass, next, moved, inMass, outMass}
+use Rattle.model.specs.Step.{StepInput, mass, releasedMass, next, moved, inMass, outMass}
 use Rattle.model.specs.Alike.{Agree}
 use Rattle.model.specs.Causes.{accepted, refused, Verdict, fine, _andThen_, inTurn, taken, Call, inputOf, release, lengths01, stepTables, fieldValues, saltGood, raisedGood, raisedValues, stepValues, verdict}
 use Rattle.model.specs.Calls.{crossingOf, stepAnswer, nextTable, movedTable, workTable}
@@ -21,6 +21,7 @@ use Rattle.model.proofs.Verdicts.{both-fine, need-met, each-fine, fine-
 use Rattle.model.proofs.Accepted.{ready}
 use Rattle.model.proofs.Agree.{same-mesh, in-agree, out-agree, next-agree, moved-agree}
 use Rattle.model.proofs.Raised.{raised-at}
+use Rattle.model.proofs.Rounded.{rounded-same}
 
 -- a test that finds nothing wherever those before it find nothing can be left out
 idle : (v w : Verdict) → (v ≡ fine → w ≡ fine) → (v andThen w) ≡ v
@@ -48,10 +49,14 @@ module _ (M : Mesh) (field : List ℕ) (k : Call) (long : M .cells ≤ length (k
   unfolding verdict
   verdict-same = rw lengths-same (ap (λ (v : Verdict). v andThen stepValues M field k) (idle _ _ (λ e. raised-idle (both-fine _ _ e .1))))
 
+  unraised-mass : (c : ℕ) → c < M .cells → mass S₀ c ≡ mass S c
+  unraised-mass c h = sym (raised-at (M .cells) field (k .releases) c h ∙ rw (none c h) (add-zero (getD field c 0)))
+
   agrees : Agree S S₀
   agrees = record {
     mesh-agrees = same-mesh M;
-    masses = λ c h. sym (raised-at (M .cells) field (k .releases) c h ∙ rw (none c h) (add-zero (getD field c 0)));
+    masses = unraised-mass;
+    q-agrees = λ c h. rounded-same M M _ _ c c refl (unraised-mass c h);
     fluxes = λ f l. refl;
     outsides = λ f l. refl;
   }

@@ -7,7 +7,7 @@ use mathlib.Core.List.{List}
 use lib.ListN.{length}
 use Rattle.signed.specs.Sign.{size}
 use Rattle.model.specs.Mesh.{Mesh, volume, first, second, share, reach, atRim, rim, incoming, outgoing, maxCells, maxFaces, maxVolume, maxShare, maxReach, maxConcentration, maxRimFlux}
-use Rattle.model.specs.Step.{StepInput, flux, outside, concentration}
+use Rattle.model.specs.Step.{StepInput, mass, flux, outside, concentration}
 use Rattle.model.specs.Causes.{Call, workLength}
 
 -- the largest mass that passes a face with the water, and the largest mass of a cell
@@ -70,10 +70,12 @@ pub record Joined (M : Mesh) : Type 0 where
   pub first-in : (f : ℕ) → f < M .faces → first M f < M .cells
   pub second-in : (f : ℕ) → f < M .faces → second M f ≢ rim → second M f < M .cells
 
--- what document 01's causes leave true of an accepted step, as far as the bounds need it
+-- what document 01's causes leave true of an accepted step, as far as the bounds need it: of q, that V·q ≤ m < V·q + V
 pub record Sound (S : StepInput) : Type 0 where
   pub joined : Joined (S .mesh)
   pub roomy : (c : ℕ) → c < S .mesh .cells → 1 ≤ volume (S .mesh) c
+  pub salt-there : (c : ℕ) → c < S .mesh .cells → volume (S .mesh) c * concentration S c ≤ mass S c
+  pub rest-below : (c : ℕ) → c < S .mesh .cells → mass S c < volume (S .mesh) c * concentration S c + volume (S .mesh) c
   pub level : (c : ℕ) → c < S .mesh .cells → incoming (S .mesh) (flux S) c ≡ outgoing (S .mesh) (flux S) c
   pub courant : (c : ℕ) → c < S .mesh .cells → outgoing (S .mesh) (flux S) c ≤ volume (S .mesh) c
 

@@ -10,7 +10,7 @@ use lib.IntN.{pos}
 use Rattle.lists.specs.Renumbering.{Renumbering}
 use Rattle.signed.specs.Sign.{turn}
 use Rattle.model.specs.Mesh.{Mesh, volume, first, second, share, reach, atRim, rim}
-use Rattle.model.specs.Step.{StepInput, flux, outside, mass}
+use Rattle.model.specs.Step.{StepInput, flux, outside, mass, concentration}
 use Rattle.model.specs.Causes.{Outcome, accepted, refused, Call, release}
 
 -- Face f′ of M′ is face f of M: as it was, or turned. Only an interior face is turned.
@@ -31,10 +31,11 @@ pub record AlikeMesh (M M′ : Mesh) (cell : Renumbering (M .cells)) (face : Ren
   pub share-same : (f : ℕ) → f < M .faces → share M′ (face .new f) ≡ cond (turns f) (256 - share M f) (share M f)
   pub reach-same : (f : ℕ) → f < M .faces → reach M′ (face .new f) ≡ reach M f
 
--- the same with masses, fluxes and outside values carried along, a turned face's U negated
+-- the same with masses, q, fluxes and outside values carried along, a turned face's U negated
 pub record Alike (S S′ : StepInput) (cell : Renumbering (S .mesh .cells)) (face : Renumbering (S .mesh .faces)) (turns : ℕ → Bool) : Type 0 where
   pub mesh-alike : AlikeMesh (S .mesh) (S′ .mesh) cell face turns
   pub mass-same : (c : ℕ) → c < S .mesh .cells → mass S′ (cell .new c) ≡ mass S c
+  pub q-same : (c : ℕ) → c < S .mesh .cells → concentration S′ (cell .new c) ≡ concentration S c
   pub flux-same : (f : ℕ) → f < S .mesh .faces → flux S′ (face .new f) ≡ turn (turns f) (flux S f)
   pub outside-same : (f : ℕ) → f < S .mesh .faces → outside S′ (face .new f) ≡ outside S f
 
@@ -66,6 +67,7 @@ pub record AgreeMesh (M M′ : Mesh) : Type 0 where
 pub record Agree (S S′ : StepInput) : Type 0 where
   pub mesh-agrees : AgreeMesh (S .mesh) (S′ .mesh)
   pub masses : (c : ℕ) → c < S .mesh .cells → mass S′ c ≡ mass S c
+  pub q-agrees : (c : ℕ) → c < S .mesh .cells → concentration S′ c ≡ concentration S c
   pub fluxes : (f : ℕ) → f < S .mesh .faces → flux S′ f ≡ flux S f
   pub outsides : (f : ℕ) → f < S .mesh .faces → outside S′ f ≡ outside S f
 

@@ -7,7 +7,7 @@ use lib.Dec.{eqb, leb, ltb}
 use lib.IntN.{ℤ}
 use Rattle.signed.specs.Sign.{size, isNegative}
 use Rattle.model.specs.Mesh.{Mesh, meshOf, volume, first, second, share, reach, rim, incoming, outgoing, maxCells, maxFaces, maxVolume, maxShare, maxReach, maxConcentration, maxRimFlux}
-use Rattle.model.specs.Step.{StepInput, flux, outside, raised}
+use Rattle.model.specs.Step.{StepInput, flux, outside, raised, roundedInput}
 
 -- The first sentence: a result, or a refusal by the numbers of its cause and its place.
 pub data Outcome (A : Type 0) : Type 0 where
@@ -146,7 +146,7 @@ facesOnly faces firsts seconds = meshOf 0 faces [] firsts seconds [] []
 
 -- What the stages of a step work on: the raised field.
 abbrev pub inputOf : Mesh → List ℕ → Call → StepInput
-inputOf M field k = record { mesh = M; masses = raised (M .cells) field (k .releases); fluxes = k .fluxes; outsides = k .outsides }
+inputOf M field k = roundedInput M (raised (M .cells) field (k .releases)) (k .fluxes) (k .outsides)
 
 -- The causes of what is lent: a mesh (1 to 5), a field on it (2 and 6), a step (all).
 module _ (M : Mesh) where

@@ -45,15 +45,24 @@ raised cells field releases = table cells (λ c. getD field c 0 + getD releases 
 unfoldable pub releasedMass : (cells : ℕ) (releases : List ℕ) → ℕ
 releasedMass cells releases = sum cells (λ c. getD releases c 0)
 
--- "Mesh, water and salt", items 4 and 5: what a step works on, m per cell, U and an outside value per face.
+-- "Mesh, water and salt", items 4 and 5: what a step works on, m and q per cell, U and an outside value per face. The stages are those of any q.
 pub record StepInput : Type 0 where
   pub mesh : Mesh
   pub masses : List ℕ
+  pub q : ℕ → ℕ
   pub fluxes : List ℤ
   pub outsides : List ℕ
 
+-- item 5: q of document 01, m / V rounded down
+unfoldable pub rounded : (volumes masses : List ℕ) → ℕ → ℕ
+rounded volumes masses c = getD masses c 0 / getD volumes c 0
+
+-- what a step of document 01 works on
+abbrev pub roundedInput : Mesh → List ℕ → List ℤ → List ℕ → StepInput
+roundedInput M masses fluxes outsides = record { mesh = M; masses = masses; q = rounded (M .volumes) masses; fluxes = fluxes; outsides = outsides }
+
 module _ (S : StepInput) where
-  open StepInput S using (mesh as M, masses, fluxes, outsides)
+  open StepInput S using (mesh as M, masses, q, fluxes, outsides)
 
   abbrev pub flux : ℕ → ℤ
   flux f = getD fluxes f (pos 0)
@@ -64,9 +73,9 @@ module _ (S : StepInput) where
   abbrev pub mass : ℕ → ℕ
   mass c = getD masses c 0
 
-  -- item 5: q, before the step in all stages but for the low-order q of S-5
-  unfoldable pub concentration : ℕ → ℕ
-  concentration c = mass c / volume M c
+  -- q before the step, in all stages but for the low-order q of S-5
+  abbrev pub concentration : ℕ → ℕ
+  concentration c = q c
 
   -- q on the far side of face f: of its second cell, or outside
   unfoldable pub beyond : ℕ → ℕ

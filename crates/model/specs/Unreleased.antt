@@ -5,14 +5,14 @@ use mathlib.Core.List.{List, [], _∷_}
 use lib.ListN.{length}
 use Rattle.lists.specs.Table.{table, over}
 use Rattle.model.specs.Mesh.{Mesh}
-use Rattle.model.specs.Step.{StepInput, next, moved, inMass, outMass}
+use Rattle.model.specs.Step.{StepInput, roundedInput, next, moved, inMass, outMass}
 use Rattle.model.specs.Causes.{accepted, Verdict, _andThen_, inTurn, taken, Call, release, workLength, lengths01, counts, meshTables, fieldTable, meshValues, fieldValues, stepValues}
 use Rattle.model.specs.Calls.{corrected, stepAnswer, nextTable, movedTable, workTable}
 
 module _ (M : Mesh) (field : List ℕ) (k : Call) where
   -- what document 01's step works on: the field as it is lent
   abbrev pub unraised : StepInput
-  unraised = record { mesh = M; masses = field; fluxes = k .fluxes; outsides = k .outsides }
+  unraised = roundedInput M field (k .fluxes) (k .outsides)
 
   -- and the causes that it has; those of water read fluxes and outside values, and no masses
   abbrev pub verdict01 : Verdict

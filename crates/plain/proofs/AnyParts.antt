@@ -9,21 +9,21 @@ use lib.ListN.{getD}
 use lib.IntN.{ℤ}
 use Rattle.lists.proofs.Sums.{sum-cong, sum-scale}
 use Rattle.model.specs.Mesh.{Mesh, volume, first, second, rim, entering, incoming, outgoing}
-use Rattle.model.specs.Step.{StepInput, flux, concentration, carried, low, adjacent}
+use Rattle.model.specs.Step.{StepInput, roundedInput, flux, concentration, carried, low, adjacent}
 use Rattle.model.specs.Accepted.{Sound}
 use Rattle.model.proofs.Low.{entering-carried, outgoing-carried, low-is}
-use Rattle.plain.proofs.Mean.{inputWith, met-both}
+use Rattle.plain.proofs.Mean.{met-both}
 
 -- two fields on the same water, in D and in E parts
-module _ (M : Mesh) (fluxes : List ℤ) (m o x p : List ℕ) (ok : Sound (inputWith M fluxes m o)) (sound : Sound (inputWith M fluxes x p)) (D E : ℕ)
+module _ (M : Mesh) (fluxes : List ℤ) (m o x p : List ℕ) (ok : Sound (roundedInput M m fluxes o)) (sound : Sound (roundedInput M x fluxes p)) (D E : ℕ)
     (same-outside : (f : ℕ) → getD o f 0 * E ≡ getD p f 0 * D) (same-mass : (c : ℕ) → c < M .cells → getD m c 0 * E ≡ getD x c 0 * D)
-    (whole : (c : ℕ) → c < M .cells → concentration (inputWith M fluxes m o) c * volume M c ≡ getD m c 0)
-    (whole′ : (c : ℕ) → c < M .cells → concentration (inputWith M fluxes x p) c * volume M c ≡ getD x c 0) where
+    (whole : (c : ℕ) → c < M .cells → concentration (roundedInput M m fluxes o) c * volume M c ≡ getD m c 0)
+    (whole′ : (c : ℕ) → c < M .cells → concentration (roundedInput M x fluxes p) c * volume M c ≡ getD x c 0) where
   abbrev A : StepInput
-  A = inputWith M fluxes m o
+  A = roundedInput M m fluxes o
 
   abbrev B : StepInput
-  B = inputWith M fluxes x p
+  B = roundedInput M x fluxes p
 
   same-q : (c : ℕ) → c < M .cells → concentration A c * E ≡ concentration B c * D
   same-q c h = eq-of-mul-eq-mul-right (volume M c) (ok .roomy c h) _ _

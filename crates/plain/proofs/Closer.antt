@@ -2,14 +2,14 @@
 use Prim.Native.Nat.{ℕ, suc, _+_, _*_, _≤_, _<_}
 use mathlib.Core.Path.{_≡_}
 use mathlib.Core.List.{List}
-use native.Mathlib.Nat.{mul-le-mul-right, mul-div-le, lt-div-mul-add, le-of-mul-le-mul-right, lt-of-mul-lt-mul-right, mul-lt-mul-of-pos-right}
+use native.Mathlib.Nat.{mul-le-mul-right, le-of-mul-le-mul-right, lt-of-mul-lt-mul-right, mul-lt-mul-of-pos-right}
 use native.Mathlib.Omega.{arith}
 use lib.ListN.{getD}
 use lib.IntN.{ℤ}
 use Rattle.model.specs.Mesh.{Mesh, volume}
-use Rattle.model.specs.Step.{StepInput, mass, concentration, low}
+use Rattle.model.specs.Step.{StepInput, roundedInput, mass, concentration, low}
 use Rattle.model.specs.Accepted.{Sound}
-use Rattle.plain.proofs.Mean.{inputWith, Near, mean-step}
+use Rattle.plain.proofs.Mean.{Near, mean-step}
 
 -- m and x/D differ by at most n·v, and by less
 pub record Within (n v D m x : ℕ) : Type 0 where
@@ -39,20 +39,19 @@ pub as-fractions : {n v D m x : ℕ} → 1 ≤ v → Closer n v D m x → (m * (
 as-fractions {v = v} a k = (omega (arith, mul-lt-mul-of-pos-right {k = v} (k .above) a), omega (arith, mul-lt-mul-of-pos-right {k = v} (k .below) a))
 
 -- One step of both fields. In the second no concentration is rounded.
-module _ (M : Mesh) (fluxes : List ℤ) (m o x p : List ℕ) (ok : Sound (inputWith M fluxes m o)) (sound : Sound (inputWith M fluxes x p))
+module _ (M : Mesh) (fluxes : List ℤ) (m o x p : List ℕ) (ok : Sound (roundedInput M m fluxes o)) (sound : Sound (roundedInput M x fluxes p))
     (D n : ℕ) (some : 1 ≤ D) (outside-in-parts : (f : ℕ) → getD p f 0 ≡ getD o f 0 * D)
-    (whole : (c : ℕ) → c < M .cells → concentration (inputWith M fluxes x p) c * volume M c ≡ getD x c 0)
+    (whole : (c : ℕ) → c < M .cells → concentration (roundedInput M x fluxes p) c * volume M c ≡ getD x c 0)
     (within : (c : ℕ) → c < M .cells → Within n (volume M c) D (getD m c 0) (getD x c 0)) where
   abbrev coarse : StepInput
-  coarse = inputWith M fluxes m o
+  coarse = roundedInput M m fluxes o
 
   abbrev fine : StepInput
-  fine = inputWith M fluxes x p
+  fine = roundedInput M x fluxes p
 
   near : (c : ℕ) → c < M .cells → Near D n (concentration coarse c) (concentration fine c)
-  unfolding concentration
   near c h = near-of n (volume M c) D (mass coarse c) (mass fine c) (concentration coarse c) (concentration fine c)
-      (ok .roomy c h) some (omega (arith, mul-div-le (mass coarse c) (volume M c))) (lt-div-mul-add (ok .roomy c h)) (whole c h) (within c h)
+      (ok .roomy c h) some (omega (arith, ok .salt-there c h)) (omega (arith, ok .rest-below c h)) (whole c h) (within c h)
 
   pub step-closer : (c : ℕ) → c < M .cells → Closer (suc n) (volume M c) D (low coarse c) (low fine c)
   step-closer c h =

@@ -6,13 +6,14 @@ use native.Mathlib.Nat.{dvd-mul-left-of-dvd, div-mul-cancel, one-le-mul}
 use native.Mathlib.Omega.{arith}
 use Rattle.lists.proofs.Tables.{getD-table}
 use Rattle.model.specs.Mesh.{Mesh, volume}
-use Rattle.model.specs.Step.{mass, concentration, low}
+use Rattle.model.specs.Step.{rounded, mass, concentration, low}
 use Rattle.model.specs.Causes.{Outcome, accepted, refused, taken, fine, Call, release, inputOf, verdict}
 use Rattle.model.specs.Calls.{massIn, Left, fieldAfter, plain, lentMasses, stepOnTables, afterAll, EachAccepted}
 use Rattle.model.specs.Accepted.{Sound}
 use Rattle.model.proofs.Raised.{raised-at}
 use Rattle.model.proofs.Low.{low-is}
 use Rattle.model.proofs.Accepted.{ready}
+use Rattle.model.proofs.Rounded.{rounded-there, rounded-rest}
 use Rattle.model.proofs.Lists.{plain-keeping, found-fine, left-mass, lent-same}
 use Rattle.plain.specs.Unrounded.{product, Fractions, wholeMasses, inParts, finer, unroundedInput, unroundedStep}
 use Rattle.plain.specs.Error.{acceptedOf, unroundedAfter, ErrorBelow, PlainCall, plainComes, PlainError}
@@ -24,7 +25,14 @@ use Rattle.plain.proofs.AnyParts.{same-low}
 sound-in-parts : (M : Mesh) (lent : List ℕ) (k : Call) → verdict M lent k ≡ fine → (D : ℕ) (y : List ℕ) → Sound (inputOf M y (inParts D k))
 sound-in-parts M lent k e D y =
     let s = ready M lent k e .sound in
-    record { joined = s .joined; roomy = s .roomy; level = s .level; courant = s .courant }
+    record {
+      joined = s .joined;
+      roomy = s .roomy;
+      salt-there = λ c h. rounded-there M _ c;
+      rest-below = λ c h. rounded-rest M _ c (s .roomy c h);
+      level = s .level;
+      courant = s .courant;
+    }
 
 module _ (M : Mesh) (k : Call) (x : Fractions) where
   abbrev cut : ℕ
@@ -35,7 +43,7 @@ module _ (M : Mesh) (k : Call) (x : Fractions) where
   mass-in-parts D y c h = rw (raised-at (M .cells) y (inParts D k .releases) c h, getD-times D (k .releases) c)
 
   nothing-rounded : (c : ℕ) → c < M .cells → concentration (unroundedInput M k x) c * volume M c ≡ mass (unroundedInput M k x) c
-  unfolding concentration finer
+  unfolding rounded finer
   nothing-rounded c h =
       let m : mass (unroundedInput M k x) c ≡ (massIn (x .tops) c + release k c * x .parts) * cut
       = omega (arith, mass-in-parts (finer M x .parts) (finer M x .tops) c h, getD-times cut (x .tops) c) in

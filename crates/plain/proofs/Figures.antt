@@ -7,7 +7,7 @@ use lib.ListN.{replicate}
 use Rattle.lists.specs.Fold.{sum}
 use Rattle.lists.specs.Table.{table, over}
 use Rattle.model.specs.Mesh.{Mesh, meshOf, rim, entering, leaving, incoming, outgoing, updated}
-use Rattle.model.specs.Step.{raised, releasedMass, inMass, outMass, concentration, beyond, upwind, carried, low}
+use Rattle.model.specs.Step.{raised, releasedMass, inMass, outMass, rounded, beyond, upwind, carried, low}
 use Rattle.model.specs.Causes.{Call, callOf, _andThen_, need, each, countsWithin, counts, meshTables, volumeGood, endsGood, spacingGood, meshValues, fieldTable, saltGood, fieldValues, raisedGood, raisedValues, stepTables, outsideGood, fluxGood, balanceGood, outflowGood, stepValues, verdict}
 use Rattle.model.specs.Calls.{nextTable, stepOnTables, afterAll}
 use Rattle.model.proofs.Figures.{channel, channelCall}
@@ -19,7 +19,7 @@ computed : Unit {0}
 unfolding afterAll acceptedOf unroundedAfter unroundedStep finer times product stepOnTables nextTable inMass outMass releasedMass over verdict
     counts countsWithin meshTables fieldTable stepTables meshValues fieldValues saltGood raised raisedGood raisedValues stepValues volumeGood
     endsGood spacingGood outsideGood fluxGood balanceGood outflowGood need each _andThen_ table sum entering leaving incoming outgoing updated
-    concentration beyond upwind carried low
+    rounded beyond upwind carried low
 computed = tt
 
 -- calls of a list, with 9 past the field in their tables of masses

@@ -5,7 +5,7 @@ use mathlib.Core.Path.{_≡_, ap}
 use mathlib.Core.Logic.{_≢_}
 use mathlib.Core.Bool.{Bool, true, false, cond}
 use mathlib.Core.List.{List}
-use native.Mathlib.Nat.{mul-le-mul-left, mul-le-mul-right, mul-div-le, lt-div-mul-add, add-sub-of-le}
+use native.Mathlib.Nat.{mul-le-mul-left, mul-le-mul-right, add-sub-of-le}
 use native.Mathlib.Omega.{arith}
 use lib.ListN.{getD}
 use lib.Dec.{eqb}
@@ -14,21 +14,17 @@ use Rattle.signed.specs.Sign.{isZero, isNegative}
 use Rattle.lists.proofs.Tests.{Same, other, same?}
 use Rattle.lists.proofs.Sums.{sum-mono, sum-add, sum-scale}
 use Rattle.model.specs.Mesh.{Mesh, volume, first, second, atRim, rim, entering, incoming, outgoing}
-use Rattle.model.specs.Step.{StepInput, flux, outside, mass, concentration, carried, low, adjacent}
+use Rattle.model.specs.Step.{StepInput, roundedInput, flux, outside, mass, concentration, carried, low, adjacent}
 use Rattle.model.specs.Accepted.{Sound}
 use Rattle.model.proofs.Low.{entering-carried, outgoing-carried, low-is}
-
--- what a step works on, part by part
-abbrev pub inputWith : Mesh → List ℤ → List ℕ → List ℕ → StepInput
-inputWith M fluxes masses outsides = record { mesh = M; masses = masses; fluxes = fluxes; outsides = outsides }
 
 -- what a cell meets at a face, in two fields on the same water: related by R as their cells and outside values are
 module _ (R : ℕ → ℕ → Type 0) (M : Mesh) (fluxes : List ℤ) (m o x p : List ℕ) where
   abbrev A : StepInput
-  A = inputWith M fluxes m o
+  A = roundedInput M m fluxes o
 
   abbrev B : StepInput
-  B = inputWith M fluxes x p
+  B = roundedInput M x fluxes p
 
   pub met-both : (c f : ℕ) → R (concentration A c) (concentration B c) → R (concentration A (first M f)) (concentration B (first M f))
       → R (getD o f 0) (getD p f 0) → (second M f ≢ rim → R (concentration A (second M f)) (concentration B (second M f)))
@@ -66,10 +62,10 @@ mean O R D n m q G low X r H fine a b near c d e g h i j = (
 
 module _ (M : Mesh) (fluxes : List ℤ) (m o x p : List ℕ) where
   abbrev coarse : StepInput
-  coarse = inputWith M fluxes m o
+  coarse = roundedInput M m fluxes o
 
   abbrev fine : StepInput
-  fine = inputWith M fluxes x p
+  fine = roundedInput M x fluxes p
 
   module _ (ok : Sound coarse) (sound : Sound fine) (D n : ℕ) (some : 1 ≤ D) (outside-in-parts : (f : ℕ) → getD p f 0 ≡ getD o f 0 * D)
       (near : (c : ℕ) → c < M .cells → Near D n (concentration coarse c) (concentration fine c)) where
@@ -116,13 +112,12 @@ module _ (M : Mesh) (fluxes : List ℤ) (m o x p : List ℕ) where
     -- one step adds less than one to the error
     pub mean-step : (c : ℕ) → c < M .cells → concentration fine c * volume M c ≡ mass fine c
         → (low coarse c * D < low fine c + suc n * (volume M c * D)) × (low fine c < low coarse c * D + suc n * (volume M c * D))
-    unfolding concentration
     mean-step c h whole =
         let v = add-sub-of-le (ok .courant c h) in
         rw v at
         (mean (outgoing M (flux coarse) c) (volume M c - outgoing M (flux coarse) c) D n
         (mass coarse c) (concentration coarse c) (incoming M (carried coarse) c) (low coarse c)
         (mass fine c) (concentration fine c) (incoming M (carried fine) c) (low fine c)
-        (rw v (ok .roomy c h)) some (near c h) (rw v (omega (arith, mul-div-le (mass coarse c) (volume M c)))) (rw v (lt-div-mul-add (ok .roomy c h)))
+        (rw v (ok .roomy c h)) some (near c h) (rw v (omega (arith, ok .salt-there c h))) (rw v (omega (arith, ok .rest-below c h)))
         (rw v whole) (rw (ok .level c h) at (incoming-above c h)) (rw (ok .level c h) at (incoming-below c h))
         (rw (outgoing-carried coarse ok c h) at (low-is coarse ok c h)) (rw (outgoing-carried fine sound c h) at (low-is fine sound c h)))

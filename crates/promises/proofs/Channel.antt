@@ -7,7 +7,7 @@ use lib.ListN.{take, replicate}
 use Rattle.lists.specs.Fold.{sum, least, greatest}
 use Rattle.lists.specs.Table.{table, over}
 use Rattle.model.specs.Mesh.{entering, leaving, incoming, outgoing, updated}
-use Rattle.model.specs.Step.{raised, releasedMass, inMass, outMass, next, moved, concentration, beyond, upwind, downwind, carried, low, upwindShare, correction, smooths, keptBy, lowConcentration, kept, adjacent, lo, hi, maxGain, maxLoss, receiver, giver, limitedBy, limited, portion}
+use Rattle.model.specs.Step.{raised, releasedMass, inMass, outMass, next, moved, rounded, beyond, upwind, downwind, carried, low, upwindShare, correction, smooths, keptBy, lowConcentration, kept, adjacent, lo, hi, maxGain, maxLoss, receiver, giver, limitedBy, limited, portion}
 use Rattle.model.specs.Causes.{accepted, fine, _andThen_, Call, need, each, countsWithin, counts, meshTables, volumeGood, endsGood, spacingGood, meshValues, fieldTable, saltGood, fieldValues, raisedGood, raisedValues, meshFieldVerdict, stepTables, outsideGood, fluxGood, balanceGood, outflowGood, stepValues, verdict, callOf}
 use Rattle.model.specs.Calls.{lentMasses, crossingOf, corrected, stepOnTables, nextTable, afterAll, totalIn}
 use Rattle.model.proofs.Figures.{channel}
@@ -28,7 +28,7 @@ figures : Unit {0}
 unfolding stepOnTables nextTable inMass outMass over verdict counts countsWithin meshTables fieldTable stepTables meshValues fieldValues saltGood raised releasedMass
     raisedGood raisedValues stepValues volumeGood
     endsGood spacingGood outsideGood fluxGood balanceGood outflowGood need each _andThen_ table sum least greatest entering leaving incoming outgoing updated next moved
-    concentration beyond upwind downwind carried low upwindShare correction smooths keptBy lowConcentration kept adjacent lo hi maxGain
+    rounded beyond upwind downwind carried low upwindShare correction smooths keptBy lowConcentration kept adjacent lo hi maxGain
     maxLoss receiver giver limitedBy limited portion bitAt bitsAt spelled
     bitsOf widthOf bytesFor octet packed rows those row fieldsOf recordOf releaseBits meshRecord fieldRecord meshLength fieldLength stepLength volumesIn firstsIn secondsIn sharesIn reachesIn massesIn
     fluxesIn outsidesIn releasesIn zeroBitGood minusZero meshBitGood stepBitGood meshHeadVerdict fieldHeadVerdict stepHeadVerdict meshBodyVerdict fieldBodyVerdict stepBodyVerdict

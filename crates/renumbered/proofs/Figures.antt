@@ -10,7 +10,7 @@ use Rattle.lists.specs.Fold.{sum, least, greatest}
 use Rattle.lists.specs.Table.{table, over}
 use Rattle.lists.specs.Renumbering.{Renumbering, carriedAlong}
 use Rattle.model.specs.Mesh.{Mesh, rim, entering, leaving, incoming, outgoing, updated}
-use Rattle.model.specs.Step.{raised, concentration, beyond, upwind, downwind, carried, low, upwindShare, correction, smooths, keptBy, lowConcentration, kept, adjacent, lo, hi, maxGain, maxLoss, receiver, giver, limitedBy, limited, portion, moved, next}
+use Rattle.model.specs.Step.{raised, rounded, beyond, upwind, downwind, carried, low, upwindShare, correction, smooths, keptBy, lowConcentration, kept, adjacent, lo, hi, maxGain, maxLoss, receiver, giver, limitedBy, limited, portion, moved, next}
 use Rattle.model.specs.Causes.{Call, inputOf}
 use Rattle.model.proofs.Figures.{channel, channelCall}
 use Rattle.renumbered.specs.Renumbered.{renumberedMesh, renumberedField, renumberedCall}
@@ -50,7 +50,7 @@ abbrev call : Call
 call = renumberedCall channel from-the-end faces-too turned channelCall (channelCall .nexts) (channelCall .moveds) (channelCall .work)
 
 everything : Unit {0}
-unfolding carriedAlong table over sum least greatest entering leaving incoming outgoing updated raised concentration beyond upwind downwind carried low
+unfolding carriedAlong table over sum least greatest entering leaving incoming outgoing updated raised rounded beyond upwind downwind carried low
     upwindShare correction smooths keptBy lowConcentration kept adjacent lo hi maxGain maxLoss receiver giver limitedBy limited portion moved next
 everything = tt
 
