@@ -2,7 +2,7 @@
 -- within the run's limits; so of the verdict on it only the values are left.
 use Prim.Native.Nat.{ℕ, _≤_}
 use mathlib.Core.Path.{_≡_, refl, sym, ap, _∙_}
-use mathlib.Core.List.{List}
+use mathlib.Core.List.{List, [], _∷_}
 use native.Mathlib.Omega.{arith}
 use borrow.Author.Tests.{leb-true, le-leb}
 use lib.Dec.{leb}
@@ -14,7 +14,7 @@ use Rattle.model.specs.Mesh.{Mesh, meshOf, runCells, runFaces, maxCells, maxFac
 use Rattle.model.specs.Causes.{accepted, refused, Verdict, fine, _andThen_, countsWithin, counts, meshTables, meshValues, meshVerdict}
 use Rattle.model.specs.Answers.{number}
 use Rattle.model.specs.declared.Refusal.{Refusal}
-use Rattle.model.proofs.Verdicts.{both-fine, past, out, refused-of, accepted-of, need-fine, need-met}
+use Rattle.model.proofs.Verdicts.{refused-at, both-fine, past, out, refused-of, accepted-of, need-fine, need-met}
 use Rattle.model.proofs.Accepted.{mesh-lent}
 use Rattle.heads.specs.Heads.{cellsIn, facesIn, meshHeadVerdict}
 use Rattle.reading.specs.Reading.{volumesIn, firstsIn, secondsIn, sharesIn, reachesIn, countsIn, meshIn, meshRead}
@@ -126,7 +126,7 @@ module _ {bs volumes firsts seconds shares reaches : List ℕ} {a : MeshAnswer} 
   pub mesh-unread : {r : Refusal} → a ≡ mesh-answer.Refused r → (v f s w k : List ℕ) → MeshTaking bs v f s w k a v f s w k
   unfolding meshJudged
   mesh-unread {r = r} d v f s w k =
-      kept-refused (meshIn bs) v f s w k a _ _ (out _ (out _ (refused-of (meshRecordFound bs) (countsIn bs) (number (r .cause)) (r .place) (sym (ap meshSaid d) ∙ read-said)))) (ap meshSaid d)
+      kept-refused (meshIn bs) v f s w k a _ _ (refused-at [] (_ ∷ _ ∷ []) tt (refused-of (meshRecordFound bs) (countsIn bs) (number (r .cause)) (r .place) (sym (ap meshSaid d) ∙ read-said))) (ap meshSaid d)
 
   pub mesh-read : {n : MeshCounts} → a ≡ mesh-answer.Read n → MeshIsRead bs n volumes′ firsts′ seconds′ shares′ reaches′
   unfolding volumesIn firstsIn secondsIn sharesIn reachesIn

@@ -4,7 +4,7 @@ use mathlib.Core.Path.{_≡_, refl, sym, ap, _∙_}
 use mathlib.Core.Bool.{Bool, true, false}
 use native.Mathlib.Numerals.{add-one}
 use native.Mathlib.Omega.{arith}
-use mathlib.Core.List.{List, [], _∷_}
+use mathlib.Core.List.{List, [], _∷_, _++_}
 use borrow.Author.Tests.{leb-true}
 use lib.Dec.{eqb, leb}
 use Rattle.lists.proofs.Tests.{Same, same, other, same?}
@@ -48,6 +48,27 @@ first-fine v (w ∷ ws) e = let p = first-fine (v andThen w) ws e in let q = bot
 pub all-fine : (vs : List Verdict) → inTurn vs ≡ fine → AllFine vs
 all-fine [] e = tt
 all-fine (v ∷ vs) e = first-fine v vs e
+
+fine-first : (v : Verdict) (vs : List Verdict) → v ≡ fine → AllFine vs → firstOf v vs ≡ fine
+fine-first v [] e a = e
+fine-first v (w ∷ ws) e a = fine-first (v andThen w) ws (past w e ∙ a .0) (a .1)
+
+pub fine-all : (vs : List Verdict) → AllFine vs → inTurn vs ≡ fine
+fine-all [] a = refl
+fine-all (v ∷ vs) a = fine-first v vs (a .0) (a .1)
+
+-- the first of a list that refuses: those before it are fine, whatever those after it find
+out-first : (v : Verdict) {k i : ℕ} (ws : List Verdict) → v ≡ refused k i → firstOf v ws ≡ refused k i
+out-first v [] e = e
+out-first v (w ∷ ws) e = out-first (v andThen w) ws (out w e)
+
+out-later : (u : Verdict) (us : List Verdict) {v : Verdict} {k i : ℕ} (ws : List Verdict) → u ≡ fine → AllFine us → v ≡ refused k i → firstOf u (us ++ (v ∷ ws)) ≡ refused k i
+out-later u [] {v = v} ws e a q = out-first (u andThen v) ws (past v e ∙ q)
+out-later u (w ∷ us) ws e a q = out-later (u andThen w) us ws (past w e ∙ a .0) (a .1) q
+
+pub refused-at : (us : List Verdict) {v : Verdict} {k i : ℕ} (ws : List Verdict) → AllFine us → v ≡ refused k i → inTurn (us ++ (v ∷ ws)) ≡ refused k i
+refused-at [] ws a q = out-first _ ws q
+refused-at (u ∷ us) ws a q = out-later u us ws (a .0) (a .1) q
 
 -- what a call that gives x has found, by its answer
 pub refused-of : {A : Type 0} (v : Verdict) (x : A) (k i : ℕ) → refused k i ≡ (v andThen accepted x) → v ≡ refused k i

@@ -14,7 +14,7 @@ use Rattle.model.specs.Mesh.{maxCells, maxVolume, maxConcentration}
 use Rattle.model.specs.Causes.{Verdict, refused, fine, _andThen_, inTurn, long, need, cellsOnly, counts, meshTables, fieldTable, meshFieldVerdict}
 use Rattle.model.specs.Accepted.{maxMass}
 use Rattle.model.specs.Calls.{massIn}
-use Rattle.model.proofs.Verdicts.{both-fine, need-fine, long-fine, past, out, andThen-assoc}
+use Rattle.model.proofs.Verdicts.{refused-at, both-fine, need-fine, long-fine, past, andThen-assoc}
 use Rattle.model.proofs.Accepted.{field-passed, FieldPassed, few, salt-asks, field-fit, mass-small}
 use Rattle.checks.proofs.Laws.{sum-asks}
 use Rattle.text.specs.Digits.{mostDigits}
@@ -105,7 +105,7 @@ module _ (volumes masses : List ℕ) (cells : ℕ) where
   pub judged-out : (page room : ℕ) {k i : ℕ} → (counts (cellsOnly cells volumes) andThen meshTables (cellsOnly cells volumes) andThen fieldTable (cellsOnly cells volumes) masses) ≡ refused k i
       → pageVerdict volumes masses cells page room ≡ refused k i
   unfolding pageVerdict
-  judged-out page room e = out _ (out _ (out _ (out _ e)))
+  judged-out page room e = refused-at [] (_ ∷ _ ∷ _ ∷ _ ∷ []) tt e
 
   pub judged-on : (page room : ℕ) → (counts (cellsOnly cells volumes) andThen meshTables (cellsOnly cells volumes) andThen fieldTable (cellsOnly cells volumes) masses) ≡ fine
       → pageVerdict volumes masses cells page room

@@ -10,7 +10,7 @@ use Rattle.model.specs.Causes.{Outcome, accepted, refused, Verdict, fine, _andT
 use Rattle.model.specs.Answers.{told}
 use Rattle.model.specs.declared.Answer.the-variants as call
 use Rattle.model.specs.declared.Refusal.{Refusal}
-use Rattle.model.proofs.Verdicts.{past, both-fine, need-fine}
+use Rattle.model.proofs.Verdicts.{both-fine, need-fine}
 use Rattle.bits.specs.Layout.{bytesFor}
 use Rattle.heads.specs.Layouts.{kindNumber, meshBits, fieldBits, stepBits, meshLength, fieldLength, stepLength}
 use Rattle.heads.specs.Heads.{kindIn, cellsIn, facesIn, hasLength, meshHeadVerdict, stepHeadVerdict}
@@ -22,13 +22,6 @@ use Rattle.bodies.specs.Bodies.{MeshFilled, StepFilled}
 use Rattle.reading.specs.declared.MeshCounts.{MeshCounts}
 use Rattle.reading.specs.declared.MeshAnswer.the-variants as mesh
 use Rattle.reading.specs.declared.StepRead.the-variants as step
-
--- the second of two tests refuses, or both pass
-pub second-out : {u v : Verdict} {k i : ℕ} → u ≡ fine → v ≡ refused k i → (u andThen v) ≡ refused k i
-second-out e q = past _ e ∙ q
-
-pub both-past : {u v : Verdict} → u ≡ fine → v ≡ fine → (u andThen v) ≡ fine
-both-past e q = past _ e ∙ q
 
 -- what a record that passed its length and its tables says
 pub record MeshTablesSay (bs : List ℕ) (volumes firsts seconds shares reaches : ℕ) : Type 0 where

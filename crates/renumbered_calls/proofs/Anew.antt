@@ -2,7 +2,7 @@
 use Prim.Native.Nat.{ℕ, zero, suc, _^_, _≤_, _<_, min}
 use mathlib.Core.Path.{_≡_, refl, sym, ap, _∙_}
 use mathlib.Core.Bool.{Bool, true, false, cond}
-use mathlib.Core.List.{List}
+use mathlib.Core.List.{List, [], _∷_}
 use native.Mathlib.Omega.{arith}
 use lib.IntN.{pos}
 use lib.ListN.{length, getD}
@@ -16,7 +16,7 @@ use Rattle.signed.proofs.Turns.{size-turn}
 use Rattle.model.specs.Mesh.{Mesh, atRim, runCells, runFaces, maxCells, maxFaces}
 use Rattle.model.specs.Causes.{fine, _andThen_, long, countsWithin, counts, meshValues, meshVerdict, Call, release}
 use Rattle.model.specs.Calls.{massIn}
-use Rattle.model.proofs.Verdicts.{both-fine}
+use Rattle.model.proofs.Verdicts.{both-fine, fine-all}
 use Rattle.model.proofs.Accepted.{counted, mesh-fit}
 use Rattle.model.proofs.AlikeFaces.{rim-same}
 use Rattle.model.proofs.AlikeStages.{joined}
@@ -28,7 +28,6 @@ use Rattle.heads.specs.Layouts.{kindBits, massBits, sizeBits, outsideBits, rele
 use Rattle.heads.specs.Heads.{kindIn, cellsIn, facesIn, meshHeadVerdict}
 use Rattle.heads.proofs.HeadLaws.{step-head-says}
 use Rattle.reading.specs.Reading.{meshIn, massesIn, fluxesIn, outsidesIn, releasesIn, minusIn, sizeIn, outsidePlace, meshRead, fieldRead, stepRead}
-use Rattle.reading.proofs.ReadLaws.{both-past}
 use Rattle.writing.proofs.WidthLaws.{field-fits}
 use Rattle.writing.proofs.Accepting.{field-reads, step-reads}
 use Rattle.writing.proofs.Back.{field-kind-back, field-cells-back, field-record-length, masses-back, step-kind-back, step-faces-back, step-record-length, step-bits-good, fluxes-back, outsides-back, releases-back}
@@ -107,7 +106,7 @@ module _ (mesh : List ℕ) (cell : Renumbering (cellsIn mesh)) (face : Renumberi
 
   mesh-judged : meshJudged (meshAnew mesh cell face turns) runCells runFaces runFaces runFaces runFaces ≡ fine
   unfolding meshJudged
-  mesh-judged = both-past (both-past mesh-found room) (ap meshValues mesh-held ∙ passes)
+  mesh-judged = fine-all (_ ∷ _ ∷ _ ∷ []) (mesh-found, (room, (ap meshValues mesh-held ∙ passes, tt)))
     where
       room : (long 0 (cellsIn (meshAnew mesh cell face turns)) runCells andThen long 1 (facesIn (meshAnew mesh cell face turns)) runFaces
           andThen long 2 (facesIn (meshAnew mesh cell face turns)) runFaces andThen long 3 (facesIn (meshAnew mesh cell face turns)) runFaces

@@ -2,14 +2,14 @@
 use Prim.Native.Nat.{ℕ, _*_, _≤_, _<_, min}
 use mathlib.Core.Path.{_≡_, refl}
 use mathlib.Core.Bool.{true, not, _&&_}
-use mathlib.Core.List.{List}
+use mathlib.Core.List.{List, [], _∷_}
 use native.Mathlib.Omega.{arith}
 use lib.ListN.{length}
 use borrow.Author.Tests.{eq-eqb, le-leb}
 use Rattle.lists.proofs.Tests.{both-true}
 use Rattle.model.specs.Mesh.{maxCells, maxFaces}
 use Rattle.model.specs.Causes.{accepted, fine, countsWithin}
-use Rattle.model.proofs.Verdicts.{need-met, fine-each, each-fine, both-fine, past}
+use Rattle.model.proofs.Verdicts.{need-met, fine-each, each-fine, both-fine, past, fine-all}
 use Rattle.bits.specs.Layout.{bytesFor}
 use Rattle.heads.specs.Layouts.{meshKind, fieldKind, meshZeroBits, stepZeroBits, meshHeadBits, stepHeadBits, meshBits, fieldBits, stepBits, meshLength, fieldLength, stepLength}
 use Rattle.heads.specs.Heads.{kindIn, cellsIn, facesIn, stepFacesIn, isStepKind, meshHeadVerdict, fieldHeadVerdict, stepHeadVerdict}
@@ -17,7 +17,7 @@ use Rattle.heads.proofs.HeadLaws.{field-head-says}
 use Rattle.zeros.specs.Zeros.{zeroBitGood, minusZero}
 use Rattle.reading.specs.Reading.{countsIn, meshBitGood, stepBitGood, meshBodyVerdict, fieldBodyVerdict, stepBodyVerdict, meshRead, fieldRead, stepRead}
 use Rattle.reading.specs.declared.MeshCounts.{MeshCounts}
-use Rattle.reading.proofs.ReadLaws.{both-past, mesh-tables-say, field-tables-say, step-tables-say, read-says, step-read-says}
+use Rattle.reading.proofs.ReadLaws.{mesh-tables-say, field-tables-say, step-tables-say, read-says, step-read-says}
 
 module _ (bs : List ℕ) where
   pub mesh-reads : (mostCells mostFaces v f s w k : ℕ) → kindIn bs ≡ meshKind
@@ -27,16 +27,24 @@ module _ (bs : List ℕ) where
   unfolding meshRead meshHeadVerdict meshBodyVerdict meshLength meshBitGood bytesFor
   mesh-reads mostCells mostFaces v f s w k kind within len lv lf ls lw lk good =
       past _
-      (both-past (both-past (both-past (need-met 11 0 (le-leb 4 (length bs) (omega (arith, len)))) (need-met 13 0 (eq-eqb _ _ kind))) within)
-      (both-past (both-past (both-past (both-past (both-past (both-past (need-met 11 0 (eq-eqb _ _ len)) (need-met 2 0 (le-leb _ _ lv))) (need-met 2 1 (le-leb _ _ lf))) (need-met 2 2 (le-leb _ _ ls)))
-      (need-met 2 3 (le-leb _ _ lw))) (need-met 2 4 (le-leb _ _ lk))) (fine-each 12 _ _ (λ i l. good i))))
+      (fine-all (_ ∷ _ ∷ []) (
+        fine-all (_ ∷ _ ∷ _ ∷ []) (need-met 11 0 (le-leb 4 (length bs) (omega (arith, len))), (need-met 13 0 (eq-eqb _ _ kind), (within, tt))),
+        (
+          fine-all (_ ∷ _ ∷ _ ∷ _ ∷ _ ∷ _ ∷ _ ∷ [])
+              (need-met 11 0 (eq-eqb _ _ len), (need-met 2 0 (le-leb _ _ lv), (need-met 2 1 (le-leb _ _ lf), (need-met 2 2 (le-leb _ _ ls), (need-met 2 3 (le-leb _ _ lw), (need-met 2 4 (le-leb _ _ lk), (fine-each 12 _ _ (λ i l. good i), tt))))))),
+          tt,
+        ),
+      ))
 
   pub field-reads : (cells m : ℕ) → kindIn bs ≡ fieldKind → cellsIn bs ≡ cells → 1 ≤ cells → cells ≤ maxCells → length bs ≡ bytesFor (fieldBits cells) → cells ≤ m → fieldRead cells bs m ≡ fine
   unfolding fieldRead fieldHeadVerdict fieldBodyVerdict fieldLength bytesFor
   field-reads cells m kind c some few len lm =
       rw (kind, c)
-      (both-past (both-past (both-past (both-past (need-met 11 0 (le-leb 2 (length bs) (omega (arith, len)))) (need-met 13 0 refl)) (need-met 13 1 (eq-eqb cells cells refl)))
-      (need-met 1 0 (rw (le-leb 1 cells some) (le-leb cells maxCells few)))) (both-past (need-met 11 0 (eq-eqb _ _ len)) (need-met 2 5 (le-leb _ _ lm))))
+      (fine-all (_ ∷ _ ∷ []) (
+        fine-all (_ ∷ _ ∷ _ ∷ _ ∷ [])
+            (need-met 11 0 (le-leb 2 (length bs) (omega (arith, len))), (need-met 13 0 refl, (need-met 13 1 (eq-eqb cells cells refl), (need-met 1 0 (rw (le-leb 1 cells some) (le-leb cells maxCells few)), tt)))),
+        (fine-all (_ ∷ _ ∷ []) (need-met 11 0 (eq-eqb _ _ len), (need-met 2 5 (le-leb _ _ lm), tt)), tt),
+      ))
 
   pub step-reads : (cells faces : ℕ) (seconds : List ℕ) (u x y : ℕ) → isStepKind (kindIn bs) ≡ true → stepFacesIn bs ≡ faces
       → countsWithin maxCells maxFaces cells faces ≡ fine → faces ≤ length seconds → length bs ≡ bytesFor (stepBits (kindIn bs) cells faces seconds)
@@ -46,11 +54,15 @@ module _ (bs : List ℕ) where
   unfolding stepRead stepHeadVerdict stepBodyVerdict stepLength stepBitGood bytesFor
   step-reads cells faces seconds u x y kind n within lent len lu lx ly good =
       past _
-      (both-past
-      (both-past (both-past (both-past (both-past (need-met 11 0 (le-leb 4 (length bs) (omega (arith, len)))) (need-met 13 0 kind))
-      (need-met 13 1 (eq-eqb _ _ n))) within) (need-met 2 2 (le-leb _ _ lent)))
-      (both-past (both-past (both-past (both-past (need-met 11 0 (eq-eqb _ _ len)) (need-met 2 6 (le-leb _ _ lu))) (need-met 2 7 (le-leb _ _ lx)))
-      (need-met 2 14 (le-leb _ _ ly))) (fine-each 12 _ _ (λ i l. good i))))
+      (fine-all (_ ∷ _ ∷ []) (
+        fine-all (_ ∷ _ ∷ _ ∷ _ ∷ _ ∷ [])
+            (need-met 11 0 (le-leb 4 (length bs) (omega (arith, len))), (need-met 13 0 kind, (need-met 13 1 (eq-eqb _ _ n), (within, (need-met 2 2 (le-leb _ _ lent), tt))))),
+        (
+          fine-all (_ ∷ _ ∷ _ ∷ _ ∷ _ ∷ [])
+              (need-met 11 0 (eq-eqb _ _ len), (need-met 2 6 (le-leb _ _ lu), (need-met 2 7 (le-leb _ _ lx), (need-met 2 14 (le-leb _ _ ly), (fine-each 12 _ _ (λ i l. good i), tt))))),
+          tt,
+        ),
+      ))
 
 -- an accepted mesh
 pub record MeshPassed (bs : List ℕ) (n : MeshCounts) : Type 0 where

@@ -1,15 +1,16 @@
 -- Lengths, then the mesh, then the field: each part that is fine is passed, and the first that refuses is the answer.
 use mathlib.Core.Path.{sym, _∙_}
+use mathlib.Core.List.{[], _∷_}
 use borrow.Author.Needs.{needs}
 use Rattle.model.specs.Causes.{meshFieldVerdict, fieldValues, saltGood}
-use Rattle.model.proofs.Verdicts.{both-fine, past, out, refuses, passes}
+use Rattle.model.proofs.Verdicts.{refused-at, both-fine, past, refuses, passes}
 use Rattle.model.proofs.Accepted.{mesh-long, salt-asks}
 use Rattle.checks.proofs.check_field.Statement.{statement}
 use Rattle.checks.proofs.check_field.Tie as tie
 
 returns : tie.Need-returns
 unfolding meshFieldVerdict
-returns c = sym (out _ (out _ (refuses (c .before .before .before .field-lent .ensures) (c .before .a .given .1))))
+returns c = sym (refused-at [] (_ ∷ _ ∷ []) tt (refuses (c .before .before .before .field-lent .ensures) (c .before .a .given .1)))
 
 values-requires : tie.Need-values-requires
 values-requires c κs = mesh-long _ (both-fine _ _ (passes (c .before .before .field-lent .ensures) (c .enum-told .given .1)) .0)
@@ -18,7 +19,7 @@ returns-2 : tie.Need-returns-2
 unfolding meshFieldVerdict
 returns-2 c =
     let lent = passes (c .before .before .before .before .before .before .field-lent .ensures) (c .before .before .before .before .enum-told .given .1) in
-    sym (out _ (past _ lent ∙ refuses (c .before .before .before .values .ensures) (c .before .b .given .1)))
+    sym (refused-at (_ ∷ []) (_ ∷ []) (lent, tt) (refuses (c .before .before .before .values .ensures) (c .before .b .given .1)))
 
 values-requires-2 : tie.Need-values-requires-2
 values-requires-2 c κs =

@@ -1,8 +1,9 @@
 -- The lengths, then the values: each part that is fine is passed, and the first that refuses is the answer.
 use mathlib.Core.Path.{sym, _∙_}
+use mathlib.Core.List.{[], _∷_}
 use borrow.Author.Needs.{needs}
 use Rattle.model.specs.Causes.{callOf, stepTables}
-use Rattle.model.proofs.Verdicts.{past, out, refuses, passes}
+use Rattle.model.proofs.Verdicts.{refused-at, past, refuses, passes}
 use Rattle.model.proofs.Accepted.{few}
 use Rattle.checks.proofs.Laws.{lengths-first, step-lent}
 use Rattle.checks.proofs.check_step.Statement.{statement}
@@ -16,7 +17,7 @@ abbrev start : tie.After-shared-slice-known10 → tie.Start
 start c = half (c .before .before .before .before .before)
 
 returns : tie.Need-returns
-returns c = sym (lengths-first _ _ _ ∙ out _ (out _ (refuses (c .before .before .before .field-lent .ensures) (c .before .a .given .1))))
+returns c = sym (lengths-first _ _ _ ∙ refused-at [] (_ ∷ _ ∷ []) tt (refuses (c .before .before .before .field-lent .ensures) (c .before .a .given .1)))
 
 step-lent-requires : tie.Need-step-lent-requires
 step-lent-requires c κs = few _ _ (passes (c .before .before .field-lent .ensures) (c .enum-told .given .1))
@@ -26,7 +27,7 @@ unfolding stepTables
 returns-2 c =
     let tested = c .before .before .before in
     let lent = passes (tested .before .before .before .field-lent .ensures) (tested .before .enum-told .given .1) in
-    sym (lengths-first _ _ _ ∙ out _ (past _ lent ∙ refuses (tested .step-lent .ensures) (c .before .b .given .1)))
+    sym (lengths-first _ _ _ ∙ refused-at (_ ∷ []) (_ ∷ []) (lent, tt) (refuses (tested .step-lent .ensures) (c .before .b .given .1)))
 
 step-values-requires : tie.Need-step-values-requires
 unfolding stepTables

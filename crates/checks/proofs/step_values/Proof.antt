@@ -1,9 +1,10 @@
 -- As `check_step`, of the causes of values: each group asks for what those before it have found.
 use mathlib.Core.Path.{sym, _∙_}
+use mathlib.Core.List.{[], _∷_}
 use borrow.Author.Needs.{needs}
 use Rattle.model.specs.Mesh.{incoming, outgoing, entering, leaving}
 use Rattle.model.specs.Causes.{fieldValues, saltGood, raisedValues, raisedGood, outsideGood, fluxGood, balanceGood, outflowGood}
-use Rattle.model.proofs.Verdicts.{past, out, refuses, passes, both-are}
+use Rattle.model.proofs.Verdicts.{refused-at, past, refuses, passes, both-are}
 use Rattle.checks.proofs.Laws.{in-groups, shape-asks, water-asks, field-asks, raised-asks, flows-ask}
 use Rattle.checks.proofs.step_values.Statement.{statement}
 use Rattle.checks.proofs.step_values.Tie as tie
@@ -23,7 +24,7 @@ values-requires : tie.Need-values-requires
 values-requires c κs = shape-asks _ _ _ (c .before .before .before .before .before .before .before .before .pre)
 
 returns : tie.Need-returns
-returns c = sym (in-groups _ _ _ ∙ out _ (out _ (refuses (c .before .before .before .values .ensures) (c .before .a .given .1))))
+returns c = sym (in-groups _ _ _ ∙ refused-at [] (_ ∷ _ ∷ []) tt (refuses (c .before .before .before .values .ensures) (c .before .a .given .1)))
 
 values-requires-2 : tie.Need-values-requires-2
 values-requires-2 c κs = field-asks _ _ _ (start (meshed c) .pre) (passes (meshed c .values .ensures) (c .enum-told .given .1))
@@ -43,7 +44,7 @@ returns-2 c =
     let mesh = passes (meshed (shaped tested) .values .ensures) (shaped tested .enum-told .given .1) in
     let salt = both-are (tested .before .before .and-then .ensures) (tested .before .before .before .before .values2 .ensures) (tested .before .before .before .values3 .ensures) in
     let water = both-are (tested .and-then2 .ensures) salt (tested .before .values4 .ensures) in
-    sym (in-groups _ _ _ ∙ out _ (past _ mesh ∙ refuses water (c .before .b .given .1)))
+    sym (in-groups _ _ _ ∙ refused-at (_ ∷ []) (_ ∷ []) (mesh, tt) (refuses water (c .before .b .given .1)))
 
 values-requires-5 : tie.Need-values-requires-5
 unfolding fieldValues saltGood raisedValues raisedGood outsideGood fluxGood

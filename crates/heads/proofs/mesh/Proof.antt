@@ -1,9 +1,10 @@
 -- A record as long as its head lets the head's fields be read; the tests after that are in the order of the causes.
 use mathlib.Core.Path.{sym}
+use mathlib.Core.List.{[], _∷_}
 use native.Mathlib.Omega.{arith}
 use borrow.Author.Needs.{needs}
 use Rattle.model.specs.Causes.{_andThen_}
-use Rattle.model.proofs.Verdicts.{out, refuses, passes}
+use Rattle.model.proofs.Verdicts.{refused-at, refuses, passes}
 use Rattle.bits.specs.Layout.{bytesFor}
 use Rattle.heads.specs.Heads.{meshHeadVerdict}
 use Rattle.heads.proofs.HeadLaws.{head-holds}
@@ -12,7 +13,7 @@ use Rattle.heads.proofs.mesh.Tie as tie
 
 returns : tie.Need-returns
 unfolding meshHeadVerdict bytesFor
-returns c = sym (out _ (out _ (refuses (c .before .before .before .need .ensures) (c .before .a .given .1))))
+returns c = sym (refused-at [] (_ ∷ _ ∷ []) tt (refuses (c .before .before .before .need .ensures) (c .before .a .given .1)))
 
 kind-requires : tie.Need-kind-requires
 kind-requires c κs = head-holds 4 (omega arith) (c .before .before .need .ensures) (c .enum-told .given .1)

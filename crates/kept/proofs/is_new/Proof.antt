@@ -1,9 +1,10 @@
 -- The count first, for without it no field is read; then the name and the room.
 use mathlib.Core.Path.{sym, ap, _∙_}
+use mathlib.Core.List.{[], _∷_}
 use native.Mathlib.Omega.{arith}
 use mathlib.Core.Bool.{Bool, _&&_}
 use Rattle.model.specs.Causes.{need}
-use Rattle.model.proofs.Verdicts.{both-are, andThen-assoc, past, out, refuses, passes}
+use Rattle.model.proofs.Verdicts.{refused-at, both-are, andThen-assoc, past, refuses, passes}
 use Rattle.kept.specs.Tests.{nameFits, countGood, nameNew, roomLeft}
 use Rattle.kept.proofs.Judged.{count-counted, new-test, room-test}
 use borrow.Author.Needs.{needs}
@@ -14,7 +15,7 @@ returns : tie.Need-returns
 unfolding countGood
 returns c =
     let good = c .before .before .before .need .ensures ∙ ap (need 13 1) (c .before .before .before .before .count-fits .ensures) in
-    sym (out _ (out _ (refuses good (c .before .a .given .1))))
+    sym (refused-at [] (_ ∷ _ ∷ []) tt (refuses good (c .before .a .given .1)))
 
 used-requires : tie.Need-used-requires
 unfolding countGood

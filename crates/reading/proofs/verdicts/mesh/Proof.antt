@@ -1,11 +1,11 @@
 -- A head that passed says how many cells and faces there are, and that they are within the limits; the body's tests ask no more.
 use mathlib.Core.Path.{sym}
+use mathlib.Core.List.{[], _∷_}
 use native.Mathlib.Omega.{arith}
 use borrow.Author.Needs.{needs}
-use Rattle.model.proofs.Verdicts.{out, past, refuses, passes}
+use Rattle.model.proofs.Verdicts.{out, past, fine-all, refused-at, refuses, passes}
 use Rattle.heads.proofs.HeadLaws.{mesh-head-says}
 use Rattle.reading.specs.Reading.{meshRead}
-use Rattle.reading.proofs.ReadLaws.{second-out, both-past}
 use Rattle.reading.proofs.verdicts.mesh.Statement.{statement}
 use Rattle.reading.proofs.verdicts.mesh.Tie as tie
 
@@ -14,7 +14,7 @@ unfolding meshRead
 returns c =
     let p1 = c .before in
     let p2 = p1 .before .before in
-    sym (out _ (out _ (refuses (p2 .mesh .ensures) (p1 .a .given .1))))
+    sym (out _ (refused-at [] (_ ∷ []) tt (refuses (p2 .mesh .ensures) (p1 .a .given .1))))
 
 cells-requires : tie.Need-cells-requires
 cells-requires c κs =
@@ -42,7 +42,7 @@ returns-2 c =
     let p2 = p1 .before .before in
     let p3 = p2 .before .before .before in
     let p4 = p3 .before .before in
-    sym (out _ (second-out (passes (p4 .mesh .ensures) (p3 .enum-told .given .1)) (refuses (p2 .mesh-body .ensures) (p1 .b .given .1))))
+    sym (out _ (refused-at (_ ∷ []) [] (passes (p4 .mesh .ensures) (p3 .enum-told .given .1), tt) (refuses (p2 .mesh-body .ensures) (p1 .b .given .1))))
 
 returns-3 : tie.Need-returns-3
 unfolding meshRead
@@ -52,7 +52,7 @@ returns-3 c =
     let p3 = p2 .before in
     let p4 = p3 .before in
     let p5 = p4 .before .before in
-    rw (p3 .cells .ensures, p2 .faces .ensures) (sym (past _ (both-past (passes (p5 .mesh .ensures) (p4 .enum-told .given .1)) (passes (p1 .mesh-body .ensures) (c .enum-told2 .given .1)))))
+    rw (p3 .cells .ensures, p2 .faces .ensures) (sym (past _ (fine-all (_ ∷ _ ∷ []) (passes (p5 .mesh .ensures) (p4 .enum-told .given .1), (passes (p1 .mesh-body .ensures) (c .enum-told2 .given .1), tt)))))
 
 pub mesh-spec : {M : Type 1} → statement M
 mesh-spec = tie.close (tie.spec (search needs) (search needs) returns (search needs) cells-requires faces-requires mesh-body-requires (search needs) returns-2 (search needs) returns-3)

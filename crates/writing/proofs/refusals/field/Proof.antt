@@ -1,10 +1,11 @@
 -- As for a mesh, and then the salt: the volumes that passed are what its test divides by.
 use mathlib.Core.Path.{_≡_, sym, _∙_}
+use mathlib.Core.List.{[], _∷_}
 use borrow.Author.Needs.{needs}
 use Rattle.model.specs.Mesh.{Mesh, meshOf}
 use Rattle.model.specs.Answers.{said}
 use Rattle.model.specs.Causes.{fine, _andThen_, bytesLong, counts, meshTables, meshValues, fieldTable, fieldValues, saltGood}
-use Rattle.model.proofs.Verdicts.{both-fine, past, out, both-are, refuses, passes}
+use Rattle.model.proofs.Verdicts.{refused-at, both-fine, past, out, both-are, refuses, passes}
 use Rattle.model.proofs.Accepted.{few, mesh-long, salt-asks}
 use Rattle.heads.specs.Layouts.{fieldLength}
 use Rattle.writing.specs.Writing.{fieldWriteVerdict}
@@ -32,7 +33,7 @@ fit c =
 
 returns : tie.Need-returns
 unfolding fieldWriteVerdict
-returns c = sym (out _ (out _ (out _ (refuses (c .before .before .before .field-lent .ensures) (c .before .lent .given .1)))))
+returns c = sym (refused-at [] (_ ∷ _ ∷ _ ∷ []) tt (refuses (c .before .before .before .field-lent .ensures) (c .before .lent .given .1)))
 
 field-bytes-requires : tie.Need-field-bytes-requires
 field-bytes-requires c κs = few _ _ (passes (c .before .before .field-lent .ensures) (c .enum-told .given .1)) .0

@@ -1,7 +1,8 @@
 -- Counts and tables that passed bound the record's length; bytes and values follow in the order of the causes.
 use mathlib.Core.Path.{sym, _∙_}
+use mathlib.Core.List.{[], _∷_}
 use borrow.Author.Needs.{needs}
-use Rattle.model.proofs.Verdicts.{both-fine, out, both-are, refuses, passes}
+use Rattle.model.proofs.Verdicts.{refused-at, both-fine, both-are, refuses, passes}
 use Rattle.model.proofs.Accepted.{counted, mesh-long}
 use Rattle.writing.specs.Writing.{meshWriteVerdict}
 use Rattle.writing.proofs.WriteLaws.{bytes-said, past-first}
@@ -10,7 +11,7 @@ use Rattle.writing.proofs.refusals.mesh.Tie as tie
 
 returns : tie.Need-returns
 unfolding meshWriteVerdict
-returns c = sym (out _ (out _ (refuses (c .before .before .before .mesh-lent .ensures) (c .before .lent .given .1))))
+returns c = sym (refused-at [] (_ ∷ _ ∷ []) tt (refuses (c .before .before .before .mesh-lent .ensures) (c .before .lent .given .1)))
 
 mesh-bytes-requires : tie.Need-mesh-bytes-requires
 mesh-bytes-requires c κs =

@@ -1,13 +1,14 @@
 -- The tables that passed give what the length and the values ask; the three groups of tests, each all or none, make the verdict in its order.
 use Prim.Native.Nat.{_≤_}
 use mathlib.Core.Path.{_≡_, sym, _∙_}
+use mathlib.Core.List.{[], _∷_}
 use borrow.Author.Needs.{needs}
 use lib.ListN.{length}
 use Rattle.model.specs.Mesh.{Mesh, meshOf}
 use Rattle.model.specs.Answers.{said}
 use Rattle.model.specs.declared.Answer.the-variants.{Done}
 use Rattle.model.specs.Causes.{fine, _andThen_, long, bytesLong, counts, meshTables, outsideGood, fluxGood}
-use Rattle.model.proofs.Verdicts.{both-fine, past, out, both-are, refuses, passes}
+use Rattle.model.proofs.Verdicts.{refused-at, both-fine, past, both-are, refuses, passes}
 use Rattle.model.proofs.Accepted.{counted, mesh-long}
 use Rattle.heads.specs.Layouts.{kindNumber, stepLength}
 use Rattle.writing.proofs.WriteLaws.{bytes-said, water-long, step-groups}
@@ -56,7 +57,7 @@ longs c e =
 returns : tie.Need-returns
 returns c =
     let k = c .before .before .before in
-    sym (step-groups _ _ _ _ _ (from-lent k .args .room) ∙ out _ (out _ (refuses (k .mesh-lent .ensures) (c .before .lent .given .1))))
+    sym (step-groups _ _ _ _ _ (from-lent k .args .room) ∙ refused-at [] (_ ∷ _ ∷ []) tt (refuses (k .mesh-lent .ensures) (c .before .lent .given .1)))
 
 step-bytes-requires : tie.Need-step-bytes-requires
 step-bytes-requires c κs =
@@ -68,7 +69,7 @@ step-bytes-requires c κs =
 returns-2 : tie.Need-returns-2
 returns-2 c =
     let k = c .before .before .before in
-    sym (step-groups _ _ _ _ _ (start k .args .room) ∙ out _ (past _ (lent k) ∙ refuses (tables k) (c .before .tables .given .1)))
+    sym (step-groups _ _ _ _ _ (start k .args .room) ∙ refused-at (_ ∷ []) (_ ∷ []) (lent k, tt) (refuses (tables k) (c .before .tables .given .1)))
 
 values-requires : tie.Need-values-requires
 values-requires c κs = mesh-long _ (lent (c .before .before))
