@@ -5,8 +5,8 @@ use mathlib.Core.Bool.{Bool, true, false}
 use mathlib.Core.List.{List, [], _∷_, _++_, append-assoc, append-nil}
 use native.Mathlib.Omega.{arith}
 use lib.Dec.{leb}
-use lib.ListN.{length, getD, take, drop, set, replicate, drop-of-length-le, length-append, length-drop, length-replicate, getD-replicate, List·getD-append, List·getD-eq-default}
-use lib.Seq.{take-at, drop-at, drop-append-add, getD-append-add, take-all, take-length, drop-length, getD-take, getD-drop, length-take-le}
+use lib.ListN.{length, getD, take, drop, set, replicate, drop-of-length-le, length-append, length-take, length-drop, length-replicate, getD-replicate, List·getD-append, List·getD-eq-default}
+use lib.Seq.{take-at, drop-at, drop-append-add, getD-append-add, take-all, take-length, drop-length, getD-drop}
 use Rattle.lists.specs.Table.{table, over}
 use Rattle.lists.proofs.Tables.{is-table, length-table, over-table}
 use Rattle.lists.proofs.Tests.{Fits, fits, exceeds, fits?}
@@ -39,9 +39,9 @@ over-past i f t d k h l =
     rw (over-table i f t) (ap (λ (j : ℕ). getD (table i f ++ drop i t) j d) (q ∙ ap (λ (j : ℕ). j + (k - i)) (sym (length-table i f)))
     ∙ getD-append-add (table i f) (drop i t) (k - i) d ∙ getD-drop i t (k - i) d ∙ ap (λ (j : ℕ). getD t j d) (sym q))
 
--- the front of a table, as a table
-pub front-table : (n : ℕ) (xs : List ℕ) → n ≤ length xs → take n xs ≡ table n (λ i. getD xs i 0)
-front-table n xs l = is-table 0 (take n xs) n (λ i. getD xs i 0) (length-take-le n xs l) (λ k h. getD-take n xs k 0 h)
+-- a part of n entries has room after the name
+pub room-after : (n : ℕ) (m p : List ℕ) → n < length p → length (take n m) ≤ length (take (length p - 1) (drop 1 p))
+room-after n m p h = rw (length-take, length-take, length-drop) (omega arith)
 
 -- a gap of w entries closed, and as many cleared at the end
 pub moved-down : (w : ℕ) (a b : List ℕ) → length a ≡ w → movedDown w (a ++ b) ≡ b ++ replicate w 0

@@ -11,24 +11,12 @@ ghost use Rattle.model.specs.Mesh.{maxCells};
 ghost use Rattle.kept.specs.Store.{count, used as usedOf, fieldsIn, storeOf, isKept, without, keptField};
 ghost use Rattle.entries.specs.Moved.{movedDown};
 
-// The first n entries of one table into another.
-pub fn copy(n: usize, from: &[u64], to: &mut [u64])
-    requires { ⌜ (n ≤ length (now from)) × (n ≤ length (now to)) ⌝ }
-    ensures { λ _. ⌜ now (to .exit) ≡ over (front n (now (from .entry))) (now (to .entry)) ⌝ }
-{
-    let mut i = 0;
-    while i < n {
-        to[i] = from[i];
-        i += 1;
-    }
-}
-
 // A field at the front of a part of a store.
 fn write_field(cells: usize, masses: &[u64], name: u64, part: &mut [u64])
     requires { ⌜ (cells ≤ length (now masses)) × (cells < length (now part)) ⌝ }
     ensures { λ _. ⌜ now (part .exit) ≡ over (name ∷ front cells (now (masses .entry))) (now (part .entry)) ⌝ }
 {
-    copy(cells, masses, &mut part[1..]);
+    parts::copy(&masses[..cells], &mut part[1..]);
     part[0] = name;
 }
 

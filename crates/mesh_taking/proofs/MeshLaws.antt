@@ -24,7 +24,7 @@ use Rattle.reading.specs.declared.MeshAnswer.the-variants as mesh-answer
 use Rattle.reading.specs.declared.MeshCounts.{MeshCounts}
 use Rattle.mesh_taking.specs.MeshTaking.{meshRecordFound, meshJudged, MeshKept, MeshTaking}
 use Rattle.mesh_taking.specs.Inner.{MeshCut, keptFound}
-use Rattle.mesh_taking.proofs.Parts.{PartRead, read-part}
+use Rattle.parts.proofs.Parts.{PartRead, read-part}
 
 -- a mesh of which v is found: refused, and accepted
 pub kept-refused : {v : Verdict} (M : Mesh) (volumes firsts seconds shares reaches : List ℕ) (a : MeshAnswer) (k i : ℕ) → v ≡ refused k i → meshSaid a ≡ refused k i

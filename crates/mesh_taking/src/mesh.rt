@@ -79,11 +79,11 @@ fn keep(
     if let Answer::Refused(refusal) = found {
         return MeshAnswer::Refused(refusal);
     }
-    crate::copy(read_volumes, volumes);
-    crate::copy(read_firsts, firsts);
-    crate::copy(read_seconds, seconds);
-    crate::copy(read_shares, shares);
-    crate::copy(read_reaches, reaches);
+    parts::copy(read_volumes, volumes);
+    parts::copy(read_firsts, firsts);
+    parts::copy(read_seconds, seconds);
+    parts::copy(read_shares, shares);
+    parts::copy(read_reaches, reaches);
     MeshAnswer::Read(MeshCounts { cells, faces })
 }
 

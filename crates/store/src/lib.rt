@@ -92,6 +92,6 @@ pub fn give_back(
     if let Answer::Refused(r) = d {
         return Answer::Refused(r);
     }
-    entries::copy(cells, kept, masses);
+    parts::copy(kept, masses);
     Answer::Done
 }

@@ -22,7 +22,7 @@ use Rattle.checks.specs.declared.TotalAnswer.the-variants as total-answer
 use Rattle.reading.specs.Reading.{massesIn, fieldBodyVerdict, fieldRead}
 use Rattle.reading.specs.Answers.{FieldReading}
 use Rattle.taking.specs.Taking.{fieldJudged, FieldTaking}
-use Rattle.mesh_taking.proofs.Parts.{PartRead, read-part}
+use Rattle.parts.proofs.Parts.{PartRead, read-part}
 
 module _ (volumes masses : List ℕ) {cells : ℕ} {bs own own′ : List ℕ} {a : Answer} (s : FieldReading (fieldRead cells bs (length own)) cells bs own a own′) (run : length own ≡ runCells)
     (l b : Answer) (lent : said l ≡ long 5 cells (length masses)) (both : said b ≡ (said a andThen said l)) where

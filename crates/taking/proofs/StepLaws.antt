@@ -35,7 +35,7 @@ use Rattle.taking.specs.declared.StepTaken.{StepTaken}
 use Rattle.taking.specs.declared.StepTaken.the-variants as step-taken
 use Rattle.taking.specs.Taking.{blank, ownTables, printedOf, Stepping, stepIn, stepRecordFound, stepJudged, StepTaking}
 use Rattle.taking.specs.Inner.{SteppedIn}
-use Rattle.mesh_taking.proofs.Parts.{PartRead, part-of, read-part}
+use Rattle.parts.proofs.Parts.{PartRead, part-of, read-part}
 
 stepping-refused : (M : Mesh) (masses : List ℕ) {v : Verdict} (k : Call) (r : Refusal) → v ≡ told r → Stepping M masses v k (step-taken.Refused r) masses
 stepping-refused M masses k r e = record { answer = sym (out _ e); masses-after = rw e }

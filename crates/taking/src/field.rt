@@ -23,6 +23,6 @@ pub fn take_field(cells: usize, bytes: &[u8], volumes: &[u64], masses: &mut [u64
     let TotalAnswer::Total(_) = judged else {
         return judged;
     };
-    mesh_taking::copy(counted, masses);
+    parts::copy(counted, masses);
     judged
 }

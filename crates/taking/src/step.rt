@@ -49,7 +49,7 @@ fn stepped(
     match answer {
         StepAnswer::Refused(refusal) => StepTaken::Refused(refusal),
         StepAnswer::Stepped(crossing) => {
-            mesh_taking::copy(&next[..cells], masses);
+            parts::copy(&next[..cells], masses);
             StepTaken::Stepped(Printed {
                 entered: crossing.entered,
                 gone: crossing.gone,

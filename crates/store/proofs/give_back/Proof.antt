@@ -3,7 +3,6 @@ use Prim.Native.Nat.{ℕ}
 use mathlib.Core.List.{List}
 use mathlib.Core.Path.{sym, ap, _∙_}
 use native.Mathlib.Omega.{arith}
-use lib.Seq.{take-all}
 use Rattle.lists.specs.Table.{over}
 use Rattle.model.proofs.Verdicts.{past, out, refuses, passes}
 use Rattle.store.specs.Calls.{returnMasses}
@@ -71,7 +70,7 @@ copy-requires c κs =
     let s = at-opened .before .before .before .before .before in
     let o = opened-asks _ _ 0 _ _ (passes (at-opened .opened .ensures) (at-told .enum-told .given .1)) in
     let n = part-length (at-masses-of .masses-of .result) (s .args .cells) (s .args .store .now) (at-masses-of .masses-of .ensures .0) in
-    (omega (arith, n), o .0 .0 .1)
+    omega (arith, n, o .0 .0 .1)
 
 returns-4 : tie.Need-returns-4
 unfolding returnMasses
@@ -89,10 +88,9 @@ returns-4 c =
     let kept = passes (at-is-kept .is-kept .ensures) (at-told2 .enum-told2 .given .1) in
     let at = at-masses-of .masses-of .result in
     let held = part-front at (s .args .cells) (s .args .store .now) ∙ at-masses-of .masses-of .ensures .1 in
-    let n = part-length at (s .args .cells) (s .args .store .now) (at-masses-of .masses-of .ensures .0) in
     let salt = passes (at-values .values .ensures ∙ salted (s .args .cells) (s .args .volumes .now) held) (at-told .enum-told3 .given .1) in
     let v = return-groups _ _ _ _ _ ∙ past _ opened ∙ past _ kept ∙ salt in
-    record { answer = sym v; masses-are = at-copy .copy .ensures ∙ ap (λ (m : List ℕ). over m (s .args .masses .now)) (take-all (s .args .cells) _ (omega (arith, n)) ∙ held) ∙ rw v }
+    record { answer = sym v; masses-are = at-copy .copy .ensures ∙ ap (λ (m : List ℕ). over m (s .args .masses .now)) held ∙ rw v }
 
 pub give-back-spec : {M : Type 1} → statement M
 give-back-spec =

@@ -1,7 +1,7 @@
 -- `on_records`: the counted parts of the tables are the mesh that the record holds.
 use mathlib.Core.Path.{refl}
 use borrow.Author.Needs.{needs}
-use Rattle.mesh_taking.proofs.Parts.{part-long}
+use Rattle.parts.proofs.Parts.{part-long}
 use Rattle.lagoon.proofs.Stages.{mesh-refused, mesh-read, host-done}
 use Rattle.lagoon.proofs.chain.on_records.Statement.{statement}
 use Rattle.lagoon.proofs.chain.on_records.Tie as tie

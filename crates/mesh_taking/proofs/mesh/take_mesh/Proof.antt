@@ -1,7 +1,7 @@
 -- `take_mesh`: an unread mesh is refused as reading refuses it; a read one is the mesh of the counted parts, and `keep` has the rest.
 use mathlib.Core.Path.{refl}
 use borrow.Author.Needs.{needs}
-use Rattle.mesh_taking.proofs.Parts.{part-long}
+use Rattle.parts.proofs.Parts.{part-long}
 use Rattle.mesh_taking.proofs.MeshLaws.{mesh-unread, mesh-read, keep-asks, mesh-done}
 use Rattle.mesh_taking.proofs.mesh.take_mesh.Statement.{statement}
 use Rattle.mesh_taking.proofs.mesh.take_mesh.Tie as tie

@@ -7,8 +7,8 @@ use borrow.Author.Needs.{needs}
 use lib.ListN.{length, getD, length-set}
 use Rattle.lists.specs.Table.{table, over}
 use Rattle.lists.proofs.Tables.{over-start, over-step, table-getD}
-use Rattle.mesh_taking.proofs.copy.Statement.{statement}
-use Rattle.mesh_taking.proofs.copy.Tie as tie
+use Rattle.parts.proofs.copy.Statement.{statement}
+use Rattle.parts.proofs.copy.Tie as tie
 
 abbrev Inv-loop : tie.InvT-loop
 Inv-loop from to₀ i₀ to i = (i ≤ length from) × (length to ≡ length to₀) × (to ≡ over (table i (λ k. getD from k 0)) to₀)
