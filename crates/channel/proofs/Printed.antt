@@ -34,10 +34,10 @@ use Rattle.taking.specs.declared.Printed.{Printed}
 use Rattle.text.specs.Digits.{digits}
 use Rattle.text.specs.Lines.{word, mark}
 use Rattle.intake.specs.Intake.{stillNeeded}
-use Rattle.session.specs.Lines.{refusalLine, stepLine, refusedStepLine, boardLine}
+use Rattle.lines.specs.Lines.{refusalLine, stepLine, refusedStepLine, boardLine}
 use Rattle.session.specs.Session.{stepText, goesOnAfter}
-use Rattle.session.specs.Run.{recordAt, meshAt, fieldAt, stepAt, following, inTable, inTables, runMesh, boardLines, boardPrinted, stepSaid, fieldThen, stepsPrinted, fieldSaid, fromField}
-use Rattle.session.specs.Run.{fieldPrinted, meshSaidOf, fromMesh, printed}
+use Rattle.printed.specs.Run.{recordAt, meshAt, fieldAt, stepAt, following, inTable, inTables, runMesh, boardLines, boardPrinted, stepSaid, fieldThen, stepsPrinted, fieldSaid, fromField}
+use Rattle.printed.specs.Run.{fieldPrinted, meshSaidOf, fromMesh, printed}
 
 -- an accepted mesh, an accepted field and an accepted step: what is printed after them
 from-mesh : (input bs rest text : List ℕ) (counts : MeshCounts) → meshAt input ≡ bs → following bs input ≡ rest → meshSaidOf bs ≡ accepted counts

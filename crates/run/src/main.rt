@@ -1,5 +1,5 @@
 // The run program of document 01: a mesh, a field and steps from standard input, a line for each, and the board, in the order of
-// `printed` in session/specs/Run.antt. After a failed read or write it prints nothing more, so that no part of a session looks whole.
+// `printed` in printed/specs/Run.antt. After a failed read or write it prints nothing more, so that no part of a session looks whole.
 mod board_lines;
 
 use checks::TotalAnswer;
@@ -7,11 +7,11 @@ use intake::RECORD;
 use libc::STDERR_FILENO;
 use libc::STDIN_FILENO;
 use libc::STDOUT_FILENO;
+use lines::Line;
 use model::RUN_CELLS;
 use model::RUN_FACES;
 use model::Refusal;
 use reading::MeshAnswer;
-use session::Line;
 use taking::StepTaken;
 ghost use Prim.Native.Nat.{_≤_};
 ghost use lib.ListN.{length};
@@ -40,7 +40,7 @@ fn print(line: Line) -> bool
 // The one line of a refused mesh or field.
 fn print_refusal(letter: u8, refusal: Refusal) {
     let cause = refusal.cause;
-    print(session::refusal_line(letter, model::number(cause), refusal.place));
+    print(lines::refusal_line(letter, model::number(cause), refusal.place));
 }
 
 // The line of a step, accepted or refused.
@@ -176,7 +176,7 @@ fn run_on(
 
 // Step 0, the first field.
 fn print_start(total: u64) -> bool {
-    print(session::step_line(0, 0, 0, total, 0))
+    print(lines::step_line(0, 0, 0, total, 0))
 }
 
 // A word to whoever gives arguments or sits at a terminal and does not know that a session is awaited.

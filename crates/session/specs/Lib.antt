@@ -1,4 +1,1 @@
-pub mod Lines
 pub mod Session
-pub mod Run
-pub mod Program

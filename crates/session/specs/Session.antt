@@ -2,22 +2,14 @@
 use Prim.Native.Nat.{ℕ}
 use mathlib.Core.Bool.{Bool, true, not, _||_}
 use mathlib.Core.List.{List}
-use mathlib.Core.Path.{_≡_}
 use lib.Dec.{eqb}
-use lib.ListN.{take}
-use Rattle.io.specs.Counts.{Counts}
 use Rattle.model.specs.Causes.{Outcome, accepted, refused}
 use Rattle.model.specs.Answers.{number}
 use Rattle.model.specs.declared.Cause.{Cause}
-use Rattle.session.specs.declared.Line.{Line}
 use Rattle.taking.specs.Taking.{takenSaid}
 use Rattle.taking.specs.declared.Printed.{Printed}
 use Rattle.taking.specs.declared.StepTaken.{StepTaken}
-use Rattle.session.specs.Lines.{stepLine, refusedStepLine}
-
--- A line by value: its first bytes are the text. What the bytes after them are is left open; nobody prints them.
-abbrev pub Holds : Line → List ℕ → Type 0
-Holds line text = Counts (line .used) (line .bytes) × (take (line .used) (line .bytes) ≡ text)
+use Rattle.lines.specs.Lines.{stepLine, refusedStepLine}
 
 -- A refusal ends the run by causes 11 and 13 alone.
 abbrev pub endsBy : ℕ → Bool

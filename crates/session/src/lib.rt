@@ -1,20 +1,10 @@
-// What the run program decides and prints, apart from its reading and writing.
-mod lines;
-
-pub use lines::LINE;
-pub use lines::board_line;
-pub use lines::refusal_line;
-pub use lines::step_line;
+// When a run ends, and the line of a step.
+use lines::Line;
 use model::Cause;
 use taking::StepTaken;
 ghost use mathlib.Core.Path.{_≡_};
-ghost use Rattle.session.specs.Session.{Holds, endsRun, lineOf, goesOn};
-
-// A line of at most LINE bytes, of which the first `used` count.
-pub struct Line {
-    pub bytes: [u8; LINE],
-    pub used: usize,
-}
+ghost use Rattle.lines.specs.Lines.{Holds};
+ghost use Rattle.session.specs.Session.{endsRun, lineOf, goesOn};
 
 // Whether a refusal of a step ends the run: causes 11 and 13.
 pub fn ends(cause: Cause) -> bool

@@ -8,7 +8,7 @@ use Rattle.io.specs.Counts.{Counts}
 use Rattle.io.proofs.Counting.{counts}
 use Rattle.text.specs.Lines.{Puts, space, newline}
 use Rattle.text.proofs.Lines.{all-there, within, length-word, length-mark}
-use Rattle.session.specs.Lines.{refusalLine, stepLine, refusedStepLine, boardLine, letterR, letterB}
+use Rattle.lines.specs.Lines.{refusalLine, stepLine, refusedStepLine, boardLine, letterR, letterB}
 
 -- The bytes of the longest line.
 abbrev lineBytes : ℕ

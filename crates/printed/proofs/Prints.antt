@@ -23,14 +23,14 @@ use Rattle.taking.specs.Taking.{StepTaking}
 use Rattle.taking.specs.declared.Printed.{Printed}
 use Rattle.taking.specs.declared.StepTaken.{StepTaken}
 use Rattle.model.proofs.Verdicts.{accepted-of}
-use Rattle.session.specs.Lines.{stepLine, boardLine}
+use Rattle.lines.specs.Lines.{Holds, stepLine, boardLine}
 use Rattle.intake.specs.Intake.{stillNeeded}
-use Rattle.session.specs.Session.{Holds, stepText, lineOf, goesOn, goesOnAfter}
-use Rattle.session.specs.Run.{recordAt, meshAt, fieldAt, stepAt, following, inTable, boardLines, boardPrinted, stepSaid, fieldThen, stepsPrinted}
-use Rattle.session.specs.Run.{fromField, fieldPrinted, runMesh, fromMesh, printed}
-use Rattle.session.specs.Program.{Reads, shown, EntriesPrint, none, one, BoardPrints, StepsPrint, no-byte, step-ends, step-goes-on}
-use Rattle.session.specs.Program.{FieldPrints, field-refused, field-accepted, Prints, mesh-refused, mesh-accepted}
-use Rattle.session.specs.declared.Line.{Line}
+use Rattle.session.specs.Session.{stepText, lineOf, goesOn, goesOnAfter}
+use Rattle.printed.specs.Run.{recordAt, meshAt, fieldAt, stepAt, following, inTable, boardLines, boardPrinted, stepSaid, fieldThen, stepsPrinted}
+use Rattle.printed.specs.Run.{fromField, fieldPrinted, runMesh, fromMesh, printed}
+use Rattle.printed.specs.Program.{Reads, shown, EntriesPrint, none, one, BoardPrints, StepsPrint, no-byte, step-ends, step-goes-on}
+use Rattle.printed.specs.Program.{FieldPrints, field-refused, field-accepted, Prints, mesh-refused, mesh-accepted}
+use Rattle.lines.specs.declared.Line.{Line}
 
 -- what was taken can be counted and taken again
 take-counted : (n : ℕ) (l : List ℕ) → take (length (take n l)) l ≡ take n l

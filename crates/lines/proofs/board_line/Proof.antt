@@ -1,10 +1,10 @@
 use mathlib.Core.Path.{refl}
 use borrow.Author.Needs.{needs}
 use Rattle.text.proofs.Lines.{both}
-use Rattle.session.specs.Lines.{boardLine}
-use Rattle.session.proofs.Held.{board-held}
-use Rattle.session.proofs.lines.board_line.Statement.{statement}
-use Rattle.session.proofs.lines.board_line.Tie as tie
+use Rattle.lines.specs.Lines.{boardLine}
+use Rattle.lines.proofs.Held.{board-held}
+use Rattle.lines.proofs.board_line.Statement.{statement}
+use Rattle.lines.proofs.board_line.Tie as tie
 
 returns : tie.Need-returns
 unfolding boardLine

@@ -1,10 +1,10 @@
 use mathlib.Core.Path.{refl}
 use borrow.Author.Needs.{needs}
 use Rattle.text.proofs.Lines.{both}
-use Rattle.session.specs.Lines.{stepLine}
-use Rattle.session.proofs.Held.{step-held}
-use Rattle.session.proofs.lines.step_line.Statement.{statement}
-use Rattle.session.proofs.lines.step_line.Tie as tie
+use Rattle.lines.specs.Lines.{stepLine}
+use Rattle.lines.proofs.Held.{step-held}
+use Rattle.lines.proofs.step_line.Statement.{statement}
+use Rattle.lines.proofs.step_line.Tie as tie
 
 returns : tie.Need-returns
 unfolding stepLine

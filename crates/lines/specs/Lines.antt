@@ -1,7 +1,11 @@
 -- Document 01, "The board and the run", and document 02's S-6: the lines that the run program prints, as bytes.
 use Prim.Native.Nat.{ℕ}
 use mathlib.Core.List.{List, _++_}
+use mathlib.Core.Path.{_≡_}
+use lib.ListN.{take}
+use Rattle.io.specs.Counts.{Counts}
 use Rattle.text.specs.Lines.{word, mark, space, newline}
+use Rattle.lines.specs.declared.Line.{Line}
 
 -- The letters before the numbers of a refused mesh, field and step, and of the board.
 abbrev pub letterM : ℕ
@@ -32,3 +36,7 @@ refusedStepLine step number place = word step space ++ refusalLine letterR numbe
 -- An entry of the board: the letter, cell, q, rest.
 unfoldable pub boardLine : ℕ → ℕ → ℕ → List ℕ
 boardLine cell q rest = mark letterB ++ (word cell space ++ (word q space ++ word rest newline))
+
+-- A line by value: its first bytes are the text. What the bytes after them are is left open; nobody prints them.
+abbrev pub Holds : Line → List ℕ → Type 0
+Holds line text = Counts (line .used) (line .bytes) × (take (line .used) (line .bytes) ≡ text)

@@ -1,10 +1,10 @@
 use mathlib.Core.Path.{refl}
 use borrow.Author.Needs.{needs}
 use Rattle.text.proofs.Lines.{both}
-use Rattle.session.specs.Lines.{refusedStepLine, refusalLine}
-use Rattle.session.proofs.Held.{refused-step-held}
-use Rattle.session.proofs.lines.refused_step_line.Statement.{statement}
-use Rattle.session.proofs.lines.refused_step_line.Tie as tie
+use Rattle.lines.specs.Lines.{refusedStepLine, refusalLine}
+use Rattle.lines.proofs.Held.{refused-step-held}
+use Rattle.lines.proofs.refused_step_line.Statement.{statement}
+use Rattle.lines.proofs.refused_step_line.Tie as tie
 
 returns : tie.Need-returns
 unfolding refusedStepLine refusalLine

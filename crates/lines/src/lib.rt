@@ -1,15 +1,19 @@
-// The lines of the run program.
-use crate::Line;
+// The lines of the run program, as values.
 use text::DIGITS;
 use text::NEWLINE;
 use text::SPACE;
 use text::mark;
 use text::word;
-ghost use Rattle.session.specs.Session.{Holds};
-ghost use Rattle.session.specs.Lines.{refusalLine, stepLine, refusedStepLine, boardLine};
+ghost use Rattle.lines.specs.Lines.{Holds, refusalLine, stepLine, refusedStepLine, boardLine};
 
 // The longest line: five numbers, each with a byte after it.
 pub const LINE: usize = 5 * (DIGITS + 1);
+
+// A line of at most LINE bytes, of which the first `used` count.
+pub struct Line {
+    pub bytes: [u8; LINE],
+    pub used: usize,
+}
 
 // `M` or `F`, number, place.
 pub fn refusal_line(letter: u8, number: u64, place: u64) -> Line

@@ -1,10 +1,10 @@
 use mathlib.Core.Path.{refl}
 use borrow.Author.Needs.{needs}
 use Rattle.text.proofs.Lines.{both}
-use Rattle.session.specs.Lines.{refusalLine}
-use Rattle.session.proofs.Held.{refusal-held}
-use Rattle.session.proofs.lines.refusal_line.Statement.{statement}
-use Rattle.session.proofs.lines.refusal_line.Tie as tie
+use Rattle.lines.specs.Lines.{refusalLine}
+use Rattle.lines.proofs.Held.{refusal-held}
+use Rattle.lines.proofs.refusal_line.Statement.{statement}
+use Rattle.lines.proofs.refusal_line.Tie as tie
 
 returns : tie.Need-returns
 unfolding refusalLine

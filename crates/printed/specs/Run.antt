@@ -17,9 +17,9 @@ use Rattle.board.specs.declared.Entry.{Entry}
 use Rattle.mesh_taking.specs.MeshTaking.{meshJudged}
 use Rattle.taking.specs.Taking.{fieldJudged, stepJudged, stepIn, printedOf, massesAfter}
 use Rattle.taking.specs.declared.Printed.{Printed}
-use Rattle.session.specs.Lines.{letterM, letterF, refusalLine, stepLine, boardLine}
+use Rattle.lines.specs.Lines.{letterM, letterF, refusalLine, stepLine, boardLine}
 use Rattle.intake.specs.Intake.{stillNeeded}
 use Rattle.session.specs.Session.{stepText, goesOnAfter}
 
 -- The run's tables are as long as its limits and 0 at first. Entries past the counts mean nothing.
 abbrev pub inTable : ℕ → List ℕ → List ℕ

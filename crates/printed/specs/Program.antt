@@ -25,10 +25,10 @@ use Rattle.board.specs.declared.BoardAnswer.{BoardAnswer}
 use Rattle.mesh_taking.specs.MeshTaking.{MeshTaking}
 use Rattle.taking.specs.Taking.{FieldTaking, StepTaking}
 use Rattle.taking.specs.declared.StepTaken.{StepTaken}
-use Rattle.session.specs.Lines.{letterM, letterF, refusalLine, stepLine, boardLine}
+use Rattle.lines.specs.Lines.{Holds, letterM, letterF, refusalLine, stepLine, boardLine}
 use Rattle.intake.specs.Intake.{stillNeeded}
-use Rattle.session.specs.Session.{Holds, lineOf, goesOn}
-use Rattle.session.specs.declared.Line.{Line}
+use Rattle.session.specs.Session.{lineOf, goesOn}
+use Rattle.lines.specs.declared.Line.{Line}
 
 -- intake: the head, what `heads` says of it, what `intake::still_needed` says is still to come.
 pub record Reads (head : ℕ) (needs : List ℕ → Outcome ℕ) (input bs : List ℕ) : Type 0 where
