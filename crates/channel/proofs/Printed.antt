@@ -30,7 +30,7 @@ use Rattle.order.specs.Order.{rankedOf, fuller, asFull, comesBefore, insertInOr
 use Rattle.board.specs.Board.{entryOf, entryAt, rankedAt, before, listed}
 use Rattle.mesh_taking.specs.MeshTaking.{meshRecordFound, meshJudged}
 use Rattle.taking.specs.Taking.{fieldJudged, stepRecordFound, stepJudged, stepIn, ownTables, blank, printedOf, massesAfter}
-use Rattle.taking.specs.declared.Printed.{Printed}
+use Rattle.step_taken.specs.declared.Printed.{Printed}
 use Rattle.text.specs.Digits.{digits}
 use Rattle.text.specs.Lines.{word, mark}
 use Rattle.intake.specs.Intake.{stillNeeded}

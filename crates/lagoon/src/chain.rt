@@ -4,7 +4,7 @@ use model::Answer;
 use model::RUN_CELLS;
 use model::RUN_FACES;
 use reading::MeshAnswer;
-use taking::StepTaken;
+use step_taken::StepTaken;
 use writing::WriteAnswer;
 ghost use Rattle.model.specs.Mesh.{meshOf};
 ghost use Rattle.lagoon.specs.Inner.{MeshComes, HostComes};

@@ -20,8 +20,8 @@ use Rattle.board.specs.Board.{entryAt, listed, boardVerdict, boardEntries, boar
 use Rattle.board.specs.declared.Entry.{Entry}
 use Rattle.board.proofs.Listed.{listed-count}
 use Rattle.taking.specs.Taking.{StepTaking}
-use Rattle.taking.specs.declared.Printed.{Printed}
-use Rattle.taking.specs.declared.StepTaken.{StepTaken}
+use Rattle.step_taken.specs.declared.Printed.{Printed}
+use Rattle.step_taken.specs.declared.StepTaken.{StepTaken}
 use Rattle.model.proofs.Verdicts.{accepted-of}
 use Rattle.lines.specs.Lines.{Holds, stepLine, boardLine}
 use Rattle.intake.specs.Intake.{stillNeeded}

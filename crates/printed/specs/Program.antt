@@ -24,7 +24,7 @@ use Rattle.board.specs.declared.Entry.{Entry}
 use Rattle.board.specs.declared.BoardAnswer.{BoardAnswer}
 use Rattle.mesh_taking.specs.MeshTaking.{MeshTaking}
 use Rattle.taking.specs.Taking.{FieldTaking, StepTaking}
-use Rattle.taking.specs.declared.StepTaken.{StepTaken}
+use Rattle.step_taken.specs.declared.StepTaken.{StepTaken}
 use Rattle.lines.specs.Lines.{Holds, letterM, letterF, refusalLine, stepLine, boardLine}
 use Rattle.intake.specs.Intake.{stillNeeded}
 use Rattle.session.specs.Session.{lineOf, goesOn}

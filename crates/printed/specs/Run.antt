@@ -16,7 +16,7 @@ use Rattle.board.specs.Board.{entryAt, listed, boardVerdict}
 use Rattle.board.specs.declared.Entry.{Entry}
 use Rattle.mesh_taking.specs.MeshTaking.{meshJudged}
 use Rattle.taking.specs.Taking.{fieldJudged, stepJudged, stepIn, printedOf, massesAfter}
-use Rattle.taking.specs.declared.Printed.{Printed}
+use Rattle.step_taken.specs.declared.Printed.{Printed}
 use Rattle.lines.specs.Lines.{letterM, letterF, refusalLine, stepLine, boardLine}
 use Rattle.intake.specs.Intake.{stillNeeded}
 use Rattle.session.specs.Session.{stepText, goesOnAfter}

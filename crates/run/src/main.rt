@@ -12,7 +12,7 @@ use model::RUN_CELLS;
 use model::RUN_FACES;
 use model::Refusal;
 use reading::MeshAnswer;
-use taking::StepTaken;
+use step_taken::StepTaken;
 ghost use Prim.Native.Nat.{_≤_};
 ghost use lib.ListN.{length};
 ghost use Rattle.io.specs.Counts.{Counts};

@@ -6,9 +6,9 @@ use lib.Dec.{eqb}
 use Rattle.model.specs.Causes.{Outcome, accepted, refused}
 use Rattle.model.specs.Answers.{number}
 use Rattle.model.specs.declared.Cause.{Cause}
-use Rattle.taking.specs.Taking.{takenSaid}
-use Rattle.taking.specs.declared.Printed.{Printed}
-use Rattle.taking.specs.declared.StepTaken.{StepTaken}
+use Rattle.step_taken.specs.Said.{takenSaid}
+use Rattle.step_taken.specs.declared.Printed.{Printed}
+use Rattle.step_taken.specs.declared.StepTaken.{StepTaken}
 use Rattle.lines.specs.Lines.{stepLine, refusedStepLine}
 
 -- A refusal ends the run by causes 11 and 13 alone.

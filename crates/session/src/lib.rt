@@ -1,7 +1,7 @@
 // When a run ends, and the line of a step.
 use lines::Line;
 use model::Cause;
-use taking::StepTaken;
+use step_taken::StepTaken;
 ghost use mathlib.Core.Path.{_≡_};
 ghost use Rattle.lines.specs.Lines.{Holds};
 ghost use Rattle.session.specs.Session.{endsRun, lineOf, goesOn};

@@ -30,9 +30,9 @@ use Rattle.reading.specs.Reading.{fluxesIn, outsidesIn, releasesIn, stepBodyVer
 use Rattle.reading.specs.Answers.{stepSaid as readSaid, StepReading}
 use Rattle.reading.specs.declared.StepRead.{StepRead}
 use Rattle.reading.specs.declared.StepRead.the-variants as read
-use Rattle.taking.specs.declared.Printed.{Printed}
-use Rattle.taking.specs.declared.StepTaken.{StepTaken}
-use Rattle.taking.specs.declared.StepTaken.the-variants as step-taken
+use Rattle.step_taken.specs.declared.Printed.{Printed}
+use Rattle.step_taken.specs.declared.StepTaken.{StepTaken}
+use Rattle.step_taken.specs.declared.StepTaken.the-variants as step-taken
 use Rattle.taking.specs.Taking.{blank, ownTables, printedOf, Stepping, stepIn, stepRecordFound, stepJudged, StepTaking}
 use Rattle.taking.specs.Inner.{SteppedIn}
 use Rattle.parts.proofs.Parts.{PartRead, part-of, read-part}

@@ -8,16 +8,15 @@ use lib.IntN.{ℤ, pos}
 use Rattle.lists.specs.Table.{table, over}
 use Rattle.model.specs.Mesh.{Mesh, total, runCells, runFaces}
 use Rattle.model.specs.Step.{next, inMass, outMass, releasedMass}
-use Rattle.model.specs.Causes.{Outcome, accepted, Verdict, _andThen_, taken, long, Call, callOf, workEntries, cellsOnly, inputOf, meshFieldVerdict, verdict}
-use Rattle.model.specs.Answers.{told}
+use Rattle.model.specs.Causes.{accepted, Verdict, _andThen_, taken, long, Call, callOf, workEntries, cellsOnly, inputOf, meshFieldVerdict, verdict}
 use Rattle.model.specs.Calls.{massIn}
 use Rattle.checks.specs.Total.{totalSaid}
 use Rattle.checks.specs.declared.TotalAnswer.{TotalAnswer}
 use Rattle.heads.specs.Heads.{stepHeadVerdict}
 use Rattle.reading.specs.Reading.{massesIn, fluxesIn, outsidesIn, releasesIn, fieldRead, stepBodyVerdict}
-use Rattle.taking.specs.declared.Printed.{Printed}
-use Rattle.taking.specs.declared.StepTaken.{StepTaken}
-use Rattle.taking.specs.declared.StepTaken.the-variants.{Stepped, Refused}
+use Rattle.step_taken.specs.declared.Printed.{Printed}
+use Rattle.step_taken.specs.declared.StepTaken.{StepTaken}
+use Rattle.step_taken.specs.Said.{takenSaid}
 
 -- A FIELD on so many cells of these volumes. It is read into a table of the call's own, of 1,023 entries; the lent one, of so many, has to
 -- hold it. Then come the causes that the total of a field has.
@@ -29,12 +28,7 @@ pub record FieldTaking (cells : ℕ) (volumes bs masses : List ℕ) (r : TotalAn
   pub answer : totalSaid r ≡ (fieldJudged cells volumes bs (length masses) andThen accepted (total (cellsOnly cells volumes) (massIn (massesIn bs cells))))
   pub masses-after : masses′ ≡ taken (fieldJudged cells volumes bs (length masses)) (over (massesIn bs cells) masses) masses
 
--- A STEP. What is printed of it, or why it is refused.
-abbrev pub takenSaid : StepTaken → Outcome Printed
-takenSaid (Stepped p) = accepted p
-takenSaid (Refused r) = told r
-
--- a table of n entries x
+-- A STEP. A table of n entries x
 unfoldable pub blank : {A : Type 0} → ℕ → A → List A
 blank n x = replicate n x
 

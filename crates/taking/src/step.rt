@@ -1,10 +1,10 @@
 // A step record.
-use crate::Printed;
-use crate::StepTaken;
 use model::RUN_CELLS;
 use model::RUN_FACES;
 use model::RUN_WORK;
 use reading::StepRead;
+use step_taken::Printed;
+use step_taken::StepTaken;
 use transport::StepAnswer;
 ghost use Rattle.model.specs.Mesh.{meshOf};
 ghost use Rattle.taking.specs.Taking.{StepTaking};

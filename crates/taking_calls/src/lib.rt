@@ -7,7 +7,7 @@ use arguments::parts::number;
 use arguments::parts::octets;
 use arguments::parts::table;
 use arguments::show;
-use taking::StepTaken;
+use step_taken::StepTaken;
 
 // The host's answer is one number, printed as it is.
 pub fn lagoon_step(words: &[u64], records: &[u8]) {
