@@ -4,56 +4,12 @@ mod board_lines;
 
 use checks::TotalAnswer;
 use intake::RECORD;
-use libc::STDERR_FILENO;
-use libc::STDIN_FILENO;
-use libc::STDOUT_FILENO;
-use lines::Line;
 use model::RUN_CELLS;
 use model::RUN_FACES;
-use model::Refusal;
 use reading::MeshAnswer;
-use step_taken::StepTaken;
+use session::Next;
 ghost use Prim.Native.Nat.{_≤_};
 ghost use lib.ListN.{length};
-ghost use Rattle.io.specs.Counts.{Counts};
-
-// What follows a step: another, the board, or nothing, since something is lost.
-enum Next {
-    Step,
-    Board,
-    Nothing,
-}
-
-// A line on standard output, or a word on standard error where it is lost.
-fn print(line: Line) -> bool
-    requires { ⌜ Counts (line .used) (line .bytes) ⌝ }
-{
-    let bytes = line.bytes;
-    let used = line.used;
-    if io::write_all(STDOUT_FILENO, &bytes[..used]) {
-        return true;
-    }
-    os::fail(b"run: standard output");
-    false
-}
-
-// The one line of a refused mesh or field.
-fn print_refusal(letter: u8, refusal: Refusal) {
-    let cause = refusal.cause;
-    print(lines::refusal_line(letter, model::number(cause), refusal.place));
-}
-
-// The line of a step, accepted or refused.
-fn print_step(step: u64, taken: StepTaken) -> Next {
-    if !print(session::taken_line(step, taken)) {
-        return Next::Nothing;
-    }
-    if session::goes_on(taken) {
-        Next::Step
-    } else {
-        Next::Board
-    }
-}
 
 // Reads one step, takes it and prints its line. Where no byte is left, the board follows.
 fn step_once(
@@ -89,7 +45,7 @@ fn step_once(
         reaches,
         masses,
     );
-    print_step(step, taken)
+    session::print_step(step, taken)
 }
 
 // The steps, one after another. A proved loop has to end and nothing says that the input does, so the step number stops it: at a
@@ -151,11 +107,11 @@ fn run_on(
     let answer = taking::take_field(cells, &buffer[..got], volumes, &mut masses);
     let TotalAnswer::Total(total) = answer else {
         if let TotalAnswer::Refused(refusal) = answer {
-            print_refusal(b'F', refusal);
+            session::print_refusal(b'F', refusal);
         }
         return;
     };
-    if !print_start(total) {
+    if !session::print_start(total) {
         return;
     }
     let next = steps(
@@ -174,25 +130,8 @@ fn run_on(
     }
 }
 
-// Step 0, the first field.
-fn print_start(total: u64) -> bool {
-    print(lines::step_line(0, 0, 0, total, 0))
-}
-
-// A word to whoever gives arguments or sits at a terminal and does not know that a session is awaited.
-fn greet() {
-    let asked = os::arg_count() > 1;
-    let terminal = libc::isatty(STDIN_FILENO) == 1;
-    if asked || terminal {
-        io::write_all(
-            STDERR_FILENO,
-            b"run: reads a session from standard input; see README.md\n",
-        );
-    }
-}
-
 fn main() {
-    greet();
+    session::greet();
     let mut buffer = [0u8; RECORD];
     let mut volumes = [0u64; RUN_CELLS];
     let mut firsts = [0u64; RUN_FACES];
@@ -214,7 +153,7 @@ fn main() {
     );
     let MeshAnswer::Read(counts) = answer else {
         if let MeshAnswer::Refused(refusal) = answer {
-            print_refusal(b'M', refusal);
+            session::print_refusal(b'M', refusal);
         }
         return;
     };

@@ -1,6 +1,7 @@
--- Document 01, "The board and the run": when a run ends, and what a step prints.
+-- Document 01, "The board and the run": when a run ends, what a step prints and what follows it.
 use Prim.Native.Nat.{ℕ}
-use mathlib.Core.Bool.{Bool, true, not, _||_}
+use mathlib.Core.Bool.{Bool, true, false, not, _||_}
+use mathlib.Core.Path.{_≡_}
 use mathlib.Core.List.{List}
 use lib.Dec.{eqb}
 use Rattle.model.specs.Causes.{Outcome, accepted, refused}
@@ -10,6 +11,8 @@ use Rattle.step_taken.specs.Said.{takenSaid}
 use Rattle.step_taken.specs.declared.Printed.{Printed}
 use Rattle.step_taken.specs.declared.StepTaken.{StepTaken}
 use Rattle.lines.specs.Lines.{stepLine, refusedStepLine}
+use Rattle.session.specs.declared.printing.Next.{Next}
+use Rattle.session.specs.declared.printing.Next.the-variants.{Step, Board, Nothing}
 
 -- A refusal ends the run by causes 11 and 13 alone.
 abbrev pub endsBy : ℕ → Bool
@@ -33,3 +36,9 @@ goesOnAfter (refused cause place) = not (endsBy cause)
 
 abbrev pub goesOn : StepTaken → Bool
 goesOn taken = goesOnAfter (takenSaid taken)
+
+-- What follows a step after which another may follow or not: that, or the board, unless its line is lost.
+abbrev pub Follows : Next → Bool → Type 0
+Follows Step more = more ≡ true
+Follows Board more = more ≡ false
+Follows Nothing more = Unit

@@ -1,6 +1,14 @@
-// When a run ends, and the line of a step.
+// When a run ends, the line of a step, and each line printed.
+mod printing;
+
 use lines::Line;
 use model::Cause;
+pub use printing::Next;
+pub use printing::greet;
+pub use printing::print;
+pub use printing::print_refusal;
+pub use printing::print_start;
+pub use printing::print_step;
 use step_taken::StepTaken;
 ghost use mathlib.Core.Path.{_≡_};
 ghost use Rattle.lines.specs.Lines.{Holds};
