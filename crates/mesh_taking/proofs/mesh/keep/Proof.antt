@@ -40,57 +40,66 @@ rooms : (c : tie.After-enum-told)
     → let a = start (c .before .before) .args in let s = start (c .before .before) in Room (read s) (a .volumes .now) (a .firsts .now) (a .seconds .now) (a .shares .now) (a .reaches .now)
 rooms c = let s = start (c .before .before) in room (read s) (lent s .volumes) (lent s .firsts) (lent s .seconds) (lent s .shares) (lent s .reaches) (s .pre) (passes c)
 
-abbrev told : tie.After-copy-arg3 → tie.After-enum-told
-told c = c .before .before .before .before .before .before .before .before .before
+-- from each copy back to the one before
+abbrev volumes : tie.After-copy2 → tie.After-copy
+volumes c = c .before .before .before .before
 
-abbrev told-5 : tie.After-copy-arg5 → tie.After-enum-told
-told-5 c = told (c .before .before .before .before .before .before .before .before)
+abbrev firsts : tie.After-copy3 → tie.After-copy2
+firsts c = c .before .before .before .before
+
+abbrev seconds : tie.After-copy4 → tie.After-copy3
+seconds c = c .before .before .before .before
+
+abbrev shares : tie.After-copy5 → tie.After-copy4
+shares c = c .before .before .before .before
+
+abbrev told : tie.After-copy → tie.After-enum-told
+told c = c .before .before
 
 copy-requires : tie.Need-copy-requires
 copy-requires c κs = rooms (c .before) .volumes-room
 
 copy-requires-2 : tie.Need-copy-requires-2
-copy-requires-2 c κs = rooms (c .before .before .before .before .before) .firsts-room
+copy-requires-2 c κs = rooms (told (c .before .before .before)) .firsts-room
 
 copy-requires-3 : tie.Need-copy-requires-3
-copy-requires-3 c κs = rooms (c .before .before .before .before .before .before .before .before .before) .seconds-room
+copy-requires-3 c κs = rooms (told (volumes (c .before .before .before))) .seconds-room
 
 copy-requires-4 : tie.Need-copy-requires-4
-copy-requires-4 c κs = rooms (told (c .before .before .before .before)) .shares-room
+copy-requires-4 c κs = rooms (told (volumes (firsts (c .before .before .before)))) .shares-room
 
 copy-requires-5 : tie.Need-copy-requires-5
-copy-requires-5 c κs = rooms (told-5 c) .reaches-room
+copy-requires-5 c κs = rooms (told (volumes (firsts (seconds (c .before .before .before))))) .reaches-room
+
+-- each table is as long as it was: what was left of it stands right after its copy
+same-length : tie.Need-same-length
+same-length c = firsts (seconds (shares (c .before .before))) .before .before .before .volumes .given
+
+same-length-2 : tie.Need-same-length-2
+same-length-2 c = seconds (shares (c .before .before)) .before .before .before .firsts .given
+
+same-length-3 : tie.Need-same-length-3
+same-length-3 c = shares (c .before .before) .before .before .before .seconds .given
+
+same-length-4 : tie.Need-same-length-4
+same-length-4 c = c .before .before .before .before .before .shares .given
+
+same-length-5 : tie.Need-same-length-5
+same-length-5 c = c .before .reaches .given
 
 returns-2 : tie.Need-returns-2
 returns-2 c =
-    let reaches = c .before .before in
-    let shares = reaches .before .before .before .before in
-    let seconds = shares .before .before .before .before in
-    let firsts = seconds .before .before .before .before in
-    let volumes = firsts .before .before .before .before in
-    let d = volumes .before .before in
-    let s = start (d .before .before) in
-    kept-accepted (read s) (lent s .volumes) (lent s .firsts) (lent s .seconds) (lent s .shares) (lent s .reaches) _ _ _ _ _ (passes d)
-    (volumes .copy .ensures) (firsts .copy2 .ensures) (seconds .copy3 .ensures) (shares .copy4 .ensures) (reaches .copy5 .ensures)
+    let r = c .before .before in
+    let w = shares r in
+    let k = seconds w in
+    let f = firsts k in
+    let v = volumes f in
+    let s = start (told v .before .before) in
+    kept-accepted (read s) (lent s .volumes) (lent s .firsts) (lent s .seconds) (lent s .shares) (lent s .reaches) _ _ _ _ _ (passes (told v))
+    (v .copy .ensures) (f .copy2 .ensures) (k .copy3 .ensures) (w .copy4 .ensures) (r .copy5 .ensures)
 
 pub keep-spec : {M : Type 1} → statement M
 keep-spec =
     tie.close
-    (tie.spec
-    (search needs)
-    (search needs)
-    (search needs)
-    (search needs)
-    returns
-    (search needs)
-    copy-requires
-    copy-requires-2
-    copy-requires-3
-    copy-requires-4
-    copy-requires-5
-    (search needs)
-    (search needs)
-    (search needs)
-    (search needs)
-    (search needs)
-    returns-2)
+    (tie.spec (search needs) (search needs) (search needs) (search needs) returns (search needs)
+    copy-requires copy-requires-2 copy-requires-3 copy-requires-4 copy-requires-5 same-length same-length-2 same-length-3 same-length-4 same-length-5 returns-2)

@@ -68,6 +68,21 @@ slice-aggregate-keep-5 c = part-long
 keep-requires : tie.Need-keep-requires
 keep-requires c κs = let d = lent (c .before .before .before .before) in keep-asks (mesh-read (reading d .read-mesh .ensures) refl refl refl refl refl (d .before .answer .given .1))
 
+same-length : tie.Need-same-length
+same-length c = c .before .before .before .before .before .before .before .before .before .volumes .given
+
+same-length-2 : tie.Need-same-length-2
+same-length-2 c = c .before .before .before .before .before .before .before .firsts .given
+
+same-length-3 : tie.Need-same-length-3
+same-length-3 c = c .before .before .before .before .before .seconds .given
+
+same-length-4 : tie.Need-same-length-4
+same-length-4 c = c .before .before .before .shares .given
+
+same-length-5 : tie.Need-same-length-5
+same-length-5 c = c .before .reaches .given
+
 returns-2 : tie.Need-returns-2
 returns-2 c =
     let k = kept (c .before) in
@@ -98,9 +113,9 @@ take-mesh-spec =
     array-share-prefix-read-reaches
     slice-aggregate-keep-5
     keep-requires
-    (search needs)
-    (search needs)
-    (search needs)
-    (search needs)
-    (search needs)
+    same-length
+    same-length-2
+    same-length-3
+    same-length-4
+    same-length-5
     returns-2)
