@@ -75,5 +75,5 @@ take-field-spec =
     (search needs)
     returns-2
     copy-requires
-    (search needs)
+    (λ c. c .before .masses .given)
     returns-3)

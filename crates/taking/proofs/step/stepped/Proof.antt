@@ -43,7 +43,7 @@ stepped-spec =
     slice-aggregate-copy
     copy-requires
     sum-of-requires
-    (search needs)
+    (λ c. refl)
     returns
-    (search needs)
+    (λ c. c .before .before .before .masses .given)
     returns-2)

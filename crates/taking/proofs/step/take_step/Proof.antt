@@ -87,5 +87,5 @@ take-step-spec =
     array-share-prefix-releases
     slice-aggregate-stepped-3
     (search needs)
-    (search needs)
+    (λ c. c .before .masses .given)
     returns-2)
