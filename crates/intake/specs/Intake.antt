@@ -1,5 +1,7 @@
 -- Document 01, "The board and the run": how much of a record is still to be read.
-use Prim.Native.Nat.{ℕ, _-_, min}
+use Prim.Native.Nat.{ℕ, _+_, _-_, _≤_, min}
+use mathlib.Core.List.{List}
+use lib.ListN.{take}
 use Rattle.model.specs.Mesh.{runCells, runFaces}
 use Rattle.model.specs.Causes.{Outcome, accepted, refused}
 use Rattle.heads.specs.Layouts.{meshLength}
@@ -13,3 +15,10 @@ recordBytes = meshLength runCells runFaces
 abbrev pub stillNeeded : Outcome ℕ → ℕ → ℕ
 stillNeeded (accepted n) got = min n recordBytes - got
 stillNeeded (refused _ _) got = 0
+
+-- Of a record of which `count` bytes have come no more were asked for than its head, and then what that says. The bytes begin with the head.
+pub record Asked (head : ℕ) (needs : List ℕ → Outcome ℕ) (bytes : List ℕ) (count : ℕ) : Type 0 where
+  pub come : ℕ
+  pub of-the-head : come ≤ head
+  pub counted : come ≤ count
+  pub no-more : count ≤ come + stillNeeded (needs (take come bytes)) come
