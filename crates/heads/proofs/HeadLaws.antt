@@ -19,7 +19,7 @@ use Rattle.bits.specs.Field.{bitsAt}
 use Rattle.bits.specs.Layout.{bytesFor}
 use Rattle.sections.proofs.Columns.{those-le}
 use Rattle.heads.specs.Layouts.{meshKind, fieldKind, isRim, rimFaces}
-use Rattle.heads.specs.Numbers.{widest, furthest, numberAt, numberOf}
+use Rattle.reader.specs.Numbers.{widest, furthest, numberAt, numberOf}
 use Rattle.heads.specs.Heads.{kindIn, cellsIn, facesIn, stepFacesIn, isStepKind, meshHeadVerdict, fieldHeadVerdict, stepHeadVerdict}
 
 -- no more faces are at the rim than there are

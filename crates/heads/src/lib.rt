@@ -2,7 +2,6 @@
 // of two kinds, by document 02's S-6.
 pub mod body;
 pub mod lengths;
-pub mod reader;
 
 pub use lengths::FIELD_HEAD;
 pub use lengths::MESH_HEAD;
@@ -21,7 +20,7 @@ ghost use lib.ListN.{length};
 ghost use Rattle.model.specs.Mesh.{maxCells, maxFaces};
 ghost use Rattle.model.specs.Causes.{countsWithin};
 ghost use Rattle.model.specs.Answers.{said};
-ghost use Rattle.heads.specs.Numbers.{numberAt, numberOf};
+ghost use Rattle.reader.specs.Numbers.{numberAt, numberOf};
 ghost use Rattle.heads.specs.Layouts.{kindNumber};
 ghost use Rattle.heads.specs.Heads.{kindIn, cellsIn, facesIn, stepFacesIn, isStepKind, meshHeadVerdict, fieldHeadVerdict, stepHeadVerdict, meshNeeds, fieldNeeds, stepNeeds, lengthSaid};
 

@@ -216,7 +216,7 @@ pub fn write_step(words: &[u64], ints: &[i64]) {
 
 pub fn number_at(words: &[u64], bytes: &[u8]) {
     show::word(b"number_at:");
-    answers::spelled(heads::reader::number_at(
+    answers::spelled(reader::number_at(
         octets(words, bytes, 0),
         number(words, 1),
         number(words, 2),

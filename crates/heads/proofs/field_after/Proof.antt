@@ -1,6 +1,6 @@
 use mathlib.Core.Path.{sym, ap, _∙_}
 use borrow.Author.Needs.{needs}
-use Rattle.heads.specs.Numbers.{numberOf}
+use Rattle.reader.specs.Numbers.{numberOf}
 use Rattle.heads.proofs.field_after.Statement.{statement}
 use Rattle.heads.proofs.field_after.Tie as tie
 

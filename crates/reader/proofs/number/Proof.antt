@@ -1,4 +1,4 @@
--- `heads::reader::number` meets its contract: a walk of its MIR, by hand. The struct is taken apart, and `number_at` is called on
+-- `reader::number` meets its contract: a walk of its MIR, by hand. The struct is taken apart, and `number_at` is called on
 -- the bytes, the bit and the width. All that the proof knows of `number_at` is that it meets its contract.
 -- The struct is Copy: what it owns is had twice, one copy is kept whole for the exit, and of the other what the bytes own goes to the callee, beside the lifetime's token, which comes back.
 -- Assumes nothing.
@@ -44,21 +44,21 @@ use denote.Triple.Table.{entered, cited}
 use denote.Triple.Walked.{says, Stays, stay-none, walkOf, goes-none, Walks, ends-at, walked, walk-meets}
 use denote.Exit.{yes}
 use denote.Triple.Clauses.{ensured, lasts}
-use Rattle.heads.specs.Numbers.{numberAt}
-use Rattle.heads.specs.declared.reader.Reader.{Reader}
-use Rattle.heads.specs.declared.reader.Spelled.{Spelled}
-use Rattle.heads.proofs.reader.Reader as T
-use Rattle.heads.proofs.reader.Reader.Laws as T′
-use Rattle.heads.proofs.reader.Spelled as S
-use Rattle.heads.proofs.reader.Spelled.Laws as S′
-use Rattle.heads.proofs.reader.number_at as number-at
-use Rattle.heads.proofs.reader.number_at.Symbol as number-at-def
-use Rattle.heads.proofs.reader.number_at.Symbol.{name as #heads·reader·number-at}
-use Rattle.heads.proofs.reader.number_at.Met as number-at-thm
-use Rattle.heads.proofs.reader.number.Key.{name as #heads·reader·number}
-use Rattle.heads.proofs.reader.number as number
-use Rattle.heads.proofs.reader.number.Statement as stated
-use Rattle.heads.proofs.reader.number.Code as code
+use Rattle.reader.specs.Numbers.{numberAt}
+use Rattle.reader.specs.declared.Reader.{Reader}
+use Rattle.reader.specs.declared.Spelled.{Spelled}
+use Rattle.reader.proofs.Reader as T
+use Rattle.reader.proofs.Reader.Laws as T′
+use Rattle.reader.proofs.Spelled as S
+use Rattle.reader.proofs.Spelled.Laws as S′
+use Rattle.reader.proofs.number_at as number-at
+use Rattle.reader.proofs.number_at.Symbol as number-at-def
+use Rattle.reader.proofs.number_at.Symbol.{name as #reader·number-at}
+use Rattle.reader.proofs.number_at.Met as number-at-thm
+use Rattle.reader.proofs.number.Key.{name as #reader·number}
+use Rattle.reader.proofs.number as number
+use Rattle.reader.proofs.number.Statement as stated
+use Rattle.reader.proofs.number.Code as code
 
 -- the struct's type, over the signature's lifetimes
 abbrev B : Lfts 1 → RattleType
@@ -136,7 +136,7 @@ module _ {M : Type 1} (𝓤 : URA M) (H : Heap 𝓤) (A : Atoms 𝓤) (W : Given
       suffices ! _ (ends-at 𝓤 H A number.ended stayed (number.clauses 𝓤 H A mem run) W (((κ, tt), (q, tt), tt, (d, (n, tt)), at), tt) u r (tt, (tt, tt)) (tt, (tt, tt))) $ says ! e $
       move ! (1 ∷ []) $ frame ! $ nothing ! $ owned ! usize (Is usize) (uint-makes 𝓤 H A W w64) n _ (refl, ok) $ fjoin ! $ move ! (2 ∷ 0 ∷ []) $ fjoin ! $ frame ! $ done !
 
-  module _ (C : Calls 𝓤 H) (Λ : Loops 𝓤 H) (fm : FmC 𝓤 H (W .laws) C) (known : Triple 𝓤 (C #heads·reader·number-at) (NumberAt 𝓤 H A mem run)) where
+  module _ (C : Calls 𝓤 H) (Λ : Loops 𝓤 H) (fm : FmC 𝓤 H (W .laws) C) (known : Triple 𝓤 (C #reader·number-at) (NumberAt 𝓤 H A mem run)) where
     walk : Holds (hasTy (T′.mir (named 0)) mach) × WT mach → ent 𝓤 (onEntry 𝓤 H A number.signature (κ, tt) (q, tt) (d, (n, tt)) at) (WpFn 𝓤 H C Λ code.function (mach ∷ vint w64 n ∷ []) Post)
     walk wt =
         qed W (raw (onEntry 𝓤 H A number.signature (κ, tt) (q, tt) (d, (n, tt)) at) ∷ []) ∵ enter ! C Λ code.function (mach ∷ vint w64 n ∷ []) _ $
@@ -160,7 +160,7 @@ module _ {M : Type 1} (𝓤 : URA M) (H : Heap 𝓤) (A : Atoms 𝓤) (W : Given
         move ! (3 ∷ 4 ∷ []) $ free1 ! $ free0 ! $ by ! (exits r u e))))))))))
 
 module _ {M : Type 1} (𝓤 : URA M) (H : Heap 𝓤) (A : Atoms 𝓤) (W : Given 𝓤 H A) (mem : Memory → SProp 𝓤) (run : Routine → Fun 𝓤) where
-  number-walks : (C : Calls 𝓤 H) (Λ : Loops 𝓤 H) → FmC 𝓤 H (W .laws) C → Triple 𝓤 (C #heads·reader·number-at) (NumberAt 𝓤 H A mem run)
+  number-walks : (C : Calls 𝓤 H) (Λ : Loops 𝓤 H) → FmC 𝓤 H (W .laws) C → Triple 𝓤 (C #reader·number-at) (NumberAt 𝓤 H A mem run)
       → Walks 𝓤 H A number.ended stayed (WpFn 𝓤 H C Λ code.function) (number.clauses 𝓤 H A mem run)
   number-walks C Λ fm known = walked 𝓤 H A number.ended stayed (number.clauses 𝓤 H A mem run) (WpFn 𝓤 H C Λ code.function)
       (λ κs. (LL.vals (T.the-type (namedLft 1 0 tt κs)) (T′.the-laws (namedLft 1 0 tt κs)), (uint-vals w64, tt)))
@@ -170,7 +170,7 @@ module _ {M : Type 1} (𝓤 : URA M) (H : Heap 𝓤) (A : Atoms 𝓤) (W : Given
       (LL.lawful (T.the-type (namedLft 1 0 tt κs)) (T′.the-laws (namedLft 1 0 tt κs)) 𝓤 H A W .typed (a .0) _ (are .0) .0)))
 
 number-meets : {M : Type 1} (𝓤 : URA M) (H : Heap 𝓤) (A : Atoms 𝓤) (W : Given 𝓤 H A) (mem : Memory → SProp 𝓤) (run : Routine → Fun 𝓤) (𝓣 : Tables 𝓤 H)
-    → Triple 𝓤 (𝓣 .C #heads·reader·number-at) (NumberAt 𝓤 H A mem run)
+    → Triple 𝓤 (𝓣 .C #reader·number-at) (NumberAt 𝓤 H A mem run)
     → Meets 𝓤 H A number.signature (WpFn 𝓤 H (𝓣 .C) (𝓣 .Λ) code.function) (number.spec 𝓤 H A mem run)
 number-meets 𝓤 H A W mem run 𝓣 known-number-at = walk-meets 𝓤 H A number.ended stayed W
     (goes-none 𝓤 H A W 1 B yes (λ κs x f. refl), (goes-none 𝓤 H A W 1 (λ _. usize) yes (λ κs x f. refl), tt))
@@ -181,6 +181,6 @@ pub number-spec : {M : Type 1} → stated.statement M
 unfolding code.routine tablesOf
 number-spec 𝓤 H 𝓜 𝓖 𝓡 =
     entered 𝓤 H (tripleOf 𝓤 H (𝓖 .A) number.signature (number.spec 𝓤 H (𝓖 .A) (𝓜 .mem) (𝓡 .run)))
-    (tables 𝓤 H 𝓜 𝓡 code.env .C) (tables 𝓤 H 𝓜 𝓡 code.env .Λ) #heads·reader·number code.function (code.unfolded 𝓤 H 𝓜 𝓡)
+    (tables 𝓤 H 𝓜 𝓡 code.env .C) (tables 𝓤 H 𝓜 𝓡 code.env .Λ) #reader·number code.function (code.unfolded 𝓤 H 𝓜 𝓡)
     (number-meets 𝓤 H (𝓖 .A) (givenOf 𝓤 H 𝓜 𝓖) (𝓜 .mem) (𝓡 .run) (tablesOf 𝓤 H 𝓜 (tables 𝓤 H 𝓜 𝓡 code.env))
-    (cited 𝓤 H (NumberAt 𝓤 H (𝓖 .A) (𝓜 .mem) (𝓡 .run)) 𝓜 𝓡 code.env #heads·reader·number-at number-at-def.routine code.calls-heads·reader·number-at (number-at-thm.met 𝓤 H 𝓜 𝓖 𝓡)))
+    (cited 𝓤 H (NumberAt 𝓤 H (𝓖 .A) (𝓜 .mem) (𝓡 .run)) 𝓜 𝓡 code.env #reader·number-at number-at-def.routine code.calls-reader·number-at (number-at-thm.met 𝓤 H 𝓜 𝓖 𝓡)))

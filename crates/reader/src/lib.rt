@@ -2,7 +2,7 @@
 // are proved by hand, and leave the work to `number_at`, which takes a plain slice.
 ghost use mathlib.Core.Path.{_≡_};
 ghost use Prim.Native.Nat.{_+_, _^_, _<_};
-ghost use Rattle.heads.specs.Numbers.{numberAt};
+ghost use Rattle.reader.specs.Numbers.{numberAt};
 
 // No record of document 01 has as many bits; up to here no sum of a bit and a width wraps.
 pub const FURTHEST: usize = 4294967296;

@@ -6,8 +6,8 @@ use lib.ListN.{length}
 use lib.Dec.{leb}
 use Rattle.bits.specs.Field.{bitsAt}
 use Rattle.bits.specs.Layout.{bytesFor}
-use Rattle.heads.specs.declared.reader.Spelled.{Spelled}
-use Rattle.heads.specs.declared.reader.Spelled.the-variants.{Number, Past}
+use Rattle.reader.specs.declared.Spelled.{Spelled}
+use Rattle.reader.specs.declared.Spelled.the-variants.{Number, Past}
 
 -- the widest field that is read at once, and the furthest bit that a reader goes to
 abbrev pub widest : ℕ

@@ -1,4 +1,4 @@
--- `heads::reader::number_after` meets its contract: a walk of its MIR, by hand. A `Reader` that `new` returns is held in a local
+-- `reader::number_after` meets its contract: a walk of its MIR, by hand. A `Reader` that `new` returns is held in a local
 -- and passed to `moved`, and what `moved` returns to `number`. All that the proof knows of the three is that each meets its
 -- contract.
 -- The machine value of a struct is stored and passed on as it is. In a local of a body MIR erases the lifetime of the struct's
@@ -42,29 +42,29 @@ use denote.Triple.Table.{entered, cited}
 use denote.Triple.Walked.{says, Stays, stay-none, stay-none-slice, walkOf, goes-none, goes-none-slice, Walks, ends-at, walked, walk-meets}
 use denote.Exit.{yes}
 use denote.Triple.Clauses.{ensured, lasts}
-use Rattle.heads.specs.Numbers.{numberAt}
-use Rattle.heads.specs.declared.reader.Reader.{Reader}
-use Rattle.heads.specs.declared.reader.Spelled.{Spelled}
-use Rattle.heads.proofs.reader.Reader as T
-use Rattle.heads.proofs.reader.Reader.Laws as T′
-use Rattle.heads.proofs.reader.Spelled as S
-use Rattle.heads.proofs.reader.Spelled.Laws as S′
-use Rattle.heads.proofs.reader.new as new
-use Rattle.heads.proofs.reader.new.Symbol as new-def
-use Rattle.heads.proofs.reader.new.Symbol.{name as #heads·reader·new}
-use Rattle.heads.proofs.reader.new.Met as new-thm
-use Rattle.heads.proofs.reader.moved as moved
-use Rattle.heads.proofs.reader.moved.Symbol as moved-def
-use Rattle.heads.proofs.reader.moved.Symbol.{name as #heads·reader·moved}
-use Rattle.heads.proofs.reader.moved.Met as moved-thm
-use Rattle.heads.proofs.reader.number as number
-use Rattle.heads.proofs.reader.number.Symbol as number-def
-use Rattle.heads.proofs.reader.number.Symbol.{name as #heads·reader·number}
-use Rattle.heads.proofs.reader.number.Met as number-thm
-use Rattle.heads.proofs.reader.number_after.Key.{name as #heads·reader·number-after}
-use Rattle.heads.proofs.reader.number_after as number-after
-use Rattle.heads.proofs.reader.number_after.Statement as stated
-use Rattle.heads.proofs.reader.number_after.Code as code
+use Rattle.reader.specs.Numbers.{numberAt}
+use Rattle.reader.specs.declared.Reader.{Reader}
+use Rattle.reader.specs.declared.Spelled.{Spelled}
+use Rattle.reader.proofs.Reader as T
+use Rattle.reader.proofs.Reader.Laws as T′
+use Rattle.reader.proofs.Spelled as S
+use Rattle.reader.proofs.Spelled.Laws as S′
+use Rattle.reader.proofs.new as new
+use Rattle.reader.proofs.new.Symbol as new-def
+use Rattle.reader.proofs.new.Symbol.{name as #reader·new}
+use Rattle.reader.proofs.new.Met as new-thm
+use Rattle.reader.proofs.moved as moved
+use Rattle.reader.proofs.moved.Symbol as moved-def
+use Rattle.reader.proofs.moved.Symbol.{name as #reader·moved}
+use Rattle.reader.proofs.moved.Met as moved-thm
+use Rattle.reader.proofs.number as number
+use Rattle.reader.proofs.number.Symbol as number-def
+use Rattle.reader.proofs.number.Symbol.{name as #reader·number}
+use Rattle.reader.proofs.number.Met as number-thm
+use Rattle.reader.proofs.number_after.Key.{name as #reader·number-after}
+use Rattle.reader.proofs.number_after as number-after
+use Rattle.reader.proofs.number_after.Statement as stated
+use Rattle.reader.proofs.number_after.Code as code
 
 -- the struct's type, over the signature's lifetimes
 abbrev B : Lfts 1 → RattleType
@@ -161,9 +161,9 @@ module _ {M : Type 1} (𝓤 : URA M) (H : Heap 𝓤) (A : Atoms 𝓤) (W : Given
       move ! (1 ∷ []) $ frame ! $ nothing ! $ owned ! usize (Is usize) (uint-makes 𝓤 H A W w64) n _ (refl, n-fits) $ fjoin ! $
       owned ! usize (Is usize) (uint-makes 𝓤 H A W w64) b _ (refl, b-fits) $ fjoin ! $ move ! (2 ∷ 0 ∷ []) $ fjoin ! $ frame ! $ done !
 
-  module _ (C : Calls 𝓤 H) (Λ : Loops 𝓤 H) (fm : FmC 𝓤 H (W .laws) C) (known-new : Triple 𝓤 (C #heads·reader·new) (New 𝓤 H A mem run))
-      (known-moved : Triple 𝓤 (C #heads·reader·moved) (Moved 𝓤 H A mem run))
-      (known-number : Triple 𝓤 (C #heads·reader·number) (Number 𝓤 H A mem run)) where
+  module _ (C : Calls 𝓤 H) (Λ : Loops 𝓤 H) (fm : FmC 𝓤 H (W .laws) C) (known-new : Triple 𝓤 (C #reader·new) (New 𝓤 H A mem run))
+      (known-moved : Triple 𝓤 (C #reader·moved) (Moved 𝓤 H A mem run))
+      (known-number : Triple 𝓤 (C #reader·number) (Number 𝓤 H A mem run)) where
     walk : Is (ShrSlice (named 0) κ u8) s (v ∷ [])
         → ent 𝓤 (onEntry 𝓤 H A number-after.signature (κ, tt) (q, tt) (s, (b, (n, tt))) at)
         (WpFn 𝓤 H C Λ code.function (v ∷ vint w64 b ∷ vint w64 n ∷ []) Post)
@@ -208,8 +208,8 @@ module _ {M : Type 1} (𝓤 : URA M) (H : Heap 𝓤) (A : Atoms 𝓤) (W : Given
         by ! (exits t x (comes r o t e d f))))))))))))))))))))
 
 module _ {M : Type 1} (𝓤 : URA M) (H : Heap 𝓤) (A : Atoms 𝓤) (W : Given 𝓤 H A) (mem : Memory → SProp 𝓤) (run : Routine → Fun 𝓤) where
-  number-after-walks : (C : Calls 𝓤 H) (Λ : Loops 𝓤 H) → FmC 𝓤 H (W .laws) C → Triple 𝓤 (C #heads·reader·new) (New 𝓤 H A mem run)
-      → Triple 𝓤 (C #heads·reader·moved) (Moved 𝓤 H A mem run) → Triple 𝓤 (C #heads·reader·number) (Number 𝓤 H A mem run)
+  number-after-walks : (C : Calls 𝓤 H) (Λ : Loops 𝓤 H) → FmC 𝓤 H (W .laws) C → Triple 𝓤 (C #reader·new) (New 𝓤 H A mem run)
+      → Triple 𝓤 (C #reader·moved) (Moved 𝓤 H A mem run) → Triple 𝓤 (C #reader·number) (Number 𝓤 H A mem run)
       → Walks 𝓤 H A number-after.ended stayed (WpFn 𝓤 H C Λ code.function) (number-after.clauses 𝓤 H A mem run)
   number-after-walks C Λ fm known-new known-moved known-number = walked 𝓤 H A number-after.ended stayed
       (number-after.clauses 𝓤 H A mem run) (WpFn 𝓤 H C Λ code.function) (λ κs. (slice-vals, (uint-vals w64, (uint-vals w64, tt))))
@@ -219,7 +219,7 @@ module _ {M : Type 1} (𝓤 : URA M) (H : Heap 𝓤) (A : Atoms 𝓤) (W : Given
       known-number (are .0)))
 
 number-after-meets : {M : Type 1} (𝓤 : URA M) (H : Heap 𝓤) (A : Atoms 𝓤) (W : Given 𝓤 H A) (mem : Memory → SProp 𝓤) (run : Routine → Fun 𝓤) (𝓣 : Tables 𝓤 H)
-    → Triple 𝓤 (𝓣 .C #heads·reader·new) (New 𝓤 H A mem run) → Triple 𝓤 (𝓣 .C #heads·reader·moved) (Moved 𝓤 H A mem run) → Triple 𝓤 (𝓣 .C #heads·reader·number) (Number 𝓤 H A mem run)
+    → Triple 𝓤 (𝓣 .C #reader·new) (New 𝓤 H A mem run) → Triple 𝓤 (𝓣 .C #reader·moved) (Moved 𝓤 H A mem run) → Triple 𝓤 (𝓣 .C #reader·number) (Number 𝓤 H A mem run)
     → Meets 𝓤 H A number-after.signature (WpFn 𝓤 H (𝓣 .C) (𝓣 .Λ) code.function) (number-after.spec 𝓤 H A mem run)
 number-after-meets 𝓤 H A W mem run 𝓣 known-new known-moved known-number =
     walk-meets 𝓤 H A number-after.ended stayed W (
@@ -233,8 +233,8 @@ pub number-after-spec : {M : Type 1} → stated.statement M
 unfolding code.routine tablesOf
 number-after-spec 𝓤 H 𝓜 𝓖 𝓡 =
     entered 𝓤 H (tripleOf 𝓤 H (𝓖 .A) number-after.signature (number-after.spec 𝓤 H (𝓖 .A) (𝓜 .mem) (𝓡 .run)))
-    (tables 𝓤 H 𝓜 𝓡 code.env .C) (tables 𝓤 H 𝓜 𝓡 code.env .Λ) #heads·reader·number-after code.function (code.unfolded 𝓤 H 𝓜 𝓡)
+    (tables 𝓤 H 𝓜 𝓡 code.env .C) (tables 𝓤 H 𝓜 𝓡 code.env .Λ) #reader·number-after code.function (code.unfolded 𝓤 H 𝓜 𝓡)
     (number-after-meets 𝓤 H (𝓖 .A) (givenOf 𝓤 H 𝓜 𝓖) (𝓜 .mem) (𝓡 .run) (tablesOf 𝓤 H 𝓜 (tables 𝓤 H 𝓜 𝓡 code.env))
-    (cited 𝓤 H (New 𝓤 H (𝓖 .A) (𝓜 .mem) (𝓡 .run)) 𝓜 𝓡 code.env #heads·reader·new new-def.routine code.calls-heads·reader·new (new-thm.met 𝓤 H 𝓜 𝓖 𝓡))
-    (cited 𝓤 H (Moved 𝓤 H (𝓖 .A) (𝓜 .mem) (𝓡 .run)) 𝓜 𝓡 code.env #heads·reader·moved moved-def.routine code.calls-heads·reader·moved (moved-thm.met 𝓤 H 𝓜 𝓖 𝓡))
-    (cited 𝓤 H (Number 𝓤 H (𝓖 .A) (𝓜 .mem) (𝓡 .run)) 𝓜 𝓡 code.env #heads·reader·number number-def.routine code.calls-heads·reader·number (number-thm.met 𝓤 H 𝓜 𝓖 𝓡)))
+    (cited 𝓤 H (New 𝓤 H (𝓖 .A) (𝓜 .mem) (𝓡 .run)) 𝓜 𝓡 code.env #reader·new new-def.routine code.calls-reader·new (new-thm.met 𝓤 H 𝓜 𝓖 𝓡))
+    (cited 𝓤 H (Moved 𝓤 H (𝓖 .A) (𝓜 .mem) (𝓡 .run)) 𝓜 𝓡 code.env #reader·moved moved-def.routine code.calls-reader·moved (moved-thm.met 𝓤 H 𝓜 𝓖 𝓡))
+    (cited 𝓤 H (Number 𝓤 H (𝓖 .A) (𝓜 .mem) (𝓡 .run)) 𝓜 𝓡 code.env #reader·number number-def.routine code.calls-reader·number (number-thm.met 𝓤 H 𝓜 𝓖 𝓡)))

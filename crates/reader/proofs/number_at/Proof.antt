@@ -6,8 +6,8 @@ use borrow.Author.Needs.{needs}
 use borrow.Author.Tests.{le-leb, lt-leb}
 use Rattle.bits.specs.Layout.{bytesFor}
 use Rattle.bits.proofs.Layouts.{bytes-hold}
-use Rattle.heads.proofs.reader.number_at.Statement.{statement}
-use Rattle.heads.proofs.reader.number_at.Tie as tie
+use Rattle.reader.proofs.number_at.Statement.{statement}
+use Rattle.reader.proofs.number_at.Tie as tie
 
 returns : tie.Need-returns
 returns c = rw (lt-leb _ _ (c .if1 .taken))
