@@ -2,3 +2,4 @@ pub mod Tests
 pub mod Sums
 pub mod Tables
 pub mod Renumbered
+pub mod Turns

@@ -3,9 +3,9 @@ use Prim.Native.Nat.{_≤_, _-_, zero-le}
 use mathlib.Core.Path.{_≡_, sym, _∙_}
 use native.Mathlib.Nat.{mul-one}
 use native.Mathlib.Omega.{arith}
+use Rattle.lists.proofs.Turns.{turn-within, turn-less, turn-in, turn-next, turn-bytes}
 use Rattle.sections.specs.Sections.{marked, those}
 use Rattle.sections.proofs.Columns.{those-none, those-more, those-le}
-use Rattle.sections.proofs.Turns.{turn-within, turn-less, turn-in, turn-next, turn-bytes}
 use Rattle.sections.proofs.count_marked.Statement.{statement}
 use Rattle.sections.proofs.count_marked.Tie as tie
 

@@ -3,10 +3,11 @@ use Prim.Native.Nat.{_≤_, _<_, _-_, _+_, _*_, _^_, zero-le}
 use mathlib.Core.Path.{_≡_, refl, sym, ap, _∙_}
 use native.Mathlib.Nat.{le-refl}
 use lib.ListN.{getD}
+use Rattle.lists.proofs.Turns.{turn-within, turn-less, turn-in, turn-next, turn-bytes}
 use Rattle.sections.specs.Sections.{marked, those}
 use Rattle.sections.specs.Columns.{PutColumn}
 use Rattle.sections.proofs.Columns.{column-start, column-if, column-whole, those-none, those-next, those-apart, those-room, those-most, first-at}
-use Rattle.sections.proofs.Turns.{turn-within, turn-less, turn-in, turn-next, turn-bytes, more-small}
+use Rattle.sections.proofs.Turns.{more-small}
 use Rattle.sections.proofs.put_marked.Statement.{statement}
 use Rattle.sections.proofs.put_marked.Tie as tie
 

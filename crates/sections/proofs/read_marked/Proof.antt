@@ -3,12 +3,13 @@ use Prim.Native.Nat.{_≤_, _-_, _+_, _*_, zero-le}
 use mathlib.Core.Path.{_≡_, refl, sym, ap, _∙_}
 use mathlib.Core.Bool.{cond}
 use lib.ListN.{length, length-set}
+use Rattle.lists.proofs.Turns.{turn-within, turn-less, turn-in, turn-in-same, turn-next, turn-bytes}
 use Rattle.lists.specs.Table.{table, over}
 use Rattle.lists.proofs.Tables.{over-start, over-step}
 use Rattle.bits.specs.Field.{bitsAt}
 use Rattle.sections.specs.Sections.{marked, those}
 use Rattle.sections.proofs.Columns.{over-whole, those-none, those-next, those-room, those-most, first-at}
-use Rattle.sections.proofs.Turns.{turn-within, turn-less, turn-in, turn-in-same, turn-next, turn-bytes, more-small}
+use Rattle.sections.proofs.Turns.{more-small}
 use Rattle.sections.proofs.read_marked.Statement.{statement}
 use Rattle.sections.proofs.read_marked.Tie as tie
 
