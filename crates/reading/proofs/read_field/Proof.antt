@@ -54,5 +54,9 @@ returns-2 c =
     let s = p3 .before .before .before in
     field-accepted (passes (p3 .field .ensures) (p2 .enum-told .given .1)) (field-filled (s .args .cells) (s .args .bytes .now) (s .args .masses .now) (p1 .field2 .ensures))
 
+-- the tables that were filled keep their lengths
+same-length : tie.Need-same-length
+same-length c = c .before .before .field2 .kept .1 .1 .0
+
 pub read-field-spec : {M : Type 1} → statement M
-read-field-spec = tie.close (tie.spec (search needs) (search needs) returns (search needs) sub-field part-field-start (search needs) field-requires-2 (search needs) returns-2)
+read-field-spec = tie.close (tie.spec (search needs) (search needs) returns (search needs) sub-field part-field-start (search needs) field-requires-2 same-length returns-2)

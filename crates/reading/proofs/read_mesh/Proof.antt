@@ -64,8 +64,24 @@ returns-2 c =
     let e = sym (p4 .mesh .ensures) ∙ ap meshSaid (p3 .a .given .1) in
     mesh-accepted e (mesh-filled (s .args .bytes .now) (rw (says s e .counts-are) at (p2 .mesh2 .ensures)))
 
+-- the tables that were filled keep their lengths
+same-length : tie.Need-same-length
+same-length c = c .before .before .before .before .before .before .before .before .before .before .mesh2 .kept .1 .1 .1 .0
+
+same-length-2 : tie.Need-same-length-2
+same-length-2 c = c .before .before .before .before .before .before .before .before .before .before .mesh2 .kept .1 .1 .1 .1 .0
+
+same-length-3 : tie.Need-same-length-3
+same-length-3 c = c .before .before .before .before .before .before .before .before .before .before .mesh2 .kept .1 .1 .1 .1 .1 .0
+
+same-length-4 : tie.Need-same-length-4
+same-length-4 c = c .before .before .before .before .before .before .before .before .before .before .mesh2 .kept .1 .1 .1 .1 .1 .1 .0
+
+same-length-5 : tie.Need-same-length-5
+same-length-5 c = c .before .before .before .before .before .before .before .before .before .before .mesh2 .kept .1 .1 .1 .1 .1 .1 .1 .0
+
 pub read-mesh-spec : {M : Type 1} → statement M
 read-mesh-spec =
     tie.close
     (tie.spec (search needs) (search needs) (search needs) returns sub-mesh part-mesh-start (search needs) mesh-requires-2
-    (search needs) (search needs) (search needs) (search needs) (search needs) returns-2)
+    same-length same-length-2 same-length-3 same-length-4 same-length-5 returns-2)

@@ -63,8 +63,18 @@ returns-2 c =
     let e = sym (p3 .step .ensures) ∙ ap stepSaid (p2 .a .given .1) in
     step-accepted e (step-filled (s .args .cells) (s .args .faces) (s .args .seconds .now) (s .args .bytes .now) (rw (says s e .kind-is) at (p1 .step2 .ensures)))
 
+-- the tables that were filled keep their lengths
+same-length : tie.Need-same-length
+same-length c = c .before .before .before .before .before .step2 .kept .1 .1 .1 .1 .1 .0
+
+same-length-2 : tie.Need-same-length-2
+same-length-2 c = c .before .before .before .before .before .step2 .kept .1 .1 .1 .1 .1 .1 .0
+
+same-length-3 : tie.Need-same-length-3
+same-length-3 c = c .before .before .before .before .before .step2 .kept .1 .1 .1 .1 .1 .1 .1 .0
+
 pub read-step-spec : {M : Type 1} → statement M
 read-step-spec =
     tie.close
     (tie.spec (search needs) (search needs) (search needs) returns sub-step part-step-start (search needs) step-requires-2
-    (search needs) (search needs) (search needs) returns-2)
+    same-length same-length-2 same-length-3 returns-2)
