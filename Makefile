@@ -4,6 +4,10 @@ PREFIX ?= /usr/local
 VERSION := $(shell cat VERSION)
 TO = $(DESTDIR)$(PREFIX)
 
+# as in .ci/run
+export RT_JOBS ?= 4
+export TMPDIR := $(shell tools/scratch.sh)
+
 help:
 	@echo 'make run        the channel session of document 01: six lines (the first time it proves what it builds, some minutes)'
 	@echo 'make test       the gate: tests, proofs, must-fail edits, programs; its last line is "N passed, M failed"'
