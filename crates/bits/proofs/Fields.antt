@@ -36,6 +36,17 @@ bits-split bs at w (suc k) =
     let e : at + (w + k) ≡ at + w + k = omega arith in
     rw (add-suc w k, pow-suc 2 k, ← mul-assoc (bitsAt bs at w) (2 ^ k) 2, ih, e) (omega arith)
 
+-- k bits on within a byte: the byte is the same, and so many bits stand below
+module _ (p k : ℕ) (h : p % 8 + suc k ≤ 8) where
+  same-byte : (p + k) / 8 ≡ p / 8
+  same-byte = omega arith
+
+  bit-below : 7 - (p + k) % 8 ≡ 8 - p % 8 - suc k
+  bit-below = omega arith
+
+  bits-below : 8 - p % 8 - k ≡ 8 - p % 8 - suc k + 1
+  bits-below = omega arith
+
 -- a field within one byte
 pub bits-byte : (bs : List ℕ) (p k : ℕ) → p % 8 + k ≤ 8 → bitsAt bs p k ≡ getD bs (p / 8) 0 / 2 ^ (8 - p % 8 - k) % 2 ^ k
 unfolding bitsAt bitAt
@@ -43,9 +54,9 @@ bits-byte bs p zero h = rw (pow-zero 2) (sym (mod-one _))
 bits-byte bs p (suc k) h =
     let x : ℕ = getD bs (p / 8) 0 in
     let e : ℕ = 8 - p % 8 - suc k in
-    let e₁ : 8 - p % 8 - k ≡ e + 1 = omega arith in
-    let e₂ : (p + k) / 8 ≡ p / 8 = omega arith in
-    let e₃ : 7 - (p + k) % 8 ≡ e = omega arith in
+    let e₁ : 8 - p % 8 - k ≡ e + 1 = bits-below p k h in
+    let e₂ : (p + k) / 8 ≡ p / 8 = same-byte p k h in
+    let e₃ : 7 - (p + k) % 8 ≡ e = bit-below p k h in
     let a : bitsAt bs p k ≡ x / 2 ^ e / 2 ^ 1 % 2 ^ k = bits-byte bs p k (omega arith) ∙ ap (λ (j : ℕ). x / 2 ^ j % 2 ^ k) e₁ ∙ ap (λ (j : ℕ). j % 2 ^ k) (sym (shr-shr x e 1)) in
     let b : bitAt bs (p + k) ≡ x / 2 ^ e % 2 ^ 1 = rw (e₂, e₃) in
     let m : x / 2 ^ e % 2 ^ suc k ≡ (x / 2 ^ e / 2 ^ 1 % 2 ^ k) * 2 ^ 1 + x / 2 ^ e % 2 ^ 1 = ap (λ (j : ℕ). x / 2 ^ e % 2 ^ j) (sym (add-one k)) ∙ mod-pow-add (x / 2 ^ e) k 1 in
