@@ -1,8 +1,9 @@
 #!/usr/bin/env bash
-# Every file, name and quoted line that docs/PROMISES.md, docs/CALLS.md and docs/DESIGN.md cite is there; and that test does find a wrong citation.
+# Every file, name and quoted line that README.md, the pages of docs/ and the landing notes cite is there; and that test does find a wrong
+# citation.
 set -eu
 cd "$(dirname "$0")/.."
-python3 tests/cites.py docs/PROMISES.md docs/CALLS.md docs/DESIGN.md
+python3 tests/cites.py README.md docs/*.md docs/landings/*.md
 
 made=$(mktemp -d)
 trap 'rm -r "$made"' EXIT
@@ -17,3 +18,4 @@ found docs/PROMISES.md 's,`transport/specs/Promise.antt`,`transport/specs/Promis
 found docs/PROMISES.md 's/: `_andThen_` and `each`/: `_andThen_` and `eachOf`/'
 found docs/CALLS.md 's/^total: accepted 200000/total: accepted 200001/'
 found docs/CALLS.md 's/^    masses: &\[u64\],/    masses: \&[u32],/'
+found docs/landings/S-04.md 's,`kept/specs/Store.antt`,`store/specs/Store.antt`,'
