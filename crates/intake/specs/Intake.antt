@@ -16,7 +16,8 @@ abbrev pub stillNeeded : Outcome ℕ → ℕ → ℕ
 stillNeeded (accepted n) got = min n recordBytes - got
 stillNeeded (refused _ _) got = 0
 
--- Of a record of which `count` bytes have come no more were asked for than its head, and then what that says. The bytes begin with the head.
+-- Of a record no more bytes are counted than its head has and what that then asks for, and the head stays in front. That none past them is
+-- taken from the input, and that fewer come only where it ends, is left to the system.
 pub record Asked (head : ℕ) (needs : List ℕ → Outcome ℕ) (bytes : List ℕ) (count : ℕ) : Type 0 where
   pub come : ℕ
   pub of-the-head : come ≤ head

@@ -45,7 +45,7 @@ raised cells field releases = table cells (λ c. getD field c 0 + getD releases 
 unfoldable pub releasedMass : (cells : ℕ) (releases : List ℕ) → ℕ
 releasedMass cells releases = sum cells (λ c. getD releases c 0)
 
--- "Mesh, water and salt", items 4 and 5: what a step works on, m and q per cell, U and an outside value per face. The stages are those of any q.
+-- "Mesh, water and salt", items 4 and 5: what a step works on, m and q per cell, U and an outside value per face. The stages are written for any q.
 pub record StepInput : Type 0 where
   pub mesh : Mesh
   pub masses : List ℕ

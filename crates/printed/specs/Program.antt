@@ -1,5 +1,5 @@
--- What the run program does, call by call. Each fact is the contract of the call that run/src makes at that place; the order is the
--- program's. Of reading and writing no contract can speak: it is taken here that a read gives the next bytes of the input, fewer only where
+-- What the run program does, call by call. Each fact is the contract of the call that run/src, session/src/printing.rt or intake/src makes at
+-- that place; the order is the program's. Of reading and writing no contract can speak: it is taken here that a read gives the next bytes of the input, fewer only where
 -- it ends, and that a write prints what it is lent.
 use Prim.Native.Nat.{ℕ, _+_, _<_}
 use mathlib.Core.Path.{_≡_}
@@ -14,8 +14,7 @@ use Rattle.model.specs.declared.Refusal.{Refusal}
 use Rattle.checks.specs.declared.TotalAnswer.the-variants as total
 use Rattle.bits.specs.Layout.{bytesFor}
 use Rattle.heads.specs.Layouts.{meshHeadBits, fieldHeadBits, stepHeadBits}
-use Rattle.heads.specs.Heads.{meshNeeds, fieldNeeds, stepNeeds}
-use Rattle.heads.specs.Heads.{lengthSaid}
+use Rattle.heads.specs.Heads.{lengthSaid, meshNeeds, fieldNeeds, stepNeeds}
 use Rattle.reading.specs.declared.MeshCounts.{MeshCounts}
 use Rattle.heads.specs.declared.LengthAnswer.{LengthAnswer}
 use Rattle.reading.specs.declared.MeshAnswer.the-variants as mesh

@@ -37,7 +37,7 @@ goesOnAfter (refused cause place) = not (endsBy cause)
 abbrev pub goesOn : StepTaken → Bool
 goesOn taken = goesOnAfter (takenSaid taken)
 
--- What follows a step after which another may follow or not: that, or the board, unless its line is lost.
+-- What follows a step after which another may follow or not: that, or the board. Nothing may follow at any time, since any line can be lost.
 abbrev pub Follows : Next → Bool → Type 0
 Follows Step more = more ≡ true
 Follows Board more = more ≡ false

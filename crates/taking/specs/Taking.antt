@@ -28,7 +28,9 @@ pub record FieldTaking (cells : ℕ) (volumes bs masses : List ℕ) (r : TotalAn
   pub answer : totalSaid r ≡ (fieldJudged cells volumes bs (length masses) andThen accepted (total (cellsOnly cells volumes) (massIn (massesIn bs cells))))
   pub masses-after : masses′ ≡ taken (fieldJudged cells volumes bs (length masses)) (over (massesIn bs cells) masses) masses
 
--- A STEP. A table of n entries x
+-- A STEP.
+
+-- a table of n entries x
 unfoldable pub blank : {A : Type 0} → ℕ → A → List A
 blank n x = replicate n x
 
