@@ -13,6 +13,7 @@ sys.path.insert(0, str(Path(__file__).resolve().parent.parent / "reference"))
 import lagoon
 
 STEPS, PRIME, BASE = 16, 1_000_000_007, 1_000_003
+SCALE = 436                 # of the large lagoon, on the other
 
 
 def wave(k):
@@ -21,13 +22,15 @@ def wave(k):
 def stream(x, y):
     return 5 * wave(x) * wave(y) + 37 * x * y % 11
 
-def make(width, height):
+def make(width, height, large=False):
     """The tables in document 01's order up to the outsides."""
+    scale = SCALE if large else 1
+    scaled = lambda value: min(scale * value, lagoon.CEILING)
     volumes, masses = [], []
     firsts, seconds, shares, reaches, fluxes, outsides = [], [], [], [], [], []
     for c in range(width * height):
         y, x = divmod(c, width)
-        V = 150 + 29 * c % 256
+        V = scaled(150 + 29 * c % 256)
         q = 900000 + 7919 * c % 100000 if (x // 6 + y // 6) % 2 == 0 else 4973 * c % 100000
         volumes.append(V)
         masses.append(V * q + 31 * c % 150)
@@ -38,32 +41,48 @@ def make(width, height):
             firsts.append(c)
             seconds.append(lagoon.RIM if is_open else beyond)
             shares.append(0 if is_open else 64 + 53 * f % 128)
-            reaches.append(0 if is_open else 80 + 23 * f % 256)
-            fluxes.append(U)
+            reaches.append(0 if is_open else scaled(80 + 23 * f % 256))
+            fluxes.append(scale * U)
             outsides.append(f % 5 * 250000 if is_open and U < 0 else 0)
     return [volumes, firsts, seconds, shares, reaches, masses, fluxes, outsides]
 
 def mixed(digest, x):
     return (digest * BASE + x % PRIME) % PRIME
 
+def products(mesh, kept, gains, losses):
+    """What the limiter divides: a·G where the receiver's P is above G, a·L where the giver's N is above L."""
+    ends = [(*lagoon.runs(first, second, c), abs(c)) for first, second, c in zip(mesh.firsts, mesh.seconds, kept) if c != 0]
+    entering, leaving = [0] * len(gains), [0] * len(losses)
+    for giver, receiver, a in ends:
+        entering[receiver] += a
+        leaving[giver] += a
+    for giver, receiver, a in ends:
+        if entering[receiver] > gains[receiver]:
+            yield a * gains[receiver]
+        if leaving[giver] > losses[giver]:
+            yield a * losses[giver]
+
 def how_busy(tables):
-    """Of one step: faces with water, rim inflows and outflows, corrections, those cancelled, those cut, those cut to nothing."""
+    """Of one step: faces with water, rim inflows and outflows, corrections, those cancelled, those cut, those cut to nothing,
+    and the limiter's products that take more than 64 bits."""
     mesh, masses, fluxes, outsides = lagoon.Mesh(*tables[:5]), *tables[5:8]
     q = lagoon.concentrations(mesh.volumes, masses)
     _, low = lagoon.upwind(mesh, masses, q, fluxes, outsides)
     wanted = lagoon.corrections(mesh, q, fluxes)
     kept = lagoon.keep(mesh, low, wanted)
-    limited = lagoon.limiter(mesh, kept, *lagoon.bounds(mesh, low, q, fluxes, outsides))
+    allowed = lagoon.bounds(mesh, low, q, fluxes, outsides)
+    limited = lagoon.limiter(mesh, kept, *allowed)
     rims = [U for U, second in zip(fluxes, mesh.seconds) if second == lagoon.RIM]
     return {"faces": len(fluxes), "water": sum(U != 0 for U in fluxes),
             "in": sum(U < 0 for U in rims), "out": sum(U > 0 for U in rims),
             "corrections": sum(a != 0 for a in wanted), "back": sum(a < 0 for a in wanted),
             "cancelled": sum(a != b for a, b in zip(wanted, kept)), "cut": sum(a != b for a, b in zip(kept, limited)),
-            "cut to 0": sum(a != 0 and b == 0 for a, b in zip(kept, limited))}
+            "cut to 0": sum(a != 0 and b == 0 for a, b in zip(kept, limited)),
+            "past 64 bits": sum(product >= 1 << 64 for product in products(mesh, kept, *allowed))}
 
-def one_round(width, height, watch=lambda step, tables: None):
+def one_round(width, height, large=False, watch=lambda step, tables: None):
     """Masses and moved after one round, and in-mass and out-mass of all its steps."""
-    tables = make(width, height)
+    tables = make(width, height, large)
     cells, faces = width * height, 2 * width * height
     entered = gone = 0
     for step in range(STEPS):
@@ -81,24 +100,25 @@ def digest_of(numbers):
         digest = mixed(digest, x)
     return digest
 
-def line_of_tables(width, height):
+def line_of_tables(width, height, large=False):
     """What yardstick and bench_step print for one round."""
-    masses, moved, entered, gone = one_round(width, height)
+    masses, moved, entered, gone = one_round(width, height, large)
     return f"{sum(masses)} {entered} {gone} {digest_of(masses + [2 * abs(x) + (x < 0) for x in moved])}\n"
 
-def line_of_records(width, height):
+def line_of_records(width, height, large=False):
     """What records prints for one round of calls."""
-    masses, *_ = one_round(width, height)
+    masses, *_ = one_round(width, height, large)
     return f"{sum(masses)} {digest_of(masses)}\n"
 
 def main():
     parser = argparse.ArgumentParser(description=__doc__, formatter_class=argparse.RawDescriptionHelpFormatter)
     parser.add_argument("width", type=int)
     parser.add_argument("height", type=int)
+    parser.add_argument("--large", action="store_true", help="volumes, reaches and fluxes up to document 02's ceiling")
     options = parser.parse_args()
-    print(line_of_tables(options.width, options.height), end="")
-    one_round(options.width, options.height,
-              lambda step, tables: print(f"step {step}:", how_busy(tables), file=sys.stderr))
+    lagoon_of = options.width, options.height, options.large
+    print(line_of_tables(*lagoon_of), end="")
+    one_round(*lagoon_of, watch=lambda step, tables: print(f"step {step}:", how_busy(tables), file=sys.stderr))
 
 
 if __name__ == "__main__":

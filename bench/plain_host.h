@@ -1,4 +1,5 @@
-/* A plain C host of the documents' records: unpacks mesh, field and step, packs the next field, tests nothing. */
+/* A plain C host of the documents' records: unpacks mesh, field and step, packs the next field, tests nothing. The records are narrow,
+   compiled with LARGE wide. */
 #ifndef PLAIN_HOST_H
 #define PLAIN_HOST_H
 
@@ -8,7 +9,15 @@
 
 #include "plain_step.h"
 
-enum { HOST_CELLS = 1023, HOST_FACES = 2046, HEAD = 4, FIELD_HEAD = 2, RECORD = 16384, OUTFALLS = 4 };
+enum { HOST_CELLS = 1023, HOST_FACES = 2046, HEAD = 4, FIELD_HEAD = 2, RECORD = 16384 };
+
+/* Bits of a volume, a reach and the size of a flux; of a mass and a release; and the kinds. */
+#ifdef LARGE
+enum { VALUE_BITS = 16, MASS_BITS = 40, MESH = 5, FIELD = 6, WATER = 7, OUTFALLS = 8 };
+#else
+enum { VALUE_BITS = 12, MASS_BITS = 32, MESH = 1, FIELD = 2, WATER = 3, OUTFALLS = 4 };
+#endif
+enum { FACE_BITS = 12 + 12 + 8 + VALUE_BITS, FLUX_BITS = 1 + VALUE_BITS, MASS_BYTES = MASS_BITS / 8 };
 
 /* A record and the bit that reading or writing has come to. */
 struct cursor {
@@ -49,18 +58,18 @@ static void unpack_mesh(struct host *h, uint8_t *record) {
   h->cells = get(&c, 12);
   h->faces = get(&c, 13);
   c.at += 3;
-  for (size_t i = 0; i < h->cells; i++) h->volumes[i] = get(&c, 12);
+  for (size_t i = 0; i < h->cells; i++) h->volumes[i] = get(&c, VALUE_BITS);
   for (size_t f = 0; f < h->faces; f++) {
     h->firsts[f] = get(&c, 12);
     h->seconds[f] = get(&c, 12);
     h->shares[f] = get(&c, 8);
-    h->reaches[f] = get(&c, 12);
+    h->reaches[f] = get(&c, VALUE_BITS);
   }
 }
 
 static void unpack_field(struct host *h, uint8_t *record) {
   struct cursor c = {record, 8 * FIELD_HEAD};
-  for (size_t i = 0; i < h->cells; i++) h->masses[i] = get(&c, 32);
+  for (size_t i = 0; i < h->cells; i++) h->masses[i] = get(&c, MASS_BITS);
 }
 
 static unsigned kind_of(const uint8_t *record) { return record[0] >> 4; }
@@ -69,20 +78,20 @@ static void unpack_step(struct host *h, uint8_t *record) {
   struct cursor c = {record, 8 * HEAD};
   for (size_t f = 0; f < h->faces; f++) {
     uint64_t minus = get(&c, 1);
-    int64_t size = (int64_t)get(&c, 12);
+    int64_t size = (int64_t)get(&c, VALUE_BITS);
     h->fluxes[f] = minus ? -size : size;
   }
   for (size_t f = 0; f < h->faces; f++) h->outsides[f] = h->seconds[f] == RIM ? get(&c, 20) : 0;
   unsigned kind = kind_of(record);
-  for (size_t i = 0; i < h->cells; i++) h->releases[i] = kind == OUTFALLS ? get(&c, 32) : 0;
+  for (size_t i = 0; i < h->cells; i++) h->releases[i] = kind == OUTFALLS ? get(&c, MASS_BITS) : 0;
 }
 
 static void pack_field(const uint64_t *masses, size_t cells, uint8_t *record) {
   struct cursor c = {record, 0};
-  memset(record, 0, FIELD_HEAD + 4 * cells);
-  put(&c, 2, 4);
+  memset(record, 0, FIELD_HEAD + MASS_BYTES * cells);
+  put(&c, FIELD, 4);
   put(&c, cells, 12);
-  for (size_t i = 0; i < cells; i++) put(&c, masses[i], 32);
+  for (size_t i = 0; i < cells; i++) put(&c, masses[i], MASS_BITS);
 }
 
 static void host_step(struct host *h) {

@@ -1,4 +1,5 @@
-/* The arithmetic of one step of document 01, with document 02's S-5 and S-6, as plain C, with no test of its input. */
+/* The arithmetic of one step of document 01, with document 02's S-5 and S-6, as plain C, with no test of its input. Compiled with LARGE it is
+   that of S-10's ceilings too, with which a mass has up to 36 bits and a product of the limiter more than 64. */
 #ifndef PLAIN_STEP_H
 #define PLAIN_STEP_H
 
@@ -17,7 +18,17 @@ static inline void widen(struct cell *c, uint64_t q) {
   if (q > c->hi_or_g) c->hi_or_g = q;
 }
 
-static inline uint64_t portion(uint64_t a, uint64_t g, uint64_t p) { return p <= g ? a : a * g / p; }
+#ifdef LARGE
+typedef uint64_t mass_type;
+typedef unsigned __int128 product_type;
+#else
+typedef uint32_t mass_type; /* 32 bits divide faster */
+typedef uint64_t product_type;
+#endif
+
+static inline uint64_t concentration(uint64_t mass, uint64_t volume) { return (mass_type)mass / (mass_type)volume; }
+
+static inline uint64_t portion(uint64_t a, uint64_t g, uint64_t p) { return p <= g ? a : (uint64_t)((product_type)a * g / p); }
 
 static void step(size_t cells, size_t faces, const uint64_t *restrict volume, const uint64_t *restrict first,
                  const uint64_t *restrict second, const uint64_t *restrict share, const uint64_t *restrict reach,
@@ -28,7 +39,7 @@ static void step(size_t cells, size_t faces, const uint64_t *restrict volume, co
   uint64_t in = 0, out = 0, released = 0;
   for (size_t c = 0; c < cells; c++) {
     uint64_t raised = mass[c] + release[c];
-    uint64_t q = (uint32_t)raised / (uint32_t)volume[c]; /* raised masses fit 32 bits, which divide faster */
+    uint64_t q = concentration(raised, volume[c]);
     cell[c].q_or_p = cell[c].lo_or_l = cell[c].hi_or_g = q;
     after[c] = raised;
     released += release[c];
@@ -77,7 +88,7 @@ static void step(size_t cells, size_t faces, const uint64_t *restrict volume, co
     cell[c].hi_or_g = v * cell[c].hi_or_g + v - 1 - m;
     cell[c].lo_or_l = m - v * cell[c].lo_or_l;
     cell[c].q_or_p = cell[c].n = 0;
-    cell[c].low_q = (uint32_t)m / (uint32_t)v;
+    cell[c].low_q = concentration(m, v);
   }
 
   for (size_t f = 0; f < faces; f++) {

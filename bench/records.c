@@ -6,7 +6,7 @@
    records session WIDTH HEIGHT ROUNDS   writes a session for the run, with STEPS * ROUNDS steps
    records run                           the plain host as a run: a session from standard input, a line for each step
 
-   At most 1,023 cells. A round of the first three takes STEPS steps from the first field; they print the total and a
+   At most 1,023 cells. The records are narrow, compiled with LARGE wide. A round of the first three takes STEPS steps from the first field; they print the total and a
    digest of the last field. */
 #include <stdio.h>
 #include <stdlib.h>
@@ -22,16 +22,16 @@ static struct host host;
 
 static void pack_mesh(size_t cells, size_t faces) {
   struct cursor c = {mesh, 0};
-  put(&c, 1, 4);
+  put(&c, MESH, 4);
   put(&c, cells, 12);
   put(&c, faces, 13);
   put(&c, 0, 3);
-  for (size_t i = 0; i < cells; i++) put(&c, volumes[i], 12);
+  for (size_t i = 0; i < cells; i++) put(&c, volumes[i], VALUE_BITS);
   for (size_t f = 0; f < faces; f++) {
     put(&c, firsts[f], 12);
     put(&c, seconds[f], 12);
     put(&c, shares[f], 8);
-    put(&c, reaches[f], 12);
+    put(&c, reaches[f], VALUE_BITS);
   }
   mesh_length = whole_bytes(c.at);
 }
@@ -39,12 +39,12 @@ static void pack_mesh(size_t cells, size_t faces) {
 static void pack_water(size_t faces) {
   struct cursor c = {water, 0};
   memset(water, 0, sizeof water);
-  put(&c, 3, 4);
+  put(&c, WATER, 4);
   put(&c, faces, 13);
   put(&c, 0, 15);
   for (size_t f = 0; f < faces; f++) {
     put(&c, fluxes[f] < 0, 1);
-    put(&c, (uint64_t)llabs(fluxes[f]), 12);
+    put(&c, (uint64_t)llabs(fluxes[f]), VALUE_BITS);
   }
   for (size_t f = 0; f < faces; f++)
     if (seconds[f] == RIM) put(&c, outsides[f], 20);
@@ -120,15 +120,15 @@ static void run_session(void) {
   take(mesh, HEAD);
   struct cursor c = {mesh, 4};
   size_t cells = get(&c, 12), faces = get(&c, 13), rims = 0;
-  take(mesh + HEAD, whole_bytes(12 * cells + 44 * faces));
+  take(mesh + HEAD, whole_bytes(VALUE_BITS * cells + FACE_BITS * faces));
   unpack_mesh(&host, mesh);
-  take(here, FIELD_HEAD + 4 * cells);
+  take(here, FIELD_HEAD + MASS_BYTES * cells);
   unpack_field(&host, here);
   for (size_t f = 0; f < faces; f++) rims += host.seconds[f] == RIM;
-  size_t body = whole_bytes(13 * faces + 20 * rims);
+  size_t body = whole_bytes(FLUX_BITS * faces + 20 * rims);
   printf("0 0 0 %llu 0\n", (unsigned long long)total_of(host.masses, cells));
   for (uint64_t number = 1; fread(water, 1, HEAD, stdin) == HEAD; number++) {
-    take(water + HEAD, body + (kind_of(water) == OUTFALLS ? 4 * cells : 0));
+    take(water + HEAD, body + (kind_of(water) == OUTFALLS ? MASS_BYTES * cells : 0));
     unpack_step(&host, water);
     host_step(&host);
     memcpy(host.masses, host.next, cells * sizeof host.next[0]);
@@ -156,7 +156,7 @@ int main(int argc, char **argv) {
   pack_mesh(cells, faces);
   pack_water(faces);
   pack_field(field, cells, first_field);
-  field_length = FIELD_HEAD + 4 * cells;
+  field_length = FIELD_HEAD + MASS_BYTES * cells;
   if (strcmp(argv[1], "call") == 0)
     take_rounds(by_call, cells, rounds);
   else if (strcmp(argv[1], "plain") == 0)

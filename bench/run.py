@@ -1,7 +1,8 @@
 #!/usr/bin/env python3
 """make bench: the engine beside the same work in plain C, in one run, from a small lagoon to the largest.
 
-Three pairs of programs on the same lagoon: the step on tables, the host's call on records, and the run program.
+Three pairs of programs on the same lagoon: the step on tables, the host's call on records, and the run program. Each
+pair once more on the lagoon of large cells, at document 02's ceiling of 65,535 and in wide records.
 A time is the least processor time of many short runs, the programs in turn, since a shared machine only ever adds to it;
 a process with one round is taken off, so that starting and making the lagoon do not count.
 Instructions are those that valgrind's callgrind counts, and repeat exactly.
@@ -14,6 +15,7 @@ import os
 import re
 import subprocess
 import sys
+from collections import namedtuple
 from pathlib import Path
 
 TOP = Path(__file__).resolve().parent.parent
@@ -31,7 +33,8 @@ LARGEST, SMALL = (33, 31), (16, 8)      # grids of 1,023 and 128 cells, for reco
 # Callgrind counts `rep stosb` and `rep movsb` as an instruction for each byte, so memset and memcpy are kept from them.
 NO_REP = "glibc.cpu.x86_rep_stosb_threshold=1000000000:glibc.cpu.x86_rep_movsb_threshold=1000000000"
 
-YARDSTICK, RECORDS = OUT / "yardstick", OUT / "records"
+# Plain C, within the old ceilings and compiled with LARGE.
+YARDSTICK, RECORDS = (OUT / "yardstick", OUT / "yardstick_large"), (OUT / "records", OUT / "records_large")
 BENCH_STEP, RUN = TOP / "target" / "bin" / "bench_step", TOP / "target" / "bin" / "run"
 LIBRARY = TOP / "target" / "staticlib" / "liblagoon.a"
 
@@ -49,8 +52,9 @@ def build(engine_too):
         command("rt", "check", "bench_step", "run")
         command("rt", "staticlib", "lagoon")
     gcc = ("gcc", "-std=c11", "-O3", "-Wall", "-Wextra", "-Werror")
-    command(*gcc, "bench/yardstick.c", "-o", YARDSTICK)
-    command(*gcc, "bench/records.c", LIBRARY, "-o", RECORDS)
+    for large, defined in enumerate(((), ("-DLARGE",))):
+        command(*gcc, *defined, "bench/yardstick.c", "-o", YARDSTICK[large])
+        command(*gcc, *defined, "bench/records.c", LIBRARY, "-o", RECORDS[large])
 
 
 # ---------------------------------------------------------------- What is measured
@@ -64,22 +68,23 @@ def faces_of(size):
 
 
 @functools.cache
-def session(size, rounds):
+def session(size, rounds, large):
     """The path of a session for the run, written at its first use."""
-    path = OUT / f"session-{size[0]}-{size[1]}-{rounds}"
-    path.write_bytes(command(RECORDS, "session", *size, rounds))
+    path = OUT / f"session-{size[0]}-{size[1]}-{rounds}-{large}"
+    path.write_bytes(command(RECORDS[large], "session", *size, rounds))
     return path
 
 
 class Program:
-    """A program that takes so many rounds on a grid, from arguments or from a session."""
+    """A program that takes so many rounds on a grid, from arguments or from a session; large: on that of large cells."""
 
-    def __init__(self, name, *words, reads_session=False):
-        self.name, self.words, self.reads_session = name, words, reads_session
+    def __init__(self, *words, large, reads_session=False, told=False):
+        self.words, self.large, self.reads_session, self.told = words, large, reads_session, told
+        self.name = " ".join((words[0].name, *words[1:]))
 
     def start(self, before, size, rounds, **more):
-        arguments = [] if self.reads_session else [*size, rounds]
-        source = open(session(size, rounds)) if self.reads_session else subprocess.DEVNULL
+        arguments = [] if self.reads_session else [*size, rounds, *([self.large] if self.told else [])]
+        source = open(session(size, rounds, self.large)) if self.reads_session else subprocess.DEVNULL
         words = [str(word) for word in (*before, *self.words, *arguments)]
         return subprocess.Popen(words, stdin=source, **more)
 
@@ -88,7 +93,7 @@ class Program:
         text = process.communicate()[0].decode()
         if process.returncode:
             sys.exit(f"bench: {self.name} ends with status {process.returncode}")
-        return "".join(line for line in text.splitlines(True) if not line.startswith("B"))
+        return without_board(text)
 
     def seconds(self, size, rounds):
         """Processor time of a process."""
@@ -104,18 +109,34 @@ class Program:
         return int(re.search(r"Collected : (\d+)", said).group(1))
 
 
-PLAIN_STEP, STEP = Program("yardstick", YARDSTICK), Program("bench_step", BENCH_STEP)
-PLAIN_CALL, CALL = Program("records plain", RECORDS, "plain"), Program("records call", RECORDS, "call")
-PLAIN_RUN, RUN_ITSELF = (Program("records run", RECORDS, "run", reads_session=True),
-                         Program("run", RUN, reads_session=True))
-UNPACK = Program("records unpack", RECORDS, "unpack")
+def run_lines(width, height, large):
+    """What a run prints of the session of one round, without its board."""
+    return without_board(lagoon.run(session((width, height), 1, large).read_bytes()))
 
-# What is done, plain C, engine, large and small grid.
-PAIRS = [("step on tables", PLAIN_STEP, STEP, WHOLE, EIGHTH),
-         ("call on records", PLAIN_CALL, CALL, LARGEST, SMALL),
-         ("a step of the run", PLAIN_RUN, RUN_ITSELF, LARGEST, SMALL)]
+
+def without_board(text):
+    return "".join(line for line in text.splitlines(True) if not line.startswith("B"))
+
+
+# What is done, plain C, engine, the grids on which it is done, the more cells first, and what the reference prints.
+Pair = namedtuple("Pair", "name plain engine sizes reference")
+
+
+def pairs_on(large):
+    at = " at 65,535" if large else ""
+    return [Pair("step on tables" + at, Program(YARDSTICK[large], large=large), Program(BENCH_STEP, large=large, told=True),
+                 (WHOLE, EIGHTH), busy.line_of_tables),
+            Pair("call on records" + at, Program(RECORDS[large], "plain", large=large),
+                 Program(RECORDS[large], "call", large=large), (LARGEST, SMALL), busy.line_of_records),
+            Pair("a step of the run" + at, Program(RECORDS[large], "run", large=large, reads_session=True),
+                 Program(RUN, large=large, reads_session=True), (LARGEST, SMALL), run_lines)]
+
+
+PAIRS = [*pairs_on(0), *pairs_on(1)]
+TABLES, CALLS, RUNS = PAIRS[:3]
 # What a call is made of, on the largest grid for records.
-PARTS = [("unpack and pack, plain C", UNPACK), ("step on tables, plain C", PLAIN_STEP), ("step on tables, engine", STEP)]
+PARTS = [("unpack and pack, plain C", Program(RECORDS[0], "unpack", large=0)), ("step on tables, plain C", TABLES.plain),
+         ("step on tables, engine", TABLES.engine)]
 
 
 def demand_equal(what, *texts):
@@ -125,21 +146,16 @@ def demand_equal(what, *texts):
 
 def check_answers(rounds):
     """The reference's line for one round, and each other's for many."""
-    for _, plain, engine, *sizes in PAIRS:
+    for _, plain, engine, sizes, reference in PAIRS:
         for size in sizes:
-            if plain is PLAIN_RUN:
-                text = lagoon.run(session(size, 1).read_bytes())
-                want = "".join(line for line in text.splitlines(True) if not line.startswith("B"))
-            else:
-                want = (busy.line_of_tables if plain is PLAIN_STEP else busy.line_of_records)(*size)
             demand_equal(f"{plain.name}, {engine.name} and the reference", plain.prints(size, 1),
-                         engine.prints(size, 1), want)
+                         engine.prints(size, 1), reference(*size, plain.large))
             demand_equal(f"{plain.name} and {engine.name}", plain.prints(size, rounds), engine.prints(size, rounds))
 
 
 def measured():
     """The programs with the grids on which they are measured."""
-    for _, plain, engine, *sizes in PAIRS:
+    for _, plain, engine, sizes, _ in PAIRS:
         for size in sizes:
             yield plain, size
             yield engine, size
@@ -175,7 +191,7 @@ def line(label, plain, engine, last):
 
 def report_steps(values):
     print(f"\n{'one step, in microseconds':<44}{'plain C':>10}{'engine':>10}{'ratio':>9}")
-    for name, plain, engine, *sizes in PAIRS:
+    for name, plain, engine, sizes, _ in PAIRS:
         for size in sizes:
             a, b = values[plain, size], values[engine, size]
             line(f"{name}, {cells_of(size):,} cells", a, b, f"{b / a:.2f}")
@@ -184,12 +200,12 @@ def report_steps(values):
 def report_faces(title, values, factor):
     """Values of a step divided by its faces, and how that grows from the small lagoon to the large one."""
     print(f"\n{title:<44}{'plain C':>10}{'engine':>10}{'ratio':>9}")
-    for name, plain, engine, large, small in PAIRS:
-        shown = {}
-        for size in (large, small):
-            shown[size] = [values[program, size] * factor / faces_of(size) for program in (plain, engine)]
-            line(f"{name}, {faces_of(size):,} faces", *shown[size], f"{shown[size][1] / shown[size][0]:.2f}")
-        line("  growth, small to large", *(a / b for a, b in zip(shown[large], shown[small])), "")
+    for name, plain, engine, sizes, _ in PAIRS:
+        shown = []
+        for size in sizes:
+            shown.append([values[program, size] * factor / faces_of(size) for program in (plain, engine)])
+            line(f"{name}, {faces_of(size):,} faces", *shown[-1], f"{shown[-1][1] / shown[-1][0]:.2f}")
+        line("  growth, small to large", *(a / b for a, b in zip(*shown)), "")
 
 
 def report_parts(unit, values):
@@ -197,8 +213,8 @@ def report_parts(unit, values):
     print(f"\nof a call on {cells_of(LARGEST):,} cells, in {unit}")
     for label, program in PARTS:
         print(f"{label:<44}{values[program, LARGEST]:>10.0f}")
-    for label, call, step in (("beside the step, plain C", PLAIN_CALL, PLAIN_STEP),
-                              ("beside the step, engine", CALL, STEP)):
+    for label, call, step in (("beside the step, plain C", CALLS.plain, TABLES.plain),
+                              ("beside the step, engine", CALLS.engine, TABLES.engine)):
         whole, rest = values[call, LARGEST], values[call, LARGEST] - values[step, LARGEST]
         print(f"{label:<44}{rest:>10.0f}   {rest / whole:.0%} of the call")
 
@@ -217,7 +233,7 @@ def main():
         report_steps(values)
         report_faces("nanoseconds per face", values, 1000)
         report_parts("microseconds", values)
-        print(f"\nsteps per second of the run on {cells_of(LARGEST):,} cells: {1e6 / values[RUN_ITSELF, LARGEST]:,.0f}")
+        print(f"\nsteps per second of the run on {cells_of(LARGEST):,} cells: {1e6 / values[RUNS.engine, LARGEST]:,.0f}")
     values = counts()
     report_faces("instructions per face", values, 1)
     report_parts("instructions", values)

@@ -1,5 +1,6 @@
 /* The arithmetic of one step of document 01 as plain C, with no test of its input, on a lagoon made here.
-   crates/bench_step makes the same lagoon and calls the engine: both print the same line.
+   crates/bench_step makes the same lagoon and calls the engine: both print the same line. Compiled with LARGE it is
+   that of document 02's S-10, on a lagoon of large cells.
 
    yardstick WIDTH HEIGHT ROUNDS: a grid of WIDTH * HEIGHT cells, at most 4,095; each round takes STEPS steps from
    the first field. Printed: total, in-mass and out-mass of all steps, digest of the last masses and moved. */

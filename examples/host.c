@@ -1,5 +1,6 @@
 /* A small host: the channel session of document 01, and a third step that releases brine into the second cell. It steps a field in a loop,
- * prints each field with its concentrations, its total and the budget, then shows how a refusal is read. */
+ * prints each field with its concentrations, its total and the budget, then shows how a refusal is read. Last it takes a step on a channel
+ * through a bay too large for narrow records, in wide ones. */
 #include <inttypes.h>
 #include <stdio.h>
 #include <string.h>
@@ -10,19 +11,19 @@ enum { CELLS = 3, FACES = 4, RIM_FACES = 2, STEPS = 3, OUTFALL = 3 }; /* the thi
 
 static const uint32_t volumes[CELLS] = {100, 100, 100};
 static const struct lagoon_face faces[FACES] = {{0, LAGOON_RIM, 0, 0}, {0, 1, 128, 100}, {1, 2, 128, 100}, {2, LAGOON_RIM, 0, 0}};
-static const uint32_t masses[CELLS] = {100000, 0, 0};
+static const uint64_t masses[CELLS] = {100000, 0, 0};
 static const int32_t fluxes[FACES] = {-50, 50, 50, 50};
 static const uint32_t outsides[FACES] = {1000, 0, 0, 0};
-static const uint32_t releases[CELLS] = {0, 20000, 0};
+static const uint64_t releases[CELLS] = {0, 20000, 0};
 
-static void print_field(unsigned step, const uint8_t *field)
+static void print_field(unsigned step, const uint8_t *mesh, const uint8_t *field)
 {
     printf("step %u: masses", step);
     for (size_t cell = 0; cell < CELLS; cell++)
-        printf(" %" PRIu32, lagoon_mass(field, cell));
+        printf(" %" PRIu64, lagoon_mass(field, cell));
     printf(", concentrations");
     for (size_t cell = 0; cell < CELLS; cell++)
-        printf(" %" PRIu32, lagoon_mass(field, cell) / volumes[cell]);
+        printf(" %" PRIu64, lagoon_mass(field, cell) / lagoon_volume(mesh, cell));
     printf(", total %" PRIu64 "\n", lagoon_total(field, CELLS));
 }
 
@@ -32,6 +33,32 @@ static void print_refusal(const char *why, uint64_t answer)
            LAGOON_PLACE(answer));
 }
 
+/* The middle cell has the largest volume, its faces the largest reach: the mesh asks for wide records, and field and steps follow it. */
+static int step_large_bay(void)
+{
+    const uint32_t large[CELLS] = {40000, LAGOON_MAX_VOLUME, 40000};
+    const struct lagoon_face wide_faces[FACES] = {{0, LAGOON_RIM, 0, 0}, {0, 1, 128, LAGOON_MAX_REACH}, {1, 2, 128, LAGOON_MAX_REACH},
+                                                  {2, LAGOON_RIM, 0, 0}};
+    const uint64_t salt[CELLS] = {1400000000, 65535065534, 40000000000};
+    const int32_t tide[FACES] = {-20000, 20000, 20000, 20000};
+    const uint32_t sea[FACES] = {35000, 0, 0, 0};
+    const enum lagoon_width width = lagoon_width_for(CELLS, large, FACES, wide_faces);
+    uint8_t mesh[LAGOON_WIDE_MESH_BYTES(CELLS, FACES)], water[LAGOON_WIDE_STEP_BYTES(FACES, RIM_FACES)];
+    uint8_t field[LAGOON_WIDE_FIELD_BYTES(CELLS)], next[LAGOON_WIDE_FIELD_BYTES(CELLS)];
+    size_t mesh_length = lagoon_put_mesh(mesh, width, CELLS, large, FACES, wide_faces);
+    size_t field_length = lagoon_put_field(field, width, CELLS, salt);
+    size_t water_length = lagoon_put_step(water, width, FACES, wide_faces, tide, sea);
+    uint64_t answer = lagoon_step(mesh, mesh_length, field, field_length, water, water_length, next, sizeof next);
+    if (answer != 0) {
+        print_refusal("refused", answer);
+        return 1;
+    }
+    printf("a large bay, in records of kinds %d, %d and %d\n", mesh[0] >> 4, field[0] >> 4, water[0] >> 4);
+    print_field(0, mesh, field);
+    print_field(1, mesh, next);
+    return 0;
+}
+
 int main(void)
 {
     uint8_t mesh[LAGOON_MESH_BYTES(CELLS, FACES)], water[LAGOON_STEP_BYTES(FACES, RIM_FACES)];
@@ -39,13 +66,13 @@ int main(void)
     uint8_t field[LAGOON_FIELD_BYTES(CELLS)], next[LAGOON_FIELD_BYTES(CELLS)];
     uint64_t answer, first, entered = 0, gone = 0, released = 0;
 
-    lagoon_put_mesh(mesh, CELLS, volumes, FACES, faces);
-    lagoon_put_field(field, CELLS, masses);
-    lagoon_put_step(water, FACES, faces, fluxes, outsides);
-    lagoon_put_outfalls(outfall, CELLS, releases, FACES, faces, fluxes, outsides);
+    lagoon_put_mesh(mesh, LAGOON_NARROW, CELLS, volumes, FACES, faces);
+    lagoon_put_field(field, LAGOON_NARROW, CELLS, masses);
+    lagoon_put_step(water, LAGOON_NARROW, FACES, faces, fluxes, outsides);
+    lagoon_put_outfalls(outfall, LAGOON_NARROW, CELLS, releases, FACES, faces, fluxes, outsides);
 
     first = lagoon_total(field, CELLS);
-    print_field(0, field);
+    print_field(0, mesh, field);
     for (unsigned n = 1; n <= STEPS; n++) {
         const uint8_t *step = n == OUTFALL ? outfall : water;
         size_t length = n == OUTFALL ? sizeof outfall : sizeof water;
@@ -60,7 +87,7 @@ int main(void)
         gone += out_mass;
         released += released_mass;
         memcpy(field, next, sizeof field);
-        print_field(n, field);
+        print_field(n, mesh, field);
     }
     printf("budget: %" PRIu64 " + %" PRIu64 " + %" PRIu64 " - %" PRIu64 " = %" PRIu64 "\n", first, entered, released, gone,
            first + entered + released - gone);
@@ -69,11 +96,11 @@ int main(void)
     print_refusal("a byte too little for the next field", answer);
     answer = lagoon_step(mesh, sizeof mesh, field, sizeof field - 1, water, sizeof water, next, sizeof next);
     print_refusal("a field record cut short", answer);
-    lagoon_put(outfall, lagoon_releases_at(mesh), LAGOON_MASS_BITS, 100000000);
+    lagoon_put(outfall, lagoon_releases_at(mesh), lagoon_mass_bits(LAGOON_NARROW), 100000000);
     answer = lagoon_step(mesh, sizeof mesh, field, sizeof field, outfall, sizeof outfall, next, sizeof next);
     print_refusal("too much brine for a cell", answer);
     field[2] = 0xff;
     answer = lagoon_step(mesh, sizeof mesh, field, sizeof field, water, sizeof water, next, sizeof next);
     print_refusal("too much salt in a cell", answer);
-    return 0;
+    return step_large_bay();
 }

@@ -1,15 +1,16 @@
-/* A whole host: reads a session (a mesh record, a field record, step records) from standard input, prints the lines of the run program and,
- * on standard error, the budget. With a file name as argument it writes the last field record there, so that the next session can start
- * from it: cat mesh.bin last.bin steps.bin. */
+/* A whole host: reads a session (a mesh record, a field record, step records, narrow or wide as the mesh is) from standard input, prints the
+ * lines of the run program and, on standard error, the budget. With a file name as argument it writes the last field record there, so that
+ * the next session can start from it: cat mesh.bin last.bin steps.bin. */
 #include <inttypes.h>
 #include <stdio.h>
 #include <string.h>
 
 #include "lagoon_records.h"
 
-static uint8_t mesh[LAGOON_MESH_BYTES(LAGOON_MAX_CELLS, LAGOON_MAX_FACES)];
-static uint8_t step[LAGOON_OUTFALLS_BYTES(LAGOON_MAX_CELLS, LAGOON_MAX_FACES, LAGOON_MAX_FACES)];
-static uint8_t field[LAGOON_FIELD_BYTES(LAGOON_MAX_CELLS)], next[LAGOON_FIELD_BYTES(LAGOON_MAX_CELLS)];
+/* The wide records are the longest. */
+static uint8_t mesh[LAGOON_WIDE_MESH_BYTES(LAGOON_MAX_CELLS, LAGOON_MAX_FACES)];
+static uint8_t step[LAGOON_WIDE_OUTFALLS_BYTES(LAGOON_MAX_CELLS, LAGOON_MAX_FACES, LAGOON_MAX_FACES)];
+static uint8_t field[LAGOON_WIDE_FIELD_BYTES(LAGOON_MAX_CELLS)], next[LAGOON_WIDE_FIELD_BYTES(LAGOON_MAX_CELLS)];
 
 static uint64_t refusal(uint32_t cause, uint32_t place)
 {
@@ -26,38 +27,39 @@ static uint64_t read_mesh(size_t *length)
 {
     if (fread(mesh, 1, 4, stdin) < 4)
         return refusal(LAGOON_LENGTH, 0);
-    if (lagoon_get(mesh, 0, LAGOON_KIND_BITS) != LAGOON_MESH)
+    if (!lagoon_is(mesh, lagoon_width_of(mesh), LAGOON_MESH))
         return refusal(LAGOON_HEAD, 0);
     if (lagoon_cells(mesh) == 0 || lagoon_cells(mesh) > LAGOON_MAX_CELLS)
         return refusal(LAGOON_LIMITS, 0);
     if (lagoon_faces(mesh) > LAGOON_MAX_FACES)
         return refusal(LAGOON_LIMITS, 1);
-    *length = LAGOON_MESH_BYTES(lagoon_cells(mesh), lagoon_faces(mesh));
+    *length = lagoon_mesh_bytes(lagoon_width_of(mesh), lagoon_cells(mesh), lagoon_faces(mesh));
     return read_rest(mesh, 4, *length);
 }
 
-static uint64_t read_field(size_t cells)
+static uint64_t read_field(enum lagoon_width width, size_t cells)
 {
     if (fread(field, 1, 2, stdin) < 2)
         return refusal(LAGOON_LENGTH, 0);
-    if (lagoon_get(field, 0, LAGOON_KIND_BITS) != LAGOON_FIELD)
+    if (!lagoon_is(field, width, LAGOON_FIELD))
         return refusal(LAGOON_HEAD, 0);
     if (lagoon_get(field, LAGOON_KIND_BITS, LAGOON_CELLS_BITS) != cells)
         return refusal(LAGOON_HEAD, 1);
-    return read_rest(field, 2, LAGOON_FIELD_BYTES(cells));
+    return read_rest(field, 2, lagoon_field_bytes(width, cells));
 }
 
 static uint64_t read_step(size_t got, size_t cells, size_t faces, size_t rims, size_t *length)
 {
-    uint32_t kind;
+    enum lagoon_width width = lagoon_width_of(mesh);
+    int releases;
     if (got < 4)
         return refusal(LAGOON_LENGTH, 0);
-    kind = lagoon_get(step, 0, LAGOON_KIND_BITS);
-    if (kind != LAGOON_STEP && kind != LAGOON_OUTFALLS)
+    releases = lagoon_is(step, width, LAGOON_OUTFALLS);
+    if (!releases && !lagoon_is(step, width, LAGOON_STEP))
         return refusal(LAGOON_HEAD, 0);
     if (lagoon_get(step, LAGOON_KIND_BITS, LAGOON_FACES_BITS) != faces)
         return refusal(LAGOON_HEAD, 1);
-    *length = kind == LAGOON_STEP ? LAGOON_STEP_BYTES(faces, rims) : LAGOON_OUTFALLS_BYTES(cells, faces, rims);
+    *length = releases ? lagoon_outfalls_bytes(width, cells, faces, rims) : lagoon_step_bytes(width, faces, rims);
     return read_rest(step, 4, *length);
 }
 
@@ -72,10 +74,10 @@ static int print_refused(char letter, uint64_t answer)
    by products; the lower number, a, where these are equal too. */
 static int before(size_t a, size_t b)
 {
-    uint32_t m_a = lagoon_mass(field, a), v_a = lagoon_volume(mesh, a), m_b = lagoon_mass(field, b), v_b = lagoon_volume(mesh, b);
+    uint64_t m_a = lagoon_mass(field, a), v_a = lagoon_volume(mesh, a), m_b = lagoon_mass(field, b), v_b = lagoon_volume(mesh, b);
     if (m_a / v_a != m_b / v_b)
         return m_a / v_a > m_b / v_b;
-    return (uint64_t)(m_a % v_a) * v_b >= (uint64_t)(m_b % v_b) * v_a;
+    return m_a % v_a * v_b >= m_b % v_b * v_a;
 }
 
 /* The eight cells with the highest concentration, in the board's order. */
@@ -90,7 +92,7 @@ static void print_board(size_t cells)
         if (best == cells)
             return;
         listed[best] = 1;
-        printf("B %zu %" PRIu32 " %" PRIu32 "\n", best, lagoon_mass(field, best) / lagoon_volume(mesh, best),
+        printf("B %zu %" PRIu64 " %" PRIu64 "\n", best, lagoon_mass(field, best) / lagoon_volume(mesh, best),
                lagoon_mass(field, best) % lagoon_volume(mesh, best));
     }
 }
@@ -104,7 +106,7 @@ struct budget {
 static struct budget take_steps(size_t mesh_length, size_t cells, size_t faces, size_t rims)
 {
     struct budget all = {0, 0, 0};
-    size_t field_length = LAGOON_FIELD_BYTES(cells), step_length = 0, got;
+    size_t field_length = lagoon_field_bytes(lagoon_width_of(mesh), cells), step_length = 0, got;
     for (uint64_t n = 1; (got = fread(step, 1, 4, stdin)) > 0; n++) {
         uint64_t in_mass, out_mass, released, answer = read_step(got, cells, faces, rims, &step_length);
         int ends = answer != 0;
@@ -138,7 +140,7 @@ static int write_field(const char *name, size_t length)
 
 int main(int count, char **words)
 {
-    size_t mesh_length = 0, cells, faces, rims = 0;
+    size_t mesh_length = 0, field_length, cells, faces, rims = 0;
     uint64_t first, last, answer = read_mesh(&mesh_length);
     struct budget all;
     if (answer != 0)
@@ -149,10 +151,11 @@ int main(int count, char **words)
     answer = lagoon_step(mesh, mesh_length, field, 0, step, 0, next, 0);
     if (LAGOON_CAUSE(answer) != LAGOON_LENGTH)
         return print_refused('M', answer);
-    answer = read_field(cells);
+    answer = read_field(lagoon_width_of(mesh), cells);
     if (answer != 0)
         return print_refused('F', answer);
-    answer = lagoon_step(mesh, mesh_length, field, LAGOON_FIELD_BYTES(cells), step, 0, next, 0);
+    field_length = lagoon_field_bytes(lagoon_width_of(mesh), cells);
+    answer = lagoon_step(mesh, mesh_length, field, field_length, step, 0, next, 0);
     if (LAGOON_CAUSE(answer) != LAGOON_LENGTH)
         return print_refused('F', answer);
     for (size_t f = 0; f < faces; f++)
@@ -168,5 +171,5 @@ int main(int count, char **words)
         perror("session");
         return 1;
     }
-    return count > 1 ? write_field(words[1], LAGOON_FIELD_BYTES(cells)) : 0;
+    return count > 1 ? write_field(words[1], field_length) : 0;
 }

@@ -17,51 +17,64 @@
 extern "C" {
 #endif
 
-#define LAGOON_VERSION "2.0.0"
+#define LAGOON_VERSION "2.1.0"
 
 /* Limits of the call. A larger mesh is refused with cause 1. */
 #define LAGOON_MAX_CELLS 1023
 #define LAGOON_MAX_FACES 2046
 
-/* Ceilings of the values. */
+/* Ceilings of the values, and of a volume, a reach and the size of a flux in narrow records (below). */
 #define LAGOON_RIM 4095                   /* in the place of a second cell: the face is at the rim */
-#define LAGOON_MAX_VOLUME 4095
+#define LAGOON_MAX_VOLUME 65535
 #define LAGOON_MAX_SHARE 255
-#define LAGOON_MAX_REACH 4095
+#define LAGOON_MAX_REACH 65535
 #define LAGOON_MAX_CONCENTRATION 1000000  /* of a cell, and outside */
-#define LAGOON_MAX_RIM_FLUX 4095
+#define LAGOON_MAX_RIM_FLUX 65535
+#define LAGOON_NARROW_MAX 4095
 
 /* Records: rows of bits, the most significant bit of each number first, filled with zero bits up to a whole byte. Widths in bits stand
- * in brackets; cells and faces follow each other by number, from 0.
+ * in brackets, where there are two that of a narrow record first; cells and faces follow each other by number, from 0.
  *
- *   mesh   kind 1 (4), cells (12), faces (13), zeros (3); per cell its volume (12);
- *          then per face first cell (12), second cell or LAGOON_RIM (12), share (8), reach (12); at the rim share and reach are 0
- *   field  kind 2 (4), cells (12); per cell its mass (32)
- *   step   kind 3 or 4 (4), faces (13), zeros (15); per face sign (1 is minus) and size of its flux (12);
+ *   mesh   kind 1, wide 5 (4), cells (12), faces (13), zeros (3); per cell its volume (12, wide 16);
+ *          then per face first cell (12), second cell or LAGOON_RIM (12), share (8), reach (12, wide 16); at the rim share and reach are 0
+ *   field  kind 2, wide 6 (4), cells (12); per cell its mass (32, wide 40)
+ *   step   kind 3 or 4, wide 7 or 8 (4), faces (13), zeros (15); per face sign (1 is minus) and size of its flux (12, wide 16);
  *          then per rim face, in face order, its outside concentration (20), 0 where its flux is not below 0;
- *          then, in kind 4 only, per cell the mass released into it (32), at once after the last outside value
+ *          then, in kinds 4 and 8 only, per cell the mass released into it (32, wide 40), at once after the last outside value
+ *
+ * The records of one call have one width, that of the mesh: a field of kind 2 and steps of kinds 3 and 4 go with a mesh of kind 1, those
+ * of kinds 6, 7 and 8 with one of kind 5; any other kind is refused by 13, place 0. The next field record is of that width too.
+ * A volume or a reach above LAGOON_NARROW_MAX takes a wide mesh. Where there is none, narrow records hold the mesh and every field and step
+ * that is accepted on it, and wide ones may be used all the same.
  *
  * A flux is the volume that passes a face in the step, positive from first to second cell, outward at the rim; a flux of 0 has sign 0.
- * Releases are added first, and the step starts from the raised masses. Steps of both kinds may follow each other in any order.
- * One cell of volume 100 and no face is 10 01 00 00 06 40; its field with mass 99 is 20 01 00 00 00 63. */
-enum lagoon_kind { LAGOON_MESH = 1, LAGOON_FIELD = 2, LAGOON_STEP = 3, LAGOON_OUTFALLS = 4 };
+ * Releases are added first, and the step starts from the raised masses. Steps with and without releases may follow each other in any order.
+ * One cell of volume 100 and no face is 10 01 00 00 06 40; its field with mass 99 is 20 01 00 00 00 63. One cell of volume 65,535 is
+ * 50 01 00 00 ff ff; its field with mass 65,535,065,534, the greatest that this volume may hold, is 60 01 0f 42 31 bd be. */
+enum lagoon_kind { LAGOON_MESH = 1, LAGOON_FIELD = 2, LAGOON_STEP = 3, LAGOON_OUTFALLS = 4,
+                   LAGOON_WIDE_MESH = 5, LAGOON_WIDE_FIELD = 6, LAGOON_WIDE_STEP = 7, LAGOON_WIDE_OUTFALLS = 8 };
 
-/* Lengths of records in bytes. They are expressions, no preprocessor constants: an array takes them, #if does not. */
+/* Lengths of records in bytes. They are expressions, no preprocessor constants: an array takes them, #if does not. The longest record within
+ * the limits is a wide step with releases whose faces are all at the rim, 14,582 bytes. */
 #define LAGOON_MESH_BYTES(cells, faces) ((32 + 12 * (size_t)(cells) + 44 * (size_t)(faces) + 7) / 8)
 #define LAGOON_FIELD_BYTES(cells) ((16 + 32 * (size_t)(cells)) / 8)
 #define LAGOON_STEP_BYTES(faces, rim_faces) ((32 + 13 * (size_t)(faces) + 20 * (size_t)(rim_faces) + 7) / 8)
 #define LAGOON_OUTFALLS_BYTES(cells, faces, rim_faces) (LAGOON_STEP_BYTES(faces, rim_faces) + 4 * (size_t)(cells))
+#define LAGOON_WIDE_MESH_BYTES(cells, faces) ((32 + 16 * (size_t)(cells) + 48 * (size_t)(faces)) / 8)
+#define LAGOON_WIDE_FIELD_BYTES(cells) ((16 + 40 * (size_t)(cells)) / 8)
+#define LAGOON_WIDE_STEP_BYTES(faces, rim_faces) ((32 + 17 * (size_t)(faces) + 20 * (size_t)(rim_faces) + 7) / 8)
+#define LAGOON_WIDE_OUTFALLS_BYTES(cells, faces, rim_faces) (LAGOON_WIDE_STEP_BYTES(faces, rim_faces) + 5 * (size_t)(cells))
 
 /* Why a record or a step is refused, and what the place then is. */
 enum lagoon_cause {
     LAGOON_LIMITS = 1,        /* no cell, or more cells or faces than the limits; place 0 for cells, 1 for faces */
     LAGOON_TABLE = 2,         /* too few bytes for the next field; place 11 */
-    LAGOON_VOLUME = 3,        /* a volume outside 1 to 4,095; place: the cell */
+    LAGOON_VOLUME = 3,        /* a volume outside 1 to 65,535; place: the cell */
     LAGOON_ENDS = 4,          /* first no cell; second neither a cell nor LAGOON_RIM; or both equal; place: the face */
-    LAGOON_SPACING = 5,       /* share outside 1 to 255 or reach outside 1 to 4,095; at the rim either not 0; place: the face */
+    LAGOON_SPACING = 5,       /* share outside 1 to 255 or reach outside 1 to 65,535; at the rim either not 0; place: the face */
     LAGOON_CONCENTRATION = 6, /* mass divided by volume above 1,000,000; place: the cell */
     LAGOON_OUTSIDE = 7,       /* an outside value above 1,000,000, or not 0 elsewhere than at a rim inflow; place: the face */
-    LAGOON_FLUX = 8,          /* a flux larger than the reach, or than 4,095 at the rim; place: the face */
+    LAGOON_FLUX = 8,          /* a flux larger than the reach, or than 65,535 at the rim; place: the face */
     LAGOON_BALANCE = 9,       /* what enters a cell is not what leaves it; place: the cell */
     LAGOON_OUTFLOW = 10,      /* more leaves a cell than its volume; place: the cell */
     LAGOON_LENGTH = 11,       /* a record of the wrong length; place 0 */
@@ -83,7 +96,8 @@ enum lagoon_cause {
  * Arguments: each record is a pointer to its first byte, then its length in bytes. No alignment is asked.
  *
  *   mesh, field, step   read only; each length is that of the record, neither more nor less
- *   next                room for the next field record: LAGOON_FIELD_BYTES(cells) bytes, or more; next_len is all of the room
+ *   next                room for the next field record, which is as long as the field: LAGOON_FIELD_BYTES(cells) bytes, on a wide mesh
+ *                       LAGOON_WIDE_FIELD_BYTES(cells), or more; next_len is all of the room
  *
  * A pointer is not null, also where its length is 0, and that many bytes behind it are the host's. next overlaps none of the records:
  * after an accepted step copy it over the field, or let the two change places. Nobody else writes these bytes during the call.

@@ -27,7 +27,7 @@ import generate
 import generate_script
 import script
 import shrink
-from slips import ANSWER_SLIPS, RUN_SLIPS, SLIPS
+from slips import ALL_SLIPS, ANSWER_SLIPS, CALL_SLIPS, RUN_SLIPS, SLIPS
 
 BLOCK = 20              # sessions, and as many calls and scripts, that one process compares at a time
 WAVE = 400              # sessions of one seed in a soak
@@ -38,7 +38,8 @@ SHRINK_SECONDS = 30
 SHOWN = 300             # characters of a line that differs
 
 # Causes that the run can meet, per record; 13 and a mesh's 1 with their places.
-REACHABLE = ["M 11", "M 13/0", "M 1/0", "M 1/1", "M 12", "M 3", "M 4", "M 5",
+LONG_PRODUCT = "a·G past 64 bits"               # cases with a proportional part whose product is 2^64 or more (document 02, S-10)
+REACHABLE = [LONG_PRODUCT, "M 11", "M 13/0", "M 1/0", "M 1/1", "M 12", "M 3", "M 4", "M 5",
              "F 11", "F 13/0", "F 13/1", "F 6",
              "R 11", "R 13/0", "R 13/1", "R 12", "R 18", "R 7", "R 8", "R 9", "R 10"]
 CALL_REACHABLE = REACHABLE + ["N 2/11"]         # N: the bytes lent for the next field
@@ -81,7 +82,7 @@ SCRIPT_CAUSES = {
 FAULTS = ["not a number", "too large", "no such call", "a minus where none may stand", "a table too long",
           "a call too long", "the input ends within a call"]
 SCRIPT_REACHABLE = [f"{name} {cause}" for name, causes in SCRIPT_CAUSES.items()
-                    for cause in ["accepted", *causes.split()]] + FAULTS
+                    for cause in ["accepted", *causes.split()]] + FAULTS + [LONG_PRODUCT]
 
 Mismatch = namedtuple("Mismatch", "engine seed number kinds size")
 
@@ -118,7 +119,7 @@ def cause_of_call(reference, case, number):
     try:
         mesh = reference.accept_mesh(case.mesh)
         letter = "F"
-        reference.accept_field(case.field, mesh)
+        reference.accept_field(case.field, mesh, reference.is_wide(reference.kind_of(case.mesh)))
         letter = "R"
     except reference.Refusal:
         pass
@@ -186,6 +187,7 @@ class Tally:
                 wanted = ["accepted", *SCRIPT_CAUSES[name].split()]
                 show_causes(name, Counter(met), wanted + sorted(set(met) - set(wanted)))
             show_causes("no script", self.script_causes, FAULTS)
+            show_causes("scripts", self.script_causes, [LONG_PRODUCT])
 
 
 def show_causes(title, causes, names):
@@ -200,17 +202,36 @@ class Sides:
     def __init__(self, run, calls, calls_program, slip=None):
         self.reference = engines.load(HERE / "lagoon.py", "reference_lagoon")
         if slip:
-            {**SLIPS, **RUN_SLIPS, **ANSWER_SLIPS}[slip](self.reference)
+            ALL_SLIPS[slip](self.reference)
+        self.long_products = 0
+        self.count_long_products()
         self.run_path, self.run = run, run and engines.run_program(run)
         self.drivers = {path: engines.driver(path) for path in calls}
         self.script_path, self.script = calls_program, calls_program and engines.script_program(calls_program)
+
+    def count_long_products(self):
+        """The reference's proportional parts are counted where their product has more than 64 bits."""
+        right = self.reference.portion
+
+        def portion(a, G, P):
+            self.long_products += a * G >= script.WORD
+            return right(a, G, P)
+
+        self.reference.portion = portion
+
+    def with_products(self, causes, make):
+        """What the reference makes of a case, with the case counted where it has a long product."""
+        before = self.long_products
+        made = make()
+        causes[LONG_PRODUCT] += self.long_products > before
+        return made
 
     def expected_call(self, case):
         return engines.with_room(*self.reference.host_step(*case), case[3])
 
     def session(self, tally, seed, number):
         case = generate.session(seed, number)
-        expected = self.reference.run(case.data)
+        expected = self.with_products(tally.run_causes, lambda: self.reference.run(case.data))
         tally.sessions += 1
         tally.run_causes += causes_of_text(expected)
         if self.run(case.data, case.piece) != expected:
@@ -218,7 +239,7 @@ class Sides:
 
     def call(self, tally, seed, number):
         case = generate.call(seed, number)
-        expected = self.expected_call(case[1:])
+        expected = self.with_products(tally.call_causes, lambda: self.expected_call(case[1:]))
         tally.calls += 1
         tally.call_causes[cause_of_call(self.reference, case, expected[0])] += 1
         for path, driver in self.drivers.items():
@@ -228,7 +249,7 @@ class Sides:
 
     def play(self, tally, seed, number):
         case = generate_script.script(seed, number)
-        expected = self.expected_script(case.text)
+        expected = self.with_products(tally.script_causes, lambda: self.expected_script(case.text))
         tally.scripts += 1
         tally.script_causes += causes_of_script(expected)
         if self.script(case.text) != expected:
@@ -320,8 +341,10 @@ def see_slip(task):
 
 
 def see_slips(run, calls, calls_program, seed, jobs):
-    """True where every slip was seen through every program; those of a run show in sessions, those of the answers in scripts."""
+    """True where every slip was seen through every program; those of a run show in sessions, those of the host's call in calls and
+    scripts, those of the answers in scripts."""
     tasks = [(slip, run, calls, calls_program, seed) for slip in SLIPS]
+    tasks += [(slip, None, calls, calls_program, seed) for slip in CALL_SLIPS if calls or calls_program]
     tasks += [(slip, run, [], None, seed) for slip in RUN_SLIPS if run]
     tasks += [(slip, None, [], calls_program, seed) for slip in ANSWER_SLIPS if calls_program]
     all_seen = True
@@ -411,7 +434,7 @@ def arguments():
     parser.add_argument("--soak", type=float, metavar="SECONDS", help="go on with fresh seeds for this time")
     parser.add_argument("--keep", type=Path, metavar="FOLDER", default=HERE.parent / "target" / "mismatch",
                         help="where a mismatch is kept (target/mismatch)")
-    parser.add_argument("--slip", choices=[*SLIPS, *RUN_SLIPS, *ANSWER_SLIPS], help="make the reference wrong in one figure")
+    parser.add_argument("--slip", choices=ALL_SLIPS, help="make the reference wrong in one figure")
     parser.add_argument("--slips", action="store_true", help="each slip in turn has to be seen")
     options = parser.parse_args()
     if not options.run and not options.call and not options.script:

@@ -10,7 +10,7 @@ import random
 from collections import Counter, namedtuple
 
 import lagoon
-from lagoon import RIM, TOP
+from lagoon import CEILING, FIELD, MESH, OLD_CEILING, OUTFALLS, RIM, TOP, WATER
 
 Session = namedtuple("Session", "kinds data piece")      # piece: bytes handed over at a time, None for all
 Call = namedtuple("Call", "kinds mesh field step room")
@@ -18,63 +18,79 @@ Call = namedtuple("Call", "kinds mesh field step room")
 
 # ---------------------------------------------------------------- Raw records
 
-class RawMesh:
-    """A mesh record before packing; every part may be broken."""
+class Raw:
+    """A record before packing; every part may be broken. Its fields have the widths of the kind `laid`, whatever kind its head says."""
 
-    def __init__(self, volumes, faces):
-        self.kind, self.cells, self.count, self.zeros, self.padding = 1, len(volumes), len(faces), 0, 0
+    def __init__(self, kind):
+        self.kind = self.laid = kind
+        self.padding, self.cut, self.tail = 0, None, b""
+
+    def turn_width(self):
+        """The same record in the kind of the other width."""
+        self.kind = self.laid = other_width(self.laid)
+
+    def spare(self):
+        """The zero bits at its end."""
+        return -sum(width for _, width in self.values()) % 8
+
+    def bytes(self):
+        """A value too large for its width, which only a record turned to the narrow kind has, becomes the greatest of that width."""
+        values = [(min(value, all_ones(width)), width) for value, width in self.values()]
+        if self.spare():
+            values.append((self.padding, self.spare()))
+        record = lagoon.pack(values)
+        return (record if self.cut is None else record[:self.cut]) + self.tail
+
+
+def all_ones(width):
+    return (1 << width) - 1
+
+
+def other_width(kind):
+    return kind - lagoon.WIDER if lagoon.is_wide(kind) else kind + lagoon.WIDER
+
+
+class RawMesh(Raw):
+    def __init__(self, volumes, faces, wide=False):
+        super().__init__(lagoon.of_width(MESH, wide))
+        self.cells, self.count, self.zeros = len(volumes), len(faces), 0
         self.volumes, self.faces = list(volumes), [list(face) for face in faces]
-        self.cut, self.tail = None, b""
 
-    def bytes(self):
-        values = [(self.kind, 4), (self.cells, 12), (self.count, 13), (self.zeros, 3)]
-        values += [(V, 12) for V in self.volumes]
-        for first, second, s, K in self.faces:
-            values += [(first, 12), (second, 12), (s, 8), (K, 12)]
-        return finish(values, self)
-
-
-class RawField:
-    def __init__(self, masses):
-        self.kind, self.cells, self.padding = 2, len(masses), 0
-        self.masses = list(masses)
-        self.cut, self.tail = None, b""
-
-    def bytes(self):
-        return finish([(self.kind, 4), (self.cells, 12)] + [(m, 32) for m in self.masses], self)
+    def values(self):
+        volume, *face = lagoon.MESH_BITS[self.laid]
+        values = lagoon.mesh_start(self.kind, self.cells, self.count, self.zeros) + [(V, volume) for V in self.volumes]
+        for row in self.faces:
+            values += zip(row, face)
+        return values
 
 
-class RawStep:
-    """Signs and sizes stand apart, so that minus 0 can be written; outsides holds one value per face. With releases it is of kind 4."""
+class RawField(Raw):
+    def __init__(self, masses, wide=False):
+        super().__init__(lagoon.of_width(FIELD, wide))
+        self.cells, self.masses = len(masses), list(masses)
 
-    def __init__(self, rims, fluxes, outsides, releases):
-        self.kind, self.count, self.zeros, self.padding = 3 if releases is None else 4, len(fluxes), 0, 0
+    def values(self):
+        return lagoon.field_start(self.kind, self.cells) + [(m, lagoon.FIELD_BITS[self.laid]) for m in self.masses]
+
+
+class RawStep(Raw):
+    """Signs and sizes stand apart, so that minus 0 can be written; outsides holds one value per face. With releases it is of kind 4 or 8."""
+
+    def __init__(self, rims, fluxes, outsides, releases, wide=False):
+        super().__init__(lagoon.of_width(WATER if releases is None else OUTFALLS, wide))
+        self.count, self.zeros = len(fluxes), 0
         self.rims = rims
         self.releases = list(releases or [])
         self.signs, self.sizes = [int(U < 0) for U in fluxes], [abs(U) for U in fluxes]
         self.outsides = list(outsides)
-        self.cut, self.tail = None, b""
 
-    def bits(self):
-        return 32 + 13 * len(self.sizes) + 20 * len(self.rims) + 32 * len(self.releases)
-
-    def bytes(self):
-        values = [(self.kind, 4), (self.count, 13), (self.zeros, 15)]
+    def values(self):
+        bits = lagoon.STEP_BITS[self.laid]
+        values = lagoon.step_start(self.kind, self.count, self.zeros)
         for sign, size in zip(self.signs, self.sizes):
-            values += [(sign, 1), (size, 12)]
-        values += [(self.outsides[face], 20) for face in self.rims]
-        return finish(values + [(release, 32) for release in self.releases], self)
-
-
-def finish(values, raw):
-    bits = sum(width for _, width in values)
-    if bits % 8:
-        values.append((raw.padding, -bits % 8))
-    record = lagoon.pack(values)
-    if raw.cut is not None:
-        record = record[:raw.cut]
-    return record + raw.tail
-
+            values += [(sign, 1), (size, bits.size)]
+        values += [(self.outsides[face], bits.outside) for face in self.rims]
+        return values + [(release, bits.release) for release in self.releases]
 
 # ---------------------------------------------------------------- Valid lagoons
 
@@ -126,10 +142,15 @@ def layout(rng, cells, most, fill):
     return shape, pairs
 
 
-def pick_volume(rng, style):
-    return {"one": 1, "most": 4095, "hundred": 100, "small": rng.randint(1, 12), "any": rng.randint(1, 4095),
-            "ends": rng.choice([1, 2, 4094, 4095]), "middle": rng.randint(80, 400),
-            "dozens": 12 * rng.choice([1, 2, 3, 5, 341])}[style]
+def near_ceilings(rng, top):
+    """A value about the old ceiling or the new one, up to the top."""
+    return rng.choice([value for value in (OLD_CEILING - 1, OLD_CEILING, OLD_CEILING + 1, CEILING - 1, CEILING) if value <= top])
+
+
+def pick_volume(rng, style, top=OLD_CEILING):
+    return {"one": 1, "top": top, "hundred": 100, "small": rng.randint(1, 12), "any": rng.randint(1, top),
+            "ends": rng.choice([1, 2, top - 1, top]), "middle": rng.randint(80, 400), "ceilings": near_ceilings(rng, top),
+            "upper": rng.randint(top // 2, top), "dozens": 12 * rng.choice([1, 2, 3, 5, 341])}[style]
 
 
 def pick_concentration(rng, style, cell, cells):
@@ -144,35 +165,49 @@ class Lagoon:
 
     def __init__(self, rng, size):
         cells, most, fill = size
+        self.wide = rng.random() < 0.35         # records of kinds 5 to 8, with larger cells as a rule
+        self.top = CEILING if self.wide and rng.random() < 0.8 else OLD_CEILING
+        # Large cells, long reaches, faces close to one centre and steep salt: of their steps many have products past 64 bits.
+        self.steep = self.top == CEILING and rng.random() < 0.6
         self.shape, pairs = layout(rng, cells, most, fill)
-        style = rng.choice(["one", "most", "hundred", "small", "any", "ends", "middle", "middle", "any", "dozens"])
-        self.volumes = [pick_volume(rng, style) for _ in range(cells)]
-        shares = rng.choice(["half", "any", "ends", "any"])
-        reaches = rng.choice(["one", "most", "ends", "any", "volume", "volume", "volume"])
-        self.faces = []
-        for first, second in pairs:
-            if second == RIM:
-                self.faces.append((first, RIM, 0, 0))
-                continue
-            s = {"half": 128, "any": rng.randint(1, 255), "ends": rng.choice([1, 255])}[shares]
-            near = self.volumes[first]
-            K = {"one": 1, "most": 4095, "ends": rng.choice([1, 4095]), "any": rng.randint(1, 4095),
-                 "volume": min(4095, rng.randint(near, 2 * near))}[reaches]
-            self.faces.append((first, second, s, K))
+        style = rng.choice(["upper"] if self.steep else
+                           ["one", "top", "hundred", "small", "any", "ends", "middle", "middle", "any", "dozens", "ceilings"])
+        self.volumes = [pick_volume(rng, style, self.top) for _ in range(cells)]
+        self.faces = self.pick_faces(rng, pairs)
         self.rims = [face for face, row in enumerate(self.faces) if row[1] == RIM]
         self.doors = [[] for _ in range(cells)]         # per cell: face, direction of leaving, cell beyond
         for face, (first, second, _, _) in enumerate(self.faces):
             self.doors[first].append((face, 1, second))
             if second != RIM:
                 self.doors[second].append((face, -1, first))
-        self.salt = rng.choice(["front", "any", "low", "ends", "even", "top", "spike", "teeth", "front",
-                                "any", "empty"])
+        self.salt = rng.choice(["any", "ends", "teeth"] if self.steep else
+                               ["front", "any", "low", "ends", "even", "top", "spike", "teeth", "front", "any", "empty"])
+        self.masses = self.pick_masses(rng)
+
+    def pick_faces(self, rng, pairs):
+        """The faces of the pairs as first, second, share and reach."""
+        shares = rng.choice(["ends", "ends", "any"] if self.steep else ["half", "any", "ends", "any"])
+        reaches = rng.choice(["top", "volume"] if self.steep else ["one", "top", "ends", "any", "ceilings", "volume", "volume", "volume"])
+        faces = []
+        for first, second in pairs:
+            if second == RIM:
+                faces.append((first, RIM, 0, 0))
+                continue
+            s = {"half": 128, "any": rng.randint(1, 255), "ends": rng.choice([1, 255])}[shares]
+            near = self.volumes[first]
+            K = {"one": 1, "top": self.top, "ends": rng.choice([1, self.top]), "any": rng.randint(1, self.top),
+                 "ceilings": near_ceilings(rng, self.top), "volume": min(self.top, rng.randint(near, 2 * near))}[reaches]
+            faces.append((first, second, s, K))
+        return faces
+
+    def pick_masses(self, rng):
         rest = rng.choice(["any", "none", "most", "parts"])
-        self.masses = []
+        masses = []
         for cell, V in enumerate(self.volumes):
-            q = pick_concentration(rng, self.salt, cell, cells)
+            q = pick_concentration(rng, self.salt, cell, len(self.volumes))
             part = V * rng.randrange(12) // 12          # the same part of several volumes, exactly or nearly
-            self.masses.append(q * V + {"any": rng.randrange(V), "none": 0, "most": V - 1, "parts": part}[rest])
+            masses.append(q * V + {"any": rng.randrange(V), "none": 0, "most": V - 1, "parts": part}[rest])
+        return masses
 
     def pick_door(self, rng, cell, usable):
         """A usable door of the cell: a few are drawn before all are looked at, since a cell may have thousands."""
@@ -216,7 +251,7 @@ class Lagoon:
         fluxes, outflow = [0] * len(self.faces), [0] * len(self.volumes)
 
         def room_at(face):
-            return (self.faces[face][3] or 4095) - abs(fluxes[face])
+            return (self.faces[face][3] or self.top) - abs(fluxes[face])
 
         if not self.faces:
             return fluxes
@@ -253,10 +288,10 @@ class Lagoon:
         return values
 
     def raw_mesh(self):
-        return RawMesh(self.volumes, self.faces)
+        return RawMesh(self.volumes, self.faces, self.wide)
 
     def raw_field(self):
-        return RawField(self.masses)
+        return RawField(self.masses, self.wide)
 
     def releases(self, rng):
         """A release per cell, or none at all. After steps the field is another, so a room that this one leaves may be gone."""
@@ -273,7 +308,7 @@ class Lagoon:
 
     def raw_step(self, rng, excess=0):
         fluxes = self.flow(rng, excess)
-        return RawStep(self.rims, fluxes, self.outsides(rng, fluxes), self.releases(rng))
+        return RawStep(self.rims, fluxes, self.outsides(rng, fluxes), self.releases(rng), self.wide)
 
 
 # Cells, most faces and least faces of lagoons at the run's limits, taken in turn.
@@ -295,6 +330,7 @@ def size_kinds(lag):
     """Kinds that say how large a lagoon is, where it is not small."""
     cells, faces = len(lag.volumes), len(lag.faces)
     kinds = ["more than 40 cells"] if cells > 40 else []
+    kinds += ["wide records"] * lag.wide + ["V above the old ceiling"] * (max(lag.volumes) > OLD_CEILING) + ["steep"] * lag.steep
     return kinds + ["1,023 cells"] * (cells == 1023) + ["2,046 faces"] * (faces == 2046)
 
 
@@ -302,16 +338,22 @@ def size_kinds(lag):
 # Each function breaks one part and says whether it could. The name is the kind.
 
 def mesh_head_cut(rng, lag, raw):
-    raw.cut = rng.randrange(4)
+    raw.cut = rng.randrange(lagoon.MESH_HEAD)
 
 def mesh_body_cut(rng, lag, raw):
-    raw.cut = rng.randint(4, len(raw.bytes()) - 1)
+    raw.cut = rng.randint(lagoon.MESH_HEAD, len(raw.bytes()) - 1)
 
 def mesh_last_byte_cut(rng, lag, raw):
     raw.cut = len(raw.bytes()) - 1
 
 def mesh_kind(rng, lag, raw):
-    raw.kind = rng.choice([0, 2, 3, rng.randint(4, 15), 9])
+    raw.kind = rng.choice([kind for kind in range(1 << lagoon.KIND_BITS) if kind not in lagoon.MESH_BITS])
+
+def mesh_kind_of_the_other_width(rng, lag, raw):
+    raw.kind = other_width(raw.laid)
+
+def mesh_of_the_other_width(rng, lag, raw):
+    raw.turn_width()
 
 def mesh_no_cells(rng, lag, raw):
     raw.cells = 0
@@ -339,12 +381,16 @@ def mesh_other_counts(rng, lag, raw):
     raw.count = min(8191, max(0, raw.count + rng.choice([-1, 1])))
 
 def mesh_zero_bit(rng, lag, raw):
-    raw.zeros = rng.randint(1, 7)
+    raw.zeros = rng.randint(1, all_ones(lagoon.MESH_ZEROS))
 
 def mesh_padding_bit(rng, lag, raw):
-    if (len(raw.volumes) + len(raw.faces)) % 2 == 0:
+    return set_padding(rng, raw)
+
+def set_padding(rng, raw):
+    spare = raw.spare()
+    if not spare:
         return False
-    raw.padding = rng.randint(1, 15)
+    raw.padding = rng.choice([1, 1 << (spare - 1), rng.randint(1, all_ones(spare))])
 
 def mesh_volume_zero(rng, lag, raw):
     raw.volumes[rng.randrange(len(raw.volumes))] = 0
@@ -383,7 +429,7 @@ def mesh_share_at_rim(rng, lag, raw):
     return set_face(rng, raw, 2, rng.choice([1, 128, 255]), True)
 
 def mesh_reach_at_rim(rng, lag, raw):
-    return set_face(rng, raw, 3, rng.choice([1, 100, 4095]), True)
+    return set_face(rng, raw, 3, rng.choice([1, 100, lag.top]), True)
 
 def mesh_interior_like_rim(rng, lag, raw):
     rows = [row for row in raw.faces if row[1] != RIM]
@@ -395,13 +441,19 @@ def field_missing(rng, lag, raw):
     raw.cut = 0
 
 def field_head_cut(rng, lag, raw):
-    raw.cut = 1
+    raw.cut = lagoon.FIELD_HEAD - 1
 
 def field_body_cut(rng, lag, raw):
-    raw.cut = rng.randint(2, len(raw.bytes()) - 1)
+    raw.cut = rng.randint(lagoon.FIELD_HEAD, len(raw.bytes()) - 1)
 
 def field_kind(rng, lag, raw):
-    raw.kind = rng.choice([0, 1, 3, rng.randint(4, 15)])
+    raw.kind = rng.choice([kind for kind in range(1 << lagoon.KIND_BITS) if kind != raw.laid])
+
+def field_kind_of_the_other_width(rng, lag, raw):
+    raw.kind = other_width(raw.laid)
+
+def field_of_the_other_width(rng, lag, raw):
+    raw.turn_width()
 
 def field_count(rng, lag, raw):
     raw.cells = rng.choice([n for n in (0, raw.cells - 1, raw.cells + 1, 1024, 4095) if n != raw.cells and 0 <= n <= 4095])
@@ -409,39 +461,45 @@ def field_count(rng, lag, raw):
 def field_salt_above(rng, lag, raw):
     cell = rng.randrange(len(raw.masses))
     limit = lag.volumes[cell] * (TOP + 1)
-    raw.masses[cell] = rng.choice([limit, limit, (1 << 32) - 1, rng.randint(limit, (1 << 32) - 1)])
+    greatest = all_ones(lagoon.FIELD_BITS[lagoon.of_width(FIELD, lag.wide)])
+    raw.masses[cell] = rng.choice([limit, limit, greatest, rng.randint(limit, greatest)])
 
 def field_salt_just_within(rng, lag, raw):
     raw.masses = [V * (TOP + 1) - 1 for V in lag.volumes]
 
 def step_head_cut(rng, lag, raw):
-    raw.cut = rng.randint(1, 3)
+    raw.cut = rng.randint(1, lagoon.STEP_HEAD - 1)
 
 def step_body_cut(rng, lag, raw):
     length = len(raw.bytes())
-    if length == 4:
+    if length == lagoon.STEP_HEAD:
         return False
-    raw.cut = rng.choice([4, length - 1, rng.randint(4, length - 1)])
+    raw.cut = rng.choice([lagoon.STEP_HEAD, length - 1, rng.randint(lagoon.STEP_HEAD, length - 1)])
 
 def step_kind(rng, lag, raw):
-    raw.kind = rng.choice([0, 1, 2, 5, rng.randint(5, 15)])
+    raw.kind = rng.choice([kind for kind in range(1 << lagoon.KIND_BITS) if kind not in lagoon.step_kinds(lag.wide)])
+
+def step_kind_of_the_other_width(rng, lag, raw):
+    raw.kind = other_width(raw.laid)
+
+def step_of_the_other_width(rng, lag, raw):
+    raw.turn_width()
 
 def step_other_kind(rng, lag, raw):
-    """Releases after kind 3, or none after kind 4."""
-    raw.kind = 7 - raw.kind
+    """Releases after kind 3 or 7, or none after kind 4 or 8."""
+    water, outfalls = lagoon.step_kinds(lag.wide)
+    raw.kind = outfalls if raw.kind == water else water
 
 def step_count(rng, lag, raw):
     count = raw.count
     raw.count = rng.choice([n for n in (0, count - 1, count + 1, 2047, 8191) if n != count and 0 <= n <= 8191])
 
 def step_zero_bit(rng, lag, raw):
-    raw.zeros = rng.choice([1, 1 << 14, 1 << rng.randrange(15), rng.randint(1, (1 << 15) - 1)])
+    last = lagoon.STEP_ZEROS - 1
+    raw.zeros = rng.choice([1, 1 << last, 1 << rng.randint(0, last), rng.randint(1, all_ones(lagoon.STEP_ZEROS))])
 
 def step_padding_bit(rng, lag, raw):
-    spare = -raw.bits() % 8
-    if not spare:
-        return False
-    raw.padding = rng.choice([1, 1 << (spare - 1), rng.randint(1, (1 << spare) - 1)])
+    return set_padding(rng, raw)
 
 def step_minus_zero(rng, lag, raw):
     still = [face for face, size in enumerate(raw.sizes) if size == 0] or list(range(len(raw.sizes)))
@@ -461,29 +519,33 @@ def step_release_above(rng, lag, raw):
     """A release that brings q past its ceiling, by one or by more."""
     cell = rng.randrange(len(lag.volumes))
     room = lag.volumes[cell] * (TOP + 1) - 1 - lag.masses[cell]
-    raw.kind, raw.releases = 4, raw.releases or [0] * len(lag.volumes)
-    raw.releases[cell] = rng.choice([room + 1, room + 1, (1 << 32) - 1, rng.randint(room + 1, (1 << 32) - 1)])
+    raw.kind = raw.laid = lagoon.of_width(OUTFALLS, lag.wide)
+    raw.releases = raw.releases or [0] * len(lag.volumes)
+    greatest = all_ones(lagoon.STEP_BITS[raw.laid].release)
+    raw.releases[cell] = rng.choice([room + 1, room + 1, greatest, rng.randint(room + 1, greatest)])
 
 def step_outside_above(rng, lag, raw):
-    value = rng.choice([TOP + 1, (1 << 20) - 1, rng.randint(TOP + 1, (1 << 20) - 1)])
+    greatest = all_ones(lagoon.STEP_BITS[raw.laid].outside)
+    value = rng.choice([TOP + 1, greatest, rng.randint(TOP + 1, greatest)])
     return set_outside(rng, raw, lambda sign, size: sign and size, value)
 
 def step_outside_at_outflow(rng, lag, raw):
     return set_outside(rng, raw, lambda sign, size: size and not sign, rng.choice([1, TOP, TOP + 1]))
 
 def step_outside_at_still(rng, lag, raw):
-    return set_outside(rng, raw, lambda sign, size: size == 0, rng.choice([1, TOP, (1 << 20) - 1]))
+    return set_outside(rng, raw, lambda sign, size: size == 0, rng.choice([1, TOP, all_ones(lagoon.STEP_BITS[raw.laid].outside)]))
 
 def step_flux_above(rng, lag, raw):
-    faces = [face for face, row in enumerate(lag.faces) if row[1] != RIM and row[3] < 4095]
+    greatest = all_ones(lagoon.STEP_BITS[raw.laid].size)
+    faces = [face for face, row in enumerate(lag.faces) if row[1] != RIM and row[3] < greatest]
     if not faces:
         return False
     face = rng.choice(faces)
     K = lag.faces[face][3]
-    raw.sizes[face] = rng.choice([K + 1, 4095, rng.randint(K + 1, 4095)])
+    raw.sizes[face] = rng.choice([K + 1, greatest, rng.randint(K + 1, greatest)])
 
 def step_unbalanced(rng, lag, raw):
-    faces = [face for face, row in enumerate(lag.faces) if raw.sizes[face] < (row[3] or 4095)]
+    faces = [face for face, row in enumerate(lag.faces) if raw.sizes[face] < (row[3] or lag.top)]
     if not faces:
         return False
     face = rng.choice(faces)
@@ -496,7 +558,7 @@ def step_unbalanced_sign(rng, lag, raw):
     raw.signs[rng.choice(faces)] ^= 1
 
 def step_outflow_above(rng, lag, raw):
-    spare = lag.raw_step(rng, rng.choice([1, 1, 5, 4095]))
+    spare = lag.raw_step(rng, rng.choice([1, 1, 5, lag.top]))
     outflow = [0] * len(lag.volumes)
     for (first, second, _, _), sign, size in zip(lag.faces, spare.signs, spare.sizes):
         if not sign:
@@ -509,7 +571,7 @@ def step_outflow_above(rng, lag, raw):
 
 def step_noise(rng, lag, raw):
     for face, row in enumerate(lag.faces):
-        raw.sizes[face] = rng.randint(0, row[3] or 4095)
+        raw.sizes[face] = rng.randint(0, row[3] or lag.top)
         raw.signs[face] = rng.getrandbits(1) if raw.sizes[face] else 0
         raw.outsides[face] = rng.randint(0, TOP) if row[1] == RIM and raw.signs[face] else 0
 
@@ -520,7 +582,8 @@ def damages(prefix):
 
 MESH_DAMAGE, FIELD_DAMAGE, STEP_DAMAGE = damages("mesh_"), damages("field_"), damages("step_")
 ALL_DAMAGE = MESH_DAMAGE + FIELD_DAMAGE + STEP_DAMAGE
-SKIPPED = [f for f in STEP_DAMAGE if not f.__name__.endswith("cut") and f not in (step_kind, step_other_kind, step_count)]
+ENDING = (step_kind, step_kind_of_the_other_width, step_of_the_other_width, step_other_kind, step_count)
+SKIPPED = [f for f in STEP_DAMAGE if not f.__name__.endswith("cut") and f not in ENDING]        # the run goes on after these
 
 
 def flip_bits(rng, data):
@@ -671,7 +734,7 @@ def call(seed, number):
         which = rng.randrange(3)
         kind, records[which] = spoil(rng, records[which])
         kinds.append(("mesh ", "field ", "step ")[which] + kind)
-    need = lagoon.field_length(len(lag.volumes))
+    need = lagoon.field_length(len(lag.volumes), lag.wide)
     room = rng.choice(["enough"] * 5 + ["more"] * 5 + ["short by one", "short", "none"])
     kinds.append("room " + room)
     lent = {"enough": need, "more": need + rng.randint(1, 20), "short by one": need - 1,

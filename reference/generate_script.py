@@ -13,7 +13,9 @@ from collections import Counter, namedtuple
 
 import generate
 import lagoon
-from lagoon import FLUXES, MASSES, MOVED, NEXT, OUTFALLS, OUTSIDES, RELEASES, RIM, SECONDS, STEP_TABLES, TOP, VOLUMES, WATER, WORK
+from generate import all_ones
+from lagoon import (CEILING, FIRSTS, FLUXES, MASSES, MOST_NAME, MOVED, NEXT, OLD_CEILING, OUTFALLS, OUTSIDES, REACHES, RELEASES, RIM, SECONDS,
+                    SHARES, STEP_TABLES, TOP, VOLUMES, WATER, WORK)
 from script import CALLS, Engine, answered, pattern, spell
 
 Script = namedtuple("Script", "kinds text")
@@ -22,24 +24,33 @@ GREATEST = (1 << 64) - 1
 LEAST, MOST = -(1 << 63), (1 << 63) - 1
 ENGINE = Engine(lagoon)
 NAMES = [name for name, _ in CALLS.values()]
-OFTEN = NAMES + ["step"] * 4 + ["plain_step"] * 2      # most of the arithmetic is in a step
+OFTEN = NAMES + ["step"] * 4 + ["plain_step"] * 2 + ["check_step", "write_step", "lagoon_step", "take_step"]     # a step has most of the arithmetic, and of the causes
 CELLS, FACES = lagoon.LIBRARY_LIMITS
 COUNTS = [0, 1, CELLS - 1, CELLS, CELLS + 1, FACES, FACES + 1, 1 << 16, 1 << 63, GREATEST]
 
+FULL, OLD_FULL = (most * (TOP + 1) - 1 for most in (CEILING, OLD_CEILING))     # the most that a cell of the greatest volume may hold
+MOST_RELEASE = [all_ones(width) for width in lagoon.MASS_BITS]
+
+
+def edges(*values):
+    """0, 1, each value and the one after it, and the greatest entry."""
+    return [0, 1, *(value + more for value in values for more in (0, 1)), GREATEST]
+
+
 # Values at the edges of each table's range, by position.
 EDGES = {
-    VOLUMES: [0, 1, 4095, 4096, GREATEST],
-    lagoon.FIRSTS: [0, 1, 4094, 4095, 4096, GREATEST],
-    SECONDS: [0, 1, 4094, 4095, 4096, GREATEST],
-    lagoon.SHARES: [0, 1, 255, 256, GREATEST],
-    lagoon.REACHES: [0, 1, 4095, 4096, GREATEST],
-    MASSES: [0, 4095 * (TOP + 1) - 1, 4095 * (TOP + 1), 1 << 32, GREATEST],
-    FLUXES: [0, 1, -1, 4095, -4095, 4096, -4096, MOST, LEAST],
-    OUTSIDES: [0, 1, TOP, TOP + 1, GREATEST],
+    VOLUMES: edges(OLD_CEILING, CEILING),
+    FIRSTS: edges(RIM - 1, RIM),
+    SECONDS: edges(RIM - 1, RIM),
+    SHARES: edges(255),
+    REACHES: edges(OLD_CEILING, CEILING),
+    MASSES: edges(OLD_FULL, FULL, *map(all_ones, lagoon.MASS_BITS)),
+    FLUXES: [0, 1, -1, MOST, LEAST] + [sign * (most + more) for most in (OLD_CEILING, CEILING) for more in (0, 1) for sign in (1, -1)],
+    OUTSIDES: edges(TOP),
     NEXT: [7, GREATEST],
     MOVED: [-7, LEAST, MOST],
     WORK: [7, GREATEST],
-    RELEASES: [0, 1, (1 << 32) - 1, 1 << 32, GREATEST - 1, GREATEST],
+    RELEASES: edges(*MOST_RELEASE, GREATEST - 1),
 }
 
 
@@ -75,8 +86,8 @@ class Lent:
     def damage(self, positions, kinds):
         """One damage to the tables at these positions, or to the counts."""
         rng = self.rng
-        kind = rng.choice(["short", "short", "value", "value", "value", "counts", "near", "near"] + ["flow", "flow"] * (FLUXES in positions))
-        position = rng.choice(positions)
+        kind = rng.choice(["short", "short", "value", "value", "value", "counts", "counts", "near", "near"] + ["flow"] * 3 * (FLUXES in positions))
+        position = rng.choice([*positions, VOLUMES, VOLUMES])           # all calls that have tables judge the volumes
         table = self.tables[position]
         if kind == "short":
             table = self.tables[rng.choice([p for p in positions if self.tables[p]] or [position])]
@@ -106,11 +117,11 @@ class Lent:
         elif position == RELEASES and i < min(len(mesh[VOLUMES]), len(mesh[MASSES])):
             room = mesh[VOLUMES][i] * (TOP + 1) - mesh[MASSES][i]
             table[i] = rng.choice([max(0, room - 1), max(0, room), GREATEST + 1 - max(1, mesh[MASSES][i])])
-        elif position == FLUXES and i < min(len(mesh[SECONDS]), len(mesh[4])):
-            most = 4095 if mesh[SECONDS][i] == RIM else mesh[4][i]
+        elif position == FLUXES and i < min(len(mesh[SECONDS]), len(mesh[REACHES])):
+            most = rng.choice([OLD_CEILING, CEILING]) if mesh[SECONDS][i] == RIM else mesh[REACHES][i]
             table[i] = rng.choice([-1, 1]) * (most + rng.randint(0, 1))
-        elif position in (1, SECONDS):
-            table[i] = rng.choice([self.cells, self.cells - 1 if self.cells else 0, 4094])
+        elif position in (FIRSTS, SECONDS):
+            table[i] = rng.choice([self.cells, self.cells - 1 if self.cells else 0, RIM - 1])
         elif position == OUTSIDES:
             table[i] = rng.choice([1, TOP, TOP + 1])
 
@@ -119,12 +130,12 @@ class Lent:
         change = rng.choice(["outflow", "outflow", "balance", "reach"])
         fluxes, counted = self.tables[FLUXES], min(self.faces, len(self.tables[FLUXES]))
         if change == "outflow":
-            self.tables[FLUXES] = self.lag.flow(rng, rng.choice([1, 5, 4095]))
+            self.tables[FLUXES] = self.lag.flow(rng, rng.choice([1, 5, self.lag.top]))
             self.tables[OUTSIDES] = self.lag.outsides(rng, self.tables[FLUXES])
         elif counted:
             face = rng.randrange(counted)
             toward = -1 if fluxes[face] < 0 else 1
-            fluxes[face] = toward * ((self.lag.faces[face][3] or 4095) + 1) if change == "reach" else fluxes[face] - toward
+            fluxes[face] = toward * ((self.lag.faces[face][3] or CEILING) + 1) if change == "reach" else fluxes[face] - toward
 
     def lengthen(self, positions):
         """Entries past the counts, which nobody tests or touches."""
@@ -146,10 +157,14 @@ def tables_for(rng, positions, large, kinds):
 
 
 def many_cells(rng):
-    """Cells for some pages, the last of them full or not, with figures of any length."""
+    """Cells for some pages, the last of them full or not, with figures of any length; of those above the old ceiling maybe one alone."""
     lent = Lent(rng)
     lent.cells = rng.choice([59, 60, 61, 119, 120, 121, rng.randint(40, 200)])
-    lent.tables[VOLUMES] = [generate.pick_volume(rng, rng.choice(["any", "ends", "small"])) for _ in range(lent.cells)]
+    large = rng.choice(["none", "none", "one", "one", "any"])
+    top = CEILING if large == "any" else OLD_CEILING
+    lent.tables[VOLUMES] = [generate.pick_volume(rng, rng.choice(["any", "ends", "small", "ceilings"]), top) for _ in range(lent.cells)]
+    if large == "one":
+        lent.tables[VOLUMES][rng.randrange(lent.cells)] = rng.randint(OLD_CEILING + 1, CEILING)
     lent.tables[MASSES] = [V * rng.choice([0, TOP, rng.randint(0, TOP)]) + rng.randrange(V) for V in lent.tables[VOLUMES]]
     return lent
 
@@ -196,18 +211,28 @@ def write_step(rng, large, kinds):
         lent.tables[RELEASES][rng.randrange(lent.cells)] = rng.choice(EDGES[RELEASES])
         kinds.append("release at an edge")
     kinds.append(f"written as kind {kind}")
-    need = lagoon.step_length(kind, lent.cells, lent.faces, lent.tables[SECONDS])
+    width = told(rng, lent.lag, kinds)
+    need = lagoon.step_length(lagoon.of_width(kind, width == WIDE), lent.cells, lent.faces, lent.tables[SECONDS])
     room = room_for(rng, need if need <= 60_000 else 64, kinds)
-    return (kind, lent.cells, lent.faces, *(lent.tables[position] for position in (*MESH_TABLES, FLUXES, OUTSIDES)), room,
+    return (width, kind, lent.cells, lent.faces, *(lent.tables[position] for position in (*MESH_TABLES, FLUXES, OUTSIDES)), room,
             lent.tables[RELEASES])
 
 def writer(positions, length):
     def make(rng, large, kinds):
         lent = tables_for(rng, positions, large, kinds)
-        need = length(lent)
+        width = told(rng, lent.lag, kinds)
+        need = length(lent, width == WIDE)
         room = room_for(rng, need if need <= 60_000 else 64, kinds)
-        return (lent.cells, lent.faces, *(lent.tables[position] for position in positions), room)
+        return (width, lent.cells, lent.faces, *(lent.tables[position] for position in positions), room)
     return make
+
+NARROW, WIDE = 0, 1
+
+def told(rng, lag, kinds):
+    """The width that a call is told first (document 02, S-10): 1 the wide kinds, any other number the narrow ones."""
+    width = rng.choice([int(lag.wide)] * 6 + [NARROW, WIDE, 2])
+    kinds.append(f"width {width}")
+    return width
 
 def raw_records(rng, large, kinds, damages):
     """The raw records of a lagoon, one of them damaged as a rule, and the lagoon."""
@@ -233,7 +258,7 @@ def filled(rng, need, value, kinds):
     return [value] * length
 
 def limits_for(rng, cells, faces):
-    return rng.choice([(CELLS, FACES), (CELLS, FACES), (CELLS, FACES), (1023, 2046), (cells, faces), (GREATEST, GREATEST),
+    return rng.choice([(CELLS, FACES), (CELLS, FACES), (CELLS, FACES), lagoon.RUN_LIMITS, (cells, faces), (GREATEST, GREATEST),
                        (max(0, cells - 1), faces), (cells, max(0, faces - 1)), (rng.choice(COUNTS), rng.choice(COUNTS))])
 
 def mesh_of(rng, large, kinds):
@@ -259,15 +284,15 @@ def field_of(rng, large, kinds):
         field.cells, cells = 0, 0
     elif rng.random() < 0.1:
         cells = rng.choice(COUNTS + [cells + 1])
-    return cells, field.bytes(), len(lag.volumes)
+    return told(rng, lag, kinds), cells, field.bytes(), len(lag.volumes)
 
 def field_length(rng, large, kinds):
-    cells, record, _ = field_of(rng, False, kinds)
-    return cells, spoilt(rng, record[:rng.choice([2, 2, 3, len(record)])])
+    width, cells, record, _ = field_of(rng, False, kinds)
+    return width, cells, spoilt(rng, record[:rng.choice([2, 2, 3, len(record)])])
 
 def read_field(rng, large, kinds):
-    cells, record, need = field_of(rng, large, kinds)
-    return cells, spoilt(rng, record), filled(rng, need, 7, kinds)
+    width, cells, record, need = field_of(rng, large, kinds)
+    return width, cells, spoilt(rng, record), filled(rng, need, 7, kinds)
 
 def step_of(rng, large, kinds):
     lag, _, _, step = raw_records(rng, large, kinds, generate.STEP_DAMAGE)
@@ -287,7 +312,7 @@ def step_of(rng, large, kinds):
     elif change == "other" and seconds:
         seconds[rng.randrange(len(seconds))] = rng.choice([RIM, 0, GREATEST])
     kinds.append("seconds " + change)
-    return (cells, faces, seconds), step.bytes(), lag
+    return (told(rng, lag, kinds), cells, faces, seconds), step.bytes(), lag
 
 def step_length(rng, large, kinds):
     expected, record, _ = step_of(rng, False, kinds)
@@ -308,8 +333,14 @@ def number_at(rng, large, kinds):
                       rng.choice([bits, bits + 1, 1 << 32, (1 << 32) + 1, GREATEST])])
     return record, bit, width
 
+def harmed_call(rng):
+    """The number of a call of generate.py with one damage, in half of them to its step."""
+    damages = rng.choice([generate.MESH_DAMAGE, generate.FIELD_DAMAGE, generate.STEP_DAMAGE, generate.STEP_DAMAGE])
+    return 2 + 4 * generate.ALL_DAMAGE.index(rng.choice(damages))
+
 def lagoon_step(rng, large, kinds):
-    case = generate.call(rng.getrandbits(32), 40 if large else rng.choice([1, 2, 2, 2, 3]) + 4 * rng.randrange(200))
+    other = 4 * rng.randrange(200)
+    case = generate.call(rng.getrandbits(32), 40 if large else rng.choice([other + 1, other + 3] + [harmed_call(rng)] * 3))
     kinds.extend(case.kinds)
     return list(case.mesh), list(case.field), list(case.step), [0xA5] * case.room
 
@@ -318,9 +349,9 @@ def take_mesh(rng, large, kinds):
     tables = [filled(rng, need, 7, kinds) if rng.random() < 0.2 else [7] * need for need in (cells, faces, faces, faces, faces)]
     return (spoilt(rng, record), *tables)
 
-def harmed(rng, lent, raw, damages, kinds):
-    """A record of this lagoon, damaged as a rule."""
-    if rng.random() < 0.5:
+def harmed(rng, lent, raw, damages, kinds, chance=0.5):
+    """A record of this lagoon, damaged with this chance."""
+    if rng.random() < chance:
         damage = rng.choice(damages)
         if damage(rng, lent.lag, raw) is not False:
             kinds.append(damage.__name__)
@@ -333,17 +364,18 @@ def take_field(rng, large, kinds):
         lent.cells = 0
     if lent.cells <= CELLS:
         field.cells = lent.cells
-    return lent.cells, harmed(rng, lent, field, generate.FIELD_DAMAGE, kinds), lent.tables[VOLUMES], lent.tables[MASSES]
+    return told(rng, lent.lag, kinds), lent.cells, harmed(rng, lent, field, generate.FIELD_DAMAGE, kinds), lent.tables[VOLUMES], lent.tables[MASSES]
 
 def take_step(rng, large, kinds):
-    lent = tables_for(rng, FIELD_TABLES, large, kinds)
+    whole = rng.random() < 0.4              # damage to the tables hides what is wrong with the record
+    lent = Lent(rng, large) if whole else tables_for(rng, FIELD_TABLES, large, kinds)
     step = lent.lag.raw_step(rng)
     if rng.random() < 0.05:
         lent.faces = FACES + 1
     if lent.faces <= FACES + 1:
         step.count = lent.faces
-    return (lent.cells, lent.faces, harmed(rng, lent, step, generate.STEP_DAMAGE, kinds),
-            *(lent.tables[position] for position in FIELD_TABLES))
+    record = harmed(rng, lent, step, generate.STEP_DAMAGE, kinds, 0.8 if whole else 0.2)
+    return (told(rng, lent.lag, kinds), lent.cells, lent.faces, record, *(lent.tables[position] for position in FIELD_TABLES))
 
 def page(rng, large, kinds):
     lent = tables_for(rng, (VOLUMES, MASSES), large, kinds)
@@ -353,12 +385,12 @@ def page(rng, large, kinds):
     last = max(0, lent.cells - 1) // lagoon.PAGE_CELLS
     number = rng.choice([0, last, last, rng.randint(0, last), last + 1, last + 1, 1 << 58, GREATEST])
     kinds.append("page there" if number <= last else "page beyond")
-    room = room_for(rng, lagoon.page_length(lent.cells, number), kinds)
+    room = room_for(rng, lagoon.page_length(lent.tables[VOLUMES], lent.cells, number), kinds)
     return lent.cells, lent.tables[VOLUMES], lent.tables[MASSES], number, room
 
 
 # A name, at the edges and within.
-NAMED = [0, 1, 2, 3, 65_535, 65_536, GREATEST]
+NAMED = [0, 1, 2, 3, MOST_NAME, MOST_NAME + 1, GREATEST]
 
 def a_store(rng, cells, lent, kinds):
     """A store of some fields of a lagoon, often with room, now and then broken."""
@@ -366,9 +398,9 @@ def a_store(rng, cells, lent, kinds):
     store = [count]
     for i in range(count):
         masses = [rng.choice([m, 0, rng.randint(0, V * (TOP + 1) - 1)]) for V, m in zip(lent.lag.volumes, lent.lag.masses)]
-        store += [rng.choice([i + 1, i + 1, i + 1, 1, 65_535]), *masses]
+        store += [rng.choice([i + 1, i + 1, i + 1, 1, MOST_NAME]), *masses]
     store += [rng.choice([0, 7, GREATEST]) for _ in range(rng.choice([0, cells, cells + 1, cells + 2, 3 * cells + 3]))]
-    damage = rng.choice(["none"] * 6 + ["none kept", "count", "wraps", "cut", "empty", "name", "mass"])
+    damage = rng.choice(["none"] * 6 + ["none kept", "count", "wraps", "cut", "empty", "name", "mass", "mass", "mass"])
     kinds.append("store: " + damage)
     if damage == "none kept":
         store[0] = 0
@@ -383,7 +415,9 @@ def a_store(rng, cells, lent, kinds):
     elif damage == "name" and count:
         store[1 + rng.randrange(count) * (cells + 1)] = rng.choice(NAMED)
     elif damage == "mass" and count and cells:
-        store[2 + rng.randrange(count) * (cells + 1) + rng.randrange(cells)] = rng.choice(EDGES[MASSES])
+        cell = rng.randrange(cells)
+        limit = lent.lag.volumes[cell] * (TOP + 1)
+        store[2 + rng.choice([0, rng.randrange(count)]) * (cells + 1) + cell] = rng.choice([limit - 1, limit, limit, *EDGES[MASSES]])
     return store
 
 def with_store(names):
@@ -391,7 +425,7 @@ def with_store(names):
     def make(rng, large, kinds):
         lent = tables_for(rng, (VOLUMES, MASSES), False, kinds)
         store = a_store(rng, len(lent.lag.volumes), lent, kinds)
-        name = rng.choice([store[1], store[1], *NAMED] if len(store) > 1 else NAMED)
+        name = rng.choice([store[1]] * 5 + NAMED if len(store) > 1 else NAMED)
         tables = {"volumes": lent.tables[VOLUMES], "masses": lent.tables[MASSES], "store": store}
         return (lent.cells, *(tables[table] for table in names), name)
     return make
@@ -479,8 +513,8 @@ MAKE = {
     "read_mesh": read_mesh,
     "read_field": read_field,
     "read_step": read_step,
-    "write_mesh": writer(MESH_TABLES, lambda lent: lagoon.mesh_length(lent.cells, lent.faces)),
-    "write_field": writer(FIELD_TABLES, lambda lent: lagoon.field_length(lent.cells)),
+    "write_mesh": writer(MESH_TABLES, lambda lent, wide: lagoon.mesh_length(lent.cells, lent.faces, wide)),
+    "write_field": writer(FIELD_TABLES, lambda lent, wide: lagoon.field_length(lent.cells, wide)),
     "write_step": write_step,
     "number_at": number_at,
     "board": on_cells,
@@ -531,56 +565,69 @@ def broken(rng, text):
 
 # ---------------------------------------------------------------- Scripts
 
-FULL = 4095 * (TOP + 1) - 1         # the most that a cell of the greatest volume may hold
+RIM_FACES = [0] * FACES, [RIM] * FACES, [0] * FACES, [0] * FACES
 
-def largest():
-    """The largest counts with the greatest values: records written and read back, and every call on tables."""
-    volumes, masses = [4095] * CELLS, [FULL] * CELLS
-    rim = ([0] * FACES, [RIM] * FACES, [0] * FACES, [0] * FACES)
-    mesh = lagoon.Mesh(volumes, *rim)
-    pool = lagoon.Mesh([4095], *rim)
-    inflow, outsides = [-4095] * FACES, [TOP] * FACES
-    still, none = [0] * FACES, [0] * FACES
-    lent = ([7] * (CELLS + 1), [-7] * (FACES + 1), [7] * (4 * CELLS + FACES + 1))
-    mesh_record, field_record = lagoon.pack_mesh(mesh), lagoon.pack_field(masses)
-    step_record = lagoon.pack_step(pool, inflow, outsides)
-    filled_up, released = [0] * (CELLS - 1) + [FULL], [FULL] * (CELLS - 1) + [0]
-    outfalls_record = lagoon.pack_step(mesh, inflow, outsides, [(1 << 32) - 1] * CELLS)
-    return "".join([
-        "# the largest records, written and read back\n",
-        spell("write_mesh", CELLS, FACES, *mesh, [170] * (len(mesh_record) + 1)),
+
+def largest_records(width):
+    """The largest records of a width with the greatest values, written and read back, and handed to the calls that take no more than the run."""
+    wide = width == WIDE
+    ceiling, most_release = lagoon.ceiling_of(wide), MOST_RELEASE[wide]
+    mesh, pool = (lagoon.Mesh([ceiling] * cells, *RIM_FACES) for cells in (CELLS, 1))
+    volumes, masses = mesh.volumes, [ceiling * (TOP + 1) - 1] * CELLS
+    inflow, outsides, releases = [-ceiling] * FACES, [TOP] * FACES, [most_release] * CELLS
+    mesh_record, field_record = lagoon.pack_mesh(mesh, wide), lagoon.pack_field(masses, wide)
+    step_record = lagoon.pack_step(pool, inflow, outsides, wide=wide)
+    outfalls_record = lagoon.pack_step(mesh, inflow, outsides, releases, wide)
+    still_record = lagoon.pack_step(pool, [], [], wide=wide)
+    return [
+        f"# the largest records of width {width}, written and read back\n",
+        spell("write_mesh", width, CELLS, FACES, *mesh, [170] * (len(mesh_record) + 1)),
         spell("mesh_length", CELLS, FACES, mesh_record),
         spell("read_mesh", CELLS, FACES, mesh_record, *([7] * (len(column) + 1) for column in mesh)),
-        spell("write_field", CELLS, 0, volumes, [], [], [], [], masses, [170] * len(field_record)),
-        spell("read_field", CELLS, field_record, [7] * CELLS),
-        spell("write_step", WATER, 1, FACES, *pool, inflow, outsides, [170] * len(step_record), [0]),
-        spell("step_length", 1, FACES, pool.seconds, step_record),
-        spell("read_step", 1, FACES, pool.seconds, step_record, [-7] * FACES, [7] * FACES, [7]),
-        spell("write_step", OUTFALLS, CELLS, FACES, *mesh, inflow, outsides, [170] * len(outfalls_record), [(1 << 32) - 1] * CELLS),
-        spell("step_length", CELLS, FACES, mesh.seconds, outfalls_record),
-        spell("read_step", CELLS, FACES, mesh.seconds, outfalls_record, [-7] * FACES, [7] * FACES, [7] * (CELLS + 1)),
+        spell("write_field", width, CELLS, 0, volumes, [], [], [], [], masses, [170] * len(field_record)),
+        spell("read_field", width, CELLS, field_record, [7] * CELLS),
+        spell("write_step", width, WATER, 1, FACES, *pool, inflow, outsides, [170] * len(step_record), [0]),
+        spell("step_length", width, 1, FACES, pool.seconds, step_record),
+        spell("read_step", width, 1, FACES, pool.seconds, step_record, [-7] * FACES, [7] * FACES, [7]),
+        spell("write_step", width, OUTFALLS, CELLS, FACES, *mesh, inflow, outsides, [170] * len(outfalls_record), releases),
+        spell("step_length", width, CELLS, FACES, mesh.seconds, outfalls_record),
+        spell("read_step", width, CELLS, FACES, mesh.seconds, outfalls_record, [-7] * FACES, [7] * FACES, [7] * (CELLS + 1)),
+        "# more cells and faces than the run takes\n",
+        spell("take_mesh", mesh_record, *([7] * len(column) for column in mesh)),
+        spell("take_field", width, CELLS, field_record, volumes, [7] * CELLS),
+        spell("take_step", width, 1, FACES, step_record, *pool, [0]),
+        spell("take_step", width, CELLS, 0, still_record, volumes, [], [], [], [], masses),
+    ]
+
+def largest():
+    """The largest counts with the greatest values: records of both widths, and every call on tables."""
+    mesh, pool = (lagoon.Mesh([CEILING] * cells, *RIM_FACES) for cells in (CELLS, 1))
+    volumes, masses = mesh.volumes, [FULL] * CELLS
+    inflow, outsides, still, none = [-CEILING] * FACES, [TOP] * FACES, [0] * FACES, [0] * FACES
+    lent = ([7] * (CELLS + 1), [-7] * (FACES + 1), [7] * (4 * CELLS + FACES + 1))
+    filled_up, released = [0] * (CELLS - 1) + [FULL], [FULL] * (CELLS - 1) + [0]
+    last = (CELLS - 1) // lagoon.PAGE_CELLS
+    rooms = [170] * (1 + lagoon.page_length(volumes, CELLS, 0)), [170] * lagoon.page_length(volumes, CELLS, last)
+    return "".join([
+        *largest_records(NARROW),
+        *largest_records(WIDE),
         "# the largest tables\n",
         spell("check_mesh", CELLS, FACES, *mesh),
         spell("check_field", CELLS, FACES, *mesh, masses),
         spell("total", CELLS, volumes, masses),
         spell("board", CELLS, volumes, masses),
-        spell("page", CELLS, volumes, masses, 0, [170] * 1_099),
-        spell("page", CELLS, volumes, masses, 68, [170] * 288),
+        spell("page", CELLS, volumes, masses, 0, rooms[0]),
+        spell("page", CELLS, volumes, masses, last, rooms[1]),
         spell("check_step", CELLS, FACES, *mesh, masses, still, none, *lent, [0] * CELLS),
         spell("step", CELLS, FACES, *mesh, masses, still, none, *lent, [0] * CELLS),
         spell("step", CELLS, FACES, *mesh, filled_up, still, none, *lent, released),
         spell("step", 1, FACES, *pool, [0], inflow, outsides, *lent, [0]),
         spell("plain_step", CELLS, FACES, *mesh, filled_up, still, none, *lent, released),
-        "# more cells and faces than the run takes\n",
-        spell("take_mesh", mesh_record, *([7] * len(column) for column in mesh)),
-        spell("take_field", CELLS, field_record, volumes, [7] * CELLS),
-        spell("take_step", 1, FACES, step_record, *pool, [0]),
-        spell("take_step", CELLS, 0, lagoon.pack_step(pool, [], []), volumes, [], [], [], [], masses),
         "# the largest mesh kept, dropped and given back, in a store of the room needed\n",
-        spell("keep", CELLS, volumes, masses, [0] * (CELLS + 2), 65_535),
-        spell("keep", CELLS, volumes, masses, [0] * (CELLS + 1), 65_535),
-        spell("drop", CELLS, [1, 65_535, *masses], 65_535),
-        spell("give_back", CELLS, volumes, [7] * (CELLS + 1), [1, 65_535, *masses], 65_535),
+        spell("keep", CELLS, volumes, masses, [0] * (CELLS + 2), MOST_NAME),
+        spell("keep", CELLS, volumes, masses, [0] * (CELLS + 1), MOST_NAME),
+        spell("drop", CELLS, [1, MOST_NAME, *masses], MOST_NAME),
+        spell("give_back", CELLS, volumes, [7] * (CELLS + 1), [1, MOST_NAME, *masses], MOST_NAME),
         "# more numbers than a call may have\n",
         spell("check_field", 1, 1, *([0] * 24_576 for _ in range(6))),
     ])

@@ -13,17 +13,36 @@ from fractions import Fraction
 
 RIM = 4095                  # the mark of the rim in the place of a second cell
 TOP = 1_000_000             # greatest concentration
+CEILING = 65_535            # greatest V, K and |U| over the rim (document 02, S-10)
+OLD_CEILING = 4_095         # and those that records of kinds 1 to 4 hold
 LIBRARY_LIMITS = (4095, 8190)
 RUN_LIMITS = (1023, 2046)
-MESH_HEAD, FIELD_HEAD, STEP_HEAD = 4, 2, 4      # bytes
 
 # Lent tables, by position; those lent to a step, in the order of its arguments.
 (VOLUMES, FIRSTS, SECONDS, SHARES, REACHES, MASSES,
  FLUXES, OUTSIDES, NEXT, MOVED, WORK, RECORD, PAGE, STORE, RELEASES) = range(15)
 STEP_TABLES = (*range(WORK + 1), RELEASES)
 
-WATER, OUTFALLS = 3, 4      # kinds of step records; the second has releases
-RELEASE_BITS = {WATER: 0, OUTFALLS: 32}
+# Kinds of records; a step of kind 4 has releases (document 02, S-6).
+MESH, FIELD, WATER, OUTFALLS = 1, 2, 3, 4
+WIDER = 4                   # document 02, S-10: kinds 5 to 8 are kinds 1 to 4 with wider fields
+
+# Bits of what stands in a record. V, K and the size of U have a narrow and a wide width, and so have masses and releases.
+KIND_BITS, CELLS_BITS, FACES_BITS, MESH_ZEROS, STEP_ZEROS = 4, 12, 13, 3, 15
+END_BITS, SHARE_BITS, OUTSIDE_BITS = 12, 8, 20
+VALUE_BITS, MASS_BITS = (12, 16), (32, 40)
+MESH_HEAD = (KIND_BITS + CELLS_BITS + FACES_BITS + MESH_ZEROS) // 8         # bytes
+FIELD_HEAD = (KIND_BITS + CELLS_BITS) // 8
+STEP_HEAD = (KIND_BITS + FACES_BITS + STEP_ZEROS) // 8
+
+# The same by the kind of the record.
+MeshBits = namedtuple("MeshBits", "volume first second share reach")
+StepBits = namedtuple("StepBits", "size outside release")
+WIDTHS = tuple(zip((0, WIDER), VALUE_BITS, MASS_BITS))
+MESH_BITS = {wider + MESH: MeshBits(value, END_BITS, END_BITS, SHARE_BITS, value) for wider, value, _ in WIDTHS}
+FIELD_BITS = {wider + FIELD: mass for wider, _, mass in WIDTHS}
+STEP_BITS = {wider + kind: StepBits(value, OUTSIDE_BITS, release)
+             for wider, value, mass in WIDTHS for kind, release in ((WATER, 0), (OUTFALLS, mass))}
 
 Mesh = namedtuple("Mesh", "volumes firsts seconds shares reaches")
 Step = namedtuple("Step", "kind fluxes outsides releases")
@@ -118,6 +137,10 @@ def bounds(mesh, low, q, fluxes, outsides):
     losses = [m - V * min(seen) for V, seen, m in zip(mesh.volumes, near, low)]
     return gains, losses
 
+def portion(a, G, P):
+    """The proportional part of a, whatever the size of the product (document 02, S-10)."""
+    return a * G // P
+
 def limiter(mesh, corrected, gains, losses):
     """Stage 4: every kept correction cut by its receiver's G over P and its giver's L over N, whichever leaves less."""
     entering, leaving = [0] * len(gains), [0] * len(losses)         # P and N
@@ -135,7 +158,7 @@ def limiter(mesh, corrected, gains, losses):
             continue
         a = abs(c)
         P, G, N, L = entering[receiver], gains[receiver], leaving[giver], losses[giver]
-        size = min(a if P <= G else a * G // P, a if N <= L else a * L // N)
+        size = min(a if P <= G else portion(a, G, P), a if N <= L else portion(a, L, N))
         limited.append(size if c > 0 else -size)
     return limited
 
@@ -207,13 +230,13 @@ def judge_lengths(lengths, needs):
         if lengths is not None and lengths[position] < needs[position]:
             raise Refusal(2, position)
 
-def judge_mesh(mesh):
+def judge_mesh(mesh, ceiling=CEILING):
     """Causes 3, 4 and 5: volumes; both ends of a face; share and reach."""
     cells = len(mesh.volumes)
-    refuse_first(3, (not 1 <= V <= 4095 for V in mesh.volumes))
+    refuse_first(3, (not 1 <= V <= ceiling for V in mesh.volumes))
     refuse_first(4, (not 0 <= first < cells or not (0 <= second < cells or second == RIM) or first == second
                      for first, second in zip(mesh.firsts, mesh.seconds)))
-    refuse_first(5, ((s != 0 or K != 0) if second == RIM else not (1 <= s <= 255 and 1 <= K <= 4095)
+    refuse_first(5, ((s != 0 or K != 0) if second == RIM else not (1 <= s <= 255 and 1 <= K <= ceiling)
                      for second, s, K in zip(mesh.seconds, mesh.shares, mesh.reaches)))
 
 def judge_field(mesh, masses):
@@ -225,14 +248,14 @@ def judge_raised(mesh, masses, releases):
     refuse_first(18, (q > TOP for q in concentrations(mesh.volumes, raised(masses, releases))))
 
 def judge_releases(kind, releases):
-    """Cause 18 of a writer: releases too large for their field, which in kind 3 has no bits."""
-    refuse_first(18, (release >= 1 << RELEASE_BITS[kind] for release in releases))
+    """Cause 18 of a writer: releases too large for their field, which in kinds 3 and 7 has no bits."""
+    refuse_first(18, (release >= 1 << STEP_BITS[kind].release for release in releases))
 
-def judge_values(mesh, fluxes, outsides):
+def judge_values(mesh, fluxes, outsides, ceiling=CEILING):
     """Causes 7 and 8: outside values, and the size of each flux."""
     refuse_first(7, (not 0 <= o <= TOP if second == RIM and U < 0 else o != 0
                      for second, U, o in zip(mesh.seconds, fluxes, outsides)))
-    refuse_first(8, (abs(U) > (4095 if second == RIM else K)
+    refuse_first(8, (abs(U) > (ceiling if second == RIM else K)
                      for second, K, U in zip(mesh.seconds, mesh.reaches, fluxes)))
 
 def judge_flow(mesh, fluxes):
@@ -321,14 +344,30 @@ def pack(values):
 def whole_bytes(bits):
     return -(-bits // 8)
 
-def mesh_length(cells, faces):
-    return MESH_HEAD + whole_bytes(12 * cells + 44 * faces)
+def of_width(kind, wide):
+    return kind + WIDER if wide else kind
 
-def field_length(cells):
-    return FIELD_HEAD + 4 * cells
+def is_wide(kind):
+    return kind > WIDER
+
+def kind_of(record):
+    """The kind that a record's first byte says."""
+    return record[0] >> 8 - KIND_BITS
+
+def ceiling_of(wide):
+    """Greatest V, K and |U| over the rim that records of a width hold."""
+    return CEILING if wide else OLD_CEILING
+
+def mesh_length(cells, faces, wide=False):
+    volume, *face = MESH_BITS[of_width(MESH, wide)]
+    return MESH_HEAD + whole_bytes(volume * cells + sum(face) * faces)
+
+def field_length(cells, wide=False):
+    return FIELD_HEAD + whole_bytes(FIELD_BITS[of_width(FIELD, wide)] * cells)
 
 def step_length(kind, cells, faces, seconds):
-    return STEP_HEAD + whole_bytes(13 * faces + 20 * seconds[:faces].count(RIM) + RELEASE_BITS[kind] * cells)
+    size, outside, release = STEP_BITS[kind]
+    return STEP_HEAD + whole_bytes((1 + size) * faces + outside * seconds[:faces].count(RIM) + release * cells)
 
 def number_at(record, bit, width):
     """The number that so many bits spell, None where they are not all there.
@@ -342,36 +381,39 @@ def number_at(record, bit, width):
     return bits.take(width) if width else 0
 
 def mesh_head(record, limits):
-    """A mesh record shorter than its head is 11; then 13 for the kind, 1 for the counts that it gives."""
+    """A mesh record shorter than its head is 11; then 13 for the kind, 1 for the counts that it gives; and its width."""
     if len(record) < MESH_HEAD:
         raise Refusal(11, 0)
     bits = Bits(record[:MESH_HEAD])
-    kind, cells, faces = bits.take(4), bits.take(12), bits.take(13)
-    if kind != 1:
+    kind, cells, faces = bits.take(KIND_BITS), bits.take(CELLS_BITS), bits.take(FACES_BITS)
+    if kind not in MESH_BITS:
         raise Refusal(13, 0)
     judge_counts(cells, faces, limits)
-    return cells, faces
+    return cells, faces, is_wide(kind)
 
-def field_head(record, cells, limits):
+def field_head(record, cells, limits, wide=False):
     """The same for a field record, whose count has to be the mesh's."""
     if len(record) < FIELD_HEAD:
         raise Refusal(11, 0)
     bits = Bits(record[:FIELD_HEAD])
-    if bits.take(4) != 2:
+    if bits.take(KIND_BITS) != of_width(FIELD, wide):
         raise Refusal(13, 0)
-    if bits.take(12) != cells:
+    if bits.take(CELLS_BITS) != cells:
         raise Refusal(13, 1)
     judge_counts(cells, 0, limits)
 
-def step_head(record, cells, faces, seconds, limits):
+def step_kinds(wide):
+    return of_width(WATER, wide), of_width(OUTFALLS, wide)
+
+def step_head(record, cells, faces, seconds, limits, wide=False):
     """The same for a step record, and its kind; its length rests on the seconds, so too few of them are 2 before that."""
     if len(record) < STEP_HEAD:
         raise Refusal(11, 0)
     bits = Bits(record[:STEP_HEAD])
-    kind = bits.take(4)
-    if kind not in (WATER, OUTFALLS):
+    kind = bits.take(KIND_BITS)
+    if kind not in step_kinds(wide):
         raise Refusal(13, 0)
-    if bits.take(13) != faces:
+    if bits.take(FACES_BITS) != faces:
         raise Refusal(13, 1)
     judge_counts(cells, faces, limits)
     judge_lengths({SECONDS: len(seconds)}, {SECONDS: faces})
@@ -379,95 +421,109 @@ def step_head(record, cells, faces, seconds, limits):
 
 def read_mesh(record, limits=LIBRARY_LIMITS, lengths=None):
     """After the head: another length 11, then 2, then 12 for a bit that has to be 0."""
-    cells, faces = mesh_head(record, limits)
-    if len(record) != mesh_length(cells, faces):
+    cells, faces, wide = mesh_head(record, limits)
+    if len(record) != mesh_length(cells, faces, wide):
         raise Refusal(11, 0)
-    bits = Bits(record)
-    bits.take(29)
     judge_lengths(lengths, mesh_needs(cells, faces))
-    bits.take_zeros(3)
-    volumes = [bits.take(12) for _ in range(cells)]
-    rows = [(bits.take(12), bits.take(12), bits.take(8), bits.take(12)) for _ in range(faces)]
+    bits = Bits(record)
+    bits.take(KIND_BITS + CELLS_BITS + FACES_BITS)
+    bits.take_zeros(MESH_ZEROS)
+    volume, *face = MESH_BITS[of_width(MESH, wide)]
+    volumes = [bits.take(volume) for _ in range(cells)]
+    rows = [[bits.take(width) for width in face] for _ in range(faces)]
     bits.take_padding()
-    return Mesh(volumes, *([row[i] for row in rows] for i in range(4)))
+    return Mesh(volumes, *([row[i] for row in rows] for i in range(len(face))))
 
-def read_field(record, cells, limits=LIBRARY_LIMITS, lengths=None):
+def read_field(record, cells, limits=LIBRARY_LIMITS, lengths=None, wide=False):
     """The masses, of as many cells as the mesh has."""
-    field_head(record, cells, limits)
-    if len(record) != field_length(cells):
+    field_head(record, cells, limits, wide)
+    if len(record) != field_length(cells, wide):
         raise Refusal(11, 0)
     judge_lengths(lengths, {MASSES: cells})
     bits = Bits(record)
-    bits.take(16)
-    return [bits.take(32) for _ in range(cells)]
+    bits.take(KIND_BITS + CELLS_BITS)
+    return [bits.take(FIELD_BITS[of_width(FIELD, wide)]) for _ in range(cells)]
 
 def take_releases(bits, kind, cells):
-    """Document 02, S-6: one a cell in kind 4, at once after the last outside value; kind 3 has 0."""
-    return [bits.take(RELEASE_BITS[kind]) if kind == OUTFALLS else 0 for _ in range(cells)]
+    """Document 02, S-6: one a cell in kinds 4 and 8, at once after the last outside value; kinds 3 and 7 have 0."""
+    width = STEP_BITS[kind].release
+    return [bits.take(width) if width else 0 for _ in range(cells)]
 
-def read_step(record, cells, faces, seconds, limits=LIBRARY_LIMITS, lengths=None):
+def read_step(record, cells, faces, seconds, limits=LIBRARY_LIMITS, lengths=None, wide=False):
     """The kind; fluxes; outside values for the rim faces, where all other faces get 0; releases."""
-    kind = step_head(record, cells, faces, seconds, limits)
+    kind = step_head(record, cells, faces, seconds, limits, wide)
     if len(record) != step_length(kind, cells, faces, seconds):
         raise Refusal(11, 0)
     judge_lengths(lengths, {FLUXES: faces, OUTSIDES: faces, RELEASES: cells})
     bits = Bits(record)
-    bits.take(17)
-    bits.take_zeros(15)
+    bits.take(KIND_BITS + FACES_BITS)
+    bits.take_zeros(STEP_ZEROS)
     fluxes = []
     for _ in range(faces):
-        minus, size = bits.take(1), bits.take(12)
+        at, minus, size = bits.at, bits.take(1), bits.take(STEP_BITS[kind].size)
         if minus and size == 0:
-            raise Refusal(12, bits.at - 13)
+            raise Refusal(12, at)
         fluxes.append(-size if minus else size)
-    outsides = [bits.take(20) if second == RIM else 0 for second in seconds[:faces]]
+    outsides = [bits.take(STEP_BITS[kind].outside) if second == RIM else 0 for second in seconds[:faces]]
     releases = take_releases(bits, kind, cells)
     bits.take_padding()
     return Step(kind, fluxes, outsides, releases)
 
-def pack_mesh(mesh):
-    values = [(1, 4), (len(mesh.volumes), 12), (len(mesh.firsts), 13), (0, 3)]
-    values += [(V, 12) for V in mesh.volumes]
-    for first, second, s, K in zip(*mesh[1:]):
-        values += [(first, 12), (second, 12), (s, 8), (K, 12)]
+def mesh_start(kind, cells, faces, zeros=0):
+    return [(kind, KIND_BITS), (cells, CELLS_BITS), (faces, FACES_BITS), (zeros, MESH_ZEROS)]
+
+def field_start(kind, cells):
+    return [(kind, KIND_BITS), (cells, CELLS_BITS)]
+
+def step_start(kind, faces, zeros=0):
+    return [(kind, KIND_BITS), (faces, FACES_BITS), (zeros, STEP_ZEROS)]
+
+def pack_mesh(mesh, wide=False):
+    kind = of_width(MESH, wide)
+    volume, *face = MESH_BITS[kind]
+    values = mesh_start(kind, len(mesh.volumes), len(mesh.firsts)) + [(V, volume) for V in mesh.volumes]
+    for row in zip(*mesh[1:]):
+        values += zip(row, face)
     return pack(values)
 
-def pack_field(masses):
-    return pack([(2, 4), (len(masses), 12)] + [(m, 32) for m in masses])
+def pack_field(masses, wide=False):
+    kind = of_width(FIELD, wide)
+    return pack(field_start(kind, len(masses)) + [(m, FIELD_BITS[kind]) for m in masses])
 
-def pack_step(mesh, fluxes, outsides, releases=None):
-    """Kind 4 where there are releases, else kind 3."""
-    kind = WATER if releases is None else OUTFALLS
-    values = [(kind, 4), (len(fluxes), 13), (0, 15)]
+def pack_step(mesh, fluxes, outsides, releases=None, wide=False):
+    """Kind 4 where there are releases, else kind 3; wide, 8 and 7."""
+    kind = of_width(WATER if releases is None else OUTFALLS, wide)
+    values = step_start(kind, len(fluxes))
     for U in fluxes:
-        values += [(1 if U < 0 else 0, 1), (abs(U), 12)]
-    values += [(o, 20) for second, o in zip(mesh.seconds, outsides) if second == RIM]
-    return pack(values + [(release, RELEASE_BITS[kind]) for release in releases or []])
+        values += [(1 if U < 0 else 0, 1), (abs(U), STEP_BITS[kind].size)]
+    values += [(o, STEP_BITS[kind].outside) for second, o in zip(mesh.seconds, outsides) if second == RIM]
+    return pack(values + [(release, STEP_BITS[kind].release) for release in releases or []])
 
-def judge_writing(cells, faces, tables, needs, length, room):
+def judge_writing(cells, faces, tables, needs, length, room, wide):
     """What all writers test first: causes 1 to 5, where the bytes lent are position 11 of cause 2."""
     judge_counts(cells, faces, LIBRARY_LIMITS)
     judge_lengths({**lengths_of(tables), RECORD: room},
                   {**mesh_needs(cells, faces), **needs, RECORD: length})
     mesh = counted_mesh(cells, faces, tables)
-    judge_mesh(mesh)
+    judge_mesh(mesh, ceiling_of(wide))
     return mesh
 
-def write_mesh(cells, faces, tables, room):
-    return pack_mesh(judge_writing(cells, faces, tables, {}, mesh_length(cells, faces), room))
+def write_mesh(cells, faces, tables, room, wide=False):
+    return pack_mesh(judge_writing(cells, faces, tables, {}, mesh_length(cells, faces, wide), room, wide), wide)
 
-def write_field(cells, faces, tables, room):
-    mesh = judge_writing(cells, faces, tables, {MASSES: cells}, field_length(cells), room)
+def write_field(cells, faces, tables, room, wide=False):
+    mesh = judge_writing(cells, faces, tables, {MASSES: cells}, field_length(cells, wide), room, wide)
     judge_field(mesh, tables[MASSES][:cells])
-    return pack_field(tables[MASSES][:cells])
+    return pack_field(tables[MASSES][:cells], wide)
 
-def write_step(kind, cells, faces, tables, room):
+def write_step(kind, cells, faces, tables, room, wide=False):
+    kind = of_width(kind, wide)
     length = step_length(kind, cells, faces, tables[SECONDS])
-    mesh = judge_writing(cells, faces, tables, {FLUXES: faces, OUTSIDES: faces, RELEASES: cells}, length, room)
+    mesh = judge_writing(cells, faces, tables, {FLUXES: faces, OUTSIDES: faces, RELEASES: cells}, length, room, wide)
     fluxes, outsides, releases = tables[FLUXES][:faces], tables[OUTSIDES][:faces], tables[RELEASES][:cells]
     judge_releases(kind, releases)
-    judge_values(mesh, fluxes, outsides)
-    return pack_step(mesh, fluxes, outsides, releases if kind == OUTFALLS else None)
+    judge_values(mesh, fluxes, outsides, ceiling_of(wide))
+    return pack_step(mesh, fluxes, outsides, releases if STEP_BITS[kind].release else None, wide)
 
 
 # ---------------------------------------------------------------- The host's call
@@ -477,28 +533,33 @@ def accept_mesh(record):
     judge_mesh(mesh)
     return mesh
 
-def accept_field(record, mesh):
-    masses = read_field(record, len(mesh.volumes), RUN_LIMITS)
+def accept_field(record, mesh, wide=False):
+    masses = read_field(record, len(mesh.volumes), RUN_LIMITS, wide=wide)
     judge_field(mesh, masses)
     return masses
 
-def accept_step(record, mesh, masses):
-    _, fluxes, outsides, releases = read_step(record, len(mesh.volumes), len(mesh.firsts), mesh.seconds, RUN_LIMITS)
+def accept_step(record, mesh, masses, wide=False):
+    _, fluxes, outsides, releases = read_step(record, len(mesh.volumes), len(mesh.firsts), mesh.seconds, RUN_LIMITS, wide=wide)
     judge_raised(mesh, masses, releases)
     judge_values(mesh, fluxes, outsides)
     judge_flow(mesh, fluxes)
     return advance(mesh, masses, fluxes, outsides, releases)
 
+def next_field(masses, room, wide):
+    """The next field record, in the mesh's width; cause 2 where fewer bytes are lent for it."""
+    judge_lengths({RECORD: room}, {RECORD: field_length(len(masses), wide)})
+    return pack_field(masses, wide)
+
 def host_step(mesh_record, field_record, step_record, room):
     """The host's number and, after an accepted step, the next field record; room counts the bytes lent for it."""
     try:
         mesh = accept_mesh(mesh_record)
-        masses = accept_field(field_record, mesh)
-        result = accept_step(step_record, mesh, masses)
-        judge_lengths({RECORD: room}, {RECORD: field_length(len(masses))})
+        wide = is_wide(kind_of(mesh_record))
+        masses = accept_field(field_record, mesh, wide)
+        result = accept_step(step_record, mesh, masses, wide)
+        return 0, next_field(result.masses, room, wide)
     except Refusal as refusal:
         return 4_294_967_296 * refusal.cause + refusal.place, None
-    return 0, pack_field(result.masses)
 
 
 # ---------------------------------------------------------------- Named states (document 02, S-4)
@@ -620,26 +681,34 @@ def board_on_tables(cells, volumes, masses):
     used = board(mesh.volumes, masses[:cells])
     return used + [(0, 0, 0)] * (8 - len(used))
 
-def step_ends(data, mesh):
+def mesh_ends(data):
+    """Where the mesh record at the head of a session ends, and whether it is wide; with the session where that has no whole head."""
+    if len(data) < MESH_HEAD:
+        return len(data), False
+    head = Bits(data[:MESH_HEAD])
+    wide, cells, faces = is_wide(head.take(KIND_BITS)), head.take(CELLS_BITS), head.take(FACES_BITS)
+    return mesh_length(cells, faces, wide), wide
+
+def field_ends(data, mesh, wide=False):
+    """Where the field record at the head of these bytes ends: by the mesh alone."""
+    return field_length(len(mesh.volumes), wide)
+
+def step_ends(data, mesh, wide=False):
     """Where the step record at the head of these bytes ends: by its kind, and with them where it has no kind of a step."""
-    kind = data[0] >> 4
-    return step_length(kind, len(mesh.volumes), len(mesh.firsts), mesh.seconds) if kind in (WATER, OUTFALLS) else len(data)
+    kind = kind_of(data)
+    return step_length(kind, len(mesh.volumes), len(mesh.firsts), mesh.seconds) if kind in step_kinds(wide) else len(data)
 
 def run(data):
     """What the run program prints of a session."""
-    length = len(data)
-    if length >= MESH_HEAD:
-        head = Bits(data[:MESH_HEAD])
-        head.take(4)
-        length = mesh_length(head.take(12), head.take(13))
+    length, wide = mesh_ends(data)
     try:
         mesh = accept_mesh(data[:length])
     except Refusal as refusal:
         return f"M {refusal.cause} {refusal.place}\n"
     data = data[length:]
-    length = field_length(len(mesh.volumes))
+    length = field_ends(data, mesh, wide)
     try:
-        masses = accept_field(data[:length], mesh)
+        masses = accept_field(data[:length], mesh, wide)
     except Refusal as refusal:
         return f"F {refusal.cause} {refusal.place}\n"
     data = data[length:]
@@ -647,9 +716,9 @@ def run(data):
     number = 0
     while data:
         number += 1
-        length = step_ends(data, mesh)
+        length = step_ends(data, mesh, wide)
         try:
-            result = accept_step(data[:length], mesh, masses)
+            result = accept_step(data[:length], mesh, masses, wide)
             masses = result.masses
             lines.append(f"{number} {result.in_mass} {result.out_mass} {sum(masses)} {result.released}")
         except Refusal as refusal:
@@ -669,22 +738,26 @@ def page_cells(cells, page):
     """The cells on a page, from 0; none on one beyond the last."""
     return range(PAGE_CELLS * page, min(cells, PAGE_CELLS * (page + 1)))
 
+def rest_places(volumes):
+    """Document 02, S-10: one place more where some V of the whole mesh is above 4,095."""
+    return 5 if any(V > OLD_CEILING for V in volumes) else 4
+
 def page_lines(volumes, masses, page):
     """A line for each cell of the page, and one for their mass."""
-    on_page = page_cells(len(volumes), page)
-    lines = [f"{cell:4} {masses[cell] // volumes[cell]:7} {masses[cell] % volumes[cell]:4}\n" for cell in on_page]
-    return lines + [f"{sum(masses[cell] for cell in on_page):17}\n"]
+    on_page, places = page_cells(len(volumes), page), rest_places(volumes)
+    lines = [f"{cell:4} {masses[cell] // volumes[cell]:7} {masses[cell] % volumes[cell]:{places}}\n" for cell in on_page]
+    return lines + [f"{sum(masses[cell] for cell in on_page):{13 + places}}\n"]
 
-def page_length(cells, page):
-    """18 bytes a line; a page beyond the last needs none."""
+def page_length(volumes, cells, page):
+    """18 or 19 bytes a line; a page beyond the last needs none."""
     on_page = len(page_cells(cells, page))
-    return 18 * (on_page + 1) if on_page else 0
+    return (14 + rest_places(volumes[:cells])) * (on_page + 1) if on_page else 0
 
 def page_on_tables(cells, volumes, masses, page, room):
     """The bytes of a page of lent tables; room counts those lent for it."""
     judge_counts(cells, 0, LIBRARY_LIMITS)
     judge_lengths({VOLUMES: len(volumes), MASSES: len(masses), PAGE: room},
-                  {VOLUMES: cells, MASSES: cells, PAGE: page_length(cells, page)})
+                  {VOLUMES: cells, MASSES: cells, PAGE: page_length(volumes, cells, page)})
     mesh = Mesh(volumes[:cells], [], [], [], [])
     judge_mesh(mesh)
     judge_field(mesh, masses[:cells])

@@ -35,6 +35,7 @@ from session import Session
 LEAST = -(1 << 63)              # the one flux whose opposite does not fit its entry
 STEP_CAUSES = {2, 6, 7, 8, 9, 10, 18}
 REACHED = {"run": {7, 8, 9, 10, 12, 18}, "host": {7, 8, 9, 10, 18}, "step": STEP_CAUSES}
+ACCEPTED = ["accepted", "wide"]         # of the accepted steps those on records of kinds 5 to 8, and on tables with V above the old ceiling
 
 
 class Different(Exception):
@@ -91,6 +92,10 @@ def session_of(data):
         return None
 
 
+def is_wide(mesh_record):
+    return lagoon.is_wide(lagoon.kind_of(mesh_record))
+
+
 def compare_session(run, rng, data, kind, met):
     session = session_of(data)
     if session is None:
@@ -107,6 +112,7 @@ def compare_session(run, rng, data, kind, met):
         else:
             same(line, other, "an accepted step")
             met["run", "accepted"] += 1
+            met["run", "wide"] += is_wide(data)
 
 
 # ---------------------------------------------------------------- Records through the host's call
@@ -124,8 +130,9 @@ def compare_records(driver, rng, case, kind, met):
     same(number >> 32, other >> 32, "the host's cause")
     met["host", (number >> 32) or "accepted"] += 1
     if number == 0:
-        length = layout.field_bytes(len(session.masses))
+        length = len(session.field_record)
         same(numbering.by_cell(layout.masses_in(room[:length])), layout.masses_in(other_room[:length]), "the next field")
+        met["host", "wide"] += is_wide(case.mesh)
 
 
 # ---------------------------------------------------------------- Steps on tables through calls
@@ -188,6 +195,7 @@ def compare_tables(calls, name, rng, kind, met):
         same(numbering.by_cell(following)[:lent.cells], other_following[:lent.cells], f"{name}, next masses")
         same(numbering.amounts(moved)[:lent.faces], other_moved[:lent.faces], f"{name}, moved masses")
         met["step", "accepted"] += 1
+        met["step", "wide"] += max(lent.lag.volumes) > lagoon.OLD_CEILING
 
 
 # ---------------------------------------------------------------- Command line
@@ -241,8 +249,8 @@ def main():
         print(f"numberings: {different}")
         return 1
     for title, causes in REACHED.items():
-        print(f"{title} in two numberings: " + ", ".join(f"{answer}: {met[title, answer]}" for answer in ["accepted", *sorted(causes)]))
-    missing = [f"{title} {answer}" for title, causes in REACHED.items() for answer in ["accepted", *sorted(causes)] if not met[title, answer]]
+        print(f"{title} in two numberings: " + ", ".join(f"{answer}: {met[title, answer]}" for answer in [*ACCEPTED, *sorted(causes)]))
+    missing = [f"{title} {answer}" for title, causes in REACHED.items() for answer in [*ACCEPTED, *sorted(causes)] if not met[title, answer]]
     if missing:
         print("NEVER REACHED: " + ", ".join(missing))
     return 1 if missing else 0

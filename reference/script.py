@@ -21,20 +21,20 @@ CALLS = {
     6: ("total", "ntt"),
     7: ("step", "nnttttttsttstt"),
     8: ("mesh_length", "nnb"),
-    9: ("field_length", "nb"),
-    10: ("step_length", "nntb"),
+    9: ("field_length", "nnb"),
+    10: ("step_length", "nnntb"),
     11: ("read_mesh", "nnbttttt"),
-    12: ("read_field", "nbt"),
-    13: ("read_step", "nntbstt"),
-    14: ("write_mesh", "nntttttb"),
-    15: ("write_field", "nnttttttb"),
-    16: ("write_step", "nnntttttstbt"),
+    12: ("read_field", "nnbt"),
+    13: ("read_step", "nnntbstt"),
+    14: ("write_mesh", "nnntttttb"),
+    15: ("write_field", "nnnttttttb"),
+    16: ("write_step", "nnnntttttstbt"),
     17: ("number_at", "bnn"),
     18: ("board", "ntt"),
     19: ("lagoon_step", "bbbb"),
     20: ("take_mesh", "bttttt"),
-    21: ("take_field", "nbtt"),
-    22: ("take_step", "nnbtttttt"),
+    21: ("take_field", "nnbtt"),
+    22: ("take_step", "nnnbtttttt"),
     23: ("page", "nttnb"),
     24: ("keep", "ntttn"),
     25: ("drop", "ntn"),
@@ -200,31 +200,32 @@ class Engine:
 
     def mesh_length(self, most_cells, most_faces, record):
         L = self.lagoon
-        return (L.mesh_length(*L.mesh_head(record, self.limits(most_cells, most_faces))),)
+        cells, faces, wide = L.mesh_head(record, self.limits(most_cells, most_faces))
+        return L.mesh_length(cells, faces, wide), int(wide)
 
-    def field_length(self, cells, record):
+    def field_length(self, width, cells, record):
         L = self.lagoon
-        L.field_head(record, cells, L.LIBRARY_LIMITS)
-        return (L.field_length(cells),)
+        L.field_head(record, cells, L.LIBRARY_LIMITS, width == 1)
+        return (L.field_length(cells, width == 1),)
 
-    def step_length(self, cells, faces, seconds, record):
+    def step_length(self, width, cells, faces, seconds, record):
         L = self.lagoon
-        kind = L.step_head(record, cells, faces, seconds, L.LIBRARY_LIMITS)
+        kind = L.step_head(record, cells, faces, seconds, L.LIBRARY_LIMITS, width == 1)
         return (L.step_length(kind, cells, faces, seconds),)
 
     def read_mesh(self, most_cells, most_faces, record, *tables):
         mesh = self.lagoon.read_mesh(record, self.limits(most_cells, most_faces), self.lengths(dict(enumerate(tables))))
-        return self.fill_mesh(mesh, tables)
+        return self.fill_mesh(mesh, tables, record)
 
-    def read_field(self, cells, record, masses):
+    def read_field(self, width, cells, record, masses):
         L = self.lagoon
-        masses[:cells] = L.read_field(record, cells, lengths={L.MASSES: len(masses)})
+        masses[:cells] = L.read_field(record, cells, lengths={L.MASSES: len(masses)}, wide=width == 1)
         return ()
 
-    def read_step(self, cells, faces, seconds, record, fluxes, outsides, releases):
+    def read_step(self, width, cells, faces, seconds, record, fluxes, outsides, releases):
         L = self.lagoon
         lent = {L.FLUXES: len(fluxes), L.OUTSIDES: len(outsides), L.RELEASES: len(releases)}
-        read = L.read_step(record, cells, faces, seconds, lengths=lent)
+        read = L.read_step(record, cells, faces, seconds, lengths=lent, wide=width == 1)
         fluxes[:faces], outsides[:faces], releases[:cells] = read.fluxes, read.outsides, read.releases
         return (read.kind,)
 
@@ -232,20 +233,20 @@ class Engine:
         room[:len(record)] = record
         return (len(record),)
 
-    def write_mesh(self, cells, faces, *lent):
+    def write_mesh(self, width, cells, faces, *lent):
         *tables, room = lent
-        return self.put(self.lagoon.write_mesh(cells, faces, dict(enumerate(tables)), len(room)), room)
+        return self.put(self.lagoon.write_mesh(cells, faces, dict(enumerate(tables)), len(room), width == 1), room)
 
-    def write_field(self, cells, faces, *lent):
+    def write_field(self, width, cells, faces, *lent):
         *tables, room = lent
-        return self.put(self.lagoon.write_field(cells, faces, dict(enumerate(tables)), len(room)), room)
+        return self.put(self.lagoon.write_field(cells, faces, dict(enumerate(tables)), len(room), width == 1), room)
 
-    def write_step(self, kind, cells, faces, *lent):
+    def write_step(self, width, kind, cells, faces, *lent):
         L = self.lagoon
         *mesh, fluxes, outsides, room, releases = lent
         tables = {**dict(enumerate(mesh)), L.FLUXES: fluxes, L.OUTSIDES: outsides, L.RELEASES: releases}
         told = L.OUTFALLS if kind == L.OUTFALLS else L.WATER
-        return self.put(L.write_step(told, cells, faces, tables, len(room)), room)
+        return self.put(L.write_step(told, cells, faces, tables, len(room), width == 1), room)
 
     def number_at(self, record, bit, width):
         spelled = self.lagoon.number_at(record, bit, width)
@@ -257,10 +258,10 @@ class Engine:
             self.put(record, room)
         return number
 
-    def fill_mesh(self, mesh, tables):
+    def fill_mesh(self, mesh, tables, record):
         for table, column in zip(tables, mesh):
             table[:len(column)] = column
-        return len(mesh.volumes), len(mesh.firsts)
+        return len(mesh.volumes), len(mesh.firsts), int(self.lagoon.is_wide(self.lagoon.kind_of(record)))
 
     # The calls that take records read them into tables of the run's limits.
 
@@ -269,22 +270,22 @@ class Engine:
         mesh = L.read_mesh(record, L.RUN_LIMITS)
         L.judge_lengths(self.lengths(dict(enumerate(tables))), L.mesh_needs(len(mesh.volumes), len(mesh.firsts)))
         L.judge_mesh(mesh)
-        return self.fill_mesh(mesh, tables)
+        return self.fill_mesh(mesh, tables, record)
 
-    def take_field(self, cells, record, volumes, masses):
+    def take_field(self, width, cells, record, volumes, masses):
         L = self.lagoon
-        read = L.read_field(record, cells, lengths={L.MASSES: L.RUN_LIMITS[0]})
+        read = L.read_field(record, cells, lengths={L.MASSES: L.RUN_LIMITS[0]}, wide=width == 1)
         L.judge_lengths({L.MASSES: len(masses)}, {L.MASSES: cells})
         total = self.total(cells, volumes, read)
         masses[:cells] = read
         return total
 
-    def take_step(self, cells, faces, record, *lent):
+    def take_step(self, width, cells, faces, record, *lent):
         L = self.lagoon
         *mesh, masses = lent
         most_cells, most_faces = L.RUN_LIMITS
         room = {L.FLUXES: most_faces, L.OUTSIDES: most_faces, L.RELEASES: most_cells}
-        _, fluxes, outsides, releases = L.read_step(record, cells, faces, mesh[L.SECONDS], lengths=room)
+        _, fluxes, outsides, releases = L.read_step(record, cells, faces, mesh[L.SECONDS], lengths=room, wide=width == 1)
         following, moved, work = [0] * most_cells, [0] * most_faces, [0] * (4 * most_cells + most_faces)
         entered, gone, released = self.step(cells, faces, *mesh, masses, fluxes, outsides, following, moved, work, releases)
         masses[:cells] = following[:cells]
@@ -319,15 +320,15 @@ CHANGED = {
     "step": {10: "next", 11: "moved", 12: "work"},
     "plain_step": {10: "next", 11: "moved", 12: "work"},
     "read_mesh": {3: "volumes", 4: "firsts", 5: "seconds", 6: "shares", 7: "reaches"},
-    "read_field": {2: "masses"},
-    "read_step": {4: "fluxes", 5: "outsides", 6: "releases"},
-    "write_mesh": {7: "bytes"},
-    "write_field": {8: "bytes"},
-    "write_step": {10: "bytes"},
+    "read_field": {3: "masses"},
+    "read_step": {5: "fluxes", 6: "outsides", 7: "releases"},
+    "write_mesh": {8: "bytes"},
+    "write_field": {9: "bytes"},
+    "write_step": {11: "bytes"},
     "lagoon_step": {3: "next"},
     "take_mesh": {1: "volumes", 2: "firsts", 3: "seconds", 4: "shares", 5: "reaches"},
-    "take_field": {3: "masses"},
-    "take_step": {8: "masses"},
+    "take_field": {4: "masses"},
+    "take_step": {9: "masses"},
     "page": {4: "bytes"},
     "keep": {3: "store"},
     "drop": {1: "store"},

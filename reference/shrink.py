@@ -8,47 +8,51 @@ from script import Fault, Reader
 
 
 class Parts:
-    """A mesh with a field and steps, as lists: fluxes, outsides, and releases or None. A step that cannot be read stays as bytes."""
+    """A mesh with a field and steps, as lists: fluxes, outsides, and releases or None. A step that cannot be read stays as bytes.
+    Records are packed in one width."""
 
-    def __init__(self, volumes, faces, masses, steps, tail):
-        self.volumes, self.faces, self.masses, self.steps, self.tail = volumes, faces, masses, steps, tail
+    def __init__(self, volumes, faces, masses, steps, tail, wide):
+        self.volumes, self.faces, self.masses, self.steps, self.tail, self.wide = volumes, faces, masses, steps, tail, wide
+
+    def but(self, **changed):
+        """The same with some of its lists changed."""
+        return Parts(**{**vars(self), **changed})
 
     def mesh(self):
         return lagoon.Mesh(self.volumes, *([face[i] for face in self.faces] for i in range(4)))
 
     def records(self):
         mesh = self.mesh()
-        steps = [step if isinstance(step, bytes) else lagoon.pack_step(mesh, *step) for step in self.steps]
-        return lagoon.pack_mesh(mesh), lagoon.pack_field(self.masses), steps, self.tail
+        steps = [step if isinstance(step, bytes) else lagoon.pack_step(mesh, *step, self.wide) for step in self.steps]
+        return lagoon.pack_mesh(mesh, self.wide), lagoon.pack_field(self.masses, self.wide), steps, self.tail
 
 
 def take_apart(mesh_record, field_record, steps_bytes):
     """Parts of records that can be read, else None."""
     try:
         mesh = lagoon.read_mesh(mesh_record)
-        masses = lagoon.read_field(field_record, len(mesh.volumes))
+        wide = lagoon.is_wide(lagoon.kind_of(mesh_record))
+        masses = lagoon.read_field(field_record, len(mesh.volumes), wide=wide)
     except lagoon.Refusal:
         return None
     steps = []
-    while steps_bytes and len(steps_bytes) >= (length := lagoon.step_ends(steps_bytes, mesh)):
+    while steps_bytes and len(steps_bytes) >= (length := lagoon.step_ends(steps_bytes, mesh, wide)):
         record, steps_bytes = steps_bytes[:length], steps_bytes[length:]
         try:
-            kind, *water, releases = lagoon.read_step(record, len(mesh.volumes), len(mesh.firsts), mesh.seconds)
-            steps.append((*water, releases if kind == lagoon.OUTFALLS else None))
+            kind, *water, releases = lagoon.read_step(record, len(mesh.volumes), len(mesh.firsts), mesh.seconds, wide=wide)
+            steps.append((*water, releases if lagoon.STEP_BITS[kind].release else None))
         except lagoon.Refusal:
             steps.append(record)
-    return Parts(list(mesh.volumes), [list(row) for row in zip(*mesh[1:])], masses, steps, steps_bytes)
+    return Parts(list(mesh.volumes), [list(row) for row in zip(*mesh[1:])], masses, steps, steps_bytes, wide)
 
 
 def split_session(data):
     """Mesh record, field record and the rest of a session, as far as the heads say."""
+    a, wide = lagoon.mesh_ends(data)
     if len(data) < lagoon.MESH_HEAD:
         return data, b"", b""
-    head = lagoon.Bits(data[:4])
-    head.take(4)
-    cells, faces = head.take(12), head.take(13)
-    a = lagoon.mesh_length(cells, faces)
-    b = a + lagoon.field_length(cells)
+    cells = lagoon.number_at(data, lagoon.KIND_BITS, lagoon.CELLS_BITS)
+    b = a + lagoon.field_length(cells, wide)
     return data[:a], data[a:b], data[b:]
 
 
@@ -79,8 +83,8 @@ def without_cell(parts, cell):
         steps.append((new, [(min(q, lagoon.TOP) if U < 0 else 0) if opened else outsides[face]
                             for U, (face, _, opened) in zip(new, columns)],
                       releases and releases[:cell] + releases[cell + 1:]))
-    return Parts(parts.volumes[:cell] + parts.volumes[cell + 1:], faces,
-                 parts.masses[:cell] + parts.masses[cell + 1:], steps, parts.tail)
+    return parts.but(volumes=parts.volumes[:cell] + parts.volumes[cell + 1:], faces=faces,
+                     masses=parts.masses[:cell] + parts.masses[cell + 1:], steps=steps)
 
 
 def without_cells(parts, start, end):
@@ -93,7 +97,7 @@ def without_faces(parts, start, end):
     if not readable(parts):
         return None
     steps = [(f[:start] + f[end:], o[:start] + o[end:], releases) for f, o, releases in parts.steps]
-    return Parts(parts.volumes, parts.faces[:start] + parts.faces[end:], parts.masses, steps, parts.tail)
+    return parts.but(faces=parts.faces[:start] + parts.faces[end:], steps=steps)
 
 
 def without_still_faces(parts):
@@ -106,16 +110,16 @@ def without_still_faces(parts):
 
 
 def without_steps(parts, start, end):
-    return Parts(parts.volumes, parts.faces, parts.masses, parts.steps[:start] + parts.steps[end:], parts.tail)
+    return parts.but(steps=parts.steps[:start] + parts.steps[end:])
 
 
 def without_releases(parts, start, end):
-    """Steps of kind 4 as steps of kind 3."""
+    """Steps of kinds 4 and 8 as steps of kinds 3 and 7."""
     if not readable(parts):
         return None
     plain = [(fluxes, outsides, None) for fluxes, outsides, _ in parts.steps[start:end]]
     steps = parts.steps[:start] + plain + parts.steps[end:]
-    return None if steps == parts.steps else Parts(parts.volumes, parts.faces, parts.masses, steps, parts.tail)
+    return None if steps == parts.steps else parts.but(steps=steps)
 
 
 def releases_in_field(parts):
@@ -124,18 +128,31 @@ def releases_in_field(parts):
         return None
     *water, releases = parts.steps[0]
     masses = lagoon.raised(parts.masses, releases)
-    if max(masses) >= 1 << 32:
+    if max(masses) >= 1 << lagoon.FIELD_BITS[lagoon.of_width(lagoon.FIELD, parts.wide)]:
         return None
-    return Parts(parts.volumes, parts.faces, masses, [(*water, None), *parts.steps[1:]], parts.tail)
+    return parts.but(masses=masses, steps=[(*water, None), *parts.steps[1:]])
 
 
 def without_masses(parts, start, end):
     masses = parts.masses[:start] + [0] * (end - start) + parts.masses[end:]
-    return None if masses == parts.masses else Parts(parts.volumes, parts.faces, masses, parts.steps, parts.tail)
+    return None if masses == parts.masses else parts.but(masses=masses)
+
+
+def narrowed(parts):
+    """The same in records of kinds 1 to 4, where these hold it."""
+    fits = lambda value, bits: value < 1 << bits
+    mesh, step = lagoon.MESH_BITS[lagoon.MESH], lagoon.STEP_BITS[lagoon.OUTFALLS]
+    if not parts.wide or not readable(parts) or parts.tail:
+        return None
+    values = [(V, mesh.volume) for V in parts.volumes] + [(row[3], mesh.reach) for row in parts.faces]
+    values += [(m, lagoon.FIELD_BITS[lagoon.FIELD]) for m in parts.masses]
+    for fluxes, _, releases in parts.steps:
+        values += [(abs(U), step.size) for U in fluxes] + [(release, step.release) for release in releases or []]
+    return parts.but(wide=False) if all(fits(*pair) for pair in values) else None
 
 
 def shrink_parts(parts, fails, seconds):
-    """The smallest parts found within the time that still fail: runs of steps, cells, faces, releases, masses dropped."""
+    """The smallest parts found within the time that still fail: runs of steps, cells, faces, releases, masses dropped, and narrow records."""
     end = time.monotonic() + seconds
 
     def better(candidate):
@@ -155,8 +172,7 @@ def shrink_parts(parts, fails, seconds):
 
     while time.monotonic() < end:
         before = parts.records()
-        for candidate in (Parts(parts.volumes, parts.faces, parts.masses, parts.steps, b""),
-                          without_still_faces(parts), releases_in_field(parts)):
+        for candidate in (parts.but(tail=b""), without_still_faces(parts), releases_in_field(parts), narrowed(parts)):
             if better(candidate):
                 parts = candidate
         parts = sweep(parts, lambda p: len(p.steps), without_steps)
@@ -199,7 +215,7 @@ def call(mesh, field, step, room, fails, seconds=60):
     parts = take_apart(mesh, field, step)
     if parts is None or len(parts.steps) != 1 or parts.tail:
         return mesh, field, step, room
-    spare = room - lagoon.field_length(len(parts.volumes))
+    spare = room - lagoon.field_length(len(parts.volumes), parts.wide)
 
     def lend(parts):
         mesh, field, steps, _ = parts.records()

@@ -141,16 +141,22 @@ def summed(lagoon):
 
 # ---------------------------------------------------------------- Document 02, S-6: releases
 
+def lose_upper_bits(lagoon):
+    """What is too large for its width is written without its upper bits."""
+    right = lagoon.pack
+    lagoon.pack = lambda values: right([(value % (1 << width), width) for value, width in values])
+
+
 def afterwards(lagoon):
     """Releases added after the step; what is then too large for a field record loses its upper bits."""
     right = lagoon.advance
 
     def advance(mesh, masses, fluxes, outsides, releases=None):
         result = right(mesh, masses, fluxes, outsides)
-        after = [m % (1 << 32) for m in lagoon.raised(result.masses, releases)]
-        return result._replace(masses=after, released=lagoon.released_mass(releases))
+        return result._replace(masses=lagoon.raised(result.masses, releases), released=lagoon.released_mass(releases))
 
     lagoon.advance = advance
+    lose_upper_bits(lagoon)
 
 
 def unraised(lagoon):
@@ -174,16 +180,74 @@ def padded(lagoon):
     right = lagoon.take_releases
 
     def take_releases(bits, kind, cells):
-        if kind == lagoon.OUTFALLS:
+        if lagoon.STEP_BITS[kind].release:
             bits.take_zeros(-bits.at % 8)
         return right(bits, kind, cells)
 
     lagoon.take_releases = take_releases
 
 
+# ---------------------------------------------------------------- Document 02, S-10: larger cells
+
+def own_width(lagoon, record, wide):
+    """The width of a record by its own kind."""
+    return lagoon.is_wide(lagoon.kind_of(record)) if record else wide
+
+
+def either_field(lagoon):
+    """A field of kind 2 taken after a mesh of kind 5, and one of kind 6 after kind 1."""
+    right_read, right_ends = lagoon.read_field, lagoon.field_ends
+    lagoon.read_field = lambda record, cells, *limits, lengths=None, wide=False: right_read(
+        record, cells, *limits, lengths=lengths, wide=own_width(lagoon, record, wide))
+    lagoon.field_ends = lambda data, mesh, wide: right_ends(data, mesh, own_width(lagoon, data, wide))
+
+
+def either_step(lagoon):
+    """A step of kind 3 or 4 taken after a mesh of kind 5, and one of kind 7 or 8 after kind 1."""
+    right_read, right_ends = lagoon.read_step, lagoon.step_ends
+    lagoon.read_step = lambda record, cells, faces, seconds, *limits, lengths=None, wide=False: right_read(
+        record, cells, faces, seconds, *limits, lengths=lengths, wide=own_width(lagoon, record, wide))
+    lagoon.step_ends = lambda data, mesh, wide: right_ends(data, mesh, own_width(lagoon, data, wide))
+
+
+def set_wide_mesh(lagoon, **bits):
+    """Other widths in a mesh of kind 5."""
+    wide = lagoon.of_width(lagoon.MESH, True)
+    lagoon.MESH_BITS[wide] = lagoon.MESH_BITS[wide]._replace(**bits)
+
+
+def long_share(lagoon):
+    """16 bits for s in kind 5."""
+    set_wide_mesh(lagoon, share=lagoon.MESH_BITS[lagoon.of_width(lagoon.MESH, True)].reach)
+
+
+def short_volume(lagoon):
+    """In kind 5 K by 16 bits and V by 12."""
+    set_wide_mesh(lagoon, volume=lagoon.MESH_BITS[lagoon.MESH].volume)
+    lose_upper_bits(lagoon)
+
+
+def product(lagoon):
+    """The product of the proportional part cut to 64 bits."""
+    lagoon.portion = lambda a, G, P: a * G % (1 << 64) // P
+
+
 SLIPS = {slip.__name__: slip for slip in (share, sign, floor, late, still, rest, bound,
                                           smooths, water, earlier, equal, turned, exact, summed,
-                                          afterwards, unraised, padded)}
+                                          afterwards, unraised, padded,
+                                          either_field, either_step, long_share, short_volume, product)}
+
+
+# ---------------------------------------------------------------- Slips that the host's call shows
+
+def narrow_next(lagoon):
+    """The next field narrow after a mesh of kind 5."""
+    right = lagoon.next_field
+    lagoon.next_field = lambda masses, room, wide: right(masses, room, False)
+    lose_upper_bits(lagoon)
+
+
+CALL_SLIPS = {slip.__name__: slip for slip in (narrow_next,)}
 
 
 # ---------------------------------------------------------------- Slips that a list of steps shows
@@ -192,12 +256,12 @@ def counted(lagoon):
     """Releases of a refused step put into the field all the same."""
     right = lagoon.accept_step
 
-    def accept_step(record, mesh, masses):
+    def accept_step(record, mesh, masses, wide):
         try:
-            return right(record, mesh, masses)
+            return right(record, mesh, masses, wide)
         except lagoon.Refusal as refusal:
             if refusal.cause not in (11, 12, 13):
-                releases = lagoon.read_step(record, len(mesh.volumes), len(mesh.firsts), mesh.seconds).releases
+                releases = lagoon.read_step(record, len(mesh.volumes), len(mesh.firsts), mesh.seconds, wide=wide).releases
                 masses[:] = lagoon.raised(masses, releases)
             raise
 
@@ -205,7 +269,7 @@ def counted(lagoon):
 
 
 def left(lagoon):
-    """A kind 3 step with the releases of the kind 4 step before it."""
+    """A step of kind 3 or 7 with the releases of the step of kind 4 or 8 before it."""
     right_run, right_taken = lagoon.run, lagoon.take_releases
     last = {}
 
@@ -214,7 +278,7 @@ def left(lagoon):
         return right_run(data)
 
     def take_releases(bits, kind, cells):
-        if kind == lagoon.OUTFALLS or not last:
+        if lagoon.STEP_BITS[kind].release or not last:
             last["releases"] = right_taken(bits, kind, cells)
         return last["releases"]
 
@@ -277,11 +341,11 @@ def bit(lagoon):
 
 
 def dropped(lagoon):
-    """A kind 3 record written without its releases, where it is to be refused."""
+    """A record of kind 3 or 7 written without its releases, where it is to be refused."""
     right = lagoon.judge_releases
 
     def judge_releases(kind, releases):
-        if kind == lagoon.OUTFALLS:
+        if lagoon.STEP_BITS[kind].release:
             right(kind, releases)
 
     lagoon.judge_releases = judge_releases
@@ -290,7 +354,33 @@ def dropped(lagoon):
 def binder(lagoon):
     """A page's mass line with the mass of all cells."""
     right = lagoon.page_lines
-    lagoon.page_lines = lambda volumes, masses, page: right(volumes, masses, page)[:-1] + [f"{sum(masses):17}\n"]
+
+    def page_lines(volumes, masses, page):
+        *lines, last = right(volumes, masses, page)
+        return lines + [str(sum(masses)).rjust(len(last) - 1) + "\n"]
+
+    lagoon.page_lines = page_lines
+
+
+def places(lagoon):
+    """The places of a page's rests decided by its own cells, not by all (document 02, S-10)."""
+    right_places, right_lines, right_length = lagoon.rest_places, lagoon.page_lines, lagoon.page_length
+
+    def by_page(volumes, page, make):
+        lagoon.rest_places = lambda _: right_places([volumes[cell] for cell in lagoon.page_cells(len(volumes), page)])
+        try:
+            return make()
+        finally:
+            lagoon.rest_places = right_places
+
+    lagoon.page_lines = lambda volumes, masses, page: by_page(volumes, page, lambda: right_lines(volumes, masses, page))
+    lagoon.page_length = lambda volumes, cells, page: by_page(volumes[:cells], page, lambda: right_length(volumes, cells, page))
+
+
+def lifted(lagoon):
+    """Writers of the old kinds that take V, K and |U| above 4,095 (document 02, S-10)."""
+    lagoon.ceiling_of = lambda wide: lagoon.CEILING
+    lose_upper_bits(lagoon)
 
 
 def fresher(lagoon):
@@ -406,5 +496,8 @@ def uncleared(lagoon):
     lagoon.plain_step_on_tables = plain_step_on_tables
 
 
-ANSWER_SLIPS = {slip.__name__: slip for slip in (place, table, beyond, bit, dropped, binder, fresher, unweighed, higher, first, freed, nearest,
-                                                 exchanged, corrects, bare, mingled, rounded, lenient, uncleared)}
+ANSWER_SLIPS = {slip.__name__: slip for slip in (place, table, beyond, bit, dropped, binder, places, lifted, fresher, unweighed, higher, first,
+                                                 freed, nearest, exchanged, corrects, bare, mingled, rounded, lenient, uncleared)}
+
+
+ALL_SLIPS = {**SLIPS, **CALL_SLIPS, **RUN_SLIPS, **ANSWER_SLIPS}

@@ -13,7 +13,8 @@ sys.path.insert(0, str(HERE))
 import engines
 import lagoon
 import script
-from slips import ANSWER_SLIPS, RUN_SLIPS, SLIPS
+import shrink
+from slips import ANSWER_SLIPS, CALL_SLIPS, RUN_SLIPS, SLIPS
 
 SELF = f"python3:{HERE / 'lagoon.py'}"
 SMALL = 110             # bytes; about four cells with the faces between them and one step
@@ -57,16 +58,40 @@ def test_silent_program():
 
 def test_slips_kept_small():
     """A slip ends a soak, and the small input that it leaves still shows the slip."""
-    for slip in ("floor", "still"):
+    for slip in ("floor", "still", "product", "short_volume"):
         wrong = engines.load(HERE / "lagoon.py", "wrong_lagoon")
         SLIPS[slip](wrong)
         with tempfile.TemporaryDirectory() as folder:
-            status, text = compare("--run", SELF, "--soak", "60", "--seed", "6", "--slip", slip, "--keep", folder)
+            status, text = compare("--run", SELF, "--soak", "60", "--seed", "8", "--slip", slip, "--keep", folder)
             kept = list(Path(folder).glob("*-small.bin"))
             demand(status == 1 and len(kept) == 1, f"slip {slip} leaves no small session: {text}")
             data = kept[0].read_bytes()
             demand(wrong.run(data) != lagoon.run(data), f"slip {slip}: the small session shows nothing")
             demand(len(data) <= SMALL, f"slip {slip}: {len(data)} bytes left: {text}")
+
+
+def test_small_records_are_narrow():
+    """Wide records become narrow ones where these still fail, and stay wide where a value needs it."""
+    for V, wide in ((4_095, False), (4_096, True)):
+        mesh = lagoon.Mesh([V], [0, 0], [lagoon.RIM] * 2, [0] * 2, [0] * 2)
+        data = lagoon.pack_mesh(mesh, True) + lagoon.pack_field([V], True) + lagoon.pack_step(mesh, [-V, V], [1, 0], wide=True) * 2
+        fails = lambda data: lagoon.run(data).splitlines()[1:2] == [f"1 {V} {V} {V} 0"]
+        small = shrink.session(data, fails)
+        demand(fails(small) and lagoon.is_wide(lagoon.kind_of(small)) == wide, f"V {V}: {small.hex(' ')}")
+
+
+def test_other_widths_accepted():
+    """The slips of the other width take a record that follows its layout, and do not only refuse it by another cause."""
+    mesh = lagoon.Mesh([100], [0, 0], [lagoon.RIM] * 2, [0] * 2, [0] * 2)
+    records = {wide: (lagoon.pack_mesh(mesh, wide), lagoon.pack_field([500], wide), lagoon.pack_step(mesh, [-9, 9], [7, 0], [3], wide))
+               for wide in (False, True)}
+    for wide, own in records.items():
+        for slip, at in (("either_field", 1), ("either_step", 2)):
+            wrong = engines.load(HERE / "lagoon.py", "wrong_lagoon")
+            SLIPS[slip](wrong)
+            mixed = [*own[:at], records[not wide][at], *own[at + 1:]]
+            demand(wrong.run(b"".join(mixed)) == lagoon.run(b"".join(own)), f"slip {slip} refuses the other width in a session")
+            demand(wrong.host_step(*mixed, 99) == lagoon.host_step(*own, 99), f"slip {slip} refuses the other width in a call")
 
 
 def test_slips_of_a_run():
@@ -84,17 +109,18 @@ def test_slips_of_a_run():
 
 
 def test_small_call():
-    with tempfile.TemporaryDirectory() as folder:
-        status, text = compare("--call", SELF, "--soak", "60", "--seed", "5", "--slip", "bound", "--keep", folder)
-        kept = list(Path(folder).glob("*-small.bin"))
-        demand(status == 1 and len(kept) == 1, f"no small call: {text}")
-        demand(kept[0].stat().st_size <= 16 + SMALL, f"the small call is large: {text}")
+    for slip in ("bound", *CALL_SLIPS):
+        with tempfile.TemporaryDirectory() as folder:
+            status, text = compare("--call", SELF, "--soak", "60", "--seed", "5", "--slip", slip, "--keep", folder)
+            kept = list(Path(folder).glob("*-small.bin"))
+            demand(status == 1 and len(kept) == 1, f"slip {slip} leaves no small call: {text}")
+            demand(kept[0].stat().st_size <= 16 + SMALL, f"slip {slip}: the small call is large: {text}")
 
 
 def test_slips_of_answers():
     """Every slip shows in scripts, and a slip of the answers leaves a script of one call."""
     status, text = compare("--script", SELF, "--slips")
-    demand(status == 0 and all(f"slip {slip}:" in text for slip in [*SLIPS, *ANSWER_SLIPS]), f"slips in scripts: {text}")
+    demand(status == 0 and all(f"slip {slip}:" in text for slip in [*SLIPS, *CALL_SLIPS, *ANSWER_SLIPS]), f"slips in scripts: {text}")
     for slip in ("place", "beyond"):
         wrong = engines.load(HERE / "lagoon.py", "wrong_lagoon")
         ANSWER_SLIPS[slip](wrong)

@@ -15,7 +15,7 @@ import generate_script
 import lagoon
 import script
 import unrounded
-from lagoon import RIM, Mesh
+from lagoon import RIM, TOP, Mesh
 
 
 def equal(actual, expected, what):
@@ -180,7 +180,7 @@ def test_unrounded():
         channel.step(fluxes, OUTSIDE, [0] * 3)
     equal((channel.accepted, channel.masses[1], channel.exact[1]), (5, 96900, 96875), "a refused step changes neither")
     for steps in (1, 2, 3, 40):
-        equal(max(unrounded.ladder(steps).errors()), Fraction(4094 * steps, 4095), f"the ladder after {steps} steps")
+        equal(max(unrounded.ladder(steps).errors()), Fraction(65_534 * steps, 65_535), f"the ladder after {steps} steps")
 
 
 def test_errors_are_seen():
@@ -218,6 +218,102 @@ def test_records():
     equal(record.hex(" "), "40 02 00 00 81 90 0c 80 64 03 20 03 e8 00 00 00 00 00 00 00 00 04 e2 0f ff ff ff f0",
           "step of kind 4 written: releases at once after the last outside value, zero bits at the end")
     equal(lagoon.read_step(record, 3, 4, CHANNEL.seconds), (4, FLOW, OUTSIDE, [0, 20000, (1 << 32) - 1]), "step of kind 4 read")
+
+
+def test_larger_cells():
+    """Document 02, S-10: the ceilings of tables, and of what is written in the old kinds."""
+    still = pool(65_535, 0)
+    equal(step(still, [65_535_065_534], [], [])[0], [65_535_065_534], "V 65,535, m 65,535,065,534")
+    refused(6, 0, "V 65,535, m 65,535,065,535", step, still, [65_535_065_535], [], [])
+    refused(3, 0, "V 65,536", step, pool(65_536, 0), [0], [], [])
+    through = pool(65_535, 2)
+    equal(step(through, [65_535], [-65_535, 65_535], [TOP, 0]), ([65_535_000_000], [-65_535_000_000, 65_535]), "U 65,535 over the rim")
+    refused(8, 0, "U 65,536 over the rim", step, through, [0], [-65_536, 65_536], [TOP, 0])
+    pair = Mesh([65_535] * 2, [0, 0], [1, 1], [128] * 2, [65_535] * 2)
+    equal(step(pair, [65_535] * 2, [65_535, -65_535], [0, 0])[0], [65_535] * 2, "K and U 65,535 between two cells")
+    refused(5, 1, "K 65,536", step, pair._replace(reaches=[65_535, 65_536]), [0, 0], [0, 0], [0, 0])
+    refused(8, 1, "U above K", step, pair._replace(reaches=[65_535, 65_534]), [0, 0], [65_535, -65_535], [0, 0])
+
+    tables = lambda mesh, fluxes: tables_for(mesh, [0] * 2, fluxes, [0] * 4)
+    old = Mesh([4_095] * 2, [0, 0, 1, 0], [RIM, 1, RIM, 1], [0, 128, 0, 128], [0, 4_095, 0, 4_095])
+    for cause, place, mesh, fluxes in ((3, 1, old._replace(volumes=[4_095, 4_096]), [0] * 4),
+                                       (5, 3, old._replace(reaches=[0, 4_095, 0, 5_000]), [0] * 4),
+                                       (5, 1, old._replace(reaches=[0, 4_096, 0, 5_000]), [0, 0, 4_096, 0]),
+                                       (8, 2, old, [0, 4_095, -4_096, 0])):
+        lagoon.write_step(lagoon.WATER, 2, 4, tables(mesh, fluxes), 100, True)
+        refused(cause, place, f"kind 3 above the old ceiling, cause {cause}", lagoon.write_step, lagoon.WATER, 2, 4, tables(mesh, fluxes), 100)
+        if cause != 8:
+            for write in (lagoon.write_mesh, lagoon.write_field):
+                write(2, 4, tables(mesh, fluxes), 100, True)
+                refused(cause, place, f"{write.__name__} above the old ceiling", write, 2, 4, tables(mesh, fluxes), 100)
+    for write in (lagoon.write_mesh, lagoon.write_field):
+        refused(3, 1, f"{write.__name__}, wide, V 65,536", write, 2, 4, tables(old._replace(volumes=[1, 65_536]), [0] * 4), 100, True)
+    for kind, most in ((lagoon.OUTFALLS, (1 << 40) - 1), (lagoon.WATER, 0)):
+        releases = lambda more: tables_for(old, [0] * 2, [0] * 4, [0] * 4, [0, most + more])
+        lagoon.write_step(kind, 2, 4, releases(0), 100, True)
+        refused(18, 1, f"a release too large for kind {kind} + 4", lagoon.write_step, kind, 2, 4, releases(1), 100, True)
+
+
+def test_long_products():
+    """Document 02, S-10: a step whose products a·G and a·L are past 2^64, worked by hand.
+
+    Two cells of V 60,000 exchange 30,000 over two faces of K 60,000; q is 800,000 and 0. Stage 1 carries 24,000,000,000 over face 0 and
+    nothing over face 1, so both cells have a low-order q of 400,000 and every correction is kept. By U d (t K - 128 |U|) / (256 K) they
+    are -24,000,000,000 (t - 64) / 256: with t 255 at face 0 and 192 at face 1, 17,906,250,000 and 12,000,000,000 from cell 1 to cell 0,
+    as 191 is to 128; together 29,906,250,000. Without rests L is 24,000,000,000 and G is V - 1 more, so L decides; with rests of 59,999
+    in both cells it is the other way, and G is 24,000,000,000. Either way the faces keep 191/319 and 128/319 of it, rounded down:
+    14,369,905,956 and 9,630,094,043. The products are 429,750,000,000,000,000,000 and 288,000,000,000,000,000,000; 2^64 has 20 digits."""
+    pair = Mesh([60_000] * 2, [0, 0], [1, 1], [255, 64], [60_000] * 2)
+    equal(lagoon.corrections(pair, [800_000, 0], [30_000, -30_000]), [-17_906_250_000, -12_000_000_000], "the corrections")
+    equal([part * 24_000_000_000 for part in (17_906_250_000, 12_000_000_000)], [42_975 * 10 ** 16, 28_800 * 10 ** 16], "the products")
+    for masses, after, what in (([48_000_000_000, 0], [47_999_999_999, 1], "cut by what the giver may lose"),
+                                ([48_000_059_999, 59_999], [48_000_059_998, 60_000], "cut by what the receiver may gain")):
+        equal(step(pair, masses, [30_000, -30_000], [0, 0]), (after, [9_630_094_044, -9_630_094_043]), what)
+    equal(lagoon.portion((1 << 64) - 1, (1 << 64) - 2, (1 << 64) - 1), (1 << 64) - 2, "the largest proportional part")
+
+
+WIDE_MESH = Mesh([65_535, 100], [0, 0, 1], [RIM, 1, RIM], [0, 128, 0], [0, 65_535, 0])
+
+
+def test_wide_records():
+    """Document 02, S-10: kinds 5 to 8, and that the mesh record fixes the width of those after it."""
+    mesh = "50 02 00 18 ff ff 00 64 00 0f ff 00 00 00 00 00 01 80 ff ff 00 1f ff 00 00 00"
+    equal(lagoon.pack_mesh(WIDE_MESH, True).hex(" "), mesh, "a mesh of kind 5")
+    equal(lagoon.read_mesh(bytes.fromhex(mesh)), WIDE_MESH, "the mesh read")
+    equal(lagoon.pack_mesh(pool(100, 0), True).hex(" "), "50 01 00 00 00 64", "small values in kind 5")
+    equal(lagoon.pack_field([65_535_000_000, 99], True).hex(" "), "60 02 0f 42 30 bd c0 00 00 00 00 63", "its field, of kind 6")
+    # each face 17 bits: 1 0000000000110010, 0 0000000000110010 twice; then 20 bits for each rim face, and for kind 8 a release of 40 a cell
+    water = "70 01 80 00 80 19 00 0c 80 06 40 07 d0 00 00 00"
+    equal(lagoon.pack_step(WIDE_MESH, [-50, 50, 50], [1000, 0, 0], wide=True).hex(" "), water, "a step of kind 7")
+    equal(lagoon.read_step(bytes.fromhex(water), 2, 3, WIDE_MESH.seconds, wide=True), (7, [-50, 50, 50], [1000, 0, 0], [0, 0]), "read")
+    outfalls = "80 01 80 00 80 19 00 0c 80 06 40 07 d0 00 00 00 00 00 00 00 1f ff ff ff ff e0"
+    equal(lagoon.pack_step(WIDE_MESH, [-50, 50, 50], [1000, 0, 0], [0, (1 << 40) - 1], True).hex(" "), outfalls, "a step of kind 8")
+    equal(lagoon.read_step(bytes.fromhex(outfalls), 2, 3, WIDE_MESH.seconds, wide=True).releases, [0, (1 << 40) - 1], "its releases")
+    refused(12, 49, "minus with size 0 at the second face", lagoon.read_step, bytes.fromhex("70 01 00 00 00 00 40 00 00"), 1, 2, [0, 0],
+            lagoon.LIBRARY_LIMITS, None, True)
+    refused(12, 203, "first zero bit after the releases", lagoon.read_step, bytes.fromhex(outfalls[:-2] + "f0"), 2, 3, WIDE_MESH.seconds,
+            lagoon.LIBRARY_LIMITS, None, True)
+    cells, faces = lagoon.RUN_LIMITS
+    equal(lagoon.mesh_length(cells, faces, True), 14_326, "the longest mesh of the run")
+    equal(lagoon.step_length(8, cells, faces, [RIM] * faces), 14_582, "its longest record, a step of kind 8")
+
+    narrow = (lagoon.pack_mesh(CHANNEL), lagoon.pack_field([100000, 0, 0]), lagoon.pack_step(CHANNEL, FLOW, OUTSIDE),
+              lagoon.pack_step(CHANNEL, FLOW, OUTSIDE, [0, 20000, 0]))
+    wide = (lagoon.pack_mesh(CHANNEL, True), lagoon.pack_field([100000, 0, 0], True), lagoon.pack_step(CHANNEL, FLOW, OUTSIDE, wide=True),
+            lagoon.pack_step(CHANNEL, FLOW, OUTSIDE, [0, 20000, 0], True))
+    equal([record[0] >> 4 for record in narrow + wide], [1, 2, 3, 4, 5, 6, 7, 8], "the kinds")
+    equal(lagoon.run(wide[0] + wide[1] + wide[2] * 2), CHANNEL_TEXT, "the channel in wide records")
+    equal(lagoon.run(b"".join(wide)), lagoon.run(b"".join(narrow)), "a session of kinds 5, 6, 7, 8 prints what that of kinds 1, 2, 3, 4 does")
+    for own, other in ((narrow, wide), (wide, narrow)):
+        equal(lagoon.run(own[0] + other[1] + own[2]), "F 13 0\n", "a field of the other width")
+        for record in other[2:]:
+            lines = lagoon.run(own[0] + own[1] + own[2] + record + own[2]).splitlines()
+            equal(lines[1:3], ["1 50000 0 150000 0", "2 R 13 0"], "a step of the other width")
+            equal(lagoon.host_step(own[0], own[1], record, 17), (13 << 32, None), "host's call, a step of the other width")
+        equal(lagoon.host_step(own[0], other[1], own[2], 17), (13 << 32, None), "host's call, a field of the other width")
+        room = len(own[1])
+        equal(lagoon.host_step(*own[:3], room), (0, lagoon.pack_field([100099, 49901, 0], own is wide)), "the next field in the mesh's width")
+        equal(lagoon.host_step(*own[:3], room - 1), ((2 << 32) + 11, None), "a byte too few for it")
 
 
 def test_order_of_reading():
@@ -311,12 +407,12 @@ def test_largest_records():
     for printed in script.answer(generate_script.largest().encode()).splitlines():
         name, _, values = printed.partition(": ")
         if name.startswith("write_"):
-            name += " of kind 4" if name in written else ""
             said, _, entries = values.partition("; bytes ")
             length = int(said.split()[1])
-            written[name] = length, digest(map(int, entries.split()[:length]))
-    equal(written, {"write_mesh": (51192, 1815092123), "write_field": (16382, 3739429440),
-                    "write_step": (33788, 399157172), "write_step of kind 4": (50168, 1251613018)}, "the largest records")
+            record = bytes(map(int, entries.split()[:length]))
+            written[lagoon.kind_of(record)] = length, digest(record)
+    equal(written, {1: (51192, 1815092123), 2: (16382, 3739429440), 3: (33788, 399157172), 4: (50168, 1251613018),
+                    5: (57334, 1662297036), 6: (20477, 3134437295), 7: (37883, 213512273), 8: (58358, 3101553809)}, "the largest records by their kinds")
 
 
 def test_pages():
@@ -329,7 +425,7 @@ def test_pages():
         volumes, masses = [cell % 4095 + 1 for cell in range(cells)], [997 * cell for cell in range(cells)]
         total = 0
         for page in range(pages):
-            lines = lagoon.page_on_tables(cells, volumes, masses, page, lagoon.page_length(cells, page)).decode().splitlines()
+            lines = lagoon.page_on_tables(cells, volumes, masses, page, lagoon.page_length(volumes, cells, page)).decode().splitlines()
             for line in lines[:-1]:
                 cell, q, rest = map(int, line.split())
                 equal(q * volumes[cell] + rest, masses[cell], f"cell {cell} of {cells} read back")
@@ -340,6 +436,19 @@ def test_pages():
     refused(2, lagoon.PAGE, "a byte too few", lagoon.page_on_tables, 3, [100] * 3, [0] * 3, 0, 71)
 
 
+def test_wide_pages():
+    """Document 02, S-10: 19 bytes a line as soon as some V of the whole mesh is above 4,095."""
+    equal(lagoon.page_on_tables(1, [65_535], [65_535_065_534], 0, 38), b"   0 1000000 65534\n       65535065534\n", "the largest figures")
+    volumes, masses = [1] * 60 + [4_096], [7] * 60 + [4_096 * 9 + 4_095]
+    first, last = (lagoon.page_on_tables(61, volumes, masses, page, lagoon.page_length(volumes, 61, page)) for page in (0, 1))
+    equal((first[:19], len(first)), (b"   0       7     0\n", 61 * 19), "a page without the large cell")
+    equal(last, b"  60       9  4095\n             40959\n", "the page that has it")
+    refused(2, lagoon.PAGE, "a byte too few", lagoon.page_on_tables, 61, volumes, masses, 0, 61 * 19 - 1)
+    refused(2, lagoon.PAGE, "2 before 3", lagoon.page_on_tables, 2, [1, 65_536], [0, 0], 0, 3 * 19 - 1)
+    refused(3, 1, "3 with enough bytes", lagoon.page_on_tables, 2, [1, 65_536], [0, 0], 0, 3 * 19)
+    equal(lagoon.page_length([1, 4_096], 1, 0), 2 * 18, "a volume that is not counted")
+
+
 def test_script():
     printed = script.answer(b"1 3 4 3 4 # within\n17 6 16 1 0 0 6 64 32 12\n18 0 0 0\n6 1 1 x")
     equal(printed.splitlines(), ["counts_within: accepted", "number_at: accepted 100",
@@ -347,9 +456,9 @@ def test_script():
                                  "bad input: line 4, byte 59: not a number"], "a script")
     equal(script.answer(b"1 18446744073709551615 0 18446744073709551616"),
           "bad input: line 1, byte 44: too large\n", "a number too large")
-    equal(script.answer(script.spell("read_step", 1, 1, [RIM], [48], [-(1 << 63)], [7], [8]).encode()),
+    equal(script.answer(script.spell("read_step", 0, 1, 1, [RIM], [48], [-(1 << 63)], [7], [8]).encode()),
           f"read_step: refused 11 0; fluxes {-(1 << 63)}; outsides 7; releases 8\n", "the most negative entry")
-    equal(script.answer(script.spell("read_step", 1, 0, [], lagoon.pack_step(pool(1, 0), [], [], [9]), [], [], [7, 7]).encode()),
+    equal(script.answer(script.spell("read_step", 0, 1, 0, [], lagoon.pack_step(pool(1, 0), [], [], [9]), [], [], [7, 7]).encode()),
           "read_step: accepted 4; fluxes; outsides; releases 9 7\n", "the kind that was read")
 
 
@@ -376,25 +485,29 @@ def test_store():
 
 def test_conservation_and_bounds():
     """On generated calls: total follows in-mass, released mass and out-mass, and no q leaves its neighbourhood's range."""
-    accepted = {lagoon.WATER: 0, lagoon.OUTFALLS: 0}
+    accepted = dict.fromkeys(lagoon.STEP_BITS, 0)
     for number in range(1, 400):
         case = generate.call(7, number)
         try:
             mesh = lagoon.accept_mesh(case.mesh)
-            masses = lagoon.accept_field(case.field, mesh)
-            result = lagoon.accept_step(case.step, mesh, masses)
+            wide = lagoon.is_wide(lagoon.kind_of(case.mesh))
+            masses = lagoon.accept_field(case.field, mesh, wide)
+            result = lagoon.accept_step(case.step, mesh, masses, wide)
         except lagoon.Refusal:
             continue
-        kind, fluxes, outsides, releases = lagoon.read_step(case.step, len(mesh.volumes), len(mesh.firsts), mesh.seconds)
+        kind, fluxes, outsides, releases = lagoon.read_step(case.step, len(mesh.volumes), len(mesh.firsts), mesh.seconds, wide=wide)
         accepted[kind] += 1
         equal(sum(result.masses), sum(masses) + result.in_mass + result.released - result.out_mass, f"total of call {number}")
         q = lagoon.concentrations(mesh.volumes, lagoon.raised(masses, releases))
         gains, losses = lagoon.bounds(mesh, result.masses, q, fluxes, outsides)
         equal(min(gains + losses) >= 0, True, f"bounds of call {number}")
         tables = tables_for(mesh, masses, fluxes, outsides, releases)
-        equal(lagoon.write_mesh(len(mesh.volumes), len(mesh.firsts), tables, 1 << 20), case.mesh, "mesh rewritten")
-        equal(lagoon.write_step(kind, len(mesh.volumes), len(mesh.firsts), tables, 1 << 20), case.step, "step rewritten")
-    equal(min(accepted.values()) > 50, True, f"enough accepted calls of both kinds: {accepted}")
+        counts = len(mesh.volumes), len(mesh.firsts)
+        equal(lagoon.write_mesh(*counts, tables, 1 << 20, wide), case.mesh, "mesh rewritten")
+        equal(lagoon.write_field(*counts, tables, 1 << 20, wide), case.field, "field rewritten")
+        told = lagoon.OUTFALLS if lagoon.STEP_BITS[kind].release else lagoon.WATER
+        equal(lagoon.write_step(told, *counts, tables, 1 << 20, wide), case.step, "step rewritten")
+    equal(min(accepted.values()) > 30, True, f"enough accepted calls of all kinds: {accepted}")
 
 
 if __name__ == "__main__":

@@ -99,13 +99,13 @@ def harmed(rng, lag, fluxes, outsides, releases):
     """The same step with something that a cause refuses, as a rule."""
     kind = rng.choice(["release", "balance", "outside", "outflow"])
     if kind == "release":
-        releases[rng.randrange(len(releases))] = 1 << 40
+        releases[rng.randrange(len(releases))] = lagoon.CEILING * (lagoon.TOP + 1)
     elif kind == "balance" and fluxes:
         fluxes[rng.randrange(len(fluxes))] += rng.choice([-1, 1])
     elif kind == "outside" and outsides:
         outsides[rng.randrange(len(outsides))] = lagoon.TOP + 1
     else:
-        fluxes = lag.flow(rng, 4095)
+        fluxes = lag.flow(rng, lag.top)
         outsides = lag.outsides(rng, fluxes)
     return fluxes, outsides, releases
 
@@ -139,7 +139,7 @@ class Tally:
         share = abs(errors[cell]) / walk.accepted
         for least, (before, _) in self.largest.items():
             if walk.accepted >= least and share > before:
-                self.largest[least] = share, f"{what}, n {walk.accepted}, cell {cell}: {float(errors[cell]):.4f}"
+                self.largest[least] = share, f"{what}, n {walk.accepted}, cell {cell}: {float(errors[cell]):.6f}"
 
     def add(self, seed, number, program):
         what = f"seed {seed}, list {number}"
@@ -159,14 +159,14 @@ class Tally:
         lines = [f"{self.lists} lists, {self.accepted} accepted plain steps, {sum(self.refused.values())} refused ({refused}); "
                  f"in {self.parted} lists the unrounded masses end as fractions"]
         for least, (share, where) in self.largest.items():
-            lines.append(f"every error is below n; for n from {least} on the largest is {float(share):.4f} n ({where})")
+            lines.append(f"every error is below n; for n from {least} on the largest is {float(share):.6f} n ({where})")
         return "\n".join(lines)
 
 
 def ladder(steps):
-    """Three cells of V 4095 in a ring, all water passed on in each step, and releases that make the cell which bears the error whole and fill
-    the one it goes to: the error grows by 4094/4095 in each step, so no bound below n would hold."""
-    V = lagoon.RIM
+    """Three cells of the greatest V in a ring, all water passed on in each step, and releases that make the cell which bears the error whole
+    and fill the one it goes to: the error grows by (V - 1) / V in each step, so no bound below n would hold."""
+    V = lagoon.CEILING
     mesh = lagoon.Mesh([V] * 3, [0, 1, 2], [1, 2, 0], [128] * 3, [V] * 3)
     walk = Walk(mesh, [0] * 3)
     for i in range(steps):
@@ -196,7 +196,7 @@ def main():
         return 1
     print(tally.words())
     climbed = max(climbing.errors())
-    print(f"a list made for it comes to {float(climbed / LADDER):.4f} n after {LADDER} steps: {float(climbed):.4f}")
+    print(f"a list made for it comes to {float(climbed / LADDER):.6f} n after {LADDER} steps: {float(climbed):.6f}")
     return 0
 
 

@@ -22,6 +22,9 @@ found 's/0 + 20000 = 20000/0 + 20000 = 20001/'
 found 's/50000 + 20300 − 50 = 170250/50000 − 50 = 149950/'
 found 's/0\.40625/0.40624/'
 found 's/1\/3, 4\/3/1\/3, 5\/3/'
+found 's/16505206062 = 6991255705/16505206062 = 6991255706/'
+found 's/ 94169707219      5/ 94169707219      6/'
+found 's/per cell m (40)/per cell m (32)/'
 
 # the worked steps tell each slip that the page names from the right figures
 python3 tests/test_slips.py

@@ -3,6 +3,7 @@
 
     python3 tests/make_sessions.py            writes all of them
     python3 tests/make_sessions.py largest    writes the input of the largest mesh, as bytes, to standard output
+    python3 tests/make_sessions.py longest    writes that of the longest records of all kinds
     python3 tests/make_sessions.py long       writes that of a long list of steps, of whose output the last four lines are stored
 
 The expected output is the reference's, and for the channel what document 01 prints, with document 02's fifth number.
@@ -42,9 +43,9 @@ MESH = pack_mesh(CHANNEL)
 FIELD = pack_field([100000, 0, 0])
 
 
-def step(fluxes=(-50, 50, 50, 50), outsides=(1000, 0, 0, 0), releases=None):
-    """A step of the channel: of kind 4 where it has releases."""
-    return pack_step(CHANNEL, list(fluxes), list(outsides), releases)
+def step(fluxes=(-50, 50, 50, 50), outsides=(1000, 0, 0, 0), releases=None, wide=False):
+    """A step of the channel: of kind 4 where it has releases; wide, 7 and 8."""
+    return pack_step(CHANNEL, list(fluxes), list(outsides), releases, wide)
 
 
 def mesh_with(**columns):
@@ -141,6 +142,65 @@ def sessions():
     yield "outfall_as_water", start + good + changed(outfall, 0, 4, 3)
     yield "outfall_kind", start + outfall + changed(outfall, 0, 4, 5) + outfall
     yield "outfall_count", start + outfall + changed(outfall, 4, 13, 5) + outfall
+    yield from wide_sessions()
+
+
+# one cell with two faces over the rim; two cells of the largest V with two faces of the largest K
+STRAIT = Mesh([65535], [0, 0], [RIM, RIM], [0, 0], [0, 0])
+PAIR = Mesh([65535, 65535], [0, 0], [1, 1], [255, 128], [65535, 65535])
+
+
+def wide_sessions():
+    """Document 02, S-10: records of kinds 5 to 8, and those of the other width among them."""
+    mesh, field = pack_mesh(CHANNEL, True), pack_field([100000, 0, 0], True)
+    good, outfall = step(wide=True), step(releases=[0, 20000, 0], wide=True)
+    start = mesh + field
+    yield "wide", start + good + outfall + good
+    yield "wide_channel", start + good + good
+    yield "wide_one_cell", bytes.fromhex("5001000003e8 60010000000063 80000000000000000a 70000000")
+
+    # the ceilings, and a step whose a·G has more than 64 bits
+    def strait(volume, mass, *steps):
+        return pack_mesh(STRAIT._replace(volumes=[volume]), True) + pack_field([mass], True) + b"".join(steps)
+
+    def through(flux, release=None, outside=1000000):
+        return pack_step(STRAIT, [-flux, flux], [outside, 0], release and [release], True)
+
+    yield "wide_fullest", strait(65535, 65535065534, through(65535), through(65534))
+    yield "wide_too_full", strait(65535, 65535065535, through(65535))
+    yield "wide_mass_greatest", strait(65535, (1 << 40) - 1)
+    yield "wide_volume", strait(0, 0)
+    yield "wide_outflow", strait(65534, 0, through(65534), through(65535), through(1))
+    yield "wide_release", strait(65535, 0, through(65535, 65535065534), through(65535, 1), through(65535, outside=0), through(0, (1 << 40) - 1, 0),
+                                 through(0, 65535000001, 0), through(0, 65535000000, 0))
+    yield "wide_product", pack_mesh(PAIR, True) + pack_field([39321000000, 6553500000], True) + pack_step(PAIR, [30000, -30000], [0, 0], wide=True)
+    yield "wide_reach", pack_mesh(PAIR._replace(reaches=[65535, 0]), True) + pack_field([0, 0], True)
+    yield "wide_flux", pack_mesh(PAIR._replace(reaches=[65535, 40000]), True) + pack_field([5, 5], True) \
+        + pack_step(PAIR, [40001, -40001], [0, 0], wide=True) + pack_step(PAIR, [40000, -40000], [0, 0], wide=True)
+
+    # the mesh fixes the width of what follows
+    yield "wide_field_narrow", mesh + FIELD + good
+    yield "wide_step_narrow", start + good + step() + good
+    yield "wide_outfall_narrow", start + good + step(releases=[0, 20000, 0]) + good
+    yield "narrow_field_wide", MESH + field + step()
+    yield "narrow_step_wide", MESH + FIELD + step() + good + step()
+    yield "narrow_outfall_wide", MESH + FIELD + step() + outfall + step()
+
+    # heads, lengths and bits of the wide kinds
+    yield "wide_mesh_cells", changed(mesh, 4, 12, 1024) + field
+    yield "wide_mesh_short", mesh[:-1]
+    yield "wide_mesh_bit", changed(mesh, 31, 1, 1) + field
+    yield "wide_field_short", mesh + field[:-1]
+    yield "wide_field_count", mesh + changed(field, 4, 12, 4)
+    def wrong_bits(record):
+        """A bit of the head, the minus of a flux of size 0 and a bit after the last value, each in a record of its own."""
+        return changed(record, 17, 1, 1) + changed(record, 49, 17, 1 << 16) + changed(record, 8 * len(record) - 1, 1, 1)
+
+    yield "wide_step_bits", start + wrong_bits(good) + good
+    yield "wide_step_short", start + good + good[:-1]
+    yield "wide_step_count", start + good + changed(good, 4, 13, 5) + good
+    yield "wide_outfall_bits", start + wrong_bits(outfall) + outfall
+    yield "wide_outfall_short", start + outfall + outfall[:-1]
 
 
 def largest():
@@ -157,13 +217,26 @@ def largest():
     return data + pack_step(mesh, [0] * faces, [0] * faces, [(1 << 32) - 1] * cells)
 
 
+def longest():
+    """As many cells, each with two faces over the rim: a step with releases is the longest record of all."""
+    cells, faces = 1023, 2046
+    rim = Mesh([65535] * cells, [f // 2 for f in range(faces)], [RIM] * faces, [0] * faces, [0] * faces)
+    data = pack_mesh(rim, True) + pack_field([65535 * (c * 977 % 1000001) + c for c in range(cells)], True)
+    for turn in range(3):
+        through = [(c * 64_063 + turn * 20_000) % 65_536 for c in range(cells)]
+        fluxes = [(-flux, flux)[f % 2] for f in range(faces) for flux in (through[f // 2],)]
+        outsides = [f * 487 if flux < 0 else 0 for f, flux in enumerate(fluxes)]
+        data += pack_step(rim, fluxes, outsides, [c * 65_535 % 100_000 for c in range(cells)] if turn != 1 else None, True)
+    return data
+
+
 def long():
     """The channel with 100,000 steps."""
     return MESH + FIELD + step() * 100_000
 
 
 def main():
-    made = {"largest": largest, "long": long}
+    made = {"largest": largest, "longest": longest, "long": long}
     if len(sys.argv) == 2 and sys.argv[1] in made:
         sys.stdout.buffer.write(made[sys.argv[1]]())
         return
@@ -173,7 +246,8 @@ def main():
         assert printed == lagoon.run(data), name
         (SESSIONS / f"{name}.in").write_bytes(data)
         (SESSIONS / f"{name}.out").write_text(printed)
-    (SESSIONS / "largest.out").write_text(lagoon.run(largest()))
+    for name in ("largest", "longest"):
+        (SESSIONS / f"{name}.out").write_text(lagoon.run(made[name]()))
     (SESSIONS / "long_end.out").write_text("".join(lagoon.run(long()).splitlines(keepends=True)[-4:]))
 
 

@@ -1,6 +1,6 @@
 #!/usr/bin/env bash
-# The run program on stored sessions: NAME.in of tests/sessions printed as NAME.out, whole and byte by byte; the largest mesh, whose
-# input is made here; and a long list of steps.
+# The run program on stored sessions: NAME.in of tests/sessions printed as NAME.out, whole and byte by byte; the largest mesh and the
+# longest records, whose input is made here; and a long list of steps.
 set -eu
 cd "$(dirname "$0")/.."
 made=$(mktemp -d)
@@ -23,11 +23,13 @@ for input in tests/sessions/*.in; do
   same "$name, byte by byte" "tests/sessions/$name.out"
 done
 
-python3 tests/make_sessions.py largest > "$made/largest.in"
-"$program" < "$made/largest.in" > "$made/out"
-same largest tests/sessions/largest.out
-dd bs=997 status=none if="$made/largest.in" | "$program" > "$made/out"
-same "largest, in pieces" tests/sessions/largest.out
+for name in largest longest; do
+  python3 tests/make_sessions.py $name > "$made/$name.in"
+  "$program" < "$made/$name.in" > "$made/out"
+  same $name tests/sessions/$name.out
+  dd bs=997 status=none if="$made/$name.in" | "$program" > "$made/out"
+  same "$name, in pieces" tests/sessions/$name.out
+done
 
 python3 tests/make_sessions.py long > "$made/long.in"
 "$program" < "$made/long.in" | tail -n 4 > "$made/out"

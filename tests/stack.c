@@ -1,4 +1,6 @@
-/* The stack that an accepted step takes: the call on a thread whose stack was filled with a pattern, on the channel's records. Prints bytes. */
+/* The stack that an accepted step takes, in bytes: each call on a thread whose stack was filled with a pattern before it. Prints three numbers:
+ * for the channel's records; for the longest records of all, wide, of as many cells and faces as the limits allow, every face at the rim, a
+ * release for each cell; and for two large cells between which the limiter's product takes more than 64 bits. */
 #define _GNU_SOURCE 1
 #include <pthread.h>
 #include <stdio.h>
@@ -7,36 +9,79 @@
 
 #include "lagoon_records.h"
 
-enum { CELLS = 3, FACES = 4, SIZE = 1 << 20, PATTERN = 0xa5 };
+enum { CELLS = LAGOON_MAX_CELLS, FACES = LAGOON_MAX_FACES, SIZE = 1 << 20, PATTERN = 0xa5 };
 
-static uint8_t mesh[LAGOON_MESH_BYTES(CELLS, FACES)], step[LAGOON_STEP_BYTES(FACES, 2)], field[LAGOON_FIELD_BYTES(CELLS)], next[LAGOON_FIELD_BYTES(CELLS)];
+static uint8_t mesh[LAGOON_WIDE_MESH_BYTES(CELLS, FACES)], step[LAGOON_WIDE_OUTFALLS_BYTES(CELLS, FACES, FACES)];
+static uint8_t field[LAGOON_WIDE_FIELD_BYTES(CELLS)], next[LAGOON_WIDE_FIELD_BYTES(CELLS)];
+static size_t mesh_length, step_length, field_length;
 static uint8_t *low;
 static size_t below;
+
+static void put_channel(void)
+{
+    const uint32_t volumes[] = {100, 100, 100}, outsides[] = {1000, 0, 0, 0};
+    const uint64_t masses[] = {100000, 0, 0};
+    const struct lagoon_face faces[] = {{0, LAGOON_RIM, 0, 0}, {0, 1, 128, 100}, {1, 2, 128, 100}, {2, LAGOON_RIM, 0, 0}};
+    const int32_t fluxes[] = {-50, 50, 50, 50};
+
+    mesh_length = lagoon_put_mesh(mesh, LAGOON_NARROW, 3, volumes, 4, faces);
+    field_length = lagoon_put_field(field, LAGOON_NARROW, 3, masses);
+    step_length = lagoon_put_step(step, LAGOON_NARROW, 4, faces, fluxes, outsides);
+}
+
+/* Each cell is as large as may be; through one of its faces all its water goes out, and through the other as much comes in. */
+static void put_longest(void)
+{
+    static uint32_t volumes[CELLS], outsides[FACES];
+    static uint64_t masses[CELLS], releases[CELLS];
+    static struct lagoon_face faces[FACES];
+    static int32_t fluxes[FACES];
+
+    for (uint32_t f = 0; f < FACES; f++) {
+        struct lagoon_face rim = {f / 2, LAGOON_RIM, 0, 0};
+        faces[f] = rim;
+        fluxes[f] = f % 2 ? LAGOON_MAX_RIM_FLUX : -LAGOON_MAX_RIM_FLUX;
+        outsides[f] = f % 2 ? 0 : LAGOON_MAX_CONCENTRATION - f;
+    }
+    for (size_t c = 0; c < CELLS; c++) {
+        volumes[c] = LAGOON_MAX_VOLUME;
+        releases[c] = LAGOON_MAX_VOLUME - 1;
+        masses[c] = (uint64_t)LAGOON_MAX_VOLUME * LAGOON_MAX_CONCENTRATION;
+    }
+    mesh_length = lagoon_put_mesh(mesh, LAGOON_WIDE, CELLS, volumes, FACES, faces);
+    field_length = lagoon_put_field(field, LAGOON_WIDE, CELLS, masses);
+    step_length = lagoon_put_outfalls(step, LAGOON_WIDE, CELLS, releases, FACES, faces, fluxes, outsides);
+}
+
+/* Each face's correction is 16,371,093,750; the second cell may gain 32,535,065,534 in all, a little less than both bring. */
+static void put_large_product(void)
+{
+    const uint32_t volumes[] = {LAGOON_MAX_VOLUME, LAGOON_MAX_VOLUME}, outsides[] = {0, 0};
+    const uint64_t masses[] = {65535000000, 0};
+    const struct lagoon_face faces[] = {{0, 1, 1, 33000}, {0, 1, 255, 33000}};
+    const int32_t fluxes[] = {33000, -33000};
+
+    mesh_length = lagoon_put_mesh(mesh, LAGOON_WIDE, 2, volumes, 2, faces);
+    field_length = lagoon_put_field(field, LAGOON_WIDE, 2, masses);
+    step_length = lagoon_put_step(step, LAGOON_WIDE, 2, faces, fluxes, outsides);
+}
 
 static void *call(void *unused)
 {
     uint8_t here;
     (void)unused;
     below = (size_t)(&here - low);
-    if (lagoon_step(mesh, sizeof mesh, field, sizeof field, step, sizeof step, next, sizeof next) != 0)
+    if (lagoon_step(mesh, mesh_length, field, field_length, step, step_length, next, field_length) != 0)
         exit(1);
     return NULL;
 }
 
-int main(void)
+static int print_taken(void)
 {
-    const uint32_t volumes[CELLS] = {100, 100, 100}, masses[CELLS] = {100000, 0, 0}, outsides[FACES] = {1000, 0, 0, 0};
-    const struct lagoon_face faces[FACES] = {{0, LAGOON_RIM, 0, 0}, {0, 1, 128, 100}, {1, 2, 128, 100}, {2, LAGOON_RIM, 0, 0}};
-    const int32_t fluxes[FACES] = {-50, 50, 50, 50};
     pthread_attr_t attributes;
     pthread_t thread;
     size_t untouched = 0;
 
-    lagoon_put_mesh(mesh, CELLS, volumes, FACES, faces);
-    lagoon_put_field(field, CELLS, masses);
-    lagoon_put_step(step, FACES, faces, fluxes, outsides);
-    if (posix_memalign((void **)&low, 4096, SIZE) != 0)
-        return 1;
     memset(low, PATTERN, SIZE);
     if (pthread_attr_init(&attributes) != 0 || pthread_attr_setstack(&attributes, low, SIZE) != 0
         || pthread_create(&thread, &attributes, call, NULL) != 0 || pthread_join(thread, NULL) != 0)
@@ -45,4 +90,18 @@ int main(void)
         untouched++;
     printf("%zu\n", below - untouched);
     return 0;
+}
+
+int main(void)
+{
+    if (posix_memalign((void **)&low, 4096, SIZE) != 0)
+        return 1;
+    put_channel();
+    if (print_taken() != 0)
+        return 1;
+    put_longest();
+    if (print_taken() != 0)
+        return 1;
+    put_large_product();
+    return print_taken();
 }

@@ -21,7 +21,7 @@ def engine_pages(volumes, masses):
     """All pages, printed by the engine's own call, each into bytes of exactly its length; none follows them."""
     cells, found, number = len(volumes), b"", 0
     while True:
-        text = script.spell("page", cells, volumes, masses, number, [0] * lagoon.page_length(cells, number))
+        text = script.spell("page", cells, volumes, masses, number, [0] * lagoon.page_length(volumes, cells, number))
         said = subprocess.run([str(CALLS)], input=text.encode(), capture_output=True, check=True).stdout.decode()
         if said == f"page: refused 14 {number}; bytes\n":
             return found
@@ -34,10 +34,10 @@ def read_back(text, volumes):
     """The masses that the lines say, where each page's mass line agrees with them."""
     masses, of_page = [], 0
     for line in text.decode().splitlines(keepends=True):
-        equal(len(line), 18, f"bytes of {line!r}")
+        equal(len(line), 18 if max(volumes) <= 4095 else 19, f"bytes of {line!r}")
         if line[4] == line[12] == " " and line[:4].strip():
             equal(int(line[:4]), len(masses), "cell")
-            masses.append(int(line[5:12]) * volumes[len(masses)] + int(line[13:17]))
+            masses.append(int(line[5:12]) * volumes[len(masses)] + int(line[13:-1]))
             of_page += masses[-1]
         else:
             equal(int(line), of_page, "mass of a page")
@@ -53,11 +53,12 @@ def printed(*arguments, data):
 
 def pond(volumes, masses):
     """A session without faces and steps."""
-    return lagoon.pack_mesh(lagoon.Mesh(volumes, [], [], [], [])) + lagoon.pack_field(masses)
+    wide = max(volumes) > 4095
+    return lagoon.pack_mesh(lagoon.Mesh(volumes, [], [], [], []), wide) + lagoon.pack_field(masses, wide)
 
 
-def field_of(cells):
-    volumes = [(37 * cell) % 4095 + 1 for cell in range(cells)]
+def field_of(cells, ceiling=4095):
+    volumes = [(37 * cell) % ceiling + 1 for cell in range(cells - 1)] + [ceiling]
     return volumes, [V * (TOP * cell // cells) + cell % V for cell, V in enumerate(volumes)]
 
 
@@ -69,12 +70,22 @@ def test_the_channel():
 
 
 def test_beside_the_engine():
-    for cells in (1, 59, 60, 61, 119, 120, 121, 1023):
-        volumes, masses = field_of(cells)
+    for cells, ceiling in ((1, 4095), (59, 4095), (60, 4095), (61, 4095), (119, 4095), (120, 4095), (121, 4095), (1023, 4095),
+                           (1, 4096), (60, 4096), (121, 4096), (1023, 65535)):
+        volumes, masses = field_of(cells, ceiling)
         out = printed(data=pond(volumes, masses))
-        equal(out, engine_pages(volumes, masses), f"{cells} cells")
-        equal(read_back(out, volumes), masses, f"{cells} cells read back")
+        equal(out, engine_pages(volumes, masses), f"{cells} cells up to {ceiling}")
+        equal(read_back(out, volumes), masses, f"{cells} cells up to {ceiling} read back")
     equal(printed(data=pond([4095], [4095 * (TOP + 1) - 1])), b"   0 1000000 4094\n" + b" " * 7 + b"4095004094\n", "the largest figures")
+    equal(printed(data=pond([65535], [65535 * (TOP + 1) - 1])), b"   0 1000000 65534\n" + b" " * 7 + b"65535065534\n", "and of wide records")
+
+
+def test_the_width_is_of_all_pages():
+    """A cell of the last page makes the first one wide."""
+    volumes, masses = [1] * 60 + [4096], [5] * 61
+    wanted = "".join(f"{cell:4}       5     0\n" for cell in range(60)) + f"{300:18}\n" + "  60       0     5\n" + f"{5:18}\n"
+    equal(printed(data=pond(volumes, masses)), wanted.encode(), "61 cells, the last of them large")
+    equal(engine_pages(volumes, masses), wanted.encode(), "the engine's pages")
 
 
 def test_after_steps():
@@ -92,15 +103,16 @@ def test_after_steps():
 
 def last_of(data):
     """Mesh and last masses of a session, by the reference."""
-    cells, faces = lagoon.mesh_head(data[:4], lagoon.RUN_LIMITS)
-    at = lagoon.mesh_length(cells, faces)
+    cells, faces, wide = lagoon.mesh_head(data[:4], lagoon.RUN_LIMITS)
+    at = lagoon.mesh_length(cells, faces, wide)
     mesh = lagoon.accept_mesh(data[:at])
-    masses = lagoon.accept_field(data[at:at + lagoon.field_length(cells)], mesh)
-    data = data[at + lagoon.field_length(cells):]
+    length = lagoon.field_length(cells, wide)
+    masses = lagoon.accept_field(data[at:at + length], mesh, wide)
+    data = data[at + length:]
     while data:
-        length = lagoon.step_ends(data, mesh)
+        length = lagoon.step_ends(data, mesh, wide)
         try:
-            masses = lagoon.accept_step(data[:length], mesh, masses).masses
+            masses = lagoon.accept_step(data[:length], mesh, masses, wide).masses
         except lagoon.Refusal as refusal:
             if refusal.cause in (11, 13):
                 break
@@ -118,7 +130,8 @@ def test_a_field_record():
         with open(pages, "rb") as file:
             equal(file.read(), engine_pages(volumes, masses), "pages of a field record")
         for content, words in ((lagoon.pack_field(masses)[:-1], "(cause 11)"), (lagoon.pack_field(masses) + b"\0", "(cause 11)"),
-                               (lagoon.pack_field(masses[:-1]), "(cause 13)"), (lagoon.pack_field([(1 << 32) - 1] * 130), "(cause 6)")):
+                               (lagoon.pack_field(masses[:-1]), "(cause 13)"), (lagoon.pack_field(masses, True), "(cause 13)"),
+                               (lagoon.pack_field([(1 << 32) - 1] * 130), "(cause 6)")):
             with open(short, "wb") as file:
                 file.write(content)
             refuses(words, "binder.py", "--field", short, data=pond(volumes, masses))

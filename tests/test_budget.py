@@ -121,6 +121,25 @@ def test_plain_beside_the_reference():
     holds(tried > 10 and apart > 10, f"only {tried} sessions with steps, {apart} steps with other figures")
 
 
+def test_wide_records():
+    """The same budget in records of either width; and of a large bay, whose plain steps are made from wide records too."""
+    wide = CHANNEL.replace("mesh", "mesh wide", 1)
+    with folder() as made:
+        reports = [command("budget.py", "--plain", "--run", RUN, "--field", f"{made}/{number}", data=text.encode())
+                   for number, text in enumerate((CHANNEL, wide))]
+        equal(reports[1], reports[0], "the channel, wide and not")
+        for number, kind in enumerate((layout.NARROW.field, layout.WIDE.field)):
+            with open(f"{made}/{number}", "rb") as file:
+                record = file.read()
+            equal((layout.kind_of(record), layout.masses_in(record)), (kind, [100099, 81188, 18713]), "its last field")
+    bay = ROOT / "examples" / "bay-wide.txt"
+    status, out, said = command("budget.py", bay, "--plain", "--run", RUN)
+    equal((status, said), (0, ""), "a large bay")
+    data, _ = sessiontext.pack(bay.read_text())
+    totals = [int(lines(data).splitlines()[3].split()[3]) for lines in (lagoon.run, plain_run)]
+    equal((both(out.decode())["last total"], both(out.decode())["difference"]), (tuple(totals), (0, 0)), out.decode())
+
+
 def test_refused_by_one_alone():
     """A release that is too much for one of the two fields."""
     session = CHANNEL.replace("step times 2", "step") + ONE_SIDED

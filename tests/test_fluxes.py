@@ -133,10 +133,28 @@ def test_limits():
     holds(len(steps_of(out)) == 2 and abs(sums[0] - 150.5) < 1, f"{sums}")
     _, said = made(table="0\n-4096\n", wanted=1, lagoon="mesh\ncell 0 volume 4095\nface 0 from 0 to rim\nfield\n")
     holds("out of balance" in said, said)
-    _, said = made(table="0,1\n-4096,4096\n", wanted=1, lagoon="mesh\ncell 0 volume 4095\nface 0 from 0 to rim\nface 1 from 0 to rim\nfield\n")
-    holds("face 0: flux -4,096 is larger than 4,095 at the rim" in said, said)
-    _, said = made(table="0,1\n-11,11\n", wanted=1, lagoon="mesh\ncell 0 volume 10\nface 0 from 0 to rim\nface 1 from 0 to rim\nfield\n")
+    strait = "mesh\ncell 0 volume {}\nface 0 from 0 to rim\nface 1 from 0 to rim\nfield\n"
+    _, said = made(table="0,1\n-65536,65536\n", wanted=1, lagoon=strait.format(65535))
+    holds("face 0: flux -65,536 is larger than 65,535 at the rim" in said, said)
+    _, said = made(table="0,1\n-4096,4096\n", wanted=1, lagoon=strait.format(4095))
+    holds("cell 0: 4,096 leaves, more than its volume 4,095" in said, said)
+    _, said = made(table="0,1\n-11,11\n", wanted=1, lagoon=strait.format(10))
     holds("cell 0: 11 leaves, more than its volume 10" in said, said)
+
+
+def test_a_large_bay():
+    """Fluxes above 4,095: text and bytes are one session of wide records; so are the bytes of a mesh that need not be wide."""
+    bay = LAGOON.replace("volume 100", "volume 65535").replace("reach 100", "reach 65535")
+    table = "0,1,2,3\n-65534.5,65534.5,65534.5,65534.5\n-65535,65535,65535,65535\n"
+    text, _ = made(table=table, lagoon=bay)
+    packed, _ = made("--packed", table=table, lagoon=bay)
+    equal((sessiontext.pack(text.decode())[0], packed[0] >> 4), (packed, layout.WIDE.mesh), "as text and packed")
+    steps = steps_of(packed)
+    holds(steps[0].fluxes in ([-65534, 65534, 65534, 65534], [-65535, 65535, 65535, 65535]), f"{steps[0].fluxes}")
+    equal(steps[1].fluxes, [-65535, 65535, 65535, 65535], "at the ceilings")
+    small, _ = made("--packed", table="0,1,2,3\n-1,1,1,1\n", lagoon=LAGOON.replace("mesh", "mesh wide", 1))
+    session = session_of(small)
+    equal((session.mesh.widths, [layout.kind_of(record) for record, _ in session.steps()]), (layout.WIDE, [layout.WIDE.step]), "wide, as the text says")
 
 
 def test_carry():

@@ -56,7 +56,7 @@ def marks(panel):
 
 
 def test_the_channel():
-    for data in (CHANNEL.encode(), sessiontext.pack(CHANNEL)[0]):
+    for data in (CHANNEL.encode(), sessiontext.pack(CHANNEL)[0], sessiontext.pack(CHANNEL.replace("mesh", "mesh wide", 1))[0]):
         panels, _ = picture("--run", RUN, data=data)
         cells = drawn(panels[CONCENTRATION])
         equal(list(cells), ["cell 0", "cell 1", "cell 2"], "cells drawn")

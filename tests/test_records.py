@@ -76,6 +76,125 @@ def test_releases():
     equal((text.split("\n\n")[2:], problems), (["step times 2  # 1 to 2\ncell 0 release 901", "step  # 3\n"], []), "its steps")
 
 
+LARGE = """mesh wide
+cell 0 volume 65535
+cell 1 volume 100
+face 0 from 0 to rim
+face 1 from 0 to 1 share 128 reach 65535
+face 2 from 1 to rim
+
+field
+cell 0 mass 65535065534
+cell 1 mass 0
+
+step times 2  # 1 to 2
+face 0 flux -65535 outside 1000000
+face 1 flux 65535
+face 2 flux 100
+
+step  # 3
+face 0 flux -100 outside 0
+face 1 flux 100
+face 2 flux 100
+cell 0 release 0
+cell 1 release 1099511627775
+"""
+WIDE_CHANNEL = CHANNEL.replace("mesh\n", "mesh wide\n", 1)
+
+
+def kinds_of(data):
+    """The kinds of a session's records."""
+    source = layout.Source(io.BytesIO(data))
+    mesh = source.mesh()
+    found = [layout.kind_of(source.record)]
+    source.field_on(mesh)
+    while source.record:
+        found.append(layout.kind_of(source.record))
+        source.next_step(mesh)
+    return found
+
+
+def test_wide_records():
+    """Kinds 5 to 8 hold the same items with more bits: as the reference packs them, and back."""
+    data, _ = sessiontext.pack(LARGE)
+    mesh = lagoon.Mesh([65535, 100], [0, 0, 1], [layout.RIM, 1, layout.RIM], [0, 128, 0], [0, 65535, 0])
+    steps = lagoon.pack_step(mesh, [-65535, 65535, 100], [1000000, 0, 0], wide=True) * 2 \
+        + lagoon.pack_step(mesh, [-100, 100, 100], [0, 0, 0], [0, (1 << 40) - 1], wide=True)
+    equal(data, lagoon.pack_mesh(mesh, True) + lagoon.pack_field([65535065534, 0], True) + steps, "a large bay, packed")
+    equal(both_ways(data, "a large bay"), (LARGE, []), "its text, packed and unpacked")
+    equal(kinds_of(data), [5, 6, 7, 7, 8], "its kinds")
+    wide, _ = sessiontext.pack(WIDE_CHANNEL)
+    equal((kinds_of(wide), both_ways(wide, "the channel, wide")), ([5, 6, 7, 7], (WIDE_CHANNEL, [])), "wide records of small values")
+    equal(lagoon.run(wide), lagoon.run(sessiontext.pack(CHANNEL)[0]), "what the run prints of either width")
+
+
+LATE = "step\nface 0 flux -0\nbytes 30 02\nstep\nface 3 flux 50\ncell 1 release 7\n"
+
+
+def test_what_asks_for_wide_records():
+    """A value above those that kinds 1 to 4 hold, wherever it stands; the records before it are wide too, and lines of bytes stay."""
+    for old, least in (("cell 2 volume 100", 4095), ("reach 100", 4095), ("cell 1 mass 0", (1 << 32) - 1), ("face 3 flux 50", 4095),
+                       ("face 0 flux -50", 4095), ("cell 1 release 7", (1 << 32) - 1)):
+        for more in (0, 1):
+            words = re.sub("[0-9]+$", str(least + more), old)
+            text = words.join((CHANNEL + LATE).rsplit(old, 1))
+            found, _ = sessiontext.packed(sessiontext.Parser(io.BytesIO(text.encode())))
+            equal([layout.kind_of(record) for record, _ in found], [5, 6, 7, 7, 3, 8] if more else [1, 2, 3, 3, 3, 4], words)
+            equal(found[4][0], b"\x30\x02", "a line of bytes")
+            forced, _ = sessiontext.packed(sessiontext.Parser(io.BytesIO(text.replace("mesh", "mesh wide", 1).encode())))
+            if more:
+                equal(found, forced, f"{words}, as if the text had said so at once")
+
+
+def test_the_mesh_fixes_the_width():
+    """A record of the other width is of the wrong kind."""
+    narrow, wide = (lagoon_parts(text) for text in (CHANNEL, WIDE_CHANNEL))
+    for mesh, field, step, kind, wanted in ((wide, narrow, wide, "0010", "0110"), (narrow, wide, narrow, "0110", "0010"),
+                                            (wide, wide, narrow, "0011", "0111 or 1000"), (narrow, narrow, wide, "0111", "0011 or 0100")):
+        data = mesh[0] + field[1] + step[2]
+        status, text, said = command("records.py", "unpack", data=data)
+        words = f"kind {kind} in binary where a {'step' if field == mesh else 'field'} record has {wanted} (cause 13, place 0)"
+        equal((status, words in said), (1, True), said)
+        equal(sessiontext.pack(text.decode())[0], data, "records of two widths, unpacked and packed")
+        equal((command("records.py", "check", data=data)[0], " 13 0" in lagoon.run(data)), (1, True), "it is refused")
+
+
+def lagoon_parts(text):
+    """The mesh record, the field record and the step records of a text."""
+    (mesh, _), (field, _), *steps = sessiontext.packed(sessiontext.Parser(io.BytesIO(text.encode())))[0]
+    return mesh, field, b"".join(record * times for record, times in steps)
+
+
+def test_wide_bytes_are_no_text():
+    """The head of a wide mesh may be letters, and all that follows it too."""
+    cells, faces = 560, 1100
+    mesh = lagoon.Mesh([0x4141] * cells, [cells - 1] * faces, [layout.RIM] * faces, [0] * faces, [0] * faces)
+    data = lagoon.pack_mesh(mesh, True) + lagoon.pack_field([0x41414141] * cells, True)
+    holds(data[:64].isascii() and data[:64].decode().isprintable(), f"{data[:64]} is printable")
+    equal(command("records.py", "check", data=data)[:2],
+          (0, b"<stdin>: 560 cells, 1,100 faces (1,100 at the rim), 0 steps: there is nothing to refuse\n"), "and packed")
+    for word in ("Step", "Pond 1", "Sea", "Sessions of June", "_"):
+        refuses(f"<stdin>:1:1: 'mesh', 'field', 'step', 'bytes', 'unit' or 'name' should stand here, not '{word.split()[0]}'", "records.py", "check",
+                data=f"{word}\n{CHANNEL}".encode())
+
+
+def test_a_field_of_either_width():
+    """--field takes the masses of a field record, and the text decides the width."""
+    with folder() as made:
+        path = f"{made}/field"
+        for text, masses, wide, kinds in ((CHANNEL, (5, 6, 7), True, [1, 2, 3, 3]), (WIDE_CHANNEL, (5, 6, 7), False, [5, 6, 7, 7]),
+                                          (CHANNEL, (5, 1 << 32, 7), True, [5, 6, 7, 7])):
+            with open(path, "wb") as file:
+                file.write(lagoon.pack_field(masses, wide))
+            status, out, said = command("records.py", "pack", "--field", path, data=text.encode())
+            equal((status, said, kinds_of(out)), (0, "", kinds), f"masses {masses}, wide: {wide}")
+            its_own = re.sub(r"mass 100000\ncell 1 mass 0\ncell 2 mass 0", "mass {}\ncell 1 mass {}\ncell 2 mass {}".format(*masses), text)
+            equal(out, sessiontext.pack(its_own)[0], "as if the text had these masses")
+        with open(path, "wb"):
+            pass
+        refuses("field is no field record: the input ends in this field record", "records.py", "pack", "--field", path, data=CHANNEL.encode())
+
+
 def test_equal_steps_are_folded():
     data, _ = sessiontext.pack(TIDE)
     text, _ = both_ways(data, "tide")
@@ -202,7 +321,7 @@ def judged_places(data):
         mesh = source.mesh(causes.LIMITS)
         tables = lagoon.read_mesh(source.record)
         refusal = causes.mesh_refusal(mesh)
-        masses = [] if refusal else source.field(len(mesh.volumes))
+        masses = [] if refusal else source.field_on(mesh)
         refusal = refusal or causes.field_refusal(mesh, masses)
         if refusal:
             return [(refusal.cause, refusal.place)]
@@ -211,7 +330,7 @@ def judged_places(data):
             if refusal:
                 found.append((refusal.cause, refusal.place))
             else:
-                masses = lagoon.accept_step(source.record, tables, masses).masses
+                masses = lagoon.accept_step(source.record, tables, masses, mesh.widths == layout.WIDE).masses
     except layout.Damage as damage:
         found.append((damage.cause, damage.place))
     return found
@@ -227,12 +346,12 @@ def test_check_in_words():
     status, out, said = command("records.py", "check", data=sessiontext.pack(TIDE)[0])
     equal((status, out.decode().splitlines()[0]), (1, "<stdin>: byte 676: step 25, cell 0: 300 enters, 299 leaves (cause 9)"), "and packed")
     for old, new, line, words in (
-            ("cell 1 volume 100", "cell 1 volume 0", 3, "mesh: cell 1: volume 0 is outside 1 to 4,095 (cause 3)"),
+            ("cell 1 volume 100", "cell 1 volume 0", 3, "mesh: cell 1: volume 0 is outside 1 to 65,535 (cause 3)"),
             ("from 1 to 2", "from 7 to 2", 7, "mesh: face 2: it begins at 7, and the cells are 0 to 2 (cause 4)"),
             ("from 1 to 2", "from 1 to 1", 7, "mesh: face 2: it joins cell 1 to itself (cause 4)"),
             ("from 1 to 2", "from 1 to 7", 7, "mesh: face 2: it ends at 7, which is neither a cell (0 to 2) nor the rim (cause 4)"),
             ("share 128", "share 0", 6, "mesh: face 1: share 0 is outside 1 to 255 (cause 5)"),
-            ("reach 100", "reach 0", 6, "mesh: face 1: reach 0 is outside 1 to 4,095 (cause 5)"),
+            ("reach 100", "reach 0", 6, "mesh: face 1: reach 0 is outside 1 to 65,535 (cause 5)"),
             ("face 3 from 2 to rim", "face 3 from 2 to rim share 1 reach 0", 8, "mesh: face 3: share 1 and reach 0 at the rim"),
             ("cell 1 mass 0", "cell 1 mass 100000100", 12, "field: cell 1: mass 100,000,100 in volume 100 is a concentration of 1,000,001, above 1,000,000 (cause 6)"),
             ("outside 1000", "outside 1000001", 16, "steps 1 to 2, face 0: outside value 1,000,001 is above 1,000,000 (cause 7)"),
@@ -279,23 +398,24 @@ FIELD = MESH + "field\ncell 0 mass 5\n"
 
 def test_bad_text():
     cases = [("cell 0 volume 1", 1, 1), ("mesh\n  cel 0 volume 1", 2, 3), ("mesh\ncell 1 volume 1", 2, 6),
-             ("mesh\ncell 0 volume 4096", 2, 15), ("mesh\ncell 0 volume -1", 2, 15), ("mesh\ncell 0 volume", 2, 14),
+             ("mesh\ncell 0 volume 65536", 2, 15), ("mesh\ncell 0 volume -1", 2, 15), ("mesh\ncell 0 volume", 2, 14),
              ("mesh\ncell 0 volume # 1", 2, 14), ("mesh\ncell 0 volume 1 2", 2, 17), ("mesh\ncell 0 mass 1", 2, 8),
              ("mesh\nface 0 from 0 to 1", 2, 19), ("mesh\nface 0 from 0 to boundary", 2, 18),
-             ("mesh\nface 0 from 0 to 1 share 256 reach 1", 2, 26), ("mesh\nface 0 from 0 to 1 share 1 reach 4096", 2, 34),
+             ("mesh\nface 0 from 0 to 1 share 256 reach 1", 2, 26), ("mesh\nface 0 from 0 to 1 share 1 reach 65536", 2, 34),
              (MESH + "cell 1 volume 1", 5, 1), (MESH + "mesh", 5, 1), (MESH + "step", 5, 1), ("field", 1, 1),
-             (MESH + "field\ncell 1 mass 1", 6, 6), (MESH + "field\ncell 0 mass 4294967296", 6, 13),
-             (FIELD + "cell 0 mass 6", 7, 6), (FIELD + "field", 7, 1), (FIELD + "step\nface 0 flux 4096", 8, 13),
+             (MESH + "field\ncell 1 mass 1", 6, 6), (MESH + "field\ncell 0 mass 1099511627776", 6, 13),
+             (FIELD + "cell 0 mass 6", 7, 6), (FIELD + "field", 7, 1), (FIELD + "step\nface 0 flux 65536", 8, 13), (FIELD + "step\nface 0 flux -65536", 8, 13),
              (FIELD + "step\nface 0 flux --1", 8, 13), (FIELD + "step\nface 0 flux 1.5", 8, 13),
              (FIELD + "step\nface 1 flux 1 outside 0", 8, 15), (FIELD + "step\nface 0 flux -1 outside 1048576", 8, 24),
              (FIELD + "step\nface 1 flux 1\nface 0 flux 1", 9, 6), (FIELD + "step\nface 2 flux 1", 8, 6),
-             (FIELD + "step\ncell 0 release 4294967296", 8, 16), (FIELD + "step\ncell 0 release -1", 8, 16), (FIELD + "step\ncell 0 mass 1", 8, 8),
+             (FIELD + "step\ncell 0 release 1099511627776", 8, 16), (FIELD + "step\ncell 0 release -1", 8, 16), (FIELD + "step\ncell 0 mass 1", 8, 8),
              (FIELD + "step\ncell 1 release 1", 8, 6), (FIELD + "step\ncell 0 release 1\ncell 0 release 1", 9, 6),
              (FIELD + "step\ncell 0 release 1\nface 0 flux 1", 9, 1), (FIELD + "cell 0 release 1", 7, 6), (FIELD + "step\ncell 0 release", 8, 15),
              (FIELD + "step times 0", 7, 12), (FIELD + "step times 1000001", 7, 12), (FIELD + "step twice", 7, 6), ("bytes", 1, 6),
              ("bytes 1", 1, 7), ("bytes 0x", 1, 7), (MESH + "name cell 1 Inlet", 5, 11), (MESH + "name cell 0", 5, 12),
              (MESH + "name pond 0 Inlet", 5, 6), (MESH + "unit depth m", 5, 6), (FIELD + "step\nname cell 0 Inlet", 8, 1),
-             ("mesh\ncell 0 volume " + "9" * 5000, 2, 15)]
+             ("mesh\ncell 0 volume " + "9" * 5000, 2, 15),
+             ("mesh large", 1, 6), ("mesh wide wide", 1, 11), (MESH + "field wide", 5, 7), (FIELD + "step wide", 7, 6)]
     for text, line, column in cases:
         try:
             sessiontext.pack(text)
@@ -303,7 +423,7 @@ def test_bad_text():
             equal((error.line, error.column), (line, column), f"place of the error in {text.splitlines()[-1][:60]!r} ({error.words})")
         else:
             raise AssertionError(f"no error in {text!r}")
-    refuses("<stdin>:2:15: a volume is at most 4095, not 4096\n", "records.py", "pack", data=b"mesh\ncell 0 volume 4096\n")
+    refuses("<stdin>:2:15: a volume is at most 65535, not 65536\n", "records.py", "pack", data=b"mesh\ncell 0 volume 65536\n")
 
 
 def test_words_of_bad_text():
@@ -313,7 +433,7 @@ def test_words_of_bad_text():
                         (MESH.replace("to rim", "to K"), "the number of a cell or 'rim', not 'K'"),
                         (FIELD + "step\nface 0 flux -", "should be a whole number, not '-'"), (FIELD + "step\nface 0 flux --5", "not '--5'"),
                         ("mesh\n\x1b[31m\0", r"not '\x1b[31m\x00'"), ("mesh\n" + "x" * 3000, "not '" + "x" * 37 + "...'"),
-                        ("", "there is no mesh in this text"), ("mesh\ncell 0 volume " + "9" * 5000, "is at most 4095, not 999")):
+                        ("", "there is no mesh in this text"), ("mesh\ncell 0 volume " + "9" * 5000, "is at most 65535, not 999")):
         refuses(words, "records.py", "pack", data=text.encode())
     refuses("save it as UTF-8", "records.py", "pack", data=CHANNEL.encode("utf-16"))
     equal(command("records.py", "pack", data=CHANNEL.encode("utf-8-sig"))[1], sessiontext.pack(CHANNEL)[0], "text with a byte order mark")

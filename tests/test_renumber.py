@@ -11,6 +11,7 @@ from toolcase import CHANNEL, ROOT, TIDE, breaks, command, equal, folder, holds,
 
 import generate
 import lagoon
+import layout
 
 OTHER = ("--cells", "2,1,0", "--faces", "3,2,1,0", "--turn", "1,2")
 
@@ -36,6 +37,17 @@ def test_the_channel():
         holds(line + "\n" in text, f"'{line}' in {text}")
     lines = lagoon.run(out).splitlines()
     equal(lines[-3:], ["B 2 1000 99", "B 1 811 88", "B 0 187 13"], "the board by the new numbers")
+
+
+def test_wide_records():
+    """They stay wide, small values or not."""
+    for text in (CHANNEL.replace("mesh", "mesh wide", 1), CHANNEL.replace("volume 100", "volume 65535") + "step\ncell 1 release 4294967296\n"):
+        data = packed(text)
+        there = renumbered(*OTHER, data=data)
+        mine, other = (session_of(each) for each in (data, there))
+        equal((other.mesh.widths, [layout.kind_of(record) for record, _ in other.steps()]),
+              (layout.WIDE, [layout.kind_of(record) for record, _ in mine.steps()]), "kinds of the records")
+        equal(renumbered("--cells", "2,1,0", "--faces", "3,2,1,0", "--turn", "1,2", data=there), data, "the way back")
 
 
 def test_a_share():
@@ -68,7 +80,7 @@ def test_the_way_back():
 
 def test_beside_the_reference():
     """Generated sessions print the same in both numberings, but for places and for the cells of the board."""
-    accepted = refused = outfalls = 0
+    accepted = refused = outfalls = wide = 0
     for number in range(60):
         data = generate.session(31, number).data
         status, out, said = command("renumber.py", "--seed", number, "--turn", "some", data=data)
@@ -76,7 +88,8 @@ def test_beside_the_reference():
         if first[0][0] in "MF":
             holds(status == 1 and f"(cause {first[0].split()[1]})" in said, f"session {number}: {first[0]} {said}")
             continue
-        second = lagoon.run(out).splitlines()
+        equal(out[0] >> 4, data[0] >> 4, f"session {number}, the kind of its mesh")
+        second, wide = lagoon.run(out).splitlines(), wide + (data[0] >> 4 == layout.WIDE.mesh)
         equal(len(second), len(first), f"session {number}, lines")
         for line, other in zip(map(str.split, first), map(str.split, second)):
             if line[0] == "B":
@@ -87,7 +100,8 @@ def test_beside_the_reference():
             else:
                 equal(other, line, f"session {number}, an accepted step")
                 accepted, outfalls = accepted + 1, outfalls + (line[-1] != "0")
-    holds(accepted > 100 and refused > 20 and outfalls > 10, f"{accepted} accepted, {refused} refused, {outfalls} with releases")
+    holds(accepted > 100 and refused > 20 and outfalls > 10 and wide > 5,
+          f"{accepted} accepted, {refused} refused, {outfalls} with releases, {wide} sessions of wide records")
 
 
 def test_a_step_that_does_not_read():

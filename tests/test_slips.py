@@ -1,6 +1,6 @@
 #!/usr/bin/env python3
-"""docs/ARITHMETIC.md, sections 8 and 9: each slip that the page names gives another printed line of examples/second.txt, and those of
-releases of examples/outfall.txt.
+"""docs/ARITHMETIC.md, sections 8, 9 and 11: each slip that the page names gives another printed line of examples/second.txt, those of
+releases of examples/outfall.txt, and a product that is cut of examples/bay-wide.txt.
 
 The step is written here once more, with a switch for each slip, so that a slip is one changed line of it."""
 
@@ -12,7 +12,7 @@ ROOT = Path(__file__).resolve().parent.parent
 sys.path[:0] = [str(ROOT / "tools"), str(ROOT / "reference")]
 
 import lagoon
-from worked import CHANNEL, OUTFALL, SECOND
+from worked import BAY, CHANNEL, OUTFALL, SECOND
 
 SLIPS = ("s where the second cell is upwind", "correction with the other sign", "quotient rounded down", "q after stage 1 for d",
          "still face met", "rest dropped", "G by V hi alone", "next masses from the low-order masses",
@@ -22,6 +22,7 @@ SLIPS = ("s where the second cell is upwind", "correction with the other sign", 
          "cancelled after P and N")
 RELEASE_SLIPS = ("releases after the step", "bounds of the field before its releases", "out-mass by q before the releases", "releases forgotten",
                  "released mass not printed")
+WIDE_SLIPS = ("product cut to 64 bits",)
 
 
 def step(session, slip=None):
@@ -102,7 +103,8 @@ def step(session, slip=None):
     def part(a, room, total):
         if total <= room:
             return a
-        return -(-a * room // total) if slip == "limit rounded up" else a * room // total
+        product = a * room % (1 << 64) if slip == "product cut to 64 bits" else a * room
+        return -(-product // total) if slip == "limit rounded up" else product // total
 
     def limited(f):
         a = abs(x[f])
@@ -131,17 +133,20 @@ def lines(session, slip=None):
     return [f"1 {entered} {gone} {sum(after)} {released}", *board]
 
 
+def first_step(session):
+    """What the run prints of a session that ends with its first step, the line of its first field apart."""
+    return lagoon.run(b"".join(session.records[:3])).splitlines()[1:]
+
+
 def main():
-    right = SECOND.printed()[1:]
-    if lines(SECOND) != right or step(CHANNEL)[0] != lagoon.advance(CHANNEL.mesh, CHANNEL.first, CHANNEL.fluxes, CHANNEL.outsides).masses:
-        raise SystemExit("test_slips.py: the step written here is not the engine's")
-    if lines(OUTFALL) != OUTFALL.printed()[1:]:
-        raise SystemExit("test_slips.py: the step written here adds releases otherwise than the engine")
-    for session, slips, name in ((SECOND, SLIPS, "second.txt"), (OUTFALL, RELEASE_SLIPS, "outfall.txt")):
-        unseen = [slip for slip in slips if lines(session, slip) == session.printed()[1:]]
+    for session, name in ((CHANNEL, "channel.txt"), (SECOND, "second.txt"), (OUTFALL, "outfall.txt"), (BAY, "bay-wide.txt")):
+        if lines(session) != first_step(session):
+            raise SystemExit(f"test_slips.py: the step written here is not the engine's on examples/{name}")
+    for session, slips, name in ((SECOND, SLIPS, "second.txt"), (OUTFALL, RELEASE_SLIPS, "outfall.txt"), (BAY, WIDE_SLIPS, "bay-wide.txt")):
+        unseen = [slip for slip in slips if lines(session, slip) == first_step(session)]
         if unseen:
             raise SystemExit(f"test_slips.py: examples/{name} does not show: {', '.join(unseen)}")
-        print(f"{len(slips)} slips, each with other lines than examples/{name} has")
+        print(f"{len(slips)} slip{'s' * (len(slips) > 1)}, each with other lines than examples/{name} has")
 
 
 if __name__ == "__main__":

@@ -13,7 +13,7 @@ from toolcase import ROOT, breaks, command, equal, folder, holds, interrupted, k
 
 PAGE = ROOT / "docs" / "SURVEY-TO-SESSION.md"
 CELLS, FACES = ROOT / "examples" / "bay-cells.csv", ROOT / "examples" / "bay-faces.csv"
-COMMANDS = 8
+COMMANDS = 9
 
 
 def printed(block):
@@ -67,6 +67,11 @@ def test_figures():
     for volume, unit in ((4095, 1), (4096, 2), (8191, 5), (20475, 5), (20476, 10)):
         text, _ = whole(TWO.replace("1000", str(volume)), ONE)
         holds(text.startswith(f"unit volume {unit} m3\n"), f"the unit for {volume}: {text[:20]}")
+    for volume, unit in ((65535, 1), (65536, 2), (131071, 5), (327676, 10)):
+        text, _ = whole(TWO.replace("1000", str(volume)), ONE, "--wide")
+        holds(text.startswith(f"unit volume {unit} m3\n"), f"the unit for {volume}, wide: {text[:20]}")
+    text, _ = whole(TWO.replace("1000", "65535"), ONE, "--volume-unit", "1")
+    equal(session_of(text.encode()).mesh.volumes, [65535, 400], "a unit that is given, up to the ceiling")
     equal(whole(TWO.replace(",", ";").replace("100.5", "100,5"), ONE, "--volume-unit", "2")[0], whole(TWO, ONE, "--volume-unit", "2")[0], "semicolons")
 
 
@@ -98,8 +103,8 @@ def test_bad_surveys():
                                 (TWO, ONE.replace("10,30", "nan,30"), "area should be a number"), (TWO.replace("\nb", "\n\x1b#"), ONE, r"should be a name, not '\x1b#'")):
         _, said = whole(cells, faces, wanted=1)
         holds(words in said and said.count("\n") == 1, f"'{words}' should be in '{said}'")
-    _, said = whole(TWO, ONE, "--volume-unit", "0.2", wanted=1)
-    holds("take a larger unit of volume" in said, said)
+    _, said = whole(TWO, ONE, "--volume-unit", "0.01", wanted=1)
+    holds("is 1e+05 units, outside 1 to 65,535: take a larger unit of volume" in said, said)
 
 
 def test_the_command():

@@ -7,13 +7,14 @@ import causes
 import command
 import engine
 from command import Output
-from layout import Damage, Source
+from layout import NARROW, Damage, Source, most
 from session import open_session
 
 HELP = """\
 A line for each cell, 18 bytes: the cell in 4 places, a space, q in 7, a space, the rest in 4, each at the right of its places, and a
-newline. After sixty cells, and after the last, comes a line with the mass of the page in 17 places. The mass of a cell is read back
-from its line as q times its volume plus the rest; the masses of all pages add up to the total.
+newline. After sixty cells, and after the last, comes a line with the mass of the page in 17 places. Where some volume of the mesh, on
+this page or another, is above 4,095, the rest has 5 places and the mass 18, and all lines 19 bytes. The mass of a cell is read back from
+its line as q times its volume plus the rest; the masses of all pages add up to the total.
 
 The session is text or packed. The engine steps through it, by the C call of the library (`make lib`). With --field no step is made:
 the pages are those of the field record, on the mesh of the session.
@@ -28,11 +29,16 @@ examples:
 PAGE_CELLS = 60
 
 
+def rest_places(volumes):
+    """Of all pages, by the volumes of the whole mesh (document 02, S-10)."""
+    return 5 if max(volumes) > most(NARROW.value) else 4
+
+
 def page(volumes, masses, first):
     """The page that begins with this cell."""
-    rows = list(zip(volumes, masses))[first:first + PAGE_CELLS]
-    lines = [f"{cell:>4} {mass // volume:>7} {mass % volume:>4}\n" for cell, (volume, mass) in enumerate(rows, first)]
-    return "".join(lines) + f"{sum(mass for _, mass in rows):>17}\n"
+    rows, places = list(zip(volumes, masses))[first:first + PAGE_CELLS], rest_places(volumes)
+    lines = [f"{cell:>4} {mass // volume:>7} {mass % volume:>{places}}\n" for cell, (volume, mass) in enumerate(rows, first)]
+    return "".join(lines) + f"{sum(mass for _, mass in rows):>{13 + places}}\n"
 
 
 def pages(volumes, masses):
@@ -44,7 +50,7 @@ def stored_field(session, path):
     with command.opened(path) as file:
         source = Source(file)
         try:
-            masses = source.field(len(session.mesh.volumes))
+            masses = source.field_on(session.mesh)
             if file.read(1):
                 raise source.damage("there are bytes after the field record", 8 * len(source.record), 11, 0)
             refusal = causes.field_refusal(session.mesh, masses)

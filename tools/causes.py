@@ -7,7 +7,7 @@ from layout import RIM
 
 TOP = 1_000_000                             # greatest concentration
 LIMITS = 1023, 2046                         # cells and faces of the run and of the C call
-MOST_VOLUME = MOST_REACH = 4095
+MOST_VOLUME = MOST_REACH = MOST_AT_RIM = 65_535     # of V, K and the size of U at the rim (S-10)
 MOST_SHARE = 255
 
 CELL, FACE = "cell", "face"

@@ -64,7 +64,7 @@ class Plain:
         self.calls = Calls(program)
         cells, faces = len(mesh.volumes), len(mesh.faces)
         columns = [spelled([face[column] for face in mesh.faces]) for column in range(4)]
-        self.read = (cells, faces, columns[1])
+        self.widths, self.read = mesh.widths, (int(mesh.widths == layout.WIDE), cells, faces, columns[1])
         self.fluxes_outsides_releases = ([0] * faces, [0] * faces, [0] * cells)
         self.mesh = (cells, faces, spelled(mesh.volumes), *columns)
         self.next_moved_work = tuple(map(spelled, ([0] * cells, [0] * faces, [0] * (4 * cells + faces))))
@@ -75,7 +75,7 @@ class Plain:
         if said[0] == "accepted":
             said, left = self.calls.ask("plain_step", *self.mesh, layout.masses_in(field), read["fluxes"], read["outsides"],
                                         *self.next_moved_work, read["releases"])
-        return (layout.field_record(left["next"]), None) if said[0] == "accepted" else (None, tuple(map(int, said[1:])))
+        return (layout.field_record(left["next"], self.widths), None) if said[0] == "accepted" else (None, tuple(map(int, said[1:])))
 
 
 class Walk:

@@ -37,7 +37,7 @@ inflow and outflow differ by at most the tolerance counts as balanced: such a di
 carried from cell to cell to the nearest rim face. A larger one is said, with its place, and nothing is written; with
 --spread it is carried to the rim like a small one. What that changes is said.
 
-Limits: a flux is at most the reach of its face (4,095 at the rim), a cell's outflow at most its volume. Whole fluxes keep
+Limits: a flux is at most the reach of its face (65,535 at the rim), a cell's outflow at most its volume. Whole fluxes keep
 them where the real ones do; where those do not, it is said by how much, and --split N makes N shorter steps of each row.
 --carry hands what rounding left of a step on to the next, so that over any number of steps each face's sum is changed by
 less than one unit; in a single step the change may then be up to two.
@@ -144,7 +144,7 @@ class Water:
         firsts = [face.first for face in mesh.faces]
         seconds = [self.cells if face.second == RIM else face.second for face in mesh.faces]
         self.graph = Graph(self.cells + 1, firsts, seconds)
-        self.limits = [UNIT * (layout.most(layout.SIZE_BITS) if face.second == RIM else face.reach) for face in mesh.faces]
+        self.limits = [UNIT * (causes.MOST_AT_RIM if face.second == RIM else face.reach) for face in mesh.faces]
         self.ways = self.found_ways()
 
     def found_ways(self):
@@ -460,7 +460,7 @@ def written(steps, lagoon, packed):
     if packed:
         yield lagoon.packed
         for step in steps:
-            yield layout.step_record(step)
+            yield layout.step_record(step, lagoon.session.mesh.widths)
         return
     yield lagoon.text.encode()
     writer, held, times, number = StepText(lagoon.session.mesh), None, 0, 0

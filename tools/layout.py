@@ -1,17 +1,14 @@
-"""Records as document 01 lays them out in "Record layouts", and document 02 in S-6: the one place of the tools that knows the widths.
+"""Records as document 01 lays them out in "Record layouts", and document 02 in S-6 and S-10: the one place of the tools that knows the widths.
 
 Written from the document; shares nothing with the engine. Reading does not judge values: tools/causes.py does.
 """
 
-import struct
 from collections import namedtuple
+from functools import lru_cache
 
-# Widths in bits.
-MESH, FIELD, STEP, OUTFALLS = 1, 2, 3, 4       # a step is of kind 3, or of kind 4 with releases
+# Widths in bits that all records have.
 KIND_BITS, CELLS_BITS, FACES_BITS, MESH_ZEROS, STEP_ZEROS = 4, 12, 13, 3, 15
-VOLUME_BITS, END_BITS, SHARE_BITS, REACH_BITS, MASS_BITS, SIZE_BITS, OUTSIDE_BITS = 12, 12, 8, 12, 32, 12, 20
-FLUX_BITS = 1 + SIZE_BITS
-FACE_BITS = 2 * END_BITS + SHARE_BITS + REACH_BITS
+END_BITS, SHARE_BITS, OUTSIDE_BITS = 12, 8, 20
 MESH_HEAD = KIND_BITS + CELLS_BITS + FACES_BITS + MESH_ZEROS
 FIELD_HEAD = KIND_BITS + CELLS_BITS
 STEP_HEAD = KIND_BITS + FACES_BITS + STEP_ZEROS
@@ -19,10 +16,27 @@ STEP_HEAD = KIND_BITS + FACES_BITS + STEP_ZEROS
 RIM = 4095                      # the mark of the rim in the place of a second cell
 MINUS_ZERO = "-0"               # a minus with size 0, which a record can say and the run refuses (cause 12)
 
+
+class Widths(namedtuple("Widths", "mesh field step outfalls value mass")):
+    """One width of records: its four kinds, a step with releases being the last, the bits of V, K and the size of U, and those of masses
+    and releases. The mesh record fixes the width of the records after it."""
+
+    __slots__ = ()
+    flux = property(lambda widths: 1 + widths.value)
+    face = property(lambda widths: 2 * END_BITS + SHARE_BITS + widths.value)
+
+
+NARROW, WIDE = Widths(1, 2, 3, 4, value=12, mass=32), Widths(5, 6, 7, 8, value=16, mass=40)
+
 Face = namedtuple("Face", "first second share reach")
-Mesh = namedtuple("Mesh", "volumes faces rim")          # rim: the numbers of the rim faces
-# outsides: of the rim faces, in their order; releases: None in kind 3
+Mesh = namedtuple("Mesh", "volumes faces rim widths")   # rim: the numbers of the rim faces
+# outsides: of the rim faces, in their order; releases: None in a step of a kind without them
 Step = namedtuple("Step", "fluxes outsides releases", defaults=(None,))
+
+
+def widths_of(kind):
+    """The width of a kind; what is no kind at all counts as narrow."""
+    return WIDE if WIDE.mesh <= kind <= WIDE.outfalls else NARROW
 
 
 def most(width):
@@ -41,25 +55,26 @@ def beyond_limits(cells, faces, limits):
     return (1, f"the mesh has {faces:,} faces, and the run takes {limits[1]:,} at most") if faces > limits[1] else None
 
 
-def mesh_of(volumes, faces):
-    return Mesh(volumes, faces, [number for number, face in enumerate(faces) if face.second == RIM])
+def mesh_of(volumes, faces, widths=NARROW):
+    return Mesh(volumes, faces, [number for number, face in enumerate(faces) if face.second == RIM], widths)
 
 
-def mesh_bytes(cells, faces):
-    return whole_bytes(MESH_HEAD + cells * VOLUME_BITS + faces * FACE_BITS)
+def mesh_bytes(cells, faces, widths):
+    return whole_bytes(MESH_HEAD + cells * widths.value + faces * widths.face)
 
 
-def field_bytes(cells):
-    return whole_bytes(FIELD_HEAD + cells * MASS_BITS)
+def field_bytes(cells, widths):
+    return whole_bytes(FIELD_HEAD + cells * widths.mass)
 
 
 def releases_at(mesh):
-    """The bit after the last outside value of a step record, at which the releases of kind 4 begin."""
-    return STEP_HEAD + len(mesh.faces) * FLUX_BITS + len(mesh.rim) * OUTSIDE_BITS
+    """The bit after the last outside value of a step record, at which the releases begin where it has any."""
+    return STEP_HEAD + len(mesh.faces) * mesh.widths.flux + len(mesh.rim) * OUTSIDE_BITS
 
 
-def step_bytes(mesh, kind):
-    return whole_bytes(releases_at(mesh) + (len(mesh.volumes) * MASS_BITS if kind == OUTFALLS else 0))
+def step_bits(mesh, kind):
+    """The bits of a step record without the zero bits at its end."""
+    return releases_at(mesh) + (len(mesh.volumes) * mesh.widths.mass if kind == mesh.widths.outfalls else 0)
 
 
 # ---------------------------------------------------------------- Bits
@@ -80,30 +95,45 @@ def written(fields):
     return "".join([f"{value:0{width}b}" for value, width in fields])
 
 
-FLUX_OF = {f"{value:0{FLUX_BITS}b}": value if value <= most(SIZE_BITS) else -(value & most(SIZE_BITS)) for value in range(1 << FLUX_BITS)}
-FLUX_OF["1" + "0" * SIZE_BITS] = MINUS_ZERO
-BITS_OF_FLUX = {value: bits for bits, value in FLUX_OF.items()}
+@lru_cache(maxsize=None)
+def flux_of(widths):
+    """The flux that each row of sign and size says."""
+    most_size = most(widths.value)
+    found = {f"{value:0{widths.flux}b}": value if value <= most_size else -(value & most_size) for value in range(1 << widths.flux)}
+    found["1" + "0" * widths.value] = MINUS_ZERO
+    return found
+
+
+@lru_cache(maxsize=None)
+def bits_of_flux(widths):
+    return {flux: bits for bits, flux in flux_of(widths).items()}
 
 
 # ---------------------------------------------------------------- Writing
 
 def mesh_record(mesh):
-    fields = [(MESH, KIND_BITS), (len(mesh.volumes), CELLS_BITS), (len(mesh.faces), FACES_BITS), (0, MESH_ZEROS)]
-    fields += [(volume, VOLUME_BITS) for volume in mesh.volumes]
+    widths = mesh.widths
+    fields = [(widths.mesh, KIND_BITS), (len(mesh.volumes), CELLS_BITS), (len(mesh.faces), FACES_BITS), (0, MESH_ZEROS)]
+    fields += [(volume, widths.value) for volume in mesh.volumes]
     for face in mesh.faces:
-        fields += zip(face, (END_BITS, END_BITS, SHARE_BITS, REACH_BITS))
+        fields += zip(face, face_widths(widths))
     return bytes_of(written(fields))
 
 
-def field_record(masses):
-    return bytes_of(written([(FIELD, KIND_BITS), (len(masses), CELLS_BITS)] + [(mass, MASS_BITS) for mass in masses]))
+def face_widths(widths):
+    return END_BITS, END_BITS, SHARE_BITS, widths.value
 
 
-def step_record(step):
-    kind = STEP if step.releases is None else OUTFALLS
+def field_record(masses, widths):
+    return bytes_of(written([(widths.field, KIND_BITS), (len(masses), CELLS_BITS)] + [(mass, widths.mass) for mass in masses]))
+
+
+def step_record(step, widths):
+    kind = widths.step if step.releases is None else widths.outfalls
     head = written([(kind, KIND_BITS), (len(step.fluxes), FACES_BITS), (0, STEP_ZEROS)])
-    fluxes = "".join([BITS_OF_FLUX[flux] for flux in step.fluxes])
-    values = [(outside, OUTSIDE_BITS) for outside in step.outsides] + [(release, MASS_BITS) for release in step.releases or []]
+    bits = bits_of_flux(widths)
+    fluxes = "".join([bits[flux] for flux in step.fluxes])
+    values = [(outside, OUTSIDE_BITS) for outside in step.outsides] + [(release, widths.mass) for release in step.releases or []]
     return bytes_of(head + fluxes + written(values))
 
 
@@ -167,75 +197,91 @@ class Source:
             raise self.damage("a zero bit is set", one, 12, one, goes_on)
 
     def mesh(self, limits=None):
-        """The mesh; with limits its counts are judged before its length, as in the run."""
+        """The mesh, of either width; with limits its counts are judged before its length, as in the run."""
         self.begin("mesh")
-        head = self.head(MESH_HEAD, MESH)
-        cells = int(head[KIND_BITS:KIND_BITS + CELLS_BITS], 2)
-        faces = int(head[KIND_BITS + CELLS_BITS:MESH_HEAD - MESH_ZEROS], 2)
+        head = self.head(MESH_HEAD, NARROW.mesh, WIDE.mesh)
+        cells, faces = counts_in(head)
+        widths = widths_of(kind_of(self.record))
         beyond = limits and beyond_limits(cells, faces, limits)
         if beyond:
             raise self.damage(beyond[1], KIND_BITS + beyond[0] * CELLS_BITS, 1, beyond[0])
-        bits = bits_of(self.hold(mesh_bytes(cells, faces)))
+        bits = bits_of(self.hold(mesh_bytes(cells, faces, widths)))
         self.zeros(bits, MESH_HEAD - MESH_ZEROS, MESH_HEAD)
-        at = MESH_HEAD + cells * VOLUME_BITS
-        volumes = [int(bits[i:i + VOLUME_BITS], 2) for i in range(MESH_HEAD, at, VOLUME_BITS)]
-        end = at + faces * FACE_BITS
-        rows = [face_in(bits, i) for i in range(at, end, FACE_BITS)]
+        at = MESH_HEAD + cells * widths.value
+        end = at + faces * widths.face
+        rows = [face_in(bits, i, widths) for i in range(at, end, widths.face)]
         self.zeros(bits, end, len(bits))
-        return mesh_of(volumes, rows)
+        return mesh_of(numbers_in(bits, MESH_HEAD, at, widths.value), rows, widths)
 
-    def field(self, cells):
+    def field(self, cells, widths):
         self.begin("field")
-        self.count(self.head(FIELD_HEAD, FIELD), CELLS_BITS, cells, "cells")
-        return masses_in(self.hold(field_bytes(cells)))
+        self.count(self.head(FIELD_HEAD, widths.field), CELLS_BITS, cells, "cells")
+        return masses_in(self.hold(field_bytes(cells, widths)))
+
+    def field_on(self, mesh):
+        """The field that follows the record of a mesh."""
+        return self.field(len(mesh.volumes), mesh.widths)
 
     def next_step(self, mesh):
         """The bytes of the next step record, which has a kind, count and length of one; None where no byte is left."""
         self.begin("step")
         if not self.more():
             return None
-        head = self.head(STEP_HEAD, STEP, OUTFALLS)
+        head = self.head(STEP_HEAD, mesh.widths.step, mesh.widths.outfalls)
         self.count(head, FACES_BITS, len(mesh.faces), "faces")
-        return self.hold(step_bytes(mesh, kind_of(self.record)))
+        return self.hold(whole_bytes(step_bits(mesh, kind_of(self.record))))
 
     def step(self, mesh):
         """The values of the step record that next_step gave."""
         return self.step_in(bits_of(self.record), mesh)
 
     def step_in(self, bits, mesh):
+        found = step_of(bits, mesh)
         self.zeros(bits, STEP_HEAD - STEP_ZEROS, STEP_HEAD, True)
-        at = STEP_HEAD + len(mesh.faces) * FLUX_BITS
-        fluxes = [FLUX_OF[bits[i:i + FLUX_BITS]] for i in range(STEP_HEAD, at, FLUX_BITS)]
-        if MINUS_ZERO in fluxes:
-            bit = STEP_HEAD + FLUX_BITS * fluxes.index(MINUS_ZERO)
+        if MINUS_ZERO in found.fluxes:
+            bit = STEP_HEAD + mesh.widths.flux * found.fluxes.index(MINUS_ZERO)
             raise self.damage("a minus with size 0", bit, 12, bit, True)
-        start = end = releases_at(mesh)
-        releases = None
-        if int(bits[:KIND_BITS], 2) == OUTFALLS:
-            end = start + len(mesh.volumes) * MASS_BITS
-            releases = [int(bits[i:i + MASS_BITS], 2) for i in range(start, end, MASS_BITS)]
-        self.zeros(bits, end, len(bits), True)
-        return Step(fluxes, [int(bits[i:i + OUTSIDE_BITS], 2) for i in range(at, start, OUTSIDE_BITS)], releases)
+        self.zeros(bits, step_bits(mesh, int(bits[:KIND_BITS], 2)), len(bits), True)
+        return found
+
+
+def counts_in(head):
+    """Cells and faces of the bits of a mesh's head."""
+    return int(head[KIND_BITS:KIND_BITS + CELLS_BITS], 2), int(head[KIND_BITS + CELLS_BITS:MESH_HEAD - MESH_ZEROS], 2)
 
 
 def kind_of(record):
     return record[0] >> 8 - KIND_BITS
 
 
+def numbers_in(bits, start, end, width):
+    return [int(bits[at:at + width], 2) for at in range(start, end, width)]
+
+
+def step_of(bits, mesh):
+    """What the bits of a step record of the right length say, zero bits apart."""
+    kind, widths = int(bits[:KIND_BITS], 2), mesh.widths
+    at, start = STEP_HEAD + len(mesh.faces) * widths.flux, releases_at(mesh)
+    flux = flux_of(widths)
+    return Step([flux[bits[i:i + widths.flux]] for i in range(STEP_HEAD, at, widths.flux)], numbers_in(bits, at, start, OUTSIDE_BITS),
+                numbers_in(bits, start, step_bits(mesh, kind), widths.mass) if kind == widths.outfalls else None)
+
+
 def releases_in(record, mesh):
-    """The release into each cell, of a step record that follows its layout; 0 in kind 3."""
-    if kind_of(record) != OUTFALLS:
+    """The release into each cell, of a step record that follows its layout; 0 in a kind without them."""
+    if kind_of(record) != mesh.widths.outfalls:
         return [0] * len(mesh.volumes)
-    start = releases_at(mesh)
-    return [number_at(record, start + cell * MASS_BITS, MASS_BITS) for cell in range(len(mesh.volumes))]
+    start, width = releases_at(mesh), mesh.widths.mass
+    return [number_at(record, start + cell * width, width) for cell in range(len(mesh.volumes))]
 
 
 def rim_values(record, mesh):
     """Flux and outside value of each rim face, of a step record that follows its layout."""
-    at = STEP_HEAD + len(mesh.faces) * FLUX_BITS
+    widths = mesh.widths
+    at = STEP_HEAD + len(mesh.faces) * widths.flux
     for number, face in enumerate(mesh.rim):
-        minus_and_size = number_at(record, STEP_HEAD + face * FLUX_BITS, FLUX_BITS)
-        size = minus_and_size & most(SIZE_BITS)
+        minus_and_size = number_at(record, STEP_HEAD + face * widths.flux, widths.flux)
+        size = minus_and_size & most(widths.value)
         yield (size if minus_and_size == size else -size), number_at(record, at + number * OUTSIDE_BITS, OUTSIDE_BITS)
 
 
@@ -245,9 +291,9 @@ def number_at(record, at, width):
     return int.from_bytes(record[at // 8:end], "big") >> (8 * end - at - width) & most(width)
 
 
-def face_in(bits, at):
+def face_in(bits, at, widths):
     values = []
-    for width in (END_BITS, END_BITS, SHARE_BITS, REACH_BITS):
+    for width in face_widths(widths):
         values.append(int(bits[at:at + width], 2))
         at += width
     return Face(*values)
@@ -255,4 +301,5 @@ def face_in(bits, at):
 
 def masses_in(record):
     """The masses of a field record: its head and each mass are whole bytes."""
-    return list(struct.unpack_from(f">{8 * len(record) // MASS_BITS}I", record, FIELD_HEAD // 8))
+    step = widths_of(kind_of(record)).mass // 8
+    return [int.from_bytes(record[at:at + step], "big") for at in range(FIELD_HEAD // 8, len(record), step)]

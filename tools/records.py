@@ -1,6 +1,6 @@
 #!/usr/bin/env python3
 """A session's records to readable text and back, and what the run would refuse in them. Written from document 01, "Record
-layouts" and "Causes", and document 02, S-6; shares nothing with the engine."""
+layouts" and "Causes", and document 02, S-6 and S-10; shares nothing with the engine."""
 
 import io
 import sys
@@ -9,7 +9,7 @@ import causes
 import command
 import layout
 from command import Bad, Output, count, shown
-from layout import CELLS_BITS, MINUS_ZERO, Damage, Source, most
+from layout import CELLS_BITS, MINUS_ZERO, WIDE, Damage, Source, most
 from session import is_text
 from sessiontext import MOST_TIMES, Line, Parser, StepText, TextError, field_text, mesh_text, packed, text_words
 
@@ -19,19 +19,19 @@ bytes into text, pack turns text into bytes, check says of either what the run w
 
 The text has one item on a line; words are separated by blanks, and # begins a comment.
 
-  mesh                                            begins the mesh
-  cell N volume V                                 V 0 to 4095; cells in order from 0, none left out
-  face N from C to C share S reach K              an interior face; S 0 to 255, K 0 to 4095
+  mesh                                            begins the mesh; "mesh wide" asks for wide records
+  cell N volume V                                 V 0 to 65535; cells in order from 0, none left out
+  face N from C to C share S reach K              an interior face; S 0 to 255, K 0 to 65535
   face N from C to rim                            a rim face; share and reach are 0 unless written
   field                                           begins the field
-  cell N mass M                                   M 0 to 4294967295; a cell left out has mass 0
+  cell N mass M                                   M 0 to 1099511627775; a cell left out has mass 0
   step                                            begins a step; "step times 24" writes it 24 times (at most 1000000)
-  face N flux U                                   U -4095 to 4095, positive from first to second cell (outward
+  face N flux U                                   U -65535 to 65535, positive from first to second cell (outward
                                                   at the rim); a face left out has flux 0
   face N flux U outside Q                         Q 0 to 1048575, at a rim face; 0 unless written
-  cell N release R                                R 0 to 4294967295, the mass released into the cell, after the faces
+  cell N release R                                R 0 to 1099511627775, the mass released into the cell, after the faces
                                                   of the step; a cell left out has release 0. A step with such a
-                                                  line is a record of kind 4, one without is of kind 3
+                                                  line is a record of kind 4 (wide: 8), one without of kind 3 (7)
   bytes 30 02 00 00                               these bytes as they are, in hexadecimal
   unit volume 1000 m3                             what one unit is: volume, mass or step, in words; before the steps
   name cell N Inlet                               the name of a cell or a face, in words; before the steps
@@ -39,6 +39,9 @@ The text has one item on a line; words are separated by blanks, and # begins a c
 The words are document 01's. Share: the way from the first cell's centre to the face, in 1/256 of the way between
 the centres. Reach: face area times distance between centres, in volume units. Outside: the concentration of the
 water that enters over the rim. Units and names are for budget.py and plot.py; the records hold none.
+Records are of kinds 1 to 4. Where a volume, reach or size of a flux is above 4095, a mass or release above
+4294967295, or the text says "mesh wide", all records are wide ones, of kinds 5 to 8. Both hold the same values where
+both have room for them, and the run prints the same.
 Any value that fits its field is packed, also one that the run refuses: volume 0, from 4095, flux -0 (a minus with
 size 0, cause 12). check finds those.
 """
@@ -106,7 +109,7 @@ class Unpacker:
         try:
             mesh = self.source.mesh()
             yield mesh_text(mesh)
-            yield field_text(self.source.field(len(mesh.volumes)))
+            yield field_text(self.source.field_on(mesh))
             yield from self.steps(mesh)
         except Damage as damage:
             yield self.problem(damage)
@@ -279,7 +282,7 @@ def check_packed(file, name):
         checker.mesh = mesh = source.mesh(causes.LIMITS)
         if not checker.judge("mesh", causes.mesh_refusal(mesh), f"{name}: byte {source.at}"):
             return checker
-        checker.masses = source.field(len(mesh.volumes))
+        checker.masses = source.field_on(mesh)
         if not checker.judge("field", causes.field_refusal(mesh, checker.masses), f"{name}: byte {source.at}"):
             return checker
     except Damage as damage:
@@ -358,12 +361,12 @@ def run_unpack(options):
 def run_pack(options):
     command.apart(options.output, options.file, *([options.field] if options.field else []))
     parser = Parser(command.opened(options.file))
-    field = field_of(options.field) if options.field else None
-    found, lacks = packed(parser, field)
+    masses = field_of(options.field) if options.field else None
+    found, lacks = packed(parser, masses)
     if lacks:
         command.say(f"{command.named(options.file)}: note: {lacks}")
-    if field is not None and parser.mesh and len(field) != layout.field_bytes(len(parser.mesh.volumes)):
-        raise Bad(f"{options.field}: {count(len(layout.masses_in(field)), 'mass')[:-1]}es for a mesh of {count(len(parser.mesh.volumes), 'cell')}")
+    if masses is not None and parser.mesh and len(masses) != len(parser.mesh.volumes):
+        raise Bad(f"{options.field}: {count(len(masses), 'mass')[:-1]}es for a mesh of {count(len(parser.mesh.volumes), 'cell')}")
     pieces = (record for record, times in found for _ in range(times))
     with Output(options.output) as output:
         for piece in hex_lines(pieces) if options.hex else pieces:
@@ -372,17 +375,18 @@ def run_pack(options):
 
 
 def field_of(path):
-    """The field record of a file, and nothing else in it."""
+    """The masses of a field record of either width, which is all that a file holds."""
     with open(path, "rb") as file:
-        data = file.read(layout.field_bytes(most(CELLS_BITS)) + 1)
+        data = file.read(layout.field_bytes(most(CELLS_BITS), WIDE) + 1)
     try:
         source = Source(io.BytesIO(data))
-        source.field(int.from_bytes(data[:2], "big") & most(CELLS_BITS))
+        widths = layout.widths_of(layout.kind_of(data or b"\0"))
+        masses = source.field(int.from_bytes(data[:2], "big") & most(CELLS_BITS), widths)
     except Damage as damage:
         raise Bad(f"{path} is no field record: {damage.words}") from None
     if len(source.record) != len(data):
         raise Bad(f"{path} is no field record: bytes follow it")
-    return data
+    return masses
 
 
 def arguments():
@@ -400,7 +404,7 @@ def arguments():
             one.add_argument("-o", "--output", default="-", help="what to write (default: standard output)")
         one.add_argument("--hex", action="store_true", help=f"the bytes are {'written' if name == 'pack' else 'read'} as hexadecimal digits")
         if name == "pack":
-            one.add_argument("--field", metavar="FILE", help="a field record (of budget.py --field) in the place of the text's field")
+            one.add_argument("--field", metavar="FILE", help="the masses of a field record (of budget.py --field) in the place of the text's")
     return parser.parse_args()
 
 

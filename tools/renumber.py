@@ -57,10 +57,11 @@ class Numbering:
         return Face(self.cells[first], RIM if second == RIM else self.cells[second], share, face.reach)
 
     def mesh(self, mesh):
-        return layout.mesh_of(self.by_cell(mesh.volumes), self.by_face([self.face(*pair) for pair in enumerate(mesh.faces)]))
+        return layout.mesh_of(self.by_cell(mesh.volumes), self.by_face([self.face(*pair) for pair in enumerate(mesh.faces)]), mesh.widths)
 
     def step(self, mesh, step):
-        """A step on the mesh in the old numbering: its outside values are those of the rim faces, in their order; kind 3 has no releases."""
+        """A step on the mesh in the old numbering: its outside values are those of the rim faces, in their order; where it has no releases
+        it gets none."""
         outsides = dict(zip(mesh.rim, step.outsides))
         ordered = [outsides[face] for face in sorted(mesh.rim, key=lambda face: self.faces[face])]
         releases = None if step.releases is None else self.by_cell(step.releases)
@@ -94,13 +95,14 @@ def interior(mesh):
 
 def records(session, numbering, say=lambda words: None):
     """The records of the session in the other numbering; a step that does not read is told and stays as it is."""
+    widths = session.mesh.widths
     yield layout.mesh_record(numbering.mesh(session.mesh))
-    yield layout.field_record(numbering.by_cell(session.masses))
+    yield layout.field_record(numbering.by_cell(session.masses), widths)
     for number, (record, damage) in enumerate(session.steps(), 1):
         try:
             if damage:
                 raise damage
-            record = layout.step_record(numbering.step(session.mesh, session.source.step(session.mesh)))
+            record = layout.step_record(numbering.step(session.mesh, session.source.step(session.mesh)), widths)
         except Damage as found:
             say(f"renumber.py: step {number} does not read ({found.words}; cause {found.cause}): its bytes are written as they are")
         yield record

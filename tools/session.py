@@ -3,16 +3,24 @@
 import causes
 import command
 from command import Bad
-from layout import Damage, Source
-from sessiontext import Labels, Parser, TextError, item_bytes, text_words
+from layout import MESH_HEAD, WIDE, Damage, Source, beyond_limits, bits_of, counts_in, kind_of
+from sessiontext import Labels, Parser, TextError, packed, text_words
 
 
 def is_text(file):
-    """Does this input look like text? A packed session begins with a byte from 16 to 31, which no text begins with."""
+    """Does this input look like text? A packed session begins with a byte from 16 to 31, which no text begins with, or with one from 80
+    to 83: those are capital letters, but no text begins with a wide mesh's head."""
     head = file.peek(64)[:64]
     if head[:2] in (b"\xff\xfe", b"\xfe\xff"):
         return True
+    if is_wide_head(head[:MESH_HEAD // 8]):
+        return False
     return bool(head) and not any(byte < 32 and byte not in b"\t\n\r\f" for byte in head)
+
+
+def is_wide_head(head):
+    """The head of a wide mesh whose counts the run takes; a third letter would be too many faces."""
+    return len(head) == MESH_HEAD // 8 and kind_of(head) == WIDE.mesh and not beyond_limits(*counts_in(bits_of(head)), causes.LIMITS)
 
 
 class Stream:
@@ -43,7 +51,7 @@ class Session:
         self.source = Source(file)
         self.mesh = self.accepted("mesh", lambda: self.source.mesh(causes.LIMITS), causes.mesh_refusal)
         self.mesh_record = self.source.record
-        self.masses = self.accepted("field", lambda: self.source.field(len(self.mesh.volumes)),
+        self.masses = self.accepted("field", lambda: self.source.field_on(self.mesh),
                                     lambda masses: causes.field_refusal(self.mesh, masses))
         self.field_record = self.source.record
 
@@ -71,14 +79,12 @@ class Session:
 
 
 def record_by_record(parser, path):
-    """The records of a text."""
+    """The records of a text, all of which is read first: its last step may be the one that asks for wide records."""
     try:
-        for item in parser.items():
-            record = item_bytes(item)
-            for _ in range(item.times):
-                yield record
+        found, _ = packed(parser)
     except TextError as error:
         raise Bad(text_words(path, error)) from None
+    return (record for record, times in found for _ in range(times))
 
 
 def open_session(path):

@@ -5,11 +5,12 @@ import re
 from collections import namedtuple
 
 from command import Bad, listed, named, shown
-from layout import (CELLS_BITS, END_BITS, FACES_BITS, MASS_BITS, MINUS_ZERO, OUTSIDE_BITS, REACH_BITS, RIM, SHARE_BITS, SIZE_BITS,
-                    VOLUME_BITS, Face, Step, field_record, mesh_of, mesh_record, most, step_record)
+from layout import (CELLS_BITS, END_BITS, FACES_BITS, MINUS_ZERO, NARROW, OUTSIDE_BITS, RIM, SHARE_BITS, WIDE, Face, Step, bits_of,
+                    bits_of_flux, field_record, masses_in, mesh_of, mesh_record, most, step_of, step_record)
 
 MOST_TIMES = 1_000_000          # of "step times"
 MOST_LINE = 1 << 20             # bytes in a line of text
+MOST_VALUE, MOST_MASS = most(WIDE.value), most(WIDE.mass)       # of a volume, reach or size of a flux; of a mass or release
 FORMER = {"boundary": "rim", "weight": "share", "span": "reach"}        # words that the format once took
 UNITS = ("volume", "mass", "step")
 
@@ -24,7 +25,8 @@ def face_line(number, face):
 
 
 def mesh_text(mesh):
-    return "".join(["mesh\n"] + [f"cell {number} volume {volume}\n" for number, volume in enumerate(mesh.volumes)]
+    head = "mesh wide\n" if mesh.widths == WIDE else "mesh\n"
+    return "".join([head] + [f"cell {number} volume {volume}\n" for number, volume in enumerate(mesh.volumes)]
                    + [face_line(number, face) + "\n" for number, face in enumerate(mesh.faces)])
 
 
@@ -135,7 +137,7 @@ class Labels:
 
 
 # A line of a step as it nearly always looks; every other goes word by word.
-FLUX_LINE = re.compile(rb"[ \t]*face[ \t]+([0-9]{1,4})[ \t]+flux[ \t]+([-+]?[0-9]{1,4})(?:[ \t]+outside[ \t]+([0-9]{1,7}))?[ \t]*\r?\n?")
+FLUX_LINE = re.compile(rb"[ \t]*face[ \t]+([0-9]{1,4})[ \t]+flux[ \t]+([-+]?[0-9]{1,5})(?:[ \t]+outside[ \t]+([0-9]{1,7}))?[ \t]*\r?\n?")
 
 Item = namedtuple("Item", "kind value times line lines")    # of a text: line where it begins, lines of its cells and faces
 
@@ -147,6 +149,7 @@ class Parser:
         self.file, self.number = file, 0
         self.labels, self.named = Labels(), []
         self.section, self.volumes, self.faces, self.mesh, self.has_field = None, None, None, None, False
+        self.widths = NARROW            # as the text says, whatever its values ask for
         self.values, self.outsides, self.releases, self.next, self.times, self.begun, self.lines = [], [], None, 0, 1, 0, {}
 
     def items(self):
@@ -180,7 +183,7 @@ class Parser:
             return False
         face, flux, outside = found.groups()
         face, size = int(face), int(flux)
-        if not self.next <= face < len(self.faces) or not -most(SIZE_BITS) <= size <= most(SIZE_BITS):
+        if not self.next <= face < len(self.faces) or not -MOST_VALUE <= size <= MOST_VALUE:
             return False
         if outside is not None:
             if self.faces[face].second != RIM or int(outside) > most(OUTSIDE_BITS):
@@ -214,6 +217,9 @@ class Parser:
             if self.volumes is not None:
                 raise line.error("a session has one mesh")
             self.volumes, self.faces = [], []
+            if line.more():
+                line.keyword("wide")
+                self.widths = WIDE
         elif self.volumes is None and section != "bytes":
             raise line.error(f"a {section} follows a mesh, and there is none above")
         elif section == "field":
@@ -242,7 +248,7 @@ class Parser:
         """The record that the lines were in is complete."""
         section, self.section = self.section, None
         if section == "mesh":
-            self.mesh = mesh_of(self.volumes, self.faces)
+            self.mesh = mesh_of(self.volumes, self.faces, self.widths)
             yield Item("mesh", self.mesh, 1, self.begun, self.lines)
         elif section == "field":
             yield Item("field", self.values, 1, self.begun, self.lines)
@@ -293,7 +299,7 @@ class Parser:
             raise line.error("the cells of a mesh stand before its faces")
         self.in_order(line, "cell", self.volumes, most(CELLS_BITS) - 1)
         line.keyword("volume")
-        self.volumes.append(line.number_of("a volume", most(VOLUME_BITS)))
+        self.volumes.append(line.number_of("a volume", MOST_VALUE))
 
     def mesh_face(self, line):
         self.in_order(line, "face", self.faces, most(FACES_BITS) - 1)
@@ -307,7 +313,7 @@ class Parser:
             line.keyword("share")
             share = line.number_of("a share", most(SHARE_BITS))
             line.keyword("reach")
-            reach = line.number_of("a reach", most(REACH_BITS))
+            reach = line.number_of("a reach", MOST_VALUE)
         self.faces.append(Face(first, second, share, reach))
 
     def in_mesh(self, line, what, rows):
@@ -324,16 +330,16 @@ class Parser:
         cell = self.in_mesh(line, "cell", self.volumes)
         self.lines[cell] = line.number
         line.keyword("mass")
-        self.values[cell] = line.number_of("a mass", most(MASS_BITS))
+        self.values[cell] = line.number_of("a mass", MOST_MASS)
 
     def step_cell(self, line):
-        """A release: the step is of kind 4 then."""
+        """A release: the step is of the kind with releases then."""
         if self.releases is None:
             self.releases, self.next = [0] * len(self.volumes), 0
         cell = self.in_mesh(line, "cell", self.volumes)
         self.lines["cell", cell] = line.number
         line.keyword("release")
-        self.releases[cell] = line.number_of("a release", most(MASS_BITS))
+        self.releases[cell] = line.number_of("a release", MOST_MASS)
 
     def step_face(self, line):
         if self.releases is not None:
@@ -342,7 +348,7 @@ class Parser:
         self.lines[face] = line.number
         line.keyword("flux")
         found = line.word("a flux")
-        size = line.number_in(found, "the size of a flux", most(SIZE_BITS), "a flux")
+        size = line.number_in(found, "the size of a flux", MOST_VALUE, "a flux")
         self.values[face] = size if found[0] != "-" else -size if size else MINUS_ZERO
         if line.more():
             line.keyword("outside")
@@ -351,22 +357,61 @@ class Parser:
             self.outsides[face] = line.number_of("an outside value", most(OUTSIDE_BITS))
 
 
-def item_bytes(item):
-    """The bytes of one item of a text."""
+# ---------------------------------------------------------------- To records
+
+def has_room(item, widths):
+    """Do records of this width hold the values of an item?"""
+    value = item.value
     if item.kind == "mesh":
-        return mesh_record(item.value)
+        return max([*value.volumes, *(face.reach for face in value.faces)], default=0) <= most(widths.value)
     if item.kind == "field":
-        return field_record(item.value)
-    return step_record(item.value) if item.kind == "step" else item.value
+        return max(value, default=0) <= most(widths.mass)
+    return item.kind == "bytes" or bits_of_flux(widths).keys() >= set(value.fluxes) and max(value.releases or [0]) <= most(widths.mass)
 
 
-def packed(parser, field=None):
-    """The records of a text with how often each comes, its field record perhaps another's; and what the session lacks."""
-    found = [(item_bytes(item) if item.kind != "field" or field is None else field, item.times) for item in parser.items()]
-    if not found:
+class Packer:
+    """The records of a text with how often each comes: narrow, unless the text says wide or a value asks for it, wherever it stands."""
+
+    def __init__(self):
+        self.mesh, self.widths, self.records = None, NARROW, []         # each record with its kind of item
+
+    def take(self, item):
+        if item.kind == "mesh":
+            self.mesh, self.widths = item.value, item.value.widths
+        if not has_room(item, self.widths):
+            self.widen()
+        self.records.append((item.kind, self.record(item.kind, item.value), item.times))
+
+    def record(self, kind, value):
+        if kind == "mesh":
+            return mesh_record(value._replace(widths=self.widths))
+        if kind == "field":
+            return field_record(value, self.widths)
+        return step_record(value, self.widths) if kind == "step" else value
+
+    def widen(self):
+        """The records so far once more, as wide ones."""
+        narrow, self.widths = self.records, WIDE
+        self.records = [(kind, self.record(kind, self.value(kind, record)), times) for kind, record, times in narrow]
+
+    def value(self, kind, record):
+        """What a narrow record says."""
+        if kind == "field":
+            return masses_in(record)
+        if kind == "step":
+            return step_of(bits_of(record), self.mesh)
+        return self.mesh if kind == "mesh" else record
+
+
+def packed(parser, masses=None):
+    """The records of a text with how often each comes, its field perhaps of other masses; and what the session lacks."""
+    packer = Packer()
+    for item in parser.items():
+        packer.take(item if item.kind != "field" or masses is None else item._replace(value=masses))
+    if not packer.records:
         raise Bad("there is no mesh in this text, nor anything else to pack")
     lacks = "" if parser.has_field or parser.volumes is None else "no field: the run refuses such a session"
-    return found, lacks
+    return [(record, times) for _, record, times in packer.records], lacks
 
 
 def pack(text):

@@ -11,7 +11,7 @@ import causes
 import command
 import points
 from command import Bad, count, shown
-from layout import MASS_BITS, RIM, Face, mesh_of, most
+from layout import NARROW, RIM, Face, mesh_of, most
 from sessiontext import face_line
 
 HELP = """\
@@ -25,18 +25,20 @@ Both tables are CSV with a heading; other columns are not read.
 
 Cells and faces are numbered in the order of their rows. What is written is text for tools/records.py, without steps:
 
-  V      volume divided by the unit of volume, to the nearest whole number, 1 to 4,095
+  V      volume divided by the unit of volume, to the nearest whole number, 1 to 65,535
   share  256 times way divided by distance, 1 to 255; from coordinates by document 02's S-7, as the engine does it
-  reach  area times distance divided by the unit of volume, 1 to 4,095
+  reach  area times distance divided by the unit of volume, 1 to 65,535
   mass   V times the salt in units of salt; so q is the salt that was measured, in those units
 
-The unit of volume, unless given, is the least of 1, 2, 5, 10, 20, .. cubic metres with which every V and reach fits. The
-unit of salt is 1 gram per cubic metre unless given (0.1 makes q ten times finer; the greatest q is 1,000,000). The unit
-of mass is their product. The report says what rounding changed, and the factors that tools/fluxes.py needs.
+The unit of volume, unless given, is the least of 1, 2, 5, 10, 20, .. cubic metres with which every V and reach is at most
+4,095, so that records of kinds 1 to 4 hold them; with --wide at most 65,535, which takes records of kinds 5 to 8. The unit
+of salt is 1 gram per cubic metre unless given (0.1 makes q ten times finer; the greatest q is 1,000,000). The unit of mass
+is their product. The report says what rounding changed, and the factors that tools/fluxes.py needs.
 
 examples:
   tools/survey.py examples/bay-cells.csv examples/bay-faces.csv -o bay.txt
   tools/survey.py cells.csv faces.csv --volume-unit 250 --salt-unit 0.1 -o lagoon.txt
+  tools/survey.py cells.csv faces.csv --wide -o lagoon.txt
 """
 
 LARGEST_UNIT = 10 ** 12
@@ -133,11 +135,11 @@ class Survey:
         return self.names.index(name)
 
 
-def chosen_unit(survey):
-    """The least round unit of volume with which every volume and reach fits."""
+def chosen_unit(survey, ceiling):
+    """The least round unit of volume with which no volume or reach is above the ceiling."""
     largest = max(survey.volumes + [face[4] for face in survey.faces])
     unit = 1
-    while largest / unit > causes.MOST_VOLUME:
+    while largest / unit > ceiling:
         unit = unit * 5 // 2 if str(unit)[0] == "2" else unit * 2
     return unit
 
@@ -157,7 +159,7 @@ class Lagoon:
         self.mesh = mesh_of(volumes, faces)
         self.masses = [round(volume * salt / salt_unit) for volume, salt in zip(volumes, survey.salts)]
         for name, salt, mass, volume in zip(survey.names, survey.salts, self.masses, volumes):
-            if mass // volume > causes.TOP or mass > most(MASS_BITS):
+            if mass // volume > causes.TOP:
                 raise Bad(f"cell {shown(name)}: salt {salt:g} is a concentration above {causes.TOP:,}: take a larger unit of salt")
         refusal = causes.mesh_refusal(self.mesh)
         if refusal:
@@ -206,6 +208,7 @@ def arguments():
     parser.add_argument("faces", help="the table of the faces, CSV")
     parser.add_argument("-o", "--output", default="-", help="the text to write (default: standard output)")
     parser.add_argument("--volume-unit", type=amount, metavar="M3", help="the unit of volume in cubic metres (default: the least round one that fits)")
+    parser.add_argument("--wide", action="store_true", help="choose the unit of volume for cells up to 65,535, not 4,095")
     parser.add_argument("--salt-unit", type=amount, default=1, metavar="G", help="the unit of concentration in grams per cubic metre (default: 1)")
     return parser.parse_args()
 
@@ -216,7 +219,8 @@ def main():
     if options.cells == options.faces == "-":
         raise Bad("only one of the two can be standard input")
     survey = Survey(Rows(options.cells, ("cell", "volume", "salt")), Rows(options.faces, ("face", "from", "to", "area"), (("way", "distance"), points.COLUMNS)))
-    lagoon = Lagoon(survey, options.volume_unit or chosen_unit(survey), options.salt_unit)
+    ceiling = causes.MOST_VOLUME if options.wide else most(NARROW.value)
+    lagoon = Lagoon(survey, options.volume_unit or chosen_unit(survey, ceiling), options.salt_unit)
     command.write_whole(options.output, lagoon.text().encode())
     command.say("\n".join(lagoon.report()))
     return 0

@@ -18,7 +18,7 @@ import sessiontext
 HELP = """\
 The page holds blocks between lines <!-- worked: NAME --> and <!-- end -->. Every number is worked out here by its
 formula and has to be the one of reference/lagoon.py; the bytes are packed from examples/channel.txt,
-examples/second.txt and examples/outfall.txt.
+examples/second.txt, examples/outfall.txt and examples/bay-wide.txt.
 
 examples:
   tools/worked.py                               prints all blocks
@@ -31,10 +31,12 @@ YEAR = 24 * 365
 PLAIN_STEPS = 8         # of the channel, in the table of plain upwind's error
 BLOCK = re.compile(r"(<!-- worked: (\S+) -->\n).*?(<!-- end -->)", re.DOTALL)
 SMALL = 14              # numbers up to here name stages, causes and positions
+WORD_BITS = 64          # of a number of the program
+WIDEST_LINE = 76        # columns of a fenced block that an A4 page holds
 
 # Numbers of the papers that the page's prose may say.
-CONSTANTS = {lagoon.RIM, lagoon.TOP, *lagoon.LIBRARY_LIMITS, *lagoon.RUN_LIMITS, 255, 256, 128, layout.MASS_BITS,
-             lagoon.PAGE_CELLS, 17, 18}
+CONSTANTS = {lagoon.RIM, lagoon.TOP, *lagoon.LIBRARY_LIMITS, *lagoon.RUN_LIMITS, 255, 256, 128, lagoon.PAGE_CELLS, 17, 18, 19, lagoon.CEILING,
+             layout.WIDE.value, *lagoon.MASS_BITS, WORD_BITS}
 
 
 def same(ours, reference):
@@ -49,23 +51,25 @@ class Session:
 
     def __init__(self, name):
         data, _ = sessiontext.pack((ROOT / "examples" / name).read_text())
-        cells, faces = int.from_bytes(data[:2], "big") % 4096, int.from_bytes(data[2:4], "big") // 8
-        mesh, field = layout.mesh_bytes(cells, faces), layout.field_bytes(cells)
+        cells, faces, self.wide = lagoon.mesh_head(data, lagoon.RUN_LIMITS)
+        self.widths = layout.WIDE if self.wide else layout.NARROW
+        mesh, field = layout.mesh_bytes(cells, faces, self.widths), layout.field_bytes(cells, self.widths)
         self.cells, self.faces = range(cells), range(faces)
         self.mesh = lagoon.accept_mesh(data[:mesh])
-        self.first = lagoon.accept_field(data[mesh:mesh + field], self.mesh)
+        self.first = lagoon.accept_field(data[mesh:mesh + field], self.mesh, self.wide)
         self.records, rest = [data[:mesh], data[mesh:mesh + field]], data[mesh + field:]
         while rest:
-            end = lagoon.step_ends(rest, self.mesh)
+            end = lagoon.step_ends(rest, self.mesh, self.wide)
             self.records.append(rest[:end])
             rest = rest[end:]
-        self.kind, self.fluxes, self.outsides, self.releases = lagoon.read_step(self.records[2], cells, faces, self.mesh.seconds)
+        kind, self.fluxes, self.outsides, self.releases = lagoon.read_step(self.records[2], cells, faces, self.mesh.seconds, wide=self.wide)
+        self.outfalls = kind == self.widths.outfalls
 
     def printed(self):
         return lagoon.run(b"".join(self.records)).splitlines()
 
 
-CHANNEL, SECOND, OUTFALL = Session("channel.txt"), Session("second.txt"), Session("outfall.txt")
+CHANNEL, SECOND, OUTFALL, BAY = Session("channel.txt"), Session("second.txt"), Session("outfall.txt"), Session("bay-wide.txt")
 
 
 def columns(rows):
@@ -88,21 +92,27 @@ def factor(number):
     return f"({signed(number)})" if number < 0 else str(number)
 
 
+def broken(words, more, indent=0):
+    """One line, or two where a printed page does not hold it."""
+    return [words + more] if len(words + more) <= WIDEST_LINE else [words.rstrip("; "), " " * indent + more]
+
+
 # ---------------------------------------------------------------- Bytes
 
 def layouts():
+    return table([("record", "head", "body"), *layout_rows(layout.NARROW, ""), *layout_rows(layout.WIDE, "wide ")])
+
+
+def layout_rows(widths, name):
     head = f"kind {{}} ({layout.KIND_BITS}), {{}}"
     cells, faces = f"cells ({layout.CELLS_BITS})", f"faces ({layout.FACES_BITS})"
-    end, mass = layout.END_BITS, layout.MASS_BITS
-    rows = [("record", "head", "body"),
-            ("mesh", head.format(layout.MESH, f"{cells}, {faces}, zeros ({layout.MESH_ZEROS})"),
-             f"per cell V ({layout.VOLUME_BITS}); then per face first ({end}), second ({end}), s ({layout.SHARE_BITS}), K ({layout.REACH_BITS})"),
-            ("field", head.format(layout.FIELD, cells), f"per cell m ({mass})"),
-            ("step", head.format(layout.STEP, f"{faces}, zeros ({layout.STEP_ZEROS})"),
-             f"per face sign (1) and size of U ({layout.SIZE_BITS}); then per rim face outside value ({layout.OUTSIDE_BITS})"),
-            ("step with releases", head.format(layout.OUTFALLS, f"{faces}, zeros ({layout.STEP_ZEROS})"),
-             f"as of kind {layout.STEP}; then per cell release ({mass})")]
-    return table(rows)
+    end, step = layout.END_BITS, f"{faces}, zeros ({layout.STEP_ZEROS})"
+    return [(f"{name}mesh", head.format(widths.mesh, f"{cells}, {faces}, zeros ({layout.MESH_ZEROS})"),
+             f"per cell V ({widths.value}); then per face first ({end}), second ({end}), s ({layout.SHARE_BITS}), K ({widths.value})"),
+            (f"{name}field", head.format(widths.field, cells), f"per cell m ({widths.mass})"),
+            (f"{name}step", head.format(widths.step, step),
+             f"per face sign (1) and size of U ({widths.value}); then per rim face outside value ({layout.OUTSIDE_BITS})"),
+            (f"{name}step with releases", head.format(widths.outfalls, step), f"as of kind {widths.step}; then per cell release ({widths.mass})")]
 
 
 def table(rows):
@@ -149,19 +159,19 @@ def mesh_bits():
     return by_bits(CHANNEL.records[0], fields)
 
 
-def field_and_step_bits():
-    field = [("kind: field", 4), ("cells", 12)] + [(f"m of cell {c}", 32) for c in CHANNEL.cells]
-    return by_bits(CHANNEL.records[1], field) + [""] + step_bits(CHANNEL, "step")
+def field_and_step_bits(session, name=""):
+    field = [(f"kind: {name}field", 4), ("cells", 12)] + [(f"m of cell {c}", session.widths.mass) for c in session.cells]
+    return by_bits(session.records[1], field) + [""] + step_bits(session, f"{name}step")
 
 
 def step_bits(session, name):
     """The first step record of a session, field by field."""
     step = [(f"kind: {name}", 4), ("faces", 13), ("zeros", 15)]
     for f in session.faces:
-        step += [(f"face {f}: sign of U, 1 is minus", 1), (f"face {f}: size of U", 12)]
+        step += [(f"face {f}: sign of U, 1 is minus", 1), (f"face {f}: size of U", session.widths.value)]
     step += [(f"face {f}: outside value", 20) for f in session.faces if session.mesh.seconds[f] == lagoon.RIM]
-    if session.kind == lagoon.OUTFALLS:
-        step += [(f"release of cell {c}", 32) for c in session.cells]
+    if session.outfalls:
+        step += [(f"release of cell {c}", session.widths.mass) for c in session.cells]
     return by_bits(session.records[2], step)
 
 
@@ -282,7 +292,7 @@ class Step:
 
     def raising(self):
         """The stage that a step of kind 4 has before the others."""
-        if self.session.kind != lagoon.OUTFALLS:
+        if not self.session.outfalls:
             return []
         rows = [("cell", "raised m = m + release")] + [(c, f"{self.lent[c]} + {self.releases[c]} = {self.m[c]}") for c in self.cells]
         return [["Releases", *columns(rows)]]
@@ -351,8 +361,8 @@ class Step:
                 receiver, giver, gets, gives, limited = self.limited_of(f)
                 a = abs(self.kept[f])
                 lines += [f"face {f}: a = {a}, from cell {giver} to cell {receiver}",
-                          f"        cell {receiver} has {self.portion('P', self.P, 'G', self.G, receiver, a, gets)}",
-                          f"        cell {giver} has {self.portion('N', self.N, 'L', self.L, giver, a, gives)}",
+                          *broken(f"        cell {receiver} has ", self.portion('P', self.P, 'G', self.G, receiver, a, gets), 10),
+                          *broken(f"        cell {giver} has ", self.portion('N', self.N, 'L', self.L, giver, a, gives), 10),
                           f"        limited correction {signed(limited)}, of the lesser size"]
             elif not self.at_rim(f):
                 lines.append(f"face {f}: limited correction 0, as nothing is kept")
@@ -377,8 +387,8 @@ class Step:
                   for c in self.cells]
         before, total = sum(self.lent), same(sum(after), sum(self.lent) + self.entered + self.released - self.gone)
         crossed, sums = f"in-mass {self.entered}, out-mass {self.gone}", f"total {before} + {self.entered} − {self.gone} = {total}"
-        budget = [f"{crossed}; {sums}"]
-        if self.session.kind == lagoon.OUTFALLS:
+        budget = broken(f"{crossed}; ", sums)
+        if self.session.outfalls:
             budget = [f"{crossed}, released mass {self.released}", f"total {before} + {self.entered} + {self.released} − {self.gone} = {total}"]
         return [*columns(cells), *budget]
 
@@ -387,7 +397,49 @@ STEP_1 = Step(CHANNEL, CHANNEL.first)
 STEP_2 = Step(CHANNEL, STEP_1.next)
 SECOND_STEP = Step(SECOND, SECOND.first)
 OUTFALL_STEP = Step(OUTFALL, OUTFALL.first)
+BAY_STEP = Step(BAY, BAY.first)
 PLAIN_2 = Step(CHANNEL, STEP_1.low)         # after one plain step
+
+
+# ---------------------------------------------------------------- A product of more than twenty digits
+
+def largest_portion():
+    """a, G and P of the largest product that stage 4 of the bay's step divides."""
+    found = []
+    for f in BAY.faces:
+        if BAY_STEP.kept[f]:
+            receiver = BAY_STEP.limited_of(f)[0]
+            a, G, P = abs(BAY_STEP.kept[f]), BAY_STEP.G[receiver], BAY_STEP.P[receiver]
+            found += [(a * G, a, G, P)] * (P > G)
+    product, *factors = max(found)
+    same((len(str(product)) > 20, product >= 1 << WORD_BITS), (True, True))
+    return factors
+
+
+def in_parts():
+    """The product, with G taken apart at its fifth digit from the right."""
+    a, G, _ = largest_portion()
+    high, low = divmod(G, 10 ** 5)
+    whole = same(a * high * 10 ** 5 + a * low, a * G)
+    return [f"G = {G} = {high} · 100000 + {low}", f"{a} · {high} = {a * high}", f"{a} · {low} = {a * low}",
+            f"a · G = {a * high}00000 + {a * low} = {whole}"]
+
+
+def long_division():
+    """The product divided by P, one digit of the quotient after another."""
+    a, G, P = largest_portion()
+    product = str(a * G)
+    taken = next(digits for digits in range(1, len(product) + 1) if int(product[:digits]) >= P)
+    rows, left, quotient = [("divided", "digit", "digit · P", "left")], int(product[:taken - 1]), ""
+    for digit in product[taken - 1:]:
+        divided = 10 * left + int(digit)
+        goes, left = divmod(divided, P)
+        quotient += str(goes)
+        rows.append((divided, goes, goes * P, left))
+    same((int(quotient), left), divmod(a * G, P))
+    return [f"{product} divided by {P}", "", *columns(rows), "",
+            f"the quotient is {quotient}; the last {left} is dropped",
+            f"check: {quotient} · {P} + {left} = {same(int(quotient) * P + left, a * G)}"]
 
 
 # ---------------------------------------------------------------- Plain upwind and its error
@@ -471,14 +523,14 @@ def year():
 
 def largest_numerator():
     """The largest size of U·d·(t·K − 128·|U|), over all t and |U| at the largest K and d."""
-    K = lagoon.RIM
+    K = lagoon.CEILING
     return max(U * lagoon.TOP * abs(t * K - 128 * U) for t in (1, 255) for U in range(1, K + 1))
 
 
 def widest():
     """The largest products that a step can ask for."""
-    U = lagoon.RIM
-    most_mass = (lagoon.TOP + 1) * lagoon.RIM - 1
+    U = lagoon.CEILING
+    most_mass = (lagoon.TOP + 1) * lagoon.CEILING - 1
     rows = [("product", "never above", "digits")]
     for name, value in (("stage 1, U · q", U * lagoon.TOP), ("stage 2, U·d·(t·K − 128·|U|)", largest_numerator()),
                         ("stage 4, a · G and a · L", U * lagoon.TOP * most_mass), ("a cell's mass, V·q + rest", most_mass)):
@@ -508,23 +560,23 @@ def form():
                "in-mass ________  released ________  out-mass ________", "total before ________  after ________"])
 
 
-def binder_page():
-    """The channel's field after its steps as a page for the binder."""
-    return "".join(lagoon.page_lines(CHANNEL.mesh.volumes, STEP_2.next, 0)).splitlines()
+def binder_page(session, masses):
+    """A field as a page for the binder."""
+    return "".join(lagoon.page_lines(session.mesh.volumes, masses, 0)).splitlines()
 
 
-def page_back():
+def page_back(session, masses):
     """The same page read back, line by line."""
-    *lines, last = binder_page()
-    masses, rows = [], ["cell  m = q·V + rest"]
-    for line, volume, mass in zip(lines, CHANNEL.mesh.volumes, STEP_2.next):
+    *lines, last = binder_page(session, masses)
+    found, rows = [], ["cell  m = q·V + rest"]
+    for line, volume, mass in zip(lines, session.mesh.volumes, masses):
         cell, q, rest = map(int, line.split())
-        masses.append(same(q * volume + rest, mass))
-        rows.append(f"{cell:4}  {q} · {volume} + {rest} = {masses[-1]}")
-    return rows + [f"mass of the page: {' + '.join(map(str, masses))} = {same(sum(masses), int(last))}"]
+        found.append(same(q * volume + rest, mass))
+        rows.append(f"{cell:4}  {q} · {volume} + {rest} = {found[-1]}")
+    return rows + [f"mass of the page: {' + '.join(map(str, found))} = {same(sum(found), int(last))}"]
 
 
-BLOCKS = {"layouts": layouts, "bytes": the_bytes, "mesh-bits": lambda: fenced(mesh_bits()), "step-bits": lambda: fenced(field_and_step_bits()),
+BLOCKS = {"layouts": layouts, "bytes": the_bytes, "mesh-bits": lambda: fenced(mesh_bits()), "step-bits": lambda: fenced(field_and_step_bits(CHANNEL)),
           "step-1": lambda: fenced(STEP_1.lines()), "step-2": lambda: fenced(STEP_2.lines()), "printed": lambda: fenced(CHANNEL.printed()),
           "second-given": lambda: fenced(SECOND_STEP.given()), "second-step": lambda: fenced(SECOND_STEP.lines()),
           "second-printed": lambda: fenced(SECOND.printed()), "outfall-bits": lambda: fenced(step_bits(OUTFALL, "step with releases")),
@@ -532,8 +584,11 @@ BLOCKS = {"layouts": layouts, "bytes": the_bytes, "mesh-bits": lambda: fenced(me
           "plain-1": lambda: fenced(STEP_1.plain_lines()), "plain-2": lambda: fenced(PLAIN_2.plain_lines()),
           "plain-error": lambda: fenced(plain_error()), "plain-pair": lambda: fenced(plain_pair()),
           "year": lambda: fenced(year()), "widest": lambda: fenced(widest()),
-          "edition": edition, "form": lambda: fenced(form()), "page": lambda: fenced(binder_page()), "page-back": lambda: fenced(page_back())}
-WIDEST_LINE = 76        # columns of a fenced block that an A4 page holds
+          "edition": edition, "form": lambda: fenced(form()),
+          "page": lambda: fenced(binder_page(CHANNEL, STEP_2.next)), "page-back": lambda: fenced(page_back(CHANNEL, STEP_2.next)),
+          "wide-given": lambda: fenced(BAY_STEP.given()), "wide-bits": lambda: fenced(field_and_step_bits(BAY, "wide ")),
+          "wide-step": lambda: fenced(BAY_STEP.lines()), "wide-product": lambda: fenced(in_parts()), "wide-division": lambda: fenced(long_division()),
+          "wide-printed": lambda: fenced(BAY.printed()), "wide-page": lambda: fenced(binder_page(BAY, BAY_STEP.next))}
 
 
 # ---------------------------------------------------------------- The page

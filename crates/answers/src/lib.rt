@@ -6,6 +6,8 @@ use board::BoardAnswer;
 use board::Entry;
 use checks::TotalAnswer;
 use heads::LengthAnswer;
+use heads::MeshLengthAnswer;
+use heads::Width;
 use model::Answer;
 use model::Refusal;
 use page::PageAnswer;
@@ -65,21 +67,51 @@ pub fn length(said: LengthAnswer) {
     }
 }
 
-// Cells and faces.
+// The width that a script names: 1 for the wide kinds, or any other number for the narrow ones.
+pub fn width(named: usize) -> Width {
+    if named == 1 {
+        Width::Wide
+    } else {
+        Width::Narrow
+    }
+}
+
+fn width_number(width: Width) -> u64 {
+    match width {
+        Width::Narrow => 0,
+        Width::Wide => 1,
+    }
+}
+
+// The bytes and the width.
+pub fn mesh_length(said: MeshLengthAnswer) {
+    match said {
+        MeshLengthAnswer::Needs(length) => {
+            accepted_with(length.bytes as u64);
+            let width = length.width;
+            show::number(width_number(width));
+        }
+        MeshLengthAnswer::Refused(refusal) => refused(refusal),
+    }
+}
+
+// The counts and the width.
 pub fn mesh(said: MeshAnswer) {
     match said {
         MeshAnswer::Read(counts) => {
             accepted_with(counts.cells as u64);
             show::number(counts.faces as u64);
+            let width = counts.width;
+            show::number(width_number(width));
         }
         MeshAnswer::Refused(refusal) => refused(refusal),
     }
 }
 
 // The number of the kind.
-pub fn step_read(said: StepRead) {
+pub fn step_read(width: Width, said: StepRead) {
     match said {
-        StepRead::Read(kind) => accepted_with(heads::kind_number(kind)),
+        StepRead::Read(kind) => accepted_with(heads::kind_number(width, kind)),
         StepRead::Refused(refusal) => refused(refusal),
     }
 }

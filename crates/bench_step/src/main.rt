@@ -1,4 +1,5 @@
-// The lagoon of bench/yardstick.c, stepped by the engine. Arguments and the printed line are the yardstick's.
+// The lagoon of bench/yardstick.c, stepped by the engine. Arguments and the printed line are the yardstick's; a fourth argument chooses
+// the lagoon for which that is compiled with LARGE.
 mod text;
 
 use model::MAX_CELLS;
@@ -148,7 +149,7 @@ fn repeat(
 }
 
 // The lagoon made and stepped.
-fn run(cells: usize, width: u64, height: u64, rounds: u64)
+fn run(large: bool, cells: usize, width: u64, height: u64, rounds: u64)
     requires { ⌜ (cells ≤ maxCells) × (1 ≤ width) × (width ≤ maxCells) × (rounds ≤ maxArgument) ⌝ }
 {
     let mut volumes = [0u64; MAX_CELLS];
@@ -160,8 +161,9 @@ fn run(cells: usize, width: u64, height: u64, rounds: u64)
     let mut fluxes = [0i64; MAX_FACES];
     let mut outsides = [0u64; MAX_FACES];
     let releases = [0u64; MAX_CELLS];
-    grid::make_cells(cells, width, &mut volumes, &mut field);
+    grid::make_cells(large, cells, width, &mut volumes, &mut field);
     grid::make_faces(
+        large,
         2 * cells,
         width,
         height,
@@ -188,7 +190,7 @@ fn run(cells: usize, width: u64, height: u64, rounds: u64)
     );
 }
 
-// WIDTH, HEIGHT and ROUNDS; a grid beyond the limits prints nothing.
+// WIDTH, HEIGHT and ROUNDS, then 1 for the lagoon of large cells; a grid beyond the limits prints nothing.
 fn main() {
     let width = text::argument(1);
     let height = text::argument(2);
@@ -206,5 +208,6 @@ fn main() {
     if cells > SIDE {
         return;
     }
-    run(cells as usize, width, height, rounds);
+    let large = text::argument(4) == 1;
+    run(large, cells as usize, width, height, rounds);
 }

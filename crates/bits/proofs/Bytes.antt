@@ -16,12 +16,6 @@ unfolding touched
 touched-is b zero l = absurd (omega arith)
 touched-is b (suc w) l = omega arith
 
--- the widest field, 40 bits, touches at most six
-pub touched-most : (b w : ℕ) → w ≤ 40 → touched b w ≤ 6
-unfolding touched
-touched-most b zero l = omega arith
-touched-most b (suc w) l = omega arith
-
 -- a reader's turn: k bytes from byte j on are read as one number, and the next one joins it
 pub bits-more : (bs : List ℕ) (j k : ℕ) {v x : ℕ} → getD bs (j + k) 0 < 256 → v ≡ bitsAt bs (j * 8) (k * 8) → x ≡ getD bs (j + k) 0 → 256 * v + x ≡ bitsAt bs (j * 8) ((k + 1) * 8)
 bits-more bs j k {v} {x} small e f =
@@ -30,9 +24,9 @@ bits-more bs j k {v} {x} small e f =
     let b : bitsAt bs (j * 8 + k * 8) 8 ≡ x = ap (λ (i : ℕ). bitsAt bs i 8) q ∙ byte-bits bs (j + k) small ∙ sym f in
     rw (p, bits-split bs (j * 8) (k * 8) 8, b, ← e) (omega arith)
 
--- before a turn at most five are read
-pub bits-room : (bs : List ℕ) (at w k : ℕ) {v : ℕ} → w ≤ 40 → k < touched at w → v ≡ bitsAt bs (at / 8 * 8) (k * 8) → v < 2 ^ 40
-bits-room bs at w k l m e = rw e (bits-fit bs (at / 8 * 8) {k = k * 8} {w = 40} (omega (arith, touched-most at w l)))
+-- before the last of eight turns seven are read at most
+pub joined-room : (bs : List ℕ) (j k : ℕ) {v : ℕ} → k < 8 → v ≡ bitsAt bs (j * 8) (k * 8) → v < 2 ^ 56
+joined-room bs j k l e = rw e (bits-fit bs (j * 8) {k = k * 8} {w = 56} (omega arith))
 
 -- a field within a wider one, which has a bits above it and s below it
 pub bits-within : (bs : List ℕ) (p a w s : ℕ) → bitsAt bs p (a + w + s) / 2 ^ s % 2 ^ w ≡ bitsAt bs (p + a) w
@@ -41,11 +35,10 @@ bits-within bs p a w s =
     ∙ ap (λ (x : ℕ). x % 2 ^ w) (high (bitsAt bs p (a + w)) s (bits-lt bs (p + (a + w)) s) ∙ bits-split bs p a w)
     ∙ low (bitsAt bs p a) w (bits-lt bs (p + a) w)
 
--- a reader's end: all bytes that the field touches are read
-pub bits-touched : (bs : List ℕ) (at w n : ℕ) {v : ℕ} → n ≡ touched at w → at % 8 + w ≤ 8 * n → v ≡ bitsAt bs (at / 8 * 8) (touched at w * 8)
-    → v / 2 ^ (8 * n - (at % 8 + w)) % 2 ^ w ≡ bitsAt bs at w
-bits-touched bs at w n e l f =
+-- a reader's end: n bytes are read, among them all that the field touches
+pub bits-touched : (bs : List ℕ) (at w n : ℕ) {v : ℕ} → at % 8 + w ≤ 8 * n → v ≡ bitsAt bs (at / 8 * 8) (n * 8) → v / 2 ^ (8 * n - (at % 8 + w)) % 2 ^ w ≡ bitsAt bs at w
+bits-touched bs at w n l f =
     let s : ℕ = 8 * n - (at % 8 + w) in
-    let p : touched at w * 8 ≡ at % 8 + w + s = omega arith in
+    let p : n * 8 ≡ at % 8 + w + s = omega arith in
     let q : at / 8 * 8 + at % 8 ≡ at = omega arith in
     rw (f, p, bits-within bs (at / 8 * 8) (at % 8) w s, q)

@@ -80,6 +80,11 @@ module _ (x e k v : ℕ) (small : v < 2 ^ k) where
       ∙ ap (λ (n : ℕ). n / 2 ^ t % 2) (ap (λ (n : ℕ). n % 2 ^ e) regroup ∙ low _ e (mod-lt x (pow-pos e)))
       ∙ sym (low-bit x e t l)
 
+-- a whole byte is what is put into it
+pub mixed-whole : (x e k v : ℕ) → x < 256 → k ≡ 8 → k + e ≤ 8 → mixed x e k v ≡ v
+unfolding mixed
+mixed-whole x e k v l h m = let z : e ≡ 0 = omega arith in rw (h, z) (omega arith)
+
 -- a field within one byte, written
 pub put-byte : (bs : List ℕ) (p k v : ℕ) → p / 8 < length bs → p % 8 + k ≤ 8 → v < 2 ^ k → Put bs p k v (set bs (p / 8) (mixed (getD bs (p / 8) 0) (8 - p % 8 - k) k v))
 unfolding bitAt

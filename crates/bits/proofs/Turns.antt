@@ -16,15 +16,27 @@ module _ (at w : ℕ) (few : w ≤ 40) where
   pub width-small : w < 64
   width-small = omega arith
 
+  pub bits-in-eight : at % 8 + w ≤ 64
+  bits-in-eight = omega arith
+
+  pub shift-small : 1 ≤ w → 64 - (at % 8 + w) < 64
+  shift-small l = omega arith
+
+  pub eight-small : at + w < 2 ^ 64 → at / 8 + 8 < 2 ^ 64
+  eight-small g = omega arith
+
   module _ {k : ℕ} (turn : k < (at % 8 + w + 7) / 8) where
     pub next-small : Fits w64 (k + 1)
     next-small = record { fits = omega arith }
 
-    pub byte-small : at + w < 2 ^ 64 → Fits w64 (at / 8 + k)
-    byte-small g = record { fits = omega arith }
+    pub byte-small : at + w < 2 ^ 64 → at / 8 + k < 2 ^ 64
+    byte-small g = omega arith
 
     pub byte-in : (n : ℕ) → at + w ≤ 8 * n → at / 8 + k < n
     byte-in n l = omega arith
+
+    pub turns-few : k < 8
+    turns-few = omega arith
 
 -- `done` bits of it are written, and n more are: up to the end of a byte, or all that are left
 module _ (at w done n : ℕ) (turn : done < w) (few : w ≤ 40) (e : n ≡ min (8 - (at + done) % 8) (w - done)) where

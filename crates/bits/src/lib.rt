@@ -37,7 +37,30 @@ fn pow2(k: usize) -> u64
     1u64 << k
 }
 
-// The field of width bits at a bit position: the bytes that it touches as one number, and the field's bits of it.
+// The k bytes from byte `first` on as one number, and the next one behind them.
+fn joined(src: &[u8], first: usize, k: usize, v: u64) -> u64
+    requires { ⌜ (first + k < length (now src)) × (first + k < 2 ^ 64) × (k < 8) × (v ≡ bitsAt (now src) (first * 8) (k * 8)) ⌝ }
+    ensures { λ r. ⌜ r ≡ bitsAt (now (src .entry)) (first * 8) ((k + 1) * 8) ⌝ }
+{
+    256 * v + wide(src[first + k])
+}
+
+// Eight bytes as one number: a processor reads them at once.
+fn eight(src: &[u8], first: usize) -> u64
+    requires { ⌜ (first + 8 ≤ length (now src)) × (first + 8 < 2 ^ 64) ⌝ }
+    ensures { λ r. ⌜ r ≡ bitsAt (now (src .entry)) (first * 8) 64 ⌝ }
+{
+    let one = joined(src, first, 0, 0);
+    let two = joined(src, first, 1, one);
+    let three = joined(src, first, 2, two);
+    let four = joined(src, first, 3, three);
+    let five = joined(src, first, 4, four);
+    let six = joined(src, first, 5, five);
+    let seven = joined(src, first, 6, six);
+    joined(src, first, 7, seven)
+}
+
+// The field of width bits at a bit position: eight bytes as one number and the field's bits of it; or, near the end, the bytes that it touches.
 pub fn read_bits(src: &[u8], at: usize, width: usize) -> u64
     requires { do ⌜ (at + width ≤ 8 * length (now src)) × (at + width < 2 ^ 64) × (width ≤ (← ⟦WIDEST⟧)) ⌝ }
     ensures { λ r. ⌜ r ≡ bitsAt (now (src .entry)) at width ⌝ }
@@ -47,11 +70,15 @@ pub fn read_bits(src: &[u8], at: usize, width: usize) -> u64
     }
     let first = at / 8;
     let bits = at % 8 + width;
+    if first + 8 <= src.len() {
+        let whole = eight(src, first) >> (64 - bits);
+        return whole % pow2(width);
+    }
     let bytes = (bits + 7) / 8;
     let mut v: u64 = 0;
     let mut k = 0;
     while k < bytes {
-        v = 256 * v + wide(src[first + k]);
+        v = joined(src, first, k, v);
         k += 1;
     }
     let field = v >> (8 * bytes - bits);
@@ -63,6 +90,9 @@ fn mix(x: u8, e: usize, k: usize, v: u64) -> u8
     requires { ⌜ (k + e ≤ 8) × (v < 2 ^ k) ⌝ }
     ensures { λ r. ⌜ r ≡ mixed x e k v ⌝ }
 {
+    if k == 8 {
+        return v as u8;
+    }
     let w = wide(x);
     let top = pow2(k + e);
     let m = pow2(e);

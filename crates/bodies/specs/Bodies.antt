@@ -11,9 +11,9 @@ use Rattle.sections.specs.Sections.{Section, shapeBits, valueIn, columnIn}
 use Rattle.heads.specs.Layouts.{faceBits, outsideBits, meshBody, stepBody}
 
 -- a mesh's body holds what its tables are to take
-pub record MeshRoom (cells faces : ℕ) (body : List ℕ) (volumes firsts seconds shares reaches : ℕ) : Type 0 where
-  pub small : 8 * length body + faceBits < 2 ^ 64
-  pub holds : shapeBits (meshBody cells faces) ≤ 8 * length body
+pub record MeshRoom (kind cells faces : ℕ) (body : List ℕ) (volumes firsts seconds shares reaches : ℕ) : Type 0 where
+  pub small : 8 * length body + faceBits kind < 2 ^ 64
+  pub holds : shapeBits (meshBody kind cells faces) ≤ 8 * length body
   pub volumes-long : cells ≤ volumes
   pub firsts-long : faces ≤ firsts
   pub seconds-long : faces ≤ seconds

@@ -1,5 +1,6 @@
 // The body of a record, read from the part of the record that begins at the head's end, into the counted entries of the tables.
 use heads::StepKind;
+use heads::Width;
 use heads::body::Body;
 use heads::lengths;
 use sections::count_marked;
@@ -11,10 +12,11 @@ ghost use Prim.Native.Nat.{_*_, _^_, _≤_, _<_};
 ghost use lib.ListN.{length};
 ghost use Rattle.lists.specs.Table.{over};
 ghost use Rattle.sections.specs.Sections.{shapeBits, columnIn};
-ghost use Rattle.heads.specs.Layouts.{kindNumber, meshBody, fieldBody, stepBody};
+ghost use Rattle.heads.specs.Layouts.{meshKind, fieldKind, kindNumber, meshBody, fieldBody, stepBody};
 ghost use Rattle.bodies.specs.Bodies.{MeshRoom, MeshFilled, StepRoom, StepFilled};
 
 pub fn mesh(
+    width: Width,
     cells: usize,
     faces: usize,
     body: &[u8],
@@ -24,31 +26,35 @@ pub fn mesh(
     shares: &mut [u64],
     reaches: &mut [u64],
 )
-    requires { ⌜ MeshRoom cells faces (now body) (length (now volumes)) (length (now firsts)) (length (now seconds)) (length (now shares)) (length (now reaches)) ⌝ }
-    ensures { λ _. ⌜ MeshFilled (now (body .entry)) (meshBody cells faces) 0
+    requires { ⌜ MeshRoom (meshKind width) cells faces (now body) (length (now volumes)) (length (now firsts)) (length (now seconds)) (length (now shares)) (length (now reaches)) ⌝ }
+    ensures { λ _. ⌜ MeshFilled (now (body .entry)) (meshBody (meshKind width) cells faces) 0
         (now (volumes .entry)) (now (firsts .entry)) (now (seconds .entry)) (now (shares .entry)) (now (reaches .entry))
         (now (volumes .exit)) (now (firsts .exit)) (now (seconds .exit)) (now (shares .exit)) (now (reaches .exit)) ⌝ }
 {
-    let first = Body::new(cells * Body::VOLUME);
+    let value = lengths::value_width(width);
+    let face = Body::ENDS_AND_SHARE + value;
+    let first = Body::new(cells * value);
     let second = first.past(Body::END);
     let share = second.past(Body::END);
     let reach = share.past(Body::SHARE);
-    read_column(body, 0, Body::VOLUME, Body::VOLUME, cells, volumes);
-    read_column(body, first.at, Body::FACE, Body::END, faces, firsts);
-    read_column(body, second.at, Body::FACE, Body::END, faces, seconds);
-    read_column(body, share.at, Body::FACE, Body::SHARE, faces, shares);
-    read_column(body, reach.at, Body::FACE, Body::REACH, faces, reaches);
+    read_column(body, 0, value, value, cells, volumes);
+    read_column(body, first.at, face, Body::END, faces, firsts);
+    read_column(body, second.at, face, Body::END, faces, seconds);
+    read_column(body, share.at, face, Body::SHARE, faces, shares);
+    read_column(body, reach.at, face, value, faces, reaches);
 }
 
-pub fn field(cells: usize, body: &[u8], masses: &mut [u64])
-    requires { ⌜ (8 * length (now body) < 2 ^ 64) × (shapeBits (fieldBody cells) ≤ 8 * length (now body)) × (cells ≤ length (now masses)) ⌝ }
-    ensures { λ _. ⌜ now (masses .exit) ≡ over (columnIn (now (body .entry)) (fieldBody cells) 0 0) (now (masses .entry)) ⌝ }
+pub fn field(width: Width, cells: usize, body: &[u8], masses: &mut [u64])
+    requires { ⌜ (8 * length (now body) < 2 ^ 64) × (shapeBits (fieldBody (fieldKind width) cells) ≤ 8 * length (now body)) × (cells ≤ length (now masses)) ⌝ }
+    ensures { λ _. ⌜ now (masses .exit) ≡ over (columnIn (now (body .entry)) (fieldBody (fieldKind width) cells) 0 0) (now (masses .entry)) ⌝ }
 {
-    read_column(body, 0, Body::MASS, Body::MASS, cells, masses);
+    let mass = lengths::mass_width(width);
+    read_column(body, 0, mass, mass, cells, masses);
 }
 
 // The fluxes of all faces, then the outside values, then the releases, which have no bits in the kind without outfalls and read 0 there.
 pub fn step(
+    width: Width,
     kind: StepKind,
     cells: usize,
     faces: usize,
@@ -58,15 +64,16 @@ pub fn step(
     outsides: &mut [u64],
     releases: &mut [u64],
 )
-    requires { ⌜ StepRoom (kindNumber kind) cells faces (now seconds) (now body) (length (now fluxes)) (length (now outsides)) (length (now releases)) ⌝ }
-    ensures { λ _. ⌜ StepFilled faces (now (body .entry)) (stepBody (kindNumber kind) cells faces (now (seconds .entry))) 0
+    requires { ⌜ StepRoom (kindNumber width kind) cells faces (now seconds) (now body) (length (now fluxes)) (length (now outsides)) (length (now releases)) ⌝ }
+    ensures { λ _. ⌜ StepFilled faces (now (body .entry)) (stepBody (kindNumber width kind) cells faces (now (seconds .entry))) 0
         (now (fluxes .entry)) (now (outsides .entry)) (now (releases .entry)) (now (fluxes .exit)) (now (outsides .exit)) (now (releases .exit)) ⌝ }
 {
-    let first = Body::new(faces * Body::FLUX);
+    let value = lengths::value_width(width);
+    let first = Body::new(faces * (Body::SIGN + value));
     let outside = count_marked(model::RIM, faces, seconds);
     let release = lengths::after_outsides(first.at, outside);
-    let width = lengths::release_width(kind);
-    read_signed(body, 0, Body::SIZE, faces, fluxes);
+    let bits = lengths::release_width(width, kind);
+    read_signed(body, 0, value, faces, fluxes);
     read_marked(
         body,
         first.at,
@@ -76,5 +83,5 @@ pub fn step(
         seconds,
         outsides,
     );
-    read_column(body, release, width, width, cells, releases);
+    read_column(body, release, bits, bits, cells, releases);
 }

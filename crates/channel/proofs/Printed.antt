@@ -11,7 +11,7 @@ use lib.Seq.{drop-append-seam}
 use Rattle.lists.specs.Fold.{sum, least, greatest}
 use Rattle.lists.specs.Table.{table, over}
 use Rattle.lists.proofs.Tables.{length-table}
-use Rattle.model.specs.Mesh.{Mesh, runCells, runFaces, entering, leaving, incoming, outgoing, updated, total}
+use Rattle.model.specs.Mesh.{Mesh, runCells, runFaces, entering, leaving, incoming, outgoing, updated, total, ceiling}
 use Rattle.model.specs.Step.{StepInput, portion, receiver, giver, limitedBy, rounded, beyond, upwind, downwind, carried, low, upwindShare, correction, smooths, keptBy, lowConcentration, kept, adjacent, lo, hi, maxGain}
 use Rattle.model.specs.Step.{maxLoss, limited, moved, next, inMass, outMass, raised, releasedMass}
 use Rattle.model.specs.Causes.{Outcome, accepted, Verdict, fine, Call, inputOf, workEntries, _andThen_, need, each, countsWithin, counts, meshTables, volumeGood, endsGood, spacingGood, meshValues}
@@ -20,10 +20,12 @@ use Rattle.model.proofs.Figures.{channel}
 use Rattle.bits.specs.Field.{bitAt, bitsAt}
 use Rattle.bits.specs.Layout.{bytesFor}
 use Rattle.sections.specs.Sections.{those}
-use Rattle.heads.specs.Layouts.{releaseBits, meshLength, fieldLength, stepLength}
+use Rattle.heads.specs.Layouts.{valueBits, massBits, releaseBits, meshLength, fieldLength, stepLength}
+use Rattle.heads.specs.declared.Width.{Width}
+use Rattle.heads.specs.declared.Width.the-variants.{Narrow}
 use Rattle.zeros.specs.Zeros.{zeroBitGood, minusZero}
 use Rattle.reading.specs.Reading.{meshIn, volumesIn, firstsIn, secondsIn, sharesIn, reachesIn, massesIn, fluxesIn, outsidesIn, releasesIn, meshBitGood, stepBitGood}
-use Rattle.heads.specs.Heads.{kindIn, meshHeadVerdict, fieldHeadVerdict, stepHeadVerdict, meshNeeds, fieldNeeds, stepNeeds}
+use Rattle.heads.specs.Heads.{kindIn, meshHeadVerdict, fieldHeadVerdict, stepHeadVerdict, meshMeasured, meshNeeds, fieldNeeds, stepNeeds}
 use Rattle.reading.specs.Reading.{meshBodyVerdict, fieldBodyVerdict, stepBodyVerdict, fieldRead}
 use Rattle.reading.specs.declared.MeshCounts.{MeshCounts}
 use Rattle.order.specs.Order.{rankedOf, fuller, asFull, comesBefore, insertInOrder, inOrder}
@@ -41,33 +43,33 @@ use Rattle.printed.specs.Run.{fieldPrinted, meshSaidOf, fromMesh, printed}
 
 -- an accepted mesh, an accepted field and an accepted step: what is printed after them
 from-mesh : (input bs rest text : List ℕ) (counts : MeshCounts) → meshAt input ≡ bs → following bs input ≡ rest → meshSaidOf bs ≡ accepted counts
-    → fieldPrinted (runMesh bs) rest ≡ text → printed input ≡ text
+    → fieldPrinted (counts .width) (runMesh bs) rest ≡ text → printed input ≡ text
 unfolding printed
 from-mesh input bs rest text counts a r s e =
     ap (λ (x : List ℕ). fromMesh (meshSaidOf x) (runMesh x) (following x input)) a ∙ ap (λ (x : List ℕ). fromMesh (meshSaidOf bs) (runMesh bs) x) r
     ∙ ap (λ (o : Outcome MeshCounts). fromMesh o (runMesh bs) rest) s ∙ e
 
-module _ (M : Mesh) where
-  from-field : (input bs rest text : List ℕ) (sum : ℕ) → fieldAt M input ≡ bs → following bs input ≡ rest → fieldSaid M bs ≡ accepted sum
-      → stepsPrinted M (length rest) 1 (inTable runCells (massesIn bs (M .cells))) rest ≡ text → fieldPrinted M input ≡ stepLine 0 0 0 sum 0 ++ text
+module _ (w : Width) (M : Mesh) where
+  from-field : (input bs rest text : List ℕ) (sum : ℕ) → fieldAt w M input ≡ bs → following bs input ≡ rest → fieldSaid w M bs ≡ accepted sum
+      → stepsPrinted w M (length rest) 1 (inTable runCells (massesIn bs (M .cells))) rest ≡ text → fieldPrinted w M input ≡ stepLine 0 0 0 sum 0 ++ text
   unfolding fieldPrinted
   from-field input bs rest text sum a r s e =
-      ap (λ (x : List ℕ). fromField M (fieldSaid M x) (inTable runCells (massesIn x (M .cells))) (following x input)) a
-      ∙ ap (λ (x : List ℕ). fromField M (fieldSaid M bs) (inTable runCells (massesIn bs (M .cells))) x) r
-      ∙ ap (λ (o : Outcome ℕ). fromField M o (inTable runCells (massesIn bs (M .cells))) rest) s ∙ ap (λ (x : List ℕ). stepLine 0 0 0 sum 0 ++ x) e
+      ap (λ (x : List ℕ). fromField w M (fieldSaid w M x) (inTable runCells (massesIn x (M .cells))) (following x input)) a
+      ∙ ap (λ (x : List ℕ). fromField w M (fieldSaid w M bs) (inTable runCells (massesIn bs (M .cells))) x) r
+      ∙ ap (λ (o : Outcome ℕ). fromField w M o (inTable runCells (massesIn bs (M .cells))) rest) s ∙ ap (λ (x : List ℕ). stepLine 0 0 0 sum 0 ++ x) e
 
-  from-step : (most step b : ℕ) (masses masses′ input bs rest text : List ℕ) (p : Printed) → stepAt M (b ∷ input) ≡ bs → following bs (b ∷ input) ≡ rest
-      → stepSaid M masses bs ≡ accepted p → fieldThen M masses bs ≡ masses′ → stepsPrinted M most (step + 1) masses′ rest ≡ text
-      → stepsPrinted M (suc most) step masses (b ∷ input) ≡ stepLine step (p .entered) (p .gone) (p .total) (p .released) ++ text
+  from-step : (most step b : ℕ) (masses masses′ input bs rest text : List ℕ) (p : Printed) → stepAt w M (b ∷ input) ≡ bs → following bs (b ∷ input) ≡ rest
+      → stepSaid w M masses bs ≡ accepted p → fieldThen w M masses bs ≡ masses′ → stepsPrinted w M most (step + 1) masses′ rest ≡ text
+      → stepsPrinted w M (suc most) step masses (b ∷ input) ≡ stepLine step (p .entered) (p .gone) (p .total) (p .released) ++ text
   unfolding stepsPrinted
   from-step most step b masses masses′ input bs rest text p a r s m e =
-      ap (λ (x : List ℕ). stepText step (stepSaid M masses x)
-      ++ cond (goesOnAfter (stepSaid M masses x)) (stepsPrinted M most (step + 1) (fieldThen M masses x) (following x (b ∷ input))) (boardPrinted M (fieldThen M masses x))) a
+      ap (λ (x : List ℕ). stepText step (stepSaid w M masses x)
+      ++ cond (goesOnAfter (stepSaid w M masses x)) (stepsPrinted w M most (step + 1) (fieldThen w M masses x) (following x (b ∷ input))) (boardPrinted M (fieldThen w M masses x))) a
       ∙ ap (λ (o : Outcome Printed). stepText step o ++ cond (goesOnAfter o)
-      (stepsPrinted M most (step + 1) (fieldThen M masses bs) (following bs (b ∷ input)))
-      (boardPrinted M (fieldThen M masses bs))) s
-      ∙ ap (λ (x : List ℕ). stepLine step (p .entered) (p .gone) (p .total) (p .released) ++ stepsPrinted M most (step + 1) x (following bs (b ∷ input))) m
-      ∙ ap (λ (x : List ℕ). stepLine step (p .entered) (p .gone) (p .total) (p .released) ++ stepsPrinted M most (step + 1) masses′ x) r
+      (stepsPrinted w M most (step + 1) (fieldThen w M masses bs) (following bs (b ∷ input)))
+      (boardPrinted M (fieldThen w M masses bs))) s
+      ∙ ap (λ (x : List ℕ). stepLine step (p .entered) (p .gone) (p .total) (p .released) ++ stepsPrinted w M most (step + 1) x (following bs (b ∷ input))) m
+      ∙ ap (λ (x : List ℕ). stepLine step (p .entered) (p .gone) (p .total) (p .released) ++ stepsPrinted w M most (step + 1) masses′ x) r
       ∙ ap (λ (x : List ℕ). stepLine step (p .entered) (p .gone) (p .total) (p .released) ++ x) e
 
 -- names for all that is computed through: to unfold one is to unfold what it names
@@ -93,7 +95,7 @@ unfolding stepTables raisedGood raisedValues outsideGood fluxGood balanceGood ou
 of-step-causes = tt
 
 of-bits : Unit {0}
-unfolding bitAt bitsAt bytesFor those releaseBits meshLength fieldLength stepLength
+unfolding bitAt bitsAt bytesFor those valueBits massBits releaseBits meshLength fieldLength stepLength
 of-bits = tt
 
 of-values : Unit {0}
@@ -101,7 +103,7 @@ unfolding volumesIn firstsIn secondsIn sharesIn reachesIn massesIn fluxesIn outs
 of-values = tt
 
 of-reading : Unit {0}
-unfolding meshHeadVerdict fieldHeadVerdict stepHeadVerdict meshNeeds fieldNeeds stepNeeds meshBodyVerdict fieldBodyVerdict stepBodyVerdict fieldRead
+unfolding meshHeadVerdict fieldHeadVerdict stepHeadVerdict meshMeasured meshNeeds fieldNeeds stepNeeds meshBodyVerdict fieldBodyVerdict stepBodyVerdict fieldRead
 of-reading = tt
 
 of-board : Unit {0}
@@ -164,7 +166,7 @@ mesh-is : meshIn channelMesh ≡ channel
 unfolding everything
 mesh-is = refl
 
-mesh-said : meshSaidOf channelMesh ≡ accepted (record { cells = 3; faces = 4 })
+mesh-said : meshSaidOf channelMesh ≡ accepted (record { cells = 3; faces = 4; width = Narrow })
 unfolding everything
 mesh-said = refl
 
@@ -172,7 +174,7 @@ mesh-front : meshAt channelInput ≡ channelMesh
 unfolding everything
 mesh-front = refl
 
-field-front : fieldAt M (channelField ++ (channelStep ++ channelStep)) ≡ channelField
+field-front : fieldAt Narrow M (channelField ++ (channelStep ++ channelStep)) ≡ channelField
 unfolding everything
 field-front = refl
 
@@ -180,7 +182,7 @@ field-is : massesIn channelField 3 ≡ 100000 ∷ 0 ∷ 0 ∷ []
 unfolding everything
 field-is = refl
 
-field-said : fieldSaid M channelField ≡ accepted 100000
+field-said : fieldSaid Narrow M channelField ≡ accepted 100000
 unfolding everything
 field-said = refl
 
@@ -188,11 +190,11 @@ field-said = refl
 abbrev stepHead : List ℕ
 stepHead = 48 ∷ 2 ∷ 0 ∷ 0 ∷ []
 
-step-head : stepHeadVerdict 3 4 (M .seconds) stepHead ≡ fine
+step-head : stepHeadVerdict Narrow 3 4 (M .seconds) stepHead ≡ fine
 unfolding of-causes of-bits of-reading
 step-head = rw seconds-long
 
-step-headed : stepHeadVerdict 3 4 (M .seconds) channelStep ≡ fine
+step-headed : stepHeadVerdict Narrow 3 4 (M .seconds) channelStep ≡ fine
 unfolding of-causes of-bits of-reading
 step-headed = rw seconds-long
 
@@ -204,16 +206,16 @@ step-length : stepLength 3 3 4 (M .seconds) ≡ 16
 unfolding everything
 step-length = refl
 
-step-needs : stepNeeds 3 4 (M .seconds) stepHead ≡ accepted 16
+step-needs : stepNeeds Narrow 3 4 (M .seconds) stepHead ≡ accepted 16
 unfolding stepNeeds _andThen_
 step-needs = rw (step-head, step-kind, step-length)
 
-step-front₁ : stepAt M (channelStep ++ channelStep) ≡ channelStep
-unfolding recordAt bytesFor meshLength
+step-front₁ : stepAt Narrow M (channelStep ++ channelStep) ≡ channelStep
+unfolding recordAt bytesFor valueBits massBits releaseBits
 step-front₁ = ap (λ (o : Outcome ℕ). take (4 + stillNeeded o 4) (channelStep ++ channelStep)) step-needs
 
-step-front₂ : stepAt M channelStep ≡ channelStep
-unfolding recordAt bytesFor meshLength
+step-front₂ : stepAt Narrow M channelStep ≡ channelStep
+unfolding recordAt bytesFor valueBits massBits releaseBits
 step-front₂ = ap (λ (o : Outcome ℕ). take (4 + stillNeeded o 4) channelStep) step-needs
 
 -- the call that the step record makes
@@ -236,7 +238,7 @@ body-fine : stepBodyVerdict 3 4 (M .seconds) channelStep runFaces runFaces runCe
 unfolding everything
 body-fine = refl
 
-read-fine : stepRecordFound M channelStep ≡ fine
+read-fine : stepRecordFound Narrow M channelStep ≡ fine
 unfolding stepRecordFound _andThen_
 read-fine = rw (step-headed, body-fine)
 
@@ -246,20 +248,20 @@ call-is = rw (fluxes-are, outsides-are, releases-are)
 -- a step of this call on a field of three masses over zeros
 module _ (masses masses′ : List ℕ) (p : Printed) (v : verdict M masses call ≡ fine) (said : printedOf M masses call ≡ p)
     (moves : over (table 3 (next (inputOf M masses call))) masses ≡ masses′) where
-  judged : stepJudged M masses channelStep ≡ fine
+  judged : stepJudged Narrow M masses channelStep ≡ fine
   unfolding stepJudged _andThen_
   judged =
-      ap (λ (w : Verdict). w andThen verdict M masses (stepIn M channelStep)) read-fine ∙ ap (λ (k : Call). verdict M masses k) call-is ∙ v
+      ap (λ (u : Verdict). u andThen verdict M masses (stepIn M channelStep)) read-fine ∙ ap (λ (k : Call). verdict M masses k) call-is ∙ v
 
-  step-said : stepSaid M masses channelStep ≡ accepted p
+  step-said : stepSaid Narrow M masses channelStep ≡ accepted p
   unfolding _andThen_
   step-said =
-      ap (λ (w : Verdict). w andThen accepted (printedOf M masses (stepIn M channelStep))) judged
+      ap (λ (u : Verdict). u andThen accepted (printedOf M masses (stepIn M channelStep))) judged
       ∙ ap (λ (k : Call). accepted (printedOf M masses k)) call-is ∙ ap (λ (x : Printed). accepted x) said
 
-  field-then : fieldThen M masses channelStep ≡ masses′
+  field-then : fieldThen Narrow M masses channelStep ≡ masses′
   field-then =
-      ap (λ (w : Verdict). massesAfter M masses w (stepIn M channelStep)) judged
+      ap (λ (u : Verdict). massesAfter M masses u (stepIn M channelStep)) judged
       ∙ ap (λ (k : Call). over (table 3 (next (inputOf M masses k))) masses) call-is ∙ moves
 
 -- a field written over another of as many cells
@@ -296,7 +298,7 @@ counts-fine : counts M ≡ fine
 unfolding everything
 counts-fine = refl
 
-mesh-values : meshValues M ≡ fine
+mesh-values : meshValues ceiling M ≡ fine
 unfolding everything
 mesh-values = refl
 
@@ -320,11 +322,11 @@ raised-values₂ : raisedValues M field₁ call ≡ fine
 unfolding everything
 raised-values₂ = refl
 
-step-values₁ : stepValues M field₀ call ≡ fine
+step-values₁ : stepValues ceiling M field₀ call ≡ fine
 unfolding everything
 step-values₁ = refl
 
-step-values₂ : stepValues M field₁ call ≡ fine
+step-values₂ : stepValues ceiling M field₁ call ≡ fine
 unfolding everything
 step-values₂ = refl
 
@@ -391,7 +393,7 @@ board-is : boardPrinted M field₂ ≡ boardLine 0 1000 99 ++ (boardLine 1 811 8
 unfolding everything
 board-is = refl
 
-board-last : (most step : ℕ) → stepsPrinted M (suc most) step field₂ [] ≡ boardPrinted M field₂
+board-last : (most step : ℕ) → stepsPrinted Narrow M (suc most) step field₂ [] ≡ boardPrinted M field₂
 unfolding stepsPrinted
 board-last most step = refl
 
@@ -404,14 +406,14 @@ lines =
     let steps = channelStep ++ channelStep in
     let said₂ = step-said field₁ field₂ _ verdict₂ printed₂ moves₂ in
     let then₂ = field-then field₁ field₂ _ verdict₂ printed₂ moves₂ in
-    let step₂ = from-step M 30 2 48 field₁ field₂ _ channelStep [] _ _ step-front₂ refl said₂ then₂ (board-last 29 3 ∙ board-is) in
+    let step₂ = from-step Narrow M 30 2 48 field₁ field₂ _ channelStep [] _ _ step-front₂ refl said₂ then₂ (board-last 29 3 ∙ board-is) in
     let said₁ = step-said field₀ field₁ _ verdict₁ printed₁ moves₁ in
     let then₁ = field-then field₀ field₁ _ verdict₁ printed₁ moves₁ in
-    let step₁ = from-step M 31 1 48 field₀ field₁ _ channelStep channelStep _ _ step-front₁ refl said₁ then₁ step₂ in
-    let first = ap (λ (ms : List ℕ). stepsPrinted M 32 1 (inTable runCells ms) (channelStep ++ channelStep)) field-is ∙ step₁ in
-    let field = from-field M (channelField ++ steps) channelField steps _ 100000 field-front refl field-said first in
+    let step₁ = from-step Narrow M 31 1 48 field₀ field₁ _ channelStep channelStep _ _ step-front₁ refl said₁ then₁ step₂ in
+    let first = ap (λ (ms : List ℕ). stepsPrinted Narrow M 32 1 (inTable runCells ms) (channelStep ++ channelStep)) field-is ∙ step₁ in
+    let field = from-field Narrow M (channelField ++ steps) channelField steps _ 100000 field-front refl field-said first in
     from-mesh channelInput channelMesh (channelField ++ steps) _ _ mesh-front refl mesh-said
-    (ap (λ (N : Mesh). fieldPrinted (inTables N) (channelField ++ steps)) mesh-is ∙ field)
+    (ap (λ (N : Mesh). fieldPrinted Narrow (inTables N) (channelField ++ steps)) mesh-is ∙ field)
 
 -- the six lines, byte by byte
 abbrev pub channelText : List ℕ
@@ -436,3 +438,16 @@ text-is = refl
 
 pub channel-printed : printed channelInput ≡ channelText
 channel-printed = lines ∙ text-is
+
+-- Document 02, S-10: a lagoon of one cell of V 65,535, and its field of kind 6
+abbrev pub wideMesh : List ℕ
+wideMesh = 80 ∷ 1 ∷ 0 ∷ 0 ∷ 255 ∷ 255 ∷ []
+
+pub wide-printed : printed (wideMesh ++ (96 ∷ 1 ∷ 15 ∷ 66 ∷ 48 ∷ 189 ∷ 192 ∷ [])) ≡ stepLine 0 0 0 65535000000 0 ++ boardLine 0 1000000 0
+unfolding everything
+wide-printed = refl
+
+-- a field of kind 2 after it: F 13 0
+pub narrow-after-wide : printed (wideMesh ++ (32 ∷ 1 ∷ 0 ∷ 0 ∷ 0 ∷ 99 ∷ [])) ≡ 70 ∷ 32 ∷ 49 ∷ 51 ∷ 32 ∷ 48 ∷ 10 ∷ []
+unfolding everything
+narrow-after-wide = refl

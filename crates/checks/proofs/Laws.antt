@@ -11,7 +11,7 @@ use lib.ListN.{length}
 use Rattle.lists.specs.Fold.{sum}
 use Rattle.lists.proofs.Tests.{Fits, fits, exceeds, fits?}
 use Rattle.signed.specs.Sign.{size}
-use Rattle.model.specs.Mesh.{Mesh, maxVolume, volume, first, second, total, rim, maxCells, maxFaces, maxConcentration, maxRimFlux}
+use Rattle.model.specs.Mesh.{Mesh, maxVolume, volume, first, second, total, rim, maxCells, maxFaces, maxConcentration, maxRimFlux, ceiling}
 use Rattle.model.specs.Step.{flux}
 use Rattle.model.specs.Causes.{Verdict, waterOf, valuesVerdict, fine, _andThen_, each, counts, meshTables, fieldTable, meshValues, fieldValues, raisedGood, raisedValues, meshFieldVerdict, Call, inputOf, stepTables, outsideGood, fluxGood, balanceGood, outflowGood, stepValues, verdict}
 use Rattle.model.specs.Accepted.{StepLent, MeshFit}
@@ -70,15 +70,15 @@ module _ (M : Mesh) (field : List ℕ) (k : Call) where
       andThen valuesVerdict M field (waterOf (k .fluxes) (k .outsides) (k .releases)))
   unfolding verdict valuesVerdict raisedValues raisedGood stepValues outsideGood fluxGood balanceGood outflowGood
   lengths-first = after-lengths (counts M andThen meshTables M andThen fieldTable M field andThen stepTables M field k)
-      (meshValues M) (fieldValues M field) (raisedValues M field k) (stepValues M field k)
+      (meshValues ceiling M) (fieldValues M field) (raisedValues M field k) (stepValues ceiling M field k)
 
   -- causes of values as they are tested: those that rest on nothing together
-  pub in-groups : valuesVerdict M field k ≡ (meshValues M
-      andThen (fieldValues M field andThen raisedValues M field k andThen (each 7 (M .faces) (outsideGood M field k) andThen each 8 (M .faces) (fluxGood M field k)))
+  pub in-groups : valuesVerdict M field k ≡ (meshValues ceiling M
+      andThen (fieldValues M field andThen raisedValues M field k andThen (each 7 (M .faces) (outsideGood M field k) andThen each 8 (M .faces) (fluxGood ceiling M field k)))
       andThen (each 9 (M .cells) (balanceGood M field k) andThen each 10 (M .cells) (outflowGood M field k)))
   unfolding valuesVerdict stepValues
-  in-groups = regroup (meshValues M) (fieldValues M field) (raisedValues M field k)
-      (each 7 (M .faces) (outsideGood M field k)) (each 8 (M .faces) (fluxGood M field k)) (each 9 (M .cells) (balanceGood M field k)) (each 10 (M .cells) (outflowGood M field k))
+  in-groups = regroup (meshValues ceiling M) (fieldValues M field) (raisedValues M field k)
+      (each 7 (M .faces) (outsideGood M field k)) (each 8 (M .faces) (fluxGood ceiling M field k)) (each 9 (M .cells) (balanceGood M field k)) (each 10 (M .cells) (outflowGood M field k))
 
   -- what the tests of values ask for
   pub step-lent : (counts M andThen meshTables M andThen fieldTable M field) ≡ fine → stepTables M field k ≡ fine → StepLent M field (waterOf (k .fluxes) (k .outsides) (k .releases))
@@ -102,7 +102,7 @@ module _ (M : Mesh) (field : List ℕ) (k : Call) where
     pub water-asks : (M .faces ≤ length (M .seconds)) × (M .faces ≤ length (M .reaches)) × (M .faces ≤ length (k .fluxes)) × (M .faces ≤ length (k .outsides))
     water-asks = (l .lent .seconds-long, l .lent .reaches-long, l .fluxes-long, l .outsides-long)
 
-    module _ (m : meshValues M ≡ fine) where
+    module _ (m : meshValues ceiling M ≡ fine) where
       fit : MeshFit M
       fit = mesh-fit M m
 
@@ -113,7 +113,7 @@ module _ (M : Mesh) (field : List ℕ) (k : Call) where
           × ((c : ℕ) → c < M .cells → (1 ≤ volume M c) × (volume M c ≤ maxVolume))
       raised-asks = ((l .lent .volumes-long, l .masses-long, l .releases-long), λ c h. (fit .volume-some c h, fit .volume-most c h))
 
-      pub flows-ask : (fieldValues M field andThen raisedValues M field k andThen (each 7 (M .faces) (outsideGood M field k) andThen each 8 (M .faces) (fluxGood M field k))) ≡ fine
+      pub flows-ask : (fieldValues M field andThen raisedValues M field k andThen (each 7 (M .faces) (outsideGood M field k) andThen each 8 (M .faces) (fluxGood ceiling M field k))) ≡ fine
           → ((M .cells ≤ maxCells) × (M .faces ≤ maxFaces) × (M .cells ≤ length (M .volumes)) × (M .faces ≤ length (M .firsts)) × (M .faces ≤ length (M .seconds)) × (M .faces ≤ length (k .fluxes)))
           × ((f : ℕ) → f < M .faces → (first M f ≤ rim) × (second M f ≤ rim) × (size (flux (inputOf M field k) f) ≤ maxRimFlux))
       flows-ask v =

@@ -44,7 +44,16 @@ pub fn check_mesh(
     if let Answer::Refused(r) = a {
         return Answer::Refused(r);
     }
-    shape::values(cells, faces, volumes, firsts, seconds, shares, reaches)
+    shape::values(
+        cells,
+        faces,
+        volumes,
+        firsts,
+        seconds,
+        shares,
+        reaches,
+        model::CEILING,
+    )
 }
 
 // Causes 1 to 6.
@@ -75,7 +84,16 @@ pub fn check_field(
     if let Answer::Refused(r) = a {
         return Answer::Refused(r);
     }
-    let b = shape::values(cells, faces, volumes, firsts, seconds, shares, reaches);
+    let b = shape::values(
+        cells,
+        faces,
+        volumes,
+        firsts,
+        seconds,
+        shares,
+        reaches,
+        model::CEILING,
+    );
     if let Answer::Refused(r) = b {
         return Answer::Refused(r);
     }
@@ -127,7 +145,16 @@ fn step_values(
         (now (masses .entry))
         (waterOf (now (fluxes .entry)) (now (outsides .entry)) (now (releases .entry))) ⌝ }
 {
-    let a = shape::values(cells, faces, volumes, firsts, seconds, shares, reaches);
+    let a = shape::values(
+        cells,
+        faces,
+        volumes,
+        firsts,
+        seconds,
+        shares,
+        reaches,
+        model::CEILING,
+    );
     if let Answer::Refused(r) = a {
         return Answer::Refused(r);
     }
@@ -137,7 +164,7 @@ fn step_values(
     );
     let b = and_then(
         salt,
-        water::values(faces, seconds, reaches, fluxes, outsides),
+        water::values(faces, seconds, reaches, fluxes, outsides, model::CEILING),
     );
     if let Answer::Refused(r) = b {
         return Answer::Refused(r);

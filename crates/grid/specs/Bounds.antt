@@ -11,3 +11,7 @@ maxProduct = 1000000000000
 -- the stream function
 abbrev pub maxStream : ℕ
 maxStream = 10000000000000
+
+-- a value of the large lagoon
+abbrev pub maxScaled : ℕ
+maxScaled = 4360000000000000

@@ -1,10 +1,28 @@
 // A lagoon on a grid, as bench/yardstick.c makes it: shores in the west and the north, open sides in the east and the south.
+// The large one has volumes, reaches and fluxes SCALE times as large, volumes and reaches up to the ceiling of the calls.
+use model::CEILING;
 use model::MAX_CELLS;
 use model::MAX_FACES;
 use model::RIM;
 ghost use Prim.Native.Nat.{_≤_, _<_};
-ghost use Rattle.model.specs.Mesh.{maxCells, maxFaces, maxConcentration};
-ghost use Rattle.grid.specs.Bounds.{maxFactor, maxProduct, maxStream};
+ghost use Rattle.model.specs.Mesh.{maxCells, maxFaces, maxConcentration, ceiling};
+ghost use Rattle.grid.specs.Bounds.{maxFactor, maxProduct, maxStream, maxScaled};
+
+const SCALE: u64 = 436;
+
+fn scaled(large: bool, value: u64) -> u64
+    requires { ⌜ value ≤ maxStream ⌝ }
+    ensures { λ r. ⌜ r ≤ maxScaled ⌝ }
+{
+    if large { SCALE * value } else { value }
+}
+
+// A volume or a reach.
+fn up_to_ceiling(value: u64) -> u64
+    ensures { λ r. ⌜ r ≤ ceiling ⌝ }
+{
+    if value < CEILING { value } else { CEILING }
+}
 
 // Factors up to a million: the one product of two variables.
 pub fn times(a: u64, b: u64) -> u64
@@ -44,11 +62,11 @@ fn stream(x: u64, y: u64) -> u64
     5 * times(wave(x), wave(y)) + times(37 * x, y) % 11
 }
 
-fn volume(c: u64) -> u64
+fn volume(large: bool, c: u64) -> u64
     requires { ⌜ c < maxCells ⌝ }
-    ensures { λ r. ⌜ r ≤ 405 ⌝ }
+    ensures { λ r. ⌜ r ≤ ceiling ⌝ }
 {
-    150 + 29 * c % 256
+    up_to_ceiling(scaled(large, 150 + 29 * c % 256))
 }
 
 // Squares of 6 cells, salt and fresh in turn.
@@ -63,15 +81,16 @@ fn concentration(c: u64, x: u64, y: u64) -> u64
     }
 }
 
-fn mass(c: u64, width: u64) -> u64
+fn mass(large: bool, c: u64, width: u64) -> u64
     requires { ⌜ (c < maxCells) × (1 ≤ width) ⌝ }
 {
     let q = concentration(c, column(c, width), row(c, width));
-    times(volume(c), q) + 31 * c % 150
+    times(volume(large, c), q) + 31 * c % 150
 }
 
 // Volumes, and the masses of the first field.
 pub fn make_cells(
+    large: bool,
     cells: usize,
     width: u64,
     volumes: &mut [u64; MAX_CELLS],
@@ -81,8 +100,8 @@ pub fn make_cells(
 {
     let mut c = 0;
     while c < cells {
-        volumes[c] = volume(c as u64);
-        field[c] = mass(c as u64, width);
+        volumes[c] = volume(large, c as u64);
+        field[c] = mass(large, c as u64, width);
         c += 1;
     }
 }
@@ -129,10 +148,14 @@ fn share(f: u64, open: bool) -> u64
     if open { 0 } else { 64 + 53 * f % 128 }
 }
 
-fn reach(f: u64, open: bool) -> u64
+fn reach(large: bool, f: u64, open: bool) -> u64
     requires { ⌜ f < maxFaces ⌝ }
 {
-    if open { 0 } else { 80 + 23 * f % 256 }
+    if open {
+        0
+    } else {
+        up_to_ceiling(scaled(large, 80 + 23 * f % 256))
+    }
 }
 
 // The stream function at the ends of a face: its flux is the one ahead less the one behind.
@@ -176,6 +199,7 @@ fn outside(f: u64, open: bool, inflow: bool) -> u64 {
 }
 
 fn make_ends(
+    large: bool,
     f: usize,
     width: u64,
     open: bool,
@@ -189,10 +213,11 @@ fn make_ends(
     firsts[f] = first(f as u64);
     seconds[f] = second(f as u64, width, open);
     shares[f] = share(f as u64, open);
-    reaches[f] = reach(f as u64, open);
+    reaches[f] = reach(large, f as u64, open);
 }
 
 fn make_water(
+    large: bool,
     f: usize,
     width: u64,
     open: bool,
@@ -203,12 +228,13 @@ fn make_water(
 {
     let a = ahead(f as u64, width);
     let b = behind(f as u64, width);
-    fluxes[f] = signed::with_sign(a < b, gap(a, b));
+    fluxes[f] = signed::with_sign(a < b, scaled(large, gap(a, b)));
     outsides[f] = outside(f as u64, open, a < b);
 }
 
 // The faces of the mesh, and a step's water.
 pub fn make_faces(
+    large: bool,
     faces: usize,
     width: u64,
     height: u64,
@@ -224,8 +250,8 @@ pub fn make_faces(
     let mut f = 0;
     while f < faces {
         let open = is_open(f as u64, width, height);
-        make_ends(f, width, open, firsts, seconds, shares, reaches);
-        make_water(f, width, open, fluxes, outsides);
+        make_ends(large, f, width, open, firsts, seconds, shares, reaches);
+        make_water(large, f, width, open, fluxes, outsides);
         f += 1;
     }
 }

@@ -1,7 +1,7 @@
 -- What a head that is fine says, and how an answer and its verdict go together.
 use Prim.Native.Nat.{ℕ, _+_, _≤_, min}
-use mathlib.Core.Path.{_≡_}
-use mathlib.Core.Bool.{true}
+use mathlib.Core.Path.{_≡_, refl}
+use mathlib.Core.Bool.{Bool, true, false, _||_, true≢false}
 use mathlib.Core.List.{List}
 use native.Mathlib.Nat.{le-trans}
 use native.Mathlib.Omega.{arith}
@@ -10,7 +10,7 @@ use lib.Dec.{leb}
 use borrow.Author.Tests.{leb-true, le-leb, eqb-true}
 use Rattle.lists.proofs.Tests.{both-true}
 use Rattle.model.specs.Mesh.{maxCells, maxFaces}
-use Rattle.model.specs.Causes.{fine, need, countsWithin}
+use Rattle.model.specs.Causes.{accepted, refused, Verdict, fine, _andThen_, need, countsWithin}
 use Rattle.model.specs.Answers.{said}
 use Rattle.model.specs.declared.Answer.{Answer}
 use Rattle.model.specs.declared.Answer.the-variants.{Done}
@@ -19,8 +19,10 @@ use Rattle.bits.specs.Field.{bitsAt}
 use Rattle.bits.specs.Layout.{bytesFor}
 use Rattle.sections.proofs.Columns.{those-le}
 use Rattle.heads.specs.Layouts.{meshKind, fieldKind, isRim, rimFaces}
+use Rattle.heads.specs.declared.Width.{Width}
+use Rattle.heads.specs.declared.MeshLength.{MeshLength}
 use Rattle.reader.specs.Numbers.{widest, furthest, numberAt, numberOf}
-use Rattle.heads.specs.Heads.{kindIn, cellsIn, facesIn, stepFacesIn, isStepKind, meshHeadVerdict, fieldHeadVerdict, stepHeadVerdict}
+use Rattle.heads.specs.Heads.{kindIn, cellsIn, facesIn, stepFacesIn, isMeshKind, isStepKind, meshHeadVerdict, fieldHeadVerdict, stepHeadVerdict, bytesOf}
 
 -- no more faces are at the rim than there are
 pub rim-le : (seconds : List ℕ) (n : ℕ) → rimFaces seconds n ≤ n
@@ -36,7 +38,7 @@ head-holds {m = m} n l e q = le-trans l (leb-true n m (need-fine 11 0 _ (passes 
 
 pub record MeshHeadSays (mostCells mostFaces : ℕ) (bs : List ℕ) : Type 0 where
   pub long : 4 ≤ length bs
-  pub kind : kindIn bs ≡ meshKind
+  pub kind : isMeshKind (kindIn bs) ≡ true
   pub some-cells : 1 ≤ cellsIn bs
   pub few-cells : cellsIn bs ≤ maxCells
   pub few-faces : facesIn bs ≤ maxFaces
@@ -52,7 +54,7 @@ mesh-head-says mostCells mostFaces bs e =
     let d = both-true (leb 1 (cellsIn bs)) (leb (cellsIn bs) (min mostCells maxCells)) (need-fine 1 0 _ (c .0)) in
     record {
       long = leb-true _ _ (need-fine 11 0 _ (b .0));
-      kind = eqb-true _ _ (need-fine 13 0 _ (b .1));
+      kind = need-fine 13 0 _ (b .1);
       some-cells = leb-true _ _ (d .0);
       few-cells = omega (arith, leb-true (cellsIn bs) (min mostCells maxCells) (d .1));
       few-faces = omega (arith, leb-true (facesIn bs) (min mostFaces maxFaces) (need-fine 1 1 _ (c .1)));
@@ -60,16 +62,16 @@ mesh-head-says mostCells mostFaces bs e =
       within-faces = omega (arith, leb-true (facesIn bs) (min mostFaces maxFaces) (need-fine 1 1 _ (c .1)));
     }
 
-pub record FieldHeadSays (cells : ℕ) (bs : List ℕ) : Type 0 where
+pub record FieldHeadSays (w : Width) (cells : ℕ) (bs : List ℕ) : Type 0 where
   pub long : 2 ≤ length bs
-  pub kind : kindIn bs ≡ fieldKind
+  pub kind : kindIn bs ≡ fieldKind w
   pub same-count : cellsIn bs ≡ cells
   pub some-cells : 1 ≤ cells
   pub few-cells : cells ≤ maxCells
 
-pub field-head-says : (cells : ℕ) (bs : List ℕ) → fieldHeadVerdict cells bs ≡ fine → FieldHeadSays cells bs
+pub field-head-says : (w : Width) (cells : ℕ) (bs : List ℕ) → fieldHeadVerdict w cells bs ≡ fine → FieldHeadSays w cells bs
 unfolding fieldHeadVerdict bytesFor
-field-head-says cells bs e =
+field-head-says w cells bs e =
     let a = both-fine _ _ e in
     let b = both-fine _ _ (a .0) in
     let c = both-fine _ _ (b .0) in
@@ -82,18 +84,18 @@ field-head-says cells bs e =
       few-cells = leb-true _ _ (d .1);
     }
 
-pub record StepHeadSays (cells faces : ℕ) (seconds bs : List ℕ) : Type 0 where
+pub record StepHeadSays (w : Width) (cells faces : ℕ) (seconds bs : List ℕ) : Type 0 where
   pub long : 4 ≤ length bs
-  pub kind : isStepKind (kindIn bs) ≡ true
+  pub kind : isStepKind w (kindIn bs) ≡ true
   pub same-count : stepFacesIn bs ≡ faces
   pub some-cells : 1 ≤ cells
   pub few-cells : cells ≤ maxCells
   pub few-faces : faces ≤ maxFaces
   pub lent : faces ≤ length seconds
 
-pub step-head-says : (cells faces : ℕ) (seconds bs : List ℕ) → stepHeadVerdict cells faces seconds bs ≡ fine → StepHeadSays cells faces seconds bs
+pub step-head-says : (w : Width) (cells faces : ℕ) (seconds bs : List ℕ) → stepHeadVerdict w cells faces seconds bs ≡ fine → StepHeadSays w cells faces seconds bs
 unfolding stepHeadVerdict countsWithin bytesFor
-step-head-says cells faces seconds bs e =
+step-head-says w cells faces seconds bs e =
     let a = both-fine _ _ e in
     let b = both-fine _ _ (a .0) in
     let c = both-fine _ _ (b .0) in
@@ -109,3 +111,14 @@ step-head-says cells faces seconds bs e =
       few-faces = leb-true _ _ (need-fine 1 1 _ (n .1));
       lent = leb-true _ _ (need-fine 2 2 _ (a .1));
     }
+
+-- the bytes alone of what a head says that passes, or its refusal
+pub bytes-alone : (v : Verdict) (n : MeshLength) → bytesOf (v andThen accepted n) ≡ (v andThen accepted (n .bytes))
+unfolding _andThen_
+bytes-alone (accepted _) n = refl
+bytes-alone (refused i j) n = refl
+
+-- of two tests of which one holds, the second does where the first does not
+pub other-true : (a b : Bool) → (a || b) ≡ true → a ≡ false → b ≡ true
+other-true true b e d = absurd (true≢false d)
+other-true false b e d = e

@@ -1,35 +1,45 @@
 -- Document 01, "Record layouts": the table of the three records as sections, the values that they hold, and how long each is. Document 02,
--- S-6: the step record of kind 4, which has a release for each cell besides.
+-- S-6: the step record of kind 4, which has a release for each cell besides; S-10: kinds 5 to 8, which have wider fields. Widths go by the kind.
 use Prim.Native.Nat.{ℕ, _+_}
-use mathlib.Core.Bool.{Bool, cond}
+use mathlib.Core.Bool.{Bool, cond, _||_}
 use mathlib.Core.List.{List, [], _∷_}
-use lib.Dec.{eqb}
+use lib.Dec.{eqb, leb}
 use lib.ListN.{getD}
 use lib.IntN.{ℤ, pos}
 use Rattle.signed.specs.Sign.{size, isNegative}
 use Rattle.model.specs.Mesh.{Mesh, volume, first, second, share, reach, rim}
 use Rattle.bits.specs.Layout.{bytesFor}
 use Rattle.sections.specs.Sections.{Section, per, perThat, once, those, marked, shapeBits, Values, always, values, recordOf}
+use Rattle.heads.specs.declared.Width.{Width}
+use Rattle.heads.specs.declared.Width.the-variants.{Narrow, Wide}
 use Rattle.heads.specs.declared.StepKind.{StepKind}
 use Rattle.heads.specs.declared.StepKind.the-variants.{Water, Outfalls}
 
--- The kinds.
-abbrev pub meshKind : ℕ
-meshKind = 1
+-- The kinds. Document 02, S-10: kinds 5 to 8 are kinds 1 to 4 with wider fields; the mesh record fixes the width of the records after it.
+abbrev pub ofWidth : Width → ℕ → ℕ
+ofWidth Narrow kind = kind
+ofWidth Wide kind = 4 + kind
 
-abbrev pub fieldKind : ℕ
-fieldKind = 2
+abbrev pub meshKind : Width → ℕ
+meshKind w = ofWidth w 1
 
-abbrev pub waterKind : ℕ
-waterKind = 3
+abbrev pub fieldKind : Width → ℕ
+fieldKind w = ofWidth w 2
 
-abbrev pub outfallKind : ℕ
-outfallKind = 4
+abbrev pub waterKind : Width → ℕ
+waterKind w = ofWidth w 3
+
+abbrev pub outfallKind : Width → ℕ
+outfallKind w = ofWidth w 4
 
 -- S-6, the kind that a reading of a step answers and that its writer is told, by its number.
-abbrev pub kindNumber : StepKind → ℕ
-kindNumber Water = waterKind
-kindNumber Outfalls = outfallKind
+abbrev pub kindNumber : Width → StepKind → ℕ
+kindNumber w Water = waterKind w
+kindNumber w Outfalls = outfallKind w
+
+-- the width of a kind
+abbrev pub widthOf : ℕ → Width
+widthOf kind = cond (leb 5 kind) Wide Narrow
 
 -- The widths of the head's fields: kind, cells, faces, and the zero bits that end a mesh's head and a step's.
 abbrev pub kindBits : ℕ
@@ -47,34 +57,37 @@ meshZeroBits = 3
 abbrev pub stepZeroBits : ℕ
 stepZeroBits = 15
 
--- The widths of the body's fields: V, first and second, s, K, m, the sign and the size of U, the outside value.
-abbrev pub volumeBits : ℕ
-volumeBits = 12
-
+-- The widths of the body's fields: first and second, s, the sign of U, the outside value.
 abbrev pub endBits : ℕ
 endBits = 12
 
 abbrev pub shareBits : ℕ
 shareBits = 8
 
-abbrev pub reachBits : ℕ
-reachBits = 12
-
-abbrev pub massBits : ℕ
-massBits = 32
-
 abbrev pub signBits : ℕ
 signBits = 1
-
-abbrev pub sizeBits : ℕ
-sizeBits = 12
 
 abbrev pub outsideBits : ℕ
 outsideBits = 20
 
--- S-6: a release is as wide as m in kind 4, and has no bits in kind 3.
+-- S-10: V, K and the size of U have 12 bits, and 16 in the wide kinds; m has 32, and 40.
+abbrev pub valueOf : Width → ℕ
+valueOf Narrow = 12
+valueOf Wide = 16
+
+abbrev pub massWidth : Width → ℕ
+massWidth Narrow = 32
+massWidth Wide = 40
+
+unfoldable pub valueBits : ℕ → ℕ
+valueBits kind = valueOf (widthOf kind)
+
+unfoldable pub massBits : ℕ → ℕ
+massBits kind = massWidth (widthOf kind)
+
+-- S-6: a release is as wide as m in kind 4 and in its wide form, 8, and has no bits in kinds 3 and 7.
 unfoldable pub releaseBits : ℕ → ℕ
-releaseBits kind = cond (eqb kind outfallKind) massBits 0
+releaseBits kind = cond (eqb kind (outfallKind Narrow) || eqb kind (outfallKind Wide)) (massBits kind) 0
 
 -- Heads in bits, and one face's part of a mesh and of a step.
 abbrev pub meshHeadBits : ℕ
@@ -86,25 +99,25 @@ fieldHeadBits = kindBits + cellsBits
 abbrev pub stepHeadBits : ℕ
 stepHeadBits = kindBits + facesBits + stepZeroBits
 
-abbrev pub faceBits : ℕ
-faceBits = endBits + endBits + shareBits + reachBits
+abbrev pub faceBits : ℕ → ℕ
+faceBits kind = endBits + endBits + shareBits + valueBits kind
 
-abbrev pub fluxBits : ℕ
-fluxBits = signBits + sizeBits
+abbrev pub fluxBits : ℕ → ℕ
+fluxBits kind = signBits + valueBits kind
 
 -- A mesh: V for each cell; then first, second, s and K for each face.
 abbrev pub meshHead : Section
 meshHead = once (kindBits ∷ cellsBits ∷ facesBits ∷ meshZeroBits ∷ [])
 
-abbrev pub meshBody : ℕ → ℕ → List Section
-meshBody cells faces = per cells (volumeBits ∷ []) ∷ per faces (endBits ∷ endBits ∷ shareBits ∷ reachBits ∷ []) ∷ []
+abbrev pub meshBody : (kind cells faces : ℕ) → List Section
+meshBody kind cells faces = per cells (valueBits kind ∷ []) ∷ per faces (endBits ∷ endBits ∷ shareBits ∷ valueBits kind ∷ []) ∷ []
 
-abbrev pub meshShape : ℕ → ℕ → List Section
-meshShape cells faces = meshHead ∷ meshBody cells faces
+abbrev pub meshShape : (kind cells faces : ℕ) → List Section
+meshShape kind cells faces = meshHead ∷ meshBody kind cells faces
 
-abbrev pub meshValue : Mesh → Values
-meshValue M = values
-    ((always meshKind ∷ always (M .cells) ∷ always (M .faces) ∷ always 0 ∷ [])
+abbrev pub meshValue : ℕ → Mesh → Values
+meshValue kind M = values
+    ((always kind ∷ always (M .cells) ∷ always (M .faces) ∷ always 0 ∷ [])
     ∷ (volume M ∷ [])
     ∷ (first M ∷ second M ∷ share M ∷ reach M ∷ [])
     ∷ [])
@@ -113,18 +126,18 @@ meshValue M = values
 abbrev pub fieldHead : Section
 fieldHead = once (kindBits ∷ cellsBits ∷ [])
 
-abbrev pub fieldBody : ℕ → List Section
-fieldBody cells = per cells (massBits ∷ []) ∷ []
+abbrev pub fieldBody : (kind cells : ℕ) → List Section
+fieldBody kind cells = per cells (massBits kind ∷ []) ∷ []
 
-abbrev pub fieldShape : ℕ → List Section
-fieldShape cells = fieldHead ∷ fieldBody cells
+abbrev pub fieldShape : (kind cells : ℕ) → List Section
+fieldShape kind cells = fieldHead ∷ fieldBody kind cells
 
 abbrev pub massOf : List ℕ → ℕ → ℕ
 massOf masses c = getD masses c 0
 
-abbrev pub fieldValue : ℕ → List ℕ → Values
-fieldValue cells masses = values
-    ((always fieldKind ∷ always cells ∷ [])
+abbrev pub fieldValue : (kind cells : ℕ) → List ℕ → Values
+fieldValue kind cells masses = values
+    ((always kind ∷ always cells ∷ [])
     ∷ (massOf masses ∷ [])
     ∷ [])
 
@@ -140,8 +153,8 @@ rimFaces seconds n = those (isRim seconds) n
 abbrev pub stepHead : Section
 stepHead = once (kindBits ∷ facesBits ∷ stepZeroBits ∷ [])
 
-abbrev pub fluxSection : ℕ → Section
-fluxSection faces = per faces (signBits ∷ sizeBits ∷ [])
+abbrev pub fluxSection : (kind faces : ℕ) → Section
+fluxSection kind faces = per faces (signBits ∷ valueBits kind ∷ [])
 
 abbrev pub outsideSection : ℕ → List ℕ → Section
 outsideSection faces seconds = perThat faces (isRim seconds) (outsideBits ∷ [])
@@ -150,7 +163,7 @@ abbrev pub releaseSection : (kind cells : ℕ) → Section
 releaseSection kind cells = per cells (releaseBits kind ∷ [])
 
 abbrev pub stepBody : (kind cells faces : ℕ) → List ℕ → List Section
-stepBody kind cells faces seconds = fluxSection faces ∷ outsideSection faces seconds ∷ releaseSection kind cells ∷ []
+stepBody kind cells faces seconds = fluxSection kind faces ∷ outsideSection faces seconds ∷ releaseSection kind cells ∷ []
 
 abbrev pub stepShape : (kind cells faces : ℕ) → List ℕ → List Section
 stepShape kind cells faces seconds = stepHead ∷ stepBody kind cells faces seconds
@@ -176,30 +189,30 @@ stepValue kind faces fluxes outsides releases = values
     ∷ [])
 
 -- The bytes of each record.
-unfoldable pub meshRecord : Mesh → List ℕ
-meshRecord M = recordOf (meshShape (M .cells) (M .faces)) (meshValue M)
+unfoldable pub meshRecord : ℕ → Mesh → List ℕ
+meshRecord kind M = recordOf (meshShape kind (M .cells) (M .faces)) (meshValue kind M)
 
-unfoldable pub fieldRecord : ℕ → List ℕ → List ℕ
-fieldRecord cells masses = recordOf (fieldShape cells) (fieldValue cells masses)
+unfoldable pub fieldRecord : (kind cells : ℕ) → List ℕ → List ℕ
+fieldRecord kind cells masses = recordOf (fieldShape kind cells) (fieldValue kind cells masses)
 
 unfoldable pub stepRecord : (kind cells faces : ℕ) → List ℕ → List ℤ → List ℕ → List ℕ → List ℕ
 stepRecord kind cells faces seconds fluxes outsides releases = recordOf (stepShape kind cells faces seconds) (stepValue kind faces fluxes outsides releases)
 
 -- How many bits the fields of each record have, and how many bytes it is long: zero bits follow up to a whole byte.
-abbrev pub meshBits : ℕ → ℕ → ℕ
-meshBits cells faces = shapeBits (meshShape cells faces)
+abbrev pub meshBits : (kind cells faces : ℕ) → ℕ
+meshBits kind cells faces = shapeBits (meshShape kind cells faces)
 
-abbrev pub fieldBits : ℕ → ℕ
-fieldBits cells = shapeBits (fieldShape cells)
+abbrev pub fieldBits : (kind cells : ℕ) → ℕ
+fieldBits kind cells = shapeBits (fieldShape kind cells)
 
 abbrev pub stepBits : (kind cells faces : ℕ) → List ℕ → ℕ
 stepBits kind cells faces seconds = shapeBits (stepShape kind cells faces seconds)
 
-unfoldable pub meshLength : ℕ → ℕ → ℕ
-meshLength cells faces = bytesFor (meshBits cells faces)
+unfoldable pub meshLength : (kind cells faces : ℕ) → ℕ
+meshLength kind cells faces = bytesFor (meshBits kind cells faces)
 
-unfoldable pub fieldLength : ℕ → ℕ
-fieldLength cells = bytesFor (fieldBits cells)
+unfoldable pub fieldLength : (kind cells : ℕ) → ℕ
+fieldLength kind cells = bytesFor (fieldBits kind cells)
 
 unfoldable pub stepLength : (kind cells faces : ℕ) → List ℕ → ℕ
 stepLength kind cells faces seconds = bytesFor (stepBits kind cells faces seconds)

@@ -8,25 +8,24 @@ pub struct Body {
 }
 
 impl Body {
-    pub const VOLUME: usize = 12;
+    // V, K and the size of U, narrow and wide.
+    pub const NARROW_VALUE: usize = 12;
+
+    pub const WIDE_VALUE: usize = 16;
+
+    // m and a release, narrow and wide.
+    pub const NARROW_MASS: usize = 32;
+
+    pub const WIDE_MASS: usize = 40;
 
     pub const END: usize = 12;
 
     pub const SHARE: usize = 8;
 
-    pub const REACH: usize = 12;
-
-    // One face of a mesh.
-    pub const FACE: usize = 44;
-
-    pub const MASS: usize = 32;
+    // One face of a mesh, but for K.
+    pub const ENDS_AND_SHARE: usize = 32;
 
     pub const SIGN: usize = 1;
-
-    pub const SIZE: usize = 12;
-
-    // One face of a step.
-    pub const FLUX: usize = 13;
 
     pub const OUTSIDE: usize = 20;
 

@@ -21,8 +21,8 @@ ghost use Rattle.model.specs.Mesh.{maxCells, maxFaces};
 ghost use Rattle.model.specs.Causes.{countsWithin};
 ghost use Rattle.model.specs.Answers.{said};
 ghost use Rattle.reader.specs.Numbers.{numberAt, numberOf};
-ghost use Rattle.heads.specs.Layouts.{kindNumber};
-ghost use Rattle.heads.specs.Heads.{kindIn, cellsIn, facesIn, stepFacesIn, isStepKind, meshHeadVerdict, fieldHeadVerdict, stepHeadVerdict, meshNeeds, fieldNeeds, stepNeeds, lengthSaid};
+ghost use Rattle.heads.specs.Layouts.{ofWidth, meshKind, kindNumber};
+ghost use Rattle.heads.specs.Heads.{kindIn, widthIn, cellsIn, facesIn, stepFacesIn, isMeshKind, isStepKind, meshHeadVerdict, fieldHeadVerdict, stepHeadVerdict, meshMeasured, fieldNeeds, stepNeeds, lengthSaid, meshLengthSaid};
 
 // The widths of a head's fields.
 pub const KIND: usize = 4;
@@ -36,6 +36,7 @@ pub const MESH_ZEROS: usize = 3;
 
 pub const STEP_ZEROS: usize = 15;
 
+// The kinds of the narrow records; the wide ones are four more.
 pub const MESH_KIND: u64 = 1;
 
 pub const FIELD_KIND: u64 = 2;
@@ -44,10 +45,13 @@ pub const WATER_KIND: u64 = 3;
 
 pub const OUTFALL_KIND: u64 = 4;
 
-// Bits of a cell and of a face in a mesh record.
-pub const CELL_BITS: usize = body::Body::VOLUME;
+pub const WIDER: u64 = 4;
 
-pub const FACE_BITS: usize = body::Body::FACE;
+// The width of the records: that of a mesh fixes that of those after it.
+pub enum Width {
+    Narrow,
+    Wide,
+}
 
 // The kind of a step record: the water alone, or with what outfalls release into the cells.
 pub enum StepKind {
@@ -58,6 +62,18 @@ pub enum StepKind {
 // How many bytes a record needs, or why its head is refused.
 pub enum LengthAnswer {
     Needs(usize),
+    Refused(Refusal),
+}
+
+// How many bytes a mesh record needs, and its width, which the records after it have.
+pub struct MeshLength {
+    pub bytes: usize,
+    pub width: Width,
+}
+
+// The same, or why the head of the mesh is refused.
+pub enum MeshLengthAnswer {
+    Needs(MeshLength),
     Refused(Refusal),
 }
 
@@ -111,32 +127,64 @@ fn step_faces(bytes: &[u8]) -> usize
     field_after(bytes, KIND, FACES) as usize
 }
 
+// The kind of a width, by that of the narrow record.
+pub fn of_width(width: Width, kind: u64) -> u64
+    requires { ⌜ kind ≤ 4 ⌝ }
+    ensures { λ r. ⌜ r ≡ ofWidth width kind ⌝ }
+{
+    match width {
+        Width::Narrow => kind,
+        Width::Wide => WIDER + kind,
+    }
+}
+
 // The number that a step's head says for a kind.
-pub fn kind_number(kind: StepKind) -> u64
-    ensures { λ r. ⌜ r ≡ kindNumber kind ⌝ }
+pub fn kind_number(width: Width, kind: StepKind) -> u64
+    ensures { λ r. ⌜ r ≡ kindNumber width kind ⌝ }
 {
     match kind {
-        StepKind::Water => WATER_KIND,
-        StepKind::Outfalls => OUTFALL_KIND,
+        StepKind::Water => of_width(width, WATER_KIND),
+        StepKind::Outfalls => of_width(width, OUTFALL_KIND),
     }
+}
+
+// Whether a head's kind is one of a mesh's.
+fn is_mesh(kind: u64) -> bool
+    ensures { λ r. ⌜ r ≡ isMeshKind kind ⌝ }
+{
+    if kind == MESH_KIND {
+        return true;
+    }
+    kind == WIDER + MESH_KIND
+}
+
+// The width that the head of a mesh says.
+pub fn mesh_width(bytes: &[u8]) -> Width
+    requires { ⌜ (2 ≤ length (now bytes)) × (isMeshKind (kindIn (now bytes)) ≡ true) ⌝ }
+    ensures { λ r. ⌜ (meshKind r ≡ kindIn (now (bytes .entry))) × (r ≡ widthIn (now (bytes .entry))) ⌝ }
+{
+    if kind(bytes) == MESH_KIND {
+        return Width::Narrow;
+    }
+    Width::Wide
 }
 
 // Whether a head's kind is one of a step's.
-fn is_step(kind: u64) -> bool
-    ensures { λ r. ⌜ r ≡ isStepKind kind ⌝ }
+fn is_step(width: Width, kind: u64) -> bool
+    ensures { λ r. ⌜ r ≡ isStepKind width kind ⌝ }
 {
-    if kind == WATER_KIND {
+    if kind == of_width(width, WATER_KIND) {
         return true;
     }
-    kind == OUTFALL_KIND
+    kind == of_width(width, OUTFALL_KIND)
 }
 
 // The kind that the head of a step says.
-pub fn step_kind(bytes: &[u8]) -> StepKind
-    requires { ⌜ (2 ≤ length (now bytes)) × (isStepKind (kindIn (now bytes)) ≡ true) ⌝ }
-    ensures { λ r. ⌜ kindNumber r ≡ kindIn (now (bytes .entry)) ⌝ }
+pub fn step_kind(width: Width, bytes: &[u8]) -> StepKind
+    requires { ⌜ (2 ≤ length (now bytes)) × (isStepKind width (kindIn (now bytes)) ≡ true) ⌝ }
+    ensures { λ r. ⌜ kindNumber width r ≡ kindIn (now (bytes .entry)) ⌝ }
 {
-    if kind(bytes) == OUTFALL_KIND {
+    if kind(bytes) == of_width(width, OUTFALL_KIND) {
         return StepKind::Outfalls;
     }
     StepKind::Water
@@ -150,7 +198,7 @@ pub fn mesh(most_cells: usize, most_faces: usize, bytes: &[u8]) -> Answer
     if let Answer::Refused(r) = a {
         return Answer::Refused(r);
     }
-    let b = need(Cause::Head, 0, kind(bytes) == MESH_KIND);
+    let b = need(Cause::Head, 0, is_mesh(kind(bytes)));
     and_then(
         b,
         counts_within(most_cells, most_faces, cells(bytes), faces(bytes)),
@@ -158,66 +206,77 @@ pub fn mesh(most_cells: usize, most_faces: usize, bytes: &[u8]) -> Answer
 }
 
 // What the head of a field on so many cells is refused for.
-pub fn field(expected: usize, bytes: &[u8]) -> Answer
-    ensures { λ r. ⌜ said r ≡ fieldHeadVerdict expected (now (bytes .entry)) ⌝ }
+pub fn field(width: Width, expected: usize, bytes: &[u8]) -> Answer
+    ensures { λ r. ⌜ said r ≡ fieldHeadVerdict width expected (now (bytes .entry)) ⌝ }
 {
     let a = need(Cause::Length, 0, FIELD_HEAD <= bytes.len());
     if let Answer::Refused(r) = a {
         return Answer::Refused(r);
     }
-    let b = need(Cause::Head, 0, kind(bytes) == FIELD_KIND);
+    let expected_kind = of_width(width, FIELD_KIND);
+    let b = need(Cause::Head, 0, kind(bytes) == expected_kind);
     let d = and_then(b, need(Cause::Head, 1, cells(bytes) == expected));
     let few = between(1, model::MAX_CELLS as u64, expected as u64);
     and_then(d, need(Cause::Limits, 0, few))
 }
 
 // What the head of a step on so many cells, through so many faces, is refused for.
-pub fn step(cells: usize, expected: usize, seconds: &[u64], bytes: &[u8]) -> Answer
-    ensures { λ r. ⌜ said r ≡ stepHeadVerdict cells expected (now (seconds .entry)) (now (bytes .entry)) ⌝ }
+pub fn step(width: Width, cells: usize, expected: usize, seconds: &[u64], bytes: &[u8]) -> Answer
+    ensures { λ r. ⌜ said r ≡ stepHeadVerdict width cells expected (now (seconds .entry)) (now (bytes .entry)) ⌝ }
 {
     let a = need(Cause::Length, 0, STEP_HEAD <= bytes.len());
     if let Answer::Refused(r) = a {
         return Answer::Refused(r);
     }
-    let b = need(Cause::Head, 0, is_step(kind(bytes)));
+    let b = need(Cause::Head, 0, is_step(width, kind(bytes)));
     let d = and_then(b, need(Cause::Head, 1, step_faces(bytes) == expected));
     let few = lent::counts_within(model::MAX_CELLS, model::MAX_FACES, cells, expected);
     let e = and_then(d, few);
     and_then(e, need(Cause::Table, 2, expected <= seconds.len()))
 }
 
-// How many bytes a mesh record needs, as its head says.
-pub fn mesh_length(most_cells: usize, most_faces: usize, bytes: &[u8]) -> LengthAnswer
-    ensures { λ r. ⌜ lengthSaid r ≡ meshNeeds «most_cells» «most_faces» (now (bytes .entry)) ⌝ }
+// How many bytes a mesh record needs, and of which width it is, as its head says.
+pub fn mesh_length(most_cells: usize, most_faces: usize, bytes: &[u8]) -> MeshLengthAnswer
+    ensures { λ r. ⌜ meshLengthSaid r ≡ meshMeasured «most_cells» «most_faces» (now (bytes .entry)) ⌝ }
 {
     let a = mesh(most_cells, most_faces, bytes);
     if let Answer::Refused(r) = a {
-        return LengthAnswer::Refused(r);
+        return MeshLengthAnswer::Refused(r);
     }
     let c = cells(bytes);
     let f = faces(bytes);
-    LengthAnswer::Needs(lengths::mesh_bytes(c, f))
+    let width = mesh_width(bytes);
+    MeshLengthAnswer::Needs(MeshLength {
+        bytes: lengths::mesh_bytes(width, c, f),
+        width,
+    })
 }
 
 // How many bytes the record of a field on so many cells needs.
-pub fn field_length(cells: usize, bytes: &[u8]) -> LengthAnswer
-    ensures { λ r. ⌜ lengthSaid r ≡ fieldNeeds cells (now (bytes .entry)) ⌝ }
+pub fn field_length(width: Width, cells: usize, bytes: &[u8]) -> LengthAnswer
+    ensures { λ r. ⌜ lengthSaid r ≡ fieldNeeds width cells (now (bytes .entry)) ⌝ }
 {
-    let a = field(cells, bytes);
+    let a = field(width, cells, bytes);
     if let Answer::Refused(r) = a {
         return LengthAnswer::Refused(r);
     }
-    LengthAnswer::Needs(lengths::field_bytes(cells))
+    LengthAnswer::Needs(lengths::field_bytes(width, cells))
 }
 
 // How many bytes the record of a step on these cells and faces needs, of the kind that its head says.
-pub fn step_length(cells: usize, faces: usize, seconds: &[u64], bytes: &[u8]) -> LengthAnswer
-    ensures { λ r. ⌜ lengthSaid r ≡ stepNeeds cells faces (now (seconds .entry)) (now (bytes .entry)) ⌝ }
+pub fn step_length(
+    width: Width,
+    cells: usize,
+    faces: usize,
+    seconds: &[u64],
+    bytes: &[u8],
+) -> LengthAnswer
+    ensures { λ r. ⌜ lengthSaid r ≡ stepNeeds width cells faces (now (seconds .entry)) (now (bytes .entry)) ⌝ }
 {
-    let a = step(cells, faces, seconds, bytes);
+    let a = step(width, cells, faces, seconds, bytes);
     if let Answer::Refused(r) = a {
         return LengthAnswer::Refused(r);
     }
-    let length = lengths::step_bytes(step_kind(bytes), cells, faces, seconds);
+    let length = lengths::step_bytes(width, step_kind(width, bytes), cells, faces, seconds);
     LengthAnswer::Needs(length)
 }

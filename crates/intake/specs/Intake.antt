@@ -1,14 +1,17 @@
 -- Document 01, "The board and the run": how much of a record is still to be read.
-use Prim.Native.Nat.{ℕ, _+_, _-_, _≤_, min}
+use Prim.Native.Nat.{ℕ, _+_, _-_, _*_, _≤_, min}
 use mathlib.Core.List.{List}
 use lib.ListN.{take}
 use Rattle.model.specs.Mesh.{runCells, runFaces}
 use Rattle.model.specs.Causes.{Outcome, accepted, refused}
-use Rattle.heads.specs.Layouts.{meshLength}
+use Rattle.bits.specs.Layout.{bytesFor}
+use Rattle.heads.specs.Layouts.{outfallKind, stepHeadBits, fluxBits, outsideBits, releaseBits}
+use Rattle.heads.specs.declared.Width.the-variants.{Wide}
 
--- The longest record within the run's limits: a mesh of all cells and faces.
+-- The longest record within the run's limits. Document 02, S-10: a step with outfalls in the wide kind, of all cells and faces, each face at
+-- the rim.
 abbrev pub recordBytes : ℕ
-recordBytes = meshLength runCells runFaces
+recordBytes = bytesFor (stepHeadBits + runFaces * (fluxBits (outfallKind Wide) + outsideBits) + runCells * releaseBits (outfallKind Wide))
 
 -- Of a record whose head asks for so many bytes, those not yet read. No head within the limits asks for more than the longest
 -- record, and a refused one asks for none.

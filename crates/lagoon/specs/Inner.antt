@@ -9,28 +9,31 @@ use Rattle.model.specs.Step.{StepInput, next}
 use Rattle.model.specs.Causes.{Verdict, _andThen_, taken, inputOf, bytesLong}
 use Rattle.model.specs.Answers.{said}
 use Rattle.model.specs.declared.Answer.{Answer}
-use Rattle.heads.specs.Layouts.{fieldRecord, fieldLength}
+use Rattle.heads.specs.Layouts.{fieldKind, fieldRecord, fieldLength}
+use Rattle.heads.specs.Heads.{widthIn}
+use Rattle.heads.specs.declared.Width.{Width}
 use Rattle.reading.specs.Reading.{massesIn}
 use Rattle.taking.specs.Taking.{fieldJudged, stepIn, stepJudged}
 use Rattle.lagoon.specs.Host.{hostInput, hostVerdict}
 
--- a call of which v is found, with the next field of the step S
-pub record Comes (v : Verdict) (S : StepInput) (bytes : List ℕ) (r : Answer) (bytes′ : List ℕ) : Type 0 where
+-- a call of which v is found, with the next field of the step S in a record of this width
+pub record Comes (v : Verdict) (w : Width) (S : StepInput) (bytes : List ℕ) (r : Answer) (bytes′ : List ℕ) : Type 0 where
   pub answer : said r ≡ v
-  pub bytes-after : bytes′ ≡ taken v (over (fieldRecord (S .mesh .cells) (table (S .mesh .cells) (next S))) bytes) bytes
+  pub bytes-after : bytes′ ≡ taken v (over (fieldRecord (fieldKind w) (S .mesh .cells) (table (S .mesh .cells) (next S))) bytes) bytes
 
 -- from the field record on, on a mesh that has been read
 module _ (M : Mesh) (field step : List ℕ) where
   abbrev pub stepOf : StepInput
   stepOf = inputOf M (massesIn field (M .cells)) (stepIn M step)
 
+module _ (w : Width) (M : Mesh) (field step : List ℕ) where
   abbrev pub fromField : ℕ → Verdict
-  fromField room = fieldJudged (M .cells) (M .volumes) field runCells andThen stepJudged M (massesIn field (M .cells)) step
-      andThen bytesLong (fieldLength (M .cells)) room
+  fromField room = fieldJudged w (M .cells) (M .volumes) field runCells andThen stepJudged w M (massesIn field (M .cells)) step
+      andThen bytesLong (fieldLength (fieldKind w) (M .cells)) room
 
   abbrev pub MeshComes : List ℕ → Answer → List ℕ → Type 0
-  MeshComes bytes = Comes (fromField (length bytes)) stepOf bytes
+  MeshComes bytes = Comes (fromField (length bytes)) w (stepOf M field step) bytes
 
 -- all of it
 abbrev pub HostComes : List ℕ → List ℕ → List ℕ → List ℕ → Answer → List ℕ → Type 0
-HostComes mesh field step bytes = Comes (hostVerdict mesh field step (length bytes)) (hostInput mesh field step) bytes
+HostComes mesh field step bytes = Comes (hostVerdict mesh field step (length bytes)) (widthIn mesh) (hostInput mesh field step) bytes

@@ -1,16 +1,21 @@
 // The host's call, record by record: what the run does with them, and the next field written.
 use checks::TotalAnswer;
+use heads::Width;
 use model::Answer;
 use model::RUN_CELLS;
 use model::RUN_FACES;
 use reading::MeshAnswer;
 use step_taken::StepTaken;
 use writing::WriteAnswer;
-ghost use Rattle.model.specs.Mesh.{meshOf};
+ghost use mathlib.Core.Path.{_≡_};
+ghost use Rattle.model.specs.Mesh.{meshOf, ceiling};
+ghost use Rattle.model.specs.Causes.{meshValues};
+ghost use Rattle.writing.specs.Writing.{mostOf};
 ghost use Rattle.lagoon.specs.Inner.{MeshComes, HostComes};
 
-// From the field record on.
+// From the field record on, on a mesh that a writer of this width refuses no value of.
 fn on_mesh(
+    width: Width,
     cells: usize,
     faces: usize,
     volumes: &[u64],
@@ -22,17 +27,20 @@ fn on_mesh(
     step: &[u8],
     bytes: &mut [u8],
 ) -> Answer
-    ensures { λ r. ⌜ MeshComes
+    requires { ⌜ meshValues (mostOf width) (meshOf cells faces (now volumes) (now firsts) (now seconds) (now shares) (now reaches))
+        ≡ meshValues ceiling (meshOf cells faces (now volumes) (now firsts) (now seconds) (now shares) (now reaches)) ⌝ }
+    ensures { λ r. ⌜ MeshComes width
         (meshOf cells faces (now (volumes .entry)) (now (firsts .entry)) (now (seconds .entry)) (now (shares .entry)) (now (reaches .entry)))
         (now (field .entry)) (now (step .entry)) (now (bytes .entry)) r (now (bytes .exit)) ⌝ }
 {
     let mut masses = [0u64; RUN_CELLS];
-    let a = taking::take_field(cells, field, volumes, &mut masses);
+    let a = taking::take_field(width, cells, field, volumes, &mut masses);
     if let TotalAnswer::Refused(refusal) = a {
         return Answer::Refused(refusal);
     }
     let counted = &mut masses[..cells];
     let b = taking::take_step(
+        width,
         cells,
         faces,
         step,
@@ -47,6 +55,7 @@ fn on_mesh(
         return Answer::Refused(refusal);
     }
     let c = writing::write_field(
+        width,
         cells,
         faces,
         volumes,
@@ -85,7 +94,9 @@ pub fn on_records(mesh: &[u8], field: &[u8], step: &[u8], bytes: &mut [u8]) -> A
         MeshAnswer::Read(counts) => {
             let cells = counts.cells;
             let faces = counts.faces;
+            let width = counts.width;
             on_mesh(
+                width,
                 cells,
                 faces,
                 &volumes[..cells],

@@ -106,8 +106,6 @@ module _ (M : Mesh) (work next₀ : List ℕ) (moved₀ : List ℤ) (asks : Limi
         let i = inside M work (asks .coded-in) f h d in
         (slots-in (i .0), slots-in (i .1), omega (arith, asks .coded-in .few-cells), omega (arith, asks .coded-in .few-cells));
     size-most = rw (size-is M work (asks .coded-in) f h) at (asks .coded-in .size-most f h);
-    gain-fits = λ d. asks .gain-most to (to-in d);
-    loss-fits = λ d. le-trans (asks .loss-most from (from-in d)) (asks .next-most from (from-in d));
     in-moved = rw (s .moved-long, asks .moved-long) h;
     moved-most = rw (s .moved-rest f (omega arith)) (asks .moved-most f h);
     afford = rw (← lim-is, s .flowing .long) (flow-afford M (limitedIn M work) (λ c. getD next₀ c 0) f h next (s .flowing) afford);

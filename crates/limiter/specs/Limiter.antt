@@ -56,8 +56,6 @@ pub record CutAsks (f l k code : ℕ) (next : List ℕ) (moved : List ℤ) (work
   pub ends : EndsIn (length next) l k
   pub inside : code / 2 ≢ 0 → (4 * l + 3 < length work) × (4 * k + 3 < length work) × (l < rim) × (k < rim)
   pub size-most : code / 2 ≤ maxCarried
-  pub gain-fits : code / 2 ≢ 0 → ofCell work (enters code l k) 2 ≤ maxMass
-  pub loss-fits : code / 2 ≢ 0 → ofCell work (leaves code l k) 1 ≤ maxMass
   pub in-moved : f < length moved
   pub moved-most : size (getD moved f (pos 0)) ≤ maxCarried
   pub afford : (c : ℕ) → c < length next → takes l k (limitedOf work code l k) c ≤ getD next c 0

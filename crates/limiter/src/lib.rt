@@ -8,6 +8,7 @@ use cell::least_of;
 use cell::raise;
 use face::exchange::end_to;
 use face::exchange::transfer;
+use portion::portion;
 ghost use mathlib.Core.Path.{_≡_};
 ghost use mathlib.Core.Logic.{_≢_};
 ghost use Prim.Native.Nat.{ℕ, _≤_, _<_, _+_, _*_, _/_, _^_, min};
@@ -69,21 +70,10 @@ pub fn sum_corrections(
     }
 }
 
-// a·g/p rounded down, or a where g is enough.
-pub fn portion(a: u64, g: u64, p: u64) -> u64
-    requires { ⌜ a * g < 2 ^ 64 ⌝ }
-    ensures { λ r. ⌜ r ≡ portionOf a g p ⌝ }
-{
-    if p <= g {
-        return a;
-    }
-    a * g / p
-}
-
 // The size that the limiter cuts a correction to: what the receiver may gain, and what the giver may lose.
 pub fn cut(work: &[u64], size: u64, receiver: usize, giver: usize) -> u64
-    requires { ⌜ (4 * receiver + 3 < length (now work)) × (receiver < maxCells) × (size * ofCell (now work) receiver 2 < 2 ^ 64) ⌝ }
-    requires { ⌜ (4 * giver + 3 < length (now work)) × (giver < maxCells) × (size * ofCell (now work) giver 1 < 2 ^ 64) ⌝ }
+    requires { ⌜ (4 * receiver + 3 < length (now work)) × (receiver < maxCells) ⌝ }
+    requires { ⌜ (4 * giver + 3 < length (now work)) × (giver < maxCells) ⌝ }
     ensures { λ r. ⌜ r ≡ min (portionOf size (ofCell (now (work .entry)) receiver 2) (ofCell (now (work .entry)) receiver 0))
         (portionOf size (ofCell (now (work .entry)) giver 1) (ofCell (now (work .entry)) giver 3)) ⌝ }
 {

@@ -1,6 +1,6 @@
 -- What a mesh record comes to, from what the calls that `take_mesh` and `keep` make promise. What is read has tables as long as its counts,
 -- within the run's limits; so of the verdict on it only the values are left.
-use Prim.Native.Nat.{ℕ, _≤_}
+use Prim.Native.Nat.{ℕ, _^_, _≤_, _<_}
 use mathlib.Core.Path.{_≡_, refl, sym, ap, _∙_}
 use mathlib.Core.List.{List, [], _∷_}
 use native.Mathlib.Omega.{arith}
@@ -9,14 +9,20 @@ use lib.Dec.{leb}
 use lib.ListN.{length, take}
 use Rattle.lists.specs.Table.{over}
 use Rattle.lists.proofs.Tests.{both-true, true-both}
-use Rattle.lists.proofs.Tables.{length-table}
-use Rattle.model.specs.Mesh.{Mesh, meshOf, runCells, runFaces, maxCells, maxFaces}
+use Rattle.lists.proofs.Tables.{length-table, getD-table}
+use Rattle.model.specs.Mesh.{Mesh, meshOf, runCells, runFaces, maxCells, maxFaces, ceiling, oldCeiling}
 use Rattle.model.specs.Causes.{accepted, refused, Verdict, fine, _andThen_, countsWithin, counts, meshTables, meshValues, meshVerdict}
+use Rattle.model.specs.Ceilings.{MeshSmall}
 use Rattle.model.specs.Answers.{number}
 use Rattle.model.specs.declared.Refusal.{Refusal}
 use Rattle.model.proofs.Verdicts.{refused-at, both-fine, past, out, refused-of, accepted-of, need-fine, need-met}
 use Rattle.model.proofs.Accepted.{mesh-lent}
-use Rattle.heads.specs.Heads.{cellsIn, facesIn, meshHeadVerdict}
+use Rattle.bits.proofs.Fields.{bits-lt}
+use Rattle.sections.specs.Sections.{place, entryIn}
+use Rattle.heads.specs.Layouts.{widthOf, valueOf, valueBits, meshShape}
+use Rattle.heads.specs.Heads.{kindIn, widthIn, cellsIn, facesIn, meshHeadVerdict}
+use Rattle.heads.specs.declared.Width.{Width}
+use Rattle.heads.specs.declared.Width.the-variants.{Narrow}
 use Rattle.reading.specs.Reading.{volumesIn, firstsIn, secondsIn, sharesIn, reachesIn, countsIn, meshIn, meshRead}
 use Rattle.reading.specs.Answers.{meshSaid, MeshReading}
 use Rattle.reading.specs.declared.MeshAnswer.{MeshAnswer}
@@ -27,15 +33,15 @@ use Rattle.mesh_taking.specs.Inner.{MeshCut, keptFound}
 use Rattle.parts.proofs.Parts.{PartRead, read-part}
 
 -- a mesh of which v is found: refused, and accepted
-pub kept-refused : {v : Verdict} (M : Mesh) (volumes firsts seconds shares reaches : List ℕ) (a : MeshAnswer) (k i : ℕ) → v ≡ refused k i → meshSaid a ≡ refused k i
-    → MeshKept v M volumes firsts seconds shares reaches a volumes firsts seconds shares reaches
-kept-refused M volumes firsts seconds shares reaches a k i e s =
+pub kept-refused : {v : Verdict} (w : Width) (M : Mesh) (volumes firsts seconds shares reaches : List ℕ) (a : MeshAnswer) (k i : ℕ) → v ≡ refused k i → meshSaid a ≡ refused k i
+    → MeshKept v w M volumes firsts seconds shares reaches a volumes firsts seconds shares reaches
+kept-refused w M volumes firsts seconds shares reaches a k i e s =
     record { answer = s ∙ sym (out _ e); volumes-after = rw e; firsts-after = rw e; seconds-after = rw e; shares-after = rw e; reaches-after = rw e }
 
-pub kept-accepted : {v : Verdict} (M : Mesh) (volumes firsts seconds shares reaches volumes′ firsts′ seconds′ shares′ reaches′ : List ℕ) → v ≡ fine
+pub kept-accepted : {v : Verdict} (w : Width) (M : Mesh) (volumes firsts seconds shares reaches volumes′ firsts′ seconds′ shares′ reaches′ : List ℕ) → v ≡ fine
     → volumes′ ≡ over (M .volumes) volumes → firsts′ ≡ over (M .firsts) firsts → seconds′ ≡ over (M .seconds) seconds → shares′ ≡ over (M .shares) shares → reaches′ ≡ over (M .reaches) reaches
-    → MeshKept v M volumes firsts seconds shares reaches (mesh-answer.Read (record { cells = M .cells; faces = M .faces })) volumes′ firsts′ seconds′ shares′ reaches′
-kept-accepted M volumes firsts seconds shares reaches volumes′ firsts′ seconds′ shares′ reaches′ e a b c d f =
+    → MeshKept v w M volumes firsts seconds shares reaches (mesh-answer.Read (record { cells = M .cells; faces = M .faces; width = w })) volumes′ firsts′ seconds′ shares′ reaches′
+kept-accepted w M volumes firsts seconds shares reaches volumes′ firsts′ seconds′ shares′ reaches′ e a b c d f =
     record { answer = sym (past _ e); volumes-after = rw e a; firsts-after = rw e b; seconds-after = rw e c; shares-after = rw e d; reaches-after = rw e f }
 
 -- the lent tables hold a mesh of which nothing is found
@@ -67,6 +73,23 @@ pub mesh-cut : (bs : List ℕ) → MeshCut (meshIn bs)
 unfolding volumesIn firstsIn secondsIn sharesIn reachesIn
 mesh-cut bs = record { volumes-cut = length-table _ _; firsts-cut = length-table _ _; seconds-cut = length-table _ _; shares-cut = length-table _ _; reaches-cut = length-table _ _ }
 
+-- V and K of 12 bits are within the old ceilings
+value-narrow : (kind : ℕ) → widthOf kind ≡ Narrow → valueBits kind ≡ valueOf Narrow
+unfolding valueBits
+value-narrow kind e = ap valueOf e
+
+pub mesh-small : (bs : List ℕ) → widthIn bs ≡ Narrow → MeshSmall (meshIn bs)
+unfolding volumesIn reachesIn
+mesh-small bs e = record {
+  small-volumes = λ c h. rw (getD-table (cellsIn bs) (entryIn bs (meshShape (kindIn bs) (cellsIn bs) (facesIn bs)) 1 0) 0 c h)
+      (narrow (bits-lt bs (place (meshShape (kindIn bs) (cellsIn bs) (facesIn bs)) 1 0 c) (valueBits (kindIn bs))));
+  small-reaches = λ f l. rw (getD-table (facesIn bs) (entryIn bs (meshShape (kindIn bs) (cellsIn bs) (facesIn bs)) 2 3) 0 f l)
+      (narrow (bits-lt bs (place (meshShape (kindIn bs) (cellsIn bs) (facesIn bs)) 2 3 f) (valueBits (kindIn bs))));
+}
+  where
+    narrow : {v : ℕ} → v < 2 ^ valueBits (kindIn bs) → v ≤ oldCeiling
+    narrow {v} l = let k : v < 2 ^ valueOf Narrow = rw (value-narrow (kindIn bs) e) at l in omega arith
+
 module _ (bs : List ℕ) (e : meshRecordFound bs ≡ fine) where
   pub limits : Limits bs
   unfolding meshRecordFound meshHeadVerdict countsWithin
@@ -94,7 +117,7 @@ module _ (bs : List ℕ) (e : meshRecordFound bs ≡ fine) where
     need-met 2 4 (le-leb (facesIn bs) (length (reachesIn bs)) (omega (arith, c .reaches-cut))),
   )
 
-  pub values-left : meshVerdict (meshIn bs) ≡ meshValues (meshIn bs)
+  pub values-left : meshVerdict (meshIn bs) ≡ meshValues ceiling (meshIn bs)
   unfolding meshVerdict counts _andThen_
   values-left = rw (counts-pass, tables-pass)
 
@@ -126,7 +149,7 @@ module _ {bs volumes firsts seconds shares reaches : List ℕ} {a : MeshAnswer} 
   pub mesh-unread : {r : Refusal} → a ≡ mesh-answer.Refused r → (v f s w k : List ℕ) → MeshTaking bs v f s w k a v f s w k
   unfolding meshJudged
   mesh-unread {r = r} d v f s w k =
-      kept-refused (meshIn bs) v f s w k a _ _ (refused-at [] (_ ∷ _ ∷ []) tt (refused-of (meshRecordFound bs) (countsIn bs) (number (r .cause)) (r .place) (sym (ap meshSaid d) ∙ read-said))) (ap meshSaid d)
+      kept-refused (widthIn bs) (meshIn bs) v f s w k a _ _ (refused-at [] (_ ∷ _ ∷ []) tt (refused-of (meshRecordFound bs) (countsIn bs) (number (r .cause)) (r .place) (sym (ap meshSaid d) ∙ read-said))) (ap meshSaid d)
 
   pub mesh-read : {n : MeshCounts} → a ≡ mesh-answer.Read n → MeshIsRead bs n volumes′ firsts′ seconds′ shares′ reaches′
   unfolding volumesIn firstsIn secondsIn sharesIn reachesIn
@@ -158,10 +181,10 @@ module _ {bs : List ℕ} {n : MeshCounts} {volumes′ firsts′ seconds′ share
   keep-asks = rw same (mesh-cut bs)
 
   pub mesh-done : {volumes firsts seconds shares reaches : List ℕ} {r : MeshAnswer} {v f s w k : List ℕ}
-      → MeshKept (keptFound (meshOf (n .cells) (n .faces) volumes firsts seconds shares reaches) R) R volumes firsts seconds shares reaches r v f s w k
+      → MeshKept (keptFound (meshOf (n .cells) (n .faces) volumes firsts seconds shares reaches) R) (n .width) R volumes firsts seconds shares reaches r v f s w k
       → MeshTaking bs volumes firsts seconds shares reaches r v f s w k
   mesh-done {volumes = volumes} {firsts = firsts} {seconds = seconds} {shares = shares} {reaches = reaches} {r = r} {v = v} {f = f} {s = s} {w = w} {k = k} t =
-      let x : MeshKept (keptFound (meshOf (n .cells) (n .faces) volumes firsts seconds shares reaches) (meshIn bs)) (meshIn bs) volumes firsts seconds shares reaches r v f s w k = rw same at t in
-      let y : MeshKept (keptFound (meshOf (cellsIn bs) (facesIn bs) volumes firsts seconds shares reaches) (meshIn bs)) (meshIn bs) volumes firsts seconds shares reaches
+      let x : MeshKept (keptFound (meshOf (n .cells) (n .faces) volumes firsts seconds shares reaches) (meshIn bs)) (n .width) (meshIn bs) volumes firsts seconds shares reaches r v f s w k = rw same at t in
+      let y : MeshKept (keptFound (meshOf (cellsIn bs) (facesIn bs) volumes firsts seconds shares reaches) (meshIn bs)) (widthIn bs) (meshIn bs) volumes firsts seconds shares reaches
       r v f s w k = rw (m .counts-are) at x in
       rw (found-is bs (m .passed) volumes firsts seconds shares reaches) at y

@@ -1,13 +1,14 @@
 -- Document 01, "The board and the run": what a mesh record comes to. It is read, then judged by the causes of its values. A refusal
--- leaves every lent table as it was.
+-- leaves every lent table as it was. Document 02, S-10: the answer says the width, which is that of the records after it.
 use Prim.Native.Nat.{ℕ}
 use mathlib.Core.Path.{_≡_}
 use mathlib.Core.List.{List}
 use lib.ListN.{length}
 use Rattle.lists.specs.Table.{over}
-use Rattle.model.specs.Mesh.{Mesh, runCells, runFaces}
+use Rattle.model.specs.Mesh.{Mesh, runCells, runFaces, ceiling}
 use Rattle.model.specs.Causes.{accepted, Verdict, _andThen_, taken, long, meshValues}
-use Rattle.heads.specs.Heads.{cellsIn, facesIn, meshHeadVerdict}
+use Rattle.heads.specs.Heads.{widthIn, cellsIn, facesIn, meshHeadVerdict}
+use Rattle.heads.specs.declared.Width.{Width}
 use Rattle.reading.specs.Reading.{meshIn, meshBodyVerdict}
 use Rattle.reading.specs.Answers.{meshSaid}
 use Rattle.reading.specs.declared.MeshAnswer.{MeshAnswer}
@@ -22,12 +23,12 @@ unfoldable pub meshJudged : List ℕ → ℕ → ℕ → ℕ → ℕ → ℕ →
 meshJudged bs volumes firsts seconds shares reaches = meshRecordFound bs
     andThen (long 0 (cellsIn bs) volumes andThen long 1 (facesIn bs) firsts andThen long 2 (facesIn bs) seconds andThen long 3 (facesIn bs) shares
     andThen long 4 (facesIn bs) reaches)
-    andThen meshValues (meshIn bs)
+    andThen meshValues ceiling (meshIn bs)
 
--- A mesh of which v is found: the answer, and each lent table. The counted entries are filled where it is accepted; no other entry is, and
+-- A mesh of which v is found, in a record of this width: the answer, and each lent table. The counted entries are filled where it is accepted; no other entry is, and
 -- after a refusal none.
-pub record MeshKept (v : Verdict) (M : Mesh) (volumes firsts seconds shares reaches : List ℕ) (r : MeshAnswer) (volumes′ firsts′ seconds′ shares′ reaches′ : List ℕ) : Type 0 where
-  pub answer : meshSaid r ≡ (v andThen accepted (record { cells = M .cells; faces = M .faces }))
+pub record MeshKept (v : Verdict) (w : Width) (M : Mesh) (volumes firsts seconds shares reaches : List ℕ) (r : MeshAnswer) (volumes′ firsts′ seconds′ shares′ reaches′ : List ℕ) : Type 0 where
+  pub answer : meshSaid r ≡ (v andThen accepted (record { cells = M .cells; faces = M .faces; width = w }))
   pub volumes-after : volumes′ ≡ taken v (over (M .volumes) volumes) volumes
   pub firsts-after : firsts′ ≡ taken v (over (M .firsts) firsts) firsts
   pub seconds-after : seconds′ ≡ taken v (over (M .seconds) seconds) seconds
@@ -36,4 +37,4 @@ pub record MeshKept (v : Verdict) (M : Mesh) (volumes firsts seconds shares reac
 
 abbrev pub MeshTaking : List ℕ → List ℕ → List ℕ → List ℕ → List ℕ → List ℕ → MeshAnswer → List ℕ → List ℕ → List ℕ → List ℕ → List ℕ → Type 0
 MeshTaking bs volumes firsts seconds shares reaches =
-    MeshKept (meshJudged bs (length volumes) (length firsts) (length seconds) (length shares) (length reaches)) (meshIn bs) volumes firsts seconds shares reaches
+    MeshKept (meshJudged bs (length volumes) (length firsts) (length seconds) (length shares) (length reaches)) (widthIn bs) (meshIn bs) volumes firsts seconds shares reaches

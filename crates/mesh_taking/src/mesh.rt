@@ -1,4 +1,5 @@
 // A mesh record.
+use heads::Width;
 use model::Answer;
 use model::RUN_CELLS;
 use model::RUN_FACES;
@@ -35,6 +36,7 @@ fn holds(
 
 // A mesh that has been read, judged by 3 to 5 and copied into the lent tables.
 fn keep(
+    width: Width,
     cells: usize,
     faces: usize,
     read_volumes: &[u64],
@@ -53,6 +55,7 @@ fn keep(
         (keptFound
         (meshOf cells faces (now (volumes .entry)) (now (firsts .entry)) (now (seconds .entry)) (now (shares .entry)) (now (reaches .entry)))
         (meshOf cells faces (now («read_volumes» .entry)) (now («read_firsts» .entry)) (now («read_seconds» .entry)) (now («read_shares» .entry)) (now («read_reaches» .entry))))
+        width
         (meshOf cells faces (now («read_volumes» .entry)) (now («read_firsts» .entry)) (now («read_seconds» .entry)) (now («read_shares» .entry)) (now («read_reaches» .entry)))
         (now (volumes .entry)) (now (firsts .entry)) (now (seconds .entry)) (now (shares .entry)) (now (reaches .entry)) r
         (now (volumes .exit)) (now (firsts .exit)) (now (seconds .exit)) (now (shares .exit)) (now (reaches .exit)) ⌝ }
@@ -84,7 +87,11 @@ fn keep(
     parts::copy(read_seconds, seconds);
     parts::copy(read_shares, shares);
     parts::copy(read_reaches, reaches);
-    MeshAnswer::Read(MeshCounts { cells, faces })
+    MeshAnswer::Read(MeshCounts {
+        cells,
+        faces,
+        width,
+    })
 }
 
 // A mesh within the run's limits.
@@ -120,7 +127,9 @@ pub fn take_mesh(
     };
     let cells = counts.cells;
     let faces = counts.faces;
+    let width = counts.width;
     keep(
+        width,
         cells,
         faces,
         &read_volumes[..cells],

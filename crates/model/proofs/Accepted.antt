@@ -4,7 +4,7 @@ use mathlib.Core.Path.{_≡_}
 use mathlib.Core.Logic.{_≢_}
 use mathlib.Core.Bool.{Bool, true, false, not, cond, _&&_, _||_}
 use mathlib.Core.List.{List}
-use native.Mathlib.Nat.{lt-div-mul-add, mul-le-mul}
+use native.Mathlib.Nat.{lt-div-mul-add, mul-le-mul, le-trans}
 use native.Mathlib.Omega.{arith}
 use borrow.Author.Tests.{not-true, ne-eqb, leb-true, le-leb, eqb-true, eqb-false}
 use lib.ListN.{length, getD}
@@ -12,9 +12,9 @@ use lib.Dec.{eqb, leb, ltb}
 use Rattle.signed.specs.Sign.{size, isNegative}
 use Rattle.lists.proofs.Tests.{Same, same, other, same?, both-true, either-true}
 use Rattle.lists.proofs.Sums.{greatest-le}
-use Rattle.model.specs.Mesh.{Mesh, volume, first, second, share, reach, atRim, rim, incoming, outgoing, maxCells, maxFaces, maxVolume, maxShare, maxReach, maxConcentration, maxRimFlux}
+use Rattle.model.specs.Mesh.{Mesh, volume, first, second, share, reach, atRim, rim, incoming, outgoing, maxCells, maxFaces, maxVolume, maxShare, maxReach, maxConcentration, maxRimFlux, ceiling}
 use Rattle.model.specs.Step.{StepInput, raised, rounded, flux, outside, concentration, adjacent, hi}
-use Rattle.model.specs.Causes.{meshLengths, stepLengths, meshCauses, release, raisedGood, raisedValues, waterCauses, stepCauses, fine, _andThen_, each, between, Call, inputOf, countsWithin, counts, meshTables, volumeGood, endsGood, spacingGood, meshValues, fieldTable, fieldValues, saltGood, fieldVerdict, stepTables, outsideGood, fluxGood, balanceGood, outflowGood, stepValues, verdict, meshFieldVerdict}
+use Rattle.model.specs.Causes.{spacingFit, meshLengths, stepLengths, meshCauses, release, raisedGood, raisedValues, waterCauses, stepCauses, fine, _andThen_, each, between, Call, inputOf, countsWithin, counts, meshTables, volumeGood, endsGood, spacingGood, meshValues, fieldTable, fieldValues, saltGood, fieldVerdict, stepTables, outsideGood, fluxGood, balanceGood, outflowGood, stepValues, verdict, meshFieldVerdict}
 use Rattle.model.specs.Accepted.{Counted, MeshLent, CallLent, MeshFit, WaterFit, Ready, maxMass}
 use Rattle.model.proofs.Verdicts.{both-fine, all-fine, need-fine, need-met, long-fine, each-fine, fine-each}
 use Rattle.model.proofs.Low.{met-any}
@@ -66,43 +66,47 @@ ends-say n l k e =
     let b = both-true (ltb l n) (ltb k n || eqb k rim) (a .0) in
     (leb-true (suc l) n (b .0), (λ d. leb-true (suc k) n (either-true (ltb k n) (eqb k rim) (b .1) (ne-eqb k rim d))), eqb-false l k (not-true (eqb l k) (a .1)))
 
-spacing-says : (k s r : ℕ) → cond (eqb k rim) (eqb s 0 && eqb r 0) (between 1 maxShare s && between 1 maxReach r) ≡ true → (s ≤ maxShare) × (r ≤ maxReach) × (k ≢ rim → 1 ≤ r)
-spacing-says k s r e = go (eqb k rim) (same? k rim) e
+spacing-says : (most k s r : ℕ) → spacingFit most k s r ≡ true → (s ≤ maxShare) × (r ≤ most) × (k ≢ rim → 1 ≤ r)
+spacing-says most k s r e = go (eqb k rim) (same? k rim) e
   where
-    go : (b : Bool) → Same k rim b → cond b (eqb s 0 && eqb r 0) (between 1 maxShare s && between 1 maxReach r) ≡ true → (s ≤ maxShare) × (r ≤ maxReach) × (k ≢ rim → 1 ≤ r)
+    go : (b : Bool) → Same k rim b → cond b (eqb s 0 && eqb r 0) (between 1 maxShare s && between 1 most r) ≡ true → (s ≤ maxShare) × (r ≤ most) × (k ≢ rim → 1 ≤ r)
     go true (same d) e = let p = both-true (eqb s 0) (eqb r 0) e in (omega (arith, eqb-true s 0 (p .0)), omega (arith, eqb-true r 0 (p .1)), λ n. absurd (n d))
     go false o e =
-        let p = both-true (between 1 maxShare s) (between 1 maxReach r) e in
+        let p = both-true (between 1 maxShare s) (between 1 most r) e in
         let a = both-true (leb 1 s) (leb s maxShare) (p .0) in
-        let b = both-true (leb 1 r) (leb r maxReach) (p .1) in
+        let b = both-true (leb 1 r) (leb r most) (p .1) in
         (leb-true _ _ (a .1), leb-true _ _ (b .1), λ n. leb-true _ _ (b .0))
 
-module _ (M : Mesh) (e : meshValues M ≡ fine) where
-  volumes-say : (c : ℕ) → c < M .cells → (1 ≤ volume M c) × (volume M c ≤ maxVolume)
+module _ (most : ℕ) (M : Mesh) (e : meshValues most M ≡ fine) where
+  pub volumes-within : (c : ℕ) → c < M .cells → (1 ≤ volume M c) × (volume M c ≤ most)
   unfolding meshValues volumeGood
-  volumes-say c h =
-      let p = both-true (leb 1 (volume M c)) (leb (volume M c) maxVolume) (each-fine 3 (M .cells) (volumeGood M) (all-fine (meshCauses M) e .0) c h) in
+  volumes-within c h =
+      let p = both-true (leb 1 (volume M c)) (leb (volume M c) most) (each-fine 3 (M .cells) (volumeGood most M) (all-fine (meshCauses most M) e .0) c h) in
       (leb-true _ _ (p .0), leb-true _ _ (p .1))
 
   joins : (f : ℕ) → f < M .faces → (first M f < M .cells) × (second M f ≢ rim → second M f < M .cells) × (first M f ≢ second M f)
   unfolding meshValues endsGood
-  joins f h = ends-say (M .cells) (first M f) (second M f) (each-fine 4 (M .faces) (endsGood M) (all-fine (meshCauses M) e .1 .0) f h)
+  joins f h = ends-say (M .cells) (first M f) (second M f) (each-fine 4 (M .faces) (endsGood M) (all-fine (meshCauses most M) e .1 .0) f h)
 
-  spaced : (f : ℕ) → f < M .faces → (share M f ≤ maxShare) × (reach M f ≤ maxReach) × (second M f ≢ rim → 1 ≤ reach M f)
+  pub spaced-within : (f : ℕ) → f < M .faces → (share M f ≤ maxShare) × (reach M f ≤ most) × (second M f ≢ rim → 1 ≤ reach M f)
   unfolding meshValues spacingGood
-  spaced f h = spacing-says (second M f) (share M f) (reach M f) (each-fine 5 (M .faces) (spacingGood M) (all-fine (meshCauses M) e .1 .1 .0) f h)
+  spaced-within f h = spacing-says most (second M f) (share M f) (reach M f) (each-fine 5 (M .faces) (spacingGood most M) (all-fine (meshCauses most M) e .1 .1 .0) f h)
 
-  pub mesh-fit : MeshFit M
-  mesh-fit = record {
-    volume-some = λ c h. volumes-say c h .0;
-    volume-most = λ c h. volumes-say c h .1;
+  -- by a ceiling that is no larger than that of the calls
+  pub fit-within : most ≤ ceiling → MeshFit M
+  fit-within l = record {
+    volume-some = λ c h. volumes-within c h .0;
+    volume-most = λ c h. le-trans (volumes-within c h .1) l;
     first-in = λ f h. joins f h .0;
     second-in = λ f h. joins f h .1;
     apart = λ f h. joins f h .2;
-    share-most = λ f h. spaced f h .0;
-    reach-some = λ f h. spaced f h .2;
-    reach-most = λ f h. spaced f h .1;
+    share-most = λ f h. spaced-within f h .0;
+    reach-some = λ f h. spaced-within f h .2;
+    reach-most = λ f h. le-trans (spaced-within f h .1) l;
   }
+
+pub mesh-fit : (M : Mesh) → meshValues ceiling M ≡ fine → MeshFit M
+mesh-fit M e = fit-within ceiling M e (omega arith)
 
 -- past cause 6, and back
 pub field-fit : (M : Mesh) (field : List ℕ) → fieldValues M field ≡ fine → (c : ℕ) → c < M .cells → getD field c 0 / volume M c ≤ maxConcentration
@@ -126,12 +130,17 @@ outside-says o true e = leb-true o maxConcentration e
 outside-says o false e = omega (arith, leb-true o 0 e)
 
 module _ (M : Mesh) (field : List ℕ) (k : Call) where
-  pub water-fit : each 7 (M .faces) (outsideGood M field k) ≡ fine → each 8 (M .faces) (fluxGood M field k) ≡ fine → WaterFit (inputOf M field k)
-  unfolding outsideGood fluxGood
-  water-fit e d = record {
-    outside-most = λ f h. outside-says (outside (inputOf M field k) f) (atRim M f && isNegative (flux (inputOf M field k) f)) (each-fine 7 (M .faces) (outsideGood M field k) e f h);
-    flux-most = λ f h. leb-true _ _ (each-fine 8 (M .faces) (fluxGood M field k) d f h);
-  }
+  pub outside-within : each 7 (M .faces) (outsideGood M field k) ≡ fine → (f : ℕ) → f < M .faces → outside (inputOf M field k) f ≤ maxConcentration
+  unfolding outsideGood
+  outside-within e f h = outside-says (outside (inputOf M field k) f) (atRim M f && isNegative (flux (inputOf M field k) f)) (each-fine 7 (M .faces) (outsideGood M field k) e f h)
+
+  pub flux-within : (most : ℕ) → each 8 (M .faces) (fluxGood most M field k) ≡ fine → (f : ℕ) → f < M .faces
+      → size (flux (inputOf M field k) f) ≤ cond (atRim M f) most (reach M f)
+  unfolding fluxGood
+  flux-within most e f h = leb-true _ _ (each-fine 8 (M .faces) (fluxGood most M field k) e f h)
+
+  pub water-fit : each 7 (M .faces) (outsideGood M field k) ≡ fine → each 8 (M .faces) (fluxGood ceiling M field k) ≡ fine → WaterFit (inputOf M field k)
+  water-fit e d = record { outside-most = outside-within e; flux-most = flux-within ceiling d }
 
   -- past causes 9 and 10
   pub level : each 9 (M .cells) (balanceGood M field k) ≡ fine → (c : ℕ) → c < M .cells → incoming M (flux (inputOf M field k)) c ≡ outgoing M (flux (inputOf M field k)) c
@@ -152,7 +161,7 @@ mesh-long M e =
 -- what a field whose causes are fine has passed
 pub record FieldPassed (M : Mesh) (field : List ℕ) : Type 0 where
   pub lent-fine : (counts M andThen meshTables M andThen fieldTable M field) ≡ fine
-  pub mesh-fine : meshValues M ≡ fine
+  pub mesh-fine : meshValues ceiling M ≡ fine
   pub field-fine : fieldValues M field ≡ fine
 
 pub field-passed : {M : Mesh} {field : List ℕ} → meshFieldVerdict M field ≡ fine → FieldPassed M field
@@ -163,12 +172,16 @@ field-passed {M} {field} e =
     record { lent-fine = b .0; mesh-fine = b .1; field-fine = a .1 }
 
 -- what cause 6 asks for
-pub salt-asks : (M : Mesh) (field : List ℕ) → (counts M andThen meshTables M andThen fieldTable M field) ≡ fine → meshValues M ≡ fine
+pub salt-asks-within : (most : ℕ) → most ≤ ceiling → (M : Mesh) (field : List ℕ) → (counts M andThen meshTables M andThen fieldTable M field) ≡ fine → meshValues most M ≡ fine
     → ((M .cells ≤ length (M .volumes)) × (M .cells ≤ length field)) × ((c : ℕ) → c < M .cells → (1 ≤ volume M c) × (volume M c ≤ maxVolume))
-salt-asks M field e d =
+salt-asks-within most l M field e d =
     let p = both-fine _ _ e in
-    let m = mesh-fit M d in
+    let m = fit-within most M d l in
     ((mesh-long M (p .0) .0, field-lent M field (p .1)), λ c h. (m .volume-some c h, m .volume-most c h))
+
+pub salt-asks : (M : Mesh) (field : List ℕ) → (counts M andThen meshTables M andThen fieldTable M field) ≡ fine → meshValues ceiling M ≡ fine
+    → ((M .cells ≤ length (M .volumes)) × (M .cells ≤ length field)) × ((c : ℕ) → c < M .cells → (1 ≤ volume M c) × (volume M c ≤ maxVolume))
+salt-asks = salt-asks-within ceiling (omega arith)
 
 -- what the lengths of a step's tables ask for
 pub few : (M : Mesh) (field : List ℕ) → (counts M andThen meshTables M andThen fieldTable M field) ≡ fine → (M .cells ≤ maxCells) × (M .faces ≤ maxFaces)
@@ -200,10 +213,10 @@ pub record Passed (M : Mesh) (field : List ℕ) (k : Call) : Type 0 where
   pub mesh-tables-fine : meshTables M ≡ fine
   pub field-table-fine : fieldTable M field ≡ fine
   pub step-tables-fine : stepTables M field k ≡ fine
-  pub mesh-values-fine : meshValues M ≡ fine
+  pub mesh-values-fine : meshValues ceiling M ≡ fine
   pub field-values-fine : fieldValues M field ≡ fine
   pub raised-values-fine : raisedValues M field k ≡ fine
-  pub step-values-fine : stepValues M field k ≡ fine
+  pub step-values-fine : stepValues ceiling M field k ≡ fine
 
 module _ (M : Mesh) (field : List ℕ) (k : Call) where
   pub passed : verdict M field k ≡ fine → Passed M field k
@@ -228,7 +241,7 @@ module _ (M : Mesh) (field : List ℕ) (k : Call) where
       let c = counted M (p .counts-fine) in
       let m = mesh-fit M (p .mesh-values-fine) in
       let l = call-lent M field k (p .step-tables-fine) in
-      let w = all-fine (waterCauses M field k) (p .step-values-fine) in
+      let w = all-fine (waterCauses ceiling M field k) (p .step-values-fine) in
       record {
         counts-fit = c;
         lent = mesh-lent M (p .mesh-tables-fine);

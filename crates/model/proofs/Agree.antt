@@ -13,7 +13,7 @@ use Rattle.lists.specs.Table.{table, over}
 use Rattle.lists.proofs.Tests.{Same, same, same?}
 use Rattle.lists.proofs.Sums.{sum-cong}
 use Rattle.lists.proofs.Tables.{table-cong}
-use Rattle.model.specs.Mesh.{Mesh, first, second, rim, entering, leaving, incoming, outgoing, total}
+use Rattle.model.specs.Mesh.{Mesh, first, second, rim, entering, leaving, incoming, outgoing, total, ceiling}
 use Rattle.model.specs.Step.{StepInput, lo, hi, moved, next, inMass, outMass}
 use Rattle.model.specs.Alike.{straight, AlikeEnds, AlikeMesh, Alike, AlikeCall, AgreeMesh, Agree, AgreeCall}
 use Rattle.model.specs.Causes.{accepted, refused, Verdict, fine, taken, each, Call, inputOf, meshTables, fieldTable, stepTables, meshValues, volumeGood, endsGood, spacingGood, fieldValues, fieldVerdict, verdict}
@@ -81,17 +81,17 @@ module _ (M M′ : Mesh) (same-faces : M′ .faces ≡ M .faces)
   outgoing-agree c = ap (λ (n : ℕ). sum n (leaving M′ x′ c)) same-faces ∙ sum-cong (M .faces) _ _ (λ f l. rw (ends f l .0, ends f l .1, same-amounts f l))
 
 -- a scan of tests that agree finds the same, at the same place
-each-agree : (k n : ℕ) {n′ : ℕ} (good good′ : ℕ → Bool) → n′ ≡ n → ((i : ℕ) → i < n → good′ i ≡ good i) → each k n′ good′ ≡ each k n good
+pub each-agree : (k n : ℕ) {n′ : ℕ} (good good′ : ℕ → Bool) → n′ ≡ n → ((i : ℕ) → i < n → good′ i ≡ good i) → each k n′ good′ ≡ each k n good
 each-agree k n = each-alike true k n (unmoved n) (λ q i l. refl)
 
 -- causes 3 to 5
 module _ (M M′ : Mesh) (g : AgreeMesh M M′) where
-  pub mesh-values-agree : meshValues M′ ≡ meshValues M
+  pub mesh-values-agree : meshValues ceiling M′ ≡ meshValues ceiling M
   unfolding meshValues volumeGood endsGood spacingGood
   mesh-values-agree = rw (
-    each-agree 3 (M .cells) (volumeGood M) (volumeGood M′) (g .cells-same) (λ c h. rw (g .volumes c h)),
+    each-agree 3 (M .cells) (volumeGood ceiling M) (volumeGood ceiling M′) (g .cells-same) (λ c h. rw (g .volumes c h)),
     each-agree 4 (M .faces) (endsGood M) (endsGood M′) (g .faces-same) (λ f l. rw (g .cells-same, g .firsts f l, g .seconds f l)),
-    each-agree 5 (M .faces) (spacingGood M) (spacingGood M′) (g .faces-same) (λ f l. rw (g .seconds f l, g .shares f l, g .reaches f l)),
+    each-agree 5 (M .faces) (spacingGood ceiling M) (spacingGood ceiling M′) (g .faces-same) (λ f l. rw (g .seconds f l, g .shares f l, g .reaches f l)),
   )
 
   -- cause 6

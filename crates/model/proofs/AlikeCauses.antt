@@ -14,7 +14,7 @@ use Rattle.lists.proofs.Tests.{Same, same, other, same?}
 use Rattle.lists.proofs.Renumbered.{sum-renumbered}
 use Rattle.signed.specs.Sign.{isNegative, turn}
 use Rattle.signed.proofs.Turns.{size-turn}
-use Rattle.model.specs.Mesh.{Mesh, volume, second, atRim, rim, incoming, outgoing, maxConcentration}
+use Rattle.model.specs.Mesh.{Mesh, volume, second, atRim, rim, incoming, outgoing, maxConcentration, ceiling}
 use Rattle.model.specs.Step.{StepInput, flux, outside, mass, concentration, releasedMass}
 use Rattle.model.specs.Causes.{Outcome, accepted, refused, Verdict, fine, _andThen_, need, each, Call, inputOf, release, counts, meshTables, meshValues, fieldTable, saltGood, fieldValues, stepTables, raisedGood, raisedValues, outsideGood, fluxGood, balanceGood, outflowGood, stepValues, verdict}
 use Rattle.model.specs.Calls.{Crossing, crossingOf}
@@ -152,7 +152,7 @@ module _ (p : Bool) (M M′ : Mesh) (cell : Renumbering (M .cells)) (face : Renu
         go false x true s = refl
         go true (turned d _ _) true (same e) = absurd (d e)
 
-    flux-alike : (f : ℕ) → f < M .faces → fluxGood M′ field′ k′ (face .new f) ≡ fluxGood M field k f
+    flux-alike : (f : ℕ) → f < M .faces → fluxGood ceiling M′ field′ k′ (face .new f) ≡ fluxGood ceiling M field k f
     unfolding fluxGood
     flux-alike f l = rw (rim-same M M′ j cell face turns (m .ends-alike) f l, a .flux-same f l, m .reach-same f l, size-turn (turns f) (flux S f))
 
@@ -162,11 +162,11 @@ module _ (p : Bool) (M M′ : Mesh) (cell : Renumbering (M .cells)) (face : Renu
     outflow-alike : (c : ℕ) → c < M .cells → outgoing M′ (flux S′) (cell .new c) ≡ outgoing M (flux S) c
     outflow-alike = outgoing-alike M M′ j cell face turns (m .ends-alike) (flux S) (flux S′) (a .flux-same)
 
-    step-values-alike : shown p (stepValues M′ field′ k′) ≡ shown p (stepValues M field k)
+    step-values-alike : shown p (stepValues ceiling M′ field′ k′) ≡ shown p (stepValues ceiling M field k)
     unfolding stepValues balanceGood outflowGood
     step-values-alike = in-turn p _ _ _ _ (in-turn p _ _ _ _ (in-turn p _ _ _ _
         (by-faces 7 (outsideGood M field k) (outsideGood M′ field′ k′) outside-alike)
-        (λ e. by-faces 8 (fluxGood M field k) (fluxGood M′ field′ k′) flux-alike))
+        (λ e. by-faces 8 (fluxGood ceiling M field k) (fluxGood ceiling M′ field′ k′) flux-alike))
         (λ e. by-cells 9 (balanceGood M field k) (balanceGood M′ field′ k′) (λ c h. rw (inflow-alike c h, outflow-alike c h))))
         (λ e. by-cells 10 (outflowGood M field k) (outflowGood M′ field′ k′) (λ c h. rw (outflow-alike c h, m .volume-same c h)))
 
@@ -177,7 +177,7 @@ module _ (p : Bool) (M M′ : Mesh) (cell : Renumbering (M .cells)) (face : Renu
   -- All causes, where cause 2 and causes 3 to 5 find the same: in tables of the same lengths, of a mesh that is accepted or has the same entries.
   module _ (mesh-lent : meshTables M′ ≡ meshTables M) (field-lent : fieldTable M′ field′ ≡ fieldTable M field)
       (call-lent : stepTables M′ field′ k′ ≡ stepTables M field k)
-      (values : shown p (meshValues M′) ≡ shown p (meshValues M)) where
+      (values : shown p (meshValues ceiling M′) ≡ shown p (meshValues ceiling M)) where
     pub verdict-alike : shown p (verdict M′ field′ k′) ≡ shown p (verdict M field k)
     unfolding verdict
     verdict-alike = in-turn p _ _ _ _ (in-turn p _ _ _ _ (in-turn p _ _ _ _ (in-turn p _ _ _ _ (ap (shown p) lent-alike)
@@ -190,7 +190,7 @@ module _ (p : Bool) (M M′ : Mesh) (cell : Renumbering (M .cells)) (face : Renu
             ≡ (counts M andThen meshTables M andThen fieldTable M field andThen stepTables M field k)
         lent-alike = rw (mesh-lent, field-lent, call-lent, counts-alike)
 
-        joins : (counts M andThen meshTables M andThen fieldTable M field andThen stepTables M field k) ≡ fine → meshValues M ≡ fine → Joined M
+        joins : (counts M andThen meshTables M andThen fieldTable M field andThen stepTables M field k) ≡ fine → meshValues ceiling M ≡ fine → Joined M
         joins lent fine-values = joined M (few M field (both-fine _ _ lent .0) .0) (mesh-fit M fine-values)
 
     pub answer-alike : shown p (verdict M′ field′ k′ andThen accepted (crossingOf M′ field′ k′))

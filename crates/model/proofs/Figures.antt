@@ -11,7 +11,7 @@ use lib.ListN.{replicate}
 use Rattle.lists.specs.Fold.{sum, least, greatest}
 use Rattle.lists.specs.Table.{table, over}
 use Rattle.signed.specs.Sign.{isNegative}
-use Rattle.model.specs.Mesh.{Mesh, meshOf, second, rim, entering, leaving, incoming, outgoing, updated}
+use Rattle.model.specs.Mesh.{Mesh, meshOf, second, rim, ceiling, oldCeiling, entering, leaving, incoming, outgoing, updated}
 use Rattle.model.specs.Step.{StepInput, rounded, roundedInput, raised, releasedMass, flux, outside, inMass, outMass, next, moved, concentration, beyond, upwind, downwind, carried, low, upwindShare, correction, smooths, keptBy, lowConcentration, kept, adjacent, lo, hi, maxGain, maxLoss, receiver, giver, limitedBy, limited, portion}
 use Rattle.model.specs.Causes.{Call, release, inputOf, fine, refused, _andThen_, need, each, countsWithin, counts, meshTables, volumeGood, endsGood, spacingGood, meshValues, fieldTable, saltGood, fieldValues, fieldVerdict, raisedGood, raisedValues, stepTables, outsideGood, fluxGood, balanceGood, outflowGood, stepValues, verdict}
 use Rattle.model.specs.Calls.{massIn, corrected, stepOnTables, nextTable, afterAll, totalIn, totalOut, totalReleased}
@@ -421,3 +421,47 @@ all-30 : table 3 (next (roundedInput
     ≡ 30 ∷ 30 ∷ 30 ∷ []
 unfolding everything
 all-30 = refl
+
+-- Document 02, S-10: one cell of V v with two faces over the rim; two cells of V 65,535 and two faces from 0 to 1, s 255 and 128, K 65,535 or one more
+abbrev pub largeStrait : ℕ → Mesh
+largeStrait v = record { cells = 1; faces = 2; volumes = v ∷ []; firsts = 0 ∷ 0 ∷ []; seconds = rim ∷ rim ∷ []; shares = 0 ∷ 0 ∷ []; reaches = 0 ∷ 0 ∷ [] }
+
+abbrev pub largePair : ℕ → Mesh
+largePair k = record { cells = 2; faces = 2; volumes = 65535 ∷ 65535 ∷ []; firsts = 0 ∷ 0 ∷ []; seconds = 1 ∷ 1 ∷ []; shares = 255 ∷ 128 ∷ []; reaches = 65535 ∷ k ∷ [] }
+
+abbrev pub largeCall : Call
+largeCall = record { fluxes = pos 30000 ∷ negsuc 29999 ∷ []; outsides = 0 ∷ 0 ∷ []; nexts = 0 ∷ 0 ∷ []; moveds = pos 0 ∷ pos 0 ∷ []; work = replicate 10 0; releases = 0 ∷ 0 ∷ [] }
+
+abbrev pub largeMasses : List ℕ
+largeMasses = 39321000000 ∷ 6553500000 ∷ []
+
+pub record LargeFigures : Type 0 where
+  -- the last good and the first bad value of each ceiling, and of the old ones
+  pub volume-last : meshValues ceiling (lake 65535) ≡ fine
+  pub volume-beyond : meshValues ceiling (lake 65536) ≡ refused 3 0
+  pub volume-old : meshValues oldCeiling (lake 4096) ≡ refused 3 0
+  pub reach-beyond : meshValues ceiling (largePair 65536) ≡ refused 5 1
+  pub flux-last : verdict (largeStrait 65535) (0 ∷ []) (through 65534) ≡ fine
+  pub flux-beyond : verdict (largeStrait 65535) (0 ∷ []) (through 65535) ≡ refused 8 0
+  pub fullest-large : fieldVerdict (lake 65535) (65535065534 ∷ []) ≡ fine
+  pub too-full-large : fieldVerdict (lake 65535) (65535065535 ∷ []) ≡ refused 6 0
+  -- corrections of 11508126323 and 4066720073 toward cell 0 are cut to 15000000000 of 15574846396, by products of more than 64 bits
+  pub large-accepted : verdict (largePair 65535) largeMasses largeCall ≡ fine
+  pub large-next : table 2 (next (inputOf (largePair 65535) largeMasses largeCall)) ≡ 39320999999 ∷ 6553500001 ∷ []
+  pub large-moved : table 2 (moved (inputOf (largePair 65535) largeMasses largeCall)) ≡ pos 6916622967 ∷ negsuc 6916622965 ∷ []
+
+pub large-figures : LargeFigures
+unfolding everything
+large-figures = record {
+  volume-last = refl;
+  volume-beyond = refl;
+  volume-old = refl;
+  reach-beyond = refl;
+  flux-last = refl;
+  flux-beyond = refl;
+  fullest-large = refl;
+  too-full-large = refl;
+  large-accepted = refl;
+  large-next = refl;
+  large-moved = refl;
+}

@@ -11,6 +11,7 @@ pub mod AlikeStages
 pub mod AlikeCauses
 pub mod Agree
 pub mod Unreleased
+pub mod Ceilings
 pub mod Lists
 pub mod Uniform
 pub mod Sizes

@@ -10,7 +10,7 @@ use lib.ListN.{length, getD}
 use Rattle.lists.specs.Table.{table, over}
 use Rattle.lists.proofs.Sums.{sum-cong, sum-zeros}
 use Rattle.lists.proofs.Tables.{table-cong}
-use Rattle.model.specs.Mesh.{Mesh, volume, maxConcentration}
+use Rattle.model.specs.Mesh.{Mesh, volume, maxConcentration, ceiling}
 use Rattle.model.specs.Step.{StepInput, mass, releasedMass, next, moved, inMass, outMass}
 use Rattle.model.specs.Alike.{Agree}
 use Rattle.model.specs.Causes.{accepted, refused, Verdict, fine, _andThen_, inTurn, taken, Call, inputOf, release, lengths01, stepTables, fieldValues, saltGood, raisedGood, raisedValues, stepValues, verdict}
@@ -47,7 +47,7 @@ module _ (M : Mesh) (field : List ℕ) (k : Call) (long : M .cells ≤ length (k
 
   verdict-same : verdict M field k ≡ verdict01 M field k
   unfolding verdict
-  verdict-same = rw lengths-same (ap (λ (v : Verdict). v andThen stepValues M field k) (idle _ _ (λ e. raised-idle (both-fine _ _ e .1))))
+  verdict-same = rw lengths-same (ap (λ (v : Verdict). v andThen stepValues ceiling M field k) (idle _ _ (λ e. raised-idle (both-fine _ _ e .1))))
 
   unraised-mass : (c : ℕ) → c < M .cells → mass S₀ c ≡ mass S c
   unraised-mass c h = sym (raised-at (M .cells) field (k .releases) c h ∙ rw (none c h) (add-zero (getD field c 0)))

@@ -6,7 +6,7 @@ use lib.ListN.{length, getD}
 use lib.Dec.{eqb, leb, ltb}
 use lib.IntN.{ℤ}
 use Rattle.signed.specs.Sign.{size, isNegative}
-use Rattle.model.specs.Mesh.{Mesh, meshOf, volume, first, second, share, reach, rim, incoming, outgoing, maxCells, maxFaces, maxVolume, maxShare, maxReach, maxConcentration, maxRimFlux}
+use Rattle.model.specs.Mesh.{Mesh, meshOf, volume, first, second, share, reach, rim, incoming, outgoing, maxCells, maxFaces, ceiling, maxShare, maxConcentration}
 use Rattle.model.specs.Step.{StepInput, flux, outside, raised, roundedInput}
 
 -- The first sentence: a result, or a refusal by the numbers of its cause and its place.
@@ -64,17 +64,18 @@ long position wanted has = need 2 position (leb wanted has)
 abbrev pub bytesLong : ℕ → ℕ → Verdict
 bytesLong wanted room = long 11 wanted room
 
--- Causes 3 to 8, each of the values that it reads. 3: V within its range.
-abbrev pub volumeFits : ℕ → Bool
-volumeFits v = between 1 maxVolume v
+-- Causes 3 to 8, each of the values that it reads. Document 02, S-10: 3, 5 and 8 read a ceiling, which the calls have at 65,535 and the writers of the old
+-- kinds of records at 4,095. 3: V within its range.
+abbrev pub volumeFits : (most v : ℕ) → Bool
+volumeFits most v = between 1 most v
 
 -- 4: first a cell, second a cell or the rim's mark, and not the same.
 abbrev pub endsFit : (cells first second : ℕ) → Bool
 endsFit cells first second = ltb first cells && (ltb second cells || eqb second rim) && not (eqb first second)
 
 -- 5: s and K within their ranges, and 0 at the rim.
-abbrev pub spacingFit : (second s K : ℕ) → Bool
-spacingFit second s K = cond (eqb second rim) (eqb s 0 && eqb K 0) (between 1 maxShare s && between 1 maxReach K)
+abbrev pub spacingFit : (most second s K : ℕ) → Bool
+spacingFit most second s K = cond (eqb second rim) (eqb s 0 && eqb K 0) (between 1 maxShare s && between 1 most K)
 
 -- 6: q within its ceiling.
 abbrev pub saltFit : (v m : ℕ) → Bool
@@ -88,9 +89,9 @@ raisedFit v m r = saltFit v (m + r)
 abbrev pub outsideFit : (second : ℕ) (inward : Bool) (outside : ℕ) → Bool
 outsideFit second inward outside = leb outside (cond (eqb second rim && inward) maxConcentration 0)
 
--- 8: the size of U within K, and within 4,095 at the rim.
-abbrev pub fluxFit : (second K amount : ℕ) → Bool
-fluxFit second K amount = leb amount (cond (eqb second rim) maxRimFlux K)
+-- 8: the size of U within K, and within the ceiling at the rim.
+abbrev pub fluxFit : (most second K amount : ℕ) → Bool
+fluxFit most second K amount = leb amount (cond (eqb second rim) most K)
 
 -- "Tables lent to a step", besides mesh and masses; and S-6's releases, one per cell.
 pub record Call : Type 0 where
@@ -165,23 +166,26 @@ module _ (M : Mesh) where
   unfoldable pub meshTables : Verdict
   meshTables = inTurn meshLengths
 
-  unfoldable pub volumeGood : ℕ → Bool
-  volumeGood c = volumeFits (volume M c)
-
   unfoldable pub endsGood : ℕ → Bool
   endsGood f = endsFit (M .cells) (first M f) (second M f)
 
+-- 3 to 5 with a ceiling
+module _ (most : ℕ) (M : Mesh) where
+  unfoldable pub volumeGood : ℕ → Bool
+  volumeGood c = volumeFits most (volume M c)
+
   unfoldable pub spacingGood : ℕ → Bool
-  spacingGood f = spacingFit (second M f) (share M f) (reach M f)
+  spacingGood f = spacingFit most (second M f) (share M f) (reach M f)
 
   abbrev pub meshCauses : List Verdict
-  meshCauses = each 3 (M .cells) volumeGood ∷ each 4 (M .faces) endsGood ∷ each 5 (M .faces) spacingGood ∷ []
+  meshCauses = each 3 (M .cells) volumeGood ∷ each 4 (M .faces) (endsGood M) ∷ each 5 (M .faces) spacingGood ∷ []
 
   unfoldable pub meshValues : Verdict
   meshValues = inTurn meshCauses
 
+module _ (M : Mesh) where
   unfoldable pub meshVerdict : Verdict
-  meshVerdict = inTurn (counts ∷ meshTables ∷ meshValues ∷ [])
+  meshVerdict = inTurn (counts M ∷ meshTables M ∷ meshValues ceiling M ∷ [])
 
   module _ (field : List ℕ) where
     unfoldable pub fieldTable : Verdict
@@ -198,7 +202,7 @@ module _ (M : Mesh) where
 
     -- of a call that is lent the mesh and a field
     unfoldable pub meshFieldVerdict : Verdict
-    meshFieldVerdict = inTurn (counts ∷ meshTables ∷ fieldTable ∷ meshValues ∷ fieldValues ∷ [])
+    meshFieldVerdict = inTurn (counts M ∷ meshTables M ∷ fieldTable ∷ meshValues ceiling M ∷ fieldValues ∷ [])
 
     module _ (k : Call) where
       unfoldable pub stepTables : Verdict
@@ -213,9 +217,6 @@ module _ (M : Mesh) where
       unfoldable pub outsideGood : ℕ → Bool
       outsideGood f = outsideFit (second M f) (isNegative (flux (inputOf M field k) f)) (outside (inputOf M field k) f)
 
-      unfoldable pub fluxGood : ℕ → Bool
-      fluxGood f = fluxFit (second M f) (reach M f) (size (flux (inputOf M field k) f))
-
       -- 9: a cell's inflow is its outflow; 10: its outflow is within V.
       unfoldable pub balanceGood : ℕ → Bool
       balanceGood c = eqb (incoming M (flux (inputOf M field k)) c) (outgoing M (flux (inputOf M field k)) c)
@@ -223,19 +224,41 @@ module _ (M : Mesh) where
       unfoldable pub outflowGood : ℕ → Bool
       outflowGood c = leb (outgoing M (flux (inputOf M field k)) c) (volume M c)
 
-      abbrev pub waterCauses : List Verdict
-      waterCauses = each 7 (M .faces) outsideGood ∷ each 8 (M .faces) fluxGood ∷ each 9 (M .cells) balanceGood ∷ each 10 (M .cells) outflowGood ∷ []
+-- 7 to 10 with a ceiling, and all causes of a step; S-6 places 18 after 6 and before 7
+module _ (most : ℕ) (M : Mesh) (field : List ℕ) (k : Call) where
+  unfoldable pub fluxGood : ℕ → Bool
+  fluxGood f = fluxFit most (second M f) (reach M f) (size (flux (inputOf M field k) f))
 
-      unfoldable pub stepValues : Verdict
-      stepValues = inTurn waterCauses
+  abbrev pub waterCauses : List Verdict
+  waterCauses =
+      each 7 (M .faces) (outsideGood M field k)
+      ∷ each 8 (M .faces) fluxGood
+      ∷ each 9 (M .cells) (balanceGood M field k)
+      ∷ each 10 (M .cells) (outflowGood M field k)
+      ∷ []
 
-      -- of tables that are long enough
-      unfoldable pub valuesVerdict : Verdict
-      valuesVerdict = inTurn (meshValues ∷ fieldValues ∷ raisedValues ∷ stepValues ∷ [])
+  unfoldable pub stepValues : Verdict
+  stepValues = inTurn waterCauses
 
-      -- S-6 places 18 after 6 and before 7
-      abbrev pub stepCauses : List Verdict
-      stepCauses = counts ∷ meshTables ∷ fieldTable ∷ stepTables ∷ meshValues ∷ fieldValues ∷ raisedValues ∷ stepValues ∷ []
+  abbrev pub causesWithin : List Verdict
+  causesWithin =
+      counts M
+      ∷ meshTables M
+      ∷ fieldTable M field
+      ∷ stepTables M field k
+      ∷ meshValues most M
+      ∷ fieldValues M field
+      ∷ raisedValues M field k
+      ∷ stepValues
+      ∷ []
 
-      unfoldable pub verdict : Verdict
-      verdict = inTurn stepCauses
+module _ (M : Mesh) (field : List ℕ) (k : Call) where
+  -- of tables that are long enough
+  unfoldable pub valuesVerdict : Verdict
+  valuesVerdict = inTurn (meshValues ceiling M ∷ fieldValues M field ∷ raisedValues M field k ∷ stepValues ceiling M field k ∷ [])
+
+  abbrev pub stepCauses : List Verdict
+  stepCauses = causesWithin ceiling M field k
+
+  unfoldable pub verdict : Verdict
+  verdict = inTurn stepCauses

@@ -6,3 +6,4 @@ pub mod Accepted
 pub mod Answers
 pub mod Calls
 pub mod Unreleased
+pub mod Ceilings

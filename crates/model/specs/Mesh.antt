@@ -22,9 +22,16 @@ runCells = 1023
 abbrev pub runFaces : ℕ
 runFaces = 2046
 
+-- document 02, S-10: the ceiling of V, of K and of |U| over the rim; and what it was before, which the records of the old kinds hold
+abbrev pub ceiling : ℕ
+ceiling = 65535
+
+abbrev pub oldCeiling : ℕ
+oldCeiling = 4095
+
 -- item 1: V
 abbrev pub maxVolume : ℕ
-maxVolume = 4095
+maxVolume = ceiling
 
 -- item 2: the second of a face over the rim
 abbrev pub rim : ℕ
@@ -35,7 +42,7 @@ abbrev pub maxShare : ℕ
 maxShare = 255
 
 abbrev pub maxReach : ℕ
-maxReach = 4095
+maxReach = ceiling
 
 -- items 4 and 5: q in a cell, and an outside concentration
 abbrev pub maxConcentration : ℕ
@@ -43,7 +50,7 @@ maxConcentration = 1000000
 
 -- cause 8: |U| over the rim
 abbrev pub maxRimFlux : ℕ
-maxRimFlux = 4095
+maxRimFlux = ceiling
 
 -- "Tables lent to a step", positions 0 to 4. They may be longer than the counts; entries past the counts mean nothing.
 pub record Mesh : Type 0 where

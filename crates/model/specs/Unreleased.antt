@@ -4,7 +4,7 @@ use mathlib.Core.Path.{_≡_}
 use mathlib.Core.List.{List, [], _∷_}
 use lib.ListN.{length}
 use Rattle.lists.specs.Table.{table, over}
-use Rattle.model.specs.Mesh.{Mesh}
+use Rattle.model.specs.Mesh.{Mesh, ceiling}
 use Rattle.model.specs.Step.{StepInput, roundedInput, next, moved, inMass, outMass}
 use Rattle.model.specs.Causes.{accepted, Verdict, _andThen_, inTurn, taken, Call, release, workLength, lengths01, counts, meshTables, fieldTable, meshValues, fieldValues, stepValues}
 use Rattle.model.specs.Calls.{corrected, stepAnswer, nextTable, movedTable, workTable}
@@ -17,7 +17,7 @@ module _ (M : Mesh) (field : List ℕ) (k : Call) where
   -- and the causes that it has; those of water read fluxes and outside values, and no masses
   abbrev pub verdict01 : Verdict
   verdict01 = inTurn
-      (counts M ∷ meshTables M ∷ fieldTable M field ∷ inTurn (lengths01 (M .cells) (M .faces) k) ∷ meshValues M ∷ fieldValues M field ∷ stepValues M field k ∷ [])
+      (counts M ∷ meshTables M ∷ fieldTable M field ∷ inTurn (lengths01 (M .cells) (M .faces) k) ∷ meshValues ceiling M ∷ fieldValues M field ∷ stepValues ceiling M field k ∷ [])
 
   pub record AsBefore : Type 0 where
     pub same-answer : stepAnswer corrected M k field ≡ (verdict01 andThen accepted (record { entered = inMass unraised; gone = outMass unraised; released = 0 }))

@@ -23,17 +23,15 @@ pub const RUN_WORK: usize = 4 * RUN_CELLS + RUN_FACES;
 // The mark in the place of a second cell: beyond the face is the rim.
 pub const RIM: u64 = 4095;
 
-pub const MAX_VOLUME: u64 = 4095;
+// The ceiling of volumes, of reaches and of the sizes of fluxes over the rim; and the one that records of the old kinds hold.
+pub const CEILING: u64 = 65535;
 
-// Largest share and reach.
+pub const OLD_CEILING: u64 = 4095;
+
+// Largest share.
 pub const MAX_SHARE: u64 = 255;
 
-pub const MAX_REACH: u64 = 4095;
-
 pub const MAX_CONCENTRATION: u64 = 1000000;
-
-// Largest flux through a rim face.
-pub const MAX_RIM_FLUX: u64 = 4095;
 
 // Why a call is refused, in the order of the papers' numbers: document 01's 1 to 13, then those that document 02's requests add.
 pub enum Cause {

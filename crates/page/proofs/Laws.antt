@@ -5,12 +5,14 @@ use mathlib.Core.List.{List, [], _∷_}
 use native.Mathlib.Nat.{le-div-iff-mul-le, lt-div-mul-add, suc-mul, mul-le-mul, mul-le-mul-right, le-trans}
 use native.Mathlib.Omega.{arith}
 use borrow.Author.Tests.{ltb-true, lt-ltb, le-ltb}
-use lib.Dec.{ltb}
+use lib.Dec.{leb, ltb}
 use lib.ListN.{length, getD, take, drop, length-drop}
 use lib.Seq.{getD-drop, take-all}
+use mathlib.Core.Bool.{Bool, true, false, cond}
 use Rattle.lists.specs.Fold.{sum}
-use Rattle.lists.proofs.Sums.{sum-bound, sum-split, sum-fewer, sum-blocks, sum-cong}
-use Rattle.model.specs.Mesh.{maxCells, maxVolume, maxConcentration}
+use Rattle.lists.proofs.Tests.{Fits, fits, fits?}
+use Rattle.lists.proofs.Sums.{greatest-each, sum-bound, sum-split, sum-fewer, sum-blocks, sum-cong}
+use Rattle.model.specs.Mesh.{maxCells, maxVolume, oldCeiling, maxConcentration}
 use Rattle.model.specs.Causes.{Verdict, refused, fine, _andThen_, inTurn, long, need, cellsOnly, counts, meshTables, fieldTable, meshFieldVerdict}
 use Rattle.model.specs.Accepted.{maxMass}
 use Rattle.model.specs.Calls.{massIn}
@@ -18,7 +20,7 @@ use Rattle.model.proofs.Verdicts.{refused-at, both-fine, need-fine, long-fine, 
 use Rattle.model.proofs.Accepted.{field-passed, FieldPassed, few, salt-asks, field-fit, mass-small}
 use Rattle.checks.proofs.Laws.{sum-asks}
 use Rattle.text.specs.Digits.{mostDigits}
-use Rattle.page.specs.Page.{restPlaces, massPlaces, lineBytes, pageCells, pages, cellsOn, pageBytes, qOf, pageMass}
+use Rattle.page.specs.Page.{narrowPlaces, widePlaces, largest, restOf, restPlaces, massPlaces, lineBytes, pageCells, pages, cellsOn, pageBytes, qOf, pageMass}
 use Rattle.page.specs.Fitting.{Fitting}
 use Rattle.page.specs.Answers.{pageVerdict}
 
@@ -94,7 +96,7 @@ all-in-turn a b c d e p q r = past e (past d p ∙ q) ∙ r
 
 pub record PagePassed (volumes masses : List ℕ) (cells page room : ℕ) : Type 0 where
   pub field-fine : meshFieldVerdict (cellsOnly cells volumes) masses ≡ fine
-  pub room-enough : pageBytes restPlaces cells page ≤ room
+  pub room-enough : pageBytes (restPlaces cells volumes) cells page ≤ room
   pub there : page < pages cells
 
 in-order : (l s m f n : Verdict) → l ≡ fine → (l andThen s andThen m andThen f andThen n) ≡ (s andThen (l andThen m andThen f) andThen n)
@@ -109,7 +111,7 @@ module _ (volumes masses : List ℕ) (cells : ℕ) where
 
   pub judged-on : (page room : ℕ) → (counts (cellsOnly cells volumes) andThen meshTables (cellsOnly cells volumes) andThen fieldTable (cellsOnly cells volumes) masses) ≡ fine
       → pageVerdict volumes masses cells page room
-      ≡ (long 12 (pageBytes restPlaces cells page) room andThen meshFieldVerdict (cellsOnly cells volumes) masses andThen need 14 page (ltb page (pages cells)))
+      ≡ (long 12 (pageBytes (restPlaces cells volumes) cells page) room andThen meshFieldVerdict (cellsOnly cells volumes) masses andThen need 14 page (ltb page (pages cells)))
   unfolding pageVerdict meshFieldVerdict
   judged-on page room e = in-order _ _ _ _ _ e
 
@@ -149,19 +151,34 @@ module _ (volumes masses : List ℕ) (cells : ℕ) where
         le-trans (sum-bound (cellsOn cells page) maxMass (λ i. massIn masses (page * pageCells + i)) (λ i h. mass-most (page * pageCells + i) (cell-there cells page i h)))
         (mul-le-mul-right maxMass (cells-most cells page))
 
-    pub figures-fit : Fitting restPlaces volumes masses cells
-    figures-fit = record {
-      some-places = omega arith;
-      few-places = omega arith;
-      cell-fits = λ c h. omega (arith, few-cells);
-      q-fits = λ c h. omega (arith, q-most c h);
-      rest-fits = λ c h. omega (arith, lt-div-mul-add {a = massIn masses c} (asks .1 c h .0), asks .1 c h .1);
-      mass-fits = λ page. omega (arith, page-small page);
-    }
+    rest-below : (c : ℕ) → c < cells → restOf volumes masses c < getD volumes c 0
+    rest-below c h = omega (arith, lt-div-mul-add {a = massIn masses c} (asks .1 c h .0), asks .1 c h .0)
+
+    pub figures-fit : Fitting (restPlaces cells volumes) volumes masses cells
+    unfolding restPlaces
+    figures-fit = go (leb (largest cells volumes) oldCeiling) (fits? (largest cells volumes) oldCeiling)
+      where
+        go : (b : Bool) → Fits (largest cells volumes) oldCeiling b → Fitting (cond b narrowPlaces widePlaces) volumes masses cells
+        go true (fits l) = record {
+          some-places = omega arith;
+          few-places = omega arith;
+          cell-fits = λ c h. omega (arith, few-cells);
+          q-fits = λ c h. omega (arith, q-most c h);
+          rest-fits = λ c h. omega (arith, rest-below c h, greatest-each cells 0 (λ c. getD volumes c 0) c h, l);
+          mass-fits = λ page. omega (arith, page-small page);
+        }
+        go false o = record {
+          some-places = omega arith;
+          few-places = omega arith;
+          cell-fits = λ c h. omega (arith, few-cells);
+          q-fits = λ c h. omega (arith, q-most c h);
+          rest-fits = λ c h. omega (arith, rest-below c h, asks .1 c h .1);
+          mass-fits = λ page. omega (arith, page-small page);
+        }
 
     -- what putting a page asks for
     pub put-asks : (page : ℕ) → page < pages cells
-        → ((massPlaces restPlaces ≤ mostDigits) × (page * pageCells ≤ cells) × (cells ≤ length volumes) × (cells ≤ length masses))
+        → ((massPlaces (restPlaces cells volumes) ≤ mostDigits) × (page * pageCells ≤ cells) × (cells ≤ length volumes) × (cells ≤ length masses))
         × (((c : ℕ) → c < cells → 1 ≤ getD volumes c 0) × (sum cells (massIn masses) < 2 ^ 64))
     put-asks page h =
-        ((omega arith, omega (arith, page-begins cells page h), asks .0 .0, asks .0 .1), ((λ c l. asks .1 c l .0), sum-asks (cellsOnly cells volumes) masses e .1))
+        ((figures-fit .few-places, omega (arith, page-begins cells page h), asks .0 .0, asks .0 .1), ((λ c l. asks .1 c l .0), sum-asks (cellsOnly cells volumes) masses e .1))

@@ -129,44 +129,44 @@ module _ (volumes masses : List ℕ) (cells page : ℕ) (bytes : List ℕ) where
   page-refused e = record { answer = rw e; bytes-after = rw e }
 
   pub page-accepted : {n : ℕ} {bytes′ : List ℕ} → pageVerdict volumes masses cells page (length bytes) ≡ fine
-      → Puts bytes 0 (pageText volumes masses restPlaces cells page) n bytes′ → PageIs volumes masses cells page bytes (Printed n) bytes′
+      → Puts bytes 0 (pageText volumes masses (restPlaces cells volumes) cells page) n bytes′ → PageIs volumes masses cells page bytes (Printed n) bytes′
   unfolding _andThen_
   page-accepted {n} {bytes′} e put =
       let passed = page-passed volumes masses cells page (length bytes) e in
-      let long = page-length restPlaces volumes masses cells (figures-fit volumes masses cells (passed .field-fine)) page ∙ sym (bytes-needed restPlaces cells page (passed .there)) in
+      let long = page-length (restPlaces cells volumes) volumes masses cells (figures-fit volumes masses cells (passed .field-fine)) page ∙ sym (bytes-needed (restPlaces cells volumes) cells page (passed .there)) in
       let all = puts-all bytes put (omega (arith, passed .room-enough)) in
       record { answer = rw e (ap accepted (all .0 ∙ long)); bytes-after = rw e (all .1) }
 
 -- A CALL THAT IS ACCEPTED: its answer is the length of the page, and the bytes afterwards read back.
 module _ {volumes masses : List ℕ} {cells page : ℕ} {bytes bytes′ : List ℕ} {n : ℕ} (p : PageIs volumes masses cells page bytes (Printed n) bytes′) where
-  told : (pageVerdict volumes masses cells page (length bytes) ≡ fine) × (n ≡ pageBytes restPlaces cells page)
-  told = accepted-of (pageVerdict volumes masses cells page (length bytes)) (pageBytes restPlaces cells page) n (p .answer)
+  told : (pageVerdict volumes masses cells page (length bytes) ≡ fine) × (n ≡ pageBytes (restPlaces cells volumes) cells page)
+  told = accepted-of (pageVerdict volumes masses cells page (length bytes)) (pageBytes (restPlaces cells volumes) cells page) n (p .answer)
 
   passed : PagePassed volumes masses cells page (length bytes)
   passed = page-passed volumes masses cells page (length bytes) (told .0)
 
-  fitting : Fitting restPlaces volumes masses cells
+  fitting : Fitting (restPlaces cells volumes) volumes masses cells
   fitting = figures-fit volumes masses cells (passed .field-fine)
 
-  begins : bytes′ ≡ pageText volumes masses restPlaces cells page ++ drop (length (pageText volumes masses restPlaces cells page)) bytes
+  begins : bytes′ ≡ pageText volumes masses (restPlaces cells volumes) cells page ++ drop (length (pageText volumes masses (restPlaces cells volumes) cells page)) bytes
   unfolding over
   begins = p .bytes-after ∙ rw (told .0)
 
-  pub answer-length : n ≡ length (pageText volumes masses restPlaces cells page)
-  answer-length = told .1 ∙ bytes-needed restPlaces cells page (passed .there) ∙ sym (page-length restPlaces volumes masses cells fitting page)
+  pub answer-length : n ≡ length (pageText volumes masses (restPlaces cells volumes) cells page)
+  answer-length = told .1 ∙ bytes-needed (restPlaces cells volumes) cells page (passed .there) ∙ sym (page-length (restPlaces cells volumes) volumes masses cells fitting page)
 
-  pub reads-back : ReadsBack restPlaces volumes masses cells page bytes′
-  reads-back = rw begins (page-back restPlaces volumes masses cells fitting page (drop (length (pageText volumes masses restPlaces cells page)) bytes))
+  pub reads-back : ReadsBack (restPlaces cells volumes) volumes masses cells page bytes′
+  reads-back = rw begins (page-back (restPlaces cells volumes) volumes masses cells fitting page (drop (length (pageText volumes masses (restPlaces cells volumes) cells page)) bytes))
 
 -- ALL PAGES, each printed by a call into bytes of its own: the masses read from them add up to the field's total, as `total` answers it.
 module _ (volumes masses : List ℕ) (cells : ℕ) (bytes bytes′ : ℕ → List ℕ) (n : ℕ → ℕ)
     (printed : (page : ℕ) → page < pages cells → PageIs volumes masses cells page (bytes page) (Printed (n page)) (bytes′ page)) where
-  pub pages-add-up : sum (pages cells) (λ page. massRead restPlaces (bytes′ page) (cellsOn cells page)) ≡ sum cells (massIn masses)
+  pub pages-add-up : sum (pages cells) (λ page. massRead (restPlaces cells volumes) (bytes′ page) (cellsOn cells page)) ≡ sum cells (massIn masses)
   pages-add-up =
-      sum-cong (pages cells) (λ page. massRead restPlaces (bytes′ page) (cellsOn cells page)) (pageMass volumes masses cells)
+      sum-cong (pages cells) (λ page. massRead (restPlaces cells volumes) (bytes′ page) (cellsOn cells page)) (pageMass volumes masses cells)
       (λ page h. reads-back (printed page h) .page-mass-back)
       ∙ masses-add-up volumes masses cells
 
   pub pages-total : (total : ℕ) → totalSaid (Total total) ≡ (meshFieldVerdict (cellsOnly cells volumes) masses andThen accepted (sum cells (massIn masses)))
-      → sum (pages cells) (λ page. massRead restPlaces (bytes′ page) (cellsOn cells page)) ≡ total
+      → sum (pages cells) (λ page. massRead (restPlaces cells volumes) (bytes′ page) (cellsOn cells page)) ≡ total
   pages-total total e = pages-add-up ∙ sym (accepted-of (meshFieldVerdict (cellsOnly cells volumes) masses) (sum cells (massIn masses)) total e .1)

@@ -5,6 +5,7 @@ use mathlib.Core.Path.{_≡_}
 use lib.Dec.{ltb}
 use lib.ListN.{length}
 use Rattle.lists.specs.Table.{over}
+use Rattle.model.specs.Mesh.{ceiling}
 use Rattle.model.specs.Causes.{Outcome, accepted, Verdict, _andThen_, taken, long, need, cellsOnly, counts, meshTables, fieldTable, meshValues, fieldValues}
 use Rattle.model.specs.Answers.{told}
 use Rattle.page.specs.Page.{restPlaces, pages, pageBytes, pageText}
@@ -18,8 +19,8 @@ pageVerdict volumes masses cells page room =
     counts (cellsOnly cells volumes)
     andThen meshTables (cellsOnly cells volumes)
     andThen fieldTable (cellsOnly cells volumes) masses
-    andThen long 12 (pageBytes restPlaces cells page) room
-    andThen meshValues (cellsOnly cells volumes)
+    andThen long 12 (pageBytes (restPlaces cells volumes) cells page) room
+    andThen meshValues ceiling (cellsOnly cells volumes)
     andThen fieldValues (cellsOnly cells volumes) masses
     andThen need 14 page (ltb page (pages cells))
 
@@ -30,5 +31,5 @@ pageSaid (Refused r) = told r
 
 -- The answer is the page's length; the page stands over the first bytes lent. A refusal leaves all.
 pub record PageIs (volumes masses : List ℕ) (cells page : ℕ) (bytes : List ℕ) (r : PageAnswer) (bytes′ : List ℕ) : Type 0 where
-  pub answer : pageSaid r ≡ (pageVerdict volumes masses cells page (length bytes) andThen accepted (pageBytes restPlaces cells page))
-  pub bytes-after : bytes′ ≡ taken (pageVerdict volumes masses cells page (length bytes)) (over (pageText volumes masses restPlaces cells page) bytes) bytes
+  pub answer : pageSaid r ≡ (pageVerdict volumes masses cells page (length bytes) andThen accepted (pageBytes (restPlaces cells volumes) cells page))
+  pub bytes-after : bytes′ ≡ taken (pageVerdict volumes masses cells page (length bytes)) (over (pageText volumes masses (restPlaces cells volumes) cells page) bytes) bytes

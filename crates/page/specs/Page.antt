@@ -1,24 +1,35 @@
--- Document 02, S-1: what a printed page holds. The definitions take the places of the rest, since S-10 makes lines wider.
+-- Document 02, S-1: what a printed page holds. The definitions take the places of the rest, since S-10 makes the lines of larger cells wider.
 use Prim.Native.Nat.{ℕ, _+_, _-_, _*_, _/_, min}
 use mathlib.Core.Bool.{cond}
 use mathlib.Core.List.{List, _++_}
-use lib.Dec.{ltb}
+use lib.Dec.{leb, ltb}
 use lib.ListN.{getD}
-use Rattle.lists.specs.Fold.{sum}
+use Rattle.lists.specs.Fold.{sum, greatest}
+use Rattle.model.specs.Mesh.{oldCeiling}
 use Rattle.model.specs.Calls.{massIn}
 use Rattle.text.specs.Lines.{column, pieces, space, newline}
 
--- A cell's line: the cell in 4 places, q in 7, the rest in 4, with a space between them and a newline at the end.
+-- A cell's line: the cell in 4 places, q in 7, the rest in 4 or 5, with a space between them and a newline at the end.
 abbrev pub cellPlaces : ℕ
 cellPlaces = 4
 
 abbrev pub qPlaces : ℕ
 qPlaces = 7
 
-abbrev pub restPlaces : ℕ
-restPlaces = 4
+-- Document 02, S-10: the rest has 5 places where some V of the whole mesh is above 4,095.
+abbrev pub narrowPlaces : ℕ
+narrowPlaces = 4
 
--- The mass line is as long as a cell's, so the mass has 17 places where the rest has 4.
+abbrev pub widePlaces : ℕ
+widePlaces = 5
+
+abbrev pub largest : ℕ → List ℕ → ℕ
+largest cells volumes = greatest cells 0 (λ c. getD volumes c 0)
+
+unfoldable pub restPlaces : ℕ → List ℕ → ℕ
+restPlaces cells volumes = cond (leb (largest cells volumes) oldCeiling) narrowPlaces widePlaces
+
+-- The mass line is as long as a cell's, so the mass has 17 places where the rest has 4, and 18 where it has 5.
 abbrev pub massPlaces : ℕ → ℕ
 massPlaces places = cellPlaces + 1 + qPlaces + 1 + places
 

@@ -12,7 +12,7 @@ use text::NEWLINE;
 use text::SPACE;
 use text::column;
 ghost use mathlib.Core.Path.{_≡_};
-ghost use Prim.Native.Nat.{ℕ, _+_, _*_, _≤_, _<_, _/_, _-_, _^_};
+ghost use Prim.Native.Nat.{ℕ, _+_, _*_, _≤_, _<_, _/_, _-_, _^_, max};
 ghost use lib.ListN.{length, getD};
 ghost use Rattle.lists.specs.Fold.{sum};
 ghost use Rattle.model.specs.Mesh.{maxCells};
@@ -20,7 +20,7 @@ ghost use Rattle.model.specs.Answers.{said};
 ghost use Rattle.model.specs.Calls.{massIn};
 ghost use Rattle.text.specs.Digits.{mostDigits};
 ghost use Rattle.text.specs.Lines.{Puts, pieces};
-ghost use Rattle.page.specs.Page.{pageCells, massPlaces, cellLine, lineOf, pageText, pages as pagesOf, cellsOn, pageBytes};
+ghost use Rattle.page.specs.Page.{pageCells, largest as largestOf, restPlaces, massPlaces, cellLine, lineOf, pageText, pages as pagesOf, cellsOn, pageBytes};
 ghost use Rattle.page.specs.Answers.{pageVerdict, PageIs};
 
 // Cells of a full page.
@@ -31,7 +31,10 @@ pub const CELL_PLACES: usize = 4;
 
 pub const Q_PLACES: usize = 7;
 
-pub const REST_PLACES: usize = 4;
+pub const NARROW_PLACES: usize = 4;
+
+// Of the rest where some volume is above the old ceiling.
+pub const WIDE_PLACES: usize = 5;
 
 // The position of the page's bytes among the tables of cause 2.
 const PAGE_TABLE: u64 = 12;
@@ -40,6 +43,37 @@ const PAGE_TABLE: u64 = 12;
 pub enum PageAnswer {
     Printed(u64),
     Refused(Refusal),
+}
+
+fn larger(a: u64, b: u64) -> u64
+    ensures { λ r. ⌜ r ≡ max a b ⌝ }
+{
+    if a < b { b } else { a }
+}
+
+// The largest volume of the whole mesh.
+fn largest(cells: usize, volumes: &[u64]) -> u64
+    requires { ⌜ cells ≤ length (now volumes) ⌝ }
+    ensures { λ r. ⌜ r ≡ largestOf cells (now (volumes .entry)) ⌝ }
+{
+    let mut most = 0;
+    let mut c = 0;
+    while c < cells {
+        most = larger(most, volumes[c]);
+        c += 1;
+    }
+    most
+}
+
+// Places of the rest, by the largest volume: cause 3 has not judged it yet.
+fn rest_places(cells: usize, volumes: &[u64]) -> usize
+    requires { ⌜ cells ≤ length (now volumes) ⌝ }
+    ensures { λ r. ⌜ (r ≡ restPlaces cells (now (volumes .entry))) × (massPlaces r ≤ mostDigits) ⌝ }
+{
+    if largest(cells, volumes) <= model::OLD_CEILING {
+        return NARROW_PLACES;
+    }
+    WIDE_PLACES
 }
 
 // Places of the mass: all of a line but the newline.
@@ -142,7 +176,8 @@ fn judge(cells: usize, volumes: &[u64], masses: &[u64], page: u64, room: usize) 
     if let Answer::Refused(r) = tables {
         return Answer::Refused(r);
     }
-    let space = long(PAGE_TABLE, page_bytes(REST_PLACES, cells, page), room);
+    let places = rest_places(cells, volumes);
+    let space = long(PAGE_TABLE, page_bytes(places, cells, page), room);
     let field = and_then(space, check_cells(cells, volumes, masses));
     and_then(field, need(Cause::Page, page, page < pages(cells) as u64))
 }
@@ -161,6 +196,7 @@ pub fn page(
     if let Answer::Refused(r) = verdict {
         return PageAnswer::Refused(r);
     }
-    let length = put(bytes, REST_PLACES, cells, volumes, masses, page as usize);
+    let places = rest_places(cells, volumes);
+    let length = put(bytes, places, cells, volumes, masses, page as usize);
     PageAnswer::Printed(length as u64)
 }

@@ -14,6 +14,7 @@ use Rattle.model.specs.Causes.{Outcome, accepted, refused, Verdict, taken}
 use Rattle.bits.specs.Layout.{bytesFor}
 use Rattle.heads.specs.Layouts.{stepHeadBits}
 use Rattle.heads.specs.Heads.{stepNeeds}
+use Rattle.heads.specs.declared.Width.{Width}
 use Rattle.reading.specs.Reading.{volumesIn, firstsIn, secondsIn, sharesIn, reachesIn, massesIn}
 use Rattle.reading.specs.declared.MeshCounts.{MeshCounts}
 use Rattle.board.specs.Board.{entryAt, listed, boardVerdict, boardEntries, boardSize, unused}
@@ -88,70 +89,73 @@ module _ (M : Mesh) where
       ∙ ap (λ (es : List Entry). boardLines (take (taken (boardVerdict volumes masses cells) (min boardSize cells) 0) es)) (p .board .entries-are)
       ∙ entries-used masses (boardVerdict volumes masses cells)
 
+module _ (w : Width) (M : Mesh) where
+  open Mesh M using (cells)
+
   -- one step: its line, and then what its answer leads to
-  module _ (step : ℕ) (masses masses′ bs : List ℕ) (r : StepTaken) (line : Line) (t : StepTaking M masses bs r masses′) (h : Holds line (lineOf step r)) where
+  module _ (step : ℕ) (masses masses′ bs : List ℕ) (r : StepTaken) (line : Line) (t : StepTaking w M masses bs r masses′) (h : Holds line (lineOf step r)) where
     one-step : (out : List ℕ) (b : Bool) → b ≡ goesOn r → (more last : List ℕ) → out ≡ cond b more last
-        → shown line ++ out ≡ stepText step (stepSaid M masses bs) ++ cond (goesOnAfter (stepSaid M masses bs)) more last
+        → shown line ++ out ≡ stepText step (stepSaid w M masses bs) ++ cond (goesOnAfter (stepSaid w M masses bs)) more last
     one-step out b g more last e =
         ap (λ (x : List ℕ). x ++ out) (h .1 ∙ ap (λ (o : Outcome Printed). stepText step o) (t .answer))
-        ∙ ap (λ (x : List ℕ). stepText step (stepSaid M masses bs) ++ x) (e ∙ ap (λ (x : Bool). cond x more last) (g ∙ ap goesOnAfter (t .answer)))
+        ∙ ap (λ (x : List ℕ). stepText step (stepSaid w M masses bs) ++ x) (e ∙ ap (λ (x : Bool). cond x more last) (g ∙ ap goesOnAfter (t .answer)))
 
   abbrev headBytes : ℕ
   headBytes = bytesFor stepHeadBits
 
   abbrev needs : List ℕ → Outcome ℕ
-  needs = stepNeeds (M .cells) (M .faces) (M .seconds)
+  needs = stepNeeds w (M .cells) (M .faces) (M .seconds)
 
-  turn : (most step : ℕ) (masses input : List ℕ) → 0 < length (stepAt M input)
-      → stepText step (stepSaid M masses (stepAt M input))
-      ++ cond (goesOnAfter (stepSaid M masses (stepAt M input)))
-      (stepsPrinted M most (step + 1) (fieldThen M masses (stepAt M input)) (following (stepAt M input) input))
-      (boardPrinted M (fieldThen M masses (stepAt M input)))
-      ≡ stepsPrinted M (suc most) step masses input
+  turn : (most step : ℕ) (masses input : List ℕ) → 0 < length (stepAt w M input)
+      → stepText step (stepSaid w M masses (stepAt w M input))
+      ++ cond (goesOnAfter (stepSaid w M masses (stepAt w M input)))
+      (stepsPrinted w M most (step + 1) (fieldThen w M masses (stepAt w M input)) (following (stepAt w M input) input))
+      (boardPrinted M (fieldThen w M masses (stepAt w M input)))
+      ≡ stepsPrinted w M (suc most) step masses input
   unfolding stepsPrinted
   turn most step masses [] h = absurd (omega (arith, no-longer headBytes needs []))
   turn most step masses (b ∷ bs) h = refl
 
-  no-step : (most step : ℕ) (masses input : List ℕ) → length (stepAt M input) ≡ 0 → boardPrinted M masses ≡ stepsPrinted M most step masses input
+  no-step : (most step : ℕ) (masses input : List ℕ) → length (stepAt w M input) ≡ 0 → boardPrinted M masses ≡ stepsPrinted w M most step masses input
   unfolding stepsPrinted bytesFor
   no-step zero step masses input z = refl
   no-step (suc most) step masses [] z = refl
   no-step (suc most) step masses (b ∷ bs) z = absurd (omega (arith, some-byte headBytes needs b bs (omega arith)))
 
-  steps-printed : {step : ℕ} {masses input out : List ℕ} → StepsPrint M step masses input out → (most : ℕ) → length input ≤ most
-      → out ≡ stepsPrinted M most step masses input
+  steps-printed : {step : ℕ} {masses input out : List ℕ} → StepsPrint w M step masses input out → (most : ℕ) → length input ≤ most
+      → out ≡ stepsPrinted w M most step masses input
   steps-printed {step} {masses} {input} (no-byte bs r z p) most l =
-      board-printed p ∙ no-step most step masses input (rw (is-read _ _ r) at z)
+      board-printed M p ∙ no-step most step masses input (rw (is-read _ _ r) at z)
   steps-printed {input = input} (step-ends bs r line g s t h e p) zero l = absurd (omega (arith, no-longer headBytes needs input, rw (is-read _ _ g) at s))
   steps-printed {step} {masses} {input} (step-ends {masses′ = masses′} {out = out} bs r line g s t h e p) (suc most) l =
       let q = is-read _ _ g in
-      let t′ : StepTaking M masses (stepAt M input) r masses′ = rw q at t in
-      one-step step masses masses′ (stepAt M input) r line t′ h out false e _ _ (board-printed p ∙ ap (boardPrinted M) (t′ .masses-after)) ∙ turn most step masses input (rw q at s)
+      let t′ : StepTaking w M masses (stepAt w M input) r masses′ = rw q at t in
+      one-step step masses masses′ (stepAt w M input) r line t′ h out false e _ _ (board-printed M p ∙ ap (boardPrinted M) (t′ .masses-after)) ∙ turn most step masses input (rw q at s)
   steps-printed {input = input} (step-goes-on bs r line g s t h e p) zero l = absurd (omega (arith, no-longer headBytes needs input, rw (is-read _ _ g) at s))
   steps-printed {step} {masses} {input} (step-goes-on {masses′ = masses′} {out = out} bs r line g s t h e p) (suc most) l =
       let q = is-read _ _ g in
-      let t′ : StepTaking M masses (stepAt M input) r masses′ = rw q at t in
+      let t′ : StepTaking w M masses (stepAt w M input) r masses′ = rw q at t in
       let left : length (drop (length bs) input) ≤ most = rw length-drop (omega arith) in
       let rest = steps-printed p most left
-      ∙ ap (λ (x : List ℕ). stepsPrinted M most (step + 1) x (drop (length bs) input)) (t′ .masses-after)
-      ∙ ap (λ (x : List ℕ). stepsPrinted M most (step + 1) (fieldThen M masses (stepAt M input)) (drop (length x) input)) q in
-      one-step step masses masses′ (stepAt M input) r line t′ h out true e _ _ rest ∙ turn most step masses input (rw q at s)
+      ∙ ap (λ (x : List ℕ). stepsPrinted w M most (step + 1) x (drop (length bs) input)) (t′ .masses-after)
+      ∙ ap (λ (x : List ℕ). stepsPrinted w M most (step + 1) (fieldThen w M masses (stepAt w M input)) (drop (length x) input)) q in
+      one-step step masses masses′ (stepAt w M input) r line t′ h out true e _ _ rest ∙ turn most step masses input (rw q at s)
 
-  field-printed : {input out : List ℕ} → FieldPrints M input out → out ≡ fieldPrinted M input
+  field-printed : {input out : List ℕ} → FieldPrints w M input out → out ≡ fieldPrinted w M input
   unfolding fieldPrinted
   field-printed {input} (field-refused bs masses refusal line g t h) =
       let said = rw (is-read _ _ g, cells-long) at (t .answer) in
-      h .1 ∙ ap (λ (o : Outcome ℕ). fromField M o (inTable runCells (massesIn (fieldAt M input) cells)) (following (fieldAt M input) input)) said
+      h .1 ∙ ap (λ (o : Outcome ℕ). fromField w M o (inTable runCells (massesIn (fieldAt w M input) cells)) (following (fieldAt w M input) input)) said
   field-printed {input} (field-accepted {out} bs masses sum line g t h p) =
       let q = is-read _ _ g in
       let said = rw (q, cells-long) at (t .answer) in
       let v = accepted-of _ _ _ said in
-      let held : masses ≡ inTable runCells (massesIn (fieldAt M input) cells) = rw (q, cells-long, v .0) at (t .masses-after) in
+      let held : masses ≡ inTable runCells (massesIn (fieldAt w M input) cells) = rw (q, cells-long, v .0) at (t .masses-after) in
       let rest = steps-printed p (length (drop (length bs) input)) (omega arith) in
       ap (λ (x : List ℕ). x ++ out) (h .1)
-      ∙ ap (λ (x : List ℕ). stepLine 0 0 0 sum 0 ++ x) (rest ∙ ap (λ (x : List ℕ). stepsPrinted M (length (drop (length bs) input)) 1 x (drop (length bs) input)) held
-      ∙ ap (λ (x : List ℕ). stepsPrinted M (length (drop (length x) input)) 1 (inTable runCells (massesIn (fieldAt M input) cells)) (drop (length x) input)) q)
-      ∙ ap (λ (o : Outcome ℕ). fromField M o (inTable runCells (massesIn (fieldAt M input) cells)) (following (fieldAt M input) input)) said
+      ∙ ap (λ (x : List ℕ). stepLine 0 0 0 sum 0 ++ x) (rest ∙ ap (λ (x : List ℕ). stepsPrinted w M (length (drop (length bs) input)) 1 x (drop (length bs) input)) held
+      ∙ ap (λ (x : List ℕ). stepsPrinted w M (length (drop (length x) input)) 1 (inTable runCells (massesIn (fieldAt w M input) cells)) (drop (length x) input)) q)
+      ∙ ap (λ (o : Outcome ℕ). fromField w M o (inTable runCells (massesIn (fieldAt w M input) cells)) (following (fieldAt w M input) input)) said
 
 -- What the program prints is what the definition says of the bytes that it reads.
 pub prints : {input out : List ℕ} → Prints input out → out ≡ printed input
@@ -170,6 +174,6 @@ prints {input} (mesh-accepted {out} bs volumes firsts seconds shares reaches cou
     let reaches-held : reaches ≡ inTable runFaces (reachesIn (meshAt input)) = rw (q, cells-long, faces-long, v .0) at (t .reaches-after) in
     let same : meshOf (counts .cells) (counts .faces) volumes firsts seconds shares reaches ≡ runMesh (meshAt input) =
     rw (v .1, volumes-held, firsts-held, seconds-held, shares-held, reaches-held) in
-    field-printed _ p ∙ ap (λ (M : Mesh). fieldPrinted M (drop (length bs) input)) same
-    ∙ ap (λ (x : List ℕ). fieldPrinted (runMesh (meshAt input)) (drop (length x) input)) q
+    field-printed _ _ p ∙ ap (λ (M : Mesh). fieldPrinted (counts .width) M (drop (length bs) input)) same
+    ∙ ap (λ (x : List ℕ). fieldPrinted (counts .width) (runMesh (meshAt input)) (drop (length x) input)) q
     ∙ ap (λ (o : Outcome MeshCounts). fromMesh o (runMesh (meshAt input)) (following (meshAt input) input)) said

@@ -15,6 +15,7 @@ use Rattle.checks.specs.declared.TotalAnswer.the-variants as total
 use Rattle.bits.specs.Layout.{bytesFor}
 use Rattle.heads.specs.Layouts.{meshHeadBits, fieldHeadBits, stepHeadBits}
 use Rattle.heads.specs.Heads.{lengthSaid, meshNeeds, fieldNeeds, stepNeeds}
+use Rattle.heads.specs.declared.Width.{Width}
 use Rattle.reading.specs.declared.MeshCounts.{MeshCounts}
 use Rattle.heads.specs.declared.LengthAnswer.{LengthAnswer}
 use Rattle.reading.specs.declared.MeshAnswer.the-variants as mesh
@@ -53,26 +54,26 @@ pub record BoardPrints (M : Mesh) (masses out : List ℕ) : Type 0 where
   pub lines : EntriesPrint (take (answer .used) (answer .entries)) out
 
 -- `steps`: a record is read; where no byte came, or after a refusal that ends the run, the board; else another step.
-pub data StepsPrint (M : Mesh) : ℕ → List ℕ → List ℕ → List ℕ → Type 0 where
-  no-byte : {step : ℕ} {masses input out : List ℕ} (bs : List ℕ) → Reads (bytesFor stepHeadBits) (stepNeeds (M .cells) (M .faces) (M .seconds)) input bs
-      → length bs ≡ 0 → BoardPrints M masses out → StepsPrint M step masses input out
+pub data StepsPrint (w : Width) (M : Mesh) : ℕ → List ℕ → List ℕ → List ℕ → Type 0 where
+  no-byte : {step : ℕ} {masses input out : List ℕ} (bs : List ℕ) → Reads (bytesFor stepHeadBits) (stepNeeds w (M .cells) (M .faces) (M .seconds)) input bs
+      → length bs ≡ 0 → BoardPrints M masses out → StepsPrint w M step masses input out
   step-ends : {step : ℕ} {masses input masses′ out : List ℕ} (bs : List ℕ) (r : StepTaken) (line : Line)
-      → Reads (bytesFor stepHeadBits) (stepNeeds (M .cells) (M .faces) (M .seconds)) input bs → 0 < length bs
-      → StepTaking M masses bs r masses′ → Holds line (lineOf step r) → false ≡ goesOn r
-      → BoardPrints M masses′ out → StepsPrint M step masses input (shown line ++ out)
+      → Reads (bytesFor stepHeadBits) (stepNeeds w (M .cells) (M .faces) (M .seconds)) input bs → 0 < length bs
+      → StepTaking w M masses bs r masses′ → Holds line (lineOf step r) → false ≡ goesOn r
+      → BoardPrints M masses′ out → StepsPrint w M step masses input (shown line ++ out)
   step-goes-on : {step : ℕ} {masses input masses′ out : List ℕ} (bs : List ℕ) (r : StepTaken) (line : Line)
-      → Reads (bytesFor stepHeadBits) (stepNeeds (M .cells) (M .faces) (M .seconds)) input bs → 0 < length bs
-      → StepTaking M masses bs r masses′ → Holds line (lineOf step r) → true ≡ goesOn r
-      → StepsPrint M (step + 1) masses′ (drop (length bs) input) out → StepsPrint M step masses input (shown line ++ out)
+      → Reads (bytesFor stepHeadBits) (stepNeeds w (M .cells) (M .faces) (M .seconds)) input bs → 0 < length bs
+      → StepTaking w M masses bs r masses′ → Holds line (lineOf step r) → true ≡ goesOn r
+      → StepsPrint w M (step + 1) masses′ (drop (length bs) input) out → StepsPrint w M step masses input (shown line ++ out)
 
 -- `run_on`: the field, in a table of zeros; refused, it has the only line; else the line of step 0 and the steps.
-pub data FieldPrints (M : Mesh) (input : List ℕ) : List ℕ → Type 0 where
-  field-refused : (bs masses : List ℕ) (refusal : Refusal) (line : Line) → Reads (bytesFor fieldHeadBits) (fieldNeeds (M .cells)) input bs
-      → FieldTaking (M .cells) (M .volumes) bs (table runCells (λ i. 0)) (total.Refused refusal) masses
-      → Holds line (refusalLine letterF (number (refusal .cause)) (refusal .place)) → FieldPrints M input (shown line)
-  field-accepted : {out : List ℕ} (bs masses : List ℕ) (sum : ℕ) (line : Line) → Reads (bytesFor fieldHeadBits) (fieldNeeds (M .cells)) input bs
-      → FieldTaking (M .cells) (M .volumes) bs (table runCells (λ i. 0)) (total.Total sum) masses
-      → Holds line (stepLine 0 0 0 sum 0) → StepsPrint M 1 masses (drop (length bs) input) out → FieldPrints M input (shown line ++ out)
+pub data FieldPrints (w : Width) (M : Mesh) (input : List ℕ) : List ℕ → Type 0 where
+  field-refused : (bs masses : List ℕ) (refusal : Refusal) (line : Line) → Reads (bytesFor fieldHeadBits) (fieldNeeds w (M .cells)) input bs
+      → FieldTaking w (M .cells) (M .volumes) bs (table runCells (λ i. 0)) (total.Refused refusal) masses
+      → Holds line (refusalLine letterF (number (refusal .cause)) (refusal .place)) → FieldPrints w M input (shown line)
+  field-accepted : {out : List ℕ} (bs masses : List ℕ) (sum : ℕ) (line : Line) → Reads (bytesFor fieldHeadBits) (fieldNeeds w (M .cells)) input bs
+      → FieldTaking w (M .cells) (M .volumes) bs (table runCells (λ i. 0)) (total.Total sum) masses
+      → Holds line (stepLine 0 0 0 sum 0) → StepsPrint w M 1 masses (drop (length bs) input) out → FieldPrints w M input (shown line ++ out)
 
 -- `main`: the mesh, in tables of zeros; refused, it has the only line.
 pub data Prints (input : List ℕ) : List ℕ → Type 0 where
@@ -83,4 +84,4 @@ pub data Prints (input : List ℕ) : List ℕ → Type 0 where
   mesh-accepted : {out : List ℕ} (bs volumes firsts seconds shares reaches : List ℕ) (counts : MeshCounts) → Reads (bytesFor meshHeadBits) (meshNeeds runCells runFaces) input bs
       → MeshTaking bs (table runCells (λ i. 0)) (table runFaces (λ i. 0)) (table runFaces (λ i. 0)) (table runFaces (λ i. 0)) (table runFaces (λ i. 0))
       (mesh.Read counts) volumes firsts seconds shares reaches
-      → FieldPrints (meshOf (counts .cells) (counts .faces) volumes firsts seconds shares reaches) (drop (length bs) input) out → Prints input out
+      → FieldPrints (counts .width) (meshOf (counts .cells) (counts .faces) volumes firsts seconds shares reaches) (drop (length bs) input) out → Prints input out

@@ -11,6 +11,7 @@ use Rattle.bits.specs.Layout.{bytesFor}
 use Rattle.heads.specs.Layouts.{meshHeadBits, fieldHeadBits, stepHeadBits}
 use Rattle.reading.specs.Reading.{meshIn, countsIn, massesIn}
 use Rattle.heads.specs.Heads.{meshNeeds, fieldNeeds, stepNeeds}
+use Rattle.heads.specs.declared.Width.{Width}
 use Rattle.reading.specs.declared.MeshCounts.{MeshCounts}
 use Rattle.board.specs.Board.{entryAt, listed, boardVerdict}
 use Rattle.board.specs.declared.Entry.{Entry}
@@ -32,11 +33,12 @@ recordAt head needs input = take (length (take head input) + stillNeeded (needs 
 abbrev pub meshAt : List ℕ → List ℕ
 meshAt input = recordAt (bytesFor meshHeadBits) (meshNeeds runCells runFaces) input
 
-abbrev pub fieldAt : Mesh → List ℕ → List ℕ
-fieldAt M input = recordAt (bytesFor fieldHeadBits) (fieldNeeds (M .cells)) input
+-- document 02, S-10: those after the mesh have its width
+abbrev pub fieldAt : Width → Mesh → List ℕ → List ℕ
+fieldAt w M input = recordAt (bytesFor fieldHeadBits) (fieldNeeds w (M .cells)) input
 
-abbrev pub stepAt : Mesh → List ℕ → List ℕ
-stepAt M input = recordAt (bytesFor stepHeadBits) (stepNeeds (M .cells) (M .faces) (M .seconds)) input
+abbrev pub stepAt : Width → Mesh → List ℕ → List ℕ
+stepAt w M input = recordAt (bytesFor stepHeadBits) (stepNeeds w (M .cells) (M .faces) (M .seconds)) input
 
 -- what is left of the input after a record
 abbrev pub following : List ℕ → List ℕ → List ℕ
@@ -51,33 +53,34 @@ module _ (M : Mesh) where
   unfoldable pub boardPrinted : List ℕ → List ℕ
   boardPrinted masses = taken (boardVerdict (M .volumes) masses (M .cells)) (boardLines (map (entryAt (M .volumes) masses) (listed (M .volumes) masses (M .cells)))) []
 
+module _ (w : Width) (M : Mesh) where
   -- THE STEPS, until no byte is left. A refused one is numbered too, and moves nothing; 11 and 13 end the run. The board comes last.
   -- There are no more steps than the input has bytes.
   abbrev pub stepSaid : List ℕ → List ℕ → Outcome Printed
-  stepSaid masses bs = stepJudged M masses bs andThen accepted (printedOf M masses (stepIn M bs))
+  stepSaid masses bs = stepJudged w M masses bs andThen accepted (printedOf M masses (stepIn M bs))
 
   abbrev pub fieldThen : List ℕ → List ℕ → List ℕ
-  fieldThen masses bs = massesAfter M masses (stepJudged M masses bs) (stepIn M bs)
+  fieldThen masses bs = massesAfter M masses (stepJudged w M masses bs) (stepIn M bs)
 
   unfoldable pub stepsPrinted : ℕ → ℕ → List ℕ → List ℕ → List ℕ
-  stepsPrinted zero step masses input = boardPrinted masses
-  stepsPrinted (suc most) step masses [] = boardPrinted masses
+  stepsPrinted zero step masses input = boardPrinted M masses
+  stepsPrinted (suc most) step masses [] = boardPrinted M masses
   stepsPrinted (suc most) step masses (b ∷ bs) =
-      stepText step (stepSaid masses (stepAt M (b ∷ bs)))
-      ++ cond (goesOnAfter (stepSaid masses (stepAt M (b ∷ bs))))
-      (stepsPrinted most (step + 1) (fieldThen masses (stepAt M (b ∷ bs))) (following (stepAt M (b ∷ bs)) (b ∷ bs)))
-      (boardPrinted (fieldThen masses (stepAt M (b ∷ bs))))
+      stepText step (stepSaid masses (stepAt w M (b ∷ bs)))
+      ++ cond (goesOnAfter (stepSaid masses (stepAt w M (b ∷ bs))))
+      (stepsPrinted most (step + 1) (fieldThen masses (stepAt w M (b ∷ bs))) (following (stepAt w M (b ∷ bs)) (b ∷ bs)))
+      (boardPrinted M (fieldThen masses (stepAt w M (b ∷ bs))))
 
   -- THE FIELD. Refused, it has the only line; else its total is the line of step 0.
   abbrev pub fieldSaid : List ℕ → Outcome ℕ
-  fieldSaid bs = fieldJudged (M .cells) (M .volumes) bs runCells andThen accepted (total (cellsOnly (M .cells) (M .volumes)) (massIn (massesIn bs (M .cells))))
+  fieldSaid bs = fieldJudged w (M .cells) (M .volumes) bs runCells andThen accepted (total (cellsOnly (M .cells) (M .volumes)) (massIn (massesIn bs (M .cells))))
 
   abbrev pub fromField : Outcome ℕ → List ℕ → List ℕ → List ℕ
   fromField (accepted sum) masses input = stepLine 0 0 0 sum 0 ++ stepsPrinted (length input) 1 masses input
   fromField (refused i j) masses input = refusalLine letterF i j
 
   unfoldable pub fieldPrinted : List ℕ → List ℕ
-  fieldPrinted input = fromField (fieldSaid (fieldAt M input)) (inTable runCells (massesIn (fieldAt M input) (M .cells))) (following (fieldAt M input) input)
+  fieldPrinted input = fromField (fieldSaid (fieldAt w M input)) (inTable runCells (massesIn (fieldAt w M input) (M .cells))) (following (fieldAt w M input) input)
 
 -- THE MESH. Refused, it has the only line.
 abbrev pub inTables : Mesh → Mesh
@@ -91,7 +94,7 @@ abbrev pub meshSaidOf : List ℕ → Outcome MeshCounts
 meshSaidOf bs = meshJudged bs runCells runFaces runFaces runFaces runFaces andThen accepted (countsIn bs)
 
 abbrev pub fromMesh : Outcome MeshCounts → Mesh → List ℕ → List ℕ
-fromMesh (accepted counts) M input = fieldPrinted M input
+fromMesh (accepted counts) M input = fieldPrinted (counts .width) M input
 fromMesh (refused i j) M input = refusalLine letterM i j
 
 unfoldable pub printed : List ℕ → List ℕ

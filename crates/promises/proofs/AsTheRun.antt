@@ -13,7 +13,7 @@ use Rattle.model.specs.Alike.{AgreeMesh, AgreeCall}
 use Rattle.model.specs.Causes.{fine, long, cellsOnly, counts, meshTables, fieldTable, stepTables, meshFieldVerdict}
 use Rattle.model.proofs.Verdicts.{both-fine, need-met}
 use Rattle.model.proofs.Agree.{mesh-values-agree, field-values-agree, verdict-agree}
-use Rattle.heads.specs.Heads.{cellsIn, facesIn}
+use Rattle.heads.specs.Heads.{widthIn, cellsIn, facesIn}
 use Rattle.reading.specs.Reading.{volumesIn, firstsIn, secondsIn, sharesIn, reachesIn, meshIn, massesIn, outsidesIn, releasesIn}
 use Rattle.mesh_taking.specs.MeshTaking.{meshJudged}
 use Rattle.taking.specs.Taking.{fieldJudged, stepIn, stepRecordFound, stepJudged}
@@ -115,7 +115,7 @@ module _ (mesh field step volumes firsts seconds shares reaches masses : List �
     unfolding meshTables
     cells-tables = rw (enough 0 volumes-long)
 
-    pub field-as-the-run : fieldJudged (cellsIn mesh) (over (volumesIn mesh) volumes) field (length masses) ≡ fieldTested mesh field step
+    pub field-as-the-run : fieldJudged (widthIn mesh) (cellsIn mesh) (over (volumesIn mesh) volumes) field (length masses) ≡ fieldTested mesh field step
     unfolding fieldJudged meshFieldVerdict counts fieldTable
     field-as-the-run = rw (
       lm,
@@ -151,9 +151,9 @@ module _ (mesh field step volumes firsts seconds shares reaches masses : List �
     unfolding stepTables
     call-lent = rw (outsides-are, releases-are)
 
-    pub step-as-the-run : stepJudged lent lentField step ≡ stepTested mesh field step
+    pub step-as-the-run : stepJudged (widthIn mesh) lent lentField step ≡ stepTested mesh field step
     unfolding stepJudged stepRecordFound
     step-as-the-run = rw (
-      found-same step (cellsIn mesh) (facesIn mesh) (secondsIn mesh) (over (secondsIn mesh) seconds) seconds-same (seconds-long .0) (seconds-long .1),
+      found-same step (cellsIn mesh) (facesIn mesh) (secondsIn mesh) (over (secondsIn mesh) seconds) seconds-same (widthIn mesh) (seconds-long .0) (seconds-long .1),
       verdict-agree (meshIn mesh) lent (massesIn field (cellsIn mesh)) lentField (stepIn (meshIn mesh) step) (stepIn lent step) step-agrees tables-same field-lent call-lent,
     )

@@ -18,6 +18,7 @@ use Rattle.bits.specs.Field.{bitsAt}
 use Rattle.sections.specs.Sections.{those, entryIn}
 use Rattle.heads.specs.Layouts.{outsideBits, rimFaces, isRim, stepLength}
 use Rattle.heads.specs.Heads.{stepHeadVerdict}
+use Rattle.heads.specs.declared.Width.{Width}
 use Rattle.reading.specs.Reading.{outsidesIn, outsidePlace, stepShapeIn, releasesIn, stepBitGood, stepBodyVerdict}
 use Rattle.promises.specs.Held.{cut, cutField}
 
@@ -43,11 +44,11 @@ module _ (step : List ℕ) (cells faces : ℕ) (seconds other : List ℕ) (same 
   unfolding stepBitGood
   bit-same i = rw (rims-same faces (omega arith))
 
-  pub found-same : faces ≤ length seconds → faces ≤ length other
-      → (stepHeadVerdict cells faces other step andThen stepBodyVerdict cells faces other step runFaces runFaces runCells)
-      ≡ (stepHeadVerdict cells faces seconds step andThen stepBodyVerdict cells faces seconds step runFaces runFaces runCells)
+  pub found-same : (w : Width) → faces ≤ length seconds → faces ≤ length other
+      → (stepHeadVerdict w cells faces other step andThen stepBodyVerdict cells faces other step runFaces runFaces runCells)
+      ≡ (stepHeadVerdict w cells faces seconds step andThen stepBodyVerdict cells faces seconds step runFaces runFaces runCells)
   unfolding stepHeadVerdict stepBodyVerdict stepLength
-  found-same l m = rw (
+  found-same w l m = rw (
     need-met 2 2 (le-leb faces (length other) m),
     need-met 2 2 (le-leb faces (length seconds) l),
     rims-same faces (omega arith),

@@ -39,7 +39,7 @@ use Rattle.model.proofs.Accepted.{counted, mesh-fit, field-fit, field-accepted}
 use Rattle.model.proofs.Agree.{field-agrees, fair-agree}
 use Rattle.model.proofs.Lists.{Fair, Owes, ledger-law, steps-alone, Keeping, corrected-keeping, plain-keeping, tables-fair, lent-same}
 use Rattle.model.proofs.Figures.{Figures, figures}
-use Rattle.heads.specs.Layouts.{meshRecord, fieldRecord}
+use Rattle.heads.specs.Layouts.{meshKind, fieldKind, meshRecord, fieldRecord}
 use Rattle.kept.specs.Store.{fieldsIn, heldUnder}
 use Rattle.store.specs.Calls.{keepVerdict, keepStore, dropVerdict, dropStore, returnVerdict, returnMasses}
 use Rattle.store.specs.Lists.{keeping as store-keeping, dropping as store-dropping}
@@ -52,14 +52,14 @@ use Rattle.promises.proofs.Held.{within, passes}
 use Rattle.promises.proofs.OnRecords.{records-fair}
 
 -- A refused call.
-unchanged : (M : Mesh) (call : StepCall) (field : List ℕ) (i j : ℕ) → comes M call field ≡ refused i j → Unchanged M call field
+unchanged : (M : Mesh) (call : StepCall M) (field : List ℕ) (i j : ℕ) → comes M call field ≡ refused i j → Unchanged M call field
 unfolding stepOnTables stepOnRecords nextTable movedTable workTable hostBytes
 unchanged M (onTables way past k) field i j e =
     let r = refused-of (schemeOf way .finds M (lentMasses M past field) k) _ i j (sym e) in
     (rw r, rw r, rw r)
-unchanged M (onRecords step next) field i j e = rw (refused-of (hostVerdict (meshRecord M) (fieldRecord (M .cells) field) step (length next)) _ i j (sym e))
+unchanged M (onRecords w fits step next) field i j e = rw (refused-of (hostVerdict (meshRecord (meshKind w) M) (fieldRecord (fieldKind w) (M .cells) field) step (length next)) _ i j (sym e))
 
-all-unchanged : (M : Mesh) (field : List ℕ) (calls : List StepCall) → EachRefused M field calls
+all-unchanged : (M : Mesh) (field : List ℕ) (calls : List (StepCall M)) → EachRefused M field calls
 all-unchanged M field [] = tt
 all-unchanged M field (call ∷ calls) = ((λ i j e. unchanged M call field i j e), all-unchanged M (fieldAfter (comes M call field) field) calls)
 
@@ -110,23 +110,23 @@ module _ (M : Mesh) (past store : List ℕ) (name : ℕ) (field : List ℕ) wher
         (field-fit (cellsOnly (M .cells) (M .volumes)) held (held-salt (M .cells) (M .volumes) (lentMasses M past field) store name e) c h))
 
 -- Every list of calls.
-untouched : (M : Mesh) (call : ListCall) (field : List ℕ) (i j : ℕ) → does M call field ≡ refused i j → Untouched M call field
+untouched : (M : Mesh) (call : ListCall M) (field : List ℕ) (i j : ℕ) → does M call field ≡ refused i j → Untouched M call field
 unfolding keepStore dropStore returnMasses
 untouched M (aStep call) field i j e = unchanged M call field i j (step-refused (comes M call field) i j e)
 untouched M (keeping past store name) field i j e = rw (refused-of (keepVerdict (M .cells) (M .volumes) (lentMasses M past field) store name) _ i j (sym e))
 untouched M (dropping store name) field i j e = rw (refused-of (dropVerdict (M .cells) store name) _ i j (sym e))
 untouched M (returning past store name) field i j e = rw (refused-of (returnVerdict (M .cells) (M .volumes) (lentMasses M past field) store name) _ i j (sym e))
 
-all-untouched : (M : Mesh) (field : List ℕ) (calls : List ListCall) → AllRefused M field calls
+all-untouched : (M : Mesh) (field : List ℕ) (calls : List (ListCall M)) → AllRefused M field calls
 all-untouched M field [] = tt
 all-untouched M field (call ∷ calls) = ((λ i j e. untouched M call field i j e), all-untouched M (fieldBy (does M call field) field) calls)
 
 module _ (M : Mesh) (mesh-fine : meshVerdict M ≡ fine) where
-  step-fair : (call : StepCall) (before : List ℕ) (l : Left) → fieldVerdict M before ≡ fine → comes M call before ≡ accepted l → Fair M (Kept M call before l) before l
+  step-fair : (call : StepCall M) (before : List ℕ) (l : Left) → fieldVerdict M before ≡ fine → comes M call before ≡ accepted l → Fair M (Kept M call before l) before l
   step-fair (onTables way past k) before l g e = on-tables M mesh-fine way past k before l e
-  step-fair (onRecords step next) before l g e = records-fair M mesh-fine before g step next l e
+  step-fair (onRecords w fits step next) before l g e = records-fair w M mesh-fine fits before g step next l e
 
-  owes : (call : ListCall) (before : List ℕ) (d : Deed) → fieldVerdict M before ≡ fine → does M call before ≡ accepted d → Owes M (Owed M call before d) before d
+  owes : (call : ListCall M) (before : List ℕ) (d : Deed) → fieldVerdict M before ≡ fine → does M call before ≡ accepted d → Owes M (Owed M call before d) before d
   owes (aStep call) before d g e = step-owes (comes M call before) refl d e
     where
       step-owes : (o : Outcome Left) → comes M call before ≡ o → (d : Deed) → stepping o ≡ accepted d → Owes M (Owed M (aStep call) before d) before d
@@ -160,13 +160,13 @@ demand-3-steps M mesh-fine field field-fine calls = record {
 
 -- Where nobody else writes the store: what is kept stays held by it, and comes back.
 module _ (M : Mesh) (name : ℕ) (masses : List ℕ) (long : ℕ) where
-  still-held : (call : ListCall) (field store : List ℕ) → LentIt M name call store → Holding (M .cells) name masses long store → Holding (M .cells) name masses long (storeLeft M call field store)
+  still-held : (call : ListCall M) (field store : List ℕ) → LentIt M name call store → Holding (M .cells) name masses long store → Holding (M .cells) name masses long (storeLeft M call field store)
   still-held (aStep call) field store n h = h
   still-held (keeping past lent other) field store n h = rw n (after-one (M .cells) name masses long (store-keeping (M .volumes) (lentMasses M past field) other) store tt h)
   still-held (dropping lent other) field store n h = rw (n .0) (after-one (M .cells) name masses long (store-dropping other) store (rw (n .0) at (n .1)) h)
   still-held (returning past lent other) field store n h = rw n h
 
-  all-held : (calls : List ListCall) (field store : List ℕ) → Alone M name field store calls → Holding (M .cells) name masses long store
+  all-held : (calls : List (ListCall M)) (field store : List ℕ) → Alone M name field store calls → Holding (M .cells) name masses long store
       → Holding (M .cells) name masses long (storeLeftBy M field store calls)
   unfolding storeLeftBy
   all-held [] field store n h = h

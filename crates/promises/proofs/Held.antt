@@ -3,23 +3,57 @@ use Prim.Native.Nat.{ℕ}
 use mathlib.Core.Path.{_≡_, sym, ap, _∙_}
 use mathlib.Core.List.{List}
 use native.Mathlib.Omega.{arith}
-use Rattle.model.specs.Mesh.{Mesh, maxCells, maxFaces}
+use Rattle.lists.proofs.Tables.{getD-table}
+use Rattle.model.specs.Mesh.{Mesh, volume, reach, maxCells, maxFaces, ceiling}
+use Rattle.model.specs.Ceilings.{MeshSmall}
 use Rattle.model.specs.Causes.{fine, counts, meshValues, meshVerdict, fieldValues, fieldVerdict}
 use Rattle.model.proofs.Verdicts.{both-fine}
+use Rattle.model.proofs.Ceilings.{old-meshes, small-of}
 use Rattle.bits.proofs.Layouts.{packed-lt}
 use Rattle.sections.specs.Sections.{fieldsOf, recordOf}
-use Rattle.heads.specs.Layouts.{meshShape, meshValue, fieldShape, fieldValue, meshRecord, fieldRecord}
-use Rattle.reading.specs.Reading.{meshIn}
+use Rattle.heads.specs.Layouts.{meshKind, fieldKind, meshShape, meshValue, fieldShape, fieldValue, meshRecord, fieldRecord}
+use Rattle.heads.specs.Heads.{kindIn, widthIn}
+use Rattle.heads.specs.declared.Width.{Width}
+use Rattle.heads.specs.declared.Width.the-variants.{Narrow, Wide}
+use Rattle.reading.specs.Reading.{meshIn, massesIn}
+use Rattle.reading.specs.declared.MeshCounts.{MeshCounts}
+use Rattle.reading.proofs.ReadLaws.{mesh-kind-is}
+use Rattle.writing.specs.Writing.{mostOf}
+use Rattle.writing.proofs.Accepting.{mesh-passed, field-passed}
 use Rattle.writing.proofs.RoundTrip.{cells-read-back, faces-read-back, mesh-read-back, volumes-read-back, firsts-read-back, seconds-read-back, shares-read-back, reaches-read-back, field-read-back, masses-read-back, mesh-written-back, field-written-back}
+use Rattle.mesh_taking.proofs.MeshLaws.{mesh-small}
 use Rattle.promises.specs.Held.{Bytes, cut, HoldsMesh, HoldsField}
 
-mesh-bytes : (M : Mesh) → Bytes (meshRecord M)
-unfolding meshRecord recordOf
-mesh-bytes M j = packed-lt (fieldsOf (meshShape (M .cells) (M .faces)) (meshValue M)) j
+-- V and K within the old ceilings, cut to the counts or not, and of a mesh that a record holds
+pub cut-small : (M : Mesh) → MeshSmall M → MeshSmall (cut M)
+cut-small M s = record {
+  small-volumes = λ c h. rw (getD-table (M .cells) (volume M) 0 c h) (s .small-volumes c h);
+  small-reaches = λ f l. rw (getD-table (M .faces) (reach M) 0 f l) (s .small-reaches f l);
+}
 
-field-bytes : (cells : ℕ) (field : List ℕ) → Bytes (fieldRecord cells field)
+whole-small : (M : Mesh) → MeshSmall (cut M) → MeshSmall M
+whole-small M s = record {
+  small-volumes = λ c h. rw (getD-table (M .cells) (volume M) 0 c h) at (s .small-volumes c h);
+  small-reaches = λ f l. rw (getD-table (M .faces) (reach M) 0 f l) at (s .small-reaches f l);
+}
+
+-- the width and the kind of a record that holds a mesh
+pub width-held : (w : Width) (M : Mesh) (bs : List ℕ) → HoldsMesh w M bs → w ≡ widthIn bs
+width-held w M bs h =
+    ap (λ (k : MeshCounts). k .width) (mesh-passed maxCells maxFaces bs (M .cells) (M .faces) (M .faces) (M .faces) (M .faces) (h .mesh-read) .counts-are)
+
+kind-held : (w : Width) (M : Mesh) (bs : List ℕ) → HoldsMesh w M bs → kindIn bs ≡ meshKind w
+kind-held w M bs h =
+    let p = mesh-passed maxCells maxFaces bs (M .cells) (M .faces) (M .faces) (M .faces) (M .faces) (h .mesh-read) in
+    sym (mesh-kind-is (kindIn bs) (p .kind)) ∙ ap meshKind (sym (width-held w M bs h))
+
+mesh-bytes : (kind : ℕ) (M : Mesh) → Bytes (meshRecord kind M)
+unfolding meshRecord recordOf
+mesh-bytes kind M j = packed-lt (fieldsOf (meshShape kind (M .cells) (M .faces)) (meshValue kind M)) j
+
+field-bytes : (kind cells : ℕ) (field : List ℕ) → Bytes (fieldRecord kind cells field)
 unfolding fieldRecord recordOf
-field-bytes cells field j = packed-lt (fieldsOf (fieldShape cells) (fieldValue cells field)) j
+field-bytes kind cells field j = packed-lt (fieldsOf (fieldShape kind cells) (fieldValue kind cells field)) j
 
 -- what an accepted mesh and field have passed
 module _ (M : Mesh) (mesh-fine : meshVerdict M ≡ fine) where
@@ -27,46 +61,65 @@ module _ (M : Mesh) (mesh-fine : meshVerdict M ≡ fine) where
   unfolding meshVerdict
   within = both-fine _ _ (both-fine _ _ mesh-fine .0) .0
 
-  pub passes : meshValues M ≡ fine
+  pub passes : meshValues ceiling M ≡ fine
   unfolding meshVerdict
   passes = both-fine _ _ mesh-fine .1
 
-  mesh-is : meshIn (meshRecord M) ≡ cut M
+-- a mesh that a record of a width holds is within its ceilings; cut to the counts it stays so
+pub holds-within : (w : Width) (M : Mesh) → meshVerdict M ≡ fine → (bs : List ℕ) → HoldsMesh w M bs → meshValues (mostOf w) M ≡ fine
+holds-within Narrow M e bs h =
+    sym (old-meshes M (whole-small M (rw (h .mesh-held) at (mesh-small bs (sym (width-held Narrow M bs h)))))) ∙ passes M e
+holds-within Wide M e bs h = passes M e
+
+pub cut-within : (w : Width) (M : Mesh) → meshValues (mostOf w) M ≡ fine → meshValues ceiling (cut M) ≡ fine → meshValues (mostOf w) (cut M) ≡ fine
+cut-within Narrow M e d = sym (old-meshes (cut M) (cut-small M (small-of M e))) ∙ d
+cut-within Wide M e d = d
+
+-- a mesh within the ceilings of a width, which records of that width hold
+module _ (w : Width) (M : Mesh) (mesh-fine : meshVerdict M ≡ fine) (fits : meshValues (mostOf w) M ≡ fine) where
+  abbrev inside : counts M ≡ fine
+  inside = within M mesh-fine
+
+  mesh-is : meshIn (meshRecord (meshKind w) M) ≡ cut M
   mesh-is =
       rw (
-        cells-read-back M within passes,
-        faces-read-back M within passes,
-        volumes-read-back M within passes,
-        firsts-read-back M within passes,
-        seconds-read-back M within passes,
-        shares-read-back M within passes,
-        reaches-read-back M within passes,
+        cells-read-back w M inside fits,
+        faces-read-back w M inside fits,
+        volumes-read-back w M inside fits,
+        firsts-read-back w M inside fits,
+        seconds-read-back w M inside fits,
+        shares-read-back w M inside fits,
+        reaches-read-back w M inside fits,
       )
 
-  pub mesh-holds : HoldsMesh M (meshRecord M)
+  pub mesh-holds : HoldsMesh w M (meshRecord (meshKind w) M)
   unfolding counts
   mesh-holds = record {
-    mesh-read = mesh-read-back M within passes maxCells maxFaces (M .cells) (M .faces) (M .faces) (M .faces) (M .faces) within (omega arith) (omega arith) (omega arith)
+    mesh-read = mesh-read-back w M inside fits maxCells maxFaces (M .cells) (M .faces) (M .faces) (M .faces) (M .faces) inside (omega arith) (omega arith) (omega arith)
         (omega arith) (omega arith);
     mesh-held = mesh-is;
   }
 
-  pub mesh-alone : (bs : List ℕ) → Bytes bs → HoldsMesh M bs → bs ≡ meshRecord M
+  pub mesh-alone : (bs : List ℕ) → Bytes bs → HoldsMesh w M bs → bs ≡ meshRecord (meshKind w) M
   mesh-alone bs b h =
       sym (mesh-written-back bs b maxCells maxFaces (M .cells) (M .faces) (M .faces) (M .faces) (M .faces) (h .mesh-read))
-      ∙ ap meshRecord (h .mesh-held ∙ sym mesh-is)
-      ∙ mesh-written-back (meshRecord M) (mesh-bytes M) maxCells maxFaces (M .cells) (M .faces) (M .faces) (M .faces) (M .faces) (mesh-holds .mesh-read)
+      ∙ ap (λ (k : ℕ). meshRecord k (meshIn bs)) (kind-held w M bs h ∙ sym (kind-held w M (meshRecord (meshKind w) M) mesh-holds))
+      ∙ ap (meshRecord (kindIn (meshRecord (meshKind w) M))) (h .mesh-held ∙ sym mesh-is)
+      ∙ mesh-written-back (meshRecord (meshKind w) M) (mesh-bytes (meshKind w) M) maxCells maxFaces (M .cells) (M .faces) (M .faces) (M .faces) (M .faces) (mesh-holds .mesh-read)
 
   module _ (field : List ℕ) (field-fine : fieldVerdict M field ≡ fine) where
     pub salt : fieldValues M field ≡ fine
     unfolding fieldVerdict
     salt = both-fine _ _ field-fine .1
 
-    pub field-holds : HoldsField M field (fieldRecord (M .cells) field)
-    field-holds = record { field-read = field-read-back M within passes field salt (M .cells) (omega arith); field-held = masses-read-back M within passes field salt }
+    pub field-holds : HoldsField w M field (fieldRecord (fieldKind w) (M .cells) field)
+    field-holds = record { field-read = field-read-back w M inside fits field salt (M .cells) (omega arith); field-held = masses-read-back w M inside fits field salt }
 
-    pub field-alone : (bs : List ℕ) → Bytes bs → HoldsField M field bs → bs ≡ fieldRecord (M .cells) field
+    pub field-alone : (bs : List ℕ) → Bytes bs → HoldsField w M field bs → bs ≡ fieldRecord (fieldKind w) (M .cells) field
     field-alone bs b h =
-        sym (field-written-back bs b (M .cells) (M .cells) (h .field-read))
-        ∙ ap (fieldRecord (M .cells)) (h .field-held ∙ sym (field-holds .field-held))
-        ∙ field-written-back (fieldRecord (M .cells) field) (field-bytes (M .cells) field) (M .cells) (M .cells) (field-holds .field-read)
+        let same = field-passed w (M .cells) bs (M .cells) (h .field-read) .kind in
+        let own = field-passed w (M .cells) (fieldRecord (fieldKind w) (M .cells) field) (M .cells) (field-holds .field-read) .kind in
+        sym (field-written-back bs b w (M .cells) (M .cells) (h .field-read))
+        ∙ ap (λ (k : ℕ). fieldRecord k (M .cells) (massesIn bs (M .cells))) (same ∙ sym own)
+        ∙ ap (fieldRecord (kindIn (fieldRecord (fieldKind w) (M .cells) field)) (M .cells)) (h .field-held ∙ sym (field-holds .field-held))
+        ∙ field-written-back (fieldRecord (fieldKind w) (M .cells) field) (field-bytes (fieldKind w) (M .cells) field) w (M .cells) (M .cells) (field-holds .field-read)

@@ -7,7 +7,7 @@ use native.Mathlib.Omega.{arith}
 use lib.IntN.{ℤ}
 use lib.ListN.{length, take}
 use Rattle.model.specs.Mesh.{Mesh}
-use Rattle.model.specs.Causes.{accepted, refused, Verdict, fine, _andThen_, Call, meshVerdict, fieldVerdict}
+use Rattle.model.specs.Causes.{accepted, refused, Verdict, fine, _andThen_, Call, meshValues, meshVerdict, fieldVerdict}
 use Rattle.model.specs.Answers.{said}
 use Rattle.model.specs.declared.Answer.{Answer}
 use Rattle.model.specs.Calls.{lentMasses, crossingOf, Deed, givenBack, storeOnly}
@@ -16,13 +16,15 @@ use Rattle.transport.specs.Promise.{stepSaid, leftBy, StepPromise}
 use Rattle.transport.proofs.Promises.{promised-comes}
 use Rattle.transport.specs.declared.StepAnswer.{StepAnswer}
 use Rattle.store.specs.Calls.{KeepPromise, DropPromise, ReturnPromise}
-use Rattle.heads.specs.Layouts.{meshRecord, fieldRecord, fieldLength}
+use Rattle.heads.specs.Layouts.{meshKind, fieldKind, meshRecord, fieldRecord, fieldLength}
+use Rattle.heads.specs.declared.Width.{Width}
+use Rattle.writing.specs.Writing.{mostOf}
 use Rattle.reading.specs.Reading.{massesIn}
 use Rattle.lagoon.specs.Host.{causeStep, hostVerdict, hostBytes, HostPromise}
 use Rattle.lagoon.proofs.Small.{taken-apart}
 use Rattle.promises.specs.Demand3.{Way, schemeOf, onTables, onRecords, waterIn, stepOnRecords, comes, keeping, dropping, returning, does, storeLeft}
 use Rattle.promises.specs.Held.{Bytes, HoldsMesh, HoldsField}
-use Rattle.promises.proofs.Held.{mesh-alone, field-alone}
+use Rattle.promises.proofs.Held.{holds-within, mesh-alone, field-alone}
 
 -- The step on tables, corrected and plain: from what it answers and leaves in the table of next masses.
 pub step-comes : (M : Mesh) (way : Way) (past : List ℕ) (k : Call) (field : List ℕ) (r : StepAnswer) (next : List ℕ) (moved : List ℤ) (work : List ℕ)
@@ -30,14 +32,17 @@ pub step-comes : (M : Mesh) (way : Way) (past : List ℕ) (k : Call) (field : Li
 step-comes M way past k field r next moved work p = promised-comes (schemeOf way) M (lentMasses M past field) k r next moved work p
 
 -- The host's call on records that hold a mesh and a field.
-module _ (M : Mesh) (mesh-fine : meshVerdict M ≡ fine) (field : List ℕ) (field-fine : fieldVerdict M field ≡ fine)
-    (mesh masses : List ℕ) (mesh-bytes : Bytes mesh) (masses-bytes : Bytes masses) (mesh-holds : HoldsMesh M mesh) (field-holds : HoldsField M field masses)
+module _ (w : Width) (M : Mesh) (mesh-fine : meshVerdict M ≡ fine) (field : List ℕ) (field-fine : fieldVerdict M field ≡ fine)
+    (mesh masses : List ℕ) (mesh-bytes : Bytes mesh) (masses-bytes : Bytes masses) (mesh-holds : HoldsMesh w M mesh) (field-holds : HoldsField w M field masses)
     (step next : List ℕ) (r : ℕ) (next′ : List ℕ) (p : HostPromise mesh masses step next r next′) where
-  abbrev found : Verdict
-  found = hostVerdict (meshRecord M) (fieldRecord (M .cells) field) step (length next)
+  abbrev fits : meshValues (mostOf w) M ≡ fine
+  fits = holds-within w M mesh-fine mesh mesh-holds
 
-  promised : HostPromise (meshRecord M) (fieldRecord (M .cells) field) step next r next′
-  promised = rw (mesh-alone M mesh-fine mesh mesh-bytes mesh-holds, field-alone M mesh-fine field field-fine masses masses-bytes field-holds) at p
+  abbrev found : Verdict
+  found = hostVerdict (meshRecord (meshKind w) M) (fieldRecord (fieldKind w) (M .cells) field) step (length next)
+
+  promised : HostPromise (meshRecord (meshKind w) M) (fieldRecord (fieldKind w) (M .cells) field) step next r next′
+  promised = rw (mesh-alone w M mesh-fine fits mesh mesh-bytes mesh-holds, field-alone w M mesh-fine fits field field-fine masses masses-bytes field-holds) at p
 
   zero-is-fine : r ≡ 0 → found ≡ fine
   zero-is-fine z = go found refl
@@ -46,11 +51,11 @@ module _ (M : Mesh) (mesh-fine : meshVerdict M ≡ fine) (field : List ℕ) (fie
       go (accepted t) e = e
       go (refused i j) e =
           let n : r ≡ causeStep * i + j = promised .number ∙ rw e in
-          absurd (omega (arith, n, z, taken-apart (meshRecord M) (fieldRecord (M .cells) field) step (length next) i j e))
+          absurd (omega (arith, n, z, taken-apart (meshRecord (meshKind w) M) (fieldRecord (fieldKind w) (M .cells) field) step (length next) i j e))
 
   -- 0: the call is accepted, with the field that the next field record holds
   pub host-accepted : r ≡ 0
-      → comes M (onRecords step next) field ≡ accepted (record { field = massesIn (take (fieldLength (M .cells)) next′) (M .cells); crossing = crossingOf M field (waterIn M step) })
+      → comes M (onRecords w fits step next) field ≡ accepted (record { field = massesIn (take (fieldLength (fieldKind w) (M .cells)) next′) (M .cells); crossing = crossingOf M field (waterIn M step) })
   unfolding stepOnRecords _andThen_
   host-accepted z = rw (zero-is-fine z, promised .next-field)
 
@@ -58,7 +63,7 @@ module _ (M : Mesh) (mesh-fine : meshVerdict M ≡ fine) (field : List ℕ) (fie
   pub record HostRefused : Type 0 where
     pub cause : ℕ
     pub place : ℕ
-    pub refused-by : comes M (onRecords step next) field ≡ refused cause place
+    pub refused-by : comes M (onRecords w fits step next) field ≡ refused cause place
     pub number-is : r ≡ causeStep * cause + place
     pub place-fits : place < causeStep
     pub bytes-kept : next′ ≡ next
@@ -70,7 +75,7 @@ module _ (M : Mesh) (mesh-fine : meshVerdict M ≡ fine) (field : List ℕ) (fie
     place = j;
     refused-by = out _ e;
     number-is = promised .number ∙ rw e;
-    place-fits = taken-apart (meshRecord M) (fieldRecord (M .cells) field) step (length next) i j e .2;
+    place-fits = taken-apart (meshRecord (meshKind w) M) (fieldRecord (fieldKind w) (M .cells) field) step (length next) i j e .2;
     bytes-kept = promised .next-field ∙ rw e;
   }
 

@@ -7,6 +7,7 @@ use Rattle.lists.specs.Table.{table}
 use Rattle.model.specs.Mesh.{Mesh, meshOf, volume, first, second, share, reach, maxCells, maxFaces}
 use Rattle.model.specs.Causes.{accepted, fine}
 use Rattle.model.specs.Calls.{massIn}
+use Rattle.heads.specs.declared.Width.{Width}
 use Rattle.reading.specs.Reading.{meshIn, massesIn, meshRead, fieldRead}
 
 -- a list of bytes, as a record is
@@ -20,12 +21,12 @@ cut M = meshOf (M .cells) (M .faces) (table (M .cells) (volume M)) (table (M .fa
 abbrev pub cutField : Mesh → List ℕ → List ℕ
 cutField M field = table (M .cells) (massIn field)
 
--- A record holds a mesh: reading accepts it, into tables of its counts, and what is read are the counted entries.
-pub record HoldsMesh (M : Mesh) (bs : List ℕ) : Type 0 where
-  pub mesh-read : meshRead maxCells maxFaces bs (M .cells) (M .faces) (M .faces) (M .faces) (M .faces) ≡ accepted (record { cells = M .cells; faces = M .faces })
+-- A record of this width holds a mesh: reading accepts it, into tables of its counts, and what is read are the counted entries.
+pub record HoldsMesh (w : Width) (M : Mesh) (bs : List ℕ) : Type 0 where
+  pub mesh-read : meshRead maxCells maxFaces bs (M .cells) (M .faces) (M .faces) (M .faces) (M .faces) ≡ accepted (record { cells = M .cells; faces = M .faces; width = w })
   pub mesh-held : meshIn bs ≡ cut M
 
 -- and so a field on it
-pub record HoldsField (M : Mesh) (field bs : List ℕ) : Type 0 where
-  pub field-read : fieldRead (M .cells) bs (M .cells) ≡ fine
+pub record HoldsField (w : Width) (M : Mesh) (field bs : List ℕ) : Type 0 where
+  pub field-read : fieldRead w (M .cells) bs (M .cells) ≡ fine
   pub field-held : massesIn bs (M .cells) ≡ cutField M field

@@ -9,7 +9,7 @@ use Rattle.sections.specs.Sections.{Section, Values, Fits, shapeBits}
 use Rattle.sections.proofs.Columns.{Written}
 use Rattle.sections.proofs.Bodies.{Column, column-rooms, column-fits, column-small}
 use Rattle.heads.specs.Layouts.{releaseBits, stepShape, stepBits}
-use Rattle.heads.proofs.Layouts.{releasePlace, release-wide, step-is, releases-in}
+use Rattle.heads.proofs.Layouts.{mass-most, releasePlace, release-wide, step-is, releases-in}
 
 -- bytes that hold a record with a head of so many bits; its places are far below 2^64
 pub record Room (S : List Section) (head : ℕ) (bs : List ℕ) : Type 0 where
@@ -32,12 +32,12 @@ module _ {S : List Section} {head : ℕ} {bs : List ℕ} (h : Room S head bs) {v
     column-asks fits xs a b e = ((a, column-fits c, b), (rooms, λ i l. rw (← e i l) (column-small c v fits i l)))
 
 -- a step's releases, at the place and of the width that the code reckons, and the place after the last of them
-module _ (kind cells faces : ℕ) (seconds : List ℕ) {p w : ℕ} (e : p ≡ releasePlace faces seconds) (d : w ≡ releaseBits kind) where
+module _ (kind cells faces : ℕ) (seconds : List ℕ) {p w : ℕ} (e : p ≡ releasePlace kind faces seconds) (d : w ≡ releaseBits kind) where
   pub releases-put : Column (stepShape kind cells faces seconds) 3 0 cells p w w
   releases-put = rw d (releases-in kind cells faces seconds e)
 
   pub release-short : w ≤ 40
-  release-short = omega (arith, d, release-wide kind)
+  release-short = omega (arith, d, release-wide kind, mass-most kind)
 
   pub step-ends : p + cells * w ≡ stepBits kind cells faces seconds
   step-ends = rw d (omega (arith, e, step-is kind cells faces seconds))

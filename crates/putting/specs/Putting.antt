@@ -11,18 +11,18 @@ use Rattle.sections.specs.Sections.{Fits}
 use Rattle.heads.specs.Layouts.{outsideBits, outsideOf, meshShape, meshValue, fieldShape, fieldValue, stepShape, stepValue, meshLength, fieldLength, stepLength}
 
 -- a record that its fields can hold, tables that lend it, and bytes that can hold it
-pub record MeshWhole (M : Mesh) (bs : List ℕ) : Type 0 where
+pub record MeshWhole (kind : ℕ) (M : Mesh) (bs : List ℕ) : Type 0 where
   pub few-cells : M .cells ≤ maxCells
   pub few-faces : M .faces ≤ maxFaces
   pub lent : MeshLent M
-  pub fits : Fits (meshShape (M .cells) (M .faces)) (meshValue M)
-  pub enough : meshLength (M .cells) (M .faces) ≤ length bs
+  pub fits : Fits (meshShape kind (M .cells) (M .faces)) (meshValue kind M)
+  pub enough : meshLength kind (M .cells) (M .faces) ≤ length bs
 
-pub record FieldWhole (cells : ℕ) (masses bs : List ℕ) : Type 0 where
+pub record FieldWhole (kind cells : ℕ) (masses bs : List ℕ) : Type 0 where
   pub few-cells : cells ≤ maxCells
   pub masses-long : cells ≤ length masses
-  pub fits : Fits (fieldShape cells) (fieldValue cells masses)
-  pub enough : fieldLength cells ≤ length bs
+  pub fits : Fits (fieldShape kind cells) (fieldValue kind cells masses)
+  pub enough : fieldLength kind cells ≤ length bs
 
 pub record StepWhole (kind cells faces : ℕ) (seconds : List ℕ) (fluxes : List ℤ) (outsides releases bs : List ℕ) : Type 0 where
   pub few-cells : cells ≤ maxCells

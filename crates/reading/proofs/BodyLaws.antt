@@ -17,7 +17,7 @@ use Rattle.sections.specs.Sections.{Section, shapeBits, valueIn, columnIn}
 use Rattle.sections.proofs.Bodies.{bodyOf, body-length, body-value, body-column}
 use Rattle.heads.specs.Layouts.{meshHead, meshBody, fieldHead, fieldBody, stepHead, stepBody, meshBits, fieldBits, stepBits}
 use Rattle.heads.specs.Heads.{kindIn, cellsIn, facesIn}
-use Rattle.heads.proofs.Layouts.{mesh-most, field-most, step-most}
+use Rattle.heads.proofs.Layouts.{value-most, mesh-most, field-most, step-most}
 use Rattle.reading.specs.Reading.{shapeIn, massesIn, stepShapeIn, meshBodyVerdict, fieldBodyVerdict, stepBodyVerdict}
 use Rattle.bodies.specs.Bodies.{MeshRoom, MeshFilled, StepRoom, StepFilled}
 use Rattle.reading.proofs.ReadLaws.{mesh-tables-say, field-tables-say, step-tables-say}
@@ -35,15 +35,16 @@ stepHeadBytes = 4
 -- a mesh
 module _ (bs : List ℕ) where
   pub mesh-room : {v f s g k : ℕ} → cellsIn bs ≤ maxCells → facesIn bs ≤ maxFaces → meshBodyVerdict bs v f s g k ≡ fine
-      → (meshHeadBytes ≤ length bs) × MeshRoom (cellsIn bs) (facesIn bs) (bodyOf meshHeadBytes bs) v f s g k
+      → (meshHeadBytes ≤ length bs) × MeshRoom (kindIn bs) (cellsIn bs) (facesIn bs) (bodyOf meshHeadBytes bs) v f s g k
   unfolding meshBodyVerdict
   mesh-room {v} {f} {s} {g} {k} few-cells few-faces passed =
       let says = mesh-tables-say bs v f s g k (both-fine _ _ passed .0) in
-      let end = meshBits (cellsIn bs) (facesIn bs) in
+      let end = meshBits (kindIn bs) (cellsIn bs) (facesIn bs) in
       let held = bytes-hold end in
       let most = bytes-most end in
-      let small = mesh-most (cellsIn bs) (facesIn bs) few-cells few-faces in
+      let small = mesh-most (kindIn bs) (cellsIn bs) (facesIn bs) few-cells few-faces in
       let same = says .same-length in
+      let value = value-most (kindIn bs) in
       let body = body-length meshHeadBytes bs in (
         omega arith,
         record {
@@ -57,10 +58,10 @@ module _ (bs : List ℕ) where
         },
       )
 
-  full : (k j : ℕ) (ys : List ℕ) {zs : List ℕ} → zs ≡ over (columnIn (bodyOf meshHeadBytes bs) (meshBody (cellsIn bs) (facesIn bs)) k j) ys → zs ≡ over (columnIn bs (shapeIn bs) (suc k) j) ys
-  full k j ys e = e ∙ ap (λ xs. over xs ys) (body-column meshHeadBytes bs meshHead (meshBody (cellsIn bs) (facesIn bs)) k j refl)
+  full : (k j : ℕ) (ys : List ℕ) {zs : List ℕ} → zs ≡ over (columnIn (bodyOf meshHeadBytes bs) (meshBody (kindIn bs) (cellsIn bs) (facesIn bs)) k j) ys → zs ≡ over (columnIn bs (shapeIn bs) (suc k) j) ys
+  full k j ys e = e ∙ ap (λ xs. over xs ys) (body-column meshHeadBytes bs meshHead (meshBody (kindIn bs) (cellsIn bs) (facesIn bs)) k j refl)
 
-  pub mesh-filled : {v f s g k v′ f′ s′ g′ k′ : List ℕ} → MeshFilled (bodyOf meshHeadBytes bs) (meshBody (cellsIn bs) (facesIn bs)) 0 v f s g k v′ f′ s′ g′ k′
+  pub mesh-filled : {v f s g k v′ f′ s′ g′ k′ : List ℕ} → MeshFilled (bodyOf meshHeadBytes bs) (meshBody (kindIn bs) (cellsIn bs) (facesIn bs)) 0 v f s g k v′ f′ s′ g′ k′
       → MeshFilled bs (shapeIn bs) 1 v f s g k v′ f′ s′ g′ k′
   mesh-filled {v} {f} {s} {g} {k} b = record {
     volumes-full = full 0 0 v (b .volumes-full);
@@ -73,19 +74,19 @@ module _ (bs : List ℕ) where
 -- a field
 module _ (cells : ℕ) (bs : List ℕ) where
   pub field-room : {m : ℕ} → cells ≤ maxCells → fieldBodyVerdict cells bs m ≡ fine
-      → (fieldHeadBytes ≤ length bs) × ((8 * length (bodyOf fieldHeadBytes bs) < 2 ^ 64) × (shapeBits (fieldBody cells) ≤ 8 * length (bodyOf fieldHeadBytes bs)) × (cells ≤ m))
+      → (fieldHeadBytes ≤ length bs) × ((8 * length (bodyOf fieldHeadBytes bs) < 2 ^ 64) × (shapeBits (fieldBody (kindIn bs) cells) ≤ 8 * length (bodyOf fieldHeadBytes bs)) × (cells ≤ m))
   field-room {m} few passed =
       let says = field-tables-say cells bs m passed in
-      let held = bytes-hold (fieldBits cells) in
-      let most = bytes-most (fieldBits cells) in
-      let small = field-most cells few in
+      let held = bytes-hold (fieldBits (kindIn bs) cells) in
+      let most = bytes-most (fieldBits (kindIn bs) cells) in
+      let small = field-most (kindIn bs) cells few in
       let same = says .same-length in
       let body = body-length fieldHeadBytes bs in
       (omega arith, (omega arith, omega arith, says .masses-long))
 
-  pub field-filled : (ys : List ℕ) {zs : List ℕ} → zs ≡ over (columnIn (bodyOf fieldHeadBytes bs) (fieldBody cells) 0 0) ys → zs ≡ over (massesIn bs cells) ys
+  pub field-filled : (ys : List ℕ) {zs : List ℕ} → zs ≡ over (columnIn (bodyOf fieldHeadBytes bs) (fieldBody (kindIn bs) cells) 0 0) ys → zs ≡ over (massesIn bs cells) ys
   unfolding massesIn
-  field-filled ys e = e ∙ ap (λ xs. over xs ys) (body-column fieldHeadBytes bs fieldHead (fieldBody cells) 0 0 refl)
+  field-filled ys e = e ∙ ap (λ xs. over xs ys) (body-column fieldHeadBytes bs fieldHead (fieldBody (kindIn bs) cells) 0 0 refl)
 
 -- a step
 module _ (cells faces : ℕ) (seconds bs : List ℕ) where

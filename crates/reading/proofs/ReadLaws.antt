@@ -2,7 +2,10 @@
 use Prim.Native.Nat.{ℕ, _≤_}
 use mathlib.Core.Path.{_≡_, sym}
 use mathlib.Core.List.{List}
+use mathlib.Core.Bool.{Bool, true, false, _||_}
+use lib.Dec.{eqb}
 use lib.IntN.{ℤ}
+use Rattle.lists.proofs.Tests.{Same, same, same?}
 use lib.ListN.{length}
 use borrow.Author.Tests.{leb-true, eqb-true}
 use Rattle.lists.specs.Table.{over}
@@ -12,8 +15,10 @@ use Rattle.model.specs.declared.Answer.the-variants as call
 use Rattle.model.specs.declared.Refusal.{Refusal}
 use Rattle.model.proofs.Verdicts.{both-fine, need-fine}
 use Rattle.bits.specs.Layout.{bytesFor}
-use Rattle.heads.specs.Layouts.{kindNumber, meshBits, fieldBits, stepBits, meshLength, fieldLength, stepLength}
-use Rattle.heads.specs.Heads.{kindIn, cellsIn, facesIn, hasLength, meshHeadVerdict, stepHeadVerdict}
+use Rattle.heads.specs.Layouts.{meshKind, widthOf, kindNumber, meshBits, fieldBits, stepBits, meshLength, fieldLength, stepLength}
+use Rattle.heads.specs.Heads.{kindIn, isMeshKind, cellsIn, facesIn, hasLength, meshHeadVerdict, stepHeadVerdict}
+use Rattle.heads.specs.declared.Width.{Width}
+use Rattle.heads.specs.declared.Width.the-variants.{Narrow, Wide}
 use Rattle.heads.specs.declared.StepKind.{StepKind}
 use Rattle.heads.proofs.HeadLaws.{MeshHeadSays, mesh-head-says, StepHeadSays, step-head-says}
 use Rattle.reading.specs.Reading.{shapeIn, countsIn, volumesIn, firstsIn, secondsIn, sharesIn, reachesIn, massesIn, fluxesIn, outsidesIn, stepShapeIn, releasesIn, meshBodyVerdict, fieldBodyVerdict, stepBodyVerdict, meshRead, stepRead}
@@ -23,9 +28,17 @@ use Rattle.reading.specs.declared.MeshCounts.{MeshCounts}
 use Rattle.reading.specs.declared.MeshAnswer.the-variants as mesh
 use Rattle.reading.specs.declared.StepRead.the-variants as step
 
+-- the kind of a mesh is that of its width
+pub mesh-kind-is : (k : ℕ) → isMeshKind k ≡ true → meshKind (widthOf k) ≡ k
+mesh-kind-is k e = go (eqb k 1) (same? k 1) e
+  where
+    go : (b : Bool) → Same k 1 b → (b || eqb k 5) ≡ true → meshKind (widthOf k) ≡ k
+    go true (same q) d = rw q
+    go false o d = let q = eqb-true k 5 d in rw q
+
 -- what a record that passed its length and its tables says
 pub record MeshTablesSay (bs : List ℕ) (volumes firsts seconds shares reaches : ℕ) : Type 0 where
-  pub same-length : length bs ≡ bytesFor (meshBits (cellsIn bs) (facesIn bs))
+  pub same-length : length bs ≡ bytesFor (meshBits (kindIn bs) (cellsIn bs) (facesIn bs))
   pub volumes-long : cellsIn bs ≤ volumes
   pub firsts-long : facesIn bs ≤ firsts
   pub seconds-long : facesIn bs ≤ seconds
@@ -33,7 +46,7 @@ pub record MeshTablesSay (bs : List ℕ) (volumes firsts seconds shares reaches 
   pub reaches-long : facesIn bs ≤ reaches
 
 pub mesh-tables-say : (bs : List ℕ) (volumes firsts seconds shares reaches : ℕ)
-    → (hasLength bs (meshLength (cellsIn bs) (facesIn bs)) andThen long 0 (cellsIn bs) volumes andThen long 1 (facesIn bs) firsts
+    → (hasLength bs (meshLength (kindIn bs) (cellsIn bs) (facesIn bs)) andThen long 0 (cellsIn bs) volumes andThen long 1 (facesIn bs) firsts
     andThen long 2 (facesIn bs) seconds andThen long 3 (facesIn bs) shares andThen long 4 (facesIn bs) reaches) ≡ fine
     → MeshTablesSay bs volumes firsts seconds shares reaches
 unfolding meshLength
@@ -53,7 +66,7 @@ mesh-tables-say bs volumes firsts seconds shares reaches e =
     }
 
 pub record FieldTablesSay (cells : ℕ) (bs : List ℕ) (masses : ℕ) : Type 0 where
-  pub same-length : length bs ≡ bytesFor (fieldBits cells)
+  pub same-length : length bs ≡ bytesFor (fieldBits (kindIn bs) cells)
   pub masses-long : cells ≤ masses
 
 pub field-tables-say : (cells : ℕ) (bs : List ℕ) (masses : ℕ) → fieldBodyVerdict cells bs masses ≡ fine → FieldTablesSay cells bs masses
@@ -97,17 +110,17 @@ read-says mostCells mostFaces bs v f s g k e =
     record { counts-are = cc; head = mesh-head-says mostCells mostFaces bs (b .0); body-fine = b .1 }
 
 -- what a step reading that is accepted has passed
-pub record StepReadSays (cells faces : ℕ) (seconds bs : List ℕ) (n u x y : ℕ) : Type 0 where
+pub record StepReadSays (w : Width) (cells faces : ℕ) (seconds bs : List ℕ) (n u x y : ℕ) : Type 0 where
   pub kind-is : n ≡ kindIn bs
-  pub head : StepHeadSays cells faces seconds bs
+  pub head : StepHeadSays w cells faces seconds bs
   pub body-fine : stepBodyVerdict cells faces seconds bs u x y ≡ fine
 
-pub step-read-says : (cells faces : ℕ) (seconds bs : List ℕ) (u x y : ℕ) {n : ℕ} → stepRead cells faces seconds bs u x y ≡ accepted n → StepReadSays cells faces seconds bs n u x y
+pub step-read-says : (w : Width) (cells faces : ℕ) (seconds bs : List ℕ) (u x y : ℕ) {n : ℕ} → stepRead w cells faces seconds bs u x y ≡ accepted n → StepReadSays w cells faces seconds bs n u x y
 unfolding stepRead _andThen_
-step-read-says cells faces seconds bs u x y e =
-    let a = both-fine (stepHeadVerdict cells faces seconds bs andThen stepBodyVerdict cells faces seconds bs u x y) (accepted (kindIn bs)) e in
-    let b = both-fine (stepHeadVerdict cells faces seconds bs) (stepBodyVerdict cells faces seconds bs u x y) (a .0) in
-    record { kind-is = cc; head = step-head-says cells faces seconds bs (b .0); body-fine = b .1 }
+step-read-says w cells faces seconds bs u x y e =
+    let a = both-fine (stepHeadVerdict w cells faces seconds bs andThen stepBodyVerdict cells faces seconds bs u x y) (accepted (kindIn bs)) e in
+    let b = both-fine (stepHeadVerdict w cells faces seconds bs) (stepBodyVerdict cells faces seconds bs u x y) (a .0) in
+    record { kind-is = cc; head = step-head-says w cells faces seconds bs (b .0); body-fine = b .1 }
 
 -- the answer and the tables
 module _ {bs v f s w k : List ℕ} {o : Outcome MeshCounts} where
@@ -132,11 +145,11 @@ module _ {cells : ℕ} {bs m : List ℕ} {o : Verdict} where
   pub field-accepted : {m′ : List ℕ} → o ≡ fine → m′ ≡ over (massesIn bs cells) m → FieldReading o cells bs m call.Done m′
   field-accepted e d = record { answer = sym e; masses-read = rw e d }
 
-module _ {cells faces : ℕ} {seconds bs : List ℕ} {u : List ℤ} {x y : List ℕ} {o : Outcome ℕ} where
-  pub step-refused : {r : Refusal} → o ≡ told r → StepReading o cells faces seconds bs u x y (step.Refused r) u x y
+module _ {w : Width} {cells faces : ℕ} {seconds bs : List ℕ} {u : List ℤ} {x y : List ℕ} {o : Outcome ℕ} where
+  pub step-refused : {r : Refusal} → o ≡ told r → StepReading w o cells faces seconds bs u x y (step.Refused r) u x y
   step-refused e = record { answer = sym e; fluxes-read = rw e; outsides-read = rw e; releases-read = rw e }
 
-  pub step-accepted : {k : StepKind} {u′ : List ℤ} {x′ y′ : List ℕ} → o ≡ accepted (kindNumber k) → StepFilled faces bs (stepShapeIn bs cells faces seconds) 1 u x y u′ x′ y′
-      → StepReading o cells faces seconds bs u x y (step.Read k) u′ x′ y′
+  pub step-accepted : {k : StepKind} {u′ : List ℤ} {x′ y′ : List ℕ} → o ≡ accepted (kindNumber w k) → StepFilled faces bs (stepShapeIn bs cells faces seconds) 1 u x y u′ x′ y′
+      → StepReading w o cells faces seconds bs u x y (step.Read k) u′ x′ y′
   unfolding fluxesIn outsidesIn releasesIn
   step-accepted e d = record { answer = sym e; fluxes-read = rw e (d .fluxes-full); outsides-read = rw e (d .outsides-full); releases-read = rw e (d .releases-full) }

@@ -7,6 +7,7 @@ use Rattle.lists.specs.Table.{over}
 use Rattle.model.specs.Causes.{Outcome, accepted, Verdict, taken}
 use Rattle.model.specs.Answers.{told, said}
 use Rattle.model.specs.declared.Answer.{Answer}
+use Rattle.heads.specs.declared.Width.{Width}
 use Rattle.heads.specs.Layouts.{kindNumber}
 use Rattle.reading.specs.declared.MeshCounts.{MeshCounts}
 use Rattle.reading.specs.declared.MeshAnswer.{MeshAnswer}
@@ -20,9 +21,9 @@ meshSaid (mesh.Read n) = accepted n
 meshSaid (mesh.Refused r) = told r
 
 -- document 02, S-6: a step's answer says the number of its kind
-abbrev pub stepSaid : StepRead → Outcome ℕ
-stepSaid (step.Read kind) = accepted (kindNumber kind)
-stepSaid (step.Refused r) = told r
+abbrev pub stepSaid : Width → StepRead → Outcome ℕ
+stepSaid w (step.Read kind) = accepted (kindNumber w kind)
+stepSaid w (step.Refused r) = told r
 
 -- Document 01, "Causes", of reading. A reading that comes to o: its answer, and each table afterwards. The counted entries are filled and
 -- no others; a refused reading fills nothing.
@@ -38,9 +39,9 @@ pub record FieldReading (o : Verdict) (cells : ℕ) (bs masses : List ℕ) (r : 
   pub answer : said r ≡ o
   pub masses-read : masses′ ≡ taken o (over (massesIn bs cells) masses) masses
 
-pub record StepReading (o : Outcome ℕ) (cells faces : ℕ) (seconds bs : List ℕ) (fluxes : List ℤ) (outsides releases : List ℕ)
+pub record StepReading (w : Width) (o : Outcome ℕ) (cells faces : ℕ) (seconds bs : List ℕ) (fluxes : List ℤ) (outsides releases : List ℕ)
     (r : StepRead) (fluxes′ : List ℤ) (outsides′ releases′ : List ℕ) : Type 0 where
-  pub answer : stepSaid r ≡ o
+  pub answer : stepSaid w r ≡ o
   pub fluxes-read : fluxes′ ≡ taken o (over (fluxesIn bs faces) fluxes) fluxes
   pub outsides-read : outsides′ ≡ taken o (over (outsidesIn bs faces seconds) outsides) outsides
   pub releases-read : releases′ ≡ taken o (over (releasesIn bs cells faces seconds) releases) releases

@@ -10,19 +10,20 @@ use Rattle.signed.specs.Sign.{withSign}
 use Rattle.model.specs.Mesh.{Mesh, meshOf}
 use Rattle.model.specs.Causes.{Outcome, accepted, Verdict, _andThen_, each, long}
 use Rattle.sections.specs.Sections.{Section, place, valueIn, columnIn}
-use Rattle.heads.specs.Layouts.{meshZeroBits, stepZeroBits, meshHeadBits, stepHeadBits, meshShape, fieldShape, stepHead, fluxSection, outsideSection, stepShape, meshBits, stepBits, meshLength, fieldLength, stepLength}
-use Rattle.heads.specs.Heads.{kindIn, cellsIn, facesIn, hasLength, meshHeadVerdict, fieldHeadVerdict, stepHeadVerdict}
+use Rattle.heads.specs.Layouts.{valueBits, meshZeroBits, stepZeroBits, meshHeadBits, stepHeadBits, meshShape, fieldShape, stepHead, fluxSection, outsideSection, stepShape, meshBits, stepBits, meshLength, fieldLength, stepLength}
+use Rattle.heads.specs.Heads.{kindIn, widthIn, cellsIn, facesIn, hasLength, meshHeadVerdict, fieldHeadVerdict, stepHeadVerdict}
 use Rattle.zeros.specs.Zeros.{zeroBitGood, minusZero}
+use Rattle.heads.specs.declared.Width.{Width}
 use Rattle.reading.specs.declared.MeshCounts.{MeshCounts}
 
--- A step up to its releases: what stands there rests neither on the kind nor on the cells.
-abbrev pub waterShape : ℕ → List ℕ → List Section
-waterShape faces seconds = stepHead ∷ fluxSection faces ∷ outsideSection faces seconds ∷ []
+-- A step up to its releases: what stands there rests on the width of the kind, and not on the cells.
+abbrev pub waterShape : (kind faces : ℕ) → List ℕ → List Section
+waterShape kind faces seconds = stepHead ∷ fluxSection kind faces ∷ outsideSection faces seconds ∷ []
 
 -- Values: reading does not judge them. Each is the number that the bits at its place spell; places count from the record's first bit.
 module _ (bs : List ℕ) where
   abbrev pub shapeIn : List Section
-  shapeIn = meshShape (cellsIn bs) (facesIn bs)
+  shapeIn = meshShape (kindIn bs) (cellsIn bs) (facesIn bs)
 
   -- a mesh: section 1 has a row for each cell, section 2 one for each face
   unfoldable pub volumesIn : List ℕ
@@ -41,31 +42,31 @@ module _ (bs : List ℕ) where
   reachesIn = columnIn bs shapeIn 2 3
 
   abbrev pub countsIn : MeshCounts
-  countsIn = record { cells = cellsIn bs; faces = facesIn bs }
+  countsIn = record { cells = cellsIn bs; faces = facesIn bs; width = widthIn bs }
 
   abbrev pub meshIn : Mesh
   meshIn = meshOf (cellsIn bs) (facesIn bs) volumesIn firstsIn secondsIn sharesIn reachesIn
 
   -- a field
   unfoldable pub massesIn : ℕ → List ℕ
-  massesIn cells = columnIn bs (fieldShape cells) 1 0
+  massesIn cells = columnIn bs (fieldShape (kindIn bs) cells) 1 0
 
   -- a step: the sign and the size of each face's U stand before the outside values, and do not rest on the seconds
   abbrev pub minusIn : ℕ → ℕ → Bool
-  minusIn faces f = eqb (valueIn bs (stepHead ∷ fluxSection faces ∷ []) 1 0 f) 1
+  minusIn faces f = eqb (valueIn bs (stepHead ∷ fluxSection (kindIn bs) faces ∷ []) 1 0 f) 1
 
   abbrev pub sizeIn : ℕ → ℕ → ℕ
-  sizeIn faces f = valueIn bs (stepHead ∷ fluxSection faces ∷ []) 1 1 f
+  sizeIn faces f = valueIn bs (stepHead ∷ fluxSection (kindIn bs) faces ∷ []) 1 1 f
 
   unfoldable pub fluxesIn : ℕ → List ℤ
   fluxesIn faces = table faces (λ f. withSign (minusIn faces f) (sizeIn faces f))
 
   -- outside values away from the rim read 0: there is no row
   abbrev pub outsidePlace : ℕ → List ℕ → ℕ → ℕ
-  outsidePlace faces seconds f = place (waterShape faces seconds) 2 0 f
+  outsidePlace faces seconds f = place (waterShape (kindIn bs) faces seconds) 2 0 f
 
   unfoldable pub outsidesIn : ℕ → List ℕ → List ℕ
-  outsidesIn faces seconds = columnIn bs (waterShape faces seconds) 2 0
+  outsidesIn faces seconds = columnIn bs (waterShape (kindIn bs) faces seconds) 2 0
 
   -- S-6: the shape of the kind that the head says; in kind 3 the releases read 0, for they have no bits
   abbrev pub stepShapeIn : (cells faces : ℕ) → List ℕ → List Section
@@ -76,21 +77,21 @@ module _ (bs : List ℕ) where
 
 -- Cause 12, by the bit at i: the zero bits, and in a step the minus with size 0.
 unfoldable pub meshBitGood : List ℕ → ℕ → Bool
-meshBitGood bs i = zeroBitGood bs meshZeroBits meshHeadBits (meshBits (cellsIn bs) (facesIn bs)) i
+meshBitGood bs i = zeroBitGood bs meshZeroBits meshHeadBits (meshBits (kindIn bs) (cellsIn bs) (facesIn bs)) i
 
 unfoldable pub stepBitGood : List ℕ → (cells faces : ℕ) → List ℕ → ℕ → Bool
-stepBitGood bs cells faces seconds i = zeroBitGood bs stepZeroBits stepHeadBits (stepBits (kindIn bs) cells faces seconds) i && not (minusZero bs faces i)
+stepBitGood bs cells faces seconds i = zeroBitGood bs stepZeroBits stepHeadBits (stepBits (kindIn bs) cells faces seconds) i && not (minusZero bs (valueBits (kindIn bs)) faces i)
 
 -- The order of reading past the head: length 11, then 2, then 12: what a record whose head is fine is refused for, read into tables of so
 -- many entries.
 unfoldable pub meshBodyVerdict : List ℕ → ℕ → ℕ → ℕ → ℕ → ℕ → Verdict
-meshBodyVerdict bs volumes firsts seconds shares reaches = hasLength bs (meshLength (cellsIn bs) (facesIn bs))
+meshBodyVerdict bs volumes firsts seconds shares reaches = hasLength bs (meshLength (kindIn bs) (cellsIn bs) (facesIn bs))
     andThen long 0 (cellsIn bs) volumes andThen long 1 (facesIn bs) firsts andThen long 2 (facesIn bs) seconds
     andThen long 3 (facesIn bs) shares andThen long 4 (facesIn bs) reaches
     andThen each 12 (8 * length bs) (meshBitGood bs)
 
 unfoldable pub fieldBodyVerdict : ℕ → List ℕ → ℕ → Verdict
-fieldBodyVerdict cells bs masses = hasLength bs (fieldLength cells) andThen long 5 cells masses
+fieldBodyVerdict cells bs masses = hasLength bs (fieldLength (kindIn bs) cells) andThen long 5 cells masses
 
 -- the releases are table 14, in kind 3 too
 unfoldable pub stepBodyVerdict : (cells faces : ℕ) → List ℕ → List ℕ → (fluxes outsides releases : ℕ) → Verdict
@@ -98,15 +99,15 @@ stepBodyVerdict cells faces seconds bs fluxes outsides releases = hasLength bs (
     andThen long 6 faces fluxes andThen long 7 faces outsides andThen long 14 cells releases
     andThen each 12 (8 * length bs) (stepBitGood bs cells faces seconds)
 
--- What each reading comes to.
+-- What each reading comes to. Document 02, S-10: the reading of a mesh answers its width too, and those of a field and of a step are told it.
 unfoldable pub meshRead : ℕ → ℕ → List ℕ → ℕ → ℕ → ℕ → ℕ → ℕ → Outcome MeshCounts
 meshRead mostCells mostFaces bs volumes firsts seconds shares reaches =
     meshHeadVerdict mostCells mostFaces bs andThen meshBodyVerdict bs volumes firsts seconds shares reaches andThen accepted (countsIn bs)
 
-unfoldable pub fieldRead : ℕ → List ℕ → ℕ → Verdict
-fieldRead cells bs masses = fieldHeadVerdict cells bs andThen fieldBodyVerdict cells bs masses
+unfoldable pub fieldRead : Width → ℕ → List ℕ → ℕ → Verdict
+fieldRead w cells bs masses = fieldHeadVerdict w cells bs andThen fieldBodyVerdict cells bs masses
 
 -- the reading of a step answers its kind
-unfoldable pub stepRead : (cells faces : ℕ) → List ℕ → List ℕ → (fluxes outsides releases : ℕ) → Outcome ℕ
-stepRead cells faces seconds bs fluxes outsides releases =
-    stepHeadVerdict cells faces seconds bs andThen stepBodyVerdict cells faces seconds bs fluxes outsides releases andThen accepted (kindIn bs)
+unfoldable pub stepRead : Width → (cells faces : ℕ) → List ℕ → List ℕ → (fluxes outsides releases : ℕ) → Outcome ℕ
+stepRead w cells faces seconds bs fluxes outsides releases =
+    stepHeadVerdict w cells faces seconds bs andThen stepBodyVerdict cells faces seconds bs fluxes outsides releases andThen accepted (kindIn bs)

@@ -2,16 +2,18 @@
 mod verdicts;
 
 use heads::StepKind;
+use heads::Width;
 use model::Answer;
 use model::Refusal;
 ghost use lib.ListN.{length};
 ghost use Rattle.reading.specs.Reading.{meshRead, fieldRead, stepRead};
 ghost use Rattle.reading.specs.Answers.{MeshReading, FieldReading, StepReading};
 
-// The counts of a mesh that has been read.
+// The counts of a mesh that has been read, and the width of its record.
 pub struct MeshCounts {
     pub cells: usize,
     pub faces: usize,
+    pub width: Width,
 }
 
 pub enum MeshAnswer {
@@ -57,7 +59,9 @@ pub fn read_mesh(
     let MeshAnswer::Read(n) = a else {
         return a;
     };
+    let width = n.width;
     bodies::mesh(
+        width,
         n.cells,
         n.faces,
         &bytes[heads::MESH_HEAD..],
@@ -71,22 +75,23 @@ pub fn read_mesh(
 }
 
 // The record of a field on so many cells.
-pub fn read_field(cells: usize, bytes: &[u8], masses: &mut [u64]) -> Answer
+pub fn read_field(width: Width, cells: usize, bytes: &[u8], masses: &mut [u64]) -> Answer
     ensures { λ r. ⌜ FieldReading
-        (fieldRead cells (now (bytes .entry)) (length (now (masses .entry))))
+        (fieldRead width cells (now (bytes .entry)) (length (now (masses .entry))))
         cells (now (bytes .entry)) (now (masses .entry)) r (now (masses .exit)) ⌝ }
 {
-    let a = verdicts::field(cells, bytes, masses.len());
+    let a = verdicts::field(width, cells, bytes, masses.len());
     if let Answer::Refused(r) = a {
         return Answer::Refused(r);
     }
-    bodies::field(cells, &bytes[heads::FIELD_HEAD..], masses);
+    bodies::field(width, cells, &bytes[heads::FIELD_HEAD..], masses);
     Answer::Done
 }
 
 // The record of a step on these cells and faces. Of the mesh only the seconds are looked at, for the rim. In the kind without outfalls the
 // releases become 0.
 pub fn read_step(
+    width: Width,
     cells: usize,
     faces: usize,
     seconds: &[u64],
@@ -95,13 +100,14 @@ pub fn read_step(
     outsides: &mut [u64],
     releases: &mut [u64],
 ) -> StepRead
-    ensures { λ r. ⌜ StepReading
-        (stepRead cells faces (now (seconds .entry)) (now (bytes .entry))
+    ensures { λ r. ⌜ StepReading width
+        (stepRead width cells faces (now (seconds .entry)) (now (bytes .entry))
         (length (now (fluxes .entry))) (length (now (outsides .entry))) (length (now (releases .entry))))
         cells faces (now (seconds .entry)) (now (bytes .entry)) (now (fluxes .entry)) (now (outsides .entry)) (now (releases .entry))
         r (now (fluxes .exit)) (now (outsides .exit)) (now (releases .exit)) ⌝ }
 {
     let a = verdicts::step(
+        width,
         cells,
         faces,
         seconds,
@@ -114,6 +120,7 @@ pub fn read_step(
         return a;
     };
     bodies::step(
+        width,
         kind,
         cells,
         faces,

@@ -3,6 +3,7 @@ use crate::MeshAnswer;
 use crate::MeshCounts;
 use crate::StepRead;
 use heads::StepKind;
+use heads::Width;
 use heads::lengths;
 use model::Answer;
 use model::Cause;
@@ -15,7 +16,7 @@ ghost use lib.ListN.{length};
 ghost use Rattle.model.specs.Mesh.{maxCells, maxFaces};
 ghost use Rattle.model.specs.Causes.{long as longOf, _andThen_};
 ghost use Rattle.model.specs.Answers.{said};
-ghost use Rattle.heads.specs.Layouts.{kindNumber};
+ghost use Rattle.heads.specs.Layouts.{meshKind, fieldKind, kindNumber};
 ghost use Rattle.heads.specs.Heads.{kindIn, cellsIn, facesIn};
 ghost use Rattle.reading.specs.Reading.{meshBodyVerdict, fieldBodyVerdict, stepBodyVerdict, meshRead, fieldRead, stepRead};
 ghost use Rattle.reading.specs.Answers.{meshSaid, stepSaid};
@@ -32,6 +33,7 @@ fn then_long(a: Answer, position: u64, wanted: usize, has: usize) -> Answer
 
 fn mesh_body(
     bytes: &[u8],
+    width: Width,
     cells: usize,
     faces: usize,
     volumes: usize,
@@ -40,10 +42,10 @@ fn mesh_body(
     shares: usize,
     reaches: usize,
 ) -> Answer
-    requires { ⌜ (cells ≡ cellsIn (now bytes)) × (faces ≡ facesIn (now bytes)) × (cells ≤ maxCells) × (faces ≤ maxFaces) ⌝ }
+    requires { ⌜ (cells ≡ cellsIn (now bytes)) × (faces ≡ facesIn (now bytes)) × (cells ≤ maxCells) × (faces ≤ maxFaces) × (meshKind width ≡ kindIn (now bytes)) ⌝ }
     ensures { λ r. ⌜ said r ≡ meshBodyVerdict (now (bytes .entry)) volumes firsts seconds shares reaches ⌝ }
 {
-    let end = lengths::mesh_bits(cells, faces);
+    let end = lengths::mesh_bits(width, cells, faces);
     let a = need(Cause::Length, 0, bytes.len() == bits::bytes_for(end));
     let b = then_long(a, 0, cells, volumes);
     let d = then_long(b, 1, faces, firsts);
@@ -56,15 +58,20 @@ fn mesh_body(
     zeros::mesh(bytes, end)
 }
 
-fn field_body(cells: usize, bytes: &[u8], masses: usize) -> Answer
-    requires { ⌜ cells ≤ maxCells ⌝ }
+fn field_body(width: Width, cells: usize, bytes: &[u8], masses: usize) -> Answer
+    requires { ⌜ (cells ≤ maxCells) × (fieldKind width ≡ kindIn (now bytes)) ⌝ }
     ensures { λ r. ⌜ said r ≡ fieldBodyVerdict cells (now (bytes .entry)) masses ⌝ }
 {
-    let a = need(Cause::Length, 0, bytes.len() == lengths::field_bytes(cells));
+    let a = need(
+        Cause::Length,
+        0,
+        bytes.len() == lengths::field_bytes(width, cells),
+    );
     then_long(a, 5, cells, masses)
 }
 
 fn step_body(
+    width: Width,
     kind: StepKind,
     cells: usize,
     faces: usize,
@@ -74,10 +81,10 @@ fn step_body(
     outsides: usize,
     releases: usize,
 ) -> Answer
-    requires { ⌜ (kindNumber kind ≡ kindIn (now bytes)) × (cells ≤ maxCells) × (faces ≤ maxFaces) × (faces ≤ length (now seconds)) ⌝ }
+    requires { ⌜ (kindNumber width kind ≡ kindIn (now bytes)) × (cells ≤ maxCells) × (faces ≤ maxFaces) × (faces ≤ length (now seconds)) ⌝ }
     ensures { λ r. ⌜ said r ≡ stepBodyVerdict cells faces (now (seconds .entry)) (now (bytes .entry)) fluxes outsides releases ⌝ }
 {
-    let end = lengths::step_bits(kind, cells, faces, seconds);
+    let end = lengths::step_bits(width, kind, cells, faces, seconds);
     let a = need(Cause::Length, 0, bytes.len() == bits::bytes_for(end));
     let b = then_long(a, 6, faces, fluxes);
     let d = then_long(b, 7, faces, outsides);
@@ -85,7 +92,7 @@ fn step_body(
     if let Answer::Refused(r) = e {
         return Answer::Refused(r);
     }
-    zeros::step(bytes, faces, end)
+    zeros::step(bytes, faces, end, lengths::value_width(width))
 }
 
 pub fn mesh(
@@ -106,8 +113,10 @@ pub fn mesh(
     }
     let cells = heads::cells(bytes);
     let faces = heads::faces(bytes);
+    let width = heads::mesh_width(bytes);
     let b = mesh_body(
         bytes,
+        width,
         cells,
         faces,
         volumes,
@@ -119,20 +128,25 @@ pub fn mesh(
     if let Answer::Refused(r) = b {
         return MeshAnswer::Refused(r);
     }
-    MeshAnswer::Read(MeshCounts { cells, faces })
+    MeshAnswer::Read(MeshCounts {
+        cells,
+        faces,
+        width,
+    })
 }
 
-pub fn field(cells: usize, bytes: &[u8], masses: usize) -> Answer
-    ensures { λ r. ⌜ said r ≡ fieldRead cells (now (bytes .entry)) masses ⌝ }
+pub fn field(width: Width, cells: usize, bytes: &[u8], masses: usize) -> Answer
+    ensures { λ r. ⌜ said r ≡ fieldRead width cells (now (bytes .entry)) masses ⌝ }
 {
-    let a = heads::field(cells, bytes);
+    let a = heads::field(width, cells, bytes);
     if let Answer::Refused(r) = a {
         return Answer::Refused(r);
     }
-    field_body(cells, bytes, masses)
+    field_body(width, cells, bytes, masses)
 }
 
 pub fn step(
+    width: Width,
     cells: usize,
     faces: usize,
     seconds: &[u64],
@@ -141,14 +155,15 @@ pub fn step(
     outsides: usize,
     releases: usize,
 ) -> StepRead
-    ensures { λ r. ⌜ stepSaid r ≡ stepRead cells faces (now (seconds .entry)) (now (bytes .entry)) fluxes outsides releases ⌝ }
+    ensures { λ r. ⌜ stepSaid width r ≡ stepRead width cells faces (now (seconds .entry)) (now (bytes .entry)) fluxes outsides releases ⌝ }
 {
-    let a = heads::step(cells, faces, seconds, bytes);
+    let a = heads::step(width, cells, faces, seconds, bytes);
     if let Answer::Refused(r) = a {
         return StepRead::Refused(r);
     }
-    let kind = heads::step_kind(bytes);
+    let kind = heads::step_kind(width, bytes);
     let b = step_body(
+        width,
         kind,
         cells,
         faces,

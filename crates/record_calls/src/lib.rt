@@ -10,10 +10,11 @@ use arguments::parts::octets;
 use arguments::parts::table;
 use arguments::show;
 use heads::StepKind;
+use heads::Width;
 
 pub fn mesh_length(words: &[u64], bytes: &[u8]) {
     show::word(b"mesh_length:");
-    answers::length(heads::mesh_length(
+    answers::mesh_length(heads::mesh_length(
         number(words, 0),
         number(words, 1),
         octets(words, bytes, 2),
@@ -22,16 +23,21 @@ pub fn mesh_length(words: &[u64], bytes: &[u8]) {
 
 pub fn field_length(words: &[u64], bytes: &[u8]) {
     show::word(b"field_length:");
-    answers::length(heads::field_length(number(words, 0), octets(words, bytes, 1)));
+    answers::length(heads::field_length(
+        answers::width(number(words, 0)),
+        number(words, 1),
+        octets(words, bytes, 2),
+    ));
 }
 
 pub fn step_length(words: &[u64], bytes: &[u8]) {
     show::word(b"step_length:");
     answers::length(heads::step_length(
-        number(words, 0),
+        answers::width(number(words, 0)),
         number(words, 1),
-        table(words, 2),
-        octets(words, bytes, 3),
+        number(words, 2),
+        table(words, 3),
+        octets(words, bytes, 4),
     ));
 }
 
@@ -97,10 +103,11 @@ fn fill_mesh(
 pub fn read_field(words: &[u64], bytes: &[u8]) {
     let mut masses = [0u64; ROOM];
     show::word(b"read_field:");
-    let m = copy(table(words, 2), &mut masses);
+    let m = copy(table(words, 3), &mut masses);
     answers::verdict(reading::read_field(
-        number(words, 0),
-        octets(words, bytes, 1),
+        answers::width(number(words, 0)),
+        number(words, 1),
+        octets(words, bytes, 2),
         &mut masses[..m],
     ));
     show::numbers(b"; masses", m, &masses);
@@ -109,18 +116,20 @@ pub fn read_field(words: &[u64], bytes: &[u8]) {
 pub fn read_step(words: &[u64], ints: &[i64], bytes: &[u8]) {
     show::word(b"read_step:");
     fill_step(
-        number(words, 0),
+        answers::width(number(words, 0)),
         number(words, 1),
-        table(words, 2),
-        octets(words, bytes, 3),
-        amounts(words, ints, 4),
-        table(words, 5),
+        number(words, 2),
+        table(words, 3),
+        octets(words, bytes, 4),
+        amounts(words, ints, 5),
         table(words, 6),
+        table(words, 7),
     );
 }
 
 // A step record read into arrays that hold the entries given.
 fn fill_step(
+    width: Width,
     cells: usize,
     faces: usize,
     seconds: &[u64],
@@ -135,7 +144,8 @@ fn fill_step(
     let f = copy_amounts(given_fluxes, &mut fluxes);
     let o = copy(given_outsides, &mut outsides);
     let r = copy(given_releases, &mut releases);
-    answers::step_read(reading::read_step(
+    let said = reading::read_step(
+        width,
         cells,
         faces,
         seconds,
@@ -143,7 +153,8 @@ fn fill_step(
         &mut fluxes[..f],
         &mut outsides[..o],
         &mut releases[..r],
-    ));
+    );
+    answers::step_read(width, said);
     show::amounts(b"; fluxes", f, &fluxes);
     show::numbers(b"; outsides", o, &outsides);
     show::numbers(b"; releases", r, &releases);
@@ -152,15 +163,16 @@ fn fill_step(
 pub fn write_mesh(words: &[u64]) {
     let mut record = [0u8; BYTES_ROOM];
     show::word(b"write_mesh:");
-    let b = bytes(table(words, 7), &mut record);
+    let b = bytes(table(words, 8), &mut record);
     answers::written(writing::write_mesh(
-        number(words, 0),
+        answers::width(number(words, 0)),
         number(words, 1),
-        table(words, 2),
+        number(words, 2),
         table(words, 3),
         table(words, 4),
         table(words, 5),
         table(words, 6),
+        table(words, 7),
         &mut record[..b],
     ));
     show::octets(b"; bytes", b, &record);
@@ -169,16 +181,17 @@ pub fn write_mesh(words: &[u64]) {
 pub fn write_field(words: &[u64]) {
     let mut record = [0u8; BYTES_ROOM];
     show::word(b"write_field:");
-    let b = bytes(table(words, 8), &mut record);
+    let b = bytes(table(words, 9), &mut record);
     answers::written(writing::write_field(
-        number(words, 0),
+        answers::width(number(words, 0)),
         number(words, 1),
-        table(words, 2),
+        number(words, 2),
         table(words, 3),
         table(words, 4),
         table(words, 5),
         table(words, 6),
         table(words, 7),
+        table(words, 8),
         &mut record[..b],
     ));
     show::octets(b"; bytes", b, &record);
@@ -196,20 +209,21 @@ fn kind(named: usize) -> StepKind {
 pub fn write_step(words: &[u64], ints: &[i64]) {
     let mut record = [0u8; BYTES_ROOM];
     show::word(b"write_step:");
-    let b = bytes(table(words, 10), &mut record);
+    let b = bytes(table(words, 11), &mut record);
     answers::written(writing::write_step(
-        kind(number(words, 0)),
-        number(words, 1),
+        answers::width(number(words, 0)),
+        kind(number(words, 1)),
         number(words, 2),
-        table(words, 3),
+        number(words, 3),
         table(words, 4),
         table(words, 5),
         table(words, 6),
         table(words, 7),
-        amounts(words, ints, 8),
-        table(words, 9),
+        table(words, 8),
+        amounts(words, ints, 9),
+        table(words, 10),
         &mut record[..b],
-        table(words, 11),
+        table(words, 12),
     ));
     show::octets(b"; bytes", b, &record);
 }

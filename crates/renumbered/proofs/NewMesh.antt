@@ -8,7 +8,7 @@ use borrow.Author.Tests.{ne-eqb, leb-true, le-leb}
 use lib.Dec.{eqb, leb, ltb}
 use Rattle.lists.specs.Renumbering.{Renumbering}
 use Rattle.lists.proofs.Tests.{Same, same, other, same?, both-true}
-use Rattle.model.specs.Mesh.{Mesh, first, second, share, reach, atRim, rim, maxShare, maxReach}
+use Rattle.model.specs.Mesh.{Mesh, first, second, share, reach, atRim, rim, maxShare, maxReach, ceiling}
 use Rattle.model.specs.Causes.{fine, _andThen_, each, between, volumeGood, endsGood, spacingGood, meshCauses, meshValues}
 use Rattle.model.specs.Accepted.{MeshFit}
 use Rattle.model.specs.Alike.{Facing, straight, turned, AlikeMesh}
@@ -38,7 +38,7 @@ share-pass true s K e =
     let q = both-true (leb 1 s) (leb s maxShare) (p .0) in
     rw (p .1, le-leb 1 (256 - s) (omega (arith, leb-true s maxShare (q .1))), le-leb (256 - s) maxShare (omega (arith, leb-true 1 s (q .0))))
 
-module _ (M M′ : Mesh) (few : M .cells ≤ rim) (fine-values : meshValues M ≡ fine)
+module _ (M M′ : Mesh) (few : M .cells ≤ rim) (fine-values : meshValues ceiling M ≡ fine)
     (cell : Renumbering (M .cells)) (face : Renumbering (M .faces)) (turns : ℕ → Bool) (a : AlikeMesh M M′ cell face turns) where
   fit : MeshFit M
   fit = mesh-fit M fine-values
@@ -72,12 +72,12 @@ module _ (M M′ : Mesh) (few : M .cells ≤ rim) (fine-values : meshValues M �
       rw (a .ends-alike .cells-same) (ends-pass (M .cells) (first M′ (face .new f)) (second M′ (face .new f)) (e .0) (e .1) (e .2))
 
   -- cause 5
-  spacing-good : (f : ℕ) → f < M .faces → spacingGood M′ (face .new f) ≡ true
+  spacing-good : (f : ℕ) → f < M .faces → spacingGood ceiling M′ (face .new f) ≡ true
   unfolding spacingGood meshValues
   spacing-good f l =
       rw (rim-same M M′ (joined M few fit) cell face turns (a .ends-alike) f l, a .share-same f l, a .reach-same f l)
       (go (turns f) (a .ends-alike .facing f l) (atRim M f) (same? (second M f) rim)
-      (each-fine 5 (M .faces) (spacingGood M) (all-fine (meshCauses M) fine-values .1 .1 .0) f l))
+      (each-fine 5 (M .faces) (spacingGood ceiling M) (all-fine (meshCauses ceiling M) fine-values .1 .1 .0) f l))
     where
       go : (t : Bool) → Facing M M′ (cell .new) f (face .new f) t → (r : Bool) → Same (second M f) rim r
           → cond r (eqb (share M f) 0 && eqb (reach M f) 0) (between 1 maxShare (share M f) && between 1 maxReach (reach M f)) ≡ true
@@ -88,18 +88,18 @@ module _ (M M′ : Mesh) (few : M .cells ≤ rim) (fine-values : meshValues M �
       go t x false s e = share-pass t (share M f) (reach M f) e
 
   -- cause 3
-  volume-good : (c : ℕ) → c < M .cells → volumeGood M′ (cell .new c) ≡ true
+  volume-good : (c : ℕ) → c < M .cells → volumeGood ceiling M′ (cell .new c) ≡ true
   unfolding volumeGood meshValues
-  volume-good c h = rw (a .volume-same c h) (each-fine 3 (M .cells) (volumeGood M) (all-fine (meshCauses M) fine-values .0) c h)
+  volume-good c h = rw (a .volume-same c h) (each-fine 3 (M .cells) (volumeGood ceiling M) (all-fine (meshCauses ceiling M) fine-values .0) c h)
 
   -- tests that all pass by the new numbers
   all-pass : (k n : ℕ) {n′ : ℕ} (r : Renumbering n) (good : ℕ → Bool) → n′ ≡ n → ((i : ℕ) → i < n → good (r .new i) ≡ true) → each k n′ good ≡ fine
   all-pass k n r good e h = ap (λ (m : ℕ). each k m good) e ∙ fine-each k n good (λ i l. ap good (sym (r .new-old i l)) ∙ h (r .old i) (r .old-in i l))
 
-  pub new-values : meshValues M′ ≡ fine
+  pub new-values : meshValues ceiling M′ ≡ fine
   unfolding meshValues _andThen_
   new-values = rw (
-    all-pass 3 (M .cells) cell (volumeGood M′) (a .ends-alike .cells-same) volume-good,
+    all-pass 3 (M .cells) cell (volumeGood ceiling M′) (a .ends-alike .cells-same) volume-good,
     all-pass 4 (M .faces) face (endsGood M′) (a .ends-alike .faces-same) ends-good,
-    all-pass 5 (M .faces) face (spacingGood M′) (a .ends-alike .faces-same) spacing-good,
+    all-pass 5 (M .faces) face (spacingGood ceiling M′) (a .ends-alike .faces-same) spacing-good,
   )

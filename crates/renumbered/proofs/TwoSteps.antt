@@ -7,7 +7,7 @@ use mathlib.Core.List.{List}
 use lib.ListN.{length}
 use Rattle.lists.specs.Renumbering.{Renumbering}
 use Rattle.signed.specs.Sign.{turn}
-use Rattle.model.specs.Mesh.{Mesh, rim, updated}
+use Rattle.model.specs.Mesh.{Mesh, rim, updated, ceiling}
 use Rattle.model.specs.Step.{mass}
 use Rattle.model.specs.Causes.{accepted, refused, Verdict, fine, _andThen_, taken, Call, inputOf, counts, meshTables, meshValues, meshVerdict, fieldTable, stepTables, verdict}
 use Rattle.model.specs.Calls.{Crossing, Scheme, stepAnswer}
@@ -27,7 +27,7 @@ module _ (M : Mesh) (e : meshVerdict M ≡ fine) where
   unfolding meshVerdict
   fine-counts = both-fine _ _ (both-fine _ _ e .0) .0
 
-  pub fine-values : meshValues M ≡ fine
+  pub fine-values : meshValues ceiling M ≡ fine
   unfolding meshVerdict
   fine-values = both-fine _ _ e .1
 
@@ -74,7 +74,7 @@ module _ {p : Bool} {M M′ : Mesh} {cell : Renumbering (M .cells)} {face : Renu
   unfolding counts
   counts-same = rw (m .alike .ends-alike .cells-same, m .alike .ends-alike .faces-same)
 
-  fine-new : meshValues M′ ≡ fine
+  fine-new : meshValues ceiling M′ ≡ fine
   fine-new = new-values M M′ (few M (m .mesh-fine)) (fine-values M (m .mesh-fine)) cell face turns (m .alike)
 
   pub mesh-passes : meshVerdict M′ ≡ fine

@@ -13,27 +13,33 @@ use Rattle.lists.proofs.Renumbered.{length-carried, getD-carried}
 use Rattle.signed.specs.Sign.{size, isNegative, withSign, turn}
 use Rattle.signed.proofs.Laws.{size-withSign}
 use Rattle.signed.proofs.Turns.{size-turn}
-use Rattle.model.specs.Mesh.{Mesh, atRim, runCells, runFaces, maxCells, maxFaces}
+use Rattle.model.specs.Mesh.{Mesh, volume, reach, atRim, runCells, runFaces, maxCells, maxFaces, ceiling, oldCeiling}
+use Rattle.model.specs.Ceilings.{MeshSmall}
 use Rattle.model.specs.Causes.{fine, _andThen_, long, countsWithin, counts, meshValues, meshVerdict, Call, release}
 use Rattle.model.specs.Calls.{massIn}
-use Rattle.model.proofs.Verdicts.{both-fine, fine-all}
+use Rattle.model.proofs.Verdicts.{both-fine, need-fine, fine-all}
 use Rattle.model.proofs.Accepted.{counted, mesh-fit}
+use Rattle.model.proofs.Ceilings.{old-meshes}
 use Rattle.model.proofs.AlikeFaces.{rim-same}
 use Rattle.model.proofs.AlikeStages.{joined}
 use Rattle.bits.specs.Field.{bitsAt}
 use Rattle.bits.proofs.Fields.{bits-lt}
 use Rattle.sections.specs.Sections.{Fits, place, entryIn}
 use Rattle.sections.proofs.Columns.{sign-fits}
-use Rattle.heads.specs.Layouts.{kindBits, massBits, sizeBits, outsideBits, releaseBits, isRim, massOf, outsideOf, fieldShape, fieldValue, stepShape, stepValue}
-use Rattle.heads.specs.Heads.{kindIn, cellsIn, facesIn, meshHeadVerdict}
+use Rattle.heads.specs.Layouts.{meshKind, fieldKind, widthOf, kindBits, valueBits, massBits, outsideBits, releaseBits, isRim, massOf, outsideOf, fieldShape, fieldValue, stepShape, stepValue}
+use Rattle.heads.specs.Heads.{kindIn, widthIn, cellsIn, facesIn, meshHeadVerdict}
+use Rattle.heads.specs.declared.Width.{Width}
+use Rattle.heads.specs.declared.Width.the-variants.{Narrow, Wide}
 use Rattle.heads.proofs.HeadLaws.{step-head-says}
 use Rattle.reading.specs.Reading.{meshIn, massesIn, fluxesIn, outsidesIn, releasesIn, minusIn, sizeIn, outsidePlace, meshRead, fieldRead, stepRead}
-use Rattle.writing.proofs.WidthLaws.{field-fits}
-use Rattle.writing.proofs.Accepting.{field-reads, step-reads}
-use Rattle.writing.proofs.Back.{field-kind-back, field-cells-back, field-record-length, masses-back, step-kind-back, step-faces-back, step-record-length, step-bits-good, fluxes-back, outsides-back, releases-back}
-use Rattle.writing.proofs.RoundTrip.{cells-read-back, faces-read-back, mesh-read-back, volumes-read-back, firsts-read-back, seconds-read-back, shares-read-back, reaches-read-back}
+use Rattle.writing.proofs.WidthLaws.{mesh-fits, field-fits}
+use Rattle.writing.specs.Writing.{mostOf}
+use Rattle.reading.proofs.ReadLaws.{mesh-kind-is}
+use Rattle.writing.proofs.Accepting.{field-passed, field-reads, step-reads}
+use Rattle.writing.proofs.Back.{mesh-kind-back, field-kind-back, field-cells-back, field-record-length, masses-back, step-kind-back, step-faces-back, step-record-length, step-bits-good, fluxes-back, outsides-back, releases-back}
+use Rattle.writing.proofs.RoundTrip.{width-is, cells-read-back, faces-read-back, mesh-read-back, volumes-read-back, firsts-read-back, seconds-read-back, shares-read-back, reaches-read-back}
 use Rattle.mesh_taking.specs.MeshTaking.{meshRecordFound, meshJudged}
-use Rattle.mesh_taking.proofs.MeshLaws.{limits, mesh-cut}
+use Rattle.mesh_taking.proofs.MeshLaws.{limits, mesh-cut, mesh-small}
 use Rattle.taking.specs.Taking.{stepIn, stepRecordFound}
 use Rattle.renumbered.specs.Renumbered.{amountIn, isTurned, newSecond}
 use Rattle.renumbered.proofs.TwoSteps.{fine-counts, fine-values}
@@ -58,6 +64,9 @@ module _ (mesh : List ℕ) (cell : Renumbering (cellsIn mesh)) (face : Renumberi
   abbrev M : Mesh
   M = meshIn mesh
 
+  abbrev w : Width
+  w = widthIn mesh
+
   abbrev M′ : Mesh
   M′ = newMesh mesh cell face turns
 
@@ -70,8 +79,28 @@ module _ (mesh : List ℕ) (cell : Renumbering (cellsIn mesh)) (face : Renumberi
   within : counts M′ ≡ fine
   within = fine-counts M′ new-fine
 
-  passes : meshValues M′ ≡ fine
-  passes = fine-values M′ new-fine
+  values-anew : meshValues ceiling M′ ≡ fine
+  values-anew = fine-values M′ new-fine
+
+  -- V and K of the record's kind stay within its ceilings
+  small-anew : widthIn mesh ≡ Narrow → MeshSmall M′
+  small-anew e = record {
+    small-volumes = everywhere (M .cells) cell (λ c. volume M′ c ≤ oldCeiling) (λ c h. rw (volume-at c h) (mesh-small mesh e .small-volumes c h));
+    small-reaches = everywhere (M .faces) face (λ f. reach M′ f ≤ oldCeiling) (λ f l. rw (reach-at f l) (mesh-small mesh e .small-reaches f l));
+  }
+    where
+      volume-at : (c : ℕ) → c < M .cells → volume M′ (cell .new c) ≡ volume M c
+      volume-at = getD-carried (M .cells) cell (volume M) 0 (M .volumes) (omega (arith, mesh-cut mesh .volumes-cut))
+
+      reach-at : (f : ℕ) → f < M .faces → reach M′ (face .new f) ≡ reach M f
+      reach-at = getD-carried (M .faces) face (reach M) 0 (M .reaches) (omega (arith, mesh-cut mesh .reaches-cut))
+
+  passes : meshValues (mostOf w) M′ ≡ fine
+  passes = go (widthIn mesh) refl
+    where
+      go : (v : Width) → widthIn mesh ≡ v → meshValues (mostOf v) M′ ≡ fine
+      go Narrow e = sym (old-meshes M′ (small-anew e)) ∙ values-anew
+      go Wide e = values-anew
 
   small : (M .cells ≤ runCells) × (M .faces ≤ runFaces)
   small = few mesh field step reads
@@ -80,13 +109,13 @@ module _ (mesh : List ℕ) (cell : Renumbering (cellsIn mesh)) (face : Renumberi
   pub mesh-held : meshIn (meshAnew mesh cell face turns) ≡ M′
   mesh-held =
       rw (
-        cells-read-back M′ within passes,
-        faces-read-back M′ within passes,
-        volumes-read-back M′ within passes,
-        firsts-read-back M′ within passes,
-        seconds-read-back M′ within passes,
-        shares-read-back M′ within passes,
-        reaches-read-back M′ within passes,
+        cells-read-back w M′ within passes,
+        faces-read-back w M′ within passes,
+        volumes-read-back w M′ within passes,
+        firsts-read-back w M′ within passes,
+        seconds-read-back w M′ within passes,
+        shares-read-back w M′ within passes,
+        reaches-read-back w M′ within passes,
       )
       (rw (
         exact 0 (M .cells) (M′ .volumes) (length-carried (M .cells) cell _ 0 (M .volumes) ∙ mesh-cut mesh .volumes-cut),
@@ -96,9 +125,19 @@ module _ (mesh : List ℕ) (cell : Renumbering (cellsIn mesh)) (face : Renumberi
         exact 0 (M .faces) (M′ .reaches) (length-carried (M .faces) face _ 0 (M .reaches) ∙ mesh-cut mesh .reaches-cut),
       ))
 
+  mesh-kind-anew : kindIn (meshAnew mesh cell face turns) ≡ meshKind w
+  mesh-kind-anew = mesh-kind-back (meshKind w) M′ (mesh-fits w M′ within passes)
+
+  width-anew : widthIn (meshAnew mesh cell face turns) ≡ w
+  width-anew = ap widthOf mesh-kind-anew ∙ width-is w
+
+  mesh-kind-same : meshKind w ≡ kindIn mesh
+  unfolding meshRecordFound meshHeadVerdict
+  mesh-kind-same = mesh-kind-is (kindIn mesh) (need-fine 13 0 _ (both-fine _ _ (both-fine _ _ (both-fine _ _ (found mesh field step reads) .0) .0) .1))
+
   mesh-found : meshRecordFound (meshAnew mesh cell face turns) ≡ fine
   unfolding meshRecordFound meshRead meshHeadVerdict
-  mesh-found = both-fine _ _ (mesh-read-back M′ within passes runCells runFaces runCells runFaces runFaces runFaces runFaces limited
+  mesh-found = both-fine _ _ (mesh-read-back w M′ within passes runCells runFaces runCells runFaces runFaces runFaces runFaces limited
       (small .0) (small .1) (small .1) (small .1) (small .1)) .0
     where
       limited : countsWithin (min runCells maxCells) (min runFaces maxFaces) (M .cells) (M .faces) ≡ fine
@@ -106,17 +145,21 @@ module _ (mesh : List ℕ) (cell : Renumbering (cellsIn mesh)) (face : Renumberi
 
   mesh-judged : meshJudged (meshAnew mesh cell face turns) runCells runFaces runFaces runFaces runFaces ≡ fine
   unfolding meshJudged
-  mesh-judged = fine-all (_ ∷ _ ∷ _ ∷ []) (mesh-found, (room, (ap meshValues mesh-held ∙ passes, tt)))
+  mesh-judged = fine-all (_ ∷ _ ∷ _ ∷ []) (mesh-found, (room, (ap (meshValues ceiling) mesh-held ∙ values-anew, tt)))
     where
       room : (long 0 (cellsIn (meshAnew mesh cell face turns)) runCells andThen long 1 (facesIn (meshAnew mesh cell face turns)) runFaces
           andThen long 2 (facesIn (meshAnew mesh cell face turns)) runFaces andThen long 3 (facesIn (meshAnew mesh cell face turns)) runFaces
           andThen long 4 (facesIn (meshAnew mesh cell face turns)) runFaces) ≡ fine
-      room = rw (cells-read-back M′ within passes, faces-read-back M′ within passes) (both-fine _ _ (both-fine _ _ (reads .mesh-accepted) .0) .1)
+      room = rw (cells-read-back w M′ within passes, faces-read-back w M′ within passes) (both-fine _ _ (both-fine _ _ (reads .mesh-accepted) .0) .1)
 
   -- the field
-  mass-small : (c : ℕ) → c < M .cells → massIn (massesIn field (M .cells)) c < 2 ^ massBits
+  field-kind-is : kindIn field ≡ fieldKind w
+  field-kind-is = field-passed w (M .cells) field runCells (reads .field-reads) .kind
+
+  mass-small : (c : ℕ) → c < M .cells → massIn (massesIn field (M .cells)) c < 2 ^ massBits (kindIn field)
   unfolding massesIn
-  mass-small c h = rw (getD-table (M .cells) (entryIn field (fieldShape (M .cells)) 1 0) 0 c h) (bits-lt field (place (fieldShape (M .cells)) 1 0 c) massBits)
+  mass-small c h = rw (getD-table (M .cells) (entryIn field (fieldShape (kindIn field) (M .cells)) 1 0) 0 c h)
+      (bits-lt field (place (fieldShape (kindIn field) (M .cells)) 1 0 c) (massBits (kindIn field)))
 
   field-long : length (newField mesh cell face turns field) ≡ M .cells
   field-long = length-carried (M .cells) cell _ 0 (massesIn field (M .cells)) ∙ masses-long mesh field step reads
@@ -124,21 +167,21 @@ module _ (mesh : List ℕ) (cell : Renumbering (cellsIn mesh)) (face : Renumberi
   mass-at : (c : ℕ) → c < M .cells → massIn (newField mesh cell face turns field) (cell .new c) ≡ massIn (massesIn field (M .cells)) c
   mass-at = getD-carried (M .cells) cell (massIn (massesIn field (M .cells))) 0 (massesIn field (M .cells)) (omega (arith, masses-long mesh field step reads))
 
-  field-anew-fits : Fits (fieldShape (M .cells)) (fieldValue (M .cells) (newField mesh cell face turns field))
-  field-anew-fits = field-fits (M .cells) (newField mesh cell face turns field) (omega (arith, small .0))
-      (everywhere (M .cells) cell (λ c. massOf (newField mesh cell face turns field) c < 2 ^ massBits)
-      (λ c h. rw (mass-at c h) (mass-small c h)))
+  field-anew-fits : Fits (fieldShape (fieldKind w) (M .cells)) (fieldValue (fieldKind w) (M .cells) (newField mesh cell face turns field))
+  field-anew-fits = field-fits w (M .cells) (newField mesh cell face turns field) (omega (arith, small .0))
+      (everywhere (M .cells) cell (λ c. massOf (newField mesh cell face turns field) c < 2 ^ massBits (fieldKind w))
+      (λ c h. rw (mass-at c h, ← field-kind-is) (mass-small c h)))
 
   pub field-held : massesIn (fieldAnew mesh cell face turns field) (M .cells) ≡ newField mesh cell face turns field
-  field-held = masses-back (M .cells) (newField mesh cell face turns field) field-anew-fits
+  field-held = masses-back (fieldKind w) (M .cells) (newField mesh cell face turns field) field-anew-fits
       ∙ exact 0 (M .cells) (newField mesh cell face turns field) field-long
 
-  pub field-anew-reads : fieldRead (M .cells) (fieldAnew mesh cell face turns field) runCells ≡ fine
+  pub field-anew-reads : fieldRead w (M .cells) (fieldAnew mesh cell face turns field) runCells ≡ fine
   field-anew-reads =
       let m = newField mesh cell face turns field in
-      field-reads (fieldAnew mesh cell face turns field) (M .cells) runCells
-      (field-kind-back (M .cells) m field-anew-fits) (field-cells-back (M .cells) m field-anew-fits)
-      (limits mesh (found mesh field step reads) .some-cells) (omega (arith, small .0)) (field-record-length (M .cells) m) (small .0)
+      field-reads (fieldAnew mesh cell face turns field) w (M .cells) runCells
+      (field-kind-back (fieldKind w) (M .cells) m field-anew-fits) (field-cells-back (fieldKind w) (M .cells) m field-anew-fits)
+      (limits mesh (found mesh field step reads) .some-cells) (omega (arith, small .0)) (field-record-length (fieldKind w) (M .cells) m) (small .0)
 
   -- the step
   abbrev k : Call
@@ -176,14 +219,14 @@ module _ (mesh : List ℕ) (cell : Renumbering (cellsIn mesh)) (face : Renumberi
   release-at = getD-carried (M .cells) cell (release k) 0 (k .releases) (omega (arith, releases-long))
 
   -- it fits, as what was read did
-  size-small : (f : ℕ) → f < M .faces → size (amountIn (k .fluxes) f) < 2 ^ sizeBits
+  size-small : (f : ℕ) → f < M .faces → size (amountIn (k .fluxes) f) < 2 ^ valueBits (kindIn step)
   unfolding fluxesIn
   size-small f l =
       rw (
         getD-table (M .faces) (λ g. withSign (minusIn step (M .faces) g) (sizeIn step (M .faces) g)) (pos 0) f l,
         size-withSign (minusIn step (M .faces) f) (sizeIn step (M .faces) f),
       )
-      (bits-lt step _ sizeBits)
+      (bits-lt step _ (valueBits (kindIn step)))
 
   outside-is : (f : ℕ) → f < M .faces
       → getD (k .outsides) f 0 ≡ cond (isRim (M .seconds) f) (bitsAt step (outsidePlace step (M .faces) (M .seconds) f) outsideBits) 0
@@ -210,7 +253,7 @@ module _ (mesh : List ℕ) (cell : Renumbering (cellsIn mesh)) (face : Renumberi
   step-anew-fits zero (suc (suc (suc j))) i h = absurd (omega (arith, h .among))
   step-anew-fits (suc zero) zero i h = sign-fits (isNegative (amountIn (k′ .fluxes) i))
   step-anew-fits (suc zero) (suc zero) i h =
-      everywhere (M .faces) face (λ f. size (amountIn (k′ .fluxes) f) < 2 ^ sizeBits)
+      everywhere (M .faces) face (λ f. size (amountIn (k′ .fluxes) f) < 2 ^ valueBits (kindIn step))
       (λ f l. rw (flux-at f l, size-turn (t f) (amountIn (k .fluxes) f)) (size-small f l)) i (h .below)
   step-anew-fits (suc zero) (suc (suc j)) i h = absurd (omega (arith, h .among))
   step-anew-fits (suc (suc zero)) zero i h =
@@ -244,27 +287,32 @@ module _ (mesh : List ℕ) (cell : Renumbering (cellsIn mesh)) (face : Renumberi
       ∙ exact 0 (M .cells) (k′ .releases) (length-carried (M .cells) cell _ 0 (k .releases) ∙ releases-long) in
       rw (fluxes-are, outsides-are, releases-are)
 
-  step-found : stepRecordFound M′ R ≡ fine
+  step-kind-is : kindIn R ≡ kindIn step
+  step-kind-is = step-kind-back (kindIn step) (M .cells) (M .faces) seconds′ (k′ .fluxes) (k′ .outsides) (k′ .releases) step-anew-fits
+
+  step-found : stepRecordFound w M′ R ≡ fine
   unfolding stepRecordFound stepRead
   step-found =
-      let said = step-head-says (M .cells) (M .faces) (M .seconds) step (both-fine _ _ (reads .step-reads) .0) in
-      let kind-is = step-kind-back (kindIn step) (M .cells) (M .faces) seconds′ (k′ .fluxes) (k′ .outsides) (k′ .releases) step-anew-fits in
-      both-fine _ _ (step-reads R (M .cells) (M .faces) seconds′ runFaces runFaces runCells
-      (rw kind-is (said .kind))
+      let said = step-head-says w (M .cells) (M .faces) (M .seconds) step (both-fine _ _ (reads .step-reads) .0) in
+      both-fine _ _ (step-reads R w (M .cells) (M .faces) seconds′ runFaces runFaces runCells
+      (rw step-kind-is (said .kind))
       (step-faces-back (kindIn step) (M .cells) (M .faces) seconds′ (k′ .fluxes) (k′ .outsides) (k′ .releases) step-anew-fits)
       (counts-within M′ within)
       (omega (arith, length-carried (M .faces) face (newSecond M cell face turns) 0 (M .seconds), mesh-cut mesh .seconds-cut))
-      (rw kind-is (step-record-length (kindIn step) (M .cells) (M .faces) seconds′ (k′ .fluxes) (k′ .outsides) (k′ .releases)))
+      (rw step-kind-is (step-record-length (kindIn step) (M .cells) (M .faces) seconds′ (k′ .fluxes) (k′ .outsides) (k′ .releases)))
       (small .1) (small .1) (small .0)
-      (λ i. rw kind-is (step-bits-good (kindIn step) (M .cells) (M .faces) seconds′ (k′ .fluxes) (k′ .outsides) (k′ .releases) step-anew-fits i))) .0
+      (λ i. rw step-kind-is (step-bits-good (kindIn step) (M .cells) (M .faces) seconds′ (k′ .fluxes) (k′ .outsides) (k′ .releases) step-anew-fits i))) .0
 
   pub held : Held mesh cell face turns field step
   held = record {
     reads-anew = record {
       mesh-accepted = mesh-judged;
-      field-reads = rw (cells-read-back M′ within passes) field-anew-reads;
-      step-reads = ap (λ (N : Mesh). stepRecordFound N R) mesh-held ∙ step-found;
+      field-reads = rw (width-anew, cells-read-back w M′ within passes) field-anew-reads;
+      step-reads = ap (λ (v : Width). stepRecordFound v (meshIn (meshAnew mesh cell face turns)) R) width-anew ∙ ap (λ (N : Mesh). stepRecordFound w N R) mesh-held ∙ step-found;
     };
+    mesh-kind = mesh-kind-anew ∙ mesh-kind-same;
+    field-kind = field-kind-back (fieldKind w) (M .cells) (newField mesh cell face turns field) field-anew-fits ∙ sym field-kind-is;
+    step-kind = step-kind-is;
     mesh-held = mesh-held;
     field-held = field-held;
     step-held = step-held;

@@ -1,8 +1,9 @@
 -- Two calls of the host on records: both find the same cause, and the second's next field record is the first's, numbered anew.
-use Prim.Native.Nat.{ℕ, _+_, _*_, _/_, _<_}
+use Prim.Native.Nat.{ℕ, _+_, _*_, _/_, _^_, _<_}
 use mathlib.Core.Path.{_≡_, refl, sym, ap, _∙_}
 use mathlib.Core.Bool.{Bool, false, cond}
 use mathlib.Core.List.{List}
+use native.Mathlib.Nat.{mul-le-mul}
 use native.Mathlib.Omega.{arith}
 use borrow.Author.Tests.{ne-eqb}
 use lib.Dec.{eqb}
@@ -11,26 +12,32 @@ use lib.Seq.{take-at}
 use Rattle.lists.specs.Renumbering.{Renumbering}
 use Rattle.lists.specs.Table.{table, over}
 use Rattle.lists.proofs.Tables.{length-table, getD-table}
-use Rattle.model.specs.Mesh.{Mesh}
+use Rattle.model.specs.Mesh.{Mesh, ceiling}
 use Rattle.model.specs.Step.{StepInput, next}
-use Rattle.model.specs.Causes.{accepted, refused, Verdict, fine, taken, bytesLong, inputOf}
+use Rattle.model.specs.Causes.{accepted, refused, Verdict, fine, taken, bytesLong, inputOf, verdict}
 use Rattle.model.specs.Alike.{unplaced}
 use Rattle.model.proofs.Verdicts.{both-fine}
-use Rattle.model.proofs.Accepted.{ready}
-use Rattle.model.proofs.Sizes.{next-most}
+use Rattle.model.proofs.Accepted.{ready, hi-most, volumes-within}
+use Rattle.model.specs.Accepted.{Ready}
+use Rattle.model.proofs.Next.{next-bounds}
 use Rattle.model.proofs.AlikeCauses.{in-turn}
-use Rattle.heads.specs.Layouts.{fieldRecord, fieldLength}
-use Rattle.heads.specs.Heads.{cellsIn, facesIn}
+use Rattle.heads.specs.Layouts.{fieldKind, widthOf, massWidth, massBits, fieldRecord, fieldLength}
+use Rattle.heads.specs.Heads.{widthIn, cellsIn, facesIn}
+use Rattle.heads.specs.declared.Width.{Width}
+use Rattle.heads.specs.declared.Width.the-variants.{Narrow, Wide}
+use Rattle.heads.proofs.Layouts.{field-mass}
 use Rattle.reading.specs.Reading.{meshIn, massesIn}
 use Rattle.writing.proofs.WidthLaws.{field-fits}
 use Rattle.writing.proofs.Back.{field-record-length, masses-back}
+use Rattle.mesh_taking.proofs.MeshLaws.{mesh-small}
 use Rattle.taking.specs.Taking.{stepIn}
 use Rattle.lagoon.specs.Host.{causeStep, numberOf, hostVerdict, hostBytes}
 use Rattle.lagoon.proofs.Small.{Parts, taken-apart}
 use Rattle.renumbered.specs.Renumbered.{renumberedField}
+use Rattle.renumbered.proofs.TwoSteps.{fine-values}
 use Rattle.renumbered_calls.specs.Anew.{meshAnew, fieldAnew, stepAnew, Reads, Held}
 use Rattle.renumbered_calls.specs.Hosts.{TwoHosts}
-use Rattle.renumbered_calls.proofs.Judged.{judged, judged-is, few, judged-alike, as-held, next-anew}
+use Rattle.renumbered_calls.proofs.Judged.{mesh-fine, judged, judged-is, few, judged-alike, as-held, next-anew}
 use Rattle.renumbered_calls.proofs.Anew.{exact, held}
 
 -- the number of a verdict: 0 of none, and else its cause and its place taken apart
@@ -67,14 +74,20 @@ module _ (mesh : List ℕ) (cell : Renumbering (cellsIn mesh)) (face : Renumberi
   h : Held mesh cell face turns field step
   h = held mesh cell face turns field step reads
 
+  abbrev w : Width
+  w = widthIn mesh
+
+  width-same : widthIn mesh′ ≡ w
+  width-same = ap widthOf (h .mesh-kind)
+
   cells-same : cellsIn mesh′ ≡ n
   cells-same = ap (λ (N : Mesh). N .cells) (h .mesh-held)
 
   found-alike : unplaced v′ ≡ unplaced v
   unfolding hostVerdict
   found-alike = in-turn false (judged mesh field step) (judged mesh′ field′ step′)
-      (bytesLong (fieldLength n) (length lent)) (bytesLong (fieldLength (cellsIn mesh′)) (length lent′))
-      (judged-alike mesh cell face turns field step reads h) (λ e. rw (cells-same, same-room))
+      (bytesLong (fieldLength (fieldKind w) n) (length lent)) (bytesLong (fieldLength (fieldKind (widthIn mesh′)) (cellsIn mesh′)) (length lent′))
+      (judged-alike mesh cell face turns field step reads h) (λ e. rw (width-same, cells-same, same-room))
 
   causes-agree : numberOf v′ / causeStep ≡ numberOf v / causeStep
   causes-agree = numbers-agree v v′ (taken-apart mesh field step (length lent)) (taken-apart mesh′ field′ step′ (length lent′)) found-alike
@@ -84,36 +97,46 @@ module _ (mesh : List ℕ) (cell : Renumbering (cellsIn mesh)) (face : Renumberi
     unfolding hostVerdict
     passed = both-fine _ _ ok .0
 
-    mass-fits : (c : ℕ) → c < n → next S c < 4294967296
-    mass-fits c l =
-        let found = both-fine _ _ (sym (judged-is mesh field step reads) ∙ passed) .1 in
-        omega (arith, next-most S (ready (meshIn mesh) (massesIn field n) (stepIn (meshIn mesh) step) found) c l)
+    mass-fits : (c : ℕ) → c < n → next S c < 2 ^ massBits (fieldKind w)
+    mass-fits c l = rw (field-mass w) (go (widthIn mesh) refl)
+      where
+        found : verdict (meshIn mesh) (massesIn field n) (stepIn (meshIn mesh) step) ≡ fine
+        found = both-fine _ _ (sym (judged-is mesh field step reads) ∙ passed) .1
+
+        r : Ready S
+        r = ready (meshIn mesh) (massesIn field n) (stepIn (meshIn mesh) step) found
+
+        go : (u : Width) → widthIn mesh ≡ u → next S c < 2 ^ massWidth u
+        go Narrow e = let small = mesh-small mesh e .small-volumes c l in
+            omega (arith, next-bounds S (r .sound) c l .1, small, mul-le-mul small (hi-most S r c l))
+        go Wide e = let most = volumes-within ceiling (meshIn mesh) (fine-values (meshIn mesh) (mesh-fine mesh field step reads)) c l .1 in
+            omega (arith, next-bounds S (r .sound) c l .1, most, mul-le-mul most (hi-most S r c l))
 
     -- the masses that the first's next field record holds
-    masses-are : massesIn (fieldRecord n (table n (next S))) n ≡ table n (next S)
-    masses-are = masses-back n (table n (next S))
-        (field-fits n (table n (next S)) (omega (arith, few mesh field step reads)) (λ c l. rw (getD-table n (next S) 0 c l) (mass-fits c l)))
+    masses-are : massesIn (fieldRecord (fieldKind w) n (table n (next S))) n ≡ table n (next S)
+    masses-are = masses-back (fieldKind w) n (table n (next S))
+        (field-fits w n (table n (next S)) (omega (arith, few mesh field step reads)) (λ c l. rw (getD-table n (next S) 0 c l) (mass-fits c l)))
         ∙ exact 0 n (table n (next S)) (length-table n (next S))
 
-    record-is : take (fieldLength n) (hostBytes mesh field step lent) ≡ fieldRecord n (table n (next S))
+    record-is : take (fieldLength (fieldKind w) n) (hostBytes mesh field step lent) ≡ fieldRecord (fieldKind w) n (table n (next S))
     unfolding hostBytes over fieldLength
     record-is =
-        let R = fieldRecord n (table n (next S)) in
-        rw ok (take-at R (drop (length R) lent) (fieldLength n) (field-record-length n (table n (next S))))
+        let R = fieldRecord (fieldKind w) n (table n (next S)) in
+        rw ok (take-at R (drop (length R) lent) (fieldLength (fieldKind w) n) (field-record-length (fieldKind w) n (table n (next S))))
 
     fine-anew : v′ ≡ fine
     fine-anew = go v′ (found-alike ∙ ap unplaced ok)
       where
-        go : (w : Verdict) → unplaced w ≡ fine → w ≡ fine
+        go : (u : Verdict) → unplaced u ≡ fine → u ≡ fine
         go (accepted t) e = refl
         go (refused i j) e = let z : _≡_ {A = ℕ} 0 1 = cc in absurd (omega arith)
 
-    bytes-anew : hostBytes mesh′ field′ step′ lent′ ≡ over (fieldAnew mesh cell face turns (take (fieldLength n) (hostBytes mesh field step lent))) lent′
+    bytes-anew : hostBytes mesh′ field′ step′ lent′ ≡ over (fieldAnew mesh cell face turns (take (fieldLength (fieldKind w) n) (hostBytes mesh field step lent))) lent′
     unfolding hostBytes
-    bytes-anew = rw (fine-anew)
+    bytes-anew = rw (fine-anew, width-same)
         (ap (λ (bs : List ℕ). over bs lent′)
-        (as-held mesh cell face turns field step reads h (λ N m k. fieldRecord (N .cells) (table (N .cells) (next (inputOf N m k))))
-        ∙ ap (fieldRecord n) (next-anew mesh cell face turns field step reads h passed
+        (as-held mesh cell face turns field step reads h (λ N m k. fieldRecord (fieldKind w) (N .cells) (table (N .cells) (next (inputOf N m k))))
+        ∙ ap (fieldRecord (fieldKind w) n) (next-anew mesh cell face turns field step reads h passed
         ∙ ap (renumberedField (meshIn mesh) cell face turns) (sym (ap (λ (bs : List ℕ). massesIn bs n) record-is ∙ masses-are)))))
 
   -- a refused call leaves what was lent
@@ -121,16 +144,16 @@ module _ (mesh : List ℕ) (cell : Renumbering (cellsIn mesh)) (face : Renumberi
   unfolding hostBytes
   bytes-kept c p e = go v′ (found-alike ∙ ap unplaced e) _
     where
-      go : (w : Verdict) → unplaced w ≡ refused c 0 → (x : List ℕ) → taken w x lent′ ≡ lent′
+      go : (u : Verdict) → unplaced u ≡ refused c 0 → (x : List ℕ) → taken u x lent′ ≡ lent′
       go (accepted t) d x = let z : _≡_ {A = ℕ} 0 1 = cc in absurd (omega arith)
       go (refused i j) d x = refl
 
   bytes-are : hostBytes mesh′ field′ step′ lent′
-      ≡ cond (eqb (numberOf v) 0) (over (fieldAnew mesh cell face turns (take (fieldLength n) (hostBytes mesh field step lent))) lent′) lent′
+      ≡ cond (eqb (numberOf v) 0) (over (fieldAnew mesh cell face turns (take (fieldLength (fieldKind w) n) (hostBytes mesh field step lent))) lent′) lent′
   bytes-are = go v refl
     where
-      go : (w : Verdict) → v ≡ w → hostBytes mesh′ field′ step′ lent′
-          ≡ cond (eqb (numberOf v) 0) (over (fieldAnew mesh cell face turns (take (fieldLength n) (hostBytes mesh field step lent))) lent′) lent′
+      go : (u : Verdict) → v ≡ u → hostBytes mesh′ field′ step′ lent′
+          ≡ cond (eqb (numberOf v) 0) (over (fieldAnew mesh cell face turns (take (fieldLength (fieldKind w) n) (hostBytes mesh field step lent))) lent′) lent′
       go (accepted t) e = bytes-anew e ∙ rw e
       go (refused c p) e = bytes-kept c p e ∙ rw (e, ne-eqb (causeStep * c + p) 0 (omega (arith, taken-apart mesh field step (length lent) c p e)))
 

@@ -17,7 +17,7 @@ use Rattle.model.specs.Calls.{massIn, corrected}
 use Rattle.model.specs.Alike.{unplaced}
 use Rattle.model.proofs.Verdicts.{both-fine, need-met}
 use Rattle.model.proofs.AlikeCauses.{in-turn, field-values-alike}
-use Rattle.heads.specs.Heads.{cellsIn, facesIn}
+use Rattle.heads.specs.Heads.{widthIn, cellsIn, facesIn}
 use Rattle.reading.specs.Reading.{meshIn, massesIn}
 use Rattle.mesh_taking.specs.MeshTaking.{meshRecordFound, meshJudged}
 use Rattle.mesh_taking.proofs.MeshLaws.{limits, values-left}
@@ -32,8 +32,8 @@ use Rattle.renumbered_calls.proofs.Salt.{salt-left}
 -- the three records, judged one after another as the host judges them
 abbrev pub judged : (mesh field step : List ℕ) → Verdict
 judged mesh field step = meshJudged mesh runCells runFaces runFaces runFaces runFaces
-    andThen fieldJudged (meshIn mesh .cells) (meshIn mesh .volumes) field runCells
-    andThen stepJudged (meshIn mesh) (massesIn field (meshIn mesh .cells)) step
+    andThen fieldJudged (widthIn mesh) (meshIn mesh .cells) (meshIn mesh .volumes) field runCells
+    andThen stepJudged (widthIn mesh) (meshIn mesh) (massesIn field (meshIn mesh .cells)) step
 
 module _ (mesh field step : List ℕ) (reads : Reads mesh field step) where
   abbrev M : Mesh

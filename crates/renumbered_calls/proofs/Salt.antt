@@ -5,7 +5,7 @@ use mathlib.Core.List.{List}
 use borrow.Author.Tests.{le-leb}
 use lib.ListN.{length}
 use Rattle.lists.proofs.Tests.{true-both}
-use Rattle.model.specs.Mesh.{Mesh, maxCells}
+use Rattle.model.specs.Mesh.{Mesh, maxCells, ceiling}
 use Rattle.model.specs.Causes.{fine, _andThen_, need, each, cellsOnly, countsWithin, counts, meshTables, volumeGood, meshValues, meshCauses, meshVerdict, fieldTable, saltGood, fieldValues, meshFieldVerdict}
 use Rattle.model.proofs.Verdicts.{all-fine, need-met}
 use Rattle.model.proofs.Accepted.{counted}
@@ -24,9 +24,9 @@ module _ (M : Mesh) (field : List ℕ) (mesh-fine : meshVerdict M ≡ fine) (mas
   unfolding meshTables _andThen_ need
   tables-left = rw (le-leb (M .cells) (length (M .volumes)) (lent M mesh-fine .volumes-long))
 
-  values-left : meshValues N ≡ fine
+  values-left : meshValues ceiling N ≡ fine
   unfolding meshValues volumeGood each _andThen_
-  values-left = let v = all-fine (meshCauses M) (fine-values M mesh-fine) in rw (v .0)
+  values-left = let v = all-fine (meshCauses ceiling M) (fine-values M mesh-fine) in rw (v .0)
 
   pub salt-left : meshFieldVerdict N field ≡ fieldValues M field
   unfolding meshFieldVerdict fieldTable fieldValues saltGood _andThen_

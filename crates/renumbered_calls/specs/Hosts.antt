@@ -7,8 +7,8 @@ use lib.Dec.{eqb}
 use lib.ListN.{length, take}
 use Rattle.lists.specs.Renumbering.{Renumbering}
 use Rattle.lists.specs.Table.{over}
-use Rattle.heads.specs.Layouts.{fieldLength}
-use Rattle.heads.specs.Heads.{cellsIn, facesIn}
+use Rattle.heads.specs.Layouts.{fieldKind, fieldLength}
+use Rattle.heads.specs.Heads.{widthIn, cellsIn, facesIn}
 use Rattle.lagoon.specs.Host.{causeStep, HostPromise}
 use Rattle.renumbered_calls.specs.Anew.{meshAnew, fieldAnew, stepAnew, Reads, Held}
 
@@ -18,7 +18,7 @@ module _ (mesh : List ℕ) (cell : Renumbering (cellsIn mesh)) (face : Renumberi
   pub record HostsAgree (field step lent′ after after′ : List ℕ) (r r′ : ℕ) : Type 0 where
     pub anew-held : Held mesh cell face turns field step
     pub cause-same : r′ / causeStep ≡ r / causeStep
-    pub next-field : after′ ≡ cond (eqb r 0) (over (fieldAnew mesh cell face turns (take (fieldLength (cellsIn mesh)) after)) lent′) lent′
+    pub next-field : after′ ≡ cond (eqb r 0) (over (fieldAnew mesh cell face turns (take (fieldLength (fieldKind (widthIn mesh)) (cellsIn mesh)) after)) lent′) lent′
 
 abbrev pub TwoHosts : Type 0
 TwoHosts = (mesh : List ℕ) (cell : Renumbering (cellsIn mesh)) (face : Renumbering (facesIn mesh)) (turns : ℕ → Bool) (field step : List ℕ)

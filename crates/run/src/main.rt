@@ -3,6 +3,7 @@
 mod board_lines;
 
 use checks::TotalAnswer;
+use heads::Width;
 use intake::RECORD;
 use model::RUN_CELLS;
 use model::RUN_FACES;
@@ -14,6 +15,7 @@ ghost use lib.ListN.{length};
 // Reads one step, takes it and prints its line. Where no byte is left, the board follows.
 fn step_once(
     step: u64,
+    width: Width,
     cells: usize,
     faces: usize,
     buffer: &mut [u8],
@@ -26,7 +28,7 @@ fn step_once(
 ) -> Next
     requires { do ⌜ (← ⟦intake::RECORD⟧) ≤ length (now buffer) ⌝ }
 {
-    let read = intake::step(cells, faces, seconds, buffer);
+    let read = intake::step(width, cells, faces, seconds, buffer);
     if read.failed {
         return Next::Nothing;
     }
@@ -35,6 +37,7 @@ fn step_once(
         return Next::Board;
     }
     let taken = taking::take_step(
+        width,
         cells,
         faces,
         &buffer[..got],
@@ -51,6 +54,7 @@ fn step_once(
 // The steps, one after another. A proved loop has to end and nothing says that the input does, so the step number stops it: at a
 // step in each nanosecond after 584 years.
 fn steps(
+    width: Width,
     cells: usize,
     faces: usize,
     buffer: &mut [u8],
@@ -68,6 +72,7 @@ fn steps(
         step += 1;
         let next = step_once(
             step,
+            width,
             cells,
             faces,
             buffer,
@@ -87,6 +92,7 @@ fn steps(
 
 // Field, steps and board on an accepted mesh.
 fn run_on(
+    width: Width,
     cells: usize,
     faces: usize,
     buffer: &mut [u8],
@@ -99,12 +105,12 @@ fn run_on(
     requires { do ⌜ (← ⟦intake::RECORD⟧) ≤ length (now buffer) ⌝ }
 {
     let mut masses = [0u64; RUN_CELLS];
-    let read = intake::field(cells, buffer);
+    let read = intake::field(width, cells, buffer);
     if read.failed {
         return;
     }
     let got = read.count;
-    let answer = taking::take_field(cells, &buffer[..got], volumes, &mut masses);
+    let answer = taking::take_field(width, cells, &buffer[..got], volumes, &mut masses);
     let TotalAnswer::Total(total) = answer else {
         if let TotalAnswer::Refused(refusal) = answer {
             session::print_refusal(b'F', refusal);
@@ -115,6 +121,7 @@ fn run_on(
         return;
     }
     let next = steps(
+        width,
         cells,
         faces,
         buffer,
@@ -157,7 +164,9 @@ fn main() {
         }
         return;
     };
+    let width = counts.width;
     run_on(
+        width,
         counts.cells,
         counts.faces,
         &mut buffer,

@@ -13,13 +13,13 @@ ghost use Rattle.model.specs.Causes.{fine, _andThen_, each, volumeFits, endsFit
 ghost use Rattle.model.specs.Answers.{said};
 
 // Cause 3.
-fn volumes_good(cells: usize, volumes: &[u64]) -> Answer
+fn volumes_good(cells: usize, volumes: &[u64], most: u64) -> Answer
     requires { ⌜ cells ≤ length (now volumes) ⌝ }
-    ensures { λ r. ⌜ said r ≡ each 3 cells (λ c. volumeFits (getD (now (volumes .entry)) c 0)) ⌝ }
+    ensures { λ r. ⌜ said r ≡ each 3 cells (λ c. volumeFits most (getD (now (volumes .entry)) c 0)) ⌝ }
 {
     let mut c = 0;
     while c < cells {
-        if !between(1, model::MAX_VOLUME, volumes[c]) {
+        if !between(1, most, volumes[c]) {
             return Answer::Refused(Refusal {
                 cause: Cause::Volume,
                 place: c as u64,
@@ -65,8 +65,8 @@ fn ends_good(cells: usize, faces: usize, firsts: &[u64], seconds: &[u64]) -> Ans
 }
 
 // One face's share and reach: both 0 at the rim, both in their ranges inside.
-fn spacing_fits(second: u64, share: u64, reach: u64) -> bool
-    ensures { λ r. ⌜ r ≡ spacingFit second share reach ⌝ }
+fn spacing_fits(second: u64, share: u64, reach: u64, most: u64) -> bool
+    ensures { λ r. ⌜ r ≡ spacingFit most second share reach ⌝ }
 {
     if second == model::RIM {
         if share == 0 {
@@ -75,20 +75,20 @@ fn spacing_fits(second: u64, share: u64, reach: u64) -> bool
         return false;
     }
     if between(1, model::MAX_SHARE, share) {
-        return between(1, model::MAX_REACH, reach);
+        return between(1, most, reach);
     }
     false
 }
 
 // Cause 5.
-fn spacing_good(faces: usize, seconds: &[u64], shares: &[u64], reaches: &[u64]) -> Answer
+fn spacing_good(faces: usize, seconds: &[u64], shares: &[u64], reaches: &[u64], most: u64) -> Answer
     requires { ⌜ (faces ≤ length (now seconds)) × (faces ≤ length (now shares)) × (faces ≤ length (now reaches)) ⌝ }
     ensures { λ r. ⌜ said r ≡ each 5 faces
-        (λ f. spacingFit (getD (now (seconds .entry)) f 0) (getD (now (shares .entry)) f 0) (getD (now (reaches .entry)) f 0)) ⌝ }
+        (λ f. spacingFit most (getD (now (seconds .entry)) f 0) (getD (now (shares .entry)) f 0) (getD (now (reaches .entry)) f 0)) ⌝ }
 {
     let mut f = 0;
     while f < faces {
-        if !spacing_fits(seconds[f], shares[f], reaches[f]) {
+        if !spacing_fits(seconds[f], shares[f], reaches[f], most) {
             return Answer::Refused(Refusal {
                 cause: Cause::Spacing,
                 place: f as u64,
@@ -107,11 +107,12 @@ fn faces_fit(
     seconds: &[u64],
     shares: &[u64],
     reaches: &[u64],
+    most: u64,
 ) -> bool
     requires { ⌜ (faces ≤ length (now firsts)) × (faces ≤ length (now seconds)) × (faces ≤ length (now shares)) × (faces ≤ length (now reaches)) ⌝ }
     ensures { λ r. ⌜ (r ≡ true
         → (each 4 faces (λ f. endsFit cells (getD (now (firsts .entry)) f 0) (getD (now (seconds .entry)) f 0)) ≡ fine)
-        × (each 5 faces (λ f. spacingFit (getD (now (seconds .entry)) f 0) (getD (now (shares .entry)) f 0) (getD (now (reaches .entry)) f 0)) ≡ fine)) ⌝ }
+        × (each 5 faces (λ f. spacingFit most (getD (now (seconds .entry)) f 0) (getD (now (shares .entry)) f 0) (getD (now (reaches .entry)) f 0)) ≡ fine)) ⌝ }
 {
     let mut f = 0;
     while f < faces {
@@ -119,7 +120,7 @@ fn faces_fit(
         if !ends_fit(cells as u64, firsts[f], second) {
             return false;
         }
-        if !spacing_fits(second, shares[f], reaches[f]) {
+        if !spacing_fits(second, shares[f], reaches[f], most) {
             return false;
         }
         f += 1;
@@ -135,21 +136,22 @@ fn faces_good(
     seconds: &[u64],
     shares: &[u64],
     reaches: &[u64],
+    most: u64,
 ) -> Answer
     requires { ⌜ (faces ≤ length (now firsts)) × (faces ≤ length (now seconds)) × (faces ≤ length (now shares)) × (faces ≤ length (now reaches)) ⌝ }
     ensures { λ r. ⌜ said r ≡ (
         each 4 faces (λ f. endsFit cells (getD (now (firsts .entry)) f 0) (getD (now (seconds .entry)) f 0))
-        andThen each 5 faces (λ f. spacingFit (getD (now (seconds .entry)) f 0) (getD (now (shares .entry)) f 0) (getD (now (reaches .entry)) f 0))
+        andThen each 5 faces (λ f. spacingFit most (getD (now (seconds .entry)) f 0) (getD (now (shares .entry)) f 0) (getD (now (reaches .entry)) f 0))
         ) ⌝ }
 {
-    if faces_fit(cells, faces, firsts, seconds, shares, reaches) {
+    if faces_fit(cells, faces, firsts, seconds, shares, reaches, most) {
         return Answer::Done;
     }
     let a = ends_good(cells, faces, firsts, seconds);
-    and_then(a, spacing_good(faces, seconds, shares, reaches))
+    and_then(a, spacing_good(faces, seconds, shares, reaches, most))
 }
 
-// Causes 3 to 5 in their order.
+// Causes 3 to 5 in their order, with a ceiling that the caller sets: the writers of old kinds of records have a lower one than the calls.
 pub fn values(
     cells: usize,
     faces: usize,
@@ -158,18 +160,19 @@ pub fn values(
     seconds: &[u64],
     shares: &[u64],
     reaches: &[u64],
+    most: u64,
 ) -> Answer
     requires { ⌜ (cells ≤ length (now volumes))
         × (faces ≤ length (now firsts))
         × (faces ≤ length (now seconds))
         × (faces ≤ length (now shares))
         × (faces ≤ length (now reaches)) ⌝ }
-    ensures { λ r. ⌜ said r ≡ meshValues
+    ensures { λ r. ⌜ said r ≡ meshValues most
         (meshOf cells faces (now (volumes .entry)) (now (firsts .entry)) (now (seconds .entry)) (now (shares .entry)) (now (reaches .entry))) ⌝ }
 {
-    let a = volumes_good(cells, volumes);
+    let a = volumes_good(cells, volumes, most);
     and_then(
         a,
-        faces_good(cells, faces, firsts, seconds, shares, reaches),
+        faces_good(cells, faces, firsts, seconds, shares, reaches, most),
     )
 }

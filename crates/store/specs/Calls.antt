@@ -4,7 +4,7 @@ use mathlib.Core.Path.{_≡_}
 use mathlib.Core.List.{List, [], _∷_, _++_}
 use lib.ListN.{length, replicate}
 use Rattle.lists.specs.Table.{over}
-use Rattle.model.specs.Mesh.{Mesh}
+use Rattle.model.specs.Mesh.{Mesh, ceiling}
 use Rattle.model.specs.Causes.{Verdict, inTurn, taken, long, cellsOnly, counts, meshTables, meshValues, fieldTable, fieldValues}
 use Rattle.model.specs.Answers.{said}
 use Rattle.model.specs.declared.Answer.{Answer}
@@ -35,7 +35,7 @@ module _ (cells : ℕ) (volumes masses store : List ℕ) where
 
   -- 1, 2 and 3
   abbrev pub openedCauses : List Verdict
-  openedCauses = counts lentMesh ∷ meshTables lentMesh ∷ fieldTable lentMesh masses ∷ storeTable cells store ∷ meshValues lentMesh ∷ []
+  openedCauses = counts lentMesh ∷ meshTables lentMesh ∷ fieldTable lentMesh masses ∷ storeTable cells store ∷ meshValues ceiling lentMesh ∷ []
 
   unfoldable pub openedVerdict : Verdict
   openedVerdict = inTurn openedCauses

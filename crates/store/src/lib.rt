@@ -19,7 +19,7 @@ fn opened(cells: usize, volumes: &[u64], masses: &[u64], store: &[u64]) -> Answe
     if let Answer::Refused(r) = a {
         return Answer::Refused(r);
     }
-    shape::values(cells, 0, volumes, none, none, none, none)
+    shape::values(cells, 0, volumes, none, none, none, none, model::CEILING)
 }
 
 // Whether a field may be kept: 1, 2, 3, 6 of its masses, and 13, 15 and 16 of the store.

@@ -20,24 +20,25 @@ use Rattle.checks.specs.Total.{totalSaid}
 use Rattle.checks.specs.declared.TotalAnswer.{TotalAnswer}
 use Rattle.checks.specs.declared.TotalAnswer.the-variants as total-answer
 use Rattle.reading.specs.Reading.{massesIn, fieldBodyVerdict, fieldRead}
+use Rattle.heads.specs.declared.Width.{Width}
 use Rattle.reading.specs.Answers.{FieldReading}
 use Rattle.taking.specs.Taking.{fieldJudged, FieldTaking}
 use Rattle.parts.proofs.Parts.{PartRead, read-part}
 
-module _ (volumes masses : List ℕ) {cells : ℕ} {bs own own′ : List ℕ} {a : Answer} (s : FieldReading (fieldRead cells bs (length own)) cells bs own a own′) (run : length own ≡ runCells)
+module _ (w : Width) (volumes masses : List ℕ) {cells : ℕ} {bs own own′ : List ℕ} {a : Answer} (s : FieldReading (fieldRead w cells bs (length own)) cells bs own a own′) (run : length own ≡ runCells)
     (l b : Answer) (lent : said l ≡ long 5 cells (length masses)) (both : said b ≡ (said a andThen said l)) where
   -- found before the values are judged
-  found : said b ≡ (fieldRead cells bs runCells andThen long 5 cells (length masses))
-  found = let q : said b ≡ (fieldRead cells bs (length own) andThen long 5 cells (length masses)) = both ∙ rw (s .answer, lent) in rw run at q
+  found : said b ≡ (fieldRead w cells bs runCells andThen long 5 cells (length masses))
+  found = let q : said b ≡ (fieldRead w cells bs (length own) andThen long 5 cells (length masses)) = both ∙ rw (s .answer, lent) in rw run at q
 
-  pub field-unread : {r : Refusal} → b ≡ Refused r → FieldTaking cells volumes bs masses (total-answer.Refused r) masses
+  pub field-unread : {r : Refusal} → b ≡ Refused r → FieldTaking w cells volumes bs masses (total-answer.Refused r) masses
   unfolding fieldJudged
   field-unread d =
       let o = out (meshFieldVerdict (cellsOnly cells volumes) (massesIn bs cells)) (sym found ∙ ap said d) in
       record { answer = sym (out _ o); masses-after = rw o }
 
   module _ (d : b ≡ Done) where
-    passed : (fieldRead cells bs runCells andThen long 5 cells (length masses)) ≡ fine
+    passed : (fieldRead w cells bs runCells andThen long 5 cells (length masses)) ≡ fine
     passed = sym found ∙ ap said d
 
     masses-room : cells ≤ length masses
@@ -49,7 +50,7 @@ module _ (volumes masses : List ℕ) {cells : ℕ} {bs own own′ : List ℕ} {a
 
     pub masses-part : PartRead cells (massesIn bs cells) own′
     unfolding massesIn
-    masses-part = let v : fieldRead cells bs (length own) ≡ fine = rw run (both-fine _ _ passed .0) in read-part cells _ own own′ v own-room (s .masses-read)
+    masses-part = let v : fieldRead w cells bs (length own) ≡ fine = rw run (both-fine _ _ passed .0) in read-part cells _ own own′ v own-room (s .masses-read)
 
     counted-long : length (massesIn bs cells) ≡ cells
     unfolding massesIn
@@ -65,16 +66,16 @@ module _ (volumes masses : List ℕ) {cells : ℕ} {bs own own′ : List ℕ} {a
       judged : totalSaid t ≡ (values andThen accepted (sum cells (massIn (massesIn bs cells))))
       judged = rw (masses-part .part) at q
 
-      pub salt-refused : {r : Refusal} → t ≡ total-answer.Refused r → FieldTaking cells volumes bs masses t masses
+      pub salt-refused : {r : Refusal} → t ≡ total-answer.Refused r → FieldTaking w cells volumes bs masses t masses
       unfolding fieldJudged
       salt-refused {r = r} f =
           let o = past values passed ∙ refused-of values _ (number (r .cause)) (r .place) (sym (ap totalSaid f) ∙ judged) in
           record { answer = ap totalSaid f ∙ sym (out _ o); masses-after = rw o }
 
-      pub field-taken : {n : ℕ} {masses′ : List ℕ} → t ≡ total-answer.Total n → masses′ ≡ over (take cells own′) masses → FieldTaking cells volumes bs masses t masses′
+      pub field-taken : {n : ℕ} {masses′ : List ℕ} → t ≡ total-answer.Total n → masses′ ≡ over (take cells own′) masses → FieldTaking w cells volumes bs masses t masses′
       unfolding fieldJudged total
       field-taken {n = n} {masses′ = masses′} f m =
           let v = accepted-of values _ n (sym (ap totalSaid f) ∙ judged) in
           let o = past values passed ∙ v .0 in
           let e : masses′ ≡ over (massesIn bs cells) masses = rw (masses-part .part) at m in
-          record { answer = judged ∙ sym (ap (λ (w : Verdict). w andThen accepted (sum cells (massIn (massesIn bs cells)))) (past values passed)); masses-after = rw o e }
+          record { answer = judged ∙ sym (ap (λ (v : Verdict). v andThen accepted (sum cells (massIn (massesIn bs cells)))) (past values passed)); masses-after = rw o e }

@@ -25,6 +25,7 @@ use Rattle.transport.specs.declared.StepAnswer.the-variants as step-answer
 use Rattle.transport.specs.declared.Crossed.{Crossed}
 use Rattle.heads.specs.Layouts.{kindNumber}
 use Rattle.heads.specs.Heads.{kindIn}
+use Rattle.heads.specs.declared.Width.{Width}
 use Rattle.heads.specs.declared.StepKind.{StepKind}
 use Rattle.reading.specs.Reading.{fluxesIn, outsidesIn, releasesIn, stepBodyVerdict, stepRead}
 use Rattle.reading.specs.Answers.{stepSaid as readSaid, StepReading}
@@ -120,22 +121,22 @@ module _ {M : Mesh} {masses : List ℕ} {fluxes : List ℤ} {outsides nexts : Li
           record { answer = ap accepted q ∙ sym (past _ v); masses-after = rw v masses-are }
 
 -- the step of a record
-module _ (M : Mesh) (masses : List ℕ) {bs : List ℕ} {fluxes : List ℤ} {outsides releases : List ℕ} {a : StepRead} {fluxes′ : List ℤ} {outsides′ releases′ : List ℕ}
-    (s : StepReading (stepRead (M .cells) (M .faces) (M .seconds) bs (length fluxes) (length outsides) (length releases)) (M .cells) (M .faces) (M .seconds) bs
+module _ (w : Width) (M : Mesh) (masses : List ℕ) {bs : List ℕ} {fluxes : List ℤ} {outsides releases : List ℕ} {a : StepRead} {fluxes′ : List ℤ} {outsides′ releases′ : List ℕ}
+    (s : StepReading w (stepRead w (M .cells) (M .faces) (M .seconds) bs (length fluxes) (length outsides) (length releases)) (M .cells) (M .faces) (M .seconds) bs
     fluxes outsides releases a fluxes′ outsides′ releases′)
     (fl : length fluxes ≡ runFaces) (ol : length outsides ≡ runFaces) (rl : length releases ≡ runCells) where
-  read-said : readSaid a ≡ (stepRecordFound M bs andThen accepted (kindIn bs))
+  read-said : readSaid w a ≡ (stepRecordFound w M bs andThen accepted (kindIn bs))
   unfolding stepRecordFound stepRead
   read-said = rw (fl, ol, rl) at (s .answer)
 
-  pub step-unread : {r : Refusal} → a ≡ read.Refused r → StepTaking M masses bs (step-taken.Refused r) masses
+  pub step-unread : {r : Refusal} → a ≡ read.Refused r → StepTaking w M masses bs (step-taken.Refused r) masses
   unfolding stepJudged
   step-unread {r = r} d = stepping-refused M masses (stepIn M bs) r
-      (out _ (refused-of (stepRecordFound M bs) (kindIn bs) (number (r .cause)) (r .place) (sym (ap readSaid d) ∙ read-said)))
+      (out _ (refused-of (stepRecordFound w M bs) (kindIn bs) (number (r .cause)) (r .place) (sym (ap (readSaid w) d) ∙ read-said)))
 
   module _ {kind : StepKind} (d : a ≡ read.Read kind) where
-    found-fine : stepRecordFound M bs ≡ fine
-    found-fine = accepted-of (stepRecordFound M bs) (kindIn bs) (kindNumber kind) (sym (ap readSaid d) ∙ read-said) .0
+    found-fine : stepRecordFound w M bs ≡ fine
+    found-fine = accepted-of (stepRecordFound w M bs) (kindIn bs) (kindNumber w kind) (sym (ap (readSaid w) d) ∙ read-said) .0
 
     lent-fine : (long 7 (M .faces) runFaces ≡ fine) × (long 14 (M .cells) runCells ≡ fine)
     unfolding stepRecordFound stepBodyVerdict
@@ -151,18 +152,18 @@ module _ (M : Mesh) (masses : List ℕ) {bs : List ℕ} {fluxes : List ℤ} {out
 
     pub fluxes-part : PartRead (M .faces) (fluxesIn bs (M .faces)) fluxes′
     unfolding fluxesIn
-    fluxes-part = read-part (M .faces) _ fluxes fluxes′ (sym (s .answer) ∙ ap readSaid d) (omega (arith, few-faces, fl)) (s .fluxes-read)
+    fluxes-part = read-part (M .faces) _ fluxes fluxes′ (sym (s .answer) ∙ ap (readSaid w) d) (omega (arith, few-faces, fl)) (s .fluxes-read)
 
     pub outsides-part : PartRead (M .faces) (outsidesIn bs (M .faces) (M .seconds)) outsides′
     unfolding outsidesIn
-    outsides-part = read-part (M .faces) _ outsides outsides′ (sym (s .answer) ∙ ap readSaid d) (omega (arith, few-faces, ol)) (s .outsides-read)
+    outsides-part = read-part (M .faces) _ outsides outsides′ (sym (s .answer) ∙ ap (readSaid w) d) (omega (arith, few-faces, ol)) (s .outsides-read)
 
     pub releases-part : PartRead (M .cells) (releasesIn bs (M .cells) (M .faces) (M .seconds)) releases′
     unfolding releasesIn
-    releases-part = read-part (M .cells) _ releases releases′ (sym (s .answer) ∙ ap readSaid d) (omega (arith, few-cells, rl)) (s .releases-read)
+    releases-part = read-part (M .cells) _ releases releases′ (sym (s .answer) ∙ ap (readSaid w) d) (omega (arith, few-cells, rl)) (s .releases-read)
 
     pub step-took : {r : StepTaken} {masses′ : List ℕ}
-        → SteppedIn M masses (take (M .faces) fluxes′) (take (M .faces) outsides′) (take (M .cells) releases′) r masses′ → StepTaking M masses bs r masses′
+        → SteppedIn M masses (take (M .faces) fluxes′) (take (M .faces) outsides′) (take (M .cells) releases′) r masses′ → StepTaking w M masses bs r masses′
     unfolding stepJudged
     step-took {r = r} {masses′ = masses′} t =
         let u : SteppedIn M masses (fluxesIn bs (M .faces)) (outsidesIn bs (M .faces) (M .seconds)) (releasesIn bs (M .cells) (M .faces) (M .seconds)) r masses′ =

@@ -1,5 +1,5 @@
 -- Document 01, "The board and the run" and "Tables lent to a step": what a field and a step record come to. Each is read, then judged
--- by the causes of its values; a step is taken. A refusal leaves the lent masses as they were.
+-- by the causes of its values; a step is taken. A refusal leaves the lent masses as they were. Document 02, S-10: both are told the width.
 use Prim.Native.Nat.{ℕ}
 use mathlib.Core.Path.{_≡_}
 use mathlib.Core.List.{List}
@@ -13,6 +13,7 @@ use Rattle.model.specs.Calls.{massIn}
 use Rattle.checks.specs.Total.{totalSaid}
 use Rattle.checks.specs.declared.TotalAnswer.{TotalAnswer}
 use Rattle.heads.specs.Heads.{stepHeadVerdict}
+use Rattle.heads.specs.declared.Width.{Width}
 use Rattle.reading.specs.Reading.{massesIn, fluxesIn, outsidesIn, releasesIn, fieldRead, stepBodyVerdict}
 use Rattle.step_taken.specs.declared.Printed.{Printed}
 use Rattle.step_taken.specs.declared.StepTaken.{StepTaken}
@@ -20,13 +21,13 @@ use Rattle.step_taken.specs.Said.{takenSaid}
 
 -- A FIELD on so many cells of these volumes. It is read into a table of the call's own, of 1,023 entries; the lent one, of so many, has to
 -- hold it. Then come the causes that the total of a field has.
-unfoldable pub fieldJudged : ℕ → List ℕ → List ℕ → ℕ → Verdict
-fieldJudged cells volumes bs masses = fieldRead cells bs runCells andThen long 5 cells masses andThen meshFieldVerdict (cellsOnly cells volumes) (massesIn bs cells)
+unfoldable pub fieldJudged : Width → ℕ → List ℕ → List ℕ → ℕ → Verdict
+fieldJudged w cells volumes bs masses = fieldRead w cells bs runCells andThen long 5 cells masses andThen meshFieldVerdict (cellsOnly cells volumes) (massesIn bs cells)
 
 -- "The board and the run", step 0: the total of the first field is printed.
-pub record FieldTaking (cells : ℕ) (volumes bs masses : List ℕ) (r : TotalAnswer) (masses′ : List ℕ) : Type 0 where
-  pub answer : totalSaid r ≡ (fieldJudged cells volumes bs (length masses) andThen accepted (total (cellsOnly cells volumes) (massIn (massesIn bs cells))))
-  pub masses-after : masses′ ≡ taken (fieldJudged cells volumes bs (length masses)) (over (massesIn bs cells) masses) masses
+pub record FieldTaking (w : Width) (cells : ℕ) (volumes bs masses : List ℕ) (r : TotalAnswer) (masses′ : List ℕ) : Type 0 where
+  pub answer : totalSaid r ≡ (fieldJudged w cells volumes bs (length masses) andThen accepted (total (cellsOnly cells volumes) (massIn (massesIn bs cells))))
+  pub masses-after : masses′ ≡ taken (fieldJudged w cells volumes bs (length masses)) (over (massesIn bs cells) masses) masses
 
 -- A STEP.
 
@@ -44,9 +45,9 @@ abbrev pub stepIn : Mesh → List ℕ → Call
 stepIn M bs = ownTables (fluxesIn bs (M .faces)) (outsidesIn bs (M .faces) (M .seconds)) (releasesIn bs (M .cells) (M .faces) (M .seconds))
 
 -- The causes of reading, of a record of either kind; it is read into tables of the call's own, as long as the run's limits.
-unfoldable pub stepRecordFound : Mesh → List ℕ → Verdict
-stepRecordFound M bs =
-    stepHeadVerdict (M .cells) (M .faces) (M .seconds) bs andThen stepBodyVerdict (M .cells) (M .faces) (M .seconds) bs runFaces runFaces runCells
+unfoldable pub stepRecordFound : Width → Mesh → List ℕ → Verdict
+stepRecordFound w M bs =
+    stepHeadVerdict w (M .cells) (M .faces) (M .seconds) bs andThen stepBodyVerdict (M .cells) (M .faces) (M .seconds) bs runFaces runFaces runCells
 
 module _ (M : Mesh) (masses : List ℕ) where
   -- "The board and the run": in-mass, out-mass, and the total of the field that the step leaves; and S-6's released mass
@@ -66,9 +67,10 @@ module _ (M : Mesh) (masses : List ℕ) where
     pub answer : takenSaid r ≡ (v andThen accepted (printedOf k))
     pub masses-after : masses′ ≡ massesAfter v k
 
-  -- Then those of the step.
+-- Then those of the step.
+module _ (w : Width) (M : Mesh) (masses : List ℕ) where
   unfoldable pub stepJudged : List ℕ → Verdict
-  stepJudged bs = stepRecordFound M bs andThen verdict M masses (stepIn M bs)
+  stepJudged bs = stepRecordFound w M bs andThen verdict M masses (stepIn M bs)
 
   abbrev pub StepTaking : List ℕ → StepTaken → List ℕ → Type 0
-  StepTaking bs = Stepping (stepJudged bs) (stepIn M bs)
+  StepTaking bs = Stepping M masses (stepJudged bs) (stepIn M bs)

@@ -1,5 +1,6 @@
 // A field record.
 use checks::TotalAnswer;
+use heads::Width;
 use model::Answer;
 use model::RUN_CELLS;
 ghost use Rattle.taking.specs.Taking.{FieldTaking};
@@ -8,11 +9,17 @@ ghost use Rattle.taking.specs.Taking.{FieldTaking};
 const MASSES: u64 = 5;
 
 // A field on these cells, and its total.
-pub fn take_field(cells: usize, bytes: &[u8], volumes: &[u64], masses: &mut [u64]) -> TotalAnswer
-    ensures { λ r. ⌜ FieldTaking cells (now (volumes .entry)) (now (bytes .entry)) (now (masses .entry)) r (now (masses .exit)) ⌝ }
+pub fn take_field(
+    width: Width,
+    cells: usize,
+    bytes: &[u8],
+    volumes: &[u64],
+    masses: &mut [u64],
+) -> TotalAnswer
+    ensures { λ r. ⌜ FieldTaking width cells (now (volumes .entry)) (now (bytes .entry)) (now (masses .entry)) r (now (masses .exit)) ⌝ }
 {
     let mut read = [0u64; RUN_CELLS];
-    let answer = reading::read_field(cells, bytes, &mut read);
+    let answer = reading::read_field(width, cells, bytes, &mut read);
     let lent = model::needs::long(MASSES, cells, masses.len());
     let found = model::needs::and_then(answer, lent);
     if let Answer::Refused(refusal) = found {

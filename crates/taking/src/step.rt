@@ -1,4 +1,5 @@
 // A step record.
+use heads::Width;
 use model::RUN_CELLS;
 use model::RUN_FACES;
 use model::RUN_WORK;
@@ -62,6 +63,7 @@ fn stepped(
 
 // A step record on a mesh and a field, which are judged with it.
 pub fn take_step(
+    width: Width,
     cells: usize,
     faces: usize,
     bytes: &[u8],
@@ -72,13 +74,14 @@ pub fn take_step(
     reaches: &[u64],
     masses: &mut [u64],
 ) -> StepTaken
-    ensures { λ r. ⌜ StepTaking (meshOf cells faces (now (volumes .entry)) (now (firsts .entry)) (now (seconds .entry)) (now (shares .entry)) (now (reaches .entry)))
+    ensures { λ r. ⌜ StepTaking width (meshOf cells faces (now (volumes .entry)) (now (firsts .entry)) (now (seconds .entry)) (now (shares .entry)) (now (reaches .entry)))
         (now (masses .entry)) (now (bytes .entry)) r (now (masses .exit)) ⌝ }
 {
     let mut fluxes = [0i64; RUN_FACES];
     let mut outsides = [0u64; RUN_FACES];
     let mut releases = [0u64; RUN_CELLS];
     let read = reading::read_step(
+        width,
         cells,
         faces,
         seconds,

@@ -79,11 +79,12 @@ fn fill_mesh(
 pub fn take_field(words: &[u64], records: &[u8]) {
     let mut masses = [0u64; ROOM];
     show::word(b"take_field:");
-    let m = copy(table(words, 3), &mut masses);
+    let m = copy(table(words, 4), &mut masses);
     answers::total(taking::take_field(
-        number(words, 0),
-        octets(words, records, 1),
-        table(words, 2),
+        answers::width(number(words, 0)),
+        number(words, 1),
+        octets(words, records, 2),
+        table(words, 3),
         &mut masses[..m],
     ));
     show::numbers(b"; masses", m, &masses);
@@ -105,16 +106,17 @@ fn taken(said: StepTaken) {
 pub fn take_step(words: &[u64], records: &[u8]) {
     let mut masses = [0u64; ROOM];
     show::word(b"take_step:");
-    let m = copy(table(words, 8), &mut masses);
+    let m = copy(table(words, 9), &mut masses);
     taken(taking::take_step(
-        number(words, 0),
+        answers::width(number(words, 0)),
         number(words, 1),
-        octets(words, records, 2),
-        table(words, 3),
+        number(words, 2),
+        octets(words, records, 3),
         table(words, 4),
         table(words, 5),
         table(words, 6),
         table(words, 7),
+        table(words, 8),
         &mut masses[..m],
     ));
     show::numbers(b"; masses", m, &masses);

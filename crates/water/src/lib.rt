@@ -12,7 +12,7 @@ ghost use lib.Dec.{eqb};
 ghost use lib.IntN.{pos};
 ghost use lib.ListN.{length, getD};
 ghost use Rattle.signed.specs.Sign.{isNegative, size as sizeOf};
-ghost use Rattle.model.specs.Mesh.{rim, maxConcentration, maxRimFlux};
+ghost use Rattle.model.specs.Mesh.{rim, maxConcentration};
 ghost use Rattle.model.specs.Causes.{_andThen_, fine, each, outsideFit, fluxFit};
 ghost use Rattle.model.specs.Answers.{said};
 
@@ -56,31 +56,31 @@ fn outsides_good(faces: usize, seconds: &[u64], fluxes: &[i64], outsides: &[u64]
 }
 
 // The largest size of one face's flux.
-fn most_flux(second: u64, reach: u64) -> u64
-    ensures { λ r. ⌜ r ≡ cond (eqb second rim) maxRimFlux reach ⌝ }
+fn most_flux(second: u64, reach: u64, most: u64) -> u64
+    ensures { λ r. ⌜ r ≡ cond (eqb second rim) most reach ⌝ }
 {
     if second == model::RIM {
-        return model::MAX_RIM_FLUX;
+        return most;
     }
     reach
 }
 
 // One face's flux.
-fn flux_fits(second: u64, reach: u64, amount: u64) -> bool
-    ensures { λ r. ⌜ r ≡ fluxFit second reach amount ⌝ }
+fn flux_fits(second: u64, reach: u64, amount: u64, most: u64) -> bool
+    ensures { λ r. ⌜ r ≡ fluxFit most second reach amount ⌝ }
 {
-    amount <= most_flux(second, reach)
+    amount <= most_flux(second, reach, most)
 }
 
 // Cause 8.
-fn fluxes_good(faces: usize, seconds: &[u64], reaches: &[u64], fluxes: &[i64]) -> Answer
+fn fluxes_good(faces: usize, seconds: &[u64], reaches: &[u64], fluxes: &[i64], most: u64) -> Answer
     requires { ⌜ (faces ≤ length (now seconds)) × (faces ≤ length (now reaches)) × (faces ≤ length (now fluxes)) ⌝ }
     ensures { λ r. ⌜ said r ≡ each 8 faces
-        (λ f. fluxFit (getD (now (seconds .entry)) f 0) (getD (now (reaches .entry)) f 0) (sizeOf (getD (now (fluxes .entry)) f (pos 0)))) ⌝ }
+        (λ f. fluxFit most (getD (now (seconds .entry)) f 0) (getD (now (reaches .entry)) f 0) (sizeOf (getD (now (fluxes .entry)) f (pos 0)))) ⌝ }
 {
     let mut f = 0;
     while f < faces {
-        if !flux_fits(seconds[f], reaches[f], size_at(fluxes, f)) {
+        if !flux_fits(seconds[f], reaches[f], size_at(fluxes, f), most) {
             return Answer::Refused(Refusal {
                 cause: Cause::Flux,
                 place: f as u64,
@@ -98,11 +98,12 @@ fn faces_fit(
     reaches: &[u64],
     fluxes: &[i64],
     outsides: &[u64],
+    most: u64,
 ) -> bool
     requires { ⌜ (faces ≤ length (now seconds)) × (faces ≤ length (now reaches)) × (faces ≤ length (now fluxes)) × (faces ≤ length (now outsides)) ⌝ }
     ensures { λ r. ⌜ (r ≡ true
         → (each 7 faces (λ f. outsideFit (getD (now (seconds .entry)) f 0) (isNegative (getD (now (fluxes .entry)) f (pos 0))) (getD (now (outsides .entry)) f 0)) ≡ fine)
-        × (each 8 faces (λ f. fluxFit (getD (now (seconds .entry)) f 0) (getD (now (reaches .entry)) f 0) (sizeOf (getD (now (fluxes .entry)) f (pos 0)))) ≡ fine)) ⌝ }
+        × (each 8 faces (λ f. fluxFit most (getD (now (seconds .entry)) f 0) (getD (now (reaches .entry)) f 0) (sizeOf (getD (now (fluxes .entry)) f (pos 0)))) ≡ fine)) ⌝ }
 {
     let mut f = 0;
     while f < faces {
@@ -110,7 +111,7 @@ fn faces_fit(
         if !outside_fits(second, is_negative_at(fluxes, f), outsides[f]) {
             return false;
         }
-        if !flux_fits(second, reaches[f], size_at(fluxes, f)) {
+        if !flux_fits(second, reaches[f], size_at(fluxes, f), most) {
             return false;
         }
         f += 1;
@@ -118,13 +119,14 @@ fn faces_fit(
     true
 }
 
-// Causes 7 and 8 in their order.
+// Causes 7 and 8 in their order, the second with a ceiling that the caller sets.
 pub fn values(
     faces: usize,
     seconds: &[u64],
     reaches: &[u64],
     fluxes: &[i64],
     outsides: &[u64],
+    most: u64,
 ) -> Answer
     requires { ⌜ (faces ≤ length (now seconds))
         × (faces ≤ length (now reaches))
@@ -132,12 +134,12 @@ pub fn values(
         × (faces ≤ length (now outsides)) ⌝ }
     ensures { λ r. ⌜ said r ≡ (
         each 7 faces (λ f. outsideFit (getD (now (seconds .entry)) f 0) (isNegative (getD (now (fluxes .entry)) f (pos 0))) (getD (now (outsides .entry)) f 0))
-        andThen each 8 faces (λ f. fluxFit (getD (now (seconds .entry)) f 0) (getD (now (reaches .entry)) f 0) (sizeOf (getD (now (fluxes .entry)) f (pos 0))))
+        andThen each 8 faces (λ f. fluxFit most (getD (now (seconds .entry)) f 0) (getD (now (reaches .entry)) f 0) (sizeOf (getD (now (fluxes .entry)) f (pos 0))))
         ) ⌝ }
 {
-    if faces_fit(faces, seconds, reaches, fluxes, outsides) {
+    if faces_fit(faces, seconds, reaches, fluxes, outsides, most) {
         return Answer::Done;
     }
     let a = outsides_good(faces, seconds, fluxes, outsides);
-    and_then(a, fluxes_good(faces, seconds, reaches, fluxes))
+    and_then(a, fluxes_good(faces, seconds, reaches, fluxes, most))
 }

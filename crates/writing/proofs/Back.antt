@@ -1,11 +1,12 @@
 -- Reading undoes packing and packing undoes reading, of the three records: instances of the laws of sections (`value-back`, `column-back`,
 -- `record-again`).
-use Prim.Native.Nat.{ℕ, zero, suc, _+_, _-_, _*_, _≤_, _<_}
+use Prim.Native.Nat.{ℕ, zero, suc, _+_, _-_, _*_, _/_, _≤_, _<_}
 use mathlib.Core.Path.{_≡_, refl, sym, ap, _∙_}
 use mathlib.Core.Logic.{inl, inr}
 use mathlib.Core.Bool.{Bool, true, false, cond, not, _&&_, true≢false}
 use mathlib.Core.List.{List}
 use native.Mathlib.Decide.{decLt}
+use native.Mathlib.Nat.{mul-le-mul-right, suc-mul}
 use native.Mathlib.Omega.{arith}
 use borrow.Author.Tests.{not-true, ne-eqb}
 use lib.Dec.{eqb}
@@ -23,85 +24,87 @@ use Rattle.bits.proofs.Layouts.{bytes-hold}
 use Rattle.sections.specs.Sections.{Section, Values, Has, rowsOf, sectionIn, shapeBits, place, fieldsOf, recordOf, Fits, valueIn, entryIn, columnIn}
 use Rattle.sections.proofs.Sections.{width-fields, length-record, value-back, column-back, record-again}
 use Rattle.sections.proofs.Bodies.{column-has}
-use Rattle.heads.specs.Layouts.{meshZeroBits, stepZeroBits, signBits, sizeBits, fluxBits, meshHeadBits, stepHeadBits, meshKind, fieldKind, isRim, signOf, sizeOf, outsideOf, releaseOf, massOf, meshShape, meshValue, fieldShape, fieldValue, stepShape, stepValue, meshBits, fieldBits, stepBits, meshRecord, fieldRecord, stepRecord}
+use Rattle.heads.specs.Layouts.{meshZeroBits, stepZeroBits, signBits, valueBits, massBits, massWidth, widthOf, fluxBits, meshHeadBits, stepHeadBits, isRim, signOf, sizeOf, outsideOf, releaseOf, massOf, meshShape, meshValue, fieldShape, fieldValue, stepShape, stepValue, meshBits, fieldBits, stepBits, meshRecord, fieldRecord, stepRecord}
 use Rattle.heads.specs.Heads.{kindIn, cellsIn, facesIn, stepFacesIn}
 use Rattle.heads.proofs.Layouts.{mesh-kind-in, mesh-cells-in, mesh-faces-in, mesh-zeros-in, mesh-some, field-kind-in, field-cells-in, step-kind-in, step-faces-in, step-zeros-in, signs-in, sizes-in, step-some}
 use Rattle.zeros.specs.Zeros.{zeroBitGood, minusZero}
 use Rattle.zeros.proofs.ZeroLaws.{good-clear, zeros-good, minus-at, no-minus}
-use Rattle.reading.specs.Reading.{shapeIn, volumesIn, firstsIn, secondsIn, sharesIn, reachesIn, massesIn, minusIn, sizeIn, fluxesIn, outsidesIn, stepShapeIn, releasesIn}
+use Rattle.reading.specs.Reading.{shapeIn, volumesIn, firstsIn, secondsIn, sharesIn, reachesIn, massesIn, minusIn, sizeIn, fluxesIn, outsidesIn, stepShapeIn, waterShape, releasesIn}
 use Rattle.reading.specs.declared.MeshCounts.{MeshCounts}
+use Rattle.heads.specs.declared.Width.{Width}
+use Rattle.heads.specs.declared.Width.the-variants.{Narrow, Wide}
 use Rattle.writing.proofs.Accepting.{MeshPassed, FieldPassed, StepPassed}
 
 -- a mesh that fits its record
-module _ (M : Mesh) (fits : Fits (meshShape (M .cells) (M .faces)) (meshValue M)) where
+module _ (kind : ℕ) (M : Mesh) (fits : Fits (meshShape kind (M .cells) (M .faces)) (meshValue kind M)) where
   abbrev MS : List Section
-  MS = meshShape (M .cells) (M .faces)
+  MS = meshShape kind (M .cells) (M .faces)
 
-  pub mesh-kind-back : kindIn (meshRecord M) ≡ meshKind
+  pub mesh-kind-back : kindIn (meshRecord kind M) ≡ kind
   unfolding meshRecord
-  mesh-kind-back = value-back MS (meshValue M) fits 0 0 0 (column-has (mesh-kind-in (M .cells) (M .faces)) 0 (omega arith))
+  mesh-kind-back = value-back MS (meshValue kind M) fits 0 0 0 (column-has (mesh-kind-in kind (M .cells) (M .faces)) 0 (omega arith))
 
-  pub mesh-cells-back : cellsIn (meshRecord M) ≡ M .cells
+  pub mesh-cells-back : cellsIn (meshRecord kind M) ≡ M .cells
   unfolding meshRecord
-  mesh-cells-back = value-back MS (meshValue M) fits 0 1 0 (column-has (mesh-cells-in (M .cells) (M .faces)) 0 (omega arith))
+  mesh-cells-back = value-back MS (meshValue kind M) fits 0 1 0 (column-has (mesh-cells-in kind (M .cells) (M .faces)) 0 (omega arith))
 
-  pub mesh-faces-back : facesIn (meshRecord M) ≡ M .faces
+  pub mesh-faces-back : facesIn (meshRecord kind M) ≡ M .faces
   unfolding meshRecord
-  mesh-faces-back = value-back MS (meshValue M) fits 0 2 0 (column-has (mesh-faces-in (M .cells) (M .faces)) 0 (omega arith))
+  mesh-faces-back = value-back MS (meshValue kind M) fits 0 2 0 (column-has (mesh-faces-in kind (M .cells) (M .faces)) 0 (omega arith))
 
-  mesh-zeros-back : bitsAt (meshRecord M) (meshHeadBits - meshZeroBits) meshZeroBits ≡ 0
+  mesh-zeros-back : bitsAt (meshRecord kind M) (meshHeadBits - meshZeroBits) meshZeroBits ≡ 0
   unfolding meshRecord
-  mesh-zeros-back = value-back MS (meshValue M) fits 0 3 0 (column-has (mesh-zeros-in (M .cells) (M .faces)) 0 (omega arith))
+  mesh-zeros-back = value-back MS (meshValue kind M) fits 0 3 0 (column-has (mesh-zeros-in kind (M .cells) (M .faces)) 0 (omega arith))
 
-  mesh-shape-back : shapeIn (meshRecord M) ≡ MS
-  mesh-shape-back = rw (mesh-cells-back, mesh-faces-back)
+  mesh-shape-back : shapeIn (meshRecord kind M) ≡ MS
+  mesh-shape-back = rw (mesh-kind-back, mesh-cells-back, mesh-faces-back)
 
-  pub mesh-record-length : length (meshRecord M) ≡ bytesFor (meshBits (M .cells) (M .faces))
+  pub mesh-record-length : length (meshRecord kind M) ≡ bytesFor (meshBits kind (M .cells) (M .faces))
   unfolding meshRecord
-  mesh-record-length = length-record MS (meshValue M)
+  mesh-record-length = length-record MS (meshValue kind M)
 
-  pub mesh-bits-good : (i : ℕ) → zeroBitGood (meshRecord M) meshZeroBits meshHeadBits (meshBits (M .cells) (M .faces)) i ≡ true
+  pub mesh-bits-good : (i : ℕ) → zeroBitGood (meshRecord kind M) meshZeroBits meshHeadBits (meshBits kind (M .cells) (M .faces)) i ≡ true
   unfolding meshRecord recordOf
-  mesh-bits-good = zeros-good (fieldsOf MS (meshValue M)) meshZeroBits meshHeadBits (shapeBits MS) (omega arith) (mesh-some (M .cells) (M .faces)) (width-fields MS (meshValue M)) mesh-zeros-back
+  mesh-bits-good = zeros-good (fieldsOf MS (meshValue kind M)) meshZeroBits meshHeadBits (shapeBits MS) (omega arith) (mesh-some kind (M .cells) (M .faces)) (width-fields MS (meshValue kind M)) mesh-zeros-back
 
-  pub volumes-back : volumesIn (meshRecord M) ≡ table (M .cells) (volume M)
+  pub volumes-back : volumesIn (meshRecord kind M) ≡ table (M .cells) (volume M)
   unfolding volumesIn meshRecord
-  volumes-back = ap (λ T. columnIn (meshRecord M) T 1 0) mesh-shape-back ∙ column-back MS (meshValue M) fits 1 0 (omega arith)
+  volumes-back = ap (λ T. columnIn (meshRecord kind M) T 1 0) mesh-shape-back ∙ column-back MS (meshValue kind M) fits 1 0 (omega arith)
 
-  pub firsts-back : firstsIn (meshRecord M) ≡ table (M .faces) (first M)
+  pub firsts-back : firstsIn (meshRecord kind M) ≡ table (M .faces) (first M)
   unfolding firstsIn meshRecord
-  firsts-back = ap (λ T. columnIn (meshRecord M) T 2 0) mesh-shape-back ∙ column-back MS (meshValue M) fits 2 0 (omega arith)
+  firsts-back = ap (λ T. columnIn (meshRecord kind M) T 2 0) mesh-shape-back ∙ column-back MS (meshValue kind M) fits 2 0 (omega arith)
 
-  pub seconds-back : secondsIn (meshRecord M) ≡ table (M .faces) (second M)
+  pub seconds-back : secondsIn (meshRecord kind M) ≡ table (M .faces) (second M)
   unfolding secondsIn meshRecord
-  seconds-back = ap (λ T. columnIn (meshRecord M) T 2 1) mesh-shape-back ∙ column-back MS (meshValue M) fits 2 1 (omega arith)
+  seconds-back = ap (λ T. columnIn (meshRecord kind M) T 2 1) mesh-shape-back ∙ column-back MS (meshValue kind M) fits 2 1 (omega arith)
 
-  pub shares-back : sharesIn (meshRecord M) ≡ table (M .faces) (share M)
+  pub shares-back : sharesIn (meshRecord kind M) ≡ table (M .faces) (share M)
   unfolding sharesIn meshRecord
-  shares-back = ap (λ T. columnIn (meshRecord M) T 2 2) mesh-shape-back ∙ column-back MS (meshValue M) fits 2 2 (omega arith)
+  shares-back = ap (λ T. columnIn (meshRecord kind M) T 2 2) mesh-shape-back ∙ column-back MS (meshValue kind M) fits 2 2 (omega arith)
 
-  pub reaches-back : reachesIn (meshRecord M) ≡ table (M .faces) (reach M)
+  pub reaches-back : reachesIn (meshRecord kind M) ≡ table (M .faces) (reach M)
   unfolding reachesIn meshRecord
-  reaches-back = ap (λ T. columnIn (meshRecord M) T 2 3) mesh-shape-back ∙ column-back MS (meshValue M) fits 2 3 (omega arith)
+  reaches-back = ap (λ T. columnIn (meshRecord kind M) T 2 3) mesh-shape-back ∙ column-back MS (meshValue kind M) fits 2 3 (omega arith)
 
 -- a field
-module _ (cells : ℕ) (masses : List ℕ) where
-  pub field-record-length : length (fieldRecord cells masses) ≡ bytesFor (fieldBits cells)
+module _ (kind cells : ℕ) (masses : List ℕ) where
+  pub field-record-length : length (fieldRecord kind cells masses) ≡ bytesFor (fieldBits kind cells)
   unfolding fieldRecord
-  field-record-length = length-record (fieldShape cells) (fieldValue cells masses)
+  field-record-length = length-record (fieldShape kind cells) (fieldValue kind cells masses)
 
-  module _ (fits : Fits (fieldShape cells) (fieldValue cells masses)) where
-    pub field-kind-back : kindIn (fieldRecord cells masses) ≡ fieldKind
+  module _ (fits : Fits (fieldShape kind cells) (fieldValue kind cells masses)) where
+    pub field-kind-back : kindIn (fieldRecord kind cells masses) ≡ kind
     unfolding fieldRecord
-    field-kind-back = value-back (fieldShape cells) (fieldValue cells masses) fits 0 0 0 (column-has (field-kind-in cells) 0 (omega arith))
+    field-kind-back = value-back (fieldShape kind cells) (fieldValue kind cells masses) fits 0 0 0 (column-has (field-kind-in kind cells) 0 (omega arith))
 
-    pub field-cells-back : cellsIn (fieldRecord cells masses) ≡ cells
+    pub field-cells-back : cellsIn (fieldRecord kind cells masses) ≡ cells
     unfolding fieldRecord
-    field-cells-back = value-back (fieldShape cells) (fieldValue cells masses) fits 0 1 0 (column-has (field-cells-in cells) 0 (omega arith))
+    field-cells-back = value-back (fieldShape kind cells) (fieldValue kind cells masses) fits 0 1 0 (column-has (field-cells-in kind cells) 0 (omega arith))
 
-    pub masses-back : massesIn (fieldRecord cells masses) cells ≡ table cells (massOf masses)
+    pub masses-back : massesIn (fieldRecord kind cells masses) cells ≡ table cells (massOf masses)
     unfolding massesIn fieldRecord
-    masses-back = column-back (fieldShape cells) (fieldValue cells masses) fits 1 0 (omega arith)
+    masses-back = ap (λ (k : ℕ). columnIn (fieldRecord kind cells masses) (fieldShape k cells) 1 0) field-kind-back ∙ column-back (fieldShape kind cells) (fieldValue kind cells masses) fits 1 0 (omega arith)
 
 -- a sign of 0 or 1, and its size
 sign-back : (b : Bool) → eqb (cond b 1 0) 1 ≡ b
@@ -150,14 +153,15 @@ module _ (kind cells faces : ℕ) (seconds : List ℕ) (fluxes : List ℤ) (outs
 
     pub fluxes-back : fluxesIn TR faces ≡ table faces (λ f. getD fluxes f (pos 0))
     unfolding fluxesIn
-    fluxes-back = table-cong (pos 0) faces _ (λ f. getD fluxes f (pos 0))
-        (λ f l. rw (sign-read f l, size-read f l, sign-back (isNegative (getD fluxes f (pos 0)))) (withSign-of (getD fluxes f (pos 0))))
+    fluxes-back = rw step-kind-back (table-cong (pos 0) faces _ (λ f. getD fluxes f (pos 0))
+        (λ f l. rw (sign-read f l, size-read f l, sign-back (isNegative (getD fluxes f (pos 0)))) (withSign-of (getD fluxes f (pos 0)))))
 
     pub outsides-back : ((f : ℕ) → f < faces → isRim seconds f ≡ false → outsideOf outsides f ≡ 0)
         → outsidesIn TR faces seconds ≡ table faces (outsideOf outsides)
     unfolding outsidesIn stepRecord
     outsides-back none =
-        column-back TS TV fits 2 0 (omega arith)
+        ap (λ (k : ℕ). columnIn TR (waterShape k faces seconds) 2 0) step-kind-back
+        ∙ column-back TS TV fits 2 0 (omega arith)
         ∙ table-cong {A = ℕ} 0 faces (λ f. cond (isRim seconds f) (outsideOf outsides f) 0) (outsideOf outsides) (λ f l. go f l (isRim seconds f) refl)
       where
         go : (f : ℕ) → f < faces → (b : Bool) → isRim seconds f ≡ b → cond b (outsideOf outsides f) 0 ≡ outsideOf outsides f
@@ -174,22 +178,22 @@ module _ (kind cells faces : ℕ) (seconds : List ℕ) (fluxes : List ℤ) (outs
     step-zeros-good = zeros-good (fieldsOf TS TV) stepZeroBits stepHeadBits (shapeBits TS) (omega arith)
         (omega (arith, step-some kind cells faces seconds)) (width-fields TS TV) step-zeros-back
 
-    minus-read : (f : ℕ) → f < faces → minusZero TR faces (stepHeadBits + f * fluxBits) ≡ false
+    minus-read : (f : ℕ) → f < faces → minusZero TR (valueBits kind) faces (stepHeadBits + f * fluxBits kind) ≡ false
     minus-read f l =
         let R = TR in
-        let p : stepHeadBits + f * fluxBits ≡ place TS 1 0 f = omega arith in
-        let q : stepHeadBits + f * fluxBits + signBits ≡ place TS 1 1 f = omega arith in
-        minus-at R faces f l
-        ∙ ap (λ (x : ℕ). eqb (bitsAt R x signBits) 1 && eqb (bitsAt R (stepHeadBits + f * fluxBits + signBits) sizeBits) 0) p
-        ∙ ap (λ (x : ℕ). eqb (valueIn R TS 1 0 f) 1 && eqb (bitsAt R x sizeBits) 0) q
+        let p : stepHeadBits + f * fluxBits kind ≡ place TS 1 0 f = omega arith in
+        let q : stepHeadBits + f * fluxBits kind + signBits ≡ place TS 1 1 f = omega arith in
+        minus-at R (valueBits kind) faces f l
+        ∙ ap (λ (x : ℕ). eqb (bitsAt R x signBits) 1 && eqb (bitsAt R (stepHeadBits + f * fluxBits kind + signBits) (valueBits kind)) 0) p
+        ∙ ap (λ (x : ℕ). eqb (valueIn R TS 1 0 f) 1 && eqb (bitsAt R x (valueBits kind)) 0) q
         ∙ rw (sign-read f l, size-read f l) (no-minus-zero (getD fluxes f (pos 0)))
 
-    pub step-bits-good : (i : ℕ) → (zeroBitGood TR stepZeroBits stepHeadBits (stepBits kind cells faces seconds) i && not (minusZero TR faces i)) ≡ true
-    step-bits-good i = rw (step-zeros-good i, minus i (decLt i (stepHeadBits + faces * fluxBits)))
+    pub step-bits-good : (i : ℕ) → (zeroBitGood TR stepZeroBits stepHeadBits (stepBits kind cells faces seconds) i && not (minusZero TR (valueBits kind) faces i)) ≡ true
+    step-bits-good i = rw (step-zeros-good i, minus i (decLt i (stepHeadBits + faces * fluxBits kind)))
       where
-        minus : (j : ℕ) → Dec (j < stepHeadBits + faces * fluxBits) → minusZero TR faces j ≡ false
-        minus j (yes l) = no-minus TR faces faces minus-read j (inl l)
-        minus j (no f) = no-minus TR faces faces minus-read j (inr (omega arith))
+        minus : (j : ℕ) → Dec (j < stepHeadBits + faces * fluxBits kind) → minusZero TR (valueBits kind) faces j ≡ false
+        minus j (yes l) = no-minus TR (valueBits kind) faces faces minus-read j (inl l)
+        minus j (no f) = no-minus TR (valueBits kind) faces faces minus-read j (inr (omega arith))
 
 -- Packing undoes reading: tables that a reading filled, which may be longer, are packed into the same bytes.
 
@@ -207,17 +211,17 @@ module _ (bs : List ℕ) (bytes : (j : ℕ) → getD bs j 0 < 256) {n : MeshCoun
 
   mesh-zeros : 0 ≡ bitsAt bs (meshHeadBits - meshZeroBits) meshZeroBits
   mesh-zeros =
-      let end = meshBits (cellsIn bs) (facesIn bs) in
-      head-zeros bs meshZeroBits meshHeadBits end (omega arith) (mesh-some (cellsIn bs) (facesIn bs)) (omega (arith, passed .same-length, bytes-hold end)) (passed .good)
+      let end = meshBits (kindIn bs) (cellsIn bs) (facesIn bs) in
+      head-zeros bs meshZeroBits meshHeadBits end (omega arith) (mesh-some (kindIn bs) (cellsIn bs) (facesIn bs)) (omega (arith, passed .same-length, bytes-hold end)) (passed .good)
 
-  mesh-head : (j : ℕ) → j < 4 → meshValue MN 0 j 0 ≡ valueIn bs (shapeIn bs) 0 j 0
-  mesh-head zero l = sym (passed .kind)
+  mesh-head : (j : ℕ) → j < 4 → meshValue (kindIn bs) MN 0 j 0 ≡ valueIn bs (shapeIn bs) 0 j 0
+  mesh-head zero l = refl
   mesh-head (suc zero) l = refl
   mesh-head (suc (suc zero)) l = refl
   mesh-head (suc (suc (suc zero))) l = mesh-zeros
   mesh-head (suc (suc (suc (suc j)))) l = absurd (omega arith)
 
-  mesh-agrees : (k j i : ℕ) → Has (shapeIn bs) k j i → meshValue MN k j i ≡ valueIn bs (shapeIn bs) k j i
+  mesh-agrees : (k j i : ℕ) → Has (shapeIn bs) k j i → meshValue (kindIn bs) MN k j i ≡ valueIn bs (shapeIn bs) k j i
   unfolding volumesIn firstsIn secondsIn sharesIn reachesIn
   mesh-agrees zero j i h = let z : i ≡ 0 = omega (arith, h .below) in rw z (mesh-head j (h .among))
   mesh-agrees (suc zero) zero i h = entry-over bs (shapeIn bs) 1 0 i volumes h
@@ -229,29 +233,33 @@ module _ (bs : List ℕ) (bytes : (j : ℕ) → getD bs j 0 < 256) {n : MeshCoun
   mesh-agrees (suc (suc zero)) (suc (suc (suc (suc j)))) i h = absurd (omega (arith, h .among))
   mesh-agrees (suc (suc (suc k))) j i h = absurd (omega (arith, h .below))
 
-  pub mesh-again : meshRecord MN ≡ bs
+  pub mesh-again : meshRecord (kindIn bs) MN ≡ bs
   unfolding meshRecord
-  mesh-again = record-again bs (shapeIn bs) (meshValue MN) (passed .same-length) bytes
-      (λ i l m. good-clear bs meshZeroBits meshHeadBits (meshBits (cellsIn bs) (facesIn bs)) i (passed .good i m) (inr l)) mesh-agrees
+  mesh-again = record-again bs (shapeIn bs) (meshValue (kindIn bs) MN) (passed .same-length) bytes
+      (λ i l m. good-clear bs meshZeroBits meshHeadBits (meshBits (kindIn bs) (cellsIn bs) (facesIn bs)) i (passed .good i m) (inr l)) mesh-agrees
 
 -- a field: its bits fill whole bytes
-module _ (cells : ℕ) (bs : List ℕ) (bytes : (j : ℕ) → getD bs j 0 < 256) (passed : FieldPassed cells bs) (masses : List ℕ) where
-  field-agrees : (k j i : ℕ) → Has (fieldShape cells) k j i → fieldValue cells (over (massesIn bs cells) masses) k j i ≡ valueIn bs (fieldShape cells) k j i
+module _ (w : Width) (cells : ℕ) (bs : List ℕ) (bytes : (j : ℕ) → getD bs j 0 < 256) (passed : FieldPassed w cells bs) (masses : List ℕ) where
+  field-agrees : (k j i : ℕ) → Has (fieldShape (kindIn bs) cells) k j i → fieldValue (kindIn bs) cells (over (massesIn bs cells) masses) k j i ≡ valueIn bs (fieldShape (kindIn bs) cells) k j i
   unfolding massesIn
-  field-agrees zero zero i h = let z : i ≡ 0 = omega (arith, h .below) in rw z (sym (passed .kind))
+  field-agrees zero zero i h = let z : i ≡ 0 = omega (arith, h .below) in rw z
   field-agrees zero (suc zero) i h = let z : i ≡ 0 = omega (arith, h .below) in rw z (sym (passed .same-count))
   field-agrees zero (suc (suc j)) i h = absurd (omega (arith, h .among))
-  field-agrees (suc zero) zero i h = entry-over bs (fieldShape cells) 1 0 i masses h
+  field-agrees (suc zero) zero i h = entry-over bs (fieldShape (kindIn bs) cells) 1 0 i masses h
   field-agrees (suc zero) (suc j) i h = absurd (omega (arith, h .among))
   field-agrees (suc (suc k)) j i h = absurd (omega (arith, h .below))
 
-  full : (i : ℕ) → fieldBits cells ≤ i → i < 8 * length bs → bitAt bs i ≡ 0
-  unfolding bytesFor
-  full i l m = absurd (omega (arith, passed .same-length))
+  full : (i : ℕ) → fieldBits (kindIn bs) cells ≤ i → i < 8 * length bs → bitAt bs i ≡ 0
+  unfolding bytesFor massBits
+  full i l m = absurd (go (widthOf (kindIn bs)) (passed .same-length) l)
+    where
+      go : (v : Width) → length bs ≡ (16 + (cells * (massWidth v + 0) + 0) + 7) / 8 → 16 + (cells * (massWidth v + 0) + 0) ≤ i → ⊥
+      go Narrow e n = omega arith
+      go Wide e n = omega arith
 
-  pub field-again : fieldRecord cells (over (massesIn bs cells) masses) ≡ bs
+  pub field-again : fieldRecord (kindIn bs) cells (over (massesIn bs cells) masses) ≡ bs
   unfolding fieldRecord
-  field-again = record-again bs (fieldShape cells) (fieldValue cells (over (massesIn bs cells) masses)) (passed .same-length) bytes full field-agrees
+  field-again = record-again bs (fieldShape (kindIn bs) cells) (fieldValue (kindIn bs) cells (over (massesIn bs cells) masses)) (passed .same-length) bytes full field-agrees
 
 -- a sign and a size that are no minus with size 0
 sign-again : (s n : ℕ) → s < 2 → (eqb s 1 && eqb n 0) ≡ false → cond (isNegative (withSign (eqb s 1) n)) 1 0 ≡ s
@@ -274,12 +282,12 @@ module _ (cells faces : ℕ) (seconds bs : List ℕ) (bytes : (j : ℕ) → getD
 
   plain : (f : ℕ) → f < faces → (eqb (valueIn bs SN 1 0 f) 1 && eqb (valueIn bs SN 1 1 f) 0) ≡ false
   plain f l =
-      let p : stepHeadBits + f * fluxBits ≡ place SN 1 0 f = omega arith in
-      let q : stepHeadBits + f * fluxBits + signBits ≡ place SN 1 1 f = omega arith in
-      sym (minus-at bs faces f l
-      ∙ ap (λ (x : ℕ). eqb (bitsAt bs x signBits) 1 && eqb (bitsAt bs (stepHeadBits + f * fluxBits + signBits) sizeBits) 0) p
-      ∙ ap (λ (x : ℕ). eqb (valueIn bs SN 1 0 f) 1 && eqb (bitsAt bs x sizeBits) 0) q)
-      ∙ not-true _ (passed .plain (stepHeadBits + f * fluxBits) (omega (arith, room, step-some (kindIn bs) cells faces seconds)))
+      let p : stepHeadBits + f * fluxBits (kindIn bs) ≡ place SN 1 0 f = omega arith in
+      let q : stepHeadBits + f * fluxBits (kindIn bs) + signBits ≡ place SN 1 1 f = omega arith in
+      sym (minus-at bs (valueBits (kindIn bs)) faces f l
+      ∙ ap (λ (x : ℕ). eqb (bitsAt bs x signBits) 1 && eqb (bitsAt bs (stepHeadBits + f * fluxBits (kindIn bs) + signBits) (valueBits (kindIn bs))) 0) p
+      ∙ ap (λ (x : ℕ). eqb (valueIn bs SN 1 0 f) 1 && eqb (bitsAt bs x (valueBits (kindIn bs))) 0) q)
+      ∙ not-true _ (passed .plain (stepHeadBits + f * fluxBits (kindIn bs)) (omega (arith, room, step-some (kindIn bs) cells faces seconds, mul-le-mul-right (fluxBits (kindIn bs)) l, suc-mul f (fluxBits (kindIn bs)))))
 
   flux-is : (f : ℕ) → f < faces → getD (over (fluxesIn bs faces) fluxes) f (pos 0) ≡ withSign (minusIn bs faces f) (sizeIn bs faces f)
   unfolding fluxesIn

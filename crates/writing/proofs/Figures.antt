@@ -10,8 +10,9 @@ use Rattle.model.specs.Causes.{accepted, refused, fine, _andThen_, need, each, 
 use Rattle.bits.specs.Field.{bitAt, bitsAt}
 use Rattle.bits.specs.Layout.{spelled, bitsOf, widthOf, bytesFor, octet, packed, rows}
 use Rattle.sections.specs.Sections.{those, row, fieldsOf, recordOf}
-use Rattle.heads.specs.Layouts.{releaseBits, meshRecord, fieldRecord, stepRecord, meshLength, fieldLength, stepLength}
+use Rattle.heads.specs.Layouts.{valueBits, massBits, releaseBits, meshRecord, fieldRecord, stepRecord, meshLength, fieldLength, stepLength}
 use Rattle.heads.specs.Heads.{meshHeadVerdict, fieldHeadVerdict, stepHeadVerdict}
+use Rattle.heads.specs.declared.Width.the-variants.{Narrow, Wide}
 use Rattle.zeros.specs.Zeros.{zeroBitGood, minusZero}
 use Rattle.reading.specs.Reading.{volumesIn, massesIn, fluxesIn, outsidesIn, releasesIn, meshBitGood, stepBitGood, meshBodyVerdict, fieldBodyVerdict, stepBodyVerdict, meshRead, fieldRead, stepRead}
 use Rattle.writing.specs.Writing.{releasesFit}
@@ -19,7 +20,7 @@ use Rattle.writing.specs.Writing.{releasesFit}
 -- the definitions that a figure computes
 everything : Unit {0}
 unfolding sum table _andThen_ need each countsWithin bitAt bitsAt spelled bitsOf widthOf bytesFor octet packed rows those row fieldsOf recordOf
-    meshRecord fieldRecord stepRecord meshLength fieldLength stepLength volumesIn massesIn fluxesIn outsidesIn releaseBits releasesIn zeroBitGood minusZero
+    meshRecord fieldRecord stepRecord meshLength fieldLength stepLength volumesIn massesIn fluxesIn outsidesIn valueBits massBits releaseBits releasesIn zeroBitGood minusZero
     meshBitGood stepBitGood meshHeadVerdict fieldHeadVerdict stepHeadVerdict meshBodyVerdict fieldBodyVerdict stepBodyVerdict meshRead fieldRead stepRead
 everything = tt
 
@@ -30,11 +31,11 @@ mesh = 0x10 ∷ 0x01 ∷ 0x00 ∷ 0x00 ∷ 0x06 ∷ 0x40 ∷ []
 abbrev field : List ℕ
 field = 0x20 ∷ 0x01 ∷ 0x00 ∷ 0x00 ∷ 0x00 ∷ 0x63 ∷ []
 
-pub mesh-written : meshRecord (meshOf 1 0 (100 ∷ []) [] [] [] []) ≡ mesh
+pub mesh-written : meshRecord 1 (meshOf 1 0 (100 ∷ []) [] [] [] []) ≡ mesh
 unfolding everything
 mesh-written = refl
 
-pub mesh-is-read : meshRead 1023 2046 mesh 1 0 0 0 0 ≡ accepted (record { cells = 1; faces = 0 })
+pub mesh-is-read : meshRead 1023 2046 mesh 1 0 0 0 0 ≡ accepted (record { cells = 1; faces = 0; width = Narrow })
 unfolding everything
 mesh-is-read = refl
 
@@ -42,11 +43,11 @@ pub volume-is-read : volumesIn mesh ≡ 100 ∷ []
 unfolding everything
 volume-is-read = refl
 
-pub field-written : fieldRecord 1 (99 ∷ []) ≡ field
+pub field-written : fieldRecord 2 1 (99 ∷ []) ≡ field
 unfolding everything
 field-written = refl
 
-pub field-is-read : fieldRead 1 field 1 ≡ fine
+pub field-is-read : fieldRead Narrow 1 field 1 ≡ fine
 unfolding everything
 field-is-read = refl
 
@@ -62,7 +63,7 @@ pub step-written : stepRecord 3 1 1 (4095 ∷ []) (negsuc 49 ∷ []) (1000 ∷ [
 unfolding everything
 step-written = refl
 
-pub step-is-read : stepRead 1 1 (4095 ∷ []) step 1 1 1 ≡ accepted 3
+pub step-is-read : stepRead Narrow 1 1 (4095 ∷ []) step 1 1 1 ≡ accepted 3
 unfolding everything
 step-is-read = refl
 
@@ -86,13 +87,88 @@ pub outfall-written : stepRecord 4 1 1 (4095 ∷ []) (negsuc 49 ∷ []) (1000 �
 unfolding everything
 outfall-written = refl
 
-pub outfall-is-read : stepRead 1 1 (4095 ∷ []) outfall 1 1 1 ≡ accepted 4
+pub outfall-is-read : stepRead Narrow 1 1 (4095 ∷ []) outfall 1 1 1 ≡ accepted 4
 unfolding everything
 outfall-is-read = refl
 
 pub release-is-read : releasesIn outfall 1 1 (4095 ∷ []) ≡ 5 ∷ []
 unfolding everything
 release-is-read = refl
+
+-- document 02, S-10: kinds 5 to 8 at the ceilings, with a release that kind 4 does not hold
+abbrev wide-mesh : List ℕ
+wide-mesh = 0x50 ∷ 0x01 ∷ 0x00 ∷ 0x00 ∷ 0xff ∷ 0xff ∷ []
+
+abbrev wide-field : List ℕ
+wide-field = 0x60 ∷ 0x01 ∷ 0x0f ∷ 0x42 ∷ 0x30 ∷ 0xbd ∷ 0xc0 ∷ []
+
+abbrev wide-step : List ℕ
+wide-step = 0x70 ∷ 0x00 ∷ 0x80 ∷ 0x00 ∷ 0xff ∷ 0xff ∷ 0x80 ∷ 0x1f ∷ 0x40 ∷ []
+
+abbrev wide-outfall : List ℕ
+wide-outfall = 0x80 ∷ 0x00 ∷ 0x80 ∷ 0x00 ∷ 0xff ∷ 0xff ∷ 0x80 ∷ 0x1f ∷ 0x40 ∷ 0x08 ∷ 0x00 ∷ 0x00 ∷ 0x00 ∷ 0x00 ∷ []
+
+pub wide-mesh-written : meshRecord 5 (meshOf 1 0 (65535 ∷ []) [] [] [] []) ≡ wide-mesh
+unfolding everything
+wide-mesh-written = refl
+
+pub wide-mesh-is-read : meshRead 1023 2046 wide-mesh 1 0 0 0 0 ≡ accepted (record { cells = 1; faces = 0; width = Wide })
+unfolding everything
+wide-mesh-is-read = refl
+
+pub wide-volume-is-read : volumesIn wide-mesh ≡ 65535 ∷ []
+unfolding everything
+wide-volume-is-read = refl
+
+pub wide-field-written : fieldRecord 6 1 (65535000000 ∷ []) ≡ wide-field
+unfolding everything
+wide-field-written = refl
+
+pub wide-field-is-read : fieldRead Wide 1 wide-field 1 ≡ fine
+unfolding everything
+wide-field-is-read = refl
+
+pub wide-mass-is-read : massesIn wide-field 1 ≡ 65535000000 ∷ []
+unfolding everything
+wide-mass-is-read = refl
+
+pub wide-step-written : stepRecord 7 1 1 (4095 ∷ []) (negsuc 65534 ∷ []) (1000 ∷ []) (0 ∷ []) ≡ wide-step
+unfolding everything
+wide-step-written = refl
+
+pub wide-step-is-read : stepRead Wide 1 1 (4095 ∷ []) wide-step 1 1 1 ≡ accepted 7
+unfolding everything
+wide-step-is-read = refl
+
+pub wide-outfall-written : stepRecord 8 1 1 (4095 ∷ []) (negsuc 65534 ∷ []) (1000 ∷ []) (4294967296 ∷ []) ≡ wide-outfall
+unfolding everything
+wide-outfall-written = refl
+
+pub wide-outfall-is-read : stepRead Wide 1 1 (4095 ∷ []) wide-outfall 1 1 1 ≡ accepted 8
+unfolding everything
+wide-outfall-is-read = refl
+
+pub wide-release-is-read : releasesIn wide-outfall 1 1 (4095 ∷ []) ≡ 4294967296 ∷ []
+unfolding everything
+wide-release-is-read = refl
+
+-- S-10: a record of the other width is another kind
+pub narrow-field-after-wide : fieldRead Wide 1 field 1 ≡ refused 13 0
+unfolding everything
+narrow-field-after-wide = refl
+
+pub wide-step-after-narrow : stepRead Narrow 1 1 (4095 ∷ []) wide-step 1 1 1 ≡ refused 13 0
+unfolding everything
+wide-step-after-narrow = refl
+
+-- S-10, 18 of a writer: in kind 7 a release of 1, in kind 8 one of 2^40
+pub release-in-wide-water : releasesFit 7 2 (0 ∷ 1 ∷ []) ≡ refused 18 1
+unfolding everything
+release-in-wide-water = refl
+
+pub largest-wide-release : releasesFit 8 2 (1099511627775 ∷ 1099511627776 ∷ []) ≡ refused 18 1
+unfolding everything
+largest-wide-release = refl
 
 -- 18 of a writer: in kind 3 a release of 1, in kind 4 one of 2^32
 pub release-in-water : releasesFit 3 2 (0 ∷ 1 ∷ []) ≡ refused 18 1
@@ -112,7 +188,7 @@ pub another-kind : meshRead 1023 2046 (0x20 ∷ 0x01 ∷ 0x00 ∷ 0x00 ∷ 0x06 
 unfolding everything
 another-kind = refl
 
-pub another-count : fieldRead 2 field 2 ≡ refused 13 1
+pub another-count : fieldRead Narrow 2 field 2 ≡ refused 13 1
 unfolding everything
 another-count = refl
 
@@ -139,20 +215,20 @@ pub no-table : meshRead 1023 2046 (0x10 ∷ 0x01 ∷ 0x00 ∷ 0x01 ∷ 0x06 ∷ 
 unfolding everything
 no-table = refl
 
-pub no-seconds : stepRead 1 1 [] (0x30 ∷ 0x00 ∷ 0x80 ∷ 0x00 ∷ []) 1 1 1 ≡ refused 2 2
+pub no-seconds : stepRead Narrow 1 1 [] (0x30 ∷ 0x00 ∷ 0x80 ∷ 0x00 ∷ []) 1 1 1 ≡ refused 2 2
 unfolding everything
 no-seconds = refl
 
 -- S-6: kind 5; 1 before the length, of cells too; and a short table of releases, in kind 3 too
-pub kind-five : stepRead 1 0 [] (0x50 ∷ 0x00 ∷ 0x00 ∷ 0x00 ∷ []) 0 0 1 ≡ refused 13 0
+pub kind-five : stepRead Narrow 1 0 [] (0x50 ∷ 0x00 ∷ 0x00 ∷ 0x00 ∷ []) 0 0 1 ≡ refused 13 0
 unfolding everything
 kind-five = refl
 
-pub step-no-cells : stepRead 0 0 [] (0x40 ∷ 0x00 ∷ 0x00 ∷ 0x00 ∷ 0x00 ∷ []) 0 0 0 ≡ refused 1 0
+pub step-no-cells : stepRead Narrow 0 0 [] (0x40 ∷ 0x00 ∷ 0x00 ∷ 0x00 ∷ 0x00 ∷ []) 0 0 0 ≡ refused 1 0
 unfolding everything
 step-no-cells = refl
 
-pub no-releases : stepRead 1 0 [] (0x30 ∷ 0x00 ∷ 0x00 ∷ 0x00 ∷ []) 0 0 0 ≡ refused 2 14
+pub no-releases : stepRead Narrow 1 0 [] (0x30 ∷ 0x00 ∷ 0x00 ∷ 0x00 ∷ []) 0 0 0 ≡ refused 2 14
 unfolding everything
 no-releases = refl
 
@@ -165,6 +241,6 @@ pub padding-bit : meshRead 1023 2046 (0x10 ∷ 0x01 ∷ 0x00 ∷ 0x00 ∷ 0x06 �
 unfolding everything
 padding-bit = refl
 
-pub minus-bit : stepRead 1 1 (0 ∷ []) (0x30 ∷ 0x00 ∷ 0x80 ∷ 0x00 ∷ 0x80 ∷ 0x00 ∷ []) 1 1 1 ≡ refused 12 32
+pub minus-bit : stepRead Narrow 1 1 (0 ∷ []) (0x30 ∷ 0x00 ∷ 0x80 ∷ 0x00 ∷ 0x80 ∷ 0x00 ∷ []) 1 1 1 ≡ refused 12 32
 unfolding everything
 minus-bit = refl

@@ -11,10 +11,11 @@ use Rattle.model.specs.Answers.{told}
 use Rattle.model.specs.declared.Refusal.{Refusal}
 use Rattle.model.proofs.Verdicts.{both-fine, need-fine, past, andThen-assoc}
 use Rattle.model.proofs.Accepted.{counted, mesh-lent, field-lent}
-use Rattle.heads.specs.Layouts.{kindNumber, stepLength}
+use Rattle.heads.specs.Layouts.{meshKind, fieldKind, kindNumber, stepLength}
+use Rattle.heads.specs.declared.Width.{Width}
 use Rattle.heads.specs.declared.StepKind.{StepKind}
 use Rattle.writing.specs.declared.WriteAnswer.the-variants as write
-use Rattle.writing.specs.Writing.{releasesFit, meshWriteVerdict, fieldWriteVerdict, stepWriteVerdict, Writing}
+use Rattle.writing.specs.Writing.{mostOf, releasesFit, meshWriteVerdict, fieldWriteVerdict, stepWriteVerdict, Writing}
 use Rattle.putting.specs.Putting.{MeshWhole, FieldWhole, StepWhole, Wrote}
 use Rattle.writing.proofs.WidthLaws.{mesh-fits, masses-fit, field-fits, outsides-fit, step-fits}
 
@@ -33,6 +34,10 @@ module _ {v : Verdict} {n : ℕ} {written bytes : List ℕ} where
 pub bytes-said : {v : Verdict} {n m : ℕ} (room : ℕ) → v ≡ bytesLong n room → n ≡ m → v ≡ bytesLong m room
 bytes-said room e d = rw d at e
 
+-- a test of the mesh's values, where the ceiling was reckoned
+pub values-said : {v : Verdict} (M : Mesh) {n m : ℕ} → n ≡ m → v ≡ meshValues n M → v ≡ meshValues m M
+values-said M d e = rw d at e
+
 -- two tests after one that is fine
 pub past-first : {u : Verdict} (v w : Verdict) → u ≡ fine → (u andThen v andThen w) ≡ (v andThen w)
 past-first v w e = rw (past v e)
@@ -45,9 +50,9 @@ water-long n a b m r w e =
     (leb-true _ _ (need-fine 2 6 _ (p .0)), leb-true _ _ (need-fine 2 7 _ (p .1)), leb-true _ _ (need-fine 2 14 _ (o .1)))
 
 -- what a record that is put has passed
-pub mesh-whole : (M : Mesh) {bs : List ℕ} → meshWriteVerdict M (length bs) ≡ fine → MeshWhole M bs
+pub mesh-whole : (w : Width) (M : Mesh) {bs : List ℕ} → meshWriteVerdict w M (length bs) ≡ fine → MeshWhole (meshKind w) M bs
 unfolding meshWriteVerdict
-mesh-whole M e =
+mesh-whole w M e =
     let a = both-fine _ _ e in
     let b = both-fine _ _ (a .0) in
     let d = both-fine _ _ (b .0) in
@@ -56,13 +61,13 @@ mesh-whole M e =
       few-cells = n .few-cells;
       few-faces = n .few-faces;
       lent = mesh-lent M (d .1);
-      fits = mesh-fits M (d .0) (a .1);
+      fits = mesh-fits w M (d .0) (a .1);
       enough = leb-true _ _ (need-fine 2 11 _ (b .1));
     }
 
-pub field-whole : (M : Mesh) (masses : List ℕ) {bs : List ℕ} → fieldWriteVerdict M masses (length bs) ≡ fine → FieldWhole (M .cells) masses bs
+pub field-whole : (w : Width) (M : Mesh) (masses : List ℕ) {bs : List ℕ} → fieldWriteVerdict w M masses (length bs) ≡ fine → FieldWhole (fieldKind w) (M .cells) masses bs
 unfolding fieldWriteVerdict
-field-whole M masses e =
+field-whole w M masses e =
     let a = both-fine _ _ e in
     let b = both-fine _ _ (a .0) in
     let d = both-fine _ _ (b .0) in
@@ -71,13 +76,13 @@ field-whole M masses e =
     record {
       few-cells = n .few-cells;
       masses-long = field-lent M masses (f .1);
-      fits = field-fits (M .cells) masses (n .few-cells) (masses-fit M (b .1) masses (a .1));
+      fits = field-fits w (M .cells) masses (n .few-cells) (masses-fit w M (b .1) masses (a .1));
       enough = leb-true _ _ (need-fine 2 11 _ (d .1));
     }
 
-module _ (M : Mesh) (kind : StepKind) (fluxes : List ℤ) (outsides releases : List ℕ) where
-  pub step-whole : {bs : List ℕ} → stepWriteVerdict M (kindNumber kind) fluxes outsides releases (length bs) ≡ fine
-      → StepWhole (kindNumber kind) (M .cells) (M .faces) (M .seconds) fluxes outsides releases bs
+module _ (w : Width) (M : Mesh) (kind : StepKind) (fluxes : List ℤ) (outsides releases : List ℕ) where
+  pub step-whole : {bs : List ℕ} → stepWriteVerdict w M (kindNumber w kind) fluxes outsides releases (length bs) ≡ fine
+      → StepWhole (kindNumber w kind) (M .cells) (M .faces) (M .seconds) fluxes outsides releases bs
   unfolding stepWriteVerdict
   step-whole e =
       let a = both-fine _ _ e in
@@ -98,13 +103,13 @@ module _ (M : Mesh) (kind : StepKind) (fluxes : List ℤ) (outsides releases : L
         fluxes-long = leb-true _ _ (need-fine 2 6 _ (h .1));
         outsides-long = leb-true _ _ (need-fine 2 7 _ (g .1));
         releases-long = leb-true _ _ (need-fine 2 14 _ (o .1));
-        fits = step-fits M (d .1) [] k (b .1) (a .1) kind (c .1) (n .few-faces);
-        outsides-fit = outsides-fit M (d .1) [] k (b .1) (a .1);
+        fits = step-fits w M (d .1) [] k (b .1) (a .1) kind (c .1) (n .few-faces);
+        outsides-fit = outsides-fit w M (d .1) [] k (b .1) (a .1);
         enough = leb-true _ _ (need-fine 2 11 _ (f .1));
       }
 
 -- the causes of a step as the writer tests them: those that rest on nothing together
-module _ (M : Mesh) (kind : ℕ) (fluxes : List ℤ) (outsides releases : List ℕ) where
+module _ (w : Width) (M : Mesh) (kind : ℕ) (fluxes : List ℤ) (outsides releases : List ℕ) where
   abbrev K : Call
   K = waterOf fluxes outsides releases
 
@@ -112,12 +117,12 @@ module _ (M : Mesh) (kind : ℕ) (fluxes : List ℤ) (outsides releases : List �
       ≡ (u andThen (p andThen q andThen r andThen o) andThen (m andThen x andThen (s andThen t)))
   regroup u p q r o m x s t = simp andThen-assoc
 
-  pub step-groups : (room : ℕ) → stepWriteVerdict M kind fluxes outsides releases room ≡ (counts M andThen meshTables M
+  pub step-groups : (room : ℕ) → stepWriteVerdict w M kind fluxes outsides releases room ≡ (counts M andThen meshTables M
       andThen (long 6 (M .faces) (length fluxes) andThen long 7 (M .faces) (length outsides)
       andThen bytesLong (stepLength kind (M .cells) (M .faces) (M .seconds)) room andThen long 14 (M .cells) (length releases))
-      andThen (meshValues M andThen releasesFit kind (M .cells) releases
-      andThen (each 7 (M .faces) (outsideGood M [] K) andThen each 8 (M .faces) (fluxGood M [] K))))
+      andThen (meshValues (mostOf w) M andThen releasesFit kind (M .cells) releases
+      andThen (each 7 (M .faces) (outsideGood M [] K) andThen each 8 (M .faces) (fluxGood (mostOf w) M [] K))))
   unfolding stepWriteVerdict
   step-groups room = regroup (counts M andThen meshTables M) (long 6 (M .faces) (length fluxes)) (long 7 (M .faces) (length outsides))
       (bytesLong (stepLength kind (M .cells) (M .faces) (M .seconds)) room) (long 14 (M .cells) (length releases))
-      (meshValues M) (releasesFit kind (M .cells) releases) (each 7 (M .faces) (outsideGood M [] K)) (each 8 (M .faces) (fluxGood M [] K))
+      (meshValues (mostOf w) M) (releasesFit kind (M .cells) releases) (each 7 (M .faces) (outsideGood M [] K)) (each 8 (M .faces) (fluxGood (mostOf w) M [] K))

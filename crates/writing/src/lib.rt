@@ -3,6 +3,7 @@ mod refusals;
 mod releases;
 
 use heads::StepKind;
+use heads::Width;
 use model::Answer;
 use model::Refusal;
 ghost use Rattle.model.specs.Mesh.{meshOf};
@@ -17,6 +18,7 @@ pub enum WriteAnswer {
 
 // The record of a mesh.
 pub fn write_mesh(
+    width: Width,
     cells: usize,
     faces: usize,
     volumes: &[u64],
@@ -26,11 +28,12 @@ pub fn write_mesh(
     reaches: &[u64],
     bytes: &mut [u8],
 ) -> WriteAnswer
-    ensures { λ r. ⌜ MeshWriting
+    ensures { λ r. ⌜ MeshWriting width
         (meshOf cells faces (now (volumes .entry)) (now (firsts .entry)) (now (seconds .entry)) (now (shares .entry)) (now (reaches .entry)))
         (now (bytes .entry)) r (now (bytes .exit)) ⌝ }
 {
     let a = refusals::mesh(
+        width,
         cells,
         faces,
         volumes,
@@ -44,6 +47,7 @@ pub fn write_mesh(
         return WriteAnswer::Refused(r);
     }
     let length = putting::mesh(
+        width,
         cells,
         faces,
         volumes,
@@ -58,6 +62,7 @@ pub fn write_mesh(
 
 // The record of a field. The mesh is lent for the causes alone.
 pub fn write_field(
+    width: Width,
     cells: usize,
     faces: usize,
     volumes: &[u64],
@@ -68,11 +73,12 @@ pub fn write_field(
     masses: &[u64],
     bytes: &mut [u8],
 ) -> WriteAnswer
-    ensures { λ r. ⌜ FieldWriting
+    ensures { λ r. ⌜ FieldWriting width
         (meshOf cells faces (now (volumes .entry)) (now (firsts .entry)) (now (seconds .entry)) (now (shares .entry)) (now (reaches .entry)))
         (now (masses .entry)) (now (bytes .entry)) r (now (bytes .exit)) ⌝ }
 {
     let a = refusals::field(
+        width,
         cells,
         faces,
         volumes,
@@ -86,12 +92,13 @@ pub fn write_field(
     if let Answer::Refused(r) = a {
         return WriteAnswer::Refused(r);
     }
-    let length = putting::field(cells, masses, bytes);
+    let length = putting::field(width, cells, masses, bytes);
     WriteAnswer::Written(length as u64)
 }
 
 // The record of a step, of the kind that the writer is told. The kind without outfalls holds no release but 0.
 pub fn write_step(
+    width: Width,
     kind: StepKind,
     cells: usize,
     faces: usize,
@@ -105,11 +112,12 @@ pub fn write_step(
     bytes: &mut [u8],
     releases: &[u64],
 ) -> WriteAnswer
-    ensures { λ r. ⌜ StepWriting
+    ensures { λ r. ⌜ StepWriting width
         (meshOf cells faces (now (volumes .entry)) (now (firsts .entry)) (now (seconds .entry)) (now (shares .entry)) (now (reaches .entry)))
-        (kindNumber kind) (now (fluxes .entry)) (now (outsides .entry)) (now (releases .entry)) (now (bytes .entry)) r (now (bytes .exit)) ⌝ }
+        (kindNumber width kind) (now (fluxes .entry)) (now (outsides .entry)) (now (releases .entry)) (now (bytes .entry)) r (now (bytes .exit)) ⌝ }
 {
     let a = refusals::step(
+        width,
         kind,
         cells,
         faces,
@@ -127,6 +135,7 @@ pub fn write_step(
         return WriteAnswer::Refused(r);
     }
     let length = putting::step(
+        width,
         kind,
         cells,
         faces,

@@ -4,6 +4,7 @@ use mathlib.Core.Path.{_≡_, refl, sym, _∙_}
 use mathlib.Core.Logic.{_⊎_, inl, inr}
 use mathlib.Core.Bool.{Bool, true, false, not, _&&_, _||_, and-false, true≢false}
 use mathlib.Core.List.{List}
+use native.Mathlib.Nat.{mul-le-mul-right, mul-mod-left, suc-mul, div-add-mod'}
 use native.Mathlib.Omega.{arith}
 use native.Mathlib.Decide.{decLt}
 use borrow.Author.Tests.{lt-ltb, le-ltb, le-leb, lt-leb}
@@ -15,7 +16,7 @@ use Rattle.bits.specs.Field.{bitAt, bitsAt}
 use Rattle.bits.proofs.Fields.{bit-lt, one-bit, zero-bits}
 use Rattle.bits.specs.Layout.{Field, widthOf, packed}
 use Rattle.bits.proofs.Layouts.{packed-pad}
-use Rattle.heads.specs.Layouts.{signBits, sizeBits, stepHeadBits, fluxBits, stepZeroBits}
+use Rattle.heads.specs.Layouts.{signBits, stepHeadBits, stepZeroBits}
 use Rattle.zeros.specs.Zeros.{zeroBitGood, minusZero}
 use Rattle.zeros.specs.Scans.{FirstSet, FirstMinus}
 
@@ -132,47 +133,63 @@ zeros-good fs z h e k m width zeros i = go (decLt i (h - z)) (decLt i h) (decLt 
     go (no a) (no b) (yes l) = bit-used (packed fs) z h e i (inr (omega arith)) l
     go (no a) (no b) (no c) = bit-clear (packed fs) z h e i (packed-pad fs i (omega arith))
 
+-- of two multiples the lesser has the lesser factor
+lt-of-mul-lt-mul-right : (b f n : ℕ) → f * b < n * b → f < n
+lt-of-mul-lt-mul-right b f n h = go (decLt f n)
+  where
+    go : Dec (f < n) → f < n
+    go (yes l) = l
+    go (no g) = let k : n ≤ f = omega arith in absurd (omega (arith, h, mul-le-mul-right b k))
+
+-- a face among so many, of b bits each, stands within the record
+pub face-room : (b f faces n : ℕ) → f < faces → stepHeadBits + faces * b ≤ n → stepHeadBits + f * b + b ≤ n
+face-room b f faces n l h = omega (arith, mul-le-mul-right b l, suc-mul f b)
+
 -- the minus of size 0
-pub minus-at : (bs : List ℕ) (faces f : ℕ) → f < faces
-    → minusZero bs faces (stepHeadBits + f * fluxBits) ≡ (eqb (bitsAt bs (stepHeadBits + f * fluxBits) signBits) 1 && eqb (bitsAt bs (stepHeadBits + f * fluxBits + signBits) sizeBits) 0)
+pub minus-at : (bs : List ℕ) (value faces f : ℕ) → f < faces
+    → minusZero bs value faces (stepHeadBits + f * (signBits + value)) ≡ (eqb (bitsAt bs (stepHeadBits + f * (signBits + value)) signBits) 1 && eqb (bitsAt bs (stepHeadBits + f * (signBits + value) + signBits) value) 0)
 unfolding minusZero
-minus-at bs faces f l =
-    let i : ℕ = stepHeadBits + f * fluxBits in
-    let m : (i - stepHeadBits) % fluxBits ≡ 0 = omega arith in
-    rw (le-leb stepHeadBits i (omega arith), lt-ltb i (stepHeadBits + faces * fluxBits) (omega arith), m)
+minus-at bs value faces f l =
+    let i : ℕ = stepHeadBits + f * (signBits + value) in
+    let k : i - stepHeadBits ≡ f * (signBits + value) = omega arith in
+    let m : (i - stepHeadBits) % (signBits + value) ≡ 0 = rw k (mul-mod-left f (signBits + value)) in
+    let n : suc f * (signBits + value) ≤ faces * (signBits + value) = mul-le-mul-right (signBits + value) l in
+    rw (le-leb stepHeadBits i (omega arith), lt-ltb i (stepHeadBits + faces * (signBits + value)) (omega (arith, n, suc-mul f (signBits + value))), m)
 
 -- away from the signs of the faces passed there is none
-module _ (bs : List ℕ) (faces r : ℕ) (plain : (f : ℕ) → f < r → minusZero bs faces (stepHeadBits + f * fluxBits) ≡ false) where
-  pub no-minus : (i : ℕ) → (i < stepHeadBits + r * fluxBits) ⊎ (stepHeadBits + faces * fluxBits ≤ i) → minusZero bs faces i ≡ false
+module _ (bs : List ℕ) (value faces r : ℕ) (plain : (f : ℕ) → f < r → minusZero bs value faces (stepHeadBits + f * (signBits + value)) ≡ false) where
+  pub no-minus : (i : ℕ) → (i < stepHeadBits + r * (signBits + value)) ⊎ (stepHeadBits + faces * (signBits + value) ≤ i) → minusZero bs value faces i ≡ false
   unfolding minusZero
-  no-minus i where-it-is = go (leb stepHeadBits i) (fits? stepHeadBits i) (ltb i (stepHeadBits + faces * fluxBits)) (fits? _ _) (eqb ((i - stepHeadBits) % fluxBits) 0) (same? _ _) where-it-is
+  no-minus i where-it-is = go (leb stepHeadBits i) (fits? stepHeadBits i) (ltb i (stepHeadBits + faces * (signBits + value))) (fits? _ _) (eqb ((i - stepHeadBits) % (signBits + value)) 0) (same? _ _) where-it-is
     where
-      go : (a : Bool) → Fits stepHeadBits i a → (b : Bool) → Fits (suc i) (stepHeadBits + faces * fluxBits) b → (d : Bool) → Same ((i - stepHeadBits) % fluxBits) 0 d
-          → (i < stepHeadBits + r * fluxBits) ⊎ (stepHeadBits + faces * fluxBits ≤ i)
-          → (a && b && d && eqb (bitsAt bs i signBits) 1 && eqb (bitsAt bs (i + signBits) sizeBits) 0) ≡ false
+      go : (a : Bool) → Fits stepHeadBits i a → (b : Bool) → Fits (suc i) (stepHeadBits + faces * (signBits + value)) b → (d : Bool) → Same ((i - stepHeadBits) % (signBits + value)) 0 d
+          → (i < stepHeadBits + r * (signBits + value)) ⊎ (stepHeadBits + faces * (signBits + value) ≤ i)
+          → (a && b && d && eqb (bitsAt bs i signBits) 1 && eqb (bitsAt bs (i + signBits) value) 0) ≡ false
       go false x b y d w q = refl
       go true x false y d w q = refl
       go true x true y false w q = refl
       go true (fits x) true (fits y) true (same w) (inr q) = absurd (omega arith)
       go true (fits x) true (fits y) true (same w) (inl q) =
-          let f : ℕ = (i - stepHeadBits) / fluxBits in
-          let e : stepHeadBits + f * fluxBits ≡ i = omega arith in
-          let p = sym (minus-at bs faces f (omega arith)) ∙ plain f (omega arith) in
+          let f : ℕ = (i - stepHeadBits) / (signBits + value) in
+          let e : stepHeadBits + f * (signBits + value) ≡ i = omega (arith, div-add-mod' (i - stepHeadBits) (signBits + value)) in
+          let below : (n : ℕ) → i < stepHeadBits + n * (signBits + value) → f < n =
+          λ n l. lt-of-mul-lt-mul-right (signBits + value) f n (omega (arith, e)) in
+          let p = sym (minus-at bs value faces f (below faces (omega arith))) ∙ plain f (below r q) in
           rw e at p
 
 -- the rule of a step
-module _ (bs : List ℕ) (faces e : ℕ) (l : stepHeadBits + faces * fluxBits ≤ e) where
-  past-signs : (i : ℕ) → (i < stepHeadBits) ⊎ (stepHeadBits + faces * fluxBits ≤ i) → minusZero bs faces i ≡ false
-  past-signs i (inl m) = no-minus bs faces 0 (λ f k. absurd (omega arith)) i (inl (omega arith))
-  past-signs i (inr m) = no-minus bs faces 0 (λ f k. absurd (omega arith)) i (inr m)
+module _ (bs : List ℕ) (value faces e : ℕ) (l : stepHeadBits + faces * (signBits + value) ≤ e) where
+  past-signs : (i : ℕ) → (i < stepHeadBits) ⊎ (stepHeadBits + faces * (signBits + value) ≤ i) → minusZero bs value faces i ≡ false
+  past-signs i (inl m) = no-minus bs value faces 0 (λ f k. absurd (omega arith)) i (inl (omega arith))
+  past-signs i (inr m) = no-minus bs value faces 0 (λ f k. absurd (omega arith)) i (inr m)
 
-  both : (i : ℕ) → zeroBitGood bs stepZeroBits stepHeadBits e i ≡ true → minusZero bs faces i ≡ false → (zeroBitGood bs stepZeroBits stepHeadBits e i && not (minusZero bs faces i)) ≡ true
+  both : (i : ℕ) → zeroBitGood bs stepZeroBits stepHeadBits e i ≡ true → minusZero bs value faces i ≡ false → (zeroBitGood bs stepZeroBits stepHeadBits e i && not (minusZero bs value faces i)) ≡ true
   both i p q = rw (p, q)
 
-  zero : (i : ℕ) → zeroBitGood bs stepZeroBits stepHeadBits e i ≡ false → (zeroBitGood bs stepZeroBits stepHeadBits e i && not (minusZero bs faces i)) ≡ false
+  zero : (i : ℕ) → zeroBitGood bs stepZeroBits stepHeadBits e i ≡ false → (zeroBitGood bs stepZeroBits stepHeadBits e i && not (minusZero bs value faces i)) ≡ false
   zero i p = rw p
 
-  pub step-ruled : Ruled bs stepZeroBits stepHeadBits e (λ i. zeroBitGood bs stepZeroBits stepHeadBits e i && not (minusZero bs faces i))
+  pub step-ruled : Ruled bs stepZeroBits stepHeadBits e (λ i. zeroBitGood bs stepZeroBits stepHeadBits e i && not (minusZero bs value faces i))
   step-ruled =
       let r = zeros-ruled bs stepZeroBits stepHeadBits e (omega arith) in
       record {
@@ -184,16 +201,16 @@ module _ (bs : List ℕ) (faces e : ℕ) (l : stepHeadBits + faces * fluxBits �
       }
 
   -- up to the first minus of size 0 the fields are good, and at its sign they are not
-  pub fluxes-good : {r : ℕ} → FirstMinus bs faces r → (j : ℕ) → stepHeadBits ≤ j → j < stepHeadBits + r * fluxBits → (zeroBitGood bs stepZeroBits stepHeadBits e j && not (minusZero bs faces j)) ≡ true
-  fluxes-good {r} m j h k = both j (bit-used bs stepZeroBits stepHeadBits e j (inr h) (omega (arith, m .end))) (no-minus bs faces r (m .plain) j (inl k))
+  pub fluxes-good : {r : ℕ} → FirstMinus bs value faces r → (j : ℕ) → stepHeadBits ≤ j → j < stepHeadBits + r * (signBits + value) → (zeroBitGood bs stepZeroBits stepHeadBits e j && not (minusZero bs value faces j)) ≡ true
+  fluxes-good {r} m j h k = both j (bit-used bs stepZeroBits stepHeadBits e j (inr h) (omega (arith, mul-le-mul-right (signBits + value) (m .end)))) (no-minus bs value faces r (m .plain) j (inl k))
 
-  pub sign-bad : {r : ℕ} → FirstMinus bs faces r → r < faces
-      → (zeroBitGood bs stepZeroBits stepHeadBits e (stepHeadBits + r * fluxBits) && not (minusZero bs faces (stepHeadBits + r * fluxBits))) ≡ false
-  sign-bad {r} m k = rw (m .minus k) (and-false (zeroBitGood bs stepZeroBits stepHeadBits e (stepHeadBits + r * fluxBits)))
+  pub sign-bad : {r : ℕ} → FirstMinus bs value faces r → r < faces
+      → (zeroBitGood bs stepZeroBits stepHeadBits e (stepHeadBits + r * (signBits + value)) && not (minusZero bs value faces (stepHeadBits + r * (signBits + value)))) ≡ false
+  sign-bad {r} m k = rw (m .minus k) (and-false (zeroBitGood bs stepZeroBits stepHeadBits e (stepHeadBits + r * (signBits + value))))
 
-  pub all-good : {r : ℕ} → FirstMinus bs faces r → faces ≤ r → (j : ℕ) → stepHeadBits ≤ j → j < e → (zeroBitGood bs stepZeroBits stepHeadBits e j && not (minusZero bs faces j)) ≡ true
-  all-good {r} m k j h n = both j (bit-used bs stepZeroBits stepHeadBits e j (inr h) n) (no-minus bs faces r (m .plain) j (either (decLt j (stepHeadBits + faces * fluxBits))))
+  pub all-good : {r : ℕ} → FirstMinus bs value faces r → faces ≤ r → (j : ℕ) → stepHeadBits ≤ j → j < e → (zeroBitGood bs stepZeroBits stepHeadBits e j && not (minusZero bs value faces j)) ≡ true
+  all-good {r} m k j h n = both j (bit-used bs stepZeroBits stepHeadBits e j (inr h) n) (no-minus bs value faces r (m .plain) j (either (decLt j (stepHeadBits + faces * (signBits + value)))))
     where
-      either : Dec (j < stepHeadBits + faces * fluxBits) → (j < stepHeadBits + r * fluxBits) ⊎ (stepHeadBits + faces * fluxBits ≤ j)
-      either (yes q) = inl (omega arith)
+      either : Dec (j < stepHeadBits + faces * (signBits + value)) → (j < stepHeadBits + r * (signBits + value)) ⊎ (stepHeadBits + faces * (signBits + value) ≤ j)
+      either (yes q) = inl (omega (arith, mul-le-mul-right (signBits + value) k))
       either (no f) = inr (omega arith)

@@ -4,7 +4,7 @@ use mathlib.Core.Bool.{true, false}
 use mathlib.Core.List.{List}
 use Prim.Native.Nat.{ℕ, _+_, _*_, _≤_, _<_}
 use Rattle.bits.specs.Field.{bitAt}
-use Rattle.heads.specs.Layouts.{stepHeadBits, fluxBits}
+use Rattle.heads.specs.Layouts.{stepHeadBits, signBits}
 use Rattle.zeros.specs.Zeros.{minusZero}
 
 -- r is the first bit set from `from` on, or `to`
@@ -15,7 +15,7 @@ pub record FirstSet (bs : List ℕ) (from to r : ℕ) : Type 0 where
   pub set : r < to → bitAt bs r ≡ 1
 
 -- r is the first face with a minus and size 0, or `faces`
-pub record FirstMinus (bs : List ℕ) (faces r : ℕ) : Type 0 where
+pub record FirstMinus (bs : List ℕ) (value faces r : ℕ) : Type 0 where
   pub end : r ≤ faces
-  pub plain : (f : ℕ) → f < r → minusZero bs faces (stepHeadBits + f * fluxBits) ≡ false
-  pub minus : r < faces → minusZero bs faces (stepHeadBits + r * fluxBits) ≡ true
+  pub plain : (f : ℕ) → f < r → minusZero bs value faces (stepHeadBits + f * (signBits + value)) ≡ false
+  pub minus : r < faces → minusZero bs value faces (stepHeadBits + r * (signBits + value)) ≡ true

@@ -12,7 +12,7 @@ ghost use lib.Dec.{eqb};
 ghost use Rattle.model.specs.Causes.{each, refused as refusedAs};
 ghost use Rattle.model.specs.Answers.{said};
 ghost use Rattle.bits.specs.Field.{bitsAt};
-ghost use Rattle.heads.specs.Layouts.{meshZeroBits, stepZeroBits, meshHeadBits, stepHeadBits, fluxBits, signBits, sizeBits};
+ghost use Rattle.heads.specs.Layouts.{meshZeroBits, stepZeroBits, meshHeadBits, stepHeadBits, signBits};
 ghost use Rattle.zeros.specs.Zeros.{zeroBitGood, minusZero};
 ghost use Rattle.zeros.specs.Scans.{FirstSet, FirstMinus};
 
@@ -32,12 +32,12 @@ fn first_set(bytes: &[u8], from: usize, to: usize) -> usize
 }
 
 // Whether the sign at a place is a minus of size 0.
-fn minus_zero(bytes: &[u8], at: usize) -> bool
-    requires { ⌜ (at + fluxBits ≤ 8 * length (now bytes)) × (at + fluxBits < 2 ^ 64) ⌝ }
-    ensures { λ r. ⌜ r ≡ (eqb (bitsAt (now (bytes .entry)) at signBits) 1 && eqb (bitsAt (now (bytes .entry)) (at + signBits) sizeBits) 0) ⌝ }
+fn minus_zero(bytes: &[u8], at: usize, value: usize) -> bool
+    requires { ⌜ (at + signBits + value ≤ 8 * length (now bytes)) × (at + signBits + value < 2 ^ 64) × (value ≤ 40) ⌝ }
+    ensures { λ r. ⌜ r ≡ (eqb (bitsAt (now (bytes .entry)) at signBits) 1 && eqb (bitsAt (now (bytes .entry)) (at + signBits) value) 0) ⌝ }
 {
     let sign = bits::read_bits(bytes, at, Body::SIGN);
-    let size = bits::read_bits(bytes, at + Body::SIGN, Body::SIZE);
+    let size = bits::read_bits(bytes, at + Body::SIGN, value);
     if sign == 1 {
         return size == 0;
     }
@@ -45,13 +45,14 @@ fn minus_zero(bytes: &[u8], at: usize) -> bool
 }
 
 // The first face with a minus and size 0, or `faces`.
-fn first_minus(bytes: &[u8], faces: usize) -> usize
-    requires { ⌜ (stepHeadBits + faces * fluxBits ≤ 8 * length (now bytes)) × (8 * length (now bytes) < 2 ^ 64) ⌝ }
-    ensures { λ r. ⌜ FirstMinus (now (bytes .entry)) faces r ⌝ }
+fn first_minus(bytes: &[u8], faces: usize, value: usize) -> usize
+    requires { ⌜ (stepHeadBits + faces * (signBits + value) ≤ 8 * length (now bytes)) × (8 * length (now bytes) < 2 ^ 64) × (value ≤ 40) ⌝ }
+    ensures { λ r. ⌜ FirstMinus (now (bytes .entry)) value faces r ⌝ }
 {
+    let flux = Body::SIGN + value;
     let mut f = 0;
     while f < faces {
-        if minus_zero(bytes, 8 * lengths::STEP_HEAD + f * Body::FLUX) {
+        if minus_zero(bytes, 8 * lengths::STEP_HEAD + f * flux, value) {
             return f;
         }
         f += 1;
@@ -83,18 +84,19 @@ pub fn mesh(bytes: &[u8], end: usize) -> Answer
     Answer::Done
 }
 
-pub fn step(bytes: &[u8], faces: usize, end: usize) -> Answer
-    requires { ⌜ (8 * length (now bytes) < 2 ^ 64) × (stepHeadBits + faces * fluxBits ≤ end) × (end ≤ 8 * length (now bytes)) ⌝ }
-    ensures { λ r. ⌜ said r ≡ each 12 (8 * length (now (bytes .entry))) (λ i. zeroBitGood (now (bytes .entry)) stepZeroBits stepHeadBits end i && not (minusZero (now (bytes .entry)) faces i)) ⌝ }
+// A size has so many bits.
+pub fn step(bytes: &[u8], faces: usize, end: usize, value: usize) -> Answer
+    requires { ⌜ (8 * length (now bytes) < 2 ^ 64) × (stepHeadBits + faces * (signBits + value) ≤ end) × (end ≤ 8 * length (now bytes)) × (value ≤ 40) ⌝ }
+    ensures { λ r. ⌜ said r ≡ each 12 (8 * length (now (bytes .entry))) (λ i. zeroBitGood (now (bytes .entry)) stepZeroBits stepHeadBits end i && not (minusZero (now (bytes .entry)) value faces i)) ⌝ }
 {
     let head = 8 * lengths::STEP_HEAD;
     let a = first_set(bytes, head - heads::STEP_ZEROS, head);
     if a < head {
         return refused(a);
     }
-    let m = first_minus(bytes, faces);
+    let m = first_minus(bytes, faces, value);
     if m < faces {
-        return refused(head + m * Body::FLUX);
+        return refused(head + m * (Body::SIGN + value));
     }
     let all = 8 * bytes.len();
     let pad = first_set(bytes, end, all);

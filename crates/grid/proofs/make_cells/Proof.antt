@@ -5,10 +5,10 @@ use Rattle.grid.proofs.make_cells.Statement.{statement}
 use Rattle.grid.proofs.make_cells.Tie as tie
 
 abbrev Inv-loop : tie.InvT-loop
-Inv-loop cells width volumes₀ field₀ c₀ volumes field c = c ≤ cells
+Inv-loop large cells width volumes₀ field₀ c₀ volumes field c = c ≤ cells
 
 abbrev μ-loop : tie.MeasureT-loop
-μ-loop cells width volumes₀ field₀ c₀ volumes field c = cells - c
+μ-loop large cells width volumes₀ field₀ c₀ volumes field c = cells - c
 
 pub make-cells-spec : {M : Type 1} → statement M
 make-cells-spec =

@@ -16,10 +16,10 @@ unfolding fieldHeadVerdict bytesFor
 returns c = sym (refused-at [] (_ ∷ _ ∷ _ ∷ []) tt (refuses (c .before .before .before .need .ensures) (c .before .a .given .1)))
 
 kind-requires : tie.Need-kind-requires
-kind-requires c κs = head-holds 2 (omega arith) (c .before .before .need .ensures) (c .enum-told .given .1)
+kind-requires c κs = let k = c .before in head-holds 2 (omega arith) (k .before .before .need .ensures) (k .enum-told .given .1)
 
 cells-requires : tie.Need-cells-requires
-cells-requires c κs = let k = c .before .before in head-holds 2 (omega arith) (k .before .before .need .ensures) (k .enum-told .given .1)
+cells-requires c κs = let k = c .before .before .before in head-holds 2 (omega arith) (k .before .before .need .ensures) (k .enum-told .given .1)
 
 returns-2 : tie.Need-returns-2
 unfolding fieldHeadVerdict bytesFor _andThen_
@@ -36,10 +36,11 @@ returns-2 c =
       l .before .before .cells .ensures,
       m .need2 .ensures,
       k .kind .ensures,
-      passes (k .before .before .before .need .ensures) (k .before .enum-told .given .1),
+      k .before .of-width .ensures,
+      passes (k .before .before .before .before .need .ensures) (k .before .before .enum-told .given .1),
     )
 
 pub field-spec : {M : Type 1} → statement M
 field-spec =
     tie.close
-    (tie.spec (search needs) (search needs) returns (search needs) kind-requires (search needs) cells-requires (search needs) (search needs) (search needs) (search needs) (search needs) returns-2)
+    (tie.spec (search needs) (search needs) returns (search needs) (search needs) kind-requires (search needs) cells-requires (search needs) (search needs) (search needs) (search needs) (search needs) returns-2)

@@ -11,7 +11,7 @@ unfolding fieldNeeds
 returns c = sym (out _ (refuses (c .before .before .before .field .ensures) (c .before .a .given .1)))
 
 field-bytes-requires : tie.Need-field-bytes-requires
-field-bytes-requires c κs = field-head-says _ _ (passes (c .before .before .field .ensures) (c .enum-told .given .1)) .few-cells
+field-bytes-requires c κs = field-head-says _ _ _ (passes (c .before .before .field .ensures) (c .enum-told .given .1)) .few-cells
 
 returns-2 : tie.Need-returns-2
 unfolding fieldNeeds

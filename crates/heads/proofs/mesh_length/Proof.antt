@@ -3,13 +3,13 @@ use mathlib.Core.Path.{sym}
 use native.Mathlib.Omega.{arith}
 use borrow.Author.Needs.{needs}
 use Rattle.model.proofs.Verdicts.{past, out, refuses, passes}
-use Rattle.heads.specs.Heads.{meshNeeds}
+use Rattle.heads.specs.Heads.{meshMeasured}
 use Rattle.heads.proofs.HeadLaws.{mesh-head-says}
 use Rattle.heads.proofs.mesh_length.Statement.{statement}
 use Rattle.heads.proofs.mesh_length.Tie as tie
 
 returns : tie.Need-returns
-unfolding meshNeeds
+unfolding meshMeasured
 returns c = sym (out _ (refuses (c .before .before .before .mesh .ensures) (c .before .a .given .1)))
 
 cells-requires : tie.Need-cells-requires
@@ -18,17 +18,23 @@ cells-requires c κs = let h = mesh-head-says _ _ _ (passes (c .before .before .
 faces-requires : tie.Need-faces-requires
 faces-requires c κs = let h = mesh-head-says _ _ _ (passes (c .before .before .before .mesh .ensures) (c .before .enum-told .given .1)) in h .long
 
+mesh-width-requires : tie.Need-mesh-width-requires
+mesh-width-requires c κs =
+    let k = c .before .before in
+    let h = mesh-head-says _ _ _ (passes (k .before .before .mesh .ensures) (k .enum-told .given .1)) in
+    (omega (arith, h .long), h .kind)
+
 mesh-bytes-requires : tie.Need-mesh-bytes-requires
 mesh-bytes-requires c κs =
-    let k = c .before .before in
+    let k = c .before .before .before in
     let h = mesh-head-says _ _ _ (passes (k .before .before .mesh .ensures) (k .enum-told .given .1)) in
     omega arith
 
 returns-2 : tie.Need-returns-2
-unfolding meshNeeds
+unfolding meshMeasured
 returns-2 c =
-    let k = c .before .before .before in
-    rw (c .mesh-bytes .ensures, c .before .faces .ensures, c .before .before .cells .ensures) (sym (past _ (passes (k .before .before .mesh .ensures) (k .enum-told .given .1))))
+    let k = c .before .before .before .before in
+    rw (c .mesh-bytes .ensures, c .before .mesh-width .ensures .0, c .before .mesh-width .ensures .1, c .before .before .faces .ensures, c .before .before .before .cells .ensures) (sym (past _ (passes (k .before .before .mesh .ensures) (k .enum-told .given .1))))
 
 pub mesh-length-spec : {M : Type 1} → statement M
-mesh-length-spec = tie.close (tie.spec (search needs) (search needs) returns (search needs) cells-requires faces-requires mesh-bytes-requires returns-2)
+mesh-length-spec = tie.close (tie.spec (search needs) (search needs) returns (search needs) cells-requires faces-requires mesh-width-requires mesh-bytes-requires returns-2)

@@ -14,12 +14,12 @@ returns c = sym (out _ (refuses (c .before .before .before .step .ensures) (c .b
 
 step-kind-requires : tie.Need-step-kind-requires
 step-kind-requires c κs =
-    let h = step-head-says _ _ _ _ (passes (c .before .before .step .ensures) (c .enum-told .given .1)) in
+    let h = step-head-says _ _ _ _ _ (passes (c .before .before .step .ensures) (c .enum-told .given .1)) in
     (omega (arith, h .long), h .kind)
 
 step-bytes-requires : tie.Need-step-bytes-requires
 step-bytes-requires c κs =
-    let h = step-head-says _ _ _ _ (passes (c .before .before .before .step .ensures) (c .before .enum-told .given .1)) in
+    let h = step-head-says _ _ _ _ _ (passes (c .before .before .before .step .ensures) (c .before .enum-told .given .1)) in
     (h .few-cells, h .few-faces, h .lent)
 
 returns-2 : tie.Need-returns-2

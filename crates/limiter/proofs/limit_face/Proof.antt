@@ -1,7 +1,6 @@
 -- Past a face without a correction, the amount is the correction cut as the limiter says, and what was asked of the limited correction holds of it.
 use Prim.Native.Nat.{_*_, _+_, _<_, _≤_, _/_, _%_}
 use mathlib.Core.Path.{_≡_}
-use native.Mathlib.Nat.{mul-le-mul}
 use native.Mathlib.Omega.{arith}
 use borrow.Author.Needs.{needs}
 use borrow.Author.Tests.{ne-eqb}
@@ -44,12 +43,10 @@ cut-requires c κs =
       (
         either-end (λ e. 4 * e + 3 < length (s .args .work .now)) b (p .0) (p .1),
         either-end (λ e. e < maxCells) b (p .2) (p .3),
-        omega (arith, mul-le-mul (s .pre .size-most) (s .pre .gain-fits d)),
       ),
       (
         either-end (λ e. 4 * e + 3 < length (s .args .work .now)) b (p .1) (p .0),
         either-end (λ e. e < maxCells) b (p .3) (p .2),
-        omega (arith, mul-le-mul (s .pre .size-most) (s .pre .loss-fits d)),
       ),
     )
 

@@ -5,8 +5,9 @@ use native.Mathlib.Omega.{arith}
 use borrow.Author.Needs.{needs}
 use lib.Dec.{ltb}
 use Rattle.model.specs.Causes.{long, need}
-use Rattle.model.proofs.Verdicts.{both-are, refuses, passes}
-use Rattle.model.proofs.Accepted.{few}
+use Rattle.model.proofs.Verdicts.{both-fine, both-are, refuses, passes}
+use Rattle.model.proofs.Accepted.{few, mesh-long}
+use Rattle.page.specs.Page.{pageBytes}
 use Rattle.page.proofs.Laws.{judged-out, judged-on}
 use Rattle.page.proofs.judge.Statement.{statement}
 use Rattle.page.proofs.judge.Tie as tie
@@ -18,11 +19,16 @@ returns c =
     sym (judged-out _ _ _ (start .page) (start .room) (refuses (at-lent .field-lent .ensures) (c .before .tables .given .1)))
 
 page-bytes-requires : tie.Need-page-bytes-requires
-page-bytes-requires c κs = (omega arith, few _ _ (passes (c .before .before .field-lent .ensures) (c .enum-told .given .1)) .0)
+page-bytes-requires c κs =
+    let told = c .before in
+    (c .rest-places .ensures .1, few _ _ (passes (told .before .before .field-lent .ensures) (told .enum-told .given .1)) .0)
+
+rest-places-requires : tie.Need-rest-places-requires
+rest-places-requires c κs = mesh-long _ (both-fine _ _ (passes (c .before .before .field-lent .ensures) (c .enum-told .given .1)) .0) .0
 
 pages-requires : tie.Need-pages-requires
 pages-requires c κs =
-    let told = c .before .before .before .before in
+    let told = c .before .before .before .before .before in
     few _ _ (passes (told .before .before .field-lent .ensures) (told .enum-told .given .1)) .0
 
 returns-2 : tie.Need-returns-2
@@ -33,10 +39,11 @@ returns-2 c =
     let at-check = at-field .before in
     let at-long = at-check .before in
     let at-bytes = at-long .before in
-    let told = at-bytes .before in
+    let at-places = at-bytes .before in
+    let told = at-places .before in
     let at-lent = told .before .before in
     let start = at-lent .before .before .before .before .args in
-    let room = at-long .long .ensures ∙ ap (λ (n : ℕ). long 12 n (start .room)) (at-bytes .page-bytes .ensures) in
+    let room = at-long .long .ensures ∙ ap (λ (n : ℕ). long 12 n (start .room)) (at-bytes .page-bytes .ensures ∙ ap (λ (p : ℕ). pageBytes p (start .cells) (start .page)) (at-places .rest-places .ensures .0)) in
     let there = at-need .need .ensures ∙ ap (λ (n : ℕ). need 14 (start .page) (ltb (start .page) n)) (at-pages .pages .ensures) in
     both-are (c .and-then2 .ensures) (both-are (at-field .and-then .ensures) room (at-check .check-cells .ensures)) there
     ∙ sym (judged-on _ _ _ (start .page) (start .room) (passes (at-lent .field-lent .ensures) (told .enum-told .given .1)))
@@ -44,5 +51,5 @@ returns-2 c =
 pub judge-spec : {M : Type 1} → statement M
 judge-spec =
     tie.close
-    (tie.spec (λ c. search needs) (λ c κs. search needs) (λ c. search needs) returns (λ c. search needs) page-bytes-requires (λ c κs. search needs)
+    (tie.spec (λ c. search needs) (λ c κs. search needs) (λ c. search needs) returns (λ c. search needs) rest-places-requires page-bytes-requires (λ c κs. search needs)
     (λ c κs. search needs) (λ c κs. search needs) pages-requires (λ c κs. search needs) (λ c κs. search needs) returns-2)

@@ -1,9 +1,10 @@
 -- As the mesh is put: field by field of the head, the columns of signs and of sizes, the outside values where there is a rim face, and the
 -- releases, whose column has no bits in kind 3.
-use Prim.Native.Nat.{ℕ, _+_, _*_}
+use Prim.Native.Nat.{ℕ, _+_, _*_, _≤_}
 use mathlib.Core.Path.{_≡_, refl, sym, ap, _∙_}
 use mathlib.Core.Bool.{Bool}
 use mathlib.Core.List.{List}
+use native.Mathlib.Nat.{mul-le-mul}
 use native.Mathlib.Omega.{arith}
 use borrow.Author.Needs.{needs}
 use Rattle.bits.specs.Layout.{bytesFor}
@@ -11,15 +12,15 @@ use Rattle.bits.proofs.Layouts.{bytes-hold}
 use Rattle.sections.specs.Sections.{Section, Values, shapeBits}
 use Rattle.sections.proofs.Columns.{Written, none, and, written-none, written-column, written-all}
 use Rattle.sections.proofs.Bodies.{Column, column-fits, column-small, column-written, head-written}
-use Rattle.heads.specs.Layouts.{kindNumber, kindBits, facesBits, stepZeroBits, stepHeadBits, releaseBits, stepShape, stepValue, stepLength, stepRecord}
+use Rattle.heads.specs.Layouts.{kindNumber, valueBits, kindBits, facesBits, stepZeroBits, stepHeadBits, releaseBits, stepShape, stepValue, stepLength, stepRecord}
 use Rattle.heads.proofs.HeadLaws.{rim-le}
-use Rattle.heads.proofs.Layouts.{releasePlace, step-is, step-some, step-most, step-kind-in, step-faces-in, step-zeros-in, signs-in, sizes-in, outside-in}
+use Rattle.heads.proofs.Layouts.{value-most, step-value, releasePlace, step-is, step-some, step-most, step-kind-in, step-faces-in, step-zeros-in, signs-in, sizes-in, outside-in}
 use Rattle.putting.proofs.PutLaws.{Room, field-asks, rooms, column-asks, releases-put, release-short, step-ends}
 use Rattle.putting.proofs.step.Statement.{statement}
 use Rattle.putting.proofs.step.Tie as tie
 
 abbrev kind : tie.Start → ℕ
-kind s = kindNumber (s .args .kind)
+kind s = kindNumber (s .args .width) (s .args .kind)
 
 abbrev shape : tie.Start → List Section
 shape s = stepShape (kind s) (s .args .cells) (s .args .faces) (s .args .seconds .now)
@@ -44,7 +45,7 @@ holds s =
       small = omega (arith, step-most (kind s) m f q (s .pre .few-cells) (s .pre .few-faces));
     }
 
-ends : (s : tie.Start) → shapeBits (shape s) ≡ releasePlace (s .args .faces) (s .args .seconds .now) + s .args .cells * releaseBits (kind s)
+ends : (s : tie.Start) → shapeBits (shape s) ≡ releasePlace (kind s) (s .args .faces) (s .args .seconds .now) + s .args .cells * releaseBits (kind s)
 ends s = step-is (kind s) (s .args .cells) (s .args .faces) (s .args .seconds .now)
 
 abbrev Head : ℕ → ℕ → Bool
@@ -54,8 +55,30 @@ abbrev Water : ℕ → ℕ → Bool
 Water = and (and (and Head 1 0) 1 1) 2 0
 
 -- the start from where the releases' place and width are known, and that from each place
+abbrev reckoned : tie.After-value-width → tie.Start
+reckoned c = c .before .before .before .before .before
+
+abbrev from-value : tie.After-release-width → tie.After-value-width
+from-value c = c .before .before .before
+
 abbrev start : tie.After-release-width → tie.Start
-start c = c .before .before .before .before .before .before .before
+start c = reckoned (from-value c)
+
+-- the width of a size is the kind's
+value-is : (c : tie.After-value-width) → c .value-width .result ≡ valueBits (kind (reckoned c))
+value-is c = c .value-width .ensures ∙ sym (step-value (reckoned c .args .width) (reckoned c .args .kind))
+
+small : (s : tie.Start) → (valueBits (kind s) ≤ 16) × (s .args .faces * valueBits (kind s) ≤ 8190 * 16) × (s .args .faces ≤ 8190)
+small s = (value-most (kind s), mul-le-mul (s .pre .few-faces) (value-most (kind s)), s .pre .few-faces)
+
+add-flux : tie.Need-add-flux
+add-flux c = rw (value-is c) (omega (arith, small (reckoned c)))
+
+mul-first : tie.Need-mul-first
+mul-first c = rw (value-is c) (omega (arith, small (reckoned c)))
+
+add-first : tie.Need-add-first
+add-first c = rw (value-is c) (omega (arith, small (reckoned c)))
 
 abbrev from-one : tie.After-write-bits → tie.After-release-width
 from-one c = c .before .before .before
@@ -86,8 +109,8 @@ module _ (c : tie.After-release-width) where
   abbrev w : ℕ
   w = c .release-width .result
 
-  at : p ≡ releasePlace (start c .args .faces) (start c .args .seconds .now)
-  at = let k = c .before .before in omega (arith, c .before .after-outsides .ensures, k .count-marked .ensures)
+  at : p ≡ releasePlace (kind (start c)) (start c .args .faces) (start c .args .seconds .now)
+  at = let k = c .before .before in let e = rw (value-is (from-value c)) at (c .before .after-outsides .ensures) in omega (arith, e, k .count-marked .ensures)
 
   releases : Column (shape (start c)) 3 0 (start c .args .cells) p w w
   releases = releases-put (kind (start c)) (start c .args .cells) (start c .args .faces) (start c .args .seconds .now) at (c .release-width .ensures)
@@ -120,20 +143,20 @@ four c =
     let p1 = c .before .before .before .before in
     let s = start (from-four c) in
     column-written (signs-in (kind s) (s .args .cells) (s .args .faces) (s .args .seconds .now)) (value s) (s .pre .fits)
-    (three p1) (c .put-signs .ensures) (λ i l. refl)
+    (three p1) (rw (value-is (from-value (from-four c))) at (c .put-signs .ensures)) (λ i l. refl)
 
 five : (c : tie.After-put-sizes) → Some (start (from-five c)) (and (and Head 1 0) 1 1) (c .put-sizes .last .0)
 five c =
     let p1 = c .before .before .before .before in
     let s = start (from-five c) in
     column-written (sizes-in (kind s) (s .args .cells) (s .args .faces) (s .args .seconds .now)) (value s) (s .pre .fits)
-    (four p1) (c .put-sizes .ensures) (λ i l. refl)
+    (four p1) (rw (value-is (from-value (from-five c))) at (c .put-sizes .ensures)) (λ i l. refl)
 
 six : (c : tie.After-put-marked) → Some (start (from-six c)) Water (c .put-marked .last .0)
 six c =
     let p1 = c .before .before .before .before in
     let s = start (from-six c) in
-    written-column (shape s) (value s) (s .pre .fits) 2 0 (five p1) (c .put-marked .ensures) (omega arith) refl refl (λ i. refl)
+    written-column (shape s) (value s) (s .pre .fits) 2 0 (five p1) (rw (value-is (from-value (from-six c))) at (c .put-marked .ensures)) (omega arith) refl refl (λ i. refl)
     (λ i l t. outside-in (kind s) (s .args .cells) (s .args .faces) (s .args .seconds .now) i) (λ i l. refl)
 
 seven : (c : tie.After-put-column) → Some (start (from-seven c)) (and Water 3 0) (c .put-column .last .0)
@@ -144,8 +167,9 @@ seven c =
 
 after-outsides-requires : tie.Need-after-outsides-requires
 after-outsides-requires c κs =
-    let s = c .before .before .before .before .before in
-    omega (arith, c .count-marked .ensures, rim-le (s .args .seconds .now) (s .args .faces), s .pre .few-faces)
+    let v = c .before in
+    let s = reckoned v in
+    rw (value-is v) (omega (arith, c .count-marked .ensures, rim-le (s .args .seconds .now) (s .args .faces), small s))
 
 write-bits-requires : tie.Need-write-bits-requires
 write-bits-requires c κs =
@@ -170,14 +194,14 @@ put-signs-requires : tie.Need-put-signs-requires
 put-signs-requires c κs =
     let p1 = c .before .before .before in
     let s = start (from-three p1) in
-    ((omega arith, s .pre .fluxes-long), rooms (holds s) (three p1) (signs-in (kind s) (s .args .cells) (s .args .faces) (s .args .seconds .now)))
+    rw (value-is (from-value (from-three p1))) ((omega arith, s .pre .fluxes-long), rooms (holds s) (three p1) (signs-in (kind s) (s .args .cells) (s .args .faces) (s .args .seconds .now)))
 
 put-sizes-requires : tie.Need-put-sizes-requires
 put-sizes-requires c κs =
     let p1 = c .before .before .before in
     let s = start (from-four p1) in
     let k = sizes-in (kind s) (s .args .cells) (s .args .faces) (s .args .seconds .now) in
-    ((omega arith, column-fits k, s .pre .fluxes-long), (rooms (holds s) (four p1) k, column-small k (value s) (s .pre .fits)))
+    rw (value-is (from-value (from-four p1))) ((omega (arith, small s), column-fits k, s .pre .fluxes-long), (rooms (holds s) (four p1) k, column-small k (value s) (s .pre .fits)))
 
 put-marked-requires : tie.Need-put-marked-requires
 put-marked-requires c κs =
@@ -185,7 +209,7 @@ put-marked-requires c κs =
     let s = start (from-five p1) in
     let h = holds s in
     let r = five p1 in
-    ((omega arith, s .pre .seconds-long, s .pre .outsides-long, omega (arith, r .same-length, h .held, ends s), omega (arith, h .small, ends s)), s .pre .outsides-fit)
+    rw (value-is (from-value (from-five p1))) ((omega arith, s .pre .seconds-long, s .pre .outsides-long, omega (arith, r .same-length, h .held, ends s), omega (arith, h .small, ends s)), s .pre .outsides-fit)
 
 put-column-requires : tie.Need-put-column-requires
 put-column-requires c κs =
@@ -226,12 +250,12 @@ returns c =
     record {
       takes = p1 .pad .ensures .0 ∙ ap bytesFor e;
       written = written-all (shape s) (value s) (seven p2) refl e (rw e (omega (arith, bytes-hold (shapeBits (shape s))))) (s .pre .enough)
-          (λ j. omega (arith, n .before .before .slice-known .given j)) (λ j. omega (arith, c .slice-known9 .given j)) (p1 .pad .ensures .1);
+          (λ j. omega (arith, n .before .before .before .slice-known .given j)) (λ j. omega (arith, c .slice-known9 .given j)) (p1 .pad .ensures .1);
     }
 
 pub step-spec : {M : Type 1} → statement M
 step-spec =
     tie.close
-    (tie.spec (search needs) (search needs) (search needs) (search needs) (search needs) (search needs) after-outsides-requires (search needs) (search needs)
+    (tie.spec (search needs) add-flux (search needs) (search needs) (search needs) mul-first add-first (search needs) after-outsides-requires (search needs) (search needs)
     write-bits-requires write-bits-requires-2 write-bits-requires-3 put-signs-requires put-sizes-requires put-marked-requires put-column-requires
     mul-pad add-pad pad-requires same-length returns)

@@ -4,13 +4,13 @@ use mathlib.Core.Path.{_≡_, sym, ap, _∙_}
 use borrow.Author.Needs.{needs}
 use lib.ListN.{length}
 use Rattle.model.specs.Causes.{accepted}
-use Rattle.heads.specs.Heads.{cellsIn, facesIn}
+use Rattle.heads.specs.Heads.{kindIn, cellsIn, facesIn}
 use Rattle.sections.proofs.Bodies.{bodyOf}
 use Rattle.reading.specs.declared.MeshCounts.{MeshCounts}
 use Rattle.reading.specs.Reading.{meshRead}
 use Rattle.reading.specs.Answers.{meshSaid}
 use Rattle.bodies.specs.Bodies.{MeshRoom}
-use Rattle.reading.proofs.ReadLaws.{ReadSays, read-says, mesh-refused, mesh-accepted}
+use Rattle.reading.proofs.ReadLaws.{mesh-kind-is, ReadSays, read-says, mesh-refused, mesh-accepted}
 use Rattle.reading.proofs.BodyLaws.{meshHeadBytes, mesh-room, mesh-filled}
 use Rattle.reading.proofs.read_mesh.Statement.{statement}
 use Rattle.reading.proofs.read_mesh.Tie as tie
@@ -23,7 +23,7 @@ says : (s : tie.Start) {n : MeshCounts} → comes s n → ReadSays (s .args .mos
     (length (s .args .volumes .now)) (length (s .args .firsts .now)) (length (s .args .seconds .now)) (length (s .args .shares .now)) (length (s .args .reaches .now))
 says s e = read-says _ _ _ _ _ _ _ _ e
 
-room : (s : tie.Start) {n : MeshCounts} → comes s n → let bs = s .args .bytes .now in (meshHeadBytes ≤ length bs) × MeshRoom (cellsIn bs) (facesIn bs) (bodyOf meshHeadBytes bs)
+room : (s : tie.Start) {n : MeshCounts} → comes s n → let bs = s .args .bytes .now in (meshHeadBytes ≤ length bs) × MeshRoom (kindIn bs) (cellsIn bs) (facesIn bs) (bodyOf meshHeadBytes bs)
     (length (s .args .volumes .now)) (length (s .args .firsts .now)) (length (s .args .seconds .now)) (length (s .args .shares .now)) (length (s .args .reaches .now))
 room s e = let k = says s e in mesh-room (s .args .bytes .now) (k .head .few-cells) (k .head .few-faces) (k .body-fine)
 
@@ -52,7 +52,7 @@ mesh-requires-2 c κs =
     let p2 = p1 .before .before in
     let s = p2 .before .before .before .before .before .before .before in
     let e = sym (p2 .mesh .ensures) ∙ ap meshSaid (p1 .a .given .1) in
-    rw (says s e .counts-are) (room s e .1)
+    rw (says s e .counts-are, mesh-kind-is (kindIn (s .args .bytes .now)) (says s e .head .kind)) (room s e .1)
 
 returns-2 : tie.Need-returns-2
 returns-2 c =
@@ -62,23 +62,23 @@ returns-2 c =
     let p4 = p3 .before .before in
     let s = p4 .before .before .before .before .before .before .before in
     let e = sym (p4 .mesh .ensures) ∙ ap meshSaid (p3 .a .given .1) in
-    mesh-accepted e (mesh-filled (s .args .bytes .now) (rw (says s e .counts-are) at (p2 .mesh2 .ensures)))
+    mesh-accepted e (mesh-filled (s .args .bytes .now) (rw (says s e .counts-are, mesh-kind-is (kindIn (s .args .bytes .now)) (says s e .head .kind)) at (p2 .mesh2 .ensures)))
 
 -- the tables that were filled keep their lengths
 same-length : tie.Need-same-length
-same-length c = c .before .before .before .before .before .before .before .before .before .before .mesh2 .kept .1 .1 .1 .0
+same-length c = c .before .before .before .before .before .before .before .before .before .before .mesh2 .kept .1 .1 .1 .1 .0
 
 same-length-2 : tie.Need-same-length-2
-same-length-2 c = c .before .before .before .before .before .before .before .before .before .before .mesh2 .kept .1 .1 .1 .1 .0
+same-length-2 c = c .before .before .before .before .before .before .before .before .before .before .mesh2 .kept .1 .1 .1 .1 .1 .0
 
 same-length-3 : tie.Need-same-length-3
-same-length-3 c = c .before .before .before .before .before .before .before .before .before .before .mesh2 .kept .1 .1 .1 .1 .1 .0
+same-length-3 c = c .before .before .before .before .before .before .before .before .before .before .mesh2 .kept .1 .1 .1 .1 .1 .1 .0
 
 same-length-4 : tie.Need-same-length-4
-same-length-4 c = c .before .before .before .before .before .before .before .before .before .before .mesh2 .kept .1 .1 .1 .1 .1 .1 .0
+same-length-4 c = c .before .before .before .before .before .before .before .before .before .before .mesh2 .kept .1 .1 .1 .1 .1 .1 .1 .0
 
 same-length-5 : tie.Need-same-length-5
-same-length-5 c = c .before .before .before .before .before .before .before .before .before .before .mesh2 .kept .1 .1 .1 .1 .1 .1 .1 .0
+same-length-5 c = c .before .before .before .before .before .before .before .before .before .before .mesh2 .kept .1 .1 .1 .1 .1 .1 .1 .1 .0
 
 pub read-mesh-spec : {M : Type 1} → statement M
 read-mesh-spec =

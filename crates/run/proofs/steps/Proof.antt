@@ -7,11 +7,11 @@ use Rattle.run.proofs.steps.Statement.{statement}
 use Rattle.run.proofs.steps.Tie as tie
 
 abbrev Inv-loop : tie.InvT-loop
-Inv-loop cells faces buffer₀ volumes firsts seconds shares reaches masses₀ step₀ buffer masses step =
+Inv-loop width cells faces buffer₀ volumes firsts seconds shares reaches masses₀ step₀ buffer masses step =
     (length buffer ≡ length buffer₀) × (length masses ≡ length masses₀)
 
 abbrev μ-loop : tie.MeasureT-loop
-μ-loop cells faces buffer₀ volumes firsts seconds shares reaches masses₀ step₀ buffer masses step = 18446744073709551615 - step
+μ-loop width cells faces buffer₀ volumes firsts seconds shares reaches masses₀ step₀ buffer masses step = 18446744073709551615 - step
 
 -- the call's own start, and the turn in which a step was taken
 abbrev start : tie.At-loop Inv-loop μ-loop → tie.Start Inv-loop μ-loop

@@ -11,13 +11,13 @@ use Rattle.shape.proofs.faces_fit.Statement.{statement}
 use Rattle.shape.proofs.faces_fit.Tie as tie
 
 abbrev Inv-loop : tie.InvT-loop
-Inv-loop cells faces firsts seconds shares reaches f₀ f =
+Inv-loop cells faces firsts seconds shares reaches most f₀ f =
     (f ≤ faces)
     × (each 4 f (λ k. endsFit cells (getD firsts k 0) (getD seconds k 0)) ≡ fine)
-    × (each 5 f (λ k. spacingFit (getD seconds k 0) (getD shares k 0) (getD reaches k 0)) ≡ fine)
+    × (each 5 f (λ k. spacingFit most (getD seconds k 0) (getD shares k 0) (getD reaches k 0)) ≡ fine)
 
 abbrev μ-loop : tie.MeasureT-loop
-μ-loop cells faces firsts seconds shares reaches f₀ f = faces - f
+μ-loop cells faces firsts seconds shares reaches most f₀ f = faces - f
 
 loop-again : tie.Need-loop-again Inv-loop μ-loop
 loop-again c =

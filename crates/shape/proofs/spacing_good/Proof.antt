@@ -9,10 +9,10 @@ use Rattle.shape.proofs.spacing_good.Statement.{statement}
 use Rattle.shape.proofs.spacing_good.Tie as tie
 
 abbrev Inv-loop : tie.InvT-loop
-Inv-loop faces seconds shares reaches f₀ f = (f ≤ faces) × (each 5 f (λ k. spacingFit (getD seconds k 0) (getD shares k 0) (getD reaches k 0)) ≡ fine)
+Inv-loop faces seconds shares reaches most f₀ f = (f ≤ faces) × (each 5 f (λ k. spacingFit most (getD seconds k 0) (getD shares k 0) (getD reaches k 0)) ≡ fine)
 
 abbrev μ-loop : tie.MeasureT-loop
-μ-loop faces seconds shares reaches f₀ f = faces - f
+μ-loop faces seconds shares reaches most f₀ f = faces - f
 
 returns : tie.Need-returns Inv-loop μ-loop
 returns c = scan-hit _ _ _ _ (c .before .before .before .before .before .loop-test .taken) (c .before .before .before .before .before .before .loop .inv .1) (c .before .spacing-fits .ensures) (not-true _ (c .if1 .taken))

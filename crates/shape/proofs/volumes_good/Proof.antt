@@ -9,10 +9,10 @@ use Rattle.shape.proofs.volumes_good.Statement.{statement}
 use Rattle.shape.proofs.volumes_good.Tie as tie
 
 abbrev Inv-loop : tie.InvT-loop
-Inv-loop cells volumes c₀ c = (c ≤ cells) × (each 3 c (λ k. volumeFits (getD volumes k 0)) ≡ fine)
+Inv-loop cells volumes most c₀ c = (c ≤ cells) × (each 3 c (λ k. volumeFits most (getD volumes k 0)) ≡ fine)
 
 abbrev μ-loop : tie.MeasureT-loop
-μ-loop cells volumes c₀ c = cells - c
+μ-loop cells volumes most c₀ c = cells - c
 
 returns : tie.Need-returns Inv-loop μ-loop
 returns c = scan-hit _ _ _ _ (search needs) (c .before .before .before .before .loop .inv .1) (c .before .between .ensures) (not-true _ (c .if1 .taken))

@@ -13,13 +13,13 @@ use Rattle.water.proofs.faces_fit.Statement.{statement}
 use Rattle.water.proofs.faces_fit.Tie as tie
 
 abbrev Inv-loop : tie.InvT-loop
-Inv-loop faces seconds reaches fluxes outsides f₀ f =
+Inv-loop faces seconds reaches fluxes outsides most f₀ f =
     (f ≤ faces)
     × (each 7 f (λ k. outsideFit (getD seconds k 0) (isNegative (getD fluxes k (pos 0))) (getD outsides k 0)) ≡ fine)
-    × (each 8 f (λ k. fluxFit (getD seconds k 0) (getD reaches k 0) (size (getD fluxes k (pos 0)))) ≡ fine)
+    × (each 8 f (λ k. fluxFit most (getD seconds k 0) (getD reaches k 0) (size (getD fluxes k (pos 0)))) ≡ fine)
 
 abbrev μ-loop : tie.MeasureT-loop
-μ-loop faces seconds reaches fluxes outsides f₀ f = faces - f
+μ-loop faces seconds reaches fluxes outsides most f₀ f = faces - f
 
 loop-again : tie.Need-loop-again Inv-loop μ-loop
 loop-again c =

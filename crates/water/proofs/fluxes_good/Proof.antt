@@ -11,10 +11,10 @@ use Rattle.water.proofs.fluxes_good.Statement.{statement}
 use Rattle.water.proofs.fluxes_good.Tie as tie
 
 abbrev Inv-loop : tie.InvT-loop
-Inv-loop faces seconds reaches fluxes f₀ f = (f ≤ faces) × (each 8 f (λ k. fluxFit (getD seconds k 0) (getD reaches k 0) (size (getD fluxes k (pos 0)))) ≡ fine)
+Inv-loop faces seconds reaches fluxes most f₀ f = (f ≤ faces) × (each 8 f (λ k. fluxFit most (getD seconds k 0) (getD reaches k 0) (size (getD fluxes k (pos 0)))) ≡ fine)
 
 abbrev μ-loop : tie.MeasureT-loop
-μ-loop faces seconds reaches fluxes f₀ f = faces - f
+μ-loop faces seconds reaches fluxes most f₀ f = faces - f
 
 returns : tie.Need-returns Inv-loop μ-loop
 returns c =

@@ -8,7 +8,7 @@ returns : tie.Need-returns
 returns c = writing-refused (refuses (c .before .before .before .field .ensures) (c .before .a .given .1))
 
 field-requires-2 : tie.Need-field-requires-2
-field-requires-2 c κs = field-whole _ _ (passes (c .before .before .before .field .ensures) (c .before .enum-told .given .1))
+field-requires-2 c κs = field-whole _ _ _ (passes (c .before .before .before .field .ensures) (c .before .enum-told .given .1))
 
 returns-2 : tie.Need-returns-2
 returns-2 c =

@@ -8,7 +8,7 @@ returns : tie.Need-returns
 returns c = writing-refused (refuses (c .before .before .before .mesh .ensures) (c .before .a .given .1))
 
 mesh-requires-2 : tie.Need-mesh-requires-2
-mesh-requires-2 c κs = mesh-whole _ (passes (c .before .before .before .mesh .ensures) (c .before .enum-told .given .1))
+mesh-requires-2 c κs = mesh-whole _ _ (passes (c .before .before .before .mesh .ensures) (c .before .enum-told .given .1))
 
 returns-2 : tie.Need-returns-2
 returns-2 c =

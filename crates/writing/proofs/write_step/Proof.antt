@@ -11,7 +11,7 @@ step-requires-2 : tie.Need-step-requires-2
 step-requires-2 c κs =
     let p1 = c .before .before .before in
     let s = p1 .before .before .before .before .before .before .before .before .before in
-    step-whole _ (s .args .kind) _ _ _ (passes (p1 .step .ensures) (c .before .enum-told .given .1))
+    step-whole (s .args .width) _ (s .args .kind) _ _ _ (passes (p1 .step .ensures) (c .before .enum-told .given .1))
 
 returns-2 : tie.Need-returns-2
 returns-2 c =

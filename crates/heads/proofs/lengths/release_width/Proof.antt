@@ -1,15 +1,27 @@
+use mathlib.Core.Path.{_≡_, refl, sym, _∙_}
 use borrow.Author.Needs.{needs}
-use Rattle.heads.specs.Layouts.{releaseBits}
+use Rattle.heads.specs.declared.Width.{Width}
+use Rattle.heads.specs.declared.Width.the-variants.{Narrow, Wide}
+use Rattle.heads.specs.declared.StepKind.the-variants.{Water, Outfalls}
+use Rattle.heads.specs.Layouts.{kindNumber, massWidth, massBits, releaseBits}
 use Rattle.heads.proofs.lengths.release_width.Statement.{statement}
 use Rattle.heads.proofs.lengths.release_width.Tie as tie
 
-returns : tie.Need-returns
+none : (w : Width) → releaseBits (kindNumber w Water) ≡ 0
 unfolding releaseBits
-returns c = rw (c .enum-told .given .1)
+none Narrow = refl
+none Wide = refl
+
+all : (w : Width) → releaseBits (kindNumber w Outfalls) ≡ massWidth w
+unfolding releaseBits massBits
+all Narrow = refl
+all Wide = refl
+
+returns : tie.Need-returns
+returns c = rw (c .enum-told .given .1) (sym (none (c .before .before .args .width)))
 
 returns-2 : tie.Need-returns-2
-unfolding releaseBits
-returns-2 c = rw (c .enum-told2 .given .1)
+returns-2 c = rw (c .before .enum-told2 .given .1) (c .mass-width .ensures ∙ sym (all (c .before .before .before .args .width)))
 
 pub release-width-spec : {M : Type 1} → statement M
-release-width-spec = tie.close (tie.spec (search needs) (search needs) returns returns-2)
+release-width-spec = tie.close (tie.spec (search needs) (search needs) (search needs) returns returns-2)

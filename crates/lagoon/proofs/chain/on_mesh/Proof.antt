@@ -32,22 +32,22 @@ abbrev told : tie.After-write-field → tie.After-enum-told
 told c = field-told (c .before .before .before .before .before .before .before)
 
 returns : tie.Need-returns
-returns c = let s = start (c .before .before .before .before) in field-refused (mesh s) (s .args .field .now) (s .args .step .now) (s .args .bytes .now)
+returns c = let s = start (c .before .before .before .before) in field-refused (s .args .width) (mesh s) (s .args .field .now) (s .args .step .now) (s .args .bytes .now)
     (c .before .before .before .before .take-field .ensures) refl (c .before .a .given .1)
 
 array-borrow-prefix-masses : tie.Need-array-borrow-prefix-masses
-array-borrow-prefix-masses c = let s = start (c .before .before .before) in masses-part (mesh s) (s .args .field .now) (s .args .step .now) (s .args .bytes .now)
+array-borrow-prefix-masses c = let s = start (c .before .before .before) in masses-part (s .args .width) (mesh s) (s .args .field .now) (s .args .step .now) (s .args .bytes .now)
     (c .before .before .before .take-field .ensures) refl (c .enum-told .given .1) .fits
 
 slice-aggregate-counted : tie.Need-slice-aggregate-counted
 slice-aggregate-counted c = let s = start (c .before .before .before .before) in part-long
-    (masses-part (mesh s) (s .args .field .now) (s .args .step .now) (s .args .bytes .now) (c .before .before .before .before .take-field .ensures) refl (c .before .enum-told .given .1))
+    (masses-part (s .args .width) (mesh s) (s .args .field .now) (s .args .step .now) (s .args .bytes .now) (c .before .before .before .before .take-field .ensures) refl (c .before .enum-told .given .1))
 
 returns-2 : tie.Need-returns-2
 returns-2 c =
     let s = (start (stepping (c .before .before .before .before .before .before))) in
     let f = stepping (c .before .before .before .before .before .before) in
-    step-refused (mesh s) (s .args .field .now) (s .args .step .now) (s .args .bytes .now) (f .take-field .ensures) refl
+    step-refused (s .args .width) (mesh s) (s .args .field .now) (s .args .step .now) (s .args .bytes .now) (f .take-field .ensures) refl
     (c .before .before .before .before .before .before .before .before .before .enum-told .given .1)
     (c .before .before .before .before .before .before .take-step .ensures) (c .before .before .b .given .1)
 
@@ -55,19 +55,19 @@ returns-3 : tie.Need-returns-3
 returns-3 c =
     let s = (start (fielded (c .before .before .before .before .before .before))) in
     let f = fielded (c .before .before .before .before .before .before) in
-    no-room (mesh s) (s .args .field .now) (s .args .step .now) (s .args .bytes .now) (f .take-field .ensures) refl
+    no-room (s .args .width) (mesh s) (s .args .field .now) (s .args .step .now) (s .args .bytes .now) (f .take-field .ensures) refl
     ((told (c .before .before .before .before .before .before)) .enum-told .given .1)
     ((stepped (c .before .before .before .before .before .before)) .take-step .ensures)
     (c .before .before .before .before .before .before .before .before .before .enum-told2 .given .1)
-    (c .before .before .before .before .before .before .write-field .ensures) (c .before .c .given .1)
+    (s .pre) (c .before .before .before .before .before .before .write-field .ensures) (c .before .c .given .1)
 
 returns-4 : tie.Need-returns-4
 returns-4 c =
     let s = (start (fielded (c .before .before .before .before .before))) in
     let f = fielded (c .before .before .before .before .before) in
-    written (mesh s) (s .args .field .now) (s .args .step .now) (s .args .bytes .now) (f .take-field .ensures) refl
+    written (s .args .width) (mesh s) (s .args .field .now) (s .args .step .now) (s .args .bytes .now) (f .take-field .ensures) refl
     ((told (c .before .before .before .before .before)) .enum-told .given .1) ((stepped (c .before .before .before .before .before)) .take-step .ensures)
-    (c .before .before .before .before .before .before .before .before .enum-told2 .given .1) (c .before .before .before .before .before .write-field .ensures)
+    (c .before .before .before .before .before .before .before .before .enum-told2 .given .1) (s .pre) (c .before .before .before .before .before .write-field .ensures)
     (c .enum-told3 .given .1)
 
 pub on-mesh-spec : {M : Type 1} → statement M

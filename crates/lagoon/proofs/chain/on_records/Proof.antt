@@ -2,7 +2,7 @@
 use mathlib.Core.Path.{refl}
 use borrow.Author.Needs.{needs}
 use Rattle.parts.proofs.Parts.{part-long}
-use Rattle.lagoon.proofs.Stages.{mesh-refused, mesh-read, host-done}
+use Rattle.lagoon.proofs.Stages.{mesh-refused, mesh-read, mesh-within, host-done}
 use Rattle.lagoon.proofs.chain.on_records.Statement.{statement}
 use Rattle.lagoon.proofs.chain.on_records.Tie as tie
 
@@ -61,6 +61,12 @@ slice-aggregate-on-mesh-5 : tie.Need-slice-aggregate-on-mesh-5
 slice-aggregate-on-mesh-5 c = let d = c .before .before .before .before .before in let a = start (taking d) .args in part-long
     (mesh-read (a .mesh .now) (a .field .now) (a .step .now) (a .bytes .now) (taking d .take-mesh .ensures) refl refl refl refl refl (d .before .a2 .given .1) .reaches-part)
 
+on-mesh-requires : tie.Need-on-mesh-requires
+on-mesh-requires c κs =
+    let d = c .before .before .before .before .before .before in
+    let a = start (taking d) .args in
+    mesh-within (a .mesh .now) (a .field .now) (a .step .now) (a .bytes .now) (taking d .take-mesh .ensures) refl refl refl refl refl (d .before .a2 .given .1)
+
 returns-2 : tie.Need-returns-2
 returns-2 c =
     let d = c .before .before .before .before .before .before .before .before .before in
@@ -89,7 +95,7 @@ on-records-spec =
     slice-aggregate-on-mesh-4
     array-share-prefix-reaches
     slice-aggregate-on-mesh-5
-    (search needs)
+    on-mesh-requires
     returns
     (search needs)
     returns-2)

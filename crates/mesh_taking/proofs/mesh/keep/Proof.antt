@@ -30,7 +30,7 @@ returns : tie.Need-returns
 returns c =
     let d = c .before .before .before in
     let s = start d in
-    kept-refused (read s) (lent s .volumes) (lent s .firsts) (lent s .seconds) (lent s .shares) (lent s .reaches) _ _ _ (sym (found d) ∙ ap said (c .before .found .given .1)) refl
+    kept-refused (s .args .width) (read s) (lent s .volumes) (lent s .firsts) (lent s .seconds) (lent s .shares) (lent s .reaches) _ _ _ (sym (found d) ∙ ap said (c .before .found .given .1)) refl
 
 -- nothing was found, so the lent tables hold the mesh
 passes : (c : tie.After-enum-told) → let s = start (c .before .before) in keptFound (lent s) (read s) ≡ fine
@@ -95,7 +95,7 @@ returns-2 c =
     let f = firsts k in
     let v = volumes f in
     let s = start (told v .before .before) in
-    kept-accepted (read s) (lent s .volumes) (lent s .firsts) (lent s .seconds) (lent s .shares) (lent s .reaches) _ _ _ _ _ (passes (told v))
+    kept-accepted (s .args .width) (read s) (lent s .volumes) (lent s .firsts) (lent s .seconds) (lent s .shares) (lent s .reaches) _ _ _ _ _ (passes (told v))
     (v .copy .ensures) (f .copy2 .ensures) (k .copy3 .ensures) (w .copy4 .ensures) (r .copy5 .ensures)
 
 pub keep-spec : {M : Type 1} → statement M

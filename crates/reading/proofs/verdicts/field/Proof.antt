@@ -16,7 +16,8 @@ returns c =
 field-body-requires : tie.Need-field-body-requires
 field-body-requires c κs =
     let p1 = c .before .before in
-    field-head-says _ _ (passes (p1 .field .ensures) (c .enum-told .given .1)) .few-cells
+    let h = field-head-says _ _ _ (passes (p1 .field .ensures) (c .enum-told .given .1)) in
+    (h .few-cells, sym (h .kind))
 
 returns-2 : tie.Need-returns-2
 unfolding fieldRead

@@ -18,13 +18,13 @@ returns c =
 
 step-kind-requires : tie.Need-step-kind-requires
 step-kind-requires c κs =
-    let h = step-head-says _ _ _ _ (passes (c .before .before .step .ensures) (c .enum-told .given .1)) in
+    let h = step-head-says _ _ _ _ _ (passes (c .before .before .step .ensures) (c .enum-told .given .1)) in
     (omega (arith, h .long), h .kind)
 
 step-body-requires : tie.Need-step-body-requires
 step-body-requires c κs =
     let p1 = c .before in
-    let h = step-head-says _ _ _ _ (passes (p1 .before .before .step .ensures) (p1 .enum-told .given .1)) in
+    let h = step-head-says _ _ _ _ _ (passes (p1 .before .before .step .ensures) (p1 .enum-told .given .1)) in
     (c .step-kind .ensures, h .few-cells, h .few-faces, h .lent)
 
 returns-2 : tie.Need-returns-2

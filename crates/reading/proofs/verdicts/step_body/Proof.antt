@@ -7,11 +7,11 @@ use Rattle.model.specs.Causes.{_andThen_, long}
 use Rattle.model.specs.Answers.{said}
 use Rattle.model.proofs.Verdicts.{past, out, both-are, refuses, passes}
 use Rattle.bits.specs.Layout.{bytesFor}
-use Rattle.heads.specs.Layouts.{stepBits, stepLength}
+use Rattle.heads.specs.Layouts.{valueBits, stepBits, stepLength}
 use Rattle.heads.specs.Heads.{kindIn, hasLength}
 use Rattle.reading.specs.Reading.{stepBodyVerdict, stepBitGood}
 use Rattle.bits.proofs.Layouts.{bytes-hold, bytes-most}
-use Rattle.heads.proofs.Layouts.{stepMost, step-some, step-most}
+use Rattle.heads.proofs.Layouts.{step-value, value-most, stepMost, step-some, step-most}
 use Rattle.reading.proofs.ReadLaws.{step-tables-say}
 use Rattle.reading.proofs.verdicts.step_body.Statement.{statement}
 use Rattle.reading.proofs.verdicts.step_body.Tie as tie
@@ -53,11 +53,13 @@ returns c = sym (out _ (refuses (lent (c .before .before .before)) (c .before .e
 
 step-requires : tie.Need-step-requires
 step-requires c κs =
-    let n = c .before .before in
+    let told = c .before in
+    let n = told .before .before in
     let s = start (known n) in
     let k = kindIn (s .args .bytes .now) in
-    let t = step-tables-say k (s .args .cells) (s .args .faces) (s .args .seconds .now) (s .args .bytes .now) _ _ _ (passes (lent n) (c .enum-told .given .1)) in
-    omega (
+    let t = step-tables-say k (s .args .cells) (s .args .faces) (s .args .seconds .now) (s .args .bytes .now) _ _ _ (passes (lent n) (told .enum-told .given .1)) in
+    let e : c .value-width .result ≡ valueBits k = c .value-width .ensures ∙ sym (step-value (s .args .width) (s .args .kind)) ∙ ap valueBits (s .pre .0) in
+    rw e (omega (
       arith,
       end (known n),
       t .same-length,
@@ -65,16 +67,20 @@ step-requires c κs =
       bytes-most (bits s),
       most s,
       step-some k (s .args .cells) (s .args .faces) (s .args .seconds .now),
-    )
+      value-most k,
+    ))
 
 returns-2 : tie.Need-returns-2
 unfolding stepBodyVerdict stepBitGood
 returns-2 c =
-    let k = c .before in
+    let v = c .before in
+    let k = v .before in
     let n = k .before .before in
-    rw (c .step .ensures, end (known n)) (sym (past _ (passes (lent n) (k .enum-told .given .1))))
+    let s = start (known n) in
+    let e : v .value-width .result ≡ valueBits (kindIn (s .args .bytes .now)) = v .value-width .ensures ∙ sym (step-value (s .args .width) (s .args .kind)) ∙ ap valueBits (s .pre .0) in
+    rw (c .step .ensures, end (known n), e) (sym (past _ (passes (lent n) (k .enum-told .given .1))))
 
 pub step-body-spec : {M : Type 1} → statement M
 step-body-spec =
     tie.close
-    (tie.spec (search needs) bytes-for-requires (search needs) (search needs) (search needs) (search needs) (search needs) returns (search needs) step-requires returns-2)
+    (tie.spec (search needs) bytes-for-requires (search needs) (search needs) (search needs) (search needs) (search needs) returns (search needs) (search needs) step-requires returns-2)

@@ -5,7 +5,7 @@ use borrow.Author.Needs.{needs}
 use Rattle.model.proofs.Verdicts.{refused-at, both-fine, both-are, refuses, passes}
 use Rattle.model.proofs.Accepted.{counted, mesh-long}
 use Rattle.writing.specs.Writing.{meshWriteVerdict}
-use Rattle.writing.proofs.WriteLaws.{bytes-said, past-first}
+use Rattle.writing.proofs.WriteLaws.{bytes-said, values-said, past-first}
 use Rattle.writing.proofs.refusals.mesh.Statement.{statement}
 use Rattle.writing.proofs.refusals.mesh.Tie as tie
 
@@ -19,18 +19,18 @@ mesh-bytes-requires c κs =
     (n .few-cells, n .few-faces)
 
 values-requires : tie.Need-values-requires
-values-requires c κs = mesh-long _ (passes (c .before .before .before .before .mesh-lent .ensures) (c .before .before .enum-told .given .1))
+values-requires c κs = mesh-long _ (passes (c .before .before .before .before .before .mesh-lent .ensures) (c .before .before .before .enum-told .given .1))
 
 returns-2 : tie.Need-returns-2
 unfolding meshWriteVerdict
 returns-2 c =
-    let long = c .before .before in
+    let long = c .before .before .before in
     let told = long .before .before in
     let s = told .before .before .before .before .before .before .before .before in
     let bytes = bytes-said (s .args .room) (long .long .ensures) (long .before .mesh-bytes .ensures) in
-    both-are (c .and-then .ensures) bytes (c .before .values .ensures) ∙ sym (past-first _ _ (passes (told .before .before .mesh-lent .ensures) (told .enum-told .given .1)))
+    both-are (c .and-then .ensures) bytes (values-said _ (c .before .before .most-of .ensures) (c .before .values .ensures)) ∙ sym (past-first _ _ (passes (told .before .before .mesh-lent .ensures) (told .enum-told .given .1)))
 
 pub mesh-spec : {M : Type 1} → statement M
 mesh-spec =
     tie.close
-    (tie.spec (search needs) (search needs) returns (search needs) mesh-bytes-requires (search needs) values-requires (search needs) returns-2)
+    (tie.spec (search needs) (search needs) returns (search needs) mesh-bytes-requires (search needs) (search needs) values-requires (search needs) returns-2)

@@ -11,7 +11,7 @@ use Rattle.model.specs.Causes.{fine, _andThen_, long, bytesLong, counts, meshTa
 use Rattle.model.proofs.Verdicts.{refused-at, both-fine, past, both-are, refuses, passes}
 use Rattle.model.proofs.Accepted.{counted, mesh-long}
 use Rattle.heads.specs.Layouts.{kindNumber, stepLength}
-use Rattle.writing.proofs.WriteLaws.{bytes-said, water-long, step-groups}
+use Rattle.writing.proofs.WriteLaws.{bytes-said, values-said, water-long, step-groups}
 use Rattle.writing.proofs.refusals.step.Statement.{statement}
 use Rattle.writing.proofs.refusals.step.Tie as tie
 
@@ -36,7 +36,7 @@ lent c = passes (tested c .mesh-lent .ensures) (pair c .before .before .before .
 
 tables : (c : tie.After-and-then3) → let s = start c in
     said (c .and-then3 .result) ≡ (long 6 (s .args .faces) (length (s .args .fluxes .now)) andThen long 7 (s .args .faces) (length (s .args .outsides .now))
-    andThen bytesLong (stepLength (kindNumber (s .args .kind)) (s .args .cells) (s .args .faces) (s .args .seconds .now)) (s .args .room)
+    andThen bytesLong (stepLength (kindNumber (s .args .width) (s .args .kind)) (s .args .cells) (s .args .faces) (s .args .seconds .now)) (s .args .room)
     andThen long 14 (s .args .cells) (length (s .args .releases .now)))
 tables c =
     let most = c .before .before in
@@ -50,14 +50,14 @@ longs : (c : tie.After-and-then3) → c .and-then3 .result ≡ Done → let s = 
     (s .args .faces ≤ length (s .args .fluxes .now)) × (s .args .faces ≤ length (s .args .outsides .now)) × (s .args .cells ≤ length (s .args .releases .now))
 longs c e =
     let s = start c in
-    let space = bytesLong (stepLength (kindNumber (s .args .kind)) (s .args .cells) (s .args .faces) (s .args .seconds .now)) (s .args .room) in
+    let space = bytesLong (stepLength (kindNumber (s .args .width) (s .args .kind)) (s .args .cells) (s .args .faces) (s .args .seconds .now)) (s .args .room) in
     water-long (s .args .faces) (length (s .args .fluxes .now)) (length (s .args .outsides .now)) (s .args .cells)
     (length (s .args .releases .now)) space (passes (tables c) e)
 
 returns : tie.Need-returns
 returns c =
     let k = c .before .before .before in
-    sym (step-groups _ _ _ _ _ (from-lent k .args .room) ∙ refused-at [] (_ ∷ _ ∷ []) tt (refuses (k .mesh-lent .ensures) (c .before .lent .given .1)))
+    sym (step-groups _ _ _ _ _ _ (from-lent k .args .room) ∙ refused-at [] (_ ∷ _ ∷ []) tt (refuses (k .mesh-lent .ensures) (c .before .lent .given .1)))
 
 step-bytes-requires : tie.Need-step-bytes-requires
 step-bytes-requires c κs =
@@ -69,17 +69,17 @@ step-bytes-requires c κs =
 returns-2 : tie.Need-returns-2
 returns-2 c =
     let k = c .before .before .before in
-    sym (step-groups _ _ _ _ _ (start k .args .room) ∙ refused-at (_ ∷ []) (_ ∷ []) (lent k, tt) (refuses (tables k) (c .before .tables .given .1)))
+    sym (step-groups _ _ _ _ _ _ (start k .args .room) ∙ refused-at (_ ∷ []) (_ ∷ []) (lent k, tt) (refuses (tables k) (c .before .tables .given .1)))
 
 values-requires : tie.Need-values-requires
-values-requires c κs = mesh-long _ (lent (c .before .before))
+values-requires c κs = mesh-long _ (lent (c .before .before .before))
 
 values-requires-2 : tie.Need-values-requires-2
-values-requires-2 c κs = longs (c .before .before .before) (c .before .enum-told2 .given .1) .2
+values-requires-2 c κs = longs (c .before .before .before .before) (c .before .before .enum-told2 .given .1) .2
 
 values-requires-3 : tie.Need-values-requires-3
 values-requires-3 c κs =
-    let told = c .before .before .before in
+    let told = c .before .before .before .before .before in
     let k = told .before .before in
     let mesh = mesh-long _ (lent k) in
     let water = longs k (told .enum-told2 .given .1) in
@@ -88,15 +88,15 @@ values-requires-3 c κs =
 returns-3 : tie.Need-returns-3
 unfolding outsideGood fluxGood
 returns-3 c =
-    let fit = c .before .before in
-    let told = fit .before .before .before in
+    let fit = c .before .before .before in
+    let told = fit .before .before .before .before in
     let k = told .before .before in
-    both-are (c .and-then5 .ensures) (both-are (fit .and-then4 .ensures) (fit .before .before .values .ensures) (fit .before .values2 .ensures))
-    (c .before .values3 .ensures)
-    ∙ sym (step-groups _ _ _ _ _ (start k .args .room) ∙ past _ (past _ (lent k) ∙ passes (tables k) (told .enum-told2 .given .1)))
+    both-are (c .and-then5 .ensures) (both-are (fit .and-then4 .ensures) (values-said (mesh (start k)) (fit .before .before .before .most-of .ensures) (fit .before .before .values .ensures)) (fit .before .values2 .ensures))
+    (rw (c .before .before .most-of2 .ensures) at (c .before .values3 .ensures))
+    ∙ sym (step-groups _ _ _ _ _ _ (start k .args .room) ∙ past _ (past _ (lent k) ∙ passes (tables k) (told .enum-told2 .given .1)))
 
 pub step-spec : {M : Type 1} → statement M
 step-spec =
     tie.close
     (tie.spec (search needs) (search needs) returns (search needs) (search needs) (search needs) (search needs) step-bytes-requires (search needs) (search needs)
-    (search needs) (search needs) (search needs) returns-2 (search needs) values-requires values-requires-2 (search needs) values-requires-3 (search needs) returns-3)
+    (search needs) (search needs) (search needs) returns-2 (search needs) (search needs) values-requires values-requires-2 (search needs) (search needs) values-requires-3 (search needs) returns-3)

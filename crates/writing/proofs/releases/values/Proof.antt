@@ -12,10 +12,10 @@ use Rattle.writing.proofs.releases.values.Statement.{statement}
 use Rattle.writing.proofs.releases.values.Tie as tie
 
 abbrev Inv-loop : tie.InvT-loop
-Inv-loop kind cells releases c₀ c = (c ≤ cells) × (each 18 c (λ k. releaseFits (kindNumber kind) (getD releases k 0)) ≡ fine)
+Inv-loop width kind cells releases c₀ c = (c ≤ cells) × (each 18 c (λ k. releaseFits (kindNumber width kind) (getD releases k 0)) ≡ fine)
 
 abbrev μ-loop : tie.MeasureT-loop
-μ-loop kind cells releases c₀ c = cells - c
+μ-loop width kind cells releases c₀ c = cells - c
 
 returns : tie.Need-returns Inv-loop μ-loop
 returns c = scan-hit _ _ _ _ (search needs) (c .before .before .before .before .loop .inv .1) (c .before .release-fits .ensures) (not-true _ (c .if1 .taken))

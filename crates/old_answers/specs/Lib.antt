@@ -1,0 +1,3 @@
+pub mod Before
+pub mod BeforeRun
+pub mod OldCalls
