@@ -10,7 +10,7 @@ from fractions import Fraction
 
 import causes
 import layout
-from calls import Calls, spelled
+from calls import Calls, OnTables, spelled
 from command import ROOT, Bad
 
 SHARED = ROOT / "target" / "lib" / "liblagoon.so"
@@ -62,19 +62,16 @@ class Plain:
 
     def __init__(self, mesh, program=None):
         self.calls = Calls(program)
+        self.tables = OnTables(mesh, self.calls)
         cells, faces = len(mesh.volumes), len(mesh.faces)
-        columns = [spelled([face[column] for face in mesh.faces]) for column in range(4)]
-        self.widths, self.read = mesh.widths, (int(mesh.widths == layout.WIDE), cells, faces, columns[1])
+        self.widths, self.read = mesh.widths, (int(mesh.widths == layout.WIDE), cells, faces, spelled([face.second for face in mesh.faces]))
         self.fluxes_outsides_releases = ([0] * faces, [0] * faces, [0] * cells)
-        self.mesh = (cells, faces, spelled(mesh.volumes), *columns)
-        self.next_moved_work = tuple(map(spelled, ([0] * cells, [0] * faces, [0] * (4 * cells + faces))))
 
     def step(self, field, step):
         """The next field record, or None and the answer's cause and place."""
         said, read = self.calls.ask("read_step", *self.read, list(step), *self.fluxes_outsides_releases)
         if said[0] == "accepted":
-            said, left = self.calls.ask("plain_step", *self.mesh, layout.masses_in(field), read["fluxes"], read["outsides"],
-                                        *self.next_moved_work, read["releases"])
+            said, left = self.tables.step("plain_step", layout.masses_in(field), (read["fluxes"], read["outsides"], read["releases"]))
         return (layout.field_record(left["next"], self.widths), None) if said[0] == "accepted" else (None, tuple(map(int, said[1:])))
 
 
