@@ -10,10 +10,10 @@ import budget
 import causes
 import command
 import engine
-from calls import Calls, OnTables, water
+from calls import Calls
 from causes import CELL, FACE, Refusal
 from command import Bad, Output, count
-from layout import RIM, Damage
+from layout import RIM
 from rows import Faces, Rows
 from session import open_session
 
@@ -50,7 +50,7 @@ MOST_STEP = 10 ** 9
 NOT_FACES = ("", "step", "time", "date")
 
 # Why a claim is refused: the rule that it breaks, what was found, what is allowed, and how far it is off.
-Fault = namedtuple("Fault", "refusal rule found allowed by", defaults=("", "", "", ""))
+Fault = namedtuple("Fault", "refusal rule found allowed by")
 
 
 # ---------------------------------------------------------------- The claims
@@ -164,50 +164,17 @@ def bounds(mesh, step, raised):
 
 # ---------------------------------------------------------------- Judging
 
-class Judge:
-    """A field that is carried on by accepted claims, and by the engine's steps where it is asked for them."""
+class Judge(engine.Tabled):
+    """A field that is carried on by accepted claims, and by the engine's steps where there is none; it keeps the last fault of a claim."""
 
-    def __init__(self, session, calls):
-        self.session, self.mesh, self.tables, self.masses = session, session.mesh, OnTables(session.mesh, calls), session.masses
+    fault = None
 
-    def after(self, number, damage, claim):
-        """The moment after a step, and the fault of a claim or step that is refused; without a claim the engine makes the step."""
-        try:
-            if damage:
-                raise damage
-            read = self.session.source.step(self.mesh)
-        except Damage as found:
-            return self.refused(number, Fault(causes.damaged(found)))
-        step = water(self.mesh, read)
-        said, left = self.tables.judge(self.masses, step, claim) if claim is not None else self.tables.step("step", self.masses, step)
-        if said[0] != "accepted":
-            return self.refused(number, self.fault(number, read, step, claim, tuple(map(int, said[1:]))))
-        return self.accepted(number, step, left["moved"] if claim is None else claim, left["next"], tuple(map(int, said[1:]))), None
-
-    def refused(self, number, fault):
-        return engine.Moment(number, fault.refusal, self.masses, {}, {}, {}), fault
-
-    def fault(self, number, read, step, claim, place):
-        """The words of a refusal, which have to be about the engine's cause and place."""
-        refusal = causes.step_refusal(self.mesh, read, self.masses)
+    def claim_refusal(self, step, claim):
+        if claim is None:
+            return None
         raised = [mass + release for mass, release in zip(self.masses, step[2])]
-        found = Fault(refusal) if refusal or claim is None else (face_fault(self.mesh, step, raised, claim)
-                                                             or cell_fault(self.mesh, step, raised, claim) or Fault(None))
-        if found.refusal is None or (found.refusal.cause, found.refusal.place) != place:
-            raise Bad(f"step {number}: the engine refuses it by cause {place[0]}, place {place[1]}, and tools/judge.py finds "
-                      + (causes.told(found.refusal) if found.refusal else "nothing wrong with it"))
-        return found
-
-    def accepted(self, number, step, moved, masses, answer):
-        """The moment after an accepted step, whose sums by face and cell have to be the engine's answer."""
-        entered = {face: -moved[face] for face in self.mesh.rim if moved[face] < 0}
-        gone = {face: moved[face] for face in self.mesh.rim if moved[face] > 0}
-        released = {cell: release for cell, release in enumerate(step[2]) if release}
-        sums = tuple(sum(part.values()) for part in (entered, gone, released))
-        if sums != answer:
-            raise Bad(f"step {number}: in, out and released are {answer} by the engine, {sums} by faces and cells")
-        self.masses = masses
-        return engine.Moment(number, None, masses, entered, gone, released)
+        self.fault = face_fault(self.mesh, step, raised, claim) or cell_fault(self.mesh, step, raised, claim)
+        return self.fault and self.fault.refusal
 
 
 class Verdicts:
@@ -225,13 +192,13 @@ class Verdicts:
             if step != self.steps and not self.by_engine:
                 self.lines.append(f"step {self.steps}: no claim")
                 continue
-            moment, fault = self.judge.after(self.steps, damage, claim if step == self.steps else None)
+            moment = self.judge.after(self.steps, damage, claim if step == self.steps else None)
             self.budget.add(moment)
             self.lines.append(self.line(moment, step == self.steps))
-            if fault:
-                yield self.row(moment, fault)
+            if moment.refusal:
+                yield self.row(moment)
             if step == self.steps:
-                self.claimed, self.refused = self.claimed + 1, self.refused + bool(fault)
+                self.claimed, self.refused = self.claimed + 1, self.refused + bool(moment.refusal)
                 step, claim = next(claims, (0, None))
         if step:
             raise Bad(f"{self.claims.rows.path}: a claim for step {step}, and the session has {count(self.steps, 'step')}")
@@ -243,10 +210,11 @@ class Verdicts:
         entered, gone, released = (sum(part.values()) for part in (moment.entered, moment.gone, moment.released))
         return f"step {moment.number}: {who}accepted: in {entered:,}, out {gone:,}, released {released:,}"
 
-    def row(self, moment, fault):
-        refusal = fault.refusal
+    def row(self, moment):
+        refusal, fault = moment.refusal, self.judge.fault
+        figures = fault[1:] if fault and fault.refusal is refusal else [""] * 4
         where = self.session.labels.of(refusal.thing, refusal.place) if refusal.thing else ""
-        return [moment.number, refusal.cause, refusal.place, where, fault.rule, fault.found, fault.allowed, fault.by, refusal.words]
+        return [moment.number, refusal.cause, refusal.place, where, *figures, refusal.words]
 
     def report(self, name):
         mesh, unit = self.session.mesh, self.session.labels.units.get("mass")
