@@ -1,8 +1,6 @@
 #!/usr/bin/env python3
 """Another model's steps judged: the masses that it says have moved through the faces, step by step. Document 02, S-11."""
 
-import csv
-import io
 import sys
 from collections import namedtuple
 
@@ -14,7 +12,7 @@ from calls import Calls
 from causes import CELL, FACE, Refusal
 from command import Bad, Output, count
 from layout import RIM
-from rows import Faces, Rows
+from rows import Faces, Rows, as_csv
 from session import open_session
 
 HELP = """\
@@ -48,6 +46,7 @@ MOST_CLAIM = 1 << 40
 WORD = 1 << 63                          # a mass lent to the call is below it in size
 MOST_STEP = 10 ** 9
 NOT_FACES = ("", "step", "time", "date")
+COLUMNS = ("step", "cause", "place", "where", "rule", "found", "allowed", "by", "words")       # of -o
 
 # Why a claim is refused: the rule that it breaks, what was found, what is allowed, and how far it is off.
 Fault = namedtuple("Fault", "refusal rule found allowed by")
@@ -224,15 +223,6 @@ class Verdicts:
         return [*head, "", *self.lines, "", *budget.sums([self.budget], self.session)]
 
 
-def table(rows):
-    """The rows of -o, one after another, as bytes."""
-    text = io.StringIO()
-    writer = csv.writer(text, lineterminator="\n")
-    for row in (["step", "cause", "place", "where", "rule", "found", "allowed", "by", "words"], *rows):
-        writer.writerow(row)
-    return text.getvalue().encode()
-
-
 def arguments():
     parser = command.parser("judge.py", __doc__, HELP)
     parser.add_argument("file", help="the session, text or packed (- is standard input)")
@@ -252,10 +242,10 @@ def main():
     session = open_session(options.file)
     calls = Calls(options.calls)
     verdicts = Verdicts(session, Claims(options.claims, session), Judge(session, calls), options.engine)
-    refused = table(list(verdicts.rows()))
+    refused = [COLUMNS, *verdicts.rows()]
     calls.finish()
     if options.output:
-        command.write_whole(options.output, refused)
+        command.write_whole(options.output, as_csv(refused))
     lines = "\n".join(verdicts.report(command.named(options.file)))
     command.say(lines) if options.output == "-" else print(lines)
     return 1 if verdicts.refused or verdicts.budget.difference() else 0

@@ -102,6 +102,13 @@ def whole_in(word):
     return int(value)
 
 
+def as_csv(rows):
+    """The bytes of a table that is written."""
+    text = io.StringIO()
+    csv.writer(text, lineterminator="\n").writerows(rows)
+    return text.getvalue().encode()
+
+
 class Faces:
     """The faces of a mesh by what people call them: 3, face 3, the name, face and name, or both as the tools print them."""
 
