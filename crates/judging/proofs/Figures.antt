@@ -22,6 +22,10 @@ everything = tt
 abbrev field : List ℕ
 field = 100000 ∷ 0 ∷ 0 ∷ []
 
+-- the same with salt in the second cell
+abbrev half : List ℕ
+half = 100000 ∷ 50000 ∷ 0 ∷ []
+
 -- a claim of the channel's first step, and one in still water
 abbrev flowing : List ℤ → Call
 flowing claim = claimOf (negsuc 49 ∷ pos 50 ∷ pos 50 ∷ pos 50 ∷ []) (1000 ∷ 0 ∷ 0 ∷ 0 ∷ []) (7 ∷ 7 ∷ 7 ∷ []) claim (0 ∷ 0 ∷ 0 ∷ [])
@@ -46,8 +50,17 @@ pub record ClaimFigures : Type 0 where
   pub too-large : claimVerdict channel field (through (pos 1099511627777)) ≡ refused 21 1
   pub largest-back : claimVerdict channel field (through (negsuc 1099511627775)) ≡ refused 22 0
   pub too-large-back : claimVerdict channel field (through (negsuc 1099511627776)) ≡ refused 21 1
+  pub least-entry : claimVerdict channel field (through (negsuc 9223372036854775807)) ≡ refused 21 1
   -- a rim face with one unit more than stage 1 says, and before it in order a cell that is out of bounds
   pub rim-more : claimVerdict channel field (flowing (negsuc 49999 ∷ pos 150001 ∷ pos 0 ∷ pos 1 ∷ [])) ≡ refused 21 3
+  -- a rim face one off, inward
+  pub inflow-more : claimVerdict channel field (flowing (negsuc 50000 ∷ pos 49901 ∷ pos 0 ∷ pos 0 ∷ [])) ≡ refused 21 0
+  pub inflow-less : claimVerdict channel field (flowing (negsuc 49998 ∷ pos 49901 ∷ pos 0 ∷ pos 0 ∷ [])) ≡ refused 21 0
+  -- neither the corrected step nor the plain one
+  pub another : nextTable judged channel (through (pos 49950)) field ≡ 100050 ∷ 49950 ∷ 0 ∷ []
+  -- the first cell at its lower bound, 500, and one below it
+  pub least-q : nextTable judged channel (flowing (negsuc 49999 ∷ pos 100000 ∷ pos 50000 ∷ pos 0 ∷ [])) half ≡ 50000 ∷ 100000 ∷ 50000 ∷ []
+  pub below : claimVerdict channel half (flowing (negsuc 49999 ∷ pos 100001 ∷ pos 50000 ∷ pos 0 ∷ [])) ≡ refused 22 0
   -- still water
   pub at-rest : claimVerdict channel field (still (pos 0 ∷ pos 0 ∷ pos 0 ∷ pos 0 ∷ [])) ≡ fine
   pub stirred : claimVerdict channel field (still (pos 0 ∷ pos 0 ∷ negsuc 0 ∷ pos 0 ∷ [])) ≡ refused 21 2
@@ -64,7 +77,13 @@ claim-figures = record {
   too-large = refl;
   largest-back = refl;
   too-large-back = refl;
+  least-entry = refl;
   rim-more = refl;
+  inflow-more = refl;
+  inflow-less = refl;
+  another = refl;
+  least-q = refl;
+  below = refl;
   at-rest = refl;
   stirred = refl;
 }
