@@ -10,7 +10,7 @@ import command
 import engine
 from calls import Calls
 from causes import CELL, FACE, Refusal
-from command import Bad, Output, count
+from command import Bad, count
 from layout import RIM
 from rows import Faces, Rows, as_csv
 from session import open_session
