@@ -26,6 +26,7 @@ ENGINE = Engine(lagoon)
 NAMES = [name for name, _ in CALLS.values()]
 # A step has most of the arithmetic, and of the causes.
 OFTEN = NAMES + ["step"] * 4 + ["plain_step"] * 2 + ["judge"] * 3 + ["check_step", "write_step", "lagoon_step", "take_step"]
+EACH = 12               # calls of a script: enough that every cause of every call is met
 CELLS, FACES = lagoon.LIBRARY_LIMITS
 COUNTS = [0, 1, CELLS - 1, CELLS, CELLS + 1, FACES, FACES + 1, 1 << 16, 1 << 63, GREATEST]
 
@@ -655,12 +656,12 @@ def largest():
     ])
 
 def script(seed, number):
-    """A script: as a rule eight calls, the first of them taken in turn from all."""
+    """A script: as a rule twelve calls, the first of them taken in turn from all."""
     if number == 0:
         return Script(("largest",), largest().encode())
     rng = random.Random(f"script {seed} {number}")
     large = number % 200 == 100
-    names = [NAMES[number % len(NAMES)]] + [rng.choice(OFTEN) for _ in range(0 if large else 7)]
+    names = [NAMES[number % len(NAMES)]] + [rng.choice(OFTEN) for _ in range(0 if large else EACH - 1)]
     kinds, calls = [], []
     for name in names:
         calls.append(spell(name, *MAKE[name](rng, large, kinds)))
