@@ -57,6 +57,7 @@ SCRIPT_CAUSES = {
     "total": CELLS,
     "step": STEP,
     "plain_step": STEP,
+    "judge": STEP.replace(" 2/10", "") + " 21 22",
     "mesh_length": f"11 13/0 {COUNTS}",
     "field_length": "11 13/0 13/1 1/0",
     "step_length": "11 13/0 13/1 1/0 1/1 2/2",

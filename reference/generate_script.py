@@ -14,8 +14,8 @@ from collections import Counter, namedtuple
 import generate
 import lagoon
 from generate import all_ones
-from lagoon import (CEILING, FIRSTS, FLUXES, MASSES, MOST_NAME, MOVED, NEXT, OLD_CEILING, OUTFALLS, OUTSIDES, REACHES, RELEASES, RIM, SECONDS,
-                    SHARES, STEP_TABLES, TOP, VOLUMES, WATER, WORK)
+from lagoon import (CEILING, CLAIM_TABLES, FIRSTS, FLUXES, MASSES, MOST_NAME, MOVED, NEXT, OLD_CEILING, OUTFALLS, OUTSIDES, REACHES, RELEASES, RIM,
+                    SECONDS, SHARES, STEP_TABLES, TOP, VOLUMES, WATER, WORK)
 from script import CALLS, Engine, answered, pattern, spell
 
 Script = namedtuple("Script", "kinds text")
@@ -24,7 +24,9 @@ GREATEST = (1 << 64) - 1
 LEAST, MOST = -(1 << 63), (1 << 63) - 1
 ENGINE = Engine(lagoon)
 NAMES = [name for name, _ in CALLS.values()]
-OFTEN = NAMES + ["step"] * 4 + ["plain_step"] * 2 + ["check_step", "write_step", "lagoon_step", "take_step"]     # a step has most of the arithmetic, and of the causes
+# A step has most of the arithmetic, and of the causes.
+OFTEN = NAMES + ["step"] * 4 + ["plain_step"] * 2 + ["judge"] * 3 + ["check_step", "write_step", "lagoon_step", "take_step"]
+EACH = 12               # calls of a script: enough that every cause of every call is met
 CELLS, FACES = lagoon.LIBRARY_LIMITS
 COUNTS = [0, 1, CELLS - 1, CELLS, CELLS + 1, FACES, FACES + 1, 1 << 16, 1 << 63, GREATEST]
 
@@ -190,6 +192,24 @@ def on_mesh(positions):
         lent = tables_for(rng, positions, large, kinds)
         return (lent.cells, lent.faces, *(lent.tables[position] for position in positions))
     return make
+
+def judged(rng, large, kinds):
+    """A claim: the moved masses of a step on the same tables, as they are or with one of them or some changed."""
+    lent = tables_for(rng, CLAIM_TABLES, large, kinds)
+    claim = lent.tables[MOVED]
+    advance = rng.choice([lagoon.advance, lagoon.advance_plain])
+    try:
+        found = lagoon.judge_step(lent.cells, lent.faces, lent.tables, CLAIM_TABLES)
+    except lagoon.Refusal:
+        pass
+    else:
+        claim[:lent.faces] = advance(*found).moved
+        kinds.append("own claim")
+        for f in rng.sample(range(lent.faces), min(lent.faces, rng.choice([0, 0, 1, 1, 2]))):
+            claim[f] = rng.choice([claim[f] + 1, claim[f] - 1, -claim[f], 0, claim[f] + rng.randint(-100, 100), LEAST, MOST,
+                                   lagoon.MOST_CLAIMED, -lagoon.MOST_CLAIMED, lagoon.MOST_CLAIMED + 1, -lagoon.MOST_CLAIMED - 1])
+            kinds.append("changed claim")
+    return (lent.cells, lent.faces, *(lent.tables[position] for position in CLAIM_TABLES))
 
 def on_cells(rng, large, kinds):
     lent = tables_for(rng, (VOLUMES, MASSES), large, kinds)
@@ -507,6 +527,7 @@ MAKE = {
     "total": on_cells,
     "step": on_mesh(STEP_TABLES),
     "plain_step": on_mesh(STEP_TABLES),
+    "judge": judged,
     "mesh_length": mesh_length,
     "field_length": field_length,
     "step_length": step_length,
@@ -623,6 +644,8 @@ def largest():
         spell("step", CELLS, FACES, *mesh, filled_up, still, none, *lent, released),
         spell("step", 1, FACES, *pool, [0], inflow, outsides, *lent, [0]),
         spell("plain_step", CELLS, FACES, *mesh, filled_up, still, none, *lent, released),
+        spell("judge", CELLS, FACES, *mesh, filled_up, still, none, lent[0], [0] * FACES, released),
+        spell("judge", 1, FACES, *pool, [0], inflow, outsides, lent[0], [-CEILING * TOP] * FACES, [0]),
         "# the largest mesh kept, dropped and given back, in a store of the room needed\n",
         spell("keep", CELLS, volumes, masses, [0] * (CELLS + 2), MOST_NAME),
         spell("keep", CELLS, volumes, masses, [0] * (CELLS + 1), MOST_NAME),
@@ -633,12 +656,12 @@ def largest():
     ])
 
 def script(seed, number):
-    """A script: as a rule eight calls, the first of them taken in turn from all."""
+    """A script: as a rule twelve calls, the first of them taken in turn from all."""
     if number == 0:
         return Script(("largest",), largest().encode())
     rng = random.Random(f"script {seed} {number}")
     large = number % 200 == 100
-    names = [NAMES[number % len(NAMES)]] + [rng.choice(OFTEN) for _ in range(0 if large else 7)]
+    names = [NAMES[number % len(NAMES)]] + [rng.choice(OFTEN) for _ in range(0 if large else EACH - 1)]
     kinds, calls = [], []
     for name in names:
         calls.append(spell(name, *MAKE[name](rng, large, kinds)))

@@ -15,6 +15,7 @@ RIM = 4095                  # the mark of the rim in the place of a second cell
 TOP = 1_000_000             # greatest concentration
 CEILING = 65_535            # greatest V, K and |U| over the rim (document 02, S-10)
 OLD_CEILING = 4_095         # and those that records of kinds 1 to 4 hold
+MOST_CLAIMED = 1 << 40      # greatest size of a claimed mass
 LIBRARY_LIMITS = (4095, 8190)
 RUN_LIMITS = (1023, 2046)
 
@@ -22,6 +23,7 @@ RUN_LIMITS = (1023, 2046)
 (VOLUMES, FIRSTS, SECONDS, SHARES, REACHES, MASSES,
  FLUXES, OUTSIDES, NEXT, MOVED, WORK, RECORD, PAGE, STORE, RELEASES) = range(15)
 STEP_TABLES = (*range(WORK + 1), RELEASES)
+CLAIM_TABLES = (*range(WORK), RELEASES)         # of a judging, in which moved is the claim (document 02, S-11)
 
 # Kinds of records; a step of kind 4 has releases (document 02, S-6).
 MESH, FIELD, WATER, OUTFALLS = 1, 2, 3, 4
@@ -123,8 +125,8 @@ def keep(mesh, low, corrected):
         result.append(0 if c == 0 or q[giver] > q[receiver] else c)
     return result
 
-def bounds(mesh, low, q, fluxes, outsides):
-    """Stage 3: G and L of every cell, from the least and greatest q that it meets before the step."""
+def neighbourhoods(mesh, q, fluxes, outsides):
+    """Stage 3: all q that each cell meets before the step."""
     near = [[own] for own in q]
     for first, second, U, outside in zip(mesh.firsts, mesh.seconds, fluxes, outsides):
         if second == RIM:
@@ -133,6 +135,11 @@ def bounds(mesh, low, q, fluxes, outsides):
         elif U != 0:
             near[first].append(q[second])
             near[second].append(q[first])
+    return near
+
+def bounds(mesh, low, q, fluxes, outsides):
+    """Stage 3: G and L of every cell, from the least and greatest of its neighbourhood."""
+    near = neighbourhoods(mesh, q, fluxes, outsides)
     gains = [V * max(seen) + V - 1 - m for V, seen, m in zip(mesh.volumes, near, low)]
     losses = [m - V * min(seen) for V, seen, m in zip(mesh.volumes, near, low)]
     return gains, losses
@@ -282,12 +289,12 @@ def mesh_needs(cells, faces):
 def counted_mesh(cells, faces, tables):
     return Mesh(tables[VOLUMES][:cells], *(tables[i][:faces] for i in (FIRSTS, SECONDS, SHARES, REACHES)))
 
-def judge_step(cells, faces, tables):
+def judge_step(cells, faces, tables, positions=STEP_TABLES):
     """All causes of a step, corrected or plain, on its tables by position; what is counted of those that it reads."""
     judge_counts(cells, faces, LIBRARY_LIMITS)
-    judge_lengths(lengths_of(tables), {**mesh_needs(cells, faces), MASSES: cells, FLUXES: faces,
-                                       OUTSIDES: faces, NEXT: cells, MOVED: faces,
-                                       WORK: 4 * cells + faces, RELEASES: cells})
+    needs = {**mesh_needs(cells, faces), MASSES: cells, FLUXES: faces, OUTSIDES: faces, NEXT: cells, MOVED: faces,
+             WORK: 4 * cells + faces, RELEASES: cells}
+    judge_lengths(lengths_of(tables), {position: needs[position] for position in positions})
     mesh, masses = counted_mesh(cells, faces, tables), tables[MASSES][:cells]
     fluxes, outsides, releases = tables[FLUXES][:faces], tables[OUTSIDES][:faces], tables[RELEASES][:cells]
     judge_mesh(mesh)
@@ -309,6 +316,24 @@ def step_on_tables(cells, faces, tables):
 
 def plain_step_on_tables(cells, faces, tables):
     return fill_tables(cells, faces, tables, advance_plain(*judge_step(cells, faces, tables)))
+
+def judge_claim(mesh, masses, fluxes, outsides, releases, claim):
+    """Document 02, S-11: causes 21 and 22 of a claim that has passed those of a step; gives what it comes to."""
+    masses = raised(masses, releases)
+    q = concentrations(mesh.volumes, masses)
+    carried, _ = upwind(mesh, masses, q, fluxes, outsides)
+    refuse_first(21, (abs(x) > MOST_CLAIMED or (U == 0 and x != 0) or (second == RIM and x != said)
+                      for x, U, second, said in zip(claim, fluxes, mesh.seconds, carried)))
+    after = move(mesh, masses, claim)
+    refuse_first(22, (m < 0 or not min(near) <= m // V <= max(near)
+                      for m, V, near in zip(after, mesh.volumes, neighbourhoods(mesh, q, fluxes, outsides))))
+    return Result(after, claim, in_mass(mesh, fluxes, outsides), out_mass(mesh, q, fluxes), released_mass(releases))
+
+def judge_on_tables(cells, faces, tables):
+    """The judging of a claim, lent as moved; next masses are filled, and nothing else."""
+    result = judge_claim(*judge_step(cells, faces, tables, CLAIM_TABLES), tables[MOVED][:faces])
+    tables[NEXT][:cells] = result.masses
+    return result.in_mass, result.out_mass, result.released
 
 
 # ---------------------------------------------------------------- Record layouts

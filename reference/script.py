@@ -42,6 +42,7 @@ CALLS = {
     27: ("middle_stage", "nnnnnnnn"),
     28: ("face_share", "nnnnnnnn"),
     29: ("plain_step", "nnttttttsttstt"),
+    30: ("judge", "nnttttttsttst"),
 }
 NUMBER_OF = {name: number for number, (name, _) in CALLS.items()}
 
@@ -193,6 +194,9 @@ class Engine:
     def plain_step(self, cells, faces, *tables):
         return self.lagoon.plain_step_on_tables(cells, faces, dict(zip(self.lagoon.STEP_TABLES, tables, strict=True)))
 
+    def judge(self, cells, faces, *tables):
+        return self.lagoon.judge_on_tables(cells, faces, dict(zip(self.lagoon.CLAIM_TABLES, tables, strict=True)))
+
     def limits(self, cells, faces):
         """Limits that a caller sets do not widen document 01's."""
         most = self.lagoon.LIBRARY_LIMITS
@@ -319,6 +323,7 @@ class Engine:
 CHANGED = {
     "step": {10: "next", 11: "moved", 12: "work"},
     "plain_step": {10: "next", 11: "moved", 12: "work"},
+    "judge": {10: "next"},
     "read_mesh": {3: "volumes", 4: "firsts", 5: "seconds", 6: "shares", 7: "reaches"},
     "read_field": {3: "masses"},
     "read_step": {5: "fluxes", 6: "outsides", 7: "releases"},

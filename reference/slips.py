@@ -496,8 +496,53 @@ def uncleared(lagoon):
     lagoon.plain_step_on_tables = plain_step_on_tables
 
 
+# ---------------------------------------------------------------- Document 02, S-11: a claim judged
+
+def largest(lagoon):
+    """A claim of the largest size refused."""
+    lagoon.MOST_CLAIMED -= 1
+
+
+def unswayed(lagoon):
+    """A claim through a still interior face accepted."""
+    right = lagoon.judge_claim
+    lagoon.judge_claim = lambda mesh, masses, fluxes, outsides, releases, claim: right(
+        mesh, masses, [U if second == lagoon.RIM or U else 1 for second, U in zip(mesh.seconds, fluxes)], outsides, releases, claim)
+
+
+def unbound(lagoon):
+    """Next masses judged by 22 for their sign alone."""
+    right = lagoon.judge_claim
+
+    def judge_claim(*step):
+        near = lagoon.neighbourhoods
+        lagoon.neighbourhoods = lambda *values: [[0, 1 << 64] for _ in near(*values)]
+        try:
+            return right(*step)
+        finally:
+            lagoon.neighbourhoods = near
+
+    lagoon.judge_claim = judge_claim
+
+
+def unheld(lagoon):
+    """A rim face that claims another mass than stage 1 says accepted."""
+    right = lagoon.judge_claim
+
+    def judge_claim(mesh, masses, fluxes, outsides, releases, claim):
+        upwind = lagoon.upwind
+        lagoon.upwind = lambda *values: (claim, None)
+        try:
+            return right(mesh, masses, fluxes, outsides, releases, claim)
+        finally:
+            lagoon.upwind = upwind
+
+    lagoon.judge_claim = judge_claim
+
+
 ANSWER_SLIPS = {slip.__name__: slip for slip in (place, table, beyond, bit, dropped, binder, places, lifted, fresher, unweighed, higher, first,
-                                                 freed, nearest, exchanged, corrects, bare, mingled, rounded, lenient, uncleared)}
+                                                 freed, nearest, exchanged, corrects, bare, mingled, rounded, lenient, uncleared,
+                                                 largest, unswayed, unbound, unheld)}
 
 
 ALL_SLIPS = {**SLIPS, **CALL_SLIPS, **RUN_SLIPS, **ANSWER_SLIPS}

@@ -143,6 +143,36 @@ def test_releases():
     refused(2, 14, "releases in kind 3 too", lagoon.write_step, lagoon.WATER, 3, 4, short, 28)
 
 
+def judged(claim, masses=(100000, 0, 0), fluxes=None, outsides=None, releases=None):
+    """The channel's claim judged: in-mass, out-mass, released mass and next masses."""
+    tables = tables_for(CHANNEL, list(masses), fluxes or FLOW, outsides or OUTSIDE, releases)
+    tables[lagoon.MOVED] = list(claim)
+    del tables[lagoon.WORK]
+    answer = lagoon.judge_on_tables(3, 4, tables)
+    equal(tables[lagoon.MOVED], list(claim), "the claim stays")
+    return *answer, tables[lagoon.NEXT]
+
+
+def test_judging():
+    """Document 02, S-11: claims of the engine's own steps, at the edges of 21 and 22, and after the step's causes."""
+    for advance in (lagoon.advance, lagoon.advance_plain):
+        for releases in ([0, 0, 0], [150, 20000, 150]):
+            own = advance(CHANNEL, [100000, 0, 0], FLOW, OUTSIDE, releases)
+            equal(judged(own.moved, releases=releases), (own.in_mass, own.out_mass, own.released, own.masses), "an own step")
+    most = 1_099_511_627_776
+    for place, claim in ((0, [-50001, 50000, 0, 0]), (0, [0, 50000, 0, 0]), (3, [-50000, 50000, 0, 1]), (1, [-50000, most + 1, 0, 0]), (1, [-50000, -most - 1, 0, 0])):
+        refused(21, place, f"claim {claim}", judged, claim)
+    for place, claim in ((0, [-50000, 49900, 0, 0]), (1, [-50000, 100100, 0, 0]), (1, [-50000, 50000, 50001, 0]), (0, [-50000, most, 0, 0]), (0, [-50000, -most, 0, 0])):
+        refused(22, place, f"claim {claim}", judged, claim)
+    equal(judged([-50000, 49901, 0, 0])[3], [100099, 49901, 0], "the least that may leave cell 0")
+    equal(judged([-50000, 100099, 0, 0])[3], [49901, 100099, 0], "the most that cell 1 may get")
+    for place in range(4):
+        refused(21, place, "a still face that moves", judged, [int(f == place) for f in range(4)], [0, 0, 0], [0] * 4, [0] * 4)
+    refused(18, 2, "18 before 21", judged, [1, 1, 1, 1], [0, 0, 0], FLOW, OUTSIDE, [0, 0, 100_000_100])
+    refused(9, 2, "9 before 21", judged, [1, 1, 1, 1], [0, 0, 0], [-50, 50, 50, 49])
+    refused(21, 3, "21 before 22", judged, [-50000, 150001, 0, 1])
+
+
 def test_plain():
     """Document 02, S-8: stages 1 and 5 alone, with the step's causes."""
     equal(plain(CHANNEL, [100000, 0, 0], FLOW, OUTSIDE), ([100000, 50000, 0], [-50000, 50000, 0, 0]), "plain channel, step 1")

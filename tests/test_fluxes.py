@@ -226,7 +226,8 @@ def test_the_command():
         breaks("fluxes.py", lagoon, table)
         interrupted("fluxes.py", lagoon, "-")
         refuses("is read", "fluxes.py", lagoon, table, "-o", table)
-        refuses("'x' is no rim face", "fluxes.py", lagoon, table, "--outside", "x=5")
+        refuses("'x' is no face of the mesh", "fluxes.py", lagoon, table, "--outside", "x=5")
+        refuses("'1' is no rim face", "fluxes.py", lagoon, table, "--outside", "1=5")
         refuses("should be FACE=Q", "fluxes.py", lagoon, table, "--outside", "sea=1000001")
         for option, value in (("--split", "0"), ("--split", "9" * 5000), ("--factor", "nan"), ("--tolerance", "-1")):
             refuses("not '", "fluxes.py", lagoon, table, option, value, status=2)

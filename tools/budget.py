@@ -84,17 +84,23 @@ def report(budgets, session, name):
     lines = [f"Salt budget of {name}" + (f", masses in units of {unit}" if unit else ""),
              f"{count(len(mesh.volumes), 'cell')}, {count(len(mesh.faces), 'face')} ({len(mesh.rim):,} at the rim); "
              f"{count(steps, 'step')}, {corrected.accepted:,} accepted, {sum(corrected.causes.values()):,} refused", ""]
+    lines += sums(budgets, session) + refusals(corrected, labels)
+    return lines + (beside(*budgets, session) if len(budgets) > 1 else [])
+
+
+def sums(budgets, session):
+    """First total, what came and went by rim face and cell, last total and difference, a column for each budget."""
+    mesh, labels = session.mesh, session.labels
     rows = [("first total", "", [budget.first for budget in budgets])]
     for sign, words, thing, places, every in (("+", "in", "face", mesh.rim, "all rim faces"),
                                               ("+", "released", "cell", range(len(mesh.volumes)), "all cells"),
                                               ("-", "out", "face", mesh.rim, "all rim faces")):
-        sums = [{"in": budget.entered, "released": budget.released, "out": budget.gone}[words] for budget in budgets]
-        rows += [(f"  {words}, {labels.of(thing, place)}", sign, [each[place] for each in sums])
-                 for place in places if any(each[place] for each in sums)]
-        rows.append((f"{words}, {every}", sign, [sum(each.values()) for each in sums]))
+        parts = [{"in": budget.entered, "released": budget.released, "out": budget.gone}[words] for budget in budgets]
+        rows += [(f"  {words}, {labels.of(thing, place)}", sign, [each[place] for each in parts])
+                 for place in places if any(each[place] for each in parts)]
+        rows.append((f"{words}, {every}", sign, [sum(each.values()) for each in parts]))
     rows += [("last total", "=", [budget.last for budget in budgets]), ("difference", "", [budget.difference() for budget in budgets])]
-    lines += columns(rows, ("corrected", "plain upwind") if len(budgets) > 1 else ("",)) + refusals(corrected, labels)
-    return lines + (beside(*budgets, session) if len(budgets) > 1 else [])
+    return columns(rows, ("corrected", "plain upwind") if len(budgets) > 1 else ("",))
 
 
 def columns(rows, heads):

@@ -6,7 +6,7 @@ import subprocess
 from command import ROOT, Bad
 
 PROGRAM = ROOT / "target" / "bin" / "calls"
-NUMBERS = {"read_step": 13, "plain_step": 29}       # of the calls that are asked for
+NUMBERS = {"step": 7, "read_step": 13, "plain_step": 29, "judge": 30}      # of the calls that are asked for
 
 
 def spelled(argument):
@@ -52,3 +52,31 @@ class Calls:
             pass
         self.process.stdout.close()
         self.process.wait()
+
+
+class OnTables:
+    """The calls that are lent the tables of a mesh, a field and the water of a step."""
+
+    def __init__(self, mesh, calls):
+        self.calls, self.cells, self.faces = calls, len(mesh.volumes), len(mesh.faces)
+        columns = [spelled([face[column] for face in mesh.faces]) for column in range(4)]
+        self.mesh = (self.cells, self.faces, spelled(mesh.volumes), *columns)
+        self.next, self.moved = spelled([0] * self.cells), spelled([0] * self.faces)
+        self.work = spelled([0] * (4 * self.cells + self.faces))
+
+    def step(self, name, masses, water):
+        """The step of that name; water: fluxes, outsides and releases, an entry for each face or cell."""
+        fluxes, outsides, releases = water
+        return self.calls.ask(name, *self.mesh, masses, fluxes, outsides, self.next, self.moved, self.work, releases)
+
+    def judge(self, masses, water, claim):
+        fluxes, outsides, releases = water
+        return self.calls.ask("judge", *self.mesh, masses, fluxes, outsides, self.next, claim, releases)
+
+
+def water(mesh, step):
+    """Fluxes, outsides and releases of a step that was read, as the calls are lent them."""
+    outsides = [0] * len(mesh.faces)
+    for face, outside in zip(mesh.rim, step.outsides):
+        outsides[face] = outside
+    return step.fluxes, outsides, step.releases or [0] * len(mesh.volumes)

@@ -17,7 +17,8 @@ IN_WORDS = {1: "too many cells or faces, or no cell", 3: "a volume out of its ra
             5: "a share or reach out of its range", 6: "too high a concentration", 7: "an outside value out of its range or place",
             8: "a flux too large for its face", 9: "a cell whose inflow and outflow differ", 10: "a cell's outflow above its volume",
             11: "a record of the wrong length", 12: "a wrong bit in a record", 13: "a record of the wrong kind or count",
-            18: "too high a concentration with a release"}
+            18: "too high a concentration with a release", 21: "a claimed mass too large, at a still face, or not what the rim's water carries",
+            22: "a cell out of its bounds by a claim"}
 
 Refusal = namedtuple("Refusal", "cause thing place words")      # thing: what the place counts, or "" where the words say all
 

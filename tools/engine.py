@@ -10,7 +10,7 @@ from fractions import Fraction
 
 import causes
 import layout
-from calls import Calls, spelled
+from calls import Calls, OnTables, spelled, water
 from command import ROOT, Bad
 
 SHARED = ROOT / "target" / "lib" / "liblagoon.so"
@@ -62,19 +62,16 @@ class Plain:
 
     def __init__(self, mesh, program=None):
         self.calls = Calls(program)
+        self.tables = OnTables(mesh, self.calls)
         cells, faces = len(mesh.volumes), len(mesh.faces)
-        columns = [spelled([face[column] for face in mesh.faces]) for column in range(4)]
-        self.widths, self.read = mesh.widths, (int(mesh.widths == layout.WIDE), cells, faces, columns[1])
+        self.widths, self.read = mesh.widths, (int(mesh.widths == layout.WIDE), cells, faces, spelled([face.second for face in mesh.faces]))
         self.fluxes_outsides_releases = ([0] * faces, [0] * faces, [0] * cells)
-        self.mesh = (cells, faces, spelled(mesh.volumes), *columns)
-        self.next_moved_work = tuple(map(spelled, ([0] * cells, [0] * faces, [0] * (4 * cells + faces))))
 
     def step(self, field, step):
         """The next field record, or None and the answer's cause and place."""
         said, read = self.calls.ask("read_step", *self.read, list(step), *self.fluxes_outsides_releases)
         if said[0] == "accepted":
-            said, left = self.calls.ask("plain_step", *self.mesh, layout.masses_in(field), read["fluxes"], read["outsides"],
-                                        *self.next_moved_work, read["releases"])
+            said, left = self.tables.step("plain_step", layout.masses_in(field), (read["fluxes"], read["outsides"], read["releases"]))
         return (layout.field_record(left["next"], self.widths), None) if said[0] == "accepted" else (None, tuple(map(int, said[1:])))
 
 
@@ -100,11 +97,7 @@ class Walk:
 
     def words(self, number, damage, refused):
         """The words of a refusal, which have to be about the engine's cause and place."""
-        refusal = causes.damaged(damage) if damage else causes.refused_step(self.session.source, self.mesh, self.masses)
-        if refusal is None or (refusal.cause, refusal.place) != refused:
-            raise Bad(f"step {number}: the engine refuses it by cause {refused[0]}, place {refused[1]}, and tools/causes.py finds "
-                      + (causes.told(refusal) if refusal else "nothing wrong with it"))
-        return refusal
+        return agreeing(number, causes.damaged(damage) if damage else causes.refused_step(self.session.source, self.mesh, self.masses), refused)
 
     def over_the_rim(self, record, masses):
         """In-mass and out-mass of an accepted step on these raised masses, by rim face: document 01's two sums, face by face."""
@@ -116,6 +109,57 @@ class Walk:
             elif flux:
                 gone[face] = flux * (masses[first] // self.mesh.volumes[first])
         return entered, gone
+
+
+class Tabled:
+    """A field carried on by steps on tables, through the program `calls`: what moves through each face is known then."""
+
+    def __init__(self, session, calls, masses=None):
+        self.session, self.mesh, self.tables = session, session.mesh, OnTables(session.mesh, calls)
+        self.masses, self.moved = masses or session.masses, None
+
+    def after(self, number, damage, claim=None):
+        """The moment after one step more of the session: by the engine's corrected step, or by what another model claims to have moved."""
+        try:
+            if damage:
+                raise damage
+            read = self.session.source.step(self.mesh)
+        except layout.Damage as found:
+            return Moment(number, causes.damaged(found), self.masses, {}, {}, {})
+        step = water(self.mesh, read)
+        said, left = self.tables.step("step", self.masses, step) if claim is None else self.tables.judge(self.masses, step, claim)
+        answer = tuple(map(int, said[1:]))
+        if said[0] != "accepted":
+            return Moment(number, self.words(number, answer, read, claim), self.masses, {}, {}, {})
+        self.masses, self.moved = left["next"], left["moved"] if claim is None else claim
+        return self.accepted(number, answer, step)
+
+    def words(self, number, refused, read, claim):
+        """The words of a refusal, which have to be about the engine's cause and place."""
+        refusal = causes.step_refusal(self.mesh, read, self.masses) or self.claim_refusal(water(self.mesh, read), claim)
+        return agreeing(number, refusal, refused)
+
+    def claim_refusal(self, step, claim):
+        """Why a claim is refused whose step the engine would accept; the engine's own steps are not."""
+        return None
+
+    def accepted(self, number, answer, step):
+        """The moment after an accepted step, whose sums by face and cell have to be the engine's answer."""
+        entered = {face: -self.moved[face] for face in self.mesh.rim if self.moved[face] < 0}
+        gone = {face: self.moved[face] for face in self.mesh.rim if self.moved[face] > 0}
+        released = {cell: release for cell, release in enumerate(step[2]) if release}
+        sums = tuple(sum(part.values()) for part in (entered, gone, released))
+        if sums != answer:
+            raise Bad(f"step {number}: in, out and released are {answer} by the engine, {sums} by faces and cells")
+        return Moment(number, None, self.masses, entered, gone, released)
+
+
+def agreeing(number, refusal, refused):
+    """The words of a refusal, which have to be about the engine's cause and place."""
+    if refusal is None or (refusal.cause, refusal.place) != refused:
+        raise Bad(f"step {number}: the engine refuses it by cause {refused[0]}, place {refused[1]}, and tools/causes.py finds "
+                  + (causes.told(refusal) if refusal else "nothing wrong with it"))
+    return refusal
 
 
 class History:

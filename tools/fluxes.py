@@ -14,6 +14,7 @@ import command
 import layout
 from command import Bad, Output, count, shown
 from layout import RIM, Step
+from rows import Faces
 from session import Session, is_text
 from sessiontext import MOST_LINE, MOST_TIMES, StepText, field_text, mesh_text
 
@@ -240,9 +241,9 @@ class Table:
     def columns(self, heading, labels):
         """The column of each face and of each outside value."""
         self.width, self.faces, self.outsides = len(heading), {}, {}
-        numbers = {name: face for face, name in labels.names["face"].items()}
+        faces = Faces(self.mesh, labels)
         for column, words in enumerate(heading):
-            kind, face = self.heading_of(words.strip(), numbers)
+            kind, face = self.heading_of(words.strip(), faces)
             if kind == "":
                 continue
             into = self.faces if kind == "face" else self.outsides
@@ -251,16 +252,16 @@ class Table:
             into[face] = column
         self.missing = [face for face in range(len(self.mesh.faces)) if face not in self.faces]
 
-    def heading_of(self, words, numbers):
+    def heading_of(self, words, faces):
         """flux or outside value and the face, or nothing where the column is not read."""
         if words.lower() in ("", "time", "step", "date"):
             return "", 0
-        found = re.fullmatch(r"(outside\s+)?(?:face\s+)?(\S.*)", words)
-        kind, face = ("outside" if found[1] else "face"), numbers.get(found[2], found[2])
-        if not isinstance(face, int):
-            if not re.fullmatch("[0-9]{1,5}", face) or int(face) >= len(self.mesh.faces):
-                raise Bad(f"{self.name}:1: {shown(words)} is no face of the mesh (0 to {len(self.mesh.faces) - 1}) nor the name of one")
-            face = int(face)
+        found = re.fullmatch(r"(outside\s+)?(\S.*)", words)
+        kind = "outside" if found[1] else "face"
+        try:
+            face = faces.of(found[2])
+        except Bad as bad:
+            raise Bad(f"{self.name}:1: {bad}") from None
         if kind == "outside" and face not in self.mesh.rim:
             raise Bad(f"{self.name}:1: {shown(words)}: face {face} is not at the rim")
         return kind, face
@@ -442,13 +443,15 @@ class Lagoon:
 
 def outside_values(texts, lagoon):
     """The constant outside values of --outside FACE=Q."""
-    numbers = {name: face for face, name in lagoon.labels.names["face"].items()}
-    found = {}
+    faces, found = Faces(lagoon.mesh, lagoon.labels), {}
     for text in texts:
         name, _, value = text.rpartition("=")
         if not re.fullmatch("[0-9]{1,7}", value) or int(value) > causes.TOP:
             raise Bad(f"--outside {shown(text)} should be FACE=Q, with Q from 0 to {causes.TOP:,}")
-        face = numbers.get(name, int(name) if re.fullmatch("[0-9]{1,5}", name) else -1)
+        try:
+            face = faces.of(name)
+        except Bad as bad:
+            raise Bad(f"--outside {shown(text)}: {bad}") from None
         if face not in lagoon.mesh.rim:
             raise Bad(f"--outside {shown(text)}: {shown(name)} is no rim face")
         found[face] = int(value)

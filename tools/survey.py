@@ -2,8 +2,6 @@
 """A survey's tables to a lagoon: mesh and field in whole units, from CSV files of the cells and of the faces."""
 
 import argparse
-import csv
-import io
 import math
 import sys
 
@@ -12,6 +10,7 @@ import command
 import points
 from command import Bad, count, shown
 from layout import NARROW, RIM, Face, mesh_of, most
+from rows import LARGEST, Rows
 from sessiontext import face_line
 
 HELP = """\
@@ -41,56 +40,6 @@ examples:
   tools/survey.py cells.csv faces.csv --wide -o lagoon.txt
 """
 
-LARGEST_UNIT = 10 ** 12
-
-
-class Rows:
-    """The rows of a table by the words of its heading."""
-
-    def __init__(self, path, wanted, either=((),)):
-        """The columns wanted, and those of the first of the lists `either` that the heading has."""
-        self.path = path
-        try:
-            with command.opened(path) as file:
-                text = file.read().decode("utf-8-sig", "replace")
-            comma = ";" if ";" in text.partition("\n")[0] else ","
-            rows = list(csv.reader(io.StringIO(text), delimiter=comma))
-        except csv.Error as error:
-            raise Bad(f"{path}: {error}") from None
-        heading = [words.strip().lower() for words in rows[0]] if rows else []
-        chosen = next((columns for columns in either if all(words in heading for words in columns)), either[0])
-        for words in (*wanted, *chosen):
-            if heading.count(words) != 1:
-                raise Bad(f"{path}:1: the heading should have one column '{words}'")
-        self.comma, self.chosen, self.at = comma, chosen, {words: heading.index(words) for words in (*wanted, *chosen)}
-        self.rows = [(line, row) for line, row in enumerate(rows, 1) if line > 1 and any(word.strip() for word in row)]
-        if not self.rows:
-            raise Bad(f"{path}: there is no row under the heading")
-
-    def word(self, line, row, column):
-        return row[self.at[column]].strip() if self.at[column] < len(row) else ""
-
-    def name(self, line, row, column):
-        word = self.word(line, row, column)
-        if not word or "#" in word or not word.isprintable():
-            raise Bad(f"{self.path}:{line}: {column} should be a name, not {shown(word)}")
-        return " ".join(word.split())
-
-    def float(self, word):
-        """A word as a float, not a number where it is none."""
-        try:
-            return float("nan" if "_" in word else word.replace(",", ".") if self.comma == ";" else word)
-        except ValueError:
-            return math.nan
-
-    def number(self, line, row, column, least=0.0):
-        word = self.word(line, row, column)
-        value = self.float(word)
-        if not least <= value <= LARGEST_UNIT:
-            raise Bad(f"{self.path}:{line}: {column} should be a number{' above 0' if least else ''}, not {shown(word)}")
-        return value
-
-
 LEAST = 1e-9                    # a length, area or volume that counts as above 0
 
 
@@ -99,14 +48,14 @@ class Survey:
 
     def __init__(self, cells, faces):
         self.names, self.volumes, self.salts = [], [], []
-        for line, row in cells.rows:
+        for line, row in cells.rows():
             name = cells.name(line, row, "cell")
             if name in self.names or name == "rim":
                 raise Bad(f"{cells.path}:{line}: a second cell called {shown(name)}" if name != "rim" else f"{cells.path}:{line}: 'rim' is no cell's name")
             self.names.append(name)
             self.volumes.append(cells.number(line, row, "volume", LEAST))
             self.salts.append(cells.number(line, row, "salt"))
-        self.faces = [self.face(faces, line, row) for line, row in faces.rows]
+        self.faces = [self.face(faces, line, row) for line, row in faces.rows()]
 
     def face(self, faces, line, row):
         """Name, first, second, share and area times distance."""
@@ -116,7 +65,7 @@ class Survey:
             return name, first, RIM, 0, 0
         area = faces.number(line, row, "area", LEAST)
         if faces.chosen == points.COLUMNS:
-            coordinates = [faces.float(faces.word(line, row, column)) for column in points.COLUMNS]
+            coordinates = [faces.float(faces.word(row, column)) for column in points.COLUMNS]
             share = points.share(coordinates)
             if isinstance(share, causes.Refusal):
                 raise Bad(f"{faces.path}:{line}: {causes.told(share)}")
@@ -197,7 +146,7 @@ def amount(text):
         value = float(text)
     except ValueError:
         value = math.nan
-    if not LEAST <= value <= LARGEST_UNIT:
+    if not LEAST <= value <= LARGEST:
         raise argparse.ArgumentTypeError(f"a number above 0, not {shown(text)}")
     return value
 

@@ -35,8 +35,8 @@ WORD_BITS = 64          # of a number of the program
 WIDEST_LINE = 76        # columns of a fenced block that an A4 page holds
 
 # Numbers of the papers that the page's prose may say.
-CONSTANTS = {lagoon.RIM, lagoon.TOP, *lagoon.LIBRARY_LIMITS, *lagoon.RUN_LIMITS, 255, 256, 128, lagoon.PAGE_CELLS, 17, 18, 19, lagoon.CEILING,
-             layout.WIDE.value, *lagoon.MASS_BITS, WORD_BITS}
+CONSTANTS = {lagoon.RIM, lagoon.TOP, *lagoon.LIBRARY_LIMITS, *lagoon.RUN_LIMITS, 255, 256, 128, lagoon.PAGE_CELLS,
+             layout.WIDE.value, *lagoon.MASS_BITS, WORD_BITS, 17, 18, 19, lagoon.CEILING, lagoon.MOST_CLAIMED, 21, 22}
 
 
 def same(ours, reference):
@@ -393,6 +393,35 @@ class Step:
         return [*columns(cells), *budget]
 
 
+    # ------------------------------------------------------------ another model's claim
+
+    def judged(self, claim):
+        """A claim for this step in the place of its moved masses, judged face by face, then cell by cell, up to what refuses it."""
+        faces, fault = [("face", "U", "claim", "water", "stage 1")], None
+        for f in self.faces:
+            U, x, carried = self.U[f], claim[f], f"{signed(self.U[f])} · {self.upwind[f][1]} = {signed(self.carried[f])}"
+            fits = abs(x) <= lagoon.MOST_CLAIMED and (U != 0 or x == 0) and (not self.at_rim(f) or x == self.carried[f])
+            faces.append((f, signed(U), signed(x), "still" if U == 0 else "over the rim" if self.at_rim(f) else "inside", carried if self.at_rim(f) else "any"))
+            fault = fault or (None if fits else (21, f"face {f}"))
+        lines, cells = columns(faces), [("cell", "next mass = m + entering − leaving", "q", "lo", "hi")]
+        for c in self.cells if not fault else ():
+            after = self.m[c] + self.into(c, claim) - self.out_of(c, claim)
+            q = after // self.mesh.volumes[c]
+            cells.append((c, f"{self.m[c]} + {self.into(c, claim)} − {self.out_of(c, claim)} = {signed(after)}", signed(q), self.lo[c], self.hi[c]))
+            fault = fault or (None if after >= 0 and self.lo[c] <= q <= self.hi[c] else (22, f"cell {c}"))
+        lines += columns(cells) if len(cells) > 1 else []
+        same(fault, self.refused_claim(claim))
+        return [*lines, f"refused: cause {fault[0]}, {fault[1]}" if fault else "accepted"]
+
+    def refused_claim(self, claim):
+        """The reference's verdict on a claim: cause and place, None where it is accepted."""
+        try:
+            lagoon.judge_claim(self.mesh, self.lent, self.U, self.outside, self.releases, claim)
+        except lagoon.Refusal as refusal:
+            return refusal.cause, f"{'face' if refusal.cause == 21 else 'cell'} {refusal.place}"
+        return None
+
+
 STEP_1 = Step(CHANNEL, CHANNEL.first)
 STEP_2 = Step(CHANNEL, STEP_1.next)
 SECOND_STEP = Step(SECOND, SECOND.first)
@@ -510,6 +539,14 @@ def plain_pair():
     return columns(rows)
 
 
+def claims():
+    """Three claims for the channel's first step: one between the corrected and the plain step, one of a bar that holds too much back, and one
+    that brings more than the sea does."""
+    entered, moved = STEP_1.moved[0], (STEP_1.moved[1] + STEP_1.carried[1]) // 2
+    found = ([entered, moved, 0, 0], [entered, STEP_1.moved[1] - 1, 0, 0], [entered - 1, moved, 0, 0])
+    return [line for claim in found for line in [*STEP_1.judged(claim), ""]][:-1]
+
+
 def year():
     """The channel's step a year of hours long."""
     masses, entered, gone = CHANNEL.first, 0, 0
@@ -582,7 +619,7 @@ BLOCKS = {"layouts": layouts, "bytes": the_bytes, "mesh-bits": lambda: fenced(me
           "second-printed": lambda: fenced(SECOND.printed()), "outfall-bits": lambda: fenced(step_bits(OUTFALL, "step with releases")),
           "outfall-step": lambda: fenced(OUTFALL_STEP.lines()), "outfall-printed": lambda: fenced(OUTFALL.printed()),
           "plain-1": lambda: fenced(STEP_1.plain_lines()), "plain-2": lambda: fenced(PLAIN_2.plain_lines()),
-          "plain-error": lambda: fenced(plain_error()), "plain-pair": lambda: fenced(plain_pair()),
+          "plain-error": lambda: fenced(plain_error()), "plain-pair": lambda: fenced(plain_pair()), "claims": lambda: fenced(claims()),
           "year": lambda: fenced(year()), "widest": lambda: fenced(widest()),
           "edition": edition, "form": lambda: fenced(form()),
           "page": lambda: fenced(binder_page(CHANNEL, STEP_2.next)), "page-back": lambda: fenced(page_back(CHANNEL, STEP_2.next)),

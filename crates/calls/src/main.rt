@@ -68,6 +68,8 @@ const FACE_SHARE: u64 = 28;
 
 const PLAIN_STEP: u64 = 29;
 
+const JUDGE: u64 = 30;
+
 // The arguments of a call from the left: 1 a number, 2 a table, 3 a table of signed numbers, 4 bytes. No call has the shape 0.
 fn shape(call: u64) -> u64 {
     match call {
@@ -76,6 +78,7 @@ fn shape(call: u64) -> u64 {
         CHECK_FIELD => 0x1122_2222_0000_0000,
         CHECK_CELLS | TOTAL | BOARD => 0x1220_0000_0000_0000,
         CHECK_STEP | STEP | PLAIN_STEP => 0x1122_2222_3223_2200,
+        JUDGE => 0x1122_2222_3223_2000,
         MESH_LENGTH | FIELD_LENGTH => 0x1140_0000_0000_0000,
         STEP_LENGTH => 0x1112_4000_0000_0000,
         READ_MESH => 0x1142_2222_0000_0000,
@@ -107,6 +110,7 @@ fn make_on_tables(call: u64, words: &[u64], ints: &[i64]) {
         TOTAL => table_calls::total(words),
         STEP => table_calls::step(words, ints),
         PLAIN_STEP => table_calls::plain_step(words, ints),
+        JUDGE => table_calls::judge(words, ints),
         _ => table_calls::board(words),
     }
 }

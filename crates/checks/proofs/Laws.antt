@@ -11,13 +11,15 @@ use lib.ListN.{length}
 use Rattle.lists.specs.Fold.{sum}
 use Rattle.lists.proofs.Tests.{Fits, fits, exceeds, fits?}
 use Rattle.signed.specs.Sign.{size}
-use Rattle.model.specs.Mesh.{Mesh, maxVolume, volume, first, second, total, rim, maxCells, maxFaces, maxConcentration, maxRimFlux, ceiling}
+use Rattle.model.specs.Mesh.{Mesh, maxVolume, volume, first, second, total, rim, maxCells, maxFaces, maxConcentration, ceiling}
 use Rattle.model.specs.Step.{flux}
 use Rattle.model.specs.Causes.{Verdict, waterOf, valuesVerdict, fine, _andThen_, each, counts, meshTables, fieldTable, meshValues, fieldValues, raisedGood, raisedValues, meshFieldVerdict, Call, inputOf, stepTables, outsideGood, fluxGood, balanceGood, outflowGood, stepValues, verdict}
+use Rattle.model.specs.Claims.{maxClaim, claimTables, unworkedVerdict}
 use Rattle.model.specs.Accepted.{StepLent, MeshFit}
 use Rattle.model.specs.Calls.{massIn}
 use Rattle.model.proofs.Verdicts.{both-fine, andThen-assoc}
 use Rattle.model.proofs.Accepted.{counted, mesh-lent, field-lent, call-lent, mesh-fit, field-fit, water-fit, mass-small, second-most, flux-small}
+use Rattle.model.proofs.Claims.{claim-lent}
 use Rattle.model.proofs.Sizes.{total-most}
 use Rattle.model.proofs.Accepted.{field-passed}
 
@@ -72,6 +74,13 @@ module _ (M : Mesh) (field : List ℕ) (k : Call) where
   lengths-first = after-lengths (counts M andThen meshTables M andThen fieldTable M field andThen stepTables M field k)
       (meshValues ceiling M) (fieldValues M field) (raisedValues M field k) (stepValues ceiling M field k)
 
+  -- the same of a judging
+  pub claim-lengths-first : unworkedVerdict M field k ≡ (counts M andThen meshTables M andThen fieldTable M field andThen claimTables M field k
+      andThen valuesVerdict M field (waterOf (k .fluxes) (k .outsides) (k .releases)))
+  unfolding unworkedVerdict valuesVerdict raisedValues raisedGood stepValues outsideGood fluxGood balanceGood outflowGood
+  claim-lengths-first = after-lengths (counts M andThen meshTables M andThen fieldTable M field andThen claimTables M field k)
+      (meshValues ceiling M) (fieldValues M field) (raisedValues M field k) (stepValues ceiling M field k)
+
   -- causes of values as they are tested: those that rest on nothing together
   pub in-groups : valuesVerdict M field k ≡ (meshValues ceiling M
       andThen (fieldValues M field andThen raisedValues M field k andThen (each 7 (M .faces) (outsideGood M field k) andThen each 8 (M .faces) (fluxGood ceiling M field k)))
@@ -86,6 +95,20 @@ module _ (M : Mesh) (field : List ℕ) (k : Call) where
       let f = both-fine _ _ e in
       let m = both-fine _ _ (f .0) in
       let l = call-lent M field k d in
+      record {
+        counts-fit = counted M (m .0);
+        lent = mesh-lent M (m .1);
+        masses-long = field-lent M field (f .1);
+        fluxes-long = l .fluxes-long;
+        outsides-long = l .outsides-long;
+        releases-long = l .releases-long;
+      }
+
+  pub claim-asks : (counts M andThen meshTables M andThen fieldTable M field) ≡ fine → claimTables M field k ≡ fine → StepLent M field (waterOf (k .fluxes) (k .outsides) (k .releases))
+  claim-asks e d =
+      let f = both-fine _ _ e in
+      let m = both-fine _ _ (f .0) in
+      let l = claim-lent M field k d in
       record {
         counts-fit = counted M (m .0);
         lent = mesh-lent M (m .1);
@@ -115,7 +138,7 @@ module _ (M : Mesh) (field : List ℕ) (k : Call) where
 
       pub flows-ask : (fieldValues M field andThen raisedValues M field k andThen (each 7 (M .faces) (outsideGood M field k) andThen each 8 (M .faces) (fluxGood ceiling M field k))) ≡ fine
           → ((M .cells ≤ maxCells) × (M .faces ≤ maxFaces) × (M .cells ≤ length (M .volumes)) × (M .faces ≤ length (M .firsts)) × (M .faces ≤ length (M .seconds)) × (M .faces ≤ length (k .fluxes)))
-          × ((f : ℕ) → f < M .faces → (first M f ≤ rim) × (second M f ≤ rim) × (size (flux (inputOf M field k) f) ≤ maxRimFlux))
+          × ((f : ℕ) → f < M .faces → (first M f ≤ rim) × (second M f ≤ rim) × (size (flux (inputOf M field k) f) ≤ maxClaim))
       flows-ask v =
           let w = both-fine _ _ (both-fine _ _ v .1) in
           let few = l .counts-fit .few-cells in (
@@ -123,6 +146,6 @@ module _ (M : Mesh) (field : List ℕ) (k : Call) where
             λ f h. (
               omega (arith, fit .first-in f h),
               second-most M few fit f h,
-              flux-small (inputOf M field k) fit (water-fit M field k (w .0) (w .1)) f h,
+              omega (arith, flux-small (inputOf M field k) fit (water-fit M field k (w .0) (w .1)) f h),
             ),
           )

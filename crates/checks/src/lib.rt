@@ -9,6 +9,7 @@ ghost use mathlib.Core.Path.{_≡_};
 ghost use Rattle.lists.specs.Fold.{sum};
 ghost use Rattle.model.specs.Mesh.{meshOf};
 ghost use Rattle.model.specs.Causes.{accepted, _andThen_, callOf, waterOf, countsWithin, meshVerdict, meshFieldVerdict, valuesVerdict, verdict, cellsOnly};
+ghost use Rattle.model.specs.Claims.{claimOf, unworkedVerdict};
 ghost use Rattle.model.specs.Accepted.{StepLent};
 ghost use Rattle.model.specs.Answers.{said};
 ghost use Rattle.model.specs.Calls.{massIn};
@@ -208,6 +209,59 @@ pub fn check_step(
         return Answer::Refused(r);
     }
     let b = lent::step_lent(cells, faces, fluxes, outsides, next, moved, work, releases);
+    if let Answer::Refused(r) = b {
+        return Answer::Refused(r);
+    }
+    step_values(
+        cells,
+        faces,
+        volumes,
+        firsts,
+        seconds,
+        shares,
+        reaches,
+        masses,
+        fluxes,
+        outsides,
+        releases,
+    )
+}
+
+// The same causes of a judging, which is lent a claim as moved, and no work.
+pub fn check_claim(
+    cells: usize,
+    faces: usize,
+    volumes: &[u64],
+    firsts: &[u64],
+    seconds: &[u64],
+    shares: &[u64],
+    reaches: &[u64],
+    masses: &[u64],
+    fluxes: &[i64],
+    outsides: &[u64],
+    next: &[u64],
+    claim: &[i64],
+    releases: &[u64],
+) -> Answer
+    ensures { λ r. ⌜ said r ≡ unworkedVerdict
+        (meshOf cells faces (now (volumes .entry)) (now (firsts .entry)) (now (seconds .entry)) (now (shares .entry)) (now (reaches .entry)))
+        (now (masses .entry))
+        (claimOf (now (fluxes .entry)) (now (outsides .entry)) (now (next .entry)) (now (claim .entry)) (now (releases .entry))) ⌝ }
+{
+    let a = lent::field_lent(
+        cells,
+        faces,
+        volumes,
+        firsts,
+        seconds,
+        shares,
+        reaches,
+        masses,
+    );
+    let b = and_then(
+        a,
+        lent::claim_lent(cells, faces, fluxes, outsides, next, claim, releases),
+    );
     if let Answer::Refused(r) = b {
         return Answer::Refused(r);
     }

@@ -15,8 +15,9 @@ use Rattle.lists.proofs.Sums.{sum-more, sum-term}
 use Rattle.lists.proofs.Tables.{length-table, getD-table, is-table, getD-set}
 use Rattle.signed.specs.Sign.{isNegative, size}
 use Rattle.signed.proofs.Laws.{forward-is, backward-is}
-use Rattle.model.specs.Mesh.{Mesh, first, second, rim, maxCells, maxFaces, maxRimFlux, entering, leaving, incoming, outgoing}
+use Rattle.model.specs.Mesh.{Mesh, first, second, rim, maxCells, maxFaces, entering, leaving, incoming, outgoing}
 use Rattle.model.specs.Causes.{each, facesOnly}
+use Rattle.model.specs.Claims.{maxClaim}
 use Rattle.model.proofs.Sizes.{incoming-most, outgoing-most}
 use Rattle.model.proofs.Verdicts.{each-cong}
 use Rattle.flows.specs.Flows.{inflow, outflow, FacesFit}
@@ -80,8 +81,8 @@ module _ (faces : ℕ) (firsts seconds : List ℕ) (fluxes : List ℤ) (few : fa
 
     pub in-asks : (i < length xs) × (getD xs i 0 + s < 2 ^ 64)
     unfolding incoming
-    in-asks = turn-asks (maxCells + 1) f i s (entering M x) reached (enters M x f n z r) xs e faces (maxFaces * (maxRimFlux + maxRimFlux)) l
-        (incoming-most M x maxRimFlux few (λ g h. fit g h .2) i) (omega arith)
+    in-asks = turn-asks (maxCells + 1) f i s (entering M x) reached (enters M x f n z r) xs e faces (maxFaces * (maxClaim + maxClaim)) l
+        (incoming-most M x maxClaim few (λ g h. fit g h .2) i) (omega arith)
 
     pub in-turn : (ys : List ℕ) → ys ≡ set xs i (getD xs i 0 + s) → ys ≡ table (maxCells + 1) (λ c. sum (f + 1) (entering M x c))
     in-turn = turn (maxCells + 1) f i s (entering M x) reached (enters M x f n z r) xs e
@@ -92,8 +93,8 @@ module _ (faces : ℕ) (firsts seconds : List ℕ) (fluxes : List ℤ) (few : fa
 
     pub out-asks : (i < length xs) × (getD xs i 0 + s < 2 ^ 64)
     unfolding outgoing
-    out-asks = turn-asks (maxCells + 1) f i s (leaving M x) left (leaves M x f n z r) xs e faces (maxFaces * (maxRimFlux + maxRimFlux)) l
-        (outgoing-most M x maxRimFlux few (λ g h. fit g h .2) i) (omega arith)
+    out-asks = turn-asks (maxCells + 1) f i s (leaving M x) left (leaves M x f n z r) xs e faces (maxFaces * (maxClaim + maxClaim)) l
+        (outgoing-most M x maxClaim few (λ g h. fit g h .2) i) (omega arith)
 
     pub out-turn : (ys : List ℕ) → ys ≡ set xs i (getD xs i 0 + s) → ys ≡ table (maxCells + 1) (λ c. sum (f + 1) (leaving M x c))
     out-turn = turn (maxCells + 1) f i s (leaving M x) left (leaves M x f n z r) xs e

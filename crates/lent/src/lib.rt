@@ -9,6 +9,7 @@ ghost use mathlib.Core.Path.{_≡_};
 ghost use Prim.Native.Nat.{_≤_};
 ghost use Rattle.model.specs.Mesh.{meshOf, maxCells, maxFaces};
 ghost use Rattle.model.specs.Causes.{_andThen_, countsWithin, counts, meshTables, fieldTable, callOf, stepLong};
+ghost use Rattle.model.specs.Claims.{claimOf, claimLong};
 ghost use Rattle.model.specs.Answers.{said};
 
 // Cause 1, with limits that the caller sets: the run program's are lower than the mesh's own.
@@ -92,4 +93,24 @@ pub fn step_lent(
     let a = and_then(a, long(9, faces, moved.len()));
     let a = and_then(a, long(10, wanted, work.len()));
     and_then(a, long(14, cells, releases.len()))
+}
+
+// The tables that a judging is lent besides: those of a step but for work.
+pub fn claim_lent(
+    cells: usize,
+    faces: usize,
+    fluxes: &[i64],
+    outsides: &[u64],
+    next: &[u64],
+    claim: &[i64],
+    releases: &[u64],
+) -> Answer
+    ensures { λ r. ⌜ said r ≡ claimLong cells faces
+        (claimOf (now (fluxes .entry)) (now (outsides .entry)) (now (next .entry)) (now (claim .entry)) (now (releases .entry))) ⌝ }
+{
+    let b = long(6, faces, fluxes.len());
+    let b = and_then(b, long(7, faces, outsides.len()));
+    let b = and_then(b, long(8, cells, next.len()));
+    let b = and_then(b, long(9, faces, claim.len()));
+    and_then(b, long(14, cells, releases.len()))
 }

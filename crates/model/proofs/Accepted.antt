@@ -235,21 +235,22 @@ module _ (M : Mesh) (field : List ℕ) (k : Call) where
         step-values-fine = values .1 .1 .1 .0;
       }
 
-  pub ready-of : Passed M field k → Ready (inputOf M field k)
+  -- of any call whose counts, mesh tables and values are fine, with as many fluxes and outside values as faces
+  pub ready-by : counts M ≡ fine → meshTables M ≡ fine → M .faces ≤ length (k .fluxes) → M .faces ≤ length (k .outsides)
+      → meshValues ceiling M ≡ fine → raisedValues M field k ≡ fine → stepValues ceiling M field k ≡ fine → Ready (inputOf M field k)
   unfolding stepValues rounded
-  ready-of p =
-      let c = counted M (p .counts-fine) in
-      let m = mesh-fit M (p .mesh-values-fine) in
-      let l = call-lent M field k (p .step-tables-fine) in
-      let w = all-fine (waterCauses ceiling M field k) (p .step-values-fine) in
+  ready-by counts-fine tables-fine fluxes-long outsides-long values-fine raised-fine step-fine =
+      let c = counted M counts-fine in
+      let m = mesh-fit M values-fine in
+      let w = all-fine (waterCauses ceiling M field k) step-fine in
       record {
         counts-fit = c;
-        lent = mesh-lent M (p .mesh-tables-fine);
+        lent = mesh-lent M tables-fine;
         fit = m;
         masses-long = omega (arith, raised-long (M .cells) field (k .releases));
-        fluxes-long = l .fluxes-long;
-        outsides-long = l .outsides-long;
-        salt-most = λ c h. rw (raised-at (M .cells) field (k .releases) c h) (raised-fit M field k (p .raised-values-fine) c h);
+        fluxes-long = fluxes-long;
+        outsides-long = outsides-long;
+        salt-most = λ c h. rw (raised-at (M .cells) field (k .releases) c h) (raised-fit M field k raised-fine c h);
         water = water-fit M field k (w .0) (w .1 .0);
         sound = record {
           joined = record { few = c .few-cells; first-in = m .first-in; second-in = m .second-in };
@@ -260,6 +261,11 @@ module _ (M : Mesh) (field : List ℕ) (k : Call) where
           courant = courant M field k (w .1 .1 .1 .0);
         };
       }
+
+  pub ready-of : Passed M field k → Ready (inputOf M field k)
+  ready-of p =
+      let l = call-lent M field k (p .step-tables-fine) in
+      ready-by (p .counts-fine) (p .mesh-tables-fine) (l .fluxes-long) (l .outsides-long) (p .mesh-values-fine) (p .raised-values-fine) (p .step-values-fine)
 
   pub ready : verdict M field k ≡ fine → Ready (inputOf M field k)
   ready e = ready-of (passed e)

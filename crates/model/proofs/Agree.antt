@@ -14,15 +14,15 @@ use Rattle.lists.proofs.Tests.{Same, same, same?}
 use Rattle.lists.proofs.Sums.{sum-cong}
 use Rattle.lists.proofs.Tables.{table-cong}
 use Rattle.model.specs.Mesh.{Mesh, first, second, rim, entering, leaving, incoming, outgoing, total, ceiling}
-use Rattle.model.specs.Step.{StepInput, lo, hi, moved, next, inMass, outMass}
+use Rattle.model.specs.Step.{StepInput, carried, lo, hi, moved, next, inMass, outMass}
 use Rattle.model.specs.Alike.{straight, AlikeEnds, AlikeMesh, Alike, AlikeCall, AgreeMesh, Agree, AgreeCall}
 use Rattle.model.specs.Causes.{accepted, refused, Verdict, fine, taken, each, Call, inputOf, meshTables, fieldTable, stepTables, meshValues, volumeGood, endsGood, spacingGood, fieldValues, fieldVerdict, verdict}
-use Rattle.model.specs.Calls.{massIn, Bounded, Left, corrected, stepAnswer, nextTable, movedTable}
+use Rattle.model.specs.Calls.{massIn, Bounded, Left, crossingOf, corrected, stepAnswer, nextTable, movedTable}
 use Rattle.model.specs.Accepted.{MeshFit}
 use Rattle.model.proofs.Accepted.{ready}
 use Rattle.model.proofs.Lists.{Fair}
-use Rattle.model.proofs.AlikeStages.{lo-alike, hi-alike, moved-alike, next-alike, in-mass-alike, out-mass-alike}
-use Rattle.model.proofs.AlikeCauses.{each-alike, field-values-alike, raised-alike, q-alike, verdict-alike, answer-alike}
+use Rattle.model.proofs.AlikeStages.{carried-alike, lo-alike, hi-alike, moved-alike, next-alike, in-mass-alike, out-mass-alike}
+use Rattle.model.proofs.AlikeCauses.{each-alike, field-values-alike, raised-alike, q-alike, crossing-alike, verdict-alike, answer-alike}
 
 pub whole : (k : ℕ) → k ≡ cond (eqb k rim) rim k
 whole k = go (eqb k rim) (same? k rim)
@@ -55,6 +55,9 @@ module _ (S S′ : StepInput) (few : S .mesh .cells ≤ rim) (fit : MeshFit (S .
 
   pub hi-agree : (c : ℕ) → c < S .mesh .cells → hi S′ c ≡ hi S c
   hi-agree = hi-alike S S′ few fit _ _ _ (agree-alike S S′ g)
+
+  pub carried-agree : (f : ℕ) → f < S .mesh .faces → carried S′ f ≡ carried S f
+  carried-agree = carried-alike S S′ few fit _ _ _ (agree-alike S S′ g)
 
   pub moved-agree : (f : ℕ) → f < S .mesh .faces → moved S′ f ≡ moved S f
   moved-agree = moved-alike S S′ few fit _ _ _ (agree-alike S S′ g)
@@ -158,6 +161,9 @@ module _ (M M′ : Mesh) (field field′ : List ℕ) (k k′ : Call) (a : AgreeC
 
   abbrev g : Agree S S′
   g = inputs-agree
+
+  pub crossing-agree : M .cells ≤ rim → MeshFit M → crossingOf M′ field′ k′ ≡ crossingOf M field k
+  crossing-agree = crossing-alike M M′ _ _ _ field field′ k k′ calls-alike
 
   -- where cause 2 finds the same too, as in tables that are all long enough
   module _ (mesh-lent : meshTables M′ ≡ meshTables M) (field-lent : fieldTable M′ field′ ≡ fieldTable M field) (call-lent : stepTables M′ field′ k′ ≡ stepTables M field k) where

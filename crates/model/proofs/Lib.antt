@@ -15,4 +15,5 @@ pub mod Ceilings
 pub mod Lists
 pub mod Uniform
 pub mod Sizes
+pub mod Claims
 pub mod Figures

@@ -148,16 +148,21 @@ module _ (S : StepInput) (r : Ready S) (x : ℕ → ℤ) (keeps : Keeps S x) (fi
     field-accepted = rw e (field-accepted M after long (λ c h. le-trans (after-bounded c h .1) (hi-most S r c h)));
   }
 
--- a scheme whose accepted calls pass document 01's causes, and keep what amounts owe
+-- a scheme whose accepted calls are ready, have room for the next masses, and keep what amounts owe
 pub record Keeping (s : Scheme) : Type 0 where
-  pub passes : (M : Mesh) (field : List ℕ) (k : Call) → s .finds M field k ≡ fine → verdict M field k ≡ fine
+  pub readies : (M : Mesh) (field : List ℕ) (k : Call) → s .finds M field k ≡ fine → Ready (inputOf M field k)
+  pub nexts-long : (M : Mesh) (field : List ℕ) (k : Call) → s .finds M field k ≡ fine → M .cells ≤ length (k .nexts)
   pub keeps : (M : Mesh) (field : List ℕ) (k : Call) → s .finds M field k ≡ fine → Keeps (inputOf M field k) (s .moves M field k)
 
+-- past the causes of a step
+step-nexts : (M : Mesh) (field : List ℕ) (k : Call) → verdict M field k ≡ fine → M .cells ≤ length (k .nexts)
+step-nexts M field k e = call-lent M field k (passed M field k e .step-tables-fine) .nexts-long
+
 pub corrected-keeping : Keeping corrected
-corrected-keeping = record { passes = λ M field k e. e; keeps = λ M field k e. moved-keeps (inputOf M field k) (ready M field k e .sound) }
+corrected-keeping = record { readies = ready; nexts-long = step-nexts; keeps = λ M field k e. moved-keeps (inputOf M field k) (ready M field k e .sound) }
 
 pub plain-keeping : Keeping plain
-plain-keeping = record { passes = λ M field k e. e; keeps = λ M field k e. carried-keeps (inputOf M field k) (ready M field k e .sound) }
+plain-keeping = record { readies = ready; nexts-long = step-nexts; keeps = λ M field k e. carried-keeps (inputOf M field k) (ready M field k e .sound) }
 
 -- releases bring their sum into the field
 pub raised-total : (M : Mesh) (field : List ℕ) (k : Call)
@@ -189,10 +194,9 @@ module _ (s : Scheme) (keeping : Keeping s) (M : Mesh) (k : Call) (field : List 
   pub tables-fair : Fair M (Bounded (inputOf M field k) (l .field)) field l
   unfolding result
   tables-fair =
-      let v = keeping .passes M field k found-fine in
-      let n = call-lent M field k (passed M field k v .step-tables-fine) .nexts-long in
+      let n = keeping .nexts-long M field k found-fine in
       let after : ℕ → ℕ = updated M (mass (inputOf M field k)) (s .moves M field k) in
-      amounts-fair (inputOf M field k) (ready M field k v) (s .moves M field k) (keeping .keeps M field k found-fine)
+      amounts-fair (inputOf M field k) (keeping .readies M field k found-fine) (s .moves M field k) (keeping .keeps M field k found-fine)
       field (releasedMass (M .cells) (k .releases)) (raised-total M field k) result
       (rw (length-over (M .cells) after (k .nexts) n) n)
       (λ c h. getD-over (M .cells) after (k .nexts) 0 c h)

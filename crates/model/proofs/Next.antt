@@ -1,16 +1,16 @@
 -- One step: the next masses keep within the bounds, and the budget of the step.
 use Prim.Native.Nat.{ℕ, suc, _+_, _-_, _*_, _/_, _≤_, _<_}
 use mathlib.Core.Path.{_≡_, refl, _∙_}
-use mathlib.Core.Bool.{Bool, true, false, cond}
-use native.Mathlib.Nat.{le-div-iff-mul-le, div-lt-iff-lt-mul}
+use mathlib.Core.Bool.{Bool, true, false, cond, _||_}
+use native.Mathlib.Nat.{le-div-iff-mul-le, div-lt-iff-lt-mul, zero-mul}
 use native.Mathlib.Omega.{arith}
 use lib.Dec.{eqb}
-use lib.IntN.{ℤ, pos, _+ℤ_, +ℤ-idr}
-use Rattle.signed.specs.Sign.{forward, backward}
+use lib.IntN.{ℤ, pos, _+ℤ_, _*ℤ_, +ℤ-idr}
+use Rattle.signed.specs.Sign.{forward, backward, isZero}
 use Rattle.model.specs.Mesh.{volume, first, second, atRim, entering, leaving, incoming, outgoing, updated, total}
 use Rattle.model.specs.Step.{StepInput, flux, outside, mass, concentration, beyond, upwind, carried, low, lo, hi, correction, lowConcentration, kept, maxGain, maxLoss, limited, moved, next, inMass, outMass}
 use Rattle.lists.proofs.Sums.{sum-cong, sum-add}
-use Rattle.signed.proofs.Laws.{moves}
+use Rattle.signed.proofs.Laws.{moves, isZero-size, size-mul, size-zero}
 use Rattle.model.proofs.Budget.{outward, inward, budget}
 use Rattle.model.proofs.Low.{low-affords, low-is, low-bounds, upwind-forward, upwind-backward}
 use Rattle.model.proofs.Limit.{incoming-limited, outgoing-limited, limited-zero, kept-zero}
@@ -107,6 +107,27 @@ module _ (S : StepInput) (f : ℕ) (e : atRim (S .mesh) f ≡ true) where
   rim-moved : moved S f ≡ carried S f
   unfolding moved
   rim-moved = rw rim-limited (+ℤ-idr (carried S f))
+
+-- through a still face goes nothing: stage 1 says 0, and there is no correction
+still-cond : (b : Bool) (x : ℤ) → cond (b || true) (pos 0) x ≡ pos 0
+still-cond true x = refl
+still-cond false x = refl
+
+module _ (S : StepInput) (f : ℕ) (e : isZero (flux S f) ≡ true) where
+  open StepInput S using (mesh as M)
+
+  pub still-carried : carried S f ≡ pos 0
+  unfolding carried
+  still-carried = size-zero (flux S f *ℤ pos (upwind S f)) (size-mul (flux S f) (pos (upwind S f)) ∙ rw (isZero-size (flux S f) e) (zero-mul (upwind S f)))
+
+  still-correction : correction S f ≡ pos 0
+  unfolding correction
+  still-correction = rw e (still-cond (atRim M f) _)
+
+  pub still-moved : moved S f ≡ pos 0
+  unfolding moved kept limited
+  still-moved =
+      rw (still-carried, limited-zero M (maxGain S) (maxLoss S) (kept S) f (kept-zero M (lowConcentration S) (correction S) f still-correction))
 
 at-rim-only : (b : Bool) (x y : ℕ) → (b ≡ true → x ≡ y) → cond b x 0 ≡ cond b y 0
 at-rim-only true x y h = h refl

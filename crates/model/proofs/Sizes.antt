@@ -7,11 +7,11 @@ use lib.Dec.{eqb, leb}
 use lib.IntN.{ℤ, pos, _-ℤ_, _*ℤ_}
 use lib.Signed.{quotZ}
 use Rattle.signed.specs.Sign.{forward, backward, size, isZero, isNegative}
-use Rattle.signed.proofs.Laws.{size-mul, size-quot, size-diff, forward-le, backward-le}
+use Rattle.signed.proofs.Laws.{size-mul, size-add, size-quot, size-diff, size-withSign, forward-le, backward-le}
 use Rattle.lists.proofs.Tests.{Same, other, same?, Fits, exceeds, fits?}
 use Rattle.lists.proofs.Sums.{sum-bound}
 use Rattle.model.specs.Mesh.{Mesh, first, second, share, reach, atRim, rim, entering, leaving, incoming, outgoing, total, maxCells, maxFaces, maxConcentration}
-use Rattle.model.specs.Step.{StepInput, portion, flux, outside, mass, concentration, beyond, upwind, downwind, upwindShare, carried, low, correction, lowConcentration, kept, maxGain, maxLoss, next, inMass, outMass}
+use Rattle.model.specs.Step.{StepInput, portion, receiver, limitedBy, flux, outside, mass, concentration, beyond, upwind, downwind, upwindShare, carried, low, correction, lowConcentration, kept, maxGain, maxLoss, limited, moved, next, inMass, outMass}
 use Rattle.model.proofs.Low.{low-bounds}
 use Rattle.model.proofs.Limit.{kept-either}
 use Rattle.model.proofs.Next.{next-bounds}
@@ -115,6 +115,19 @@ module _ (S : StepInput) (r : Ready S) where
   pub kept-size : (f : ℕ) → f < M .faces → size (kept S f) ≤ maxCarried
   unfolding kept
   kept-size f h = kept-either (λ z. size z ≤ maxCarried) M (lowConcentration S) (correction S) f (correction-size f h) (omega arith)
+
+  -- the limiter lessens, so a moved mass is at most twice what the water may carry
+  limited-size : (f : ℕ) → f < M .faces → size (limited S f) ≤ maxCarried
+  unfolding limited limitedBy
+  limited-size f h = rw (size-withSign (isNegative (kept S f)) _) (omega (
+    arith,
+    portion-le (size (kept S f)) (maxGain S (receiver M (kept S) f)) (incoming M (kept S) (receiver M (kept S) f)),
+    kept-size f h,
+  ))
+
+  pub moved-size : (f : ℕ) → f < M .faces → size (moved S f) ≤ maxCarried + maxCarried
+  unfolding moved
+  moved-size f h = omega (arith, size-add (carried S f) (limited S f), carried-size f h, limited-size f h)
 
   pub low-most : (c : ℕ) → c < M .cells → low S c ≤ maxMass
   low-most c h = omega (arith, low-bounds S (r .sound) c h .1, r .fit .volume-most c h, mul-le-mul (r .fit .volume-most c h) (hi-most S r c h))

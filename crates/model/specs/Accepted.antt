@@ -39,6 +39,14 @@ pub record CallLent (M : Mesh) (k : Call) : Type 0 where
   pub work-long : workLength M ≤ length (k .work)
   pub releases-long : M .cells ≤ length (k .releases)
 
+-- the same of a judging (S-11), which is lent no work
+pub record ClaimLent (M : Mesh) (k : Call) : Type 0 where
+  pub fluxes-long : M .faces ≤ length (k .fluxes)
+  pub outsides-long : M .faces ≤ length (k .outsides)
+  pub nexts-long : M .cells ≤ length (k .nexts)
+  pub moveds-long : M .faces ≤ length (k .moveds)
+  pub releases-long : M .cells ≤ length (k .releases)
+
 -- as far as the tests of a step's values read tables, past causes 1 and 2
 pub record StepLent (M : Mesh) (field : List ℕ) (k : Call) : Type 0 where
   pub counts-fit : Counted M

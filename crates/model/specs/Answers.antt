@@ -2,7 +2,7 @@
 use Prim.Native.Nat.{ℕ}
 use Rattle.model.specs.Causes.{Outcome, refused, Verdict, fine}
 use Rattle.model.specs.declared.Cause.{Cause}
-use Rattle.model.specs.declared.Cause.the-variants.{Limits, Table, Volume, Ends, Spacing, Concentration, Outside, Flux, Balance, Outflow, Length, Bit, Head, Page, Name, Room, Unkept, Release, Coordinate, Ratio}
+use Rattle.model.specs.declared.Cause.the-variants.{Limits, Table, Volume, Ends, Spacing, Concentration, Outside, Flux, Balance, Outflow, Length, Bit, Head, Page, Name, Room, Unkept, Release, Coordinate, Ratio, Moved, Bounds}
 use Rattle.model.specs.declared.Refusal.{Refusal}
 use Rattle.model.specs.declared.Answer.{Answer}
 use Rattle.model.specs.declared.Answer.the-variants.{Done, Refused}
@@ -33,6 +33,9 @@ number Release = 18
 -- S-7
 number Coordinate = 19
 number Ratio = 20
+-- S-11
+number Moved = 21
+number Bounds = 22
 
 -- A refusal, by its number and its place.
 abbrev pub told : {A : Type 0} → Refusal → Outcome A

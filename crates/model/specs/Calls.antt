@@ -9,6 +9,7 @@ use Rattle.lists.specs.Table.{table, over}
 use Rattle.model.specs.Mesh.{Mesh, volume, updated, total}
 use Rattle.model.specs.Step.{StepInput, mass, lo, hi, carried, moved, inMass, outMass, releasedMass}
 use Rattle.model.specs.Causes.{Outcome, accepted, refused, Verdict, taken, fine, _andThen_, Call, inputOf, workLength, fieldVerdict, verdict}
+use Rattle.model.specs.Claims.{claimed, claimVerdict}
 
 -- the mass that a field has in cell c
 abbrev pub massIn : List ℕ → ℕ → ℕ
@@ -63,6 +64,10 @@ corrected = record { finds = verdict; moves = λ M field k. moved (inputOf M fie
 -- Document 02, S-8: the same causes, and no stage between the first and the fifth, so that the moved masses are the carried ones
 abbrev pub plain : Scheme
 plain = record { finds = verdict; moves = λ M field k. carried (inputOf M field k) }
+
+-- Document 02, S-11: another model's step, of which the moved masses are claimed and lent; its causes end in 21 and 22
+abbrev pub judged : Scheme
+judged = record { finds = claimVerdict; moves = λ M field k. claimed k }
 
 -- What a step call on tables answers: its crossing where no cause applies.
 module _ (s : Scheme) (M : Mesh) (k : Call) (field : List ℕ) where

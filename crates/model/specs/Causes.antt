@@ -121,15 +121,17 @@ workEntries cells faces = 4 * cells + faces
 abbrev pub workLength : Mesh → ℕ
 workLength M = workEntries (M .cells) (M .faces)
 
--- Cause 2 of document 01's tables among these; the releases have the position 14.
-abbrev pub lengths01 : (cells faces : ℕ) → Call → List Verdict
-lengths01 cells faces k =
+-- Cause 2 of document 01's tables among these, those before work and work; the releases have the position 14.
+abbrev pub lengthsToMoved : (cells faces : ℕ) → Call → List Verdict
+lengthsToMoved cells faces k =
     long 6 faces (length (k .fluxes))
     ∷ long 7 faces (length (k .outsides))
     ∷ long 8 cells (length (k .nexts))
     ∷ long 9 faces (length (k .moveds))
-    ∷ long 10 (workEntries cells faces) (length (k .work))
     ∷ []
+
+abbrev pub lengths01 : (cells faces : ℕ) → Call → List Verdict
+lengths01 cells faces k = lengthsToMoved cells faces k ++ (long 10 (workEntries cells faces) (length (k .work)) ∷ [])
 
 abbrev pub stepLengths : (cells faces : ℕ) → Call → List Verdict
 stepLengths cells faces k = lengths01 cells faces k ++ (long 14 cells (length (k .releases)) ∷ [])

@@ -1,9 +1,11 @@
 pub mod Mesh
 pub mod Step
 pub mod Causes
+pub mod Claims
 pub mod Alike
 pub mod Accepted
 pub mod Answers
 pub mod Calls
 pub mod Unreleased
 pub mod Ceilings
+pub mod OwnSteps

@@ -55,6 +55,8 @@ pub enum Cause {
     Release,
     Coordinate,
     Ratio,
+    Moved,
+    Bounds,
 }
 
 pub struct Refusal {
@@ -93,6 +95,8 @@ pub fn number(cause: Cause) -> u64
         Cause::Release => 18,
         Cause::Coordinate => 19,
         Cause::Ratio => 20,
+        Cause::Moved => 21,
+        Cause::Bounds => 22,
     }
 }
 

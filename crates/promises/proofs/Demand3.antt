@@ -3,7 +3,8 @@
 --
 -- In plain words: take any mesh that causes 1 to 5 accept, any first field that 2 and 6 accept, and any list of calls. A call is a step on
 -- tables, corrected or plain, with any fluxes, outside values, next masses, moved masses, work and releases, of any values and lengths, and
--- anything after the field in its table of masses; or the host's call on records, with any bytes as step record and any bytes lent for the
+-- anything after the field in its table of masses; or the judging of a step that another model claims, with the same tables but work and any
+-- claim as moved; or the host's call on records, with any bytes as step record and any bytes lent for the
 -- next field; or a keep, a drop or a return on a store of any values and any length. Run them one after another, each on the field that the
 -- one before it left. Then
 --   budget             the total of the last field, plus all that the water of accepted steps took out since the last accepted return, is
@@ -20,7 +21,8 @@
 -- the store: a field comes back exactly as kept.
 --
 -- What ties it to the code: a call on tables comes to `stepOnTables`, whose verdict, next masses, in-, out- and released mass are the very ones
--- that the contracts of `transport::step` and of `transport::plain_step` (`StepPromise`) equate their answers and tables with; a call on records comes to `hostVerdict` and
+-- that the contracts of `transport::step`, of `transport::plain_step` (`StepPromise`) and of `judging::judge` (`JudgePromise`) equate their
+-- answers and tables with; a call on records comes to `hostVerdict` and
 -- `hostBytes`, with which the contract of `lagoon_step` (`HostPromise`) equates its number and its bytes; the store calls come to the
 -- verdicts and tables of `KeepPromise`, `DropPromise` and `ReturnPromise`. Ties.antt proves each.
 use Prim.Native.Nat.{ℕ, _≤_}
@@ -38,6 +40,7 @@ use Rattle.model.proofs.Verdicts.{both-fine, refused-of}
 use Rattle.model.proofs.Accepted.{counted, mesh-fit, field-fit, field-accepted}
 use Rattle.model.proofs.Agree.{field-agrees, fair-agree}
 use Rattle.model.proofs.Lists.{Fair, Owes, ledger-law, steps-alone, Keeping, corrected-keeping, plain-keeping, tables-fair, lent-same}
+use Rattle.model.proofs.Claims.{judged-keeping}
 use Rattle.model.proofs.Figures.{Figures, figures}
 use Rattle.heads.specs.Layouts.{meshKind, fieldKind, meshRecord, fieldRecord}
 use Rattle.kept.specs.Store.{fieldsIn, heldUnder}
@@ -47,7 +50,7 @@ use Rattle.entries.proofs.Written.{over-front}
 use Rattle.store.proofs.Effects.{keep-effect, drop-effect, held-length, held-salt}
 use Rattle.store.proofs.Back.{Holding, after-one, holding, return-fine, return-gives}
 use Rattle.lagoon.specs.Host.{hostVerdict, hostBytes}
-use Rattle.promises.specs.Demand3.{Way, correcting, plainly, schemeOf, StepCall, onTables, onRecords, stepOnRecords, comes, Kept, Unchanged, EachRefused, Demand3Steps, ListCall, aStep, keeping, dropping, returning, does, Owed, Untouched, AllRefused, Demand3, storeLeft, storeLeftBy, LentIt, Alone, FieldReturns}
+use Rattle.promises.specs.Demand3.{Way, correcting, plainly, asClaimed, schemeOf, StepCall, onTables, onRecords, stepOnRecords, comes, Kept, Unchanged, EachRefused, Demand3Steps, ListCall, aStep, keeping, dropping, returning, does, Owed, Untouched, AllRefused, Demand3, storeLeft, storeLeftBy, LentIt, Alone, FieldReturns}
 use Rattle.promises.proofs.Held.{within, passes}
 use Rattle.promises.proofs.OnRecords.{records-fair}
 
@@ -71,6 +74,7 @@ step-refused (refused a b) i j e = cc
 keeping-of : (way : Way) → Keeping (schemeOf way)
 keeping-of correcting = corrected-keeping
 keeping-of plainly = plain-keeping
+keeping-of asClaimed = judged-keeping
 
 module _ (M : Mesh) (mesh-fine : meshVerdict M ≡ fine) (way : Way) (past : List ℕ) (k : Call) (field : List ℕ) (l : Left)
     (e : stepOnTables (schemeOf way) M k (lentMasses M past field) ≡ accepted l) where

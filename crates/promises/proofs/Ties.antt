@@ -10,11 +10,12 @@ use Rattle.model.specs.Mesh.{Mesh}
 use Rattle.model.specs.Causes.{accepted, refused, Verdict, fine, _andThen_, Call, meshValues, meshVerdict, fieldVerdict}
 use Rattle.model.specs.Answers.{said}
 use Rattle.model.specs.declared.Answer.{Answer}
-use Rattle.model.specs.Calls.{lentMasses, crossingOf, Deed, givenBack, storeOnly}
+use Rattle.model.specs.Calls.{lentMasses, crossingOf, judged, movedTable, workTable, Deed, givenBack, storeOnly}
 use Rattle.model.proofs.Verdicts.{out}
 use Rattle.transport.specs.Promise.{stepSaid, leftBy, StepPromise}
 use Rattle.transport.proofs.Promises.{promised-comes}
 use Rattle.transport.specs.declared.StepAnswer.{StepAnswer}
+use Rattle.judging.specs.Promise.{JudgePromise}
 use Rattle.store.specs.Calls.{KeepPromise, DropPromise, ReturnPromise}
 use Rattle.heads.specs.Layouts.{meshKind, fieldKind, meshRecord, fieldRecord, fieldLength}
 use Rattle.heads.specs.declared.Width.{Width}
@@ -22,7 +23,7 @@ use Rattle.writing.specs.Writing.{mostOf}
 use Rattle.reading.specs.Reading.{massesIn}
 use Rattle.lagoon.specs.Host.{causeStep, hostVerdict, hostBytes, HostPromise}
 use Rattle.lagoon.proofs.Small.{taken-apart}
-use Rattle.promises.specs.Demand3.{Way, schemeOf, onTables, onRecords, waterIn, stepOnRecords, comes, keeping, dropping, returning, does, storeLeft}
+use Rattle.promises.specs.Demand3.{Way, asClaimed, schemeOf, onTables, onRecords, waterIn, stepOnRecords, comes, keeping, dropping, returning, does, storeLeft}
 use Rattle.promises.specs.Held.{Bytes, HoldsMesh, HoldsField}
 use Rattle.promises.proofs.Held.{holds-within, mesh-alone, field-alone}
 
@@ -30,6 +31,14 @@ use Rattle.promises.proofs.Held.{holds-within, mesh-alone, field-alone}
 pub step-comes : (M : Mesh) (way : Way) (past : List ℕ) (k : Call) (field : List ℕ) (r : StepAnswer) (next : List ℕ) (moved : List ℤ) (work : List ℕ)
     → StepPromise (schemeOf way) M (lentMasses M past field) k r next moved work → comes M (onTables way past k) field ≡ leftBy (stepSaid r) next
 step-comes M way past k field r next moved work p = promised-comes (schemeOf way) M (lentMasses M past field) k r next moved work p
+
+-- The judging of a claim: from what it answers and leaves in the table of next masses.
+pub claim-comes : (M : Mesh) (past : List ℕ) (k : Call) (field : List ℕ) (r : StepAnswer) (next : List ℕ)
+    → JudgePromise M (lentMasses M past field) k r next → comes M (onTables asClaimed past k) field ≡ leftBy (stepSaid r) next
+claim-comes M past k field r next p =
+    let masses = lentMasses M past field in
+    promised-comes judged M masses k r next (movedTable judged M k masses) (workTable judged M k masses)
+    (record { answer = p .answer; next-masses = p .next-masses; moved-masses = refl; work-after = refl })
 
 -- The host's call on records that hold a mesh and a field.
 module _ (w : Width) (M : Mesh) (mesh-fine : meshVerdict M ≡ fine) (field : List ℕ) (field-fine : fieldVerdict M field ≡ fine)

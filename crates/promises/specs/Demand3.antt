@@ -1,5 +1,5 @@
 -- Document 01, "A list of steps": the step calls of a list, on tables and on records, and demand 3 about every list of them; with
--- document 02's S-4, of steps and of calls on a store, its S-6, of steps with releases, and its S-8, of plain steps.
+-- document 02's S-4, of steps and of calls on a store, its S-6, of steps with releases, its S-8, of plain steps, and its S-11, of claims.
 use Prim.Native.Nat.{ℕ}
 use mathlib.Core.Path.{_≡_}
 use mathlib.Core.Logic.{_≢_}
@@ -9,7 +9,7 @@ use Rattle.lists.specs.Table.{table}
 use Rattle.model.specs.Mesh.{Mesh}
 use Rattle.model.specs.Step.{StepInput}
 use Rattle.model.specs.Causes.{Outcome, accepted, refused, fine, _andThen_, Call, inputOf, meshValues, meshVerdict, fieldVerdict, waterOf}
-use Rattle.model.specs.Calls.{massIn, Bounded, Left, crossingOf, fieldAfter, Scheme, corrected, plain, lentMasses, nextTable, movedTable, workTable, stepOnTables, Claim, Deed, stepped, givenBack, storeOnly, stepping, fieldBy, lastField, Ledger}
+use Rattle.model.specs.Calls.{massIn, Bounded, Left, crossingOf, fieldAfter, Scheme, corrected, plain, judged, lentMasses, nextTable, movedTable, workTable, stepOnTables, Claim, Deed, stepped, givenBack, storeOnly, stepping, fieldBy, lastField, Ledger}
 use Rattle.heads.specs.Layouts.{meshKind, fieldKind, meshRecord, fieldRecord, fieldLength}
 use Rattle.heads.specs.declared.Width.{Width}
 use Rattle.writing.specs.Writing.{mostOf}
@@ -18,18 +18,21 @@ use Rattle.kept.specs.Store.{fieldsIn, heldUnder, without}
 use Rattle.store.specs.Calls.{keepVerdict, keepStore, dropVerdict, dropStore, returnVerdict, returnMasses}
 use Rattle.lagoon.specs.Host.{hostVerdict, hostBytes}
 
--- How a step call on tables steps: with the correction, or plainly (S-8).
+-- How a step call on tables steps: with the correction, plainly (S-8), or as another model claims, whose step is judged (S-11).
 pub data Way : Type 0 where
   correcting : Way
   plainly : Way
+  asClaimed : Way
 
 abbrev pub schemeOf : Way → Scheme
 schemeOf correcting = corrected
 schemeOf plainly = plain
+schemeOf asClaimed = judged
 
 -- A step call of a list, with what is lent to it besides mesh and field; of any values and of any length. On tables: the way it steps, what
--- stands in the table of masses past the counts, and all other tables of a step. On records: their width (S-10), the bytes of a step record,
--- and the bytes lent for the next field record. Narrow ones hold a mesh within 4,095 and no other, wide ones each accepted mesh.
+-- stands in the table of masses past the counts, and all other tables of a step; of a judging the claim is lent as moved, and the table of
+-- work means nothing. On records: their width (S-10), the bytes of a step record, and the bytes lent for the next field record. Narrow ones
+-- hold a mesh within 4,095 and no other, wide ones each accepted mesh.
 pub data StepCall (M : Mesh) : Type 0 where
   onTables : Way → List ℕ → Call → StepCall M
   onRecords : (w : Width) → meshValues (mostOf w) M ≡ fine → List ℕ → List ℕ → StepCall M
@@ -90,8 +93,8 @@ module _ (M : Mesh) where
     pub claim : Claim M comes Kept field calls
     pub refused-unchanged : EachRefused field calls
 
--- Demand 3 of document 01, the case without store calls: from any accepted mesh and first field, after any list of calls on tables, corrected
--- and plain, and on records, whichever of them are refused
+-- Demand 3 of document 01, the case without store calls: from any accepted mesh and first field, after any list of calls on tables, corrected,
+-- plain and claimed, and on records, whichever of them are refused
 abbrev pub Demand3Steps : Type 0
 Demand3Steps = (M : Mesh) → meshVerdict M ≡ fine → (field : List ℕ) → fieldVerdict M field ≡ fine → (calls : List (StepCall M)) → Budgeted M field calls
 

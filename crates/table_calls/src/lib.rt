@@ -1,4 +1,4 @@
-// The calls on tables: tests, total, board, step and plain step.
+// The calls on tables: tests, total, board, step, plain step and judging.
 use arguments::ROOM;
 use arguments::parts::amounts;
 use arguments::parts::copy;
@@ -208,4 +208,59 @@ fn fill(
     show::numbers(b"; next", n, &next);
     show::amounts(b"; moved", m, &moved);
     show::numbers(b"; work", w, &work);
+}
+
+pub fn judge(words: &[u64], ints: &[i64]) {
+    show::word(b"judge:");
+    judged(
+        number(words, 0),
+        number(words, 1),
+        table(words, 2),
+        table(words, 3),
+        table(words, 4),
+        table(words, 5),
+        table(words, 6),
+        table(words, 7),
+        amounts(words, ints, 8),
+        table(words, 9),
+        table(words, 10),
+        amounts(words, ints, 11),
+        table(words, 12),
+    );
+}
+
+// A judging that writes into an array which holds the entries given.
+fn judged(
+    cells: usize,
+    faces: usize,
+    volumes: &[u64],
+    firsts: &[u64],
+    seconds: &[u64],
+    shares: &[u64],
+    reaches: &[u64],
+    masses: &[u64],
+    fluxes: &[i64],
+    outsides: &[u64],
+    given_next: &[u64],
+    claim: &[i64],
+    releases: &[u64],
+) {
+    let mut next = [0u64; ROOM];
+    let n = copy(given_next, &mut next);
+    answers::step(judging::judge(
+        cells,
+        faces,
+        volumes,
+        firsts,
+        seconds,
+        shares,
+        reaches,
+        masses,
+        fluxes,
+        outsides,
+        &mut next[..n],
+        claim,
+        releases,
+    ));
+    show::numbers(b"; next", n, &next);
 }
