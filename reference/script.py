@@ -43,6 +43,7 @@ CALLS = {
     28: ("face_share", "nnnnnnnn"),
     29: ("plain_step", "nnttttttsttstt"),
     30: ("judge", "nnttttttsttst"),
+    31: ("cut", "nnttttttsttt" + 2 * "ttttttstt"),
 }
 NUMBER_OF = {name: number for number, (name, _) in CALLS.items()}
 
@@ -197,6 +198,13 @@ class Engine:
     def judge(self, cells, faces, *tables):
         return self.lagoon.judge_on_tables(cells, faces, dict(zip(self.lagoon.CLAIM_TABLES, tables, strict=True)))
 
+    def cut(self, cells, faces, *lent):
+        L = self.lagoon
+        many = len(L.CUT_TABLES)
+        whole, first, second = lent[:many + 1], lent[many + 1:2 * many + 1], lent[2 * many + 1:]
+        tables = dict(zip((*L.CUT_TABLES, L.LABELS), whole, strict=True))
+        return L.cut_on_tables(cells, faces, tables, [dict(zip(L.CUT_TABLES, part, strict=True)) for part in (first, second)])
+
     def limits(self, cells, faces):
         """Limits that a caller sets do not widen document 01's."""
         most = self.lagoon.LIBRARY_LIMITS
@@ -324,6 +332,8 @@ CHANGED = {
     "step": {10: "next", 11: "moved", 12: "work"},
     "plain_step": {10: "next", 11: "moved", 12: "work"},
     "judge": {10: "next"},
+    "cut": {12 + 9 * part + place: f"{name}{part}" for part in (0, 1) for place, name in enumerate(
+        ("volumes", "firsts", "seconds", "shares", "reaches", "masses", "fluxes", "outsides", "releases"))},
     "read_mesh": {3: "volumes", 4: "firsts", 5: "seconds", 6: "shares", 7: "reaches"},
     "read_field": {3: "masses"},
     "read_step": {5: "fluxes", 6: "outsides", 7: "releases"},
