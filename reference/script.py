@@ -2,7 +2,7 @@
 """A script of calls, answered by the reference: what the program calls prints.
 
 docs/CALLS.md has the form of a script. Numbers stand in CALLS with the names and the kinds of their arguments:
-n a number, t a table, s a table of signed numbers, b bytes.
+n a number, t a table, s a table of signed numbers, b bytes, p and q such tables of a part of a lagoon.
 """
 
 import argparse
@@ -43,12 +43,12 @@ CALLS = {
     28: ("face_share", "nnnnnnnn"),
     29: ("plain_step", "nnttttttsttstt"),
     30: ("judge", "nnttttttsttst"),
-    31: ("cut", "nnttttttsttt" + 2 * "ttttttstt"),
+    31: ("cut", "nnttttttsttt" + 2 * "ppppppqpp"),
 }
 NUMBER_OF = {name: number for number, (name, _) in CALLS.items()}
 
 MOST_NUMBERS = 120_000          # a call has fewer, its own number not counted
-ROOM = {"t": 24_576, "s": 24_576, "b": 65_536}
+ROOM = {"t": 24_576, "s": 24_576, "b": 65_536, "p": 8_192, "q": 8_192}
 WORD = 1 << 64
 SKIPPED = re.compile(rb"(?:[ \t\r\n]+|#[^\n]*)*")
 SPELLED = re.compile(rb"(-?)([0-9]*)")
@@ -107,7 +107,7 @@ class Reader:
         return size
 
     def entry(self, kind, found):
-        if kind == "s":
+        if kind in "sq":
             value = -found[1] if found[0] else found[1]
             if not -WORD // 2 <= value < WORD // 2:
                 raise Fault("too large", self.at)
