@@ -1,6 +1,4 @@
 // Document 02, S-12: a lagoon cut in two, each part in tables of its own.
-pub mod tests;
-
 use model::Answer;
 use model::Refusal;
 use pieces::by_cell;
@@ -63,7 +61,7 @@ pub fn cut(
         r (tablesOf (now (volumes0 .exit)) (now (firsts0 .exit)) (now (seconds0 .exit)) (now (shares0 .exit)) (now (reaches0 .exit)) (now (masses0 .exit)) (now (fluxes0 .exit)) (now (outsides0 .exit)) (now (releases0 .exit)))
         (tablesOf (now (volumes1 .exit)) (now (firsts1 .exit)) (now (seconds1 .exit)) (now (shares1 .exit)) (now (reaches1 .exit)) (now (masses1 .exit)) (now (fluxes1 .exit)) (now (outsides1 .exit)) (now (releases1 .exit))) ⌝ }
 {
-    let a = tests::verdict(
+    let a = cut_causes::verdict(
         cells,
         faces,
         volumes,

@@ -1,8 +1,8 @@
 -- The labels, then each part.
 use borrow.Author.Needs.{needs}
-use Rattle.cutting.proofs.Groups.{parts-last}
-use Rattle.cutting.proofs.tests.labels_fit.Statement.{statement}
-use Rattle.cutting.proofs.tests.labels_fit.Tie as tie
+use Rattle.cut_causes.proofs.Groups.{parts-last}
+use Rattle.cut_causes.proofs.labels_fit.Statement.{statement}
+use Rattle.cut_causes.proofs.labels_fit.Tie as tie
 
 returns : tie.Need-returns
 returns c =

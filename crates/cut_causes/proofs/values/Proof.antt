@@ -3,10 +3,10 @@ use borrow.Author.Needs.{needs}
 use Rattle.model.specs.Causes.{valuesVerdict}
 use Rattle.checks.proofs.Laws.{shape-asks}
 use Rattle.cut.specs.Refusals.{labelGood, partGood, labelValues}
-use Rattle.cutting.specs.Lengths.{valuesFound}
-use Rattle.cutting.proofs.Groups.{mesh-once}
-use Rattle.cutting.proofs.tests.values.Statement.{statement}
-use Rattle.cutting.proofs.tests.values.Tie as tie
+use Rattle.cut_causes.specs.Lengths.{valuesFound}
+use Rattle.cut_causes.proofs.Groups.{mesh-once}
+use Rattle.cut_causes.proofs.values.Statement.{statement}
+use Rattle.cut_causes.proofs.values.Tie as tie
 
 abbrev start : tie.After-values → tie.Start
 start c = c .before .before .before .before .before .before .before .before .before .before

@@ -18,7 +18,7 @@ ghost use Rattle.model.specs.Answers.{said};
 ghost use Rattle.lists.specs.Marked.{count};
 ghost use Rattle.pieces.specs.Pieces.{hasLabel};
 ghost use Rattle.cut.specs.Cut.{tablesOf, lagoonOf};
-ghost use Rattle.cutting.specs.Lengths.{three, lengthsFound, valuesFound};
+ghost use Rattle.cut_causes.specs.Lengths.{three, lengthsFound, valuesFound};
 
 // The three tables of one position: the whole's and the parts'.
 fn all_long(position: u64, wanted: usize, a: usize, b: usize, c: usize) -> Answer

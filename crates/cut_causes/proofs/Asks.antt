@@ -9,7 +9,7 @@ use Rattle.model.specs.Causes.{Verdict, fine, _andThen_, long, waterOf, counts}
 use Rattle.model.specs.Accepted.{StepLent}
 use Rattle.model.proofs.Verdicts.{both-fine, all-fine, long-fine}
 use Rattle.model.proofs.Accepted.{counted}
-use Rattle.cutting.specs.Lengths.{three, lengthsFound}
+use Rattle.cut_causes.specs.Lengths.{three, lengthsFound}
 
 first-of : (position wanted a b c : ℕ) → three position wanted a b c ≡ fine → wanted ≤ a
 first-of position wanted a b c e = long-fine _ _ _ (both-fine _ _ (both-fine _ _ e .0) .0)

@@ -6,7 +6,7 @@ use mathlib.Core.List.{List, [], _∷_}
 use Rattle.model.specs.Causes.{accepted, refused, Verdict, _andThen_, inTurn, need, each, counts}
 use Rattle.cut.specs.Cut.{Tables, Lagoon, meshIn}
 use Rattle.cut.specs.Refusals.{cutTables, cutVerdict}
-use Rattle.cutting.specs.Lengths.{valuesFound}
+use Rattle.cut_causes.specs.Lengths.{valuesFound}
 
 -- two parts, one after the other
 pub parts-last : (v : Verdict) (good : ℕ → Bool) → ((v andThen need 24 0 (good 0)) andThen need 24 1 (good 1)) ≡ inTurn (v ∷ each 24 2 good ∷ [])

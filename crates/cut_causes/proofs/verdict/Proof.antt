@@ -2,9 +2,9 @@
 use mathlib.Core.Path.{sym, _∙_}
 use borrow.Author.Needs.{needs}
 use Rattle.model.proofs.Verdicts.{out, past, refuses, passes}
-use Rattle.cutting.proofs.Asks.{step-lent}
-use Rattle.cutting.proofs.tests.verdict.Statement.{statement}
-use Rattle.cutting.proofs.tests.verdict.Tie as tie
+use Rattle.cut_causes.proofs.Asks.{step-lent}
+use Rattle.cut_causes.proofs.verdict.Statement.{statement}
+use Rattle.cut_causes.proofs.verdict.Tie as tie
 
 abbrev start : tie.After-lengths → tie.Start
 start c = c .before .before .before .before .before .before .before .before .before .before

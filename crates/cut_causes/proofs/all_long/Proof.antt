@@ -1,6 +1,6 @@
 use borrow.Author.Needs.{needs}
-use Rattle.cutting.proofs.tests.all_long.Statement.{statement}
-use Rattle.cutting.proofs.tests.all_long.Tie as tie
+use Rattle.cut_causes.proofs.all_long.Statement.{statement}
+use Rattle.cut_causes.proofs.all_long.Tie as tie
 
 returns : tie.Need-returns
 returns c = rw (c .and-then2 .ensures, c .before .long3 .ensures, c .before .before .and-then .ensures, c .before .before .before .long2 .ensures, c .before .before .before .before .long .ensures)

@@ -1,8 +1,8 @@
 -- Each test in its turn, joined to those before it.
 use borrow.Author.Needs.{needs}
 use Rattle.model.proofs.Verdicts.{both-are}
-use Rattle.cutting.proofs.tests.lengths.Statement.{statement}
-use Rattle.cutting.proofs.tests.lengths.Tie as tie
+use Rattle.cut_causes.proofs.lengths.Statement.{statement}
+use Rattle.cut_causes.proofs.lengths.Tie as tie
 
 returns : tie.Need-returns
 returns c =
