@@ -1,12 +1,11 @@
 -- The part that is cut out is a part: its entries, its cells and its faces by their old numbers.
-use Prim.Native.Nat.{ℕ, _+_, _≤_, _<_}
+use Prim.Native.Nat.{ℕ, _≤_, _<_}
 use mathlib.Core.Path.{_≡_, refl, sym, ap, _∙_}
 use mathlib.Core.Logic.{_≢_}
 use mathlib.Core.Bool.{Bool, true, false, not, cond, _&&_, _||_, true≢false}
 use mathlib.Core.List.{List}
 use native.Mathlib.Omega.{arith}
 use borrow.Author.Tests.{ne-eqb}
-use lib.Dec.{eqb}
 use lib.IntN.{pos}
 use lib.ListN.{getD}
 use Rattle.lists.proofs.Tests.{Same, same, other, same?}
@@ -17,7 +16,7 @@ use Rattle.model.specs.Accepted.{MeshFit}
 use Rattle.model.proofs.Raised.{raised-at}
 use Rattle.model.proofs.Rounded.{rounded-same}
 use Rattle.lists.specs.Marked.{count, old}
-use Rattle.cut.specs.Cut.{Tables, Lagoon, meshIn, waterIn, stepInput, inPart, firstIn, touches, partCells, partFaces, newCell, isCut, isTurned, newFirst, newSecond, newShare, newReach, newFlux, newOutside, partTables, partOf}
+use Rattle.cut.specs.Cut.{Tables, Lagoon, meshIn, waterIn, stepInput, inPart, firstIn, touches, newCell, isCut, isTurned, newFirst, newSecond, newShare, newReach, newFlux, newOutside, partOf}
 use Rattle.lists.proofs.Marked.{count-most, count-next, old-count, old-marked, picked-at}
 use Rattle.cut.proofs.Part.{Side, inside, overRim, atFirst, atSecond, PartMesh, PartStep}
 

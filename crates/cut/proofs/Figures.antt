@@ -9,7 +9,7 @@ use Rattle.lists.specs.Table.{table, over}
 use Rattle.model.specs.Mesh.{rim, entering, leaving, incoming, outgoing, updated}
 use Rattle.model.specs.Step.{raised, rounded, beyond, upwind, carried, inMass, outMass, releasedMass}
 use Rattle.model.specs.Causes.{fine, refused, accepted, _andThen_, need, each, countsWithin, counts, meshTables, volumeGood, endsGood, spacingGood, meshValues, fieldTable, saltGood, fieldValues, raisedGood, raisedValues, stepTables, outsideGood, fluxGood, balanceGood, outflowGood, stepValues, verdict}
-use Rattle.model.specs.Calls.{Crossing, stepAnswer, nextTable, movedTable}
+use Rattle.model.specs.Calls.{stepAnswer, nextTable, movedTable}
 use Rattle.model.proofs.Figures.{channel, channelCall}
 use Rattle.lists.specs.Marked.{count, old, picked}
 use Rattle.cut.specs.Cut.{Tables, tablesOf, Lagoon, lagoonOf, partTables, partOf}

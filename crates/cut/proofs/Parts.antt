@@ -1,25 +1,25 @@
 -- S-12: where the cutting and the whole's plain step are accepted, so is each part's, with the whole's next and moved masses.
 use Prim.Native.Nat.{ℕ, _≤_, _<_}
-use mathlib.Core.Path.{_≡_, refl, sym, ap, _∙_}
+use mathlib.Core.Path.{_≡_, sym, ap, _∙_}
 use mathlib.Core.List.{List}
 use native.Mathlib.Omega.{arith}
 use borrow.Author.Tests.{leb-true}
 use lib.IntN.{ℤ, pos}
 use lib.ListN.{length, getD}
-use Rattle.lists.specs.Table.{table, over}
+use Rattle.lists.specs.Table.{over}
 use Rattle.lists.proofs.Tables.{getD-over, table-cong}
 use Rattle.signed.specs.Sign.{turn}
 use Rattle.model.specs.Mesh.{Mesh, updated}
 use Rattle.model.specs.Step.{mass, carried}
-use Rattle.model.specs.Causes.{accepted, fine, _andThen_, verdict}
+use Rattle.model.specs.Causes.{accepted, fine, verdict}
 use Rattle.model.specs.Accepted.{Ready}
-use Rattle.model.specs.Calls.{massIn, Crossing, plain, stepAnswer, nextTable, movedTable}
+use Rattle.model.specs.Calls.{massIn, Crossing, stepAnswer, nextTable, movedTable}
 use Rattle.model.proofs.Verdicts.{both-fine, all-fine, past, long-fine, each-fine}
 use Rattle.model.proofs.Accepted.{ready}
-use Rattle.lists.specs.Marked.{count, old, picked}
-use Rattle.cut.specs.Cut.{Tables, Lagoon, meshIn, stepOn, stepInput, inPart, touches, partCells, isTurned, byCell, byFace, partOf}
+use Rattle.lists.specs.Marked.{picked}
+use Rattle.cut.specs.Cut.{Tables, Lagoon, meshIn, stepOn, stepInput, partCells, isTurned, byCell, byFace, partOf}
 use Rattle.cut.specs.Refusals.{partGood, labelCauses, labelValues, allLong, cutLengths, cutTables, cutCauses, cutVerdict}
-use Rattle.cut.specs.Parts.{plainAnswer, plainCrossing, plainNext, plainMoved, LentAtCounts, StepsAsWhole, PartSteps, S12}
+use Rattle.cut.specs.Parts.{plainAnswer, plainCrossing, plainNext, plainMoved, LentAtCounts, PartSteps, S12}
 use Rattle.cut.proofs.Part.{carried-part, updated-part}
 use Rattle.cut.proofs.Entries.{cell, face, raised-is, part-mesh, part-step}
 use Rattle.cut.proofs.Passes.{TablesLong, part-fine}

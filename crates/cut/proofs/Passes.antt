@@ -1,29 +1,28 @@
 -- A part of a lagoon whose step is accepted passes every cause of the step.
-use Prim.Native.Nat.{ℕ, suc, _+_, _≤_, _<_}
+use Prim.Native.Nat.{ℕ, _≤_, _<_}
 use mathlib.Core.Path.{_≡_, refl, sym, ap, _∙_}
 use mathlib.Core.Logic.{_≢_}
-use mathlib.Core.Bool.{Bool, true, false, not, cond, _&&_, _||_}
-use mathlib.Core.List.{List, [], _∷_}
+use mathlib.Core.Bool.{Bool, true, false, cond}
+use mathlib.Core.List.{List}
 use native.Mathlib.Omega.{arith}
-use borrow.Author.Tests.{eq-eqb, ne-eqb, le-leb, leb-true}
-use lib.Dec.{eqb, leb, ltb}
+use borrow.Author.Tests.{eq-eqb, ne-eqb, le-leb}
+use lib.Dec.{leb}
 use lib.IntN.{ℤ}
 use lib.ListN.{length}
-use Rattle.lists.proofs.Tests.{Same, same, other, same?, true-both}
+use Rattle.lists.proofs.Tests.{true-both}
 use Rattle.signed.specs.Sign.{isNegative, size, turn}
 use Rattle.signed.proofs.Turns.{size-turn}
-use Rattle.model.specs.Mesh.{Mesh, volume, first, second, share, reach, atRim, rim, incoming, outgoing, maxCells, maxFaces, maxConcentration, maxRimFlux, ceiling}
+use Rattle.model.specs.Mesh.{Mesh, volume, first, second, share, reach, rim, incoming, outgoing, maxCells, maxFaces, maxConcentration, maxRimFlux, ceiling}
 use Rattle.model.specs.Step.{flux, outside, concentration}
-use Rattle.model.specs.Causes.{fine, _andThen_, each, long, endsFit, spacingFit, outsideFit, fluxFit, Call, workEntries, stepLengths, countsWithin, counts, meshLengths, meshTables, volumeGood, endsGood, spacingGood, meshCauses, meshValues, fieldTable, saltGood, fieldValues, stepTables, raisedGood, raisedValues, outsideGood, fluxGood, balanceGood, outflowGood, waterCauses, stepValues, stepCauses, verdict}
+use Rattle.model.specs.Causes.{fine, _andThen_, long, spacingFit, outsideFit, fluxFit, Call, workEntries, stepLengths, countsWithin, counts, meshLengths, meshTables, volumeGood, endsGood, spacingGood, meshCauses, meshValues, fieldTable, saltGood, fieldValues, stepTables, raisedGood, raisedValues, outsideGood, fluxGood, balanceGood, outflowGood, waterCauses, stepValues, stepCauses, verdict}
 use Rattle.model.specs.Accepted.{Ready}
 use Rattle.model.proofs.Verdicts.{all-fine, fine-all, need-met, each-fine, fine-each}
 use Rattle.model.proofs.Accepted.{Passed, passed, ready, ends-pass, flux-few}
-use Rattle.lists.specs.Marked.{count}
-use Rattle.cut.specs.Cut.{Tables, Lagoon, meshIn, stepOn, stepInput, inPart, touches, partCells, isCut, isTurned, newFirst, newSecond, newShare, newReach, newFlux, newOutside, byCell, byFace, partOf}
+use Rattle.cut.specs.Cut.{Tables, Lagoon, meshIn, stepOn, stepInput, inPart, touches, partCells, isTurned, byCell, byFace, partOf}
 use Rattle.cut.specs.Parts.{LentAtCounts}
 use Rattle.lists.proofs.Marked.{count-most, picked-long}
 use Rattle.cut.proofs.Part.{Side, inside, overRim, atFirst, atSecond, incoming-part, outgoing-part}
-use Rattle.cut.proofs.Entries.{cell, face, volume-is, mass-is, release-is, first-is, second-is, share-is, reach-is, flux-is, outside-is, face-ends, part-mesh}
+use Rattle.cut.proofs.Entries.{cell, face, volume-is, mass-is, release-is, share-is, reach-is, flux-is, outside-is, face-ends, part-mesh}
 
 -- a part's tables, lent at the whole's counts
 pub record TablesLong (L : Lagoon) (t : Tables) : Type 0 where

@@ -1,18 +1,16 @@
 -- Each call does what its promise says, and S-12 says of the definitions what is claimed of the calls.
 use Prim.Native.Nat.{ℕ}
-use mathlib.Core.Path.{_≡_, refl, sym, ap, _∙_}
+use mathlib.Core.Path.{_≡_, sym, _∙_}
 use mathlib.Core.List.{List}
 use lib.IntN.{ℤ}
-use Rattle.model.specs.Causes.{accepted, fine, taken}
-use Rattle.model.specs.Calls.{Crossing}
+use Rattle.model.specs.Causes.{accepted, fine}
 use Rattle.model.proofs.Verdicts.{accepted-of}
-use Rattle.cut.specs.Cut.{Tables, Lagoon, lagoonOf, partTables, partOf}
+use Rattle.cut.specs.Cut.{Tables, Lagoon, lagoonOf, partOf}
 use Rattle.cut.specs.Refusals.{Sizes, sizesOf, cutVerdict, cutAnswer}
-use Rattle.cut.specs.Parts.{plainAnswer, plainNext, plainMoved, PartSteps, S12}
+use Rattle.cut.specs.Parts.{plainNext, plainMoved, PartSteps}
 use Rattle.cut.proofs.Parts.{s12}
 use Rattle.cutting.specs.Promise.{cutSaid}
-use Rattle.transport.specs.Promise.{stepSaid}
-use Rattle.cut_calls.specs.Calls.{CutCalled, Stepped, StepAgrees, EachStepAgrees, S12Calls}
+use Rattle.cut_calls.specs.Calls.{CutCalled, Stepped, EachStepAgrees, S12Calls}
 
 module _ (L : Lagoon) (labels : List ℕ) (nexts : List ℕ) (moveds : List ℤ) (work : List ℕ) (a : Stepped L nexts moveds work) where
   -- a step on what is the part, by whatever name

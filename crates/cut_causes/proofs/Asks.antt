@@ -5,7 +5,7 @@ use mathlib.Core.List.{List, [], _∷_}
 use lib.IntN.{ℤ}
 use lib.ListN.{length}
 use Rattle.model.specs.Mesh.{meshOf}
-use Rattle.model.specs.Causes.{Verdict, fine, _andThen_, long, waterOf, counts}
+use Rattle.model.specs.Causes.{fine, waterOf, counts}
 use Rattle.model.specs.Accepted.{StepLent}
 use Rattle.model.proofs.Verdicts.{both-fine, all-fine, long-fine}
 use Rattle.model.proofs.Accepted.{counted}

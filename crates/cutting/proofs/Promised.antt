@@ -1,25 +1,23 @@
 -- What the loops of a cutting ask for, and what they come to.
-use Prim.Native.Nat.{ℕ, _+_, _^_, _≤_, _<_}
-use mathlib.Core.Path.{_≡_, refl, sym, ap, _∙_}
+use Prim.Native.Nat.{ℕ, _^_, _≤_, _<_}
+use mathlib.Core.Path.{_≡_, sym, ap, _∙_}
 use mathlib.Core.List.{List}
 use native.Mathlib.Omega.{arith}
 use lib.IntN.{ℤ, pos}
 use lib.ListN.{length, getD}
 use Rattle.signed.specs.Sign.{size}
 use Rattle.model.specs.Mesh.{ceiling}
-use Rattle.model.specs.Causes.{Outcome, accepted, refused, Verdict, fine, _andThen_, taken, waterCauses, stepValues, counts}
+use Rattle.model.specs.Causes.{Outcome, accepted, Verdict, fine, taken, waterCauses, stepValues}
 use Rattle.model.specs.Answers.{told}
-use Rattle.model.specs.Accepted.{MeshFit}
 use Rattle.model.specs.declared.Refusal.{Refusal}
 use Rattle.model.proofs.Verdicts.{all-fine, out, past}
 use Rattle.model.proofs.Accepted.{counted, mesh-fit, raised-fit, mass-small, water-fit, flux-small}
 use Rattle.cut.specs.Cut.{Tables, tablesOf, Lagoon, meshIn, waterIn, stepInput, partTables}
-use Rattle.cut.specs.Refusals.{Sizes, sizesOf, cutCauses, cutVerdict, cutAnswer, cutInto}
+use Rattle.cut.specs.Refusals.{Sizes, sizesOf, cutCauses, cutVerdict, cutAnswer}
 use Rattle.cut.proofs.Passes.{TablesLong}
 use Rattle.cut.proofs.Parts.{tables-long, labels-long, lengths-fine}
 use Rattle.pieces.specs.Pieces.{JoinedFaces, CellsGood}
 use Rattle.cutting.specs.Promise.{cutSaid, CutPromise}
-use Rattle.cutting.specs.declared.CutAnswer.{CutAnswer}
 use Rattle.cutting.specs.declared.CutAnswer.the-variants.{Cut, Refused}
 use Rattle.cutting.specs.declared.Counts.{Counts}
 

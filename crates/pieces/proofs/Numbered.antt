@@ -1,7 +1,6 @@
 -- What a part's tables have of a face that touches it, where cells are numbered by how many of the part come before them.
-use Prim.Native.Nat.{ℕ, _+_, _/_, _≤_, _<_}
+use Prim.Native.Nat.{ℕ, _+_, _/_, _<_}
 use mathlib.Core.Path.{_≡_, refl, sym, ap, _∙_}
-use mathlib.Core.Logic.{_≢_}
 use mathlib.Core.Bool.{Bool, true, false, not, cond, _&&_, _||_, true≢false}
 use mathlib.Core.List.{List}
 use native.Mathlib.Omega.{arith}
@@ -18,7 +17,7 @@ use Rattle.lists.proofs.Tests.{Same, same, other, same?}
 use Rattle.lists.proofs.Tables.{length-over, getD-over, table-cong}
 use Rattle.lists.proofs.Marked.{old-marked}
 use Rattle.model.specs.Mesh.{rim}
-use Rattle.pieces.specs.Pieces.{hasLabel, touchingAt, cutting, turnsAt, numberAt, secondAt, outsideAt, newFirstAt, newSecondAt, newOutsideAt, FacesLent, EndsIn, JoinedFaces}
+use Rattle.pieces.specs.Pieces.{hasLabel, touchingAt, numberAt, secondAt, outsideAt, newFirstAt, newSecondAt, newOutsideAt, FacesLent, EndsIn, JoinedFaces}
 
 -- entries that are the same of all marked things
 pub picked-cong : {A : Type 0} (d : A) (n : ℕ) (marked : ℕ → Bool) (x y : ℕ → A) → ((i : ℕ) → i < n → marked i ≡ true → x i ≡ y i) → picked n marked x ≡ picked n marked y

@@ -14,7 +14,6 @@ use borrow.Author.Tests.{eq-eqb, ne-eqb}
 use lib.Dec.{eqb}
 use native.Mathlib.Nat.{add-zero}
 use lib.ListN.{length, set}
-use Rattle.lists.specs.Fold.{sum}
 use Rattle.lists.specs.Table.{table, over}
 use Rattle.lists.specs.Marked.{count, old, picked}
 use Rattle.lists.proofs.Sums.{sum-more, sum-zero}

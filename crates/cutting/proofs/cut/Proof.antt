@@ -1,12 +1,10 @@
 -- The causes first; past them each loop is lent what it asks for, and fills one table.
-use Prim.Native.Nat.{ℕ}
-use mathlib.Core.Path.{_≡_, refl, sym, ap, _∙_}
-use mathlib.Core.List.{List}
+use mathlib.Core.Path.{_≡_, _∙_}
 use borrow.Author.Needs.{needs}
 use Rattle.model.specs.Causes.{fine, counts}
 use Rattle.model.proofs.Verdicts.{refuses, passes}
 use Rattle.cut.specs.Cut.{Tables, tablesOf, Lagoon, lagoonOf, partTables}
-use Rattle.cut.specs.Refusals.{Sizes, cutTables, cutVerdict}
+use Rattle.cut.specs.Refusals.{cutTables, cutVerdict}
 use Rattle.pieces.proofs.Numbered.{faces-lent}
 use Rattle.cut_causes.proofs.Groups.{lengths-first}
 use Rattle.cutting.proofs.Promised.{Cuttable, cuttable, promise-done, promise-refused, counts-are, tables-are}

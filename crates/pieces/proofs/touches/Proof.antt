@@ -1,5 +1,5 @@
 -- The first cell, then the rim, then the second cell.
-use mathlib.Core.Path.{_≡_, sym, _∙_}
+use mathlib.Core.Path.{sym, _∙_}
 use borrow.Author.Needs.{needs}
 use borrow.Author.Tests.{eq-eqb, ne-eqb}
 use Rattle.pieces.proofs.touches.Statement.{statement}

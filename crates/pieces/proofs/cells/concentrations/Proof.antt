@@ -1,12 +1,11 @@
 -- Each turn writes the raised concentration of one cell.
-use Prim.Native.Nat.{ℕ, _+_, _/_, _≤_, _<_, _-_, zero-le}
-use mathlib.Core.Path.{_≡_, refl, sym, ap, _∙_}
+use Prim.Native.Nat.{_+_, _/_, _≤_, _-_, zero-le}
+use mathlib.Core.Path.{_≡_}
 use native.Mathlib.Nat.{le-trans}
 use native.Mathlib.Omega.{arith}
-use borrow.Author.Needs.{needs}
-use lib.ListN.{length, getD}
+use lib.ListN.{getD}
 use Rattle.lists.specs.Table.{table, over}
-use Rattle.lists.proofs.Tables.{over-start, over-step, length-over}
+use Rattle.lists.proofs.Tables.{over-start, over-step}
 use Rattle.lists.proofs.Turns.{turn-within, turn-less, turn-in, turn-in-same, turn-next, turn-bytes}
 use Rattle.pieces.proofs.Turns.{written-long}
 use Rattle.pieces.proofs.cells.concentrations.Statement.{statement}

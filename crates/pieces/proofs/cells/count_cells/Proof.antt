@@ -1,8 +1,7 @@
 -- The count grows by one where a cell has the label.
 use Prim.Native.Nat.{_≤_, _-_, zero-le}
-use mathlib.Core.Path.{_≡_, sym, ap, _∙_}
+use mathlib.Core.Path.{_≡_, sym}
 use native.Mathlib.Omega.{arith}
-use borrow.Author.Needs.{needs}
 use Rattle.lists.specs.Marked.{count}
 use Rattle.lists.proofs.Turns.{turn-within, turn-less, turn-in, turn-next}
 use Rattle.pieces.specs.Pieces.{hasLabel}

@@ -1,6 +1,6 @@
 -- Each turn writes how many cells of the part were met; at last the mark of the rim.
-use Prim.Native.Nat.{ℕ, _≤_, _<_, _-_, zero-le}
-use mathlib.Core.Path.{_≡_, refl, sym, ap, _∙_}
+use Prim.Native.Nat.{ℕ, _≤_, _-_, zero-le}
+use mathlib.Core.Path.{_≡_, sym, ap, _∙_}
 use mathlib.Core.List.{List}
 use native.Mathlib.Nat.{le-trans, le-refl}
 use native.Mathlib.Omega.{arith}
@@ -8,8 +8,8 @@ use borrow.Author.Needs.{needs}
 use lib.ListN.{length, set, length-set}
 use Rattle.lists.specs.Table.{table, over}
 use Rattle.lists.specs.Marked.{count}
-use Rattle.lists.proofs.Tables.{over-start, over-step, length-over}
-use Rattle.lists.proofs.Turns.{turn-within, turn-less, turn-in, turn-in-same, turn-next, turn-bytes}
+use Rattle.lists.proofs.Tables.{over-start, over-step}
+use Rattle.lists.proofs.Turns.{turn-within, turn-less, turn-in, turn-in-same, turn-next}
 use Rattle.model.specs.Mesh.{rim}
 use Rattle.pieces.specs.Pieces.{hasLabel}
 use Rattle.pieces.proofs.Turns.{count-start, count-turn, count-small, written-long}

@@ -1,10 +1,9 @@
 -- The numbers fill an array with an entry at the rim's mark; for a face that touches the part they are the new ones.
 use Prim.Native.Nat.{ℕ}
-use mathlib.Core.Path.{_≡_, ap, _∙_}
+use mathlib.Core.Path.{ap, _∙_}
 use mathlib.Core.List.{List}
 use native.Mathlib.Omega.{arith}
 use borrow.Author.Needs.{needs}
-use lib.ListN.{length, replicate}
 use Rattle.lists.specs.Table.{over}
 use Rattle.pieces.proofs.Numbered.{faces-lent, ends-in, numbers-long, firsts-are}
 use Rattle.pieces.proofs.columns.firsts.Statement.{statement}

@@ -1,10 +1,9 @@
 -- The concentrations fill an array with an entry at the rim's mark; those across a cut face are of cells.
 use Prim.Native.Nat.{ℕ}
-use mathlib.Core.Path.{_≡_, ap, _∙_}
+use mathlib.Core.Path.{ap, _∙_}
 use mathlib.Core.List.{List}
 use native.Mathlib.Omega.{arith}
 use borrow.Author.Needs.{needs}
-use lib.ListN.{length}
 use Rattle.lists.specs.Table.{over}
 use Rattle.pieces.proofs.Numbered.{faces-lent, ends-in, q-long, outsides-are}
 use Rattle.pieces.proofs.columns.outsides.Statement.{statement}

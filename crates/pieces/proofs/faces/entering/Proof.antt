@@ -1,7 +1,5 @@
 -- No water enters, or it comes from the end that is not in the part.
-use mathlib.Core.Path.{_≡_, sym, ap, _∙_}
-use mathlib.Core.Bool.{cond}
-use borrow.Author.Needs.{needs}
+use mathlib.Core.Path.{sym, _∙_}
 use borrow.Author.Tests.{not-true, not-false}
 use Rattle.pieces.proofs.Turns.{bytes, enters}
 use Rattle.pieces.proofs.faces.entering.Statement.{statement}

@@ -1,9 +1,8 @@
 -- Each turn puts the number of the end in the part.
-use Prim.Native.Nat.{ℕ, _-_, _≤_, zero-le}
-use mathlib.Core.Path.{_≡_, refl, sym, ap, _∙_}
+use Prim.Native.Nat.{_-_, _≤_, zero-le}
+use mathlib.Core.Path.{_≡_, sym}
 use native.Mathlib.Nat.{le-trans}
 use native.Mathlib.Omega.{arith}
-use borrow.Author.Needs.{needs}
 use Rattle.lists.specs.Table.{over}
 use Rattle.lists.specs.Marked.{count, picked}
 use Rattle.lists.proofs.Turns.{turn-within, turn-less, turn-in, turn-next, turn-bytes}

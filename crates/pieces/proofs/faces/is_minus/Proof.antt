@@ -1,5 +1,3 @@
-use mathlib.Core.Path.{ap, _∙_}
-use mathlib.Core.Bool.{not}
 use borrow.Author.Needs.{needs}
 use Rattle.pieces.proofs.faces.is_minus.Statement.{statement}
 use Rattle.pieces.proofs.faces.is_minus.Tie as tie

@@ -1,5 +1,4 @@
 use mathlib.Core.Path.{sym, _∙_}
-use borrow.Author.Needs.{needs}
 use Rattle.pieces.proofs.Turns.{bytes}
 use Rattle.pieces.proofs.faces.near_number.Statement.{statement}
 use Rattle.pieces.proofs.faces.near_number.Tie as tie

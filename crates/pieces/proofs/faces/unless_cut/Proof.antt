@@ -1,5 +1,4 @@
 use mathlib.Core.Path.{sym, _∙_}
-use borrow.Author.Needs.{needs}
 use Rattle.pieces.proofs.faces.unless_cut.Statement.{statement}
 use Rattle.pieces.proofs.faces.unless_cut.Tie as tie
 
