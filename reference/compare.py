@@ -44,7 +44,7 @@ REACHABLE = [LONG_PRODUCT, "M 11", "M 13/0", "M 1/0", "M 1/1", "M 12", "M 3", "M
              "R 11", "R 13/0", "R 13/1", "R 12", "R 18", "R 7", "R 8", "R 9", "R 10"]
 CALL_REACHABLE = REACHABLE + ["N 2/11"]         # N: the bytes lent for the next field
 
-# Causes that each call of a script can meet, 1, 2 and 13 with their places.
+# Causes that each call of a script can meet, 1, 2, 13 and 24 with their places.
 COUNTS, MESH = "1/0 1/1", "2/0 2/1 2/2 2/3 2/4"
 CELLS = "1/0 2/0 2/5 3 6"
 STEP = f"{COUNTS} {MESH} 2/5 2/6 2/7 2/8 2/9 2/10 2/14 3 4 5 6 18 7 8 9 10"
@@ -58,6 +58,7 @@ SCRIPT_CAUSES = {
     "step": STEP,
     "plain_step": STEP,
     "judge": STEP.replace(" 2/10", "") + " 21 22",
+    "cut": f"{COUNTS} {MESH} 2/5 2/6 2/7 2/14 2/15 3 4 5 23 24/0 24/1 6 18 7 8 9 10",
     "mesh_length": f"11 13/0 {COUNTS}",
     "field_length": "11 13/0 13/1 1/0",
     "step_length": "11 13/0 13/1 1/0 1/1 2/2",
@@ -128,7 +129,7 @@ def cause_of_call(reference, case, number):
 
 
 def script_cause(cause, place):
-    return f"{cause}/{place}" if cause in (1, 2, 13) else f"{cause}"
+    return f"{cause}/{place}" if cause in (1, 2, 13, 24) else f"{cause}"
 
 
 def causes_of_script(text):

@@ -14,8 +14,8 @@ from collections import Counter, namedtuple
 import generate
 import lagoon
 from generate import all_ones
-from lagoon import (CEILING, CLAIM_TABLES, FIRSTS, FLUXES, MASSES, MOST_NAME, MOVED, NEXT, OLD_CEILING, OUTFALLS, OUTSIDES, REACHES, RELEASES, RIM,
-                    SECONDS, SHARES, STEP_TABLES, TOP, VOLUMES, WATER, WORK)
+from lagoon import (CEILING, CLAIM_TABLES, CUT_TABLES, FIRSTS, FLUXES, MASSES, MOST_NAME, MOVED, NEXT, OLD_CEILING, OUTFALLS, OUTSIDES, REACHES,
+                    RELEASES, RIM, SECONDS, SHARES, STEP_TABLES, TOP, VOLUMES, WATER, WORK)
 from script import CALLS, Engine, answered, pattern, spell
 
 Script = namedtuple("Script", "kinds text")
@@ -25,7 +25,7 @@ LEAST, MOST = -(1 << 63), (1 << 63) - 1
 ENGINE = Engine(lagoon)
 NAMES = [name for name, _ in CALLS.values()]
 # A step has most of the arithmetic, and of the causes.
-OFTEN = NAMES + ["step"] * 4 + ["plain_step"] * 2 + ["judge"] * 3 + ["check_step", "write_step", "lagoon_step", "take_step"]
+OFTEN = NAMES + ["step"] * 4 + ["plain_step"] * 2 + ["judge"] * 3 + ["cut"] * 3 + ["check_step", "write_step", "lagoon_step", "take_step"]
 EACH = 12               # calls of a script: enough that every cause of every call is met
 CELLS, FACES = lagoon.LIBRARY_LIMITS
 COUNTS = [0, 1, CELLS - 1, CELLS, CELLS + 1, FACES, FACES + 1, 1 << 16, 1 << 63, GREATEST]
@@ -210,6 +210,45 @@ def judged(rng, large, kinds):
                                    lagoon.MOST_CLAIMED, -lagoon.MOST_CLAIMED, lagoon.MOST_CLAIMED + 1, -lagoon.MOST_CLAIMED - 1])
             kinds.append("changed claim")
     return (lent.cells, lent.faces, *(lent.tables[position] for position in CLAIM_TABLES))
+
+def some_labels(rng, cells, kinds):
+    """Labels of cells, now and then all the same, another one, too few or too many."""
+    share = rng.choice([0.1, 0.5, 0.5, 0.9])
+    labels = [int(rng.random() < share) for _ in range(min(cells, CELLS))]
+    damage = rng.choice(["none"] * 12 + ["all 0", "all 1", "another", "short", "longer"])
+    kinds.append("labels: " + damage)
+    if damage in ("all 0", "all 1"):
+        labels = [int(damage[-1])] * len(labels)
+    elif len(labels) > 1 and damage != "another":
+        labels[rng.randrange(len(labels))] ^= len(set(labels)) == 1         # both parts have a cell
+    if damage == "another" and labels:
+        labels[rng.randrange(len(labels))] = rng.choice([2, 3, RIM, GREATEST])
+    elif damage == "short" and labels:
+        labels.pop()
+    elif damage == "longer":
+        labels += [rng.choice([0, 1, 2, GREATEST]) for _ in range(3)]
+    return labels
+
+def for_a_part(rng, lent, kinds):
+    """Tables lent for a part: as long as the whole's or longer, one of them now and then too short."""
+    longer, short = rng.choice([0, 0, 2]), rng.choice(CUT_TABLES) if rng.random() < 0.15 else None
+    if short is not None:
+        kinds.append(f"a part's table short {short}")
+    tables = []
+    for position in CUT_TABLES:
+        need = len(lent.lag.volumes if position in (VOLUMES, MASSES, RELEASES) else lent.lag.faces)
+        length = need + longer if position != short else max(0, need - rng.choice([1, 1, need]))
+        tables.append([-7 if position == FLUXES else 7] * length)
+    return tables
+
+def cut(rng, large, kinds):
+    """A lagoon, whole or damaged, its labels, and tables for both parts. One as large as others would not be a call any more."""
+    lent = tables_for(rng, CUT_TABLES, False, kinds)
+    if rng.random() < 0.3:
+        lent = Lent(rng)
+    labels = some_labels(rng, lent.cells, kinds)
+    return (lent.cells, lent.faces, *(lent.tables[position] for position in CUT_TABLES), labels,
+            *for_a_part(rng, lent, kinds), *for_a_part(rng, lent, kinds))
 
 def on_cells(rng, large, kinds):
     lent = tables_for(rng, (VOLUMES, MASSES), large, kinds)
@@ -528,6 +567,7 @@ MAKE = {
     "step": on_mesh(STEP_TABLES),
     "plain_step": on_mesh(STEP_TABLES),
     "judge": judged,
+    "cut": cut,
     "mesh_length": mesh_length,
     "field_length": field_length,
     "step_length": step_length,
@@ -588,6 +628,19 @@ def broken(rng, text):
 
 RIM_FACES = [0] * FACES, [RIM] * FACES, [0] * FACES, [0] * FACES
 
+CUT_FACES = (119_999 - 30 - 10 * CELLS) // 18      # all numbers of a cutting of so many cells and faces are fewer than 120,000
+
+def whole_channel():
+    """Tables of a cutting: all cells in a row, water through all of them, and rim faces without water."""
+    rows = [(0, RIM, 0, 0, -CEILING), *((cell, cell + 1, 1, CEILING, CEILING) for cell in range(CELLS - 1)), (CELLS - 1, RIM, 0, 0, CEILING)]
+    rows += [(CELLS - 1, RIM, 0, 0, 0)] * (CUT_FACES - len(rows))
+    firsts, seconds, shares, reaches, fluxes = map(list, zip(*rows))
+    return ([CEILING] * CELLS, firsts, seconds, shares, reaches, [0, FULL] * (CELLS // 2) + [0], fluxes, [TOP] + [0] * (CUT_FACES - 1),
+            [FULL, 0] * (CELLS // 2) + [1])
+
+def room_for_part():
+    cells, faces = [7] * CELLS, [7] * CUT_FACES
+    return cells, faces, faces, faces, faces, cells, [-7] * CUT_FACES, faces, cells
 
 def largest_records(width):
     """The largest records of a width with the greatest values, written and read back, and handed to the calls that take no more than the run."""
@@ -646,6 +699,9 @@ def largest():
         spell("plain_step", CELLS, FACES, *mesh, filled_up, still, none, *lent, released),
         spell("judge", CELLS, FACES, *mesh, filled_up, still, none, lent[0], [0] * FACES, released),
         spell("judge", 1, FACES, *pool, [0], inflow, outsides, lent[0], [-CEILING * TOP] * FACES, [0]),
+        "# the largest lagoon that one call can cut: nearly all cells on one side, and in turn\n",
+        *(spell("cut", CELLS, CUT_FACES, *whole_channel(), labels, *room_for_part(), *room_for_part())
+          for labels in ([0] * (CELLS - 1) + [1], [cell % 2 for cell in range(CELLS)])),
         "# the largest mesh kept, dropped and given back, in a store of the room needed\n",
         spell("keep", CELLS, volumes, masses, [0] * (CELLS + 2), MOST_NAME),
         spell("keep", CELLS, volumes, masses, [0] * (CELLS + 1), MOST_NAME),

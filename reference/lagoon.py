@@ -21,9 +21,10 @@ RUN_LIMITS = (1023, 2046)
 
 # Lent tables, by position; those lent to a step, in the order of its arguments.
 (VOLUMES, FIRSTS, SECONDS, SHARES, REACHES, MASSES,
- FLUXES, OUTSIDES, NEXT, MOVED, WORK, RECORD, PAGE, STORE, RELEASES) = range(15)
+ FLUXES, OUTSIDES, NEXT, MOVED, WORK, RECORD, PAGE, STORE, RELEASES, LABELS) = range(16)
 STEP_TABLES = (*range(WORK + 1), RELEASES)
 CLAIM_TABLES = (*range(WORK), RELEASES)         # of a judging, in which moved is the claim (document 02, S-11)
+CUT_TABLES = (*range(NEXT), RELEASES)           # of a cutting, of the whole and again of each part (document 02, S-12)
 
 # Kinds of records; a step of kind 4 has releases (document 02, S-6).
 MESH, FIELD, WATER, OUTFALLS = 1, 2, 3, 4
@@ -289,20 +290,31 @@ def mesh_needs(cells, faces):
 def counted_mesh(cells, faces, tables):
     return Mesh(tables[VOLUMES][:cells], *(tables[i][:faces] for i in (FIRSTS, SECONDS, SHARES, REACHES)))
 
-def judge_step(cells, faces, tables, positions=STEP_TABLES):
-    """All causes of a step, corrected or plain, on its tables by position; what is counted of those that it reads."""
-    judge_counts(cells, faces, LIBRARY_LIMITS)
-    needs = {**mesh_needs(cells, faces), MASSES: cells, FLUXES: faces, OUTSIDES: faces, NEXT: cells, MOVED: faces,
-             WORK: 4 * cells + faces, RELEASES: cells}
-    judge_lengths(lengths_of(tables), {position: needs[position] for position in positions})
-    mesh, masses = counted_mesh(cells, faces, tables), tables[MASSES][:cells]
-    fluxes, outsides, releases = tables[FLUXES][:faces], tables[OUTSIDES][:faces], tables[RELEASES][:cells]
-    judge_mesh(mesh)
+def counted_step(cells, faces, tables):
+    """What is counted of the tables that a step reads."""
+    return (counted_mesh(cells, faces, tables), tables[MASSES][:cells], tables[FLUXES][:faces], tables[OUTSIDES][:faces],
+            tables[RELEASES][:cells])
+
+def step_needs(cells, faces):
+    return {**mesh_needs(cells, faces), MASSES: cells, FLUXES: faces, OUTSIDES: faces, NEXT: cells, MOVED: faces,
+            WORK: 4 * cells + faces, RELEASES: cells, LABELS: cells}
+
+def judge_salt_and_water(mesh, masses, fluxes, outsides, releases):
+    """The causes of a step on an accepted mesh: 6, 18, 7, 8, 9 and 10."""
     judge_field(mesh, masses)
     judge_raised(mesh, masses, releases)
     judge_values(mesh, fluxes, outsides)
     judge_flow(mesh, fluxes)
-    return mesh, masses, fluxes, outsides, releases
+
+def judge_step(cells, faces, tables, positions=STEP_TABLES):
+    """All causes of a step, corrected or plain, on its tables by position; what is counted of those that it reads."""
+    judge_counts(cells, faces, LIBRARY_LIMITS)
+    needs = step_needs(cells, faces)
+    judge_lengths(lengths_of(tables), {position: needs[position] for position in positions})
+    counted = counted_step(cells, faces, tables)
+    judge_mesh(counted[0])
+    judge_salt_and_water(*counted)
+    return counted
 
 def fill_tables(cells, faces, tables, result):
     """Next masses, moved and work after an accepted step; gives in-mass, out-mass and released mass."""
@@ -789,6 +801,84 @@ def page_on_tables(cells, volumes, masses, page, room):
     if not page_cells(cells, page):
         raise Refusal(14, page)
     return "".join(page_lines(mesh.volumes, masses[:cells], page)).encode()
+
+
+# ---------------------------------------------------------------- One lagoon on two boards (document 02, S-12)
+
+PARTS = (0, 1)
+
+def judge_labels(labels):
+    """Causes 23 and 24: another label, and a part without cells."""
+    refuse_first(23, (label not in PARTS for label in labels))
+    refuse_first(24, (part not in labels for part in PARTS))
+
+def judge_cut(cells, faces, tables, lent):
+    """All causes of a cutting, on the whole's tables and those lent for the parts; what is counted of the whole, and its labels."""
+    judge_counts(cells, faces, LIBRARY_LIMITS)
+    needs = step_needs(cells, faces)
+    shortest = {position: min(len(side[position]) for side in (tables, *lent)) for position in CUT_TABLES}
+    judge_lengths({**shortest, LABELS: len(tables[LABELS])}, {position: needs[position] for position in (*CUT_TABLES, LABELS)})
+    counted, labels = counted_step(cells, faces, tables), tables[LABELS][:cells]
+    judge_mesh(counted[0])
+    judge_labels(labels)
+    judge_salt_and_water(*counted)
+    return counted, labels
+
+def part_cells(labels, part):
+    """The old numbers of a part's cells, in their order."""
+    return [cell for cell, label in enumerate(labels) if label == part]
+
+def parts_of_face(labels, first, second):
+    """The parts that a face belongs to; the rim is in none."""
+    return {labels[end] for end in (first, second) if end != RIM}
+
+def part_faces(mesh, labels, part):
+    """The old numbers of a part's faces, in their order."""
+    return [face for face, ends in enumerate(zip(mesh.firsts, mesh.seconds)) if part in parts_of_face(labels, *ends)]
+
+def new_numbers(labels, part):
+    """The number of each cell of a part in it."""
+    return {cell: number for number, cell in enumerate(part_cells(labels, part))}
+
+def seen_from(labels, part, first, second, U):
+    """A cut face as a part has it: its own cell first, the one across, and U, negated where the face is turned."""
+    return (first, second, U) if labels[first] == part else (second, first, -U)
+
+def cut_spacing(s, K):
+    """Share and reach of a cut face, which is a rim face of both parts."""
+    return 0, 0
+
+def across_the_cut(mesh, masses, releases):
+    """The concentrations that enter over a cut, by cell: those of the raised field."""
+    return concentrations(mesh.volumes, raised(masses, releases))
+
+def part_face(q, labels, part, numbers, first, second, s, K, U, outside):
+    """First, second, share, reach, U and outside value of a face in a part."""
+    if len(parts_of_face(labels, first, second)) == 1:
+        return numbers[first], RIM if second == RIM else numbers[second], s, K, U, outside
+    near, across, U = seen_from(labels, part, first, second, U)
+    return numbers[near], RIM, *cut_spacing(s, K), U, q[across] if U < 0 else 0
+
+def part_of(mesh, masses, fluxes, outsides, releases, labels, part):
+    """The tables of one part by position, as long as its own counts."""
+    q, numbers = across_the_cut(mesh, masses, releases), new_numbers(labels, part)
+    rows = list(zip(*mesh[1:], fluxes, outsides))
+    kept = [part_face(q, labels, part, numbers, *rows[face]) for face in part_faces(mesh, labels, part)]
+    tables = dict(zip((FIRSTS, SECONDS, SHARES, REACHES, FLUXES, OUTSIDES), map(list, zip(*kept)) if kept else [[]] * 6))
+    for position, table in ((VOLUMES, mesh.volumes), (MASSES, masses), (RELEASES, releases)):
+        tables[position] = [table[cell] for cell in part_cells(labels, part)]
+    return tables
+
+def cut_on_tables(cells, faces, tables, lent):
+    """Fills the tables lent for both parts; gives cells and faces of part 0, then of part 1."""
+    counted, labels = judge_cut(cells, faces, tables, lent)
+    counts = []
+    for part, side in zip(PARTS, lent):
+        made = part_of(*counted, labels, part)
+        for position, table in made.items():
+            side[position][:len(table)] = table
+        counts += [len(made[VOLUMES]), len(made[FIRSTS])]
+    return tuple(counts)
 
 
 if __name__ == "__main__":

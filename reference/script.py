@@ -2,7 +2,7 @@
 """A script of calls, answered by the reference: what the program calls prints.
 
 docs/CALLS.md has the form of a script. Numbers stand in CALLS with the names and the kinds of their arguments:
-n a number, t a table, s a table of signed numbers, b bytes.
+n a number, t a table, s a table of signed numbers, b bytes, p and q such tables of a part of a lagoon.
 """
 
 import argparse
@@ -43,11 +43,12 @@ CALLS = {
     28: ("face_share", "nnnnnnnn"),
     29: ("plain_step", "nnttttttsttstt"),
     30: ("judge", "nnttttttsttst"),
+    31: ("cut", "nnttttttsttt" + 2 * "ppppppqpp"),
 }
 NUMBER_OF = {name: number for number, (name, _) in CALLS.items()}
 
 MOST_NUMBERS = 120_000          # a call has fewer, its own number not counted
-ROOM = {"t": 24_576, "s": 24_576, "b": 65_536}
+ROOM = {"t": 24_576, "s": 24_576, "b": 65_536, "p": 8_192, "q": 8_192}
 WORD = 1 << 64
 SKIPPED = re.compile(rb"(?:[ \t\r\n]+|#[^\n]*)*")
 SPELLED = re.compile(rb"(-?)([0-9]*)")
@@ -106,7 +107,7 @@ class Reader:
         return size
 
     def entry(self, kind, found):
-        if kind == "s":
+        if kind in "sq":
             value = -found[1] if found[0] else found[1]
             if not -WORD // 2 <= value < WORD // 2:
                 raise Fault("too large", self.at)
@@ -196,6 +197,13 @@ class Engine:
 
     def judge(self, cells, faces, *tables):
         return self.lagoon.judge_on_tables(cells, faces, dict(zip(self.lagoon.CLAIM_TABLES, tables, strict=True)))
+
+    def cut(self, cells, faces, *lent):
+        L = self.lagoon
+        many = len(L.CUT_TABLES)
+        whole, first, second = lent[:many + 1], lent[many + 1:2 * many + 1], lent[2 * many + 1:]
+        tables = dict(zip((*L.CUT_TABLES, L.LABELS), whole, strict=True))
+        return L.cut_on_tables(cells, faces, tables, [dict(zip(L.CUT_TABLES, part, strict=True)) for part in (first, second)])
 
     def limits(self, cells, faces):
         """Limits that a caller sets do not widen document 01's."""
@@ -324,6 +332,8 @@ CHANGED = {
     "step": {10: "next", 11: "moved", 12: "work"},
     "plain_step": {10: "next", 11: "moved", 12: "work"},
     "judge": {10: "next"},
+    "cut": {12 + 9 * part + place: f"{name}{part}" for part in (0, 1) for place, name in enumerate(
+        ("volumes", "firsts", "seconds", "shares", "reaches", "masses", "fluxes", "outsides", "releases"))},
     "read_mesh": {3: "volumes", 4: "firsts", 5: "seconds", 6: "shares", 7: "reaches"},
     "read_field": {3: "masses"},
     "read_step": {5: "fluxes", 6: "outsides", 7: "releases"},

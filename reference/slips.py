@@ -540,9 +540,43 @@ def unheld(lagoon):
     lagoon.judge_claim = judge_claim
 
 
+# ---------------------------------------------------------------- Document 02, S-12: a lagoon cut in two
+
+def flat(lagoon):
+    """The outside value at a cut by q before the releases."""
+    lagoon.across_the_cut = lambda mesh, masses, releases: lagoon.concentrations(mesh.volumes, masses)
+
+
+def single(lagoon):
+    """A cut face in the part of its first cell alone."""
+    right = lagoon.part_faces
+    lagoon.part_faces = lambda mesh, labels, part: [face for face in right(mesh, labels, part) if labels[mesh.firsts[face]] == part]
+
+
+def outward(lagoon):
+    """U of a cut face the same on both sides."""
+    right = lagoon.seen_from
+    lagoon.seen_from = lambda labels, part, first, second, U: (*right(labels, part, first, second, U)[:2], U)
+
+
+def throughout(lagoon):
+    """Cells numbered through both parts, by label first."""
+    right = lagoon.new_numbers
+    lagoon.new_numbers = lambda labels, part: {
+        cell: number + (len(lagoon.part_cells(labels, 0)) if part else 0) for cell, number in right(labels, part).items()}
+
+
+def shared(lagoon):
+    """A cut face keeps its share."""
+    lagoon.cut_spacing = lambda s, K: (s, 0)
+
+
+CUT_SLIPS = {slip.__name__: slip for slip in (flat, single, outward, throughout, shared)}
+
+
 ANSWER_SLIPS = {slip.__name__: slip for slip in (place, table, beyond, bit, dropped, binder, places, lifted, fresher, unweighed, higher, first,
                                                  freed, nearest, exchanged, corrects, bare, mingled, rounded, lenient, uncleared,
-                                                 largest, unswayed, unbound, unheld)}
+                                                 largest, unswayed, unbound, unheld, *CUT_SLIPS.values())}
 
 
 ALL_SLIPS = {**SLIPS, **CALL_SLIPS, **RUN_SLIPS, **ANSWER_SLIPS}

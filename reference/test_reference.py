@@ -445,6 +445,40 @@ def test_largest_records():
                     5: (57334, 1662297036), 6: (20477, 3134437295), 7: (37883, 213512273), 8: (58358, 3101553809)}, "the largest records by their kinds")
 
 
+def cut(mesh, masses, fluxes, outsides, releases, labels, short=None):
+    """The counts, and the tables of both parts by position, which held 7 before; one of the second part's may be an entry too short."""
+    tables = dict(zip((*lagoon.CUT_TABLES, lagoon.LABELS), (*mesh, masses, fluxes, outsides, releases, labels), strict=True))
+    lent = [{position: [7] * len(tables[position]) for position in lagoon.CUT_TABLES} for _ in lagoon.PARTS]
+    if short is not None:
+        lent[1][short].pop()
+    return lagoon.cut_on_tables(len(mesh.volumes), len(mesh.firsts), tables, lent), lent
+
+
+def test_cut():
+    """Document 02, S-12: the figures of crates/cut/proofs/Figures.antt, and others."""
+    masses, releases, labels = [100000, 0, 0], [5000, 0, 0], [0, 1, 1]
+    counts, (near, far) = cut(CHANNEL, masses, FLOW, OUTSIDE, releases, labels)
+    equal(counts, (1, 2, 2, 3), "the channel's counts")
+    equal([near[position] for position in lagoon.CUT_TABLES],
+          [[100, 7, 7], [0, 0, 7, 7], [RIM, RIM, 7, 7], [0, 0, 7, 7], [0, 0, 7, 7], [100000, 7, 7], [-50, 50, 7, 7], [1000, 0, 7, 7], [5000, 7, 7]],
+          "the channel's first cell")
+    equal([far[position] for position in lagoon.CUT_TABLES],
+          [[100, 100, 7], [0, 0, 1, 7], [RIM, 1, RIM, 7], [0, 128, 0, 7], [0, 100, 0, 7], [0, 0, 7], [-50, 50, 50, 7], [1050, 0, 0, 7], [0, 0, 7]],
+          "the channel's other cells, with the raised 1050 across the cut")
+    _, (near, far) = cut(CHANNEL, masses, FLOW, OUTSIDE, releases, [1, 0, 0])
+    equal((near[lagoon.FIRSTS][0], near[lagoon.FLUXES][0], near[lagoon.OUTSIDES][0]), (0, -50, 1050), "a face whose second cell is in part 0")
+    pair = Mesh([10, 10], [0, 0], [1, 1], [128, 128], [10, 10])
+    _, (near, far) = cut(pair, [93, 15], [10, -10], [0, 0], [0, 0], [0, 1])
+    equal((near[lagoon.FLUXES], near[lagoon.OUTSIDES]), ([10, -10], [0, 1]), "two opposite faces cut, from the first cell")
+    equal((far[lagoon.FLUXES], far[lagoon.OUTSIDES]), ([-10, 10], [9, 0]), "and from the second")
+    for what, labels, cause, place in (("another label", [0, 2, 3], 23, 1), ("no part 0", [1, 1, 1], 24, 0), ("no part 1", [0, 0, 0], 24, 1)):
+        refused(cause, place, what, cut, CHANNEL, [100000100, 0, 0], FLOW, OUTSIDE, releases, labels)
+    refused(6, 0, "too high", cut, CHANNEL, [100000100, 0, 0], FLOW, OUTSIDE, releases, [0, 1, 1])
+    refused(2, lagoon.LABELS, "labels too short", cut, CHANNEL, masses, FLOW, OUTSIDE, releases, [0, 1])
+    for position in lagoon.CUT_TABLES:
+        refused(2, position, "a part's table too short", cut, CHANNEL, masses, FLOW, OUTSIDE, releases, [0, 1, 2], position)
+
+
 def test_pages():
     """Document 02, S-1: lines of 18 bytes, pages of sixty cells, read back."""
     channel = lagoon.page_on_tables(3, [100] * 3, [100099, 81188, 18713], 0, 72)

@@ -22,6 +22,9 @@ target/compare/calls < tests/calls_example.in | cmp - tests/calls_example.out
 # the engine's plain steps beside unrounded ones
 python3 reference/unrounded.py --script target/compare/calls --lists 300 --seed 2
 
+# lagoons cut in two by the engine, and the engine's plain steps of both parts beside the whole's
+python3 reference/cuts.py --script target/compare/calls --cases 400 --seed 2
+
 # shares from survey points: the tool's and the engine's
 python3 tests/points.py target/compare/calls
 

@@ -36,7 +36,7 @@ WIDEST_LINE = 76        # columns of a fenced block that an A4 page holds
 
 # Numbers of the papers that the page's prose may say.
 CONSTANTS = {lagoon.RIM, lagoon.TOP, *lagoon.LIBRARY_LIMITS, *lagoon.RUN_LIMITS, 255, 256, 128, lagoon.PAGE_CELLS,
-             layout.WIDE.value, *lagoon.MASS_BITS, WORD_BITS, 17, 18, 19, lagoon.CEILING, lagoon.MOST_CLAIMED, 21, 22}
+             layout.WIDE.value, *lagoon.MASS_BITS, WORD_BITS, 17, 18, 19, lagoon.CEILING, lagoon.MOST_CLAIMED, 21, 22, 23, 24}
 
 
 def same(ours, reference):
@@ -539,6 +539,30 @@ def plain_pair():
     return columns(rows)
 
 
+def cut_in_two():
+    """The channel with outfalls cut after its first cell: what each part is given, and its plain step, which has to be the whole's."""
+    step = (OUTFALL.mesh, OUTFALL.first, OUTFALL.fluxes, OUTFALL.outsides, OUTFALL.releases)
+    whole, labels, lines = lagoon.advance_plain(*step), [0, 1, 1], []
+    for part in lagoon.PARTS:
+        made = lagoon.part_of(*step, labels, part)
+        firsts, seconds, fluxes, outsides = (made[position] for position in (lagoon.FIRSTS, lagoon.SECONDS, lagoon.FLUXES, lagoon.OUTSIDES))
+        mesh = lagoon.Mesh(*(made[position] for position in range(5)))
+        own = lagoon.advance_plain(mesh, made[lagoon.MASSES], fluxes, outsides, made[lagoon.RELEASES])
+        cells, faces = lagoon.part_cells(labels, part), lagoon.part_faces(OUTFALL.mesh, labels, part)
+        turned = [labels[OUTFALL.mesh.firsts[f]] != part for f in faces]
+        rows = [("face", "old face", "from", "to", "U", "outside value", "moved", "moved in the whole")]
+        for i, f in enumerate(faces):
+            same(own.moved[i], -whole.moved[f] if turned[i] else whole.moved[f])
+            rows.append((i, f, firsts[i], "rim" if seconds[i] == lagoon.RIM else seconds[i], signed(fluxes[i]), outsides[i], signed(own.moved[i]),
+                         signed(whole.moved[f])))
+        lines += [f"Part {part}", *columns(rows)]
+        rows = [("cell", "old cell", "m", "release", "next mass", "of the whole")]
+        rows += [(i, c, made[lagoon.MASSES][i], made[lagoon.RELEASES][i], own.masses[i], same(whole.masses[c], own.masses[i]))
+                 for i, c in enumerate(cells)]
+        lines += [*columns(rows), ""]
+    return lines[:-1]
+
+
 def claims():
     """Three claims for the channel's first step: one between the corrected and the plain step, one of a bar that holds too much back, and one
     that brings more than the sea does."""
@@ -620,6 +644,7 @@ BLOCKS = {"layouts": layouts, "bytes": the_bytes, "mesh-bits": lambda: fenced(me
           "outfall-step": lambda: fenced(OUTFALL_STEP.lines()), "outfall-printed": lambda: fenced(OUTFALL.printed()),
           "plain-1": lambda: fenced(STEP_1.plain_lines()), "plain-2": lambda: fenced(PLAIN_2.plain_lines()),
           "plain-error": lambda: fenced(plain_error()), "plain-pair": lambda: fenced(plain_pair()), "claims": lambda: fenced(claims()),
+          "cut": lambda: fenced(cut_in_two()),
           "year": lambda: fenced(year()), "widest": lambda: fenced(widest()),
           "edition": edition, "form": lambda: fenced(form()),
           "page": lambda: fenced(binder_page(CHANNEL, STEP_2.next)), "page-back": lambda: fenced(page_back(CHANNEL, STEP_2.next)),

@@ -1,5 +1,6 @@
 // What a program prints of a call: words, numbers and tables.
 use crate::BYTES_ROOM;
+use crate::PART_ROOM;
 use crate::ROOM;
 use libc::STDOUT_FILENO;
 
@@ -25,7 +26,7 @@ fn octet(b: u8) {
 }
 
 // The first n entries of a table.
-pub fn numbers(title: &[u8], n: usize, xs: &[u64; ROOM]) {
+fn entries(title: &[u8], n: usize, xs: &[u64]) {
     word(title);
     let mut i = 0;
     while i < n {
@@ -36,7 +37,7 @@ pub fn numbers(title: &[u8], n: usize, xs: &[u64; ROOM]) {
     }
 }
 
-pub fn amounts(title: &[u8], n: usize, xs: &[i64; ROOM]) {
+fn signed_entries(title: &[u8], n: usize, xs: &[i64]) {
     word(title);
     let mut i = 0;
     while i < n {
@@ -45,6 +46,22 @@ pub fn amounts(title: &[u8], n: usize, xs: &[i64; ROOM]) {
         }
         i += 1;
     }
+}
+
+pub fn numbers(title: &[u8], n: usize, xs: &[u64; ROOM]) {
+    entries(title, n, xs);
+}
+
+pub fn amounts(title: &[u8], n: usize, xs: &[i64; ROOM]) {
+    signed_entries(title, n, xs);
+}
+
+pub fn part_numbers(title: &[u8], n: usize, xs: &[u64; PART_ROOM]) {
+    entries(title, n, xs);
+}
+
+pub fn part_amounts(title: &[u8], n: usize, xs: &[i64; PART_ROOM]) {
+    signed_entries(title, n, xs);
 }
 
 pub fn octets(title: &[u8], n: usize, xs: &[u8; BYTES_ROOM]) {

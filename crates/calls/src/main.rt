@@ -70,7 +70,10 @@ const PLAIN_STEP: u64 = 29;
 
 const JUDGE: u64 = 30;
 
-// The arguments of a call from the left: 1 a number, 2 a table, 3 a table of signed numbers, 4 bytes. No call has the shape 0.
+const CUT: u64 = 31;
+
+// The first sixteen arguments of a call from the left: 1 a number, 2 a table, 3 a table of signed numbers, 4 bytes, 5 and 6 such tables of a part.
+// No call has the shape 0.
 fn shape(call: u64) -> u64 {
     match call {
         COUNTS_WITHIN => 0x1111_0000_0000_0000,
@@ -79,6 +82,7 @@ fn shape(call: u64) -> u64 {
         CHECK_CELLS | TOTAL | BOARD => 0x1220_0000_0000_0000,
         CHECK_STEP | STEP | PLAIN_STEP => 0x1122_2222_3223_2200,
         JUDGE => 0x1122_2222_3223_2000,
+        CUT => 0x1122_2222_3222_5555,
         MESH_LENGTH | FIELD_LENGTH => 0x1140_0000_0000_0000,
         STEP_LENGTH => 0x1112_4000_0000_0000,
         READ_MESH => 0x1142_2222_0000_0000,
@@ -100,6 +104,14 @@ fn shape(call: u64) -> u64 {
     }
 }
 
+// The arguments past the sixteenth.
+fn later(call: u64) -> u64 {
+    match call {
+        CUT => 0x5565_5555_5556_5500,
+        _ => 0,
+    }
+}
+
 fn make_on_tables(call: u64, words: &[u64], ints: &[i64]) {
     match call {
         COUNTS_WITHIN => table_calls::counts_within(words),
@@ -111,6 +123,7 @@ fn make_on_tables(call: u64, words: &[u64], ints: &[i64]) {
         STEP => table_calls::step(words, ints),
         PLAIN_STEP => table_calls::plain_step(words, ints),
         JUDGE => table_calls::judge(words, ints),
+        CUT => cutting_calls::cut(words, ints),
         _ => table_calls::board(words),
     }
 }
@@ -199,7 +212,7 @@ fn calls(chunk: &mut [u8], words: &mut [u64]) {
         if call == 0 {
             return;
         }
-        let told = input::arguments(shape(call), chunk, words, here);
+        let told = input::arguments(shape(call), later(call), chunk, words, here);
         let fault = told.fault;
         at = told.input;
         if input::is_fault(fault) {

@@ -124,7 +124,7 @@ pub fn total(cells: usize, volumes: &[u64], masses: &[u64]) -> TotalAnswer
 }
 
 // Causes 3 to 10 and 18, of tables that are long enough.
-fn step_values(
+pub fn step_values(
     cells: usize,
     faces: usize,
     volumes: &[u64],

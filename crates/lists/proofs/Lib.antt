@@ -3,3 +3,4 @@ pub mod Sums
 pub mod Tables
 pub mod Renumbered
 pub mod Turns
+pub mod Marked

@@ -1,3 +1,4 @@
 pub mod Fold
 pub mod Table
 pub mod Renumbering
+pub mod Marked

@@ -1,6 +1,6 @@
 -- What an accepted call has passed.
 use Prim.Native.Nat.{ℕ, suc, _+_, _/_, _≤_, _<_}
-use mathlib.Core.Path.{_≡_}
+use mathlib.Core.Path.{_≡_, refl}
 use mathlib.Core.Logic.{_≢_}
 use mathlib.Core.Bool.{Bool, true, false, not, cond, _&&_, _||_}
 use mathlib.Core.List.{List}
@@ -65,6 +65,18 @@ ends-say n l k e =
     let a = both-true (ltb l n && (ltb k n || eqb k rim)) (not (eqb l k)) e in
     let b = both-true (ltb l n) (ltb k n || eqb k rim) (a .0) in
     (leb-true (suc l) n (b .0), (λ d. leb-true (suc k) n (either-true (ltb k n) (eqb k rim) (b .1) (ne-eqb k rim d))), eqb-false l k (not-true (eqb l k) (a .1)))
+
+-- and back
+pub ends-pass : (n l k : ℕ) → l < n → (k ≢ rim → k < n) → l ≢ k → (ltb l n && (ltb k n || eqb k rim) && not (eqb l k)) ≡ true
+ends-pass n l k h g d = rw (le-leb (suc l) n h, ne-eqb l k d, second-passes (eqb k rim) (same? k rim))
+  where
+    or-true : (a : Bool) → (a || true) ≡ true
+    or-true true = refl
+    or-true false = refl
+
+    second-passes : (b : Bool) → Same k rim b → (ltb k n || b) ≡ true
+    second-passes true s = or-true (ltb k n)
+    second-passes false (other e) = rw (le-leb (suc k) n (g e))
 
 spacing-says : (most k s r : ℕ) → spacingFit most k s r ≡ true → (s ≤ maxShare) × (r ≤ most) × (k ≢ rim → 1 ≤ r)
 spacing-says most k s r e = go (eqb k rim) (same? k rim) e

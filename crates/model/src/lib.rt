@@ -57,6 +57,8 @@ pub enum Cause {
     Ratio,
     Moved,
     Bounds,
+    Label,
+    Part,
 }
 
 pub struct Refusal {
@@ -97,6 +99,8 @@ pub fn number(cause: Cause) -> u64
         Cause::Ratio => 20,
         Cause::Moved => 21,
         Cause::Bounds => 22,
+        Cause::Label => 23,
+        Cause::Part => 24,
     }
 }
 

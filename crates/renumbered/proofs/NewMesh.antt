@@ -13,21 +13,9 @@ use Rattle.model.specs.Causes.{fine, _andThen_, each, between, volumeGood, ends
 use Rattle.model.specs.Accepted.{MeshFit}
 use Rattle.model.specs.Alike.{Facing, straight, turned, AlikeMesh}
 use Rattle.model.proofs.Verdicts.{all-fine, each-fine, fine-each}
-use Rattle.model.proofs.Accepted.{mesh-fit}
+use Rattle.model.proofs.Accepted.{mesh-fit, ends-pass}
 use Rattle.model.proofs.AlikeFaces.{rim-same}
 use Rattle.model.proofs.AlikeStages.{joined}
-
--- a face with good ends
-ends-pass : (n l k : ℕ) → l < n → (k ≢ rim → k < n) → l ≢ k → (ltb l n && (ltb k n || eqb k rim) && not (eqb l k)) ≡ true
-ends-pass n l k h g d = rw (le-leb (suc l) n h, ne-eqb l k d, second-passes (eqb k rim) (same? k rim))
-  where
-    or-true : (a : Bool) → (a || true) ≡ true
-    or-true true = refl
-    or-true false = refl
-
-    second-passes : (b : Bool) → Same k rim b → (ltb k n || b) ≡ true
-    second-passes true s = or-true (ltb k n)
-    second-passes false (other e) = rw (le-leb (suc k) n (g e))
 
 -- a share turned round is as good
 share-pass : (t : Bool) (s K : ℕ) → (between 1 maxShare s && between 1 maxReach K) ≡ true

@@ -1,13 +1,14 @@
 // One call after another from standard input: its number, then its arguments as its shape names them.
 use arguments::BYTES_ROOM;
 use arguments::MARKS;
+use arguments::PART_ROOM;
 use arguments::ROOM;
 use arguments::WORDS;
 use libc::STDIN_FILENO;
 use numerals::Number;
 use numerals::Token;
 
-// A shape is sixteen hexadecimal digits, one for each argument from the left and 0 after the last.
+// A shape is hexadecimal digits, one for each argument from the left and 0 after the last: sixteen, and those after them in a second word.
 pub const NUMBER: u64 = 1;
 
 pub const TABLE: u64 = 2;
@@ -15,6 +16,11 @@ pub const TABLE: u64 = 2;
 pub const AMOUNTS: u64 = 3;
 
 pub const BYTES: u64 = 4;
+
+// Tables that are lent for a part of a lagoon.
+pub const PART_TABLE: u64 = 5;
+
+pub const PART_AMOUNTS: u64 = 6;
 
 // One more than the greatest signed number, and the greatest byte.
 const HALF: u64 = 9223372036854775808;
@@ -56,6 +62,7 @@ pub struct Told {
 // What a call still asks for: the kinds of arguments to come, the kind of the last, its entries to come, and how many arguments have begun.
 struct Want {
     shape: u64,
+    later: u64,
     kind: u64,
     left: u64,
     begun: usize,
@@ -145,9 +152,10 @@ pub fn next(chunk: &mut [u8], start: Input) -> Found {
     }
 }
 
-fn first_want(shape: u64) -> Want {
+fn first_want(shape: u64, later: u64) -> Want {
     Want {
         shape: shape,
+        later: later,
         kind: 0,
         left: 0,
         begun: 0,
@@ -168,13 +176,15 @@ fn after(want: Want, n: Number) -> Want {
     if within(want) {
         return Want {
             shape: want.shape,
+            later: want.later,
             kind: want.kind,
             left: less_one(want.left),
             begun: want.begun,
         };
     }
     Want {
-        shape: want.shape << 4,
+        shape: want.shape << 4 | want.later >> 60,
+        later: want.later << 4,
         kind: kind,
         left: if kind == NUMBER { 0 } else { n.size },
         begun: std::num::wrapping_add_usize(want.begun, 1),
@@ -208,7 +218,7 @@ fn amount_fault(n: Number) -> Fault {
 
 fn entry_fault(kind: u64, n: Number) -> Fault {
     match kind {
-        AMOUNTS => amount_fault(n),
+        AMOUNTS | PART_AMOUNTS => amount_fault(n),
         BYTES => at_most(MOST_BYTE, n, Fault::TooLarge),
         _ => at_most(u64::MAX, n, Fault::TooLarge),
     }
@@ -219,6 +229,7 @@ fn head_fault(kind: u64, n: Number) -> Fault {
     match kind {
         NUMBER => at_most(u64::MAX, n, Fault::TooLarge),
         BYTES => at_most(BYTES_ROOM as u64, n, Fault::LongTable),
+        PART_TABLE | PART_AMOUNTS => at_most(PART_ROOM as u64, n, Fault::LongTable),
         _ => at_most(ROOM as u64, n, Fault::LongTable),
     }
 }
@@ -298,8 +309,14 @@ fn take(want: Want, k: usize, chunk: &mut [u8], words: &mut [u64], input: Input)
 }
 
 // The arguments of a call.
-pub fn arguments(shape: u64, chunk: &mut [u8], words: &mut [u64], start: Input) -> Told {
-    let mut want = first_want(shape);
+pub fn arguments(
+    shape: u64,
+    later: u64,
+    chunk: &mut [u8],
+    words: &mut [u64],
+    start: Input,
+) -> Told {
+    let mut want = first_want(shape, later);
     let mut input = start;
     let mut k = MARKS;
     while k < WORDS {

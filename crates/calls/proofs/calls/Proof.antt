@@ -23,7 +23,7 @@ abbrev turn : tie.After-chunk Inv-loop μ-loop → tie.At-loop Inv-loop μ-loop
 turn c = c .before .before .before .before
 
 abbrev number : tie.After-chunk2 Inv-loop μ-loop → tie.After-chunk Inv-loop μ-loop
-number c = c .before .before .before .before .before .before .before .before .before
+number c = c .before .before .before .before .before .before .before .before .before .before
 
 same-length : tie.Need-same-length Inv-loop μ-loop
 same-length c = let n = c .before .before .before .before in n .chunk .given ∙ turn n .loop .inv .1
@@ -60,5 +60,5 @@ pub calls-spec : {M : Type 1} → statement M
 calls-spec =
     tie.close
     (tie.spec Inv-loop μ-loop (search needs) (λ c. (search needs, refl, refl)) (search needs) (search needs) (search needs) same-length same-length-2 (search needs)
-    (search needs) (search needs) (search needs) (search needs) same-length-3 same-length-4 (search needs) (search needs) loop-less loop-again
+    (search needs) (search needs) (search needs) (search needs) (search needs) same-length-3 same-length-4 (search needs) (search needs) loop-less loop-again
     (λ c. c .before .loop .inv .1) (λ c. c .before .loop .inv .2) (search needs))

@@ -7,11 +7,11 @@ use Rattle.calls.proofs.made.Statement.{statement}
 use Rattle.calls.proofs.made.Tie as tie
 
 -- the length of an array is what it was made with: said by a law, since counting its zeros takes long
-ints-long : length (replicate {A = ℤ} 120016 (pos 0)) ≡ 120016
-ints-long = length-replicate 120016 (pos 0)
+ints-long : length (replicate {A = ℤ} 120032 (pos 0)) ≡ 120032
+ints-long = length-replicate 120032 (pos 0)
 
-octets-long : length (replicate {A = ℕ} 120016 0) ≡ 120016
-octets-long = length-replicate {A = ℕ} 120016 0
+octets-long : length (replicate {A = ℕ} 120032 0) ≡ 120032
+octets-long = length-replicate {A = ℕ} 120032 0
 
 slice-aggregate-make : tie.Need-slice-aggregate-make
 slice-aggregate-make c = sym (c .before .before .before .before .before .signed-numbers .kept .1 .0 ∙ ints-long)

@@ -9,4 +9,4 @@ use Rattle.calls.proofs.main.Tie as tie
 pub main-spec : {M : Type 1} → statement M
 main-spec =
     tie.close
-    (tie.spec (λ c. sym (length-replicate {A = ℕ} 65536 0)) (λ c. sym (length-replicate {A = ℕ} 120016 0)) (search needs) (search needs))
+    (tie.spec (λ c. sym (length-replicate {A = ℕ} 65536 0)) (λ c. sym (length-replicate {A = ℕ} 120032 0)) (search needs) (search needs))

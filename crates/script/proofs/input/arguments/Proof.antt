@@ -7,11 +7,11 @@ use Rattle.script.proofs.input.arguments.Tie as tie
 
 -- the tables keep their lengths, and each turn takes one more number of the room for a call
 abbrev Inv-loop : tie.InvT-loop
-Inv-loop shape chunk₀ words₀ want₀ input₀ k₀ chunk words want input k =
-    (length chunk ≡ length chunk₀) × (length words ≡ length words₀) × (k ≤ 120016)
+Inv-loop shape later chunk₀ words₀ want₀ input₀ k₀ chunk words want input k =
+    (length chunk ≡ length chunk₀) × (length words ≡ length words₀) × (k ≤ 120032)
 
 abbrev μ-loop : tie.MeasureT-loop
-μ-loop shape chunk₀ words₀ want₀ input₀ k₀ chunk words want input k = 120016 - k
+μ-loop shape later chunk₀ words₀ want₀ input₀ k₀ chunk words want input k = 120032 - k
 
 pub arguments-spec : {M : Type 1} → statement M
 arguments-spec =

@@ -1,7 +1,7 @@
 use Prim.Native.Nat.{_≤_, _-_}
 use borrow.Author.Needs.{needs}
-use Rattle.arguments.proofs.show.numbers.Statement.{statement}
-use Rattle.arguments.proofs.show.numbers.Tie as tie
+use Rattle.arguments.proofs.show.signed_entries.Statement.{statement}
+use Rattle.arguments.proofs.show.signed_entries.Tie as tie
 
 abbrev Inv-loop : tie.InvT-loop
 Inv-loop title n xs i₀ i = i ≤ n
@@ -9,7 +9,7 @@ Inv-loop title n xs i₀ i = i ≤ n
 abbrev μ-loop : tie.MeasureT-loop
 μ-loop title n xs i₀ i = n - i
 
-pub numbers-spec : {M : Type 1} → statement M
-numbers-spec =
+pub signed-entries-spec : {M : Type 1} → statement M
+signed-entries-spec =
     tie.close
     (tie.spec Inv-loop μ-loop (search needs) (search needs) (search needs) (search needs) (search needs) (search needs) (search needs) (search needs) (search needs))

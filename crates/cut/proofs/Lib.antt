@@ -1,0 +1,5 @@
+pub mod Part
+pub mod Entries
+pub mod Passes
+pub mod Parts
+pub mod Figures
