@@ -3,7 +3,7 @@ use Prim.Native.Nat.{ℕ}
 use mathlib.Core.Path.{_≡_, refl}
 use mathlib.Core.List.{[], _∷_}
 use Rattle.lists.specs.Fold.{sum}
-use Rattle.model.specs.Causes.{accepted, refused, fine, _andThen_, need, each}
+use Rattle.model.specs.Causes.{Verdict, refused, fine, _andThen_, need, each}
 use Rattle.charge.specs.Charge.{inBand, chargeSum, bandGood}
 use Rattle.charge.specs.Answers.{Bill, chargeVerdict, billOf}
 
@@ -52,3 +52,79 @@ last-too-low = refl
 pub too-much : chargeVerdict (1099511627776 ∷ []) (0 ∷ []) 1099511627777 1 0 ≡ refused 26 0
 unfolding everything
 too-much = refl
+
+-- a total at the end of each band, and one past it
+abbrev threeBands : ℕ → ℕ → Bill
+threeBands total remainder = billOf (1000000 ∷ 2000000 ∷ 1099511627776 ∷ []) (3 ∷ 2 ∷ 1 ∷ []) total 3 remainder
+
+abbrev eightBands : ℕ → ℕ → Bill
+eightBands total remainder =
+    billOf (10 ∷ 20 ∷ 30 ∷ 40 ∷ 50 ∷ 60 ∷ 70 ∷ 1099511627776 ∷ []) (100000 ∷ 200000 ∷ 300000 ∷ 400000 ∷ 500000 ∷ 600000 ∷ 700000 ∷ 800000 ∷ []) total 8 remainder
+
+pub record Ends : Type 0 where
+  pub at-first : threeBands 1000000 0 ≡ bill 3 0
+  pub past-first : threeBands 1000001 0 ≡ bill 3 2
+  pub at-second : threeBands 2000000 0 ≡ bill 5 0
+  pub past-second : threeBands 2000001 0 ≡ bill 5 1
+  pub at-last : threeBands 1099511627776 999999 ≡ bill 1099515 627775
+  pub of-eight : eightBands 10 0 ≡ bill 1 0
+  pub past-one : eightBands 11 0 ≡ bill 1 200000
+  pub at-seven : eightBands 70 0 ≡ bill 28 0
+  pub past-seven : eightBands 71 0 ≡ bill 28 800000
+  pub all-eight : eightBands 1099511627776 999999 ≡ bill 879609302193 799999
+  -- prices 0 and 1,000,000; and the remainder that lacks a millionth of a cent
+  pub free-and-dear : billOf (10 ∷ 20 ∷ 1099511627776 ∷ []) (0 ∷ 1000000 ∷ 0 ∷ []) 1099511627776 3 999999 ≡ bill 10 999999
+  pub whole-cent : billOf (1099511627776 ∷ []) (1 ∷ []) 1 1 999999 ≡ bill 1 0
+
+pub ends-figures : Ends
+unfolding everything
+ends-figures = record {
+  at-first = refl;
+  past-first = refl;
+  at-second = refl;
+  past-second = refl;
+  at-last = refl;
+  of-eight = refl;
+  past-one = refl;
+  at-seven = refl;
+  past-seven = refl;
+  all-eight = refl;
+  free-and-dear = refl;
+  whole-cent = refl;
+}
+
+-- 25, a bad band: the first, one in the middle, the last
+abbrev ended : ℕ → ℕ → ℕ → Verdict
+ended a b c = chargeVerdict (a ∷ b ∷ c ∷ []) (1 ∷ 1 ∷ 1 ∷ []) 0 3 0
+
+abbrev priced : ℕ → ℕ → ℕ → Verdict
+priced a b c = chargeVerdict (5 ∷ 6 ∷ 1099511627776 ∷ []) (a ∷ b ∷ c ∷ []) 0 3 0
+
+pub record BadBands : Type 0 where
+  pub none-first : ended 0 6 1099511627776 ≡ refused 25 0
+  pub none-middle : ended 5 0 1099511627776 ≡ refused 25 1
+  pub none-last : ended 5 6 0 ≡ refused 25 2
+  pub same-middle : ended 5 5 1099511627776 ≡ refused 25 1
+  pub same-last : ended 5 1099511627776 1099511627776 ≡ refused 25 2
+  pub low-last : ended 5 6 1099511627775 ≡ refused 25 2
+  pub high-last : ended 5 6 1099511627777 ≡ refused 25 2
+  pub dear-first : priced 1000001 1 1 ≡ refused 25 0
+  pub dear-middle : priced 1 1000001 1 ≡ refused 25 1
+  pub dear-last : priced 1 1 1000001 ≡ refused 25 2
+  pub dearest : priced 1000000 1000000 1000000 ≡ fine
+
+pub bad-bands : BadBands
+unfolding everything
+bad-bands = record {
+  none-first = refl;
+  none-middle = refl;
+  none-last = refl;
+  same-middle = refl;
+  same-last = refl;
+  low-last = refl;
+  high-last = refl;
+  dear-first = refl;
+  dear-middle = refl;
+  dear-last = refl;
+  dearest = refl;
+}
