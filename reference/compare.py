@@ -80,6 +80,8 @@ SCRIPT_CAUSES = {
     "give_back": "1/0 2/0 2/5 2/13 3 13/1 17 6",
     "middle_stage": "bad nothing",
     "face_share": "19 20",
+    "add": "1/1 2/2 2/9 2/16 26",
+    "charge": "25 2/17 2/18 26",
 }
 FAULTS = ["not a number", "too large", "no such call", "a minus where none may stand", "a table too long",
           "a call too long", "the input ends within a call"]

@@ -510,6 +510,68 @@ def store_list(rng, kinds):
     return "".join(calls)
 
 
+def add(rng, large, kinds):
+    """A step's moved masses, or any, added to totals from 0 to past the ceiling."""
+    lent = tables_for(rng, (SECONDS, MOVED), large, kinds)
+    top = lagoon.LAST_END
+    if rng.random() < 0.5:
+        answered(ENGINE, "step", (lent.cells, lent.faces, *lent.tables.values()))
+    for f in range(len(lent.tables[MOVED])):
+        if rng.random() < 0.1:
+            lent.tables[MOVED][f] = rng.choice([0, 1, -1, top, top + 1, -top, LEAST, MOST])
+    faces = rng.choice(COUNTS) if rng.random() < 0.1 else lent.faces
+    edge = rng.random() < 0.4
+    totals = [rng.choice([0, rng.randint(0, 1 << 33), *([top - 1, top, top + 1, GREATEST] if edge else [])])
+              for _ in range(max(0, min(lent.faces, FACES) + rng.choice([-1, 0, 0, 0, 0, 2])))]
+    for f in range(min(lent.faces, len(totals), len(lent.tables[MOVED]))):
+        if edge and lent.tables[MOVED][f] > 0 and rng.random() < 0.3:
+            totals[f] = max(0, top - lent.tables[MOVED][f]) + rng.choice([0, 0, 1])
+    kinds.append("totals at the ceiling" if edge else "totals")
+    return faces, lent.tables[SECONDS], lent.tables[MOVED], totals
+
+def charge(rng, large, kinds):
+    """A total and its bands, at the ends of bands and of the ranges, with a damage now and then."""
+    top, units = lagoon.LAST_END, lagoon.UNITS
+    bands = rng.randint(1, lagoon.MOST_BANDS)
+    ends = sorted(rng.sample([rng.randint(1, top - 1) for _ in range(20)] + list(range(1, 10)), bands - 1)) + [top]
+    prices = [rng.choice([0, 1, units, rng.randint(0, units)]) for _ in ends]
+    total = rng.choice([0, 1, top - 1, top, rng.randint(0, top), *ends, *(end + 1 for end in ends)])
+    remainder = rng.choice([0, 1, units - 1, rng.randrange(units)])
+    damage = rng.choice(["none"] * 8 + ["ends", "end", "price", "last", "remainder", "bands", "short ends", "short prices", "longer"])
+    kinds.append("charge: " + damage)
+    i = rng.randrange(bands)
+    if damage == "ends" and i:
+        ends[i] = ends[i - 1] + rng.choice([-1, 0])
+    elif damage == "end":
+        ends[i] = rng.choice([0, top, top + 1, GREATEST])
+    elif damage == "last":
+        ends[-1] += rng.choice([-1, 1])
+    elif damage == "price":
+        prices[i] = rng.choice([units + 1, GREATEST])
+    elif damage == "remainder":
+        remainder = rng.choice([units, GREATEST])
+    elif damage == "bands":
+        bands = rng.choice([0, 9, 1 << 61, GREATEST])
+    elif damage == "short ends":
+        del ends[bands - 1:]
+    elif damage == "short prices":
+        del prices[bands - 1:]
+    elif damage == "longer":
+        ends, prices = ends + [0, GREATEST], prices + [GREATEST]
+    return total, bands, ends, prices, remainder
+
+def charge_list(rng, kinds):
+    """Charges one after another, each given the remainder that the last handed on."""
+    remainder, calls = 0, []
+    for _ in range(rng.randint(3, 8)):
+        total, bands, ends, prices, _ = charge(rng, False, kinds)
+        calls.append(spell("charge", total, bands, ends, prices, remainder))
+        answer = answered(ENGINE, "charge", (total, bands, ends, prices, remainder))
+        if answer.startswith(" accepted"):
+            remainder = int(answer.split()[2])
+    return "".join(calls)
+
+
 # ---------------------------------------------------------------- Survey points
 
 MILLION = 1_000_000.0
@@ -589,6 +651,8 @@ MAKE = {
     "give_back": with_store(("volumes", "masses", "store")),
     "middle_stage": survey_face,
     "face_share": survey_face,
+    "add": add,
+    "charge": charge,
 }
 
 
@@ -614,7 +678,7 @@ def broken(rng, text):
     elif kind == "minus":
         words[at] = "-" + words[at].lstrip("-")
     elif kind == "call":
-        words[0] = rng.choice(["0", str(1 + len(CALLS)), "-1", str(GREATEST)])
+        words[0] = rng.choice(["0", str(1 + max(CALLS)), "-1", str(GREATEST)])
     elif kind == "long table":
         words[min(3, len(words) - 1)] = rng.choice(["24577", "65537", str(GREATEST)])
     elif kind == "signed":
@@ -707,6 +771,10 @@ def largest():
         spell("keep", CELLS, volumes, masses, [0] * (CELLS + 1), MOST_NAME),
         spell("drop", CELLS, [1, MOST_NAME, *masses], MOST_NAME),
         spell("give_back", CELLS, volumes, [7] * (CELLS + 1), [1, MOST_NAME, *masses], MOST_NAME),
+        "# totals of all faces, full\n",
+        spell("add", FACES, [RIM] * FACES, [lagoon.LAST_END] * FACES, [0] * FACES),
+        spell("add", FACES, [RIM] * FACES, [0] * (FACES - 1) + [1], [GREATEST] * (FACES - 1) + [lagoon.LAST_END]),
+        spell("add", FACES, [0] * FACES, [MOST] * FACES, [GREATEST] * FACES),
         "# more numbers than a call may have\n",
         spell("check_field", 1, 1, *([0] * 24_576 for _ in range(6))),
     ])
@@ -726,6 +794,8 @@ def script(seed, number):
             kinds.append("loose text")
     if number % 4 == 1:
         calls.append(store_list(rng, kinds))
+    if number % 8 == 3:
+        calls.append(charge_list(rng, kinds))
     if number % 5 == 4:
         kind, calls[-1] = broken(rng, calls[-1])
         kinds.append("text: " + kind)

@@ -21,7 +21,7 @@ RUN_LIMITS = (1023, 2046)
 
 # Lent tables, by position; those lent to a step, in the order of its arguments.
 (VOLUMES, FIRSTS, SECONDS, SHARES, REACHES, MASSES,
- FLUXES, OUTSIDES, NEXT, MOVED, WORK, RECORD, PAGE, STORE, RELEASES, LABELS) = range(16)
+ FLUXES, OUTSIDES, NEXT, MOVED, WORK, RECORD, PAGE, STORE, RELEASES, LABELS, TOTALS, ENDS, PRICES) = range(19)
 STEP_TABLES = (*range(WORK + 1), RELEASES)
 CLAIM_TABLES = (*range(WORK), RELEASES)         # of a judging, in which moved is the claim (document 02, S-11)
 CUT_TABLES = (*range(NEXT), RELEASES)           # of a cutting, of the whole and again of each part (document 02, S-12)
@@ -879,6 +879,53 @@ def cut_on_tables(cells, faces, tables, lent):
             side[position][:len(table)] = table
         counts += [len(made[VOLUMES]), len(made[FIRSTS])]
     return tuple(counts)
+
+
+# ---------------------------------------------------------------- Brine charge with its remainder (document 02, S-13)
+
+LAST_END = 1 << 40          # the end of the last band, and the largest period total
+MOST_BANDS = 8
+UNITS = 1_000_000           # a price is for so many mass units; the largest price; a remainder is below it
+
+def gained(second, moved):
+    """What a face's total gains: over the rim what moved outward."""
+    return max(0, moved) if second == RIM else 0
+
+def judge_gains(seconds, moved, totals):
+    """Cause 26 of an adding: an entry that gains is past the ceiling afterwards."""
+    refuse_first(26, (gained(second, m) > 0 and total + gained(second, m) > LAST_END
+                      for second, m, total in zip(seconds, moved, totals)))
+
+def add_moved(faces, seconds, moved, totals):
+    """A step's outward moved masses into the totals of a period."""
+    judge_counts(1, faces, LIBRARY_LIMITS)
+    judge_lengths({SECONDS: len(seconds), MOVED: len(moved), TOTALS: len(totals)}, {SECONDS: faces, MOVED: faces, TOTALS: faces})
+    judge_gains(seconds[:faces], moved[:faces], totals[:faces])
+    totals[:faces] = [total + gained(second, m) for second, m, total in zip(seconds[:faces], moved, totals)]
+
+def band_sum(total, ends, prices):
+    """A total charged band by band."""
+    begins = [0, *ends]
+    return sum((min(total, end) - min(total, begin)) * price for begin, end, price in zip(begins, ends, prices))
+
+def judge_bands(ends, prices):
+    """Cause 25 of the bands, the lowest first."""
+    begins = [0, *ends]
+    last = len(ends) - 1
+    refuse_first(25, (end <= begin or (i == last and end != LAST_END) or price > UNITS
+                      for i, (begin, end, price) in enumerate(zip(begins, ends, prices))))
+
+def charge(total, bands, ends, prices, remainder):
+    """Whole cents and the new remainder."""
+    if not 1 <= bands <= MOST_BANDS:
+        raise Refusal(25, 0)
+    judge_lengths({ENDS: len(ends), PRICES: len(prices)}, {ENDS: bands, PRICES: bands})
+    if remainder >= UNITS:
+        raise Refusal(25, 0)
+    judge_bands(ends[:bands], prices[:bands])
+    if total > LAST_END:
+        raise Refusal(26, 0)
+    return divmod(band_sum(total, ends[:bands], prices[:bands]) + remainder, UNITS)
 
 
 if __name__ == "__main__":

@@ -44,6 +44,8 @@ CALLS = {
     29: ("plain_step", "nnttttttsttstt"),
     30: ("judge", "nnttttttsttst"),
     31: ("cut", "nnttttttsttt" + 2 * "ppppppqpp"),
+    32: ("add", "ntst"),
+    33: ("charge", "nnttn"),
 }
 NUMBER_OF = {name: number for number, (name, _) in CALLS.items()}
 
@@ -324,6 +326,13 @@ class Engine:
     def face_share(self, *patterns):
         return (self.lagoon.face_share(list(map(float_of, patterns))),)
 
+    def add(self, faces, seconds, moved, totals):
+        self.lagoon.add_moved(faces, seconds, moved, totals)
+        return ()
+
+    def charge(self, total, bands, ends, prices, remainder):
+        return self.lagoon.charge(total, bands, ends, prices, remainder)
+
 
 # ---------------------------------------------------------------- What is printed
 
@@ -348,6 +357,7 @@ CHANGED = {
     "keep": {3: "store"},
     "drop": {1: "store"},
     "give_back": {2: "masses"},
+    "add": {3: "totals"},
 }
 
 

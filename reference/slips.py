@@ -574,9 +574,41 @@ def shared(lagoon):
 CUT_SLIPS = {slip.__name__: slip for slip in (flat, single, outward, throughout, shared)}
 
 
+# ---------------------------------------------------------------- Document 02, S-13: brine charges
+
+def netted(lagoon):
+    """Inward mass set against outward."""
+    lagoon.gained = lambda second, moved: moved if second == lagoon.RIM else 0
+
+
+def everywhere(lagoon):
+    """Interior faces gain as well."""
+    lagoon.gained = lambda second, moved: max(0, moved)
+
+
+def judged(lagoon):
+    """A total past the ceiling refused though it gains nothing."""
+    def judge_gains(seconds, moved, totals):
+        lagoon.refuse_first(26, (total + lagoon.gained(second, m) > lagoon.LAST_END for second, m, total in zip(seconds, moved, totals)))
+
+    lagoon.judge_gains = judge_gains
+
+
+def topmost(lagoon):
+    """The whole total at the price of the band that it lies in."""
+    lagoon.band_sum = lambda total, ends, prices: total * next(price for end, price in zip(ends, prices) if total <= end)
+
+
+def forgotten(lagoon):
+    """A charge without the previous remainder."""
+    right = lagoon.charge
+    lagoon.charge = lambda total, bands, ends, prices, remainder: right(total, bands, ends, prices, remainder if remainder >= lagoon.UNITS else 0)
+
+
 ANSWER_SLIPS = {slip.__name__: slip for slip in (place, table, beyond, bit, dropped, binder, places, lifted, fresher, unweighed, higher, first,
                                                  freed, nearest, exchanged, corrects, bare, mingled, rounded, lenient, uncleared,
-                                                 largest, unswayed, unbound, unheld, *CUT_SLIPS.values())}
+                                                 largest, unswayed, unbound, unheld, *CUT_SLIPS.values(),
+                                                 netted, everywhere, judged, topmost, forgotten)}
 
 
 ALL_SLIPS = {**SLIPS, **CALL_SLIPS, **RUN_SLIPS, **ANSWER_SLIPS}

@@ -2,6 +2,7 @@
 """The figures of document 01, and of the requests, checked against the reference. Fails at the first that differs."""
 
 import argparse
+import random
 import subprocess
 import sys
 from fractions import Fraction
@@ -477,6 +478,29 @@ def test_cut():
     refused(2, lagoon.LABELS, "labels too short", cut, CHANNEL, masses, FLOW, OUTSIDE, releases, [0, 1])
     for position in lagoon.CUT_TABLES:
         refused(2, position, "a part's table too short", cut, CHANNEL, masses, FLOW, OUTSIDE, releases, [0, 1, 2], position)
+
+
+def test_charges():
+    """Document 02, S-13: totals that gain what moved outward over the rim, and charges that hand their remainder on."""
+    totals = [5, 6, 7, 8]
+    lagoon.add_moved(3, [lagoon.RIM, 1, lagoon.RIM], [10, 10, -10, 9], totals)
+    equal(totals, [15, 6, 7, 8], "totals")
+    full = [lagoon.LAST_END, lagoon.LAST_END + 1]
+    lagoon.add_moved(2, [lagoon.RIM] * 2, [0, -1], full)
+    refused(26, 0, "past the ceiling", lagoon.add_moved, 2, [lagoon.RIM] * 2, [1, 0], full)
+    ends, prices = [1_000_000, 2_000_000, lagoon.LAST_END], [3, 2, 1]
+    equal(lagoon.charge(2_500_000, 3, ends, prices, 0), (5, 500_000), "three bands")
+    equal(lagoon.charge(2_500_000, 3, ends, prices, 500_000), (6, 0), "with a remainder")
+    refused(25, 0, "no bands", lagoon.charge, 0, 0, [], [], 0)
+    refused(2, lagoon.ENDS, "short ends", lagoon.charge, 0, 1, [], [], lagoon.UNITS)
+    refused(25, 2, "another last end", lagoon.charge, 0, 3, ends[:2] + [lagoon.LAST_END - 1], prices, 0)
+    refused(26, 0, "a total above the last end", lagoon.charge, lagoon.LAST_END + 1, 3, ends, prices, 0)
+    rng, remainder, cents, sums = random.Random(13), 7, 0, 0
+    for _ in range(200):
+        total = rng.randint(0, lagoon.LAST_END)
+        more, left = lagoon.charge(total, 3, ends, prices, remainder)
+        cents, sums, remainder = cents + more, sums + lagoon.band_sum(total, ends, prices), left
+    equal(cents * lagoon.UNITS + remainder, sums + 7, "all cents and the last remainder")
 
 
 def test_pages():

@@ -6,7 +6,8 @@ import subprocess
 from command import ROOT, Bad
 
 PROGRAM = ROOT / "target" / "bin" / "calls"
-NUMBERS = {"step": 7, "read_step": 13, "plain_step": 29, "judge": 30, "cut": 31}      # of the calls that are asked for
+# The numbers of the calls that are asked for.
+NUMBERS = {"step": 7, "read_step": 13, "plain_step": 29, "judge": 30, "cut": 31, "add": 32, "charge": 33}
 
 
 def spelled(argument):

@@ -28,6 +28,8 @@ examples:
 """
 
 YEAR = 24 * 365
+MONTH = 24 * 30
+TARIFF = (10_000_000, 30_010_000, lagoon.LAST_END), (35, 42, 55)        # ends and prices of the charge that is worked
 PLAIN_STEPS = 8         # of the channel, in the table of plain upwind's error
 BLOCK = re.compile(r"(<!-- worked: (\S+) -->\n).*?(<!-- end -->)", re.DOTALL)
 SMALL = 14              # numbers up to here name stages, causes and positions
@@ -36,7 +38,7 @@ WIDEST_LINE = 76        # columns of a fenced block that an A4 page holds
 
 # Numbers of the papers that the page's prose may say.
 CONSTANTS = {lagoon.RIM, lagoon.TOP, *lagoon.LIBRARY_LIMITS, *lagoon.RUN_LIMITS, 255, 256, 128, lagoon.PAGE_CELLS,
-             layout.WIDE.value, *lagoon.MASS_BITS, WORD_BITS, 17, 18, 19, lagoon.CEILING, lagoon.MOST_CLAIMED, 21, 22, 23, 24}
+             layout.WIDE.value, *lagoon.MASS_BITS, WORD_BITS, 17, 18, 19, lagoon.CEILING, lagoon.MOST_CLAIMED, 21, 22, 23, 24, 25, 26}
 
 
 def same(ours, reference):
@@ -571,6 +573,29 @@ def claims():
     return [line for claim in found for line in [*STEP_1.judged(claim), ""]][:-1]
 
 
+def charge():
+    """What leaves the channel over its last face in two months, by bands of a tariff, with the remainder handed on."""
+    ends, prices = TARIFF
+    lines = columns([("band to", "price"), *zip(ends, prices)])
+    masses, remainder, paid, sums, face = CHANNEL.first, 0, 0, 0, CHANNEL.faces[-1]
+    for name in ("First month", "Second month"):
+        totals = [0] * len(CHANNEL.faces)
+        for _ in range(MONTH):
+            result = lagoon.advance(CHANNEL.mesh, masses, CHANNEL.fluxes, CHANNEL.outsides)
+            lagoon.add_moved(len(CHANNEL.faces), CHANNEL.mesh.seconds, result.moved, totals)
+            masses = result.masses
+        total = totals[face]
+        shares = [(min(total, end) - min(total, begin), price) for begin, end, price in zip((0, *ends), ends, prices)]
+        charged = sum(mass * price for mass, price in shares)
+        cents, left = same(divmod(charged + remainder, lagoon.UNITS), lagoon.charge(total, len(ends), ends, prices, remainder))
+        lines += ["", f"{name}: {MONTH} steps, {total} outward over face {face}",
+                  *columns([("mass", "price", "share"), *((mass, price, mass * price) for mass, price in shares)]),
+                  f"sum {charged} + remainder {remainder} = {charged + remainder}", f"to pay {cents} cents; {left} is handed on"]
+        remainder, paid, sums = left, paid + cents, sums + charged
+    same(paid * lagoon.UNITS + remainder, sums)
+    return lines + ["", f"Both: {paid} · {lagoon.UNITS} + {remainder} = {sums}, the sums together"]
+
+
 def year():
     """The channel's step a year of hours long."""
     masses, entered, gone = CHANNEL.first, 0, 0
@@ -644,7 +669,7 @@ BLOCKS = {"layouts": layouts, "bytes": the_bytes, "mesh-bits": lambda: fenced(me
           "outfall-step": lambda: fenced(OUTFALL_STEP.lines()), "outfall-printed": lambda: fenced(OUTFALL.printed()),
           "plain-1": lambda: fenced(STEP_1.plain_lines()), "plain-2": lambda: fenced(PLAIN_2.plain_lines()),
           "plain-error": lambda: fenced(plain_error()), "plain-pair": lambda: fenced(plain_pair()), "claims": lambda: fenced(claims()),
-          "cut": lambda: fenced(cut_in_two()),
+          "cut": lambda: fenced(cut_in_two()), "charge": lambda: fenced(charge()),
           "year": lambda: fenced(year()), "widest": lambda: fenced(widest()),
           "edition": edition, "form": lambda: fenced(form()),
           "page": lambda: fenced(binder_page(CHANNEL, STEP_2.next)), "page-back": lambda: fenced(page_back(CHANNEL, STEP_2.next)),

@@ -72,6 +72,10 @@ const JUDGE: u64 = 30;
 
 const CUT: u64 = 31;
 
+const ADD: u64 = 32;
+
+const CHARGE: u64 = 33;
+
 // The first sixteen arguments of a call from the left: 1 a number, 2 a table, 3 a table of signed numbers, 4 bytes, 5 and 6 such tables of a part.
 // No call has the shape 0.
 fn shape(call: u64) -> u64 {
@@ -100,6 +104,8 @@ fn shape(call: u64) -> u64 {
         KEEP | GIVE_BACK => 0x1222_1000_0000_0000,
         DROP => 0x1210_0000_0000_0000,
         MIDDLE_STAGE | FACE_SHARE => 0x1111_1111_0000_0000,
+        ADD => 0x1232_0000_0000_0000,
+        CHARGE => 0x1122_1000_0000_0000,
         _ => 0,
     }
 }
@@ -156,6 +162,8 @@ fn make(call: u64, words: &[u64], ints: &[i64], bytes: &[u8]) {
         GIVE_BACK => field_calls::give_back(words),
         MIDDLE_STAGE => point_calls::middle_stage(words),
         FACE_SHARE => point_calls::face_share(words),
+        ADD => period_calls::add(words, ints),
+        CHARGE => period_calls::charge(words),
         _ => make_on_records(call, words, ints, bytes),
     }
     show::word(b"\n");

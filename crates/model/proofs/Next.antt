@@ -152,7 +152,7 @@ module _ (S : StepInput) (x : ℕ → ℤ) (k : Keeps S x) where
   unfolding carried upwind beyond
   rim-in f l e = rw (k .at-rim f l e) (upwind-backward (flux S f) (beyond S f) (concentration S (first M f)) ∙ rw e)
 
-  outward-is : outward M x ≡ outMass S
+  pub outward-is : outward M x ≡ outMass S
   unfolding outward outMass
   outward-is = sum-cong (M .faces) (λ f. cond (atRim M f) (forward (x f)) 0) (λ f. cond (atRim M f) (forward (flux S f) * concentration S (first M f)) 0)
       (λ f l. at-rim-only (atRim M f) (forward (x f)) (forward (flux S f) * concentration S (first M f)) (rim-out f l))

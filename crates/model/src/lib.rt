@@ -59,6 +59,8 @@ pub enum Cause {
     Bounds,
     Label,
     Part,
+    Bands,
+    Period,
 }
 
 pub struct Refusal {
@@ -101,6 +103,8 @@ pub fn number(cause: Cause) -> u64
         Cause::Bounds => 22,
         Cause::Label => 23,
         Cause::Part => 24,
+        Cause::Bands => 25,
+        Cause::Period => 26,
     }
 }
 
