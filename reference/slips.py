@@ -605,10 +605,23 @@ def forgotten(lagoon):
     lagoon.charge = lambda total, bands, ends, prices, remainder: right(total, bands, ends, prices, remainder if remainder >= lagoon.UNITS else 0)
 
 
+# ---------------------------------------------------------------- Document 02, S-14: closed grounds
+
+def revealing(lagoon):
+    """The public page with all its lines."""
+    lagoon.open_cells = lambda marks: list(range(len(marks)))
+
+
+def unmarked(lagoon):
+    """Any mark but 1 read as open."""
+    lagoon.judge_marks = lambda marks: None
+
+
 ANSWER_SLIPS = {slip.__name__: slip for slip in (place, table, beyond, bit, dropped, binder, places, lifted, fresher, unweighed, higher, first,
                                                  freed, nearest, exchanged, corrects, bare, mingled, rounded, lenient, uncleared,
                                                  largest, unswayed, unbound, unheld, *CUT_SLIPS.values(),
-                                                 netted, everywhere, judged, topmost, forgotten)}
+                                                 netted, everywhere, judged, topmost, forgotten,
+                                                 revealing, unmarked)}
 
 
 ALL_SLIPS = {**SLIPS, **CALL_SLIPS, **RUN_SLIPS, **ANSWER_SLIPS}

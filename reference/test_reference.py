@@ -503,6 +503,20 @@ def test_charges():
     equal(cents * lagoon.UNITS + remainder, sums + 7, "all cents and the last remainder")
 
 
+def test_public():
+    """Document 02, S-14: what the public reads does not show withheld cells."""
+    volumes, masses, marks = [100] * 3, [100099, 81188, 18713], [0, 1, 0]
+    equal(lagoon.public_page_on_tables(3, volumes, masses, 0, 72, marks), b"   0    1000   99\n   2     187   13\n", "the channel's public page")
+    equal(lagoon.public_page_on_tables(3, volumes, masses, 0, 72, [1] * 3), b"", "all withheld")
+    equal(lagoon.public_board(3, volumes, masses, marks), [(0, 1000, 99), (2, 187, 13)], "the channel's public board")
+    refused(2, lagoon.PAGE, "a byte too few for the whole page", lagoon.public_page_on_tables, 3, volumes, masses, 0, 71, [1] * 3)
+    refused(2, lagoon.MARKS, "marks before volumes", lagoon.public_page_on_tables, 3, [0] * 3, masses, 0, 72, [1] * 2)
+    refused(14, 1, "page before marks", lagoon.public_page_on_tables, 3, volumes, masses, 1, 0, [2] * 3)
+    refused(27, 1, "another mark", lagoon.public_board, 3, volumes, masses, [1, 2, 0])
+    other = [100099, 0, 18713]
+    equal(lagoon.public_page_on_tables(3, volumes, other, 0, 72, marks), lagoon.public_page_on_tables(3, volumes, masses, 0, 72, marks), "public pages")
+
+
 def test_pages():
     """Document 02, S-1: lines of 18 bytes, pages of sixty cells, read back."""
     channel = lagoon.page_on_tables(3, [100] * 3, [100099, 81188, 18713], 0, 72)

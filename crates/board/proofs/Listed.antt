@@ -24,7 +24,7 @@ use Rattle.board.specs.Board.{boardSize, entryOf, unused, shown, entryAt
 use Rattle.board.specs.declared.Entry.{Entry}
 use Rattle.board.specs.declared.BoardAnswer.{BoardAnswer}
 
-getD-mapped : {B : Type 0} (f : ℕ → B) (l : List ℕ) (i : ℕ) (d : B) → i < length l → getD (map f l) i d ≡ f (getD l i 0)
+pub getD-mapped : {B : Type 0} (f : ℕ → B) (l : List ℕ) (i : ℕ) (d : B) → i < length l → getD (map f l) i d ≡ f (getD l i 0)
 getD-mapped f [] i d h = absurd (not-suc-le-zero h)
 getD-mapped f (x ∷ l) zero d h = refl
 getD-mapped f (x ∷ l) (suc i) d h = getD-mapped f l i d (le-of-suc-le-suc h)

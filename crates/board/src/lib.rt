@@ -23,9 +23,9 @@ pub struct Entry {
 }
 
 // The first `used` stand in the board's order; those after them are 0.
-struct Ranking {
-    used: usize,
-    ranks: [Ranked; BOARD_SIZE],
+pub struct Ranking {
+    pub used: usize,
+    pub ranks: [Ranked; BOARD_SIZE],
 }
 
 // Entries after a refusal are 0, and so is their number.
@@ -35,7 +35,7 @@ pub struct BoardAnswer {
     pub entries: [Entry; BOARD_SIZE],
 }
 
-fn empty_ranking() -> Ranking
+pub fn empty_ranking() -> Ranking
     ensures { λ r. ⌜ (r .used ≡ 0) × (r .ranks ≡ replicate boardSize unranked) ⌝ }
 {
     let none = Ranked {
@@ -62,7 +62,7 @@ fn displaces(moving: bool, a: Ranked, b: Ranked) -> bool
 }
 
 // One cell inserted among those used; the last of eight falls out where a ninth comes in.
-fn insert(ranking: Ranking, ranked: Ranked) -> Ranking
+pub fn insert(ranking: Ranking, ranked: Ranked) -> Ranking
     requires { ⌜ ranking .used ≤ boardSize ⌝ }
     ensures { λ r. ⌜ (r .used ≡ min boardSize (ranking .used + 1))
         × (r .ranks ≡ over (take boardSize (insertInOrder comesBefore ranked (take (ranking .used) (ranking .ranks)))) (ranking .ranks)) ⌝ }
@@ -111,7 +111,7 @@ fn rank(cells: usize, volumes: &[u64], masses: &[u64]) -> Ranking
 }
 
 // The entries of a ranking: what is shown of each that is used, and 0 after them.
-fn entries_of(ranking: Ranking) -> [Entry; BOARD_SIZE]
+pub fn entries_of(ranking: Ranking) -> [Entry; BOARD_SIZE]
     requires { ⌜ ranking .used ≤ boardSize ⌝ }
     ensures { λ r. ⌜ r ≡ over (table (ranking .used) (λ i. shown (getD (ranking .ranks) i unranked))) (replicate boardSize unused) ⌝ }
 {

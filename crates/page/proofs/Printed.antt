@@ -65,7 +65,7 @@ whole-mass m v = omega (arith, div-mul-le-self m v)
 
 -- ONE PAGE, of a field whose figures fit
 module _ (places : ℕ) (volumes masses : List ℕ) (cells : ℕ) (f : Fitting places volumes masses cells) (page : ℕ) where
-  each-length : (i : ℕ) → i < cellsOn cells page → length (lineOf volumes masses places (page * pageCells + i)) ≡ lineBytes places
+  pub each-length : (i : ℕ) → i < cellsOn cells page → length (lineOf volumes masses places (page * pageCells + i)) ≡ lineBytes places
   unfolding lineOf
   each-length i h =
       let l = cell-there cells page i h in

@@ -37,7 +37,7 @@ pub const NARROW_PLACES: usize = 4;
 pub const WIDE_PLACES: usize = 5;
 
 // The position of the page's bytes among the tables of cause 2.
-const PAGE_TABLE: u64 = 12;
+pub const PAGE_TABLE: u64 = 12;
 
 // How many bytes the page has.
 pub enum PageAnswer {
@@ -66,7 +66,7 @@ fn largest(cells: usize, volumes: &[u64]) -> u64
 }
 
 // Places of the rest, by the largest volume: cause 3 has not judged it yet.
-fn rest_places(cells: usize, volumes: &[u64]) -> usize
+pub fn rest_places(cells: usize, volumes: &[u64]) -> usize
     requires { ⌜ cells ≤ length (now volumes) ⌝ }
     ensures { λ r. ⌜ (r ≡ restPlaces cells (now (volumes .entry))) × (massPlaces r ≤ mostDigits) ⌝ }
 {
@@ -84,7 +84,7 @@ fn mass_places(places: usize) -> usize
     CELL_PLACES + 1 + Q_PLACES + 1 + places
 }
 
-fn pages(cells: usize) -> usize
+pub fn pages(cells: usize) -> usize
     requires { ⌜ cells ≤ maxCells ⌝ }
     ensures { λ r. ⌜ r ≡ pagesOf cells ⌝ }
 {
@@ -92,7 +92,7 @@ fn pages(cells: usize) -> usize
 }
 
 // The cells of a page that there is.
-fn cells_on(cells: usize, page: usize) -> usize
+pub fn cells_on(cells: usize, page: usize) -> usize
     requires { ⌜ page * pageCells ≤ cells ⌝ }
     ensures { λ r. ⌜ r ≡ cellsOn cells page ⌝ }
 {
@@ -100,7 +100,7 @@ fn cells_on(cells: usize, page: usize) -> usize
 }
 
 // The bytes that a page needs, of any page number.
-fn page_bytes(places: usize, cells: usize, page: u64) -> usize
+pub fn page_bytes(places: usize, cells: usize, page: u64) -> usize
     requires { ⌜ (massPlaces places ≤ mostDigits) × (cells ≤ maxCells) ⌝ }
     ensures { λ r. ⌜ r ≡ pageBytes places cells page ⌝ }
 {
@@ -111,7 +111,14 @@ fn page_bytes(places: usize, cells: usize, page: u64) -> usize
 }
 
 // The line of a cell.
-fn cell_line(lent: &mut [u8], at: usize, places: usize, cell: u64, volume: u64, mass: u64) -> usize
+pub fn cell_line(
+    lent: &mut [u8],
+    at: usize,
+    places: usize,
+    cell: u64,
+    volume: u64,
+    mass: u64,
+) -> usize
     requires { ⌜ (1 ≤ volume) × (places ≤ mostDigits) ⌝ }
     ensures { λ r. ⌜ Puts (now (lent .entry)) at (cellLine places cell (mass / volume) (mass - mass / volume * volume)) r (now (lent .exit)) ⌝ }
 {
