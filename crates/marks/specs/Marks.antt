@@ -1,10 +1,12 @@
 -- Document 02, S-14: a mark per cell, 0 open or 1 withheld, in the table at position 19.
-use Prim.Native.Nat.{ℕ, zero, suc}
-use mathlib.Core.Bool.{Bool, cond}
-use mathlib.Core.List.{List, [], _∷_, _++_}
+use Prim.Native.Nat.{ℕ, _<_}
+use mathlib.Core.Path.{_≡_}
+use mathlib.Core.Bool.{Bool, true}
+use mathlib.Core.List.{List}
 use lib.Dec.{eqb, leb}
 use lib.ListN.{length, getD}
-use Rattle.model.specs.Causes.{Verdict, long, each}
+use Rattle.model.specs.Causes.{Verdict, fine, long, each, cellsOnly, fieldVerdict}
+use Rattle.model.specs.Calls.{massIn}
 
 module _ (marks : List ℕ) where
   unfoldable pub isOpen : ℕ → Bool
@@ -20,7 +22,8 @@ module _ (marks : List ℕ) where
   abbrev pub marksGood : ℕ → Verdict
   marksGood cells = each 27 cells markGood
 
-  -- the open cells below n, in their order
-  unfoldable pub openCells : ℕ → List ℕ
-  openCells zero = []
-  openCells (suc n) = openCells n ++ cond (isOpen n) (n ∷ []) []
+-- Two accepted fields on one mesh, of which the cells alone are lent, that agree in open cells. The tables may differ in length and past the counts.
+pub record SameInOpen (volumes marks : List ℕ) (cells : ℕ) (masses masses′ : List ℕ) : Type 0 where
+  pub one-accepted : fieldVerdict (cellsOnly cells volumes) masses ≡ fine
+  pub other-accepted : fieldVerdict (cellsOnly cells volumes) masses′ ≡ fine
+  pub agree : (c : ℕ) → c < cells → isOpen marks c ≡ true → massIn masses c ≡ massIn masses′ c

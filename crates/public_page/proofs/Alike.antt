@@ -1,20 +1,18 @@
 -- Two fields that agree in open cells have the same public page: from contract to contract.
 use Prim.Native.Nat.{ℕ, zero, suc, _+_, _*_, _<_}
-use mathlib.Core.Path.{_≡_, refl, sym, ap, _∙_}
+use mathlib.Core.Path.{_≡_, refl, sym, _∙_}
 use mathlib.Core.Bool.{Bool, true, false, cond}
-use mathlib.Core.List.{List, [], _∷_}
+use mathlib.Core.List.{List, []}
 use native.Mathlib.Omega.{arith}
 use lib.ListN.{length}
-use Rattle.lists.specs.Table.{over}
-use Rattle.model.specs.Causes.{Verdict, accepted, fine, _andThen_, taken, cellsOnly, fieldTable, fieldValues, fieldVerdict}
-use Rattle.model.specs.Calls.{massIn}
-use Rattle.model.proofs.Verdicts.{both-fine}
 use Rattle.text.specs.Lines.{pieces}
-use Rattle.page.specs.Page.{restPlaces, pageCells, cellsOn, lineOf}
+use Rattle.marks.specs.Marks.{isOpen, SameInOpen}
+use Rattle.marks.proofs.Judged.{same-tests}
+use Rattle.page.specs.Page.{restPlaces, pageCells, cellsOn, lineOf, lineIf}
+use Rattle.page.specs.Answers.{verdictWith}
 use Rattle.page.proofs.Laws.{cell-there}
-use Rattle.marks.specs.Marks.{isOpen}
-use Rattle.public_page.specs.Public.{openLine, publicText, publicVerdict, PublicPageIs}
-use Rattle.public_page.specs.Alike.{SameInOpen, NothingTold}
+use Rattle.public_page.specs.Public.{publicText, publicVerdict}
+use Rattle.public_page.specs.Alike.{NothingTold}
 
 pieces-cong : (n : ℕ) (f g : ℕ → List ℕ) → ((i : ℕ) → i < n → f i ≡ g i) → pieces n f ≡ pieces n g
 unfolding pieces
@@ -22,27 +20,24 @@ pieces-cong zero f g h = refl
 pieces-cong (suc n) f g h = rw (pieces-cong n f g (λ i l. h i (omega arith)), h n (omega arith))
 
 module _ (volumes marks : List ℕ) (cells : ℕ) (masses masses′ : List ℕ) (s : SameInOpen volumes marks cells masses masses′) where
-  same-line : (places c : ℕ) → c < cells → openLine volumes masses marks places c ≡ openLine volumes masses′ marks places c
-  unfolding openLine lineOf
+  same-line : (places c : ℕ) → c < cells → lineIf volumes masses (isOpen marks) places c ≡ lineIf volumes masses′ (isOpen marks) places c
+  unfolding lineIf lineOf
   same-line places c h = go (isOpen marks c) refl
     where
       go : (b : Bool) → isOpen marks c ≡ b → cond b (lineOf volumes masses places c) [] ≡ cond b (lineOf volumes masses′ places c) []
       go true e = rw (s .agree c h e)
       go false e = refl
 
-  pub same-text : (places page : ℕ) → publicText volumes masses marks places cells page ≡ publicText volumes masses′ marks places cells page
+  same-text : (places page : ℕ) → publicText volumes masses marks places cells page ≡ publicText volumes masses′ marks places cells page
   unfolding publicText
   same-text places page =
-      pieces-cong (cellsOn cells page) (λ i. openLine volumes masses marks places (page * pageCells + i)) (λ i. openLine volumes masses′ marks places (page * pageCells + i))
+      pieces-cong (cellsOn cells page) (λ i. lineIf volumes masses (isOpen marks) places (page * pageCells + i))
+      (λ i. lineIf volumes masses′ (isOpen marks) places (page * pageCells + i))
       (λ i h. same-line places (page * pageCells + i) (cell-there cells page i h))
 
-  pub same-verdict : (page room : ℕ) → publicVerdict volumes masses marks cells page room ≡ publicVerdict volumes masses′ marks cells page room
-  unfolding publicVerdict fieldVerdict
-  same-verdict page room =
-      let M = cellsOnly cells volumes in
-      let a = both-fine (fieldTable M masses) (fieldValues M masses) (s .one-accepted) in
-      let b = both-fine (fieldTable M masses′) (fieldValues M masses′) (s .other-accepted) in
-      rw (a .0, a .1, b .0, b .1)
+  same-verdict : (page room : ℕ) → publicVerdict volumes masses marks cells page room ≡ publicVerdict volumes masses′ marks cells page room
+  unfolding publicVerdict verdictWith
+  same-verdict page room = let t = same-tests s in rw (t .0, t .1)
 
 pub nothing-told : NothingTold
 nothing-told volumes marks cells masses masses′ s page bytes r r′ after after′ p p′ =

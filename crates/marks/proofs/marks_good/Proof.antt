@@ -6,7 +6,7 @@ use Rattle.lists.proofs.Turns.{turn-within, turn-less}
 use Rattle.model.specs.Causes.{fine, each}
 use Rattle.model.proofs.Verdicts.{scan-start, scan-pass, scan-hit, scan-end}
 use Rattle.marks.specs.Marks.{markGood}
-use Rattle.marks.proofs.Open.{bad-mark, good-mark}
+use Rattle.marks.proofs.Judged.{bad-mark, good-mark}
 use Rattle.marks.proofs.marks_good.Statement.{statement}
 use Rattle.marks.proofs.marks_good.Tie as tie
 

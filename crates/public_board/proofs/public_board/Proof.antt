@@ -1,35 +1,13 @@
-use mathlib.Core.Path.{_∙_}
-use native.Mathlib.Omega.{arith}
-use borrow.Author.Needs.{needs}
-use Rattle.model.proofs.Verdicts.{passes}
-use Rattle.board.proofs.Listed.{none-shown}
-use Rattle.public_board.proofs.Laws.{entries-shown, asks, accepted-board, refused-board}
+use mathlib.Core.Path.{sym, _∙_}
+use Rattle.public_board.proofs.Laws.{asks}
 use Rattle.public_board.proofs.public_board.Statement.{statement}
 use Rattle.public_board.proofs.public_board.Tie as tie
 
-none-of-requires : tie.Need-entries-of-requires
-none-of-requires c κs = omega (arith, c .empty-ranking .ensures .0)
+board-after-requires : tie.Need-board-after-requires
+board-after-requires c κs e = asks _ _ _ _ (sym (c .judge .ensures) ∙ e)
 
 returns : tie.Need-returns
-returns c =
-    let none = c .before .empty-ranking in
-    let at-told = c .before .before in
-    refused-board _ _ _ _ _ (at-told .before .before .judge .ensures) _ (at-told .enum-told .given .1)
-    (none .ensures .0) (c .entries-of .ensures ∙ none-shown (none .result .ranks) (none .ensures .0))
-
-rank-requires : tie.Need-rank-requires
-rank-requires c κs = asks _ _ _ _ (passes (c .before .before .judge .ensures) (c .enum-told2 .given .1))
-
-entries-of-requires : tie.Need-entries-of-requires-2
-entries-of-requires c κs = omega (arith, c .rank .ensures .0)
-
-returns-2 : tie.Need-returns-2
-returns-2 c =
-    let ranked = c .before .rank in
-    let at-told = c .before .before in
-    accepted-board _ _ _ _ _ (at-told .before .before .judge .ensures) (at-told .enum-told2 .given .1)
-    (ranked .ensures .0) (c .entries-of2 .ensures ∙ entries-shown _ _ _ _ (ranked .ensures .0) (ranked .ensures .1))
+returns c = rw (c .before .judge .ensures) at (c .board-after .ensures)
 
 pub public-board-spec : {M : Type 1} → statement M
-public-board-spec =
-    tie.close (tie.spec (search needs) (search needs) (search needs) none-of-requires returns (search needs) rank-requires entries-of-requires returns-2)
+public-board-spec = tie.close (tie.spec (λ c κs. tt) board-after-requires returns)

@@ -6,20 +6,20 @@ use Rattle.public_page.proofs.public_page.Statement.{statement}
 use Rattle.public_page.proofs.public_page.Tie as tie
 
 returns : tie.Need-returns
-returns c = public-refused _ _ _ _ _ _ (refuses (c .before .before .before .judge .ensures) (c .before .verdict .given .1))
+returns c = public-refused _ _ _ _ _ _ (refuses (c .before .before .before .judge-public .ensures) (c .before .verdict .given .1))
 
 mul-first : tie.Need-mul-first
 mul-first c =
-    let v = passes (c .before .before .judge .ensures) (c .enum-told .given .1) in
+    let v = passes (c .before .before .judge-public .ensures) (c .enum-told .given .1) in
     omega (arith, begins _ _ _ _ _ _ v, few _ _ _ _ _ _ v)
 
 cells-on-requires : tie.Need-cells-on-requires
-cells-on-requires c κs = omega (arith, begins _ _ _ _ _ _ (passes (c .before .before .judge .ensures) (c .enum-told .given .1)))
+cells-on-requires c κs = omega (arith, begins _ _ _ _ _ _ (passes (c .before .before .judge-public .ensures) (c .enum-told .given .1)))
 
 rest-places-requires : tie.Need-rest-places-requires
 rest-places-requires c κs =
     let told = c .before in
-    volumes-long _ _ _ _ _ _ (passes (told .before .before .judge .ensures) (told .enum-told .given .1))
+    volumes-long _ _ _ _ _ _ (passes (told .before .before .judge-public .ensures) (told .enum-told .given .1))
 
 lines-requires : tie.Need-lines-requires
 lines-requires c κs =
@@ -27,7 +27,7 @@ lines-requires c κs =
     let at-count = at-places .before in
     let told = at-count .before in
     rw (at-places .rest-places .ensures .0)
-    (lines-ask _ _ _ _ _ _ (passes (told .before .before .judge .ensures) (told .enum-told .given .1)) (at-count .cells-on .ensures))
+    (lines-ask _ _ _ _ _ _ (passes (told .before .before .judge-public .ensures) (told .enum-told .given .1)) (at-count .cells-on .ensures))
 
 returns-2 : tie.Need-returns-2
 returns-2 c =
@@ -35,7 +35,7 @@ returns-2 c =
     let at-places = at-lines .before .before in
     let at-count = at-places .before in
     let told = at-count .before in
-    public-accepted _ _ _ _ _ _ (passes (told .before .before .judge .ensures) (told .enum-told .given .1)) (at-count .cells-on .ensures) (rw (at-places .rest-places .ensures .0) at (at-lines .lines .ensures))
+    public-accepted _ _ _ _ _ _ (passes (told .before .before .judge-public .ensures) (told .enum-told .given .1)) (at-count .cells-on .ensures) (rw (at-places .rest-places .ensures .0) at (at-lines .lines .ensures))
 
 pub public-page-spec : {M : Type 1} → statement M
 public-page-spec =

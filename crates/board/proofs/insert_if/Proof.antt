@@ -1,8 +1,8 @@
 use mathlib.Core.Path.{refl, sym, _∙_}
 use mathlib.Core.Bool.{true≢false}
 use borrow.Author.Needs.{needs}
-use Rattle.public_board.proofs.insert_if.Statement.{statement}
-use Rattle.public_board.proofs.insert_if.Tie as tie
+use Rattle.board.proofs.insert_if.Statement.{statement}
+use Rattle.board.proofs.insert_if.Tie as tie
 
 returns : tie.Need-returns
 returns c = ((λ e. c .insert .ensures), λ e. absurd (true≢false (sym (c .before .if1 .taken) ∙ e)))
