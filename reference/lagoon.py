@@ -703,10 +703,11 @@ def board_order(cell, V, m):
     """What the board is sorted by, least first: the higher q, of equal ones the larger rest / V (S-2), then the lower cell."""
     return -(m // V), -Fraction(m % V, V), cell
 
-def board(volumes, masses):
-    """The board's entries as (cell, q, rest), in its order."""
-    cells = sorted(zip(range(len(volumes)), volumes, masses), key=lambda entry: board_order(*entry))
-    return [(cell, m // V, m % V) for cell, V, m in cells[:8]]
+def board(volumes, masses, among=None):
+    """The board's entries as (cell, q, rest), in its order: of these cells, or of all."""
+    among = range(len(volumes)) if among is None else among
+    cells = sorted(among, key=lambda cell: board_order(cell, volumes[cell], masses[cell]))
+    return [(cell, masses[cell] // volumes[cell], masses[cell] % volumes[cell]) for cell in cells[:8]]
 
 def board_on_tables(cells, volumes, masses):
     """All eight entries of the board of lent tables; those not used are 0."""
@@ -939,26 +940,29 @@ def judge_marks(marks):
 def open_cells(marks):
     return [cell for cell, mark in enumerate(marks) if mark == OPEN]
 
+def public_lines(volumes, masses, page, marks):
+    """The lines of a page's open cells; the mass stands after the last cell's line and is left out."""
+    shown = set(open_cells(marks))
+    return [line for cell, line in zip(page_cells(len(volumes), page), page_lines(volumes, masses, page)) if cell in shown]
+
 def public_page_on_tables(cells, volumes, masses, page, room, marks):
     """The bytes of a page without withheld cells and without its mass; room counts the bytes lent, enough for the whole page."""
     judge_counts(cells, 0, LIBRARY_LIMITS)
     judge_lengths({VOLUMES: len(volumes), MASSES: len(masses), PAGE: room, MARKS: len(marks)},
                   {VOLUMES: cells, MASSES: cells, PAGE: page_length(volumes, cells, page), MARKS: cells})
-    whole = page_on_tables(cells, volumes, masses, page, room).decode().splitlines(keepends=True)
+    page_on_tables(cells, volumes, masses, page, room)
     judge_marks(marks[:cells])
-    shown = set(open_cells(marks[:cells]))
-    return "".join(line for cell, line in zip(page_cells(cells, page), whole) if cell in shown).encode()
+    return "".join(public_lines(volumes[:cells], masses[:cells], page, marks[:cells])).encode()
 
 def public_board(cells, volumes, masses, marks):
-    """The board of the open cells: eight at most."""
+    """The entries of the board of open cells, eight at most."""
     judge_counts(cells, 0, LIBRARY_LIMITS)
     judge_lengths({VOLUMES: len(volumes), MASSES: len(masses), MARKS: len(marks)}, {VOLUMES: cells, MASSES: cells, MARKS: cells})
     mesh = Mesh(volumes[:cells], [], [], [], [])
     judge_mesh(mesh)
     judge_field(mesh, masses[:cells])
     judge_marks(marks[:cells])
-    ranked = sorted(open_cells(marks[:cells]), key=lambda cell: board_order(cell, volumes[cell], masses[cell]))
-    return [(cell, masses[cell] // volumes[cell], masses[cell] % volumes[cell]) for cell in ranked[:8]]
+    return board(mesh.volumes, masses[:cells], open_cells(marks[:cells]))
 
 
 if __name__ == "__main__":
