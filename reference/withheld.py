@@ -36,8 +36,9 @@ class Wrong(Exception):
 
 
 def accepted(cells, volumes, masses):
-    """Whether the field is long enough, and no q of it too large; a volume of 0 is the mesh's fault."""
-    return cells <= min(len(volumes), len(masses)) and all(m // V <= lagoon.TOP for V, m in zip(volumes[:cells], masses) if V)
+    """Whether the tables are of 64 bits, the field long enough and no q of it too large; a volume of 0 is the mesh's fault."""
+    return (all(0 <= entry <= generate_script.GREATEST for entry in (*volumes, *masses)) and cells <= min(len(volumes), len(masses))
+            and all(m // V <= lagoon.TOP for V, m in zip(volumes[:cells], masses) if V))
 
 
 def other_field(rng, cells, volumes, masses, marks):
