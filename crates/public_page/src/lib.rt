@@ -2,7 +2,6 @@
 use marks::marks_good;
 use marks::marks_long;
 use model::Answer;
-use model::needs::and_then;
 use page::PAGE_CELLS;
 use page::PageAnswer;
 use page::cells_on;
@@ -13,7 +12,7 @@ ghost use mathlib.Core.Path.{_≡_};
 ghost use Rattle.model.specs.Answers.{said};
 ghost use Rattle.public_page.specs.Public.{publicVerdict, PublicPageIs};
 
-// What printing a public page into so many bytes is refused for.
+// What printing a public page into so many bytes is refused for. The marks are read only where the cells are few and the table is long enough.
 fn judge_public(
     cells: usize,
     volumes: &[u64],
@@ -26,7 +25,10 @@ fn judge_public(
 {
     let marked = marks_long(cells, marks);
     let whole = judge(cells, volumes, masses, page, room, marked);
-    and_then(whole, marks_good(cells, marks))
+    if let Answer::Refused(r) = whole {
+        return Answer::Refused(r);
+    }
+    marks_good(cells, marks)
 }
 
 // A public page of a field: causes 1 (cells), 2 (volumes, masses, bytes, marks), 3, 6, 14 and 27, else its length, with the page in the first bytes.
