@@ -17,7 +17,7 @@
 extern "C" {
 #endif
 
-#define LAGOON_VERSION "2.4.0"
+#define LAGOON_VERSION "2.5.0"
 
 /* Limits of the call. A larger mesh is refused with cause 1. */
 #define LAGOON_MAX_CELLS 1023

@@ -82,6 +82,8 @@ SCRIPT_CAUSES = {
     "face_share": "19 20",
     "add": "1/1 2/2 2/9 2/16 26",
     "charge": "25 2/17 2/18 26",
+    "public_page": "1/0 2/0 2/5 2/12 2/19 3 6 14 27",
+    "public_board": "1/0 2/0 2/5 2/19 3 6 27",
 }
 FAULTS = ["not a number", "too large", "no such call", "a minus where none may stand", "a table too long",
           "a call too long", "the input ends within a call"]

@@ -510,6 +510,28 @@ def store_list(rng, kinds):
     return "".join(calls)
 
 
+def some_marks(rng, cells, kinds):
+    """Marks of cells, few or many withheld, now and then too few or another."""
+    share = rng.choice([0, 0.1, 0.5, 0.9, 1])
+    marks = [int(rng.random() < share) for _ in range(min(cells, CELLS))]
+    damage = rng.choice(["none"] * 6 + ["short", "another", "longer"])
+    kinds.append("marks: " + damage)
+    if damage == "short" and marks:
+        marks.pop()
+    elif damage == "another" and marks:
+        marks[rng.randrange(len(marks))] = rng.choice([2, 255, GREATEST])
+    elif damage == "longer":
+        marks += [rng.choice([0, 1, 2, GREATEST]) for _ in range(3)]
+    return marks
+
+def public_page(rng, large, kinds):
+    arguments = page(rng, large, kinds)
+    return (*arguments, some_marks(rng, arguments[0], kinds))
+
+def public_board(rng, large, kinds):
+    arguments = on_cells(rng, large, kinds)
+    return (*arguments, some_marks(rng, arguments[0], kinds))
+
 def add(rng, large, kinds):
     """A step's moved masses, or any, added to totals from 0 to past the ceiling."""
     lent = tables_for(rng, (SECONDS, MOVED), large, kinds)
@@ -653,6 +675,8 @@ MAKE = {
     "face_share": survey_face,
     "add": add,
     "charge": charge,
+    "public_page": public_page,
+    "public_board": public_board,
 }
 
 
@@ -771,6 +795,10 @@ def largest():
         spell("keep", CELLS, volumes, masses, [0] * (CELLS + 1), MOST_NAME),
         spell("drop", CELLS, [1, MOST_NAME, *masses], MOST_NAME),
         spell("give_back", CELLS, volumes, [7] * (CELLS + 1), [1, MOST_NAME, *masses], MOST_NAME),
+        "# what the public reads of the largest field\n",
+        spell("public_page", CELLS, volumes, masses, 0, rooms[0], [0, 1] * (CELLS // 2) + [0]),
+        spell("public_page", CELLS, volumes, masses, last, rooms[1], [1] * CELLS),
+        spell("public_board", CELLS, volumes, masses, [1] * (CELLS - 3) + [0] * 3),
         "# totals of all faces, full\n",
         spell("add", FACES, [RIM] * FACES, [lagoon.LAST_END] * FACES, [0] * FACES),
         spell("add", FACES, [RIM] * FACES, [0] * (FACES - 1) + [1], [GREATEST] * (FACES - 1) + [lagoon.LAST_END]),

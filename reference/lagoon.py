@@ -21,7 +21,7 @@ RUN_LIMITS = (1023, 2046)
 
 # Lent tables, by position; those lent to a step, in the order of its arguments.
 (VOLUMES, FIRSTS, SECONDS, SHARES, REACHES, MASSES,
- FLUXES, OUTSIDES, NEXT, MOVED, WORK, RECORD, PAGE, STORE, RELEASES, LABELS, TOTALS, ENDS, PRICES) = range(19)
+ FLUXES, OUTSIDES, NEXT, MOVED, WORK, RECORD, PAGE, STORE, RELEASES, LABELS, TOTALS, ENDS, PRICES, MARKS) = range(20)
 STEP_TABLES = (*range(WORK + 1), RELEASES)
 CLAIM_TABLES = (*range(WORK), RELEASES)         # of a judging, in which moved is the claim (document 02, S-11)
 CUT_TABLES = (*range(NEXT), RELEASES)           # of a cutting, of the whole and again of each part (document 02, S-12)
@@ -703,10 +703,11 @@ def board_order(cell, V, m):
     """What the board is sorted by, least first: the higher q, of equal ones the larger rest / V (S-2), then the lower cell."""
     return -(m // V), -Fraction(m % V, V), cell
 
-def board(volumes, masses):
-    """The board's entries as (cell, q, rest), in its order."""
-    cells = sorted(zip(range(len(volumes)), volumes, masses), key=lambda entry: board_order(*entry))
-    return [(cell, m // V, m % V) for cell, V, m in cells[:8]]
+def board(volumes, masses, among=None):
+    """The board's entries as (cell, q, rest), in its order: of these cells, or of all."""
+    among = range(len(volumes)) if among is None else among
+    cells = sorted(among, key=lambda cell: board_order(cell, volumes[cell], masses[cell]))
+    return [(cell, masses[cell] // volumes[cell], masses[cell] % volumes[cell]) for cell in cells[:8]]
 
 def board_on_tables(cells, volumes, masses):
     """All eight entries of the board of lent tables; those not used are 0."""
@@ -926,6 +927,42 @@ def charge(total, bands, ends, prices, remainder):
     if total > LAST_END:
         raise Refusal(26, 0)
     return divmod(band_sum(total, ends[:bands], prices[:bands]) + remainder, UNITS)
+
+
+# ---------------------------------------------------------------- Closed shellfish grounds (document 02, S-14)
+
+OPEN, WITHHELD = 0, 1
+
+def judge_marks(marks):
+    """Cause 27: another mark."""
+    refuse_first(27, (mark not in (OPEN, WITHHELD) for mark in marks))
+
+def open_cells(marks):
+    return [cell for cell, mark in enumerate(marks) if mark == OPEN]
+
+def public_lines(volumes, masses, page, marks):
+    """The lines of a page's open cells; the mass stands after the last cell's line and is left out."""
+    shown = set(open_cells(marks))
+    return [line for cell, line in zip(page_cells(len(volumes), page), page_lines(volumes, masses, page)) if cell in shown]
+
+def public_page_on_tables(cells, volumes, masses, page, room, marks):
+    """The bytes of a page without withheld cells and without its mass; room counts the bytes lent, enough for the whole page."""
+    judge_counts(cells, 0, LIBRARY_LIMITS)
+    judge_lengths({VOLUMES: len(volumes), MASSES: len(masses), PAGE: room, MARKS: len(marks)},
+                  {VOLUMES: cells, MASSES: cells, PAGE: page_length(volumes, cells, page), MARKS: cells})
+    page_on_tables(cells, volumes, masses, page, room)
+    judge_marks(marks[:cells])
+    return "".join(public_lines(volumes[:cells], masses[:cells], page, marks[:cells])).encode()
+
+def public_board(cells, volumes, masses, marks):
+    """The entries of the board of open cells, eight at most."""
+    judge_counts(cells, 0, LIBRARY_LIMITS)
+    judge_lengths({VOLUMES: len(volumes), MASSES: len(masses), MARKS: len(marks)}, {VOLUMES: cells, MASSES: cells, MARKS: cells})
+    mesh = Mesh(volumes[:cells], [], [], [], [])
+    judge_mesh(mesh)
+    judge_field(mesh, masses[:cells])
+    judge_marks(marks[:cells])
+    return board(mesh.volumes, masses[:cells], open_cells(marks[:cells]))
 
 
 if __name__ == "__main__":

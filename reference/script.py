@@ -46,6 +46,8 @@ CALLS = {
     31: ("cut", "nnttttttsttt" + 2 * "ppppppqpp"),
     32: ("add", "ntst"),
     33: ("charge", "nnttn"),
+    34: ("public_page", "nttnbt"),
+    35: ("public_board", "nttt"),
 }
 NUMBER_OF = {name: number for number, (name, _) in CALLS.items()}
 
@@ -330,6 +332,12 @@ class Engine:
         self.lagoon.add_moved(faces, seconds, moved, totals)
         return ()
 
+    def public_page(self, cells, volumes, masses, page, room, marks):
+        return self.put(self.lagoon.public_page_on_tables(cells, volumes, masses, page, len(room), marks), room)
+
+    def public_board(self, cells, volumes, masses, marks):
+        return self.lagoon.public_board(cells, volumes, masses, marks)
+
     def charge(self, total, bands, ends, prices, remainder):
         return self.lagoon.charge(total, bands, ends, prices, remainder)
 
@@ -358,6 +366,7 @@ CHANGED = {
     "drop": {1: "store"},
     "give_back": {2: "masses"},
     "add": {3: "totals"},
+    "public_page": {4: "bytes"},
 }
 
 
@@ -388,7 +397,7 @@ def answered(engine, name, arguments):
         values = getattr(engine, name)(*arguments)
     except engine.lagoon.Refusal as refusal:
         words = f" refused {refusal.cause} {refusal.place}"
-        return words + "; used 0; entries" + " 0" * 24 if name == "board" else words
+        return words + "; used 0; entries" + " 0" * 24 if name in ("board", "public_board") else words
     if name == "lagoon_step":
         return f" {values}"
     if name == "middle_stage":
@@ -398,6 +407,9 @@ def answered(engine, name, arguments):
     if name == "board":
         used = min(8, arguments[0])
         return f" accepted; used {used}; entries" + spaced(part for entry in values for part in entry)
+    if name == "public_board":
+        entries = values + [(0, 0, 0)] * (8 - len(values))
+        return f" accepted; used {len(values)}; entries" + spaced(part for entry in entries for part in entry)
     return " accepted" + spaced(values)
 
 

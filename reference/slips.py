@@ -605,10 +605,47 @@ def forgotten(lagoon):
     lagoon.charge = lambda total, bands, ends, prices, remainder: right(total, bands, ends, prices, remainder if remainder >= lagoon.UNITS else 0)
 
 
+# ---------------------------------------------------------------- Document 02, S-14: closed grounds
+
+def revealing(lagoon):
+    """The public page with all its lines."""
+    lagoon.open_cells = lambda marks: list(range(len(marks)))
+
+
+def blanked(lagoon):
+    """A blank line where a withheld cell's would stand."""
+    right = lagoon.public_lines
+
+    def public_lines(volumes, masses, page, marks):
+        shown = right(volumes, masses, page, marks)
+        whole = lagoon.page_lines(volumes, masses, page)[:-1]
+        return [line if line in shown else f"{'':{len(line) - 1}}\n" for line in whole]
+
+    lagoon.public_lines = public_lines
+
+
+def weighed(lagoon):
+    """The public page with the page's mass."""
+    right = lagoon.public_lines
+    lagoon.public_lines = lambda volumes, masses, page, marks: right(volumes, masses, page, marks) + lagoon.page_lines(volumes, masses, page)[-1:]
+
+
+def outranked(lagoon):
+    """The public board as the growers', its withheld cells left out."""
+    right = lagoon.board
+    lagoon.board = lambda volumes, masses, among=None: [entry for entry in right(volumes, masses) if among is None or entry[0] in among]
+
+
+def unmarked(lagoon):
+    """Any mark but 1 read as open."""
+    lagoon.judge_marks = lambda marks: None
+
+
 ANSWER_SLIPS = {slip.__name__: slip for slip in (place, table, beyond, bit, dropped, binder, places, lifted, fresher, unweighed, higher, first,
                                                  freed, nearest, exchanged, corrects, bare, mingled, rounded, lenient, uncleared,
                                                  largest, unswayed, unbound, unheld, *CUT_SLIPS.values(),
-                                                 netted, everywhere, judged, topmost, forgotten)}
+                                                 netted, everywhere, judged, topmost, forgotten,
+                                                 revealing, blanked, weighed, outranked, unmarked)}
 
 
 ALL_SLIPS = {**SLIPS, **CALL_SLIPS, **RUN_SLIPS, **ANSWER_SLIPS}

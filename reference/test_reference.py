@@ -503,6 +503,26 @@ def test_charges():
     equal(cents * lagoon.UNITS + remainder, sums + 7, "all cents and the last remainder")
 
 
+def test_public():
+    """Document 02, S-14: what the public reads does not show withheld cells."""
+    volumes, masses, marks = [100] * 3, [100099, 81188, 18713], [0, 1, 0]
+    equal(lagoon.public_page_on_tables(3, volumes, masses, 0, 72, marks), b"   0    1000   99\n   2     187   13\n", "the channel's public page")
+    equal(lagoon.public_page_on_tables(3, volumes, masses, 0, 72, [1] * 3), b"", "all withheld")
+    equal(lagoon.public_board(3, volumes, masses, marks), [(0, 1000, 99), (2, 187, 13)], "the channel's public board")
+    refused(2, lagoon.PAGE, "a byte too few for the whole page", lagoon.public_page_on_tables, 3, volumes, masses, 0, 71, [1] * 3)
+    refused(2, lagoon.MARKS, "marks before volumes", lagoon.public_page_on_tables, 3, [0] * 3, masses, 0, 72, [1] * 2)
+    refused(14, 1, "page before marks", lagoon.public_page_on_tables, 3, volumes, masses, 1, 0, [2] * 3)
+    refused(27, 1, "another mark", lagoon.public_board, 3, volumes, masses, [1, 2, 0])
+    equal(lagoon.public_page_on_tables(3, volumes, masses, 0, 72, [0] * 3), lagoon.page_on_tables(3, volumes, masses, 0, 72)[:54], "none withheld")
+    equal(lagoon.public_page_on_tables(63, [1] * 63, [7] * 63, 1, 72, [0] * 60 + [1, 0, 1]), b"  61       7    0\n", "a page's first and last cell withheld")
+    equal(lagoon.public_page_on_tables(2, [100, 4096], [100099, 0], 0, 57, [0, 1]), b"   0    1000    99\n", "lines as wide as a withheld cell makes them")
+    equal(lagoon.public_board(3, volumes, masses, [1, 0, 0]), [(1, 811, 88), (2, 187, 13)], "the leading cell withheld")
+    equal([cell for cell, _, _ in lagoon.public_board(13, [5] * 13, [11] * 13, [0, 1, 0, 0, 1, 0, 0, 0, 1, 0, 0, 0, 0])], [0, 2, 3, 5, 6, 7, 9, 10],
+          "open cells of equal q and rest")
+    other = [100099, 0, 18713]
+    equal(lagoon.public_page_on_tables(3, volumes, other, 0, 72, marks), lagoon.public_page_on_tables(3, volumes, masses, 0, 72, marks), "public pages")
+
+
 def test_pages():
     """Document 02, S-1: lines of 18 bytes, pages of sixty cells, read back."""
     channel = lagoon.page_on_tables(3, [100] * 3, [100099, 81188, 18713], 0, 72)

@@ -28,6 +28,7 @@ found 's/ 94169707219      5/ 94169707219      6/'
 found 's/per cell m (40)/per cell m (32)/'
 found 's/49900 = 100100/49900 = 100099/'
 found 's/is handed on/is lost/'
+found 's/B 2 187 13$/B 1 811 88/'
 
 # the worked steps tell each slip that the page names from the right figures
 python3 tests/test_slips.py

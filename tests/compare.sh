@@ -1,8 +1,9 @@
 #!/usr/bin/env bash
 # The engine's run program, host's call and every call from a script against the reference on fixed cases; then each slip, put
-# into the reference, has to be seen by the same comparison; the engine in two numberings; last, the pages show what the engine gives.
+# into the reference, has to be seen by the same comparison; the engine in two numberings, beside unrounded steps, and with withheld
+# cells changed; last, the pages show what the engine gives.
 set -eu
-[ "${1:-}" != --help ] || { sed -n '2,3s/^# //p' "$0"; exit 0; }
+[ "${1:-}" != --help ] || { sed -n '2,4s/^# //p' "$0"; exit 0; }
 cd "$(dirname "$0")/.."
 reference/build.sh
 programs=(--run target/compare/run --script target/compare/calls
@@ -24,6 +25,9 @@ python3 reference/unrounded.py --script target/compare/calls --lists 300 --seed 
 
 # lagoons cut in two by the engine, and the engine's plain steps of both parts beside the whole's
 python3 reference/cuts.py --script target/compare/calls --cases 400 --seed 2
+
+# the public page and board of two fields that differ in withheld cells only
+python3 reference/withheld.py --script target/compare/calls --pairs 400 --seed 2
 
 # shares from survey points: the tool's and the engine's
 python3 tests/points.py target/compare/calls

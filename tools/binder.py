@@ -1,13 +1,17 @@
 #!/usr/bin/env python3
-"""The pages for the binder: of the last field of a session, or of a field record, one page of sixty cells after another."""
+"""The pages for the binder: of the last field of a session, or of a field record, one page of sixty cells after another; and the board.
+For growers, or for the public, who are not shown withheld cells."""
 
 import sys
 
 import causes
 import command
 import engine
-from command import Output
-from layout import NARROW, Damage, Source, most
+from calls import Calls, spelled
+from causes import CELL
+from command import Bad
+from layout import Damage, Source
+from rows import Cells, Rows
 from session import open_session
 
 HELP = """\
@@ -17,32 +21,70 @@ this page or another, is above 4,095, the rest has 5 places and the mass 18, and
 its line as q times its volume plus the rest; the masses of all pages add up to the total.
 
 The session is text or packed. The engine steps through it, by the C call of the library (`make lib`). With --field no step is made:
-the pages are those of the field record, on the mesh of the session.
+the pages are those of the field record, on the mesh of the session. Pages and board are printed by the proved calls, by the program
+`calls` (`rt check calls`, or --calls).
+
+With --public the pages have no lines of withheld cells and no masses, and the board is ranked among open cells only; two fields that
+differ in withheld cells alone print the same. MARKS is CSV with a heading; other columns are not read:
+
+  cell  by name or number; a cell without a row is open
+  mark  0 open, 1 withheld
 
 examples:
   tools/binder.py examples/tide.txt
+  tools/binder.py examples/tide.txt --public examples/closed.csv --board -
   tools/binder.py session.in --run target/bin/run -o june.pages
   tools/budget.py session.in --field june.field
   tools/binder.py session.in --field june.field | lpr
 """
 
-PAGE_CELLS = 60
+MOST_BYTES = 61 * 19            # of a page: sixty cells and their mass, in the widest lines
+BEYOND = 14                     # the cause of a page beyond the last
+OPEN, WITHHELD = 0, 1
 
 
-def rest_places(volumes):
-    """Of all pages, by the volumes of the whole mesh (document 02, S-10)."""
-    return 5 if max(volumes) > most(NARROW.value) else 4
+def marks_in(path, session):
+    """The marks of all cells, by the rows of a table."""
+    rows, cells, marked = Rows(path, ("cell", "mark")), Cells(session.mesh, session.labels), {}
+    for line, row in rows.rows():
+        try:
+            cell = cells.of(rows.word(row, "cell"))
+        except Bad as bad:
+            raise rows.bad(line, bad) from None
+        if cell in marked:
+            raise rows.bad(line, f"a second mark of {session.labels.of(CELL, cell)}")
+        marked[cell] = rows.whole(line, row, "mark", OPEN, WITHHELD)
+    return [marked.get(cell, OPEN) for cell in range(len(session.mesh.volumes))]
 
 
-def page(volumes, masses, first):
-    """The page that begins with this cell."""
-    rows, places = list(zip(volumes, masses))[first:first + PAGE_CELLS], rest_places(volumes)
-    lines = [f"{cell:>4} {mass // volume:>7} {mass % volume:>{places}}\n" for cell, (volume, mass) in enumerate(rows, first)]
-    return "".join(lines) + f"{sum(mass for _, mass in rows):>{13 + places}}\n"
+class Printer:
+    """Pages and board of a field as the engine prints them: the growers', or, by marks, those for the public."""
 
+    def __init__(self, calls, volumes, masses, marks):
+        self.calls, self.public = calls, "public_" if marks else ""
+        self.field, self.marks = (len(volumes), spelled(volumes), spelled(masses)), [spelled(marks)] if marks else []
 
-def pages(volumes, masses):
-    return [page(volumes, masses, first) for first in range(0, len(volumes), PAGE_CELLS)]
+    def pages(self):
+        """The bytes of all pages, one after another."""
+        found, room = [], spelled([0] * MOST_BYTES)
+        while True:
+            said, left = self.calls.ask(f"{self.public}page", *self.field, len(found), room, *self.marks)
+            if said[:2] == ["refused", str(BEYOND)]:
+                return b"".join(found)
+            self.accepted(said)
+            found.append(bytes(left["bytes"][:int(said[1])]))
+
+    def board(self):
+        """The board's lines, as the run prints them."""
+        said, left = self.calls.ask(f"{self.public}board", *self.field, *self.marks)
+        self.accepted(said)
+        entries = zip(*[iter(left["entries"])] * 3)
+        return "".join(f"B {cell} {q} {rest}\n" for (cell, q, rest), _ in zip(entries, range(left["used"][0]))).encode()
+
+    def accepted(self, said):
+        """Mesh, field and marks are right by now, and so nothing else is refused."""
+        if said[0] == "refused":
+            raise Bad(f"the engine refuses the page or the board by cause {said[1]}, place {said[2]}, and here nothing like it is found")
 
 
 def stored_field(session, path):
@@ -57,7 +99,7 @@ def stored_field(session, path):
         except Damage as damage:
             refusal = causes.damaged(damage)
     if refusal:
-        raise command.Bad(f"{command.named(path)}: the field is refused: {causes.told(refusal, session.labels)}")
+        raise Bad(f"{command.named(path)}: the field is refused: {causes.told(refusal, session.labels)}")
     return masses
 
 
@@ -72,19 +114,38 @@ def arguments():
     parser = command.parser("binder.py", __doc__, HELP)
     parser.add_argument("file", nargs="?", default="-", help="the session, text or packed (default: standard input)")
     parser.add_argument("--field", metavar="FILE", help="print the pages of this field record instead of the last field")
+    parser.add_argument("--public", metavar="MARKS", help="print what the public may read, by this table of marks")
     parser.add_argument("-o", "--output", metavar="FILE", default="-", help="where the pages go (default: standard output)")
+    parser.add_argument("--board", metavar="FILE", help="where the board goes, for the same readers, as lines of the run (default: nowhere)")
+    parser.add_argument("--calls", metavar="PROGRAM", help="the program that prints them (default: target/bin/calls, which `rt check calls` makes)")
     engine.options(parser)
     return parser.parse_args()
 
 
+def checked(options):
+    """One input at most is standard input, and no output is an input or the other output."""
+    inputs = [path for path in (options.file, options.field, options.public, options.library, options.calls) if path]
+    if inputs.count("-") > 1:
+        raise Bad("only one input can be standard input")
+    for output in (options.output, options.board):
+        if output:
+            command.apart(output, *inputs)
+    if options.board == options.output != "-":
+        raise Bad(f"{options.output} cannot hold both the pages and the board")
+
+
 def main():
     options = arguments()
-    command.apart(options.output, options.file, *(path for path in (options.field, options.library) if path))
+    checked(options)
     session = open_session(options.file)
+    marks = marks_in(options.public, session) if options.public else None
     masses = stored_field(session, options.field) if options.field else last_field(session, options)
-    with Output(options.output) as output:
-        for text in pages(session.mesh.volumes, masses):
-            output.write(text.encode())
+    printer = Printer(Calls(options.calls), session.mesh.volumes, masses, marks)
+    pages, board = printer.pages(), printer.board() if options.board else b""
+    printer.calls.finish()
+    command.write_whole(options.output, pages)
+    if options.board:
+        command.write_whole(options.board, board)
     return 0
 
 

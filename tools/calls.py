@@ -7,7 +7,8 @@ from command import ROOT, Bad
 
 PROGRAM = ROOT / "target" / "bin" / "calls"
 # The numbers of the calls that are asked for.
-NUMBERS = {"step": 7, "read_step": 13, "plain_step": 29, "judge": 30, "cut": 31, "add": 32, "charge": 33}
+NUMBERS = {"step": 7, "read_step": 13, "board": 18, "page": 23, "plain_step": 29, "judge": 30, "cut": 31, "add": 32, "charge": 33,
+           "public_page": 34, "public_board": 35}
 
 
 def spelled(argument):

@@ -18,7 +18,8 @@ IN_WORDS = {1: "too many cells or faces, or no cell", 3: "a volume out of its ra
             8: "a flux too large for its face", 9: "a cell whose inflow and outflow differ", 10: "a cell's outflow above its volume",
             11: "a record of the wrong length", 12: "a wrong bit in a record", 13: "a record of the wrong kind or count",
             18: "too high a concentration with a release", 21: "a claimed mass too large, at a still face, or not what the rim's water carries",
-            22: "a cell out of its bounds by a claim", 25: "a tariff or a remainder out of its range", 26: "a period's total past the last band"}
+            22: "a cell out of its bounds by a claim", 25: "a tariff or a remainder out of its range", 26: "a period's total past the last band",
+            27: "a mark of a cell that is neither 0 nor 1"}
 
 Refusal = namedtuple("Refusal", "cause thing place words")      # thing: what the place counts, or "" where the words say all
 

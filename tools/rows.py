@@ -1,4 +1,4 @@
-"""Tables that people bring: the rows of a CSV file by the words of its heading, and faces by their names or numbers."""
+"""Tables that people bring: the rows of a CSV file by the words of its heading, and cells and faces by their names or numbers."""
 
 import csv
 import io
@@ -109,21 +109,31 @@ def as_csv(rows):
     return text.getvalue().encode()
 
 
-class Faces:
-    """The faces of a mesh by what people call them: 3, face 3, the name, face and name, or both as the tools print them."""
+class Called:
+    """Cells or faces of a mesh by what people call them: 3, face 3, the name, face and name, or both as the tools print them."""
 
-    def __init__(self, mesh, labels):
-        self.total, self.called = len(mesh.faces), {}
-        for face in range(self.total):
-            name = " ".join(labels.names["face"].get(face, "").split())
-            for words in {str(face), f"face {face}", name, f"face {name}", f"face {face} ({name})"} - {"", "face ", f"face {face} ()"}:
-                self.called.setdefault(words, []).append(face)
+    def __init__(self, thing, total, labels):
+        self.thing, self.total, self.called = thing, total, {}
+        for number in range(total):
+            name = " ".join(labels.names[thing].get(number, "").split())
+            for words in {str(number), f"{thing} {number}", name, f"{thing} {name}", f"{thing} {number} ({name})"} - {"", f"{thing} ", f"{thing} {number} ()"}:
+                self.called.setdefault(words, []).append(number)
 
     def of(self, words):
-        """The number of the face, or what is wrong with the words."""
+        """The number, or what is wrong with the words."""
         found = self.called.get(" ".join(words.split()), [])
         if not found:
-            raise Bad(f"{shown(words)} is no face of the mesh (0 to {self.total - 1}) nor the name of one")
+            raise Bad(f"{shown(words)} is no {self.thing} of the mesh (0 to {self.total - 1}) nor the name of one")
         if len(found) > 1:
-            raise Bad(f"{shown(words)} may be face {found[0]} and face {found[1]}")
+            raise Bad(f"{shown(words)} may be {self.thing} {found[0]} and {self.thing} {found[1]}")
         return found[0]
+
+
+class Faces(Called):
+    def __init__(self, mesh, labels):
+        super().__init__("face", len(mesh.faces), labels)
+
+
+class Cells(Called):
+    def __init__(self, mesh, labels):
+        super().__init__("cell", len(mesh.volumes), labels)

@@ -1,6 +1,7 @@
 #!/usr/bin/env python3
 """The figures of docs/ARITHMETIC.md: sessions worked from their bytes, each number shown."""
 
+import itertools
 import re
 import sys
 from fractions import Fraction
@@ -32,13 +33,13 @@ MONTH = 24 * 30
 TARIFF = (10_000_000, 30_010_000, lagoon.LAST_END), (35, 42, 55)        # ends and prices of the charge that is worked
 PLAIN_STEPS = 8         # of the channel, in the table of plain upwind's error
 BLOCK = re.compile(r"(<!-- worked: (\S+) -->\n).*?(<!-- end -->)", re.DOTALL)
-SMALL = 14              # numbers up to here name stages, causes and positions
+SMALL = 15              # numbers up to here name stages, causes, positions and sections
 WORD_BITS = 64          # of a number of the program
 WIDEST_LINE = 76        # columns of a fenced block that an A4 page holds
 
 # Numbers of the papers that the page's prose may say.
 CONSTANTS = {lagoon.RIM, lagoon.TOP, *lagoon.LIBRARY_LIMITS, *lagoon.RUN_LIMITS, 255, 256, 128, lagoon.PAGE_CELLS,
-             layout.WIDE.value, *lagoon.MASS_BITS, WORD_BITS, 17, 18, 19, lagoon.CEILING, lagoon.MOST_CLAIMED, 21, 22, 23, 24, 25, 26}
+             layout.WIDE.value, *lagoon.MASS_BITS, WORD_BITS, 17, 18, 19, lagoon.CEILING, lagoon.MOST_CLAIMED, *range(21, 28)}
 
 
 def same(ours, reference):
@@ -662,6 +663,25 @@ def page_back(session, masses):
     return rows + [f"mass of the page: {' + '.join(map(str, found))} = {same(sum(found), int(last))}"]
 
 
+def public():
+    """The channel after its steps, its middle cell withheld, as growers and public read it; for the public the same whatever mass is withheld."""
+    volumes, masses, marks, cells = CHANNEL.mesh.volumes, STEP_2.next, [0, 1, 0], len(CHANNEL.cells)
+    growers = binder_page(CHANNEL, masses) + board_lines(lagoon.board(volumes, masses))
+    found = []
+    for withheld in (masses[1], 0, volumes[1] * lagoon.TOP):
+        field = [masses[0], withheld, masses[2]]
+        page = lagoon.public_page_on_tables(cells, volumes, field, 0, lagoon.page_length(volumes, cells, 0), marks).decode().splitlines()
+        found.append(page + [""] * (cells + 1 - len(page)) + board_lines(lagoon.public_board(cells, volumes, field, marks)))
+    same(found[1:], found[:-1])
+    same(found[0][:2], [line for line, mark in zip(growers, marks) if mark == 0])
+    rows = itertools.zip_longest(("for the growers", *growers), ("for the public", *found[0]), fillvalue="")
+    return [f"marks of cells 0, 1 and 2: {', '.join(map(str, marks))}", "", *(f"{left:24}{right}".rstrip() for left, right in rows)]
+
+
+def board_lines(entries):
+    return [f"B {cell} {q} {rest}" for cell, q, rest in entries]
+
+
 BLOCKS = {"layouts": layouts, "bytes": the_bytes, "mesh-bits": lambda: fenced(mesh_bits()), "step-bits": lambda: fenced(field_and_step_bits(CHANNEL)),
           "step-1": lambda: fenced(STEP_1.lines()), "step-2": lambda: fenced(STEP_2.lines()), "printed": lambda: fenced(CHANNEL.printed()),
           "second-given": lambda: fenced(SECOND_STEP.given()), "second-step": lambda: fenced(SECOND_STEP.lines()),
@@ -669,7 +689,7 @@ BLOCKS = {"layouts": layouts, "bytes": the_bytes, "mesh-bits": lambda: fenced(me
           "outfall-step": lambda: fenced(OUTFALL_STEP.lines()), "outfall-printed": lambda: fenced(OUTFALL.printed()),
           "plain-1": lambda: fenced(STEP_1.plain_lines()), "plain-2": lambda: fenced(PLAIN_2.plain_lines()),
           "plain-error": lambda: fenced(plain_error()), "plain-pair": lambda: fenced(plain_pair()), "claims": lambda: fenced(claims()),
-          "cut": lambda: fenced(cut_in_two()), "charge": lambda: fenced(charge()),
+          "cut": lambda: fenced(cut_in_two()), "charge": lambda: fenced(charge()), "public": lambda: fenced(public()),
           "year": lambda: fenced(year()), "widest": lambda: fenced(widest()),
           "edition": edition, "form": lambda: fenced(form()),
           "page": lambda: fenced(binder_page(CHANNEL, STEP_2.next)), "page-back": lambda: fenced(page_back(CHANNEL, STEP_2.next)),

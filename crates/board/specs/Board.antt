@@ -1,14 +1,15 @@
 -- Document 01, "The board and the run": the cells that the board lists, in the order of document 02, S-2.
-use Prim.Native.Nat.{ℕ, _-_, _*_, _/_, min}
+use Prim.Native.Nat.{ℕ, _-_, _*_, _/_, _≤_, _<_, min}
 use mathlib.Core.Path.{_≡_}
-use mathlib.Core.Bool.{Bool}
+use mathlib.Core.Bool.{Bool, true}
 use mathlib.Core.List.{List, map}
-use lib.ListN.{getD, take, replicate}
+use lib.ListN.{length, getD, take, replicate}
 use Rattle.lists.specs.Table.{over}
+use Rattle.lists.specs.Marked.{count}
 use Rattle.model.specs.Causes.{Verdict, taken, meshFieldVerdict, cellsOnly}
 use Rattle.model.specs.Answers.{said}
 use Rattle.order.specs.declared.Ranked.{Ranked}
-use Rattle.order.specs.Order.{rankedOf, unranked, comesBefore, inOrder}
+use Rattle.order.specs.Order.{maxRanked, rankedOf, unranked, comesBefore, inOrder}
 use Rattle.board.specs.declared.Entry.{Entry}
 use Rattle.board.specs.declared.BoardAnswer.{BoardAnswer}
 
@@ -27,6 +28,10 @@ unused = record { cell = 0; q = 0; rest = 0 }
 unfoldable pub shown : Ranked → Entry
 shown a = record { cell = a .cell; q = a .q; rest = a .rest }
 
+-- Document 02, S-14: a reader sees some of the cells; the growers' reader sees every one.
+abbrev pub everyCell : ℕ → Bool
+everyCell c = true
+
 module _ (volumes masses : List ℕ) where
   unfoldable pub entryAt : ℕ → Entry
   entryAt c = entryOf c (getD volumes c 0) (getD masses c 0)
@@ -38,23 +43,41 @@ module _ (volumes masses : List ℕ) where
   unfoldable pub before : ℕ → ℕ → Bool
   before a b = comesBefore (rankedAt a) (rankedAt b)
 
-  -- the first eight of all cells, or all of them where there are fewer
-  unfoldable pub listed : ℕ → List ℕ
-  listed cells = take boardSize (inOrder before cells)
+  -- the first eight of the visible cells, or all of them where there are fewer
+  unfoldable pub listedOf : (visible : ℕ → Bool) → ℕ → List ℕ
+  listedOf visible cells = take boardSize (inOrder visible before cells)
 
   -- as the order sees them, written over eight that are not used
-  unfoldable pub rankedCells : ℕ → List Ranked
-  rankedCells cells = over (map rankedAt (listed cells)) (replicate boardSize unranked)
+  unfoldable pub rankedCells : (visible : ℕ → Bool) → ℕ → List Ranked
+  rankedCells visible cells = over (map rankedAt (listedOf visible cells)) (replicate boardSize unranked)
 
   -- their entries, written over eight unused ones
-  unfoldable pub boardEntries : ℕ → List Entry
-  boardEntries cells = over (map entryAt (listed cells)) (replicate boardSize unused)
+  unfoldable pub entriesOf : (visible : ℕ → Bool) → ℕ → List Entry
+  entriesOf visible cells = over (map entryAt (listedOf visible cells)) (replicate boardSize unused)
+
+  -- the growers' board
+  abbrev pub listed : ℕ → List ℕ
+  listed = listedOf everyCell
+
+  abbrev pub boardEntries : ℕ → List Entry
+  boardEntries = entriesOf everyCell
 
   -- causes 1, 2, 3 and 6: the board is lent cells, volumes and masses alone
   abbrev pub boardVerdict : ℕ → Verdict
   boardVerdict cells = meshFieldVerdict (cellsOnly cells volumes) masses
 
--- what the board answers: the verdict, how many entries are used, and the entries; none after a refusal
+-- what ranking cells asks of their tables
+abbrev pub Rankable : (volumes masses : List ℕ) (cells : ℕ) → Type 0
+Rankable volumes masses cells =
+    ((cells ≤ length volumes) × (cells ≤ length masses)) × ((c : ℕ) → c < cells → (1 ≤ getD volumes c 0) × (getD volumes c 0 ≤ maxRanked))
+
+-- what a board answers after a verdict: that, how many entries are used, and the entries; none after a refusal
+pub record BoardAfter (verdict : Verdict) (volumes masses : List ℕ) (visible : ℕ → Bool) (cells : ℕ) (r : BoardAnswer) : Type 0 where
+  pub verdict-is : said (r .verdict) ≡ verdict
+  pub used-is : r .used ≡ taken verdict (min boardSize (count cells visible)) 0
+  pub entries-are : r .entries ≡ taken verdict (entriesOf volumes masses visible cells) (replicate boardSize unused)
+
+-- what the growers' board answers
 pub record BoardIs (cells : ℕ) (volumes masses : List ℕ) (r : BoardAnswer) : Type 0 where
   pub verdict-is : said (r .verdict) ≡ boardVerdict volumes masses cells
   pub used-is : r .used ≡ taken (boardVerdict volumes masses cells) (min boardSize cells) 0

@@ -1,16 +1,21 @@
 // The board of document 01: the eight cells of highest concentration, by value.
 use checks::check_cells;
+use marks::is_open;
 use model::Answer;
 use order::Ranked;
 use order::comes_before;
 use order::ranked_of;
 ghost use mathlib.Core.Path.{_≡_};
-ghost use mathlib.Core.Bool.{_||_};
-ghost use Prim.Native.Nat.{ℕ, _+_, _≤_, _<_, min};
-ghost use lib.ListN.{length, getD, take, replicate};
+ghost use mathlib.Core.Bool.{true, false, _||_};
+ghost use Prim.Native.Nat.{_+_, _≤_, min};
+ghost use lib.ListN.{getD, take, replicate};
 ghost use Rattle.lists.specs.Table.{table, over};
-ghost use Rattle.order.specs.Order.{maxRanked, unranked, comesBefore, insertInOrder};
-ghost use Rattle.board.specs.Board.{boardSize, shown, unused, rankedCells, BoardIs};
+ghost use Rattle.lists.specs.Marked.{count};
+ghost use Rattle.model.specs.Causes.{fine};
+ghost use Rattle.model.specs.Answers.{said};
+ghost use Rattle.order.specs.Order.{unranked, comesBefore, insertInOrder};
+ghost use Rattle.marks.specs.Marks.{isOpen};
+ghost use Rattle.board.specs.Board.{boardSize, shown, unused, rankedCells, Rankable, BoardAfter, BoardIs};
 
 // Most cells that the board lists.
 pub const BOARD_SIZE: usize = 8;
@@ -94,17 +99,30 @@ fn insert(ranking: Ranking, ranked: Ranked) -> Ranking
     }
 }
 
-// The highest of the cells below `cells`, each inserted in turn.
-fn rank(cells: usize, volumes: &[u64], masses: &[u64]) -> Ranking
-    requires { ⌜ (cells ≤ length (now volumes)) × (cells ≤ length (now masses)) ⌝ }
-    requires { ⌜ ((c : ℕ) → c < cells → (1 ≤ getD (now volumes) c 0) × (getD (now volumes) c 0 ≤ maxRanked)) ⌝ }
-    ensures { λ r. ⌜ (r .used ≡ min boardSize cells)
-        × (r .ranks ≡ rankedCells (now (volumes .entry)) (now (masses .entry)) cells) ⌝ }
+// A visible cell inserted among those used; another left out.
+fn insert_if(visible: bool, ranking: Ranking, ranked: Ranked) -> Ranking
+    requires { ⌜ ranking .used ≤ boardSize ⌝ }
+    ensures { λ r. ⌜ (visible ≡ true → (r .used ≡ min boardSize (ranking .used + 1))
+        × (r .ranks ≡ over (take boardSize (insertInOrder comesBefore ranked (take (ranking .used) (ranking .ranks)))) (ranking .ranks)))
+        × (visible ≡ false → (r .used ≡ ranking .used) × (r .ranks ≡ ranking .ranks)) ⌝ }
+{
+    if visible {
+        return insert(ranking, ranked);
+    }
+    ranking
+}
+
+// The highest of the open cells below `cells`, each inserted in turn.
+fn rank(cells: usize, volumes: &[u64], masses: &[u64], marks: &[u64]) -> Ranking
+    requires { ⌜ Rankable (now volumes) (now masses) cells ⌝ }
+    ensures { λ r. ⌜ (r .used ≡ min boardSize (count cells (isOpen (now (marks .entry)))))
+        × (r .ranks ≡ rankedCells (now (volumes .entry)) (now (masses .entry)) (isOpen (now (marks .entry))) cells) ⌝ }
 {
     let mut ranking = empty_ranking();
     let mut c = 0;
     while c < cells {
-        ranking = insert(ranking, ranked_of(c as u64, volumes[c], masses[c]));
+        let ranked = ranked_of(c as u64, volumes[c], masses[c]);
+        ranking = insert_if(is_open(marks, c), ranking, ranked);
         c += 1;
     }
     ranking
@@ -135,11 +153,17 @@ fn entries_of(ranking: Ranking) -> [Entry; BOARD_SIZE]
     entries
 }
 
-// The board of a field: causes 1 (cells), 2 (volumes, masses), 3 and 6, else the highest cells.
-pub fn board(cells: usize, volumes: &[u64], masses: &[u64]) -> BoardAnswer
-    ensures { λ r. ⌜ BoardIs cells (now (volumes .entry)) (now (masses .entry)) r ⌝ }
+// The board of open cells where the field was accepted; none after a refusal.
+pub fn board_after(
+    verdict: Answer,
+    cells: usize,
+    volumes: &[u64],
+    masses: &[u64],
+    marks: &[u64],
+) -> BoardAnswer
+    requires { ⌜ (said verdict ≡ fine → Rankable (now volumes) (now masses) cells) ⌝ }
+    ensures { λ r. ⌜ BoardAfter (said verdict) (now (volumes .entry)) (now (masses .entry)) (isOpen (now (marks .entry))) cells r ⌝ }
 {
-    let verdict = check_cells(cells, volumes, masses);
     if let Answer::Refused(_) = verdict {
         let none = empty_ranking();
         return BoardAnswer {
@@ -148,10 +172,18 @@ pub fn board(cells: usize, volumes: &[u64], masses: &[u64]) -> BoardAnswer
             entries: entries_of(none),
         };
     }
-    let ranking = rank(cells, volumes, masses);
+    let ranking = rank(cells, volumes, masses, marks);
     BoardAnswer {
         verdict: verdict,
         used: ranking.used,
         entries: entries_of(ranking),
     }
+}
+
+// The growers' board of a field, without marks: causes 1 (cells), 2 (volumes, masses), 3 and 6, else the highest cells.
+pub fn board(cells: usize, volumes: &[u64], masses: &[u64]) -> BoardAnswer
+    ensures { λ r. ⌜ BoardIs cells (now (volumes .entry)) (now (masses .entry)) r ⌝ }
+{
+    let verdict = check_cells(cells, volumes, masses);
+    board_after(verdict, cells, volumes, masses, &volumes[..0])
 }

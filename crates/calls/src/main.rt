@@ -76,6 +76,10 @@ const ADD: u64 = 32;
 
 const CHARGE: u64 = 33;
 
+const PUBLIC_PAGE: u64 = 34;
+
+const PUBLIC_BOARD: u64 = 35;
+
 // The first sixteen arguments of a call from the left: 1 a number, 2 a table, 3 a table of signed numbers, 4 bytes, 5 and 6 such tables of a part.
 // No call has the shape 0.
 fn shape(call: u64) -> u64 {
@@ -106,6 +110,8 @@ fn shape(call: u64) -> u64 {
         MIDDLE_STAGE | FACE_SHARE => 0x1111_1111_0000_0000,
         ADD => 0x1232_0000_0000_0000,
         CHARGE => 0x1122_1000_0000_0000,
+        PUBLIC_PAGE => 0x1221_4200_0000_0000,
+        PUBLIC_BOARD => 0x1222_0000_0000_0000,
         _ => 0,
     }
 }
@@ -164,6 +170,8 @@ fn make(call: u64, words: &[u64], ints: &[i64], bytes: &[u8]) {
         FACE_SHARE => point_calls::face_share(words),
         ADD => period_calls::add(words, ints),
         CHARGE => period_calls::charge(words),
+        PUBLIC_PAGE => field_calls::public_page(words),
+        PUBLIC_BOARD => field_calls::public_board(words),
         _ => make_on_records(call, words, ints, bytes),
     }
     show::word(b"\n");

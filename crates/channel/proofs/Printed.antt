@@ -29,7 +29,7 @@ use Rattle.heads.specs.Heads.{kindIn, meshHeadVerdict, fieldHeadVerdict, stepHe
 use Rattle.reading.specs.Reading.{meshBodyVerdict, fieldBodyVerdict, stepBodyVerdict, fieldRead}
 use Rattle.reading.specs.declared.MeshCounts.{MeshCounts}
 use Rattle.order.specs.Order.{rankedOf, fuller, asFull, comesBefore, insertInOrder, inOrder}
-use Rattle.board.specs.Board.{entryOf, entryAt, rankedAt, before, listed}
+use Rattle.board.specs.Board.{entryOf, entryAt, rankedAt, before, listedOf}
 use Rattle.mesh_taking.specs.MeshTaking.{meshRecordFound, meshJudged}
 use Rattle.taking.specs.Taking.{fieldJudged, stepRecordFound, stepJudged, stepIn, ownTables, blank, printedOf, massesAfter}
 use Rattle.step_taken.specs.declared.Printed.{Printed}
@@ -107,7 +107,7 @@ unfolding meshHeadVerdict fieldHeadVerdict stepHeadVerdict meshMeasured meshNeed
 of-reading = tt
 
 of-board : Unit {0}
-unfolding entryOf rankedOf fuller asFull comesBefore insertInOrder inOrder entryAt rankedAt before listed
+unfolding entryOf rankedOf fuller asFull comesBefore insertInOrder inOrder entryAt rankedAt before listedOf
 of-board = tt
 
 of-taking : Unit {0}

@@ -1,4 +1,4 @@
-// The calls on the cells of a field beside its tests: the binder's page, and a store of named fields.
+// The calls on the cells of a field beside its tests: the binder's page, what the public reads, and a store of named fields.
 use arguments::BYTES_ROOM;
 use arguments::ROOM;
 use arguments::parts::bytes;
@@ -19,6 +19,31 @@ pub fn page(words: &[u64]) {
         &mut room[..b],
     ));
     show::octets(b"; bytes", b, &room);
+}
+
+pub fn public_page(words: &[u64]) {
+    let mut room = [0u8; BYTES_ROOM];
+    show::word(b"public_page:");
+    let b = bytes(table(words, 4), &mut room);
+    answers::printed(public_page::public_page(
+        number(words, 0),
+        table(words, 1),
+        table(words, 2),
+        number(words, 3) as u64,
+        &mut room[..b],
+        table(words, 5),
+    ));
+    show::octets(b"; bytes", b, &room);
+}
+
+pub fn public_board(words: &[u64]) {
+    show::word(b"public_board:");
+    answers::board(public_board::public_board(
+        number(words, 0),
+        table(words, 1),
+        table(words, 2),
+        table(words, 3),
+    ));
 }
 
 pub fn keep(words: &[u64]) {

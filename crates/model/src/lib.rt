@@ -61,6 +61,7 @@ pub enum Cause {
     Part,
     Bands,
     Period,
+    Mark,
 }
 
 pub struct Refusal {
@@ -105,6 +106,7 @@ pub fn number(cause: Cause) -> u64
         Cause::Part => 24,
         Cause::Bands => 25,
         Cause::Period => 26,
+        Cause::Mark => 27,
     }
 }
 

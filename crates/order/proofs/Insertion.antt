@@ -7,14 +7,16 @@ use native.Mathlib.Numerals.{add-one}
 use native.Mathlib.Omega.{arith}
 use lib.ListN.{length, getD, take, drop, set, length-append, length-take, length-map, length-set, drop-of-length-le}
 use lib.Seq.{slice, slice-cons, slice-empty, take-nil, take-take, take-suc, take-suc-set, take-set-lt, drop-set-lt, take-all, take-at, take-append-le, append-snoc, set-split, drop-drop, drop-append-add, length-take-le}
+use Rattle.lists.specs.Fold.{sum}
 use Rattle.lists.specs.Table.{over}
+use Rattle.lists.specs.Marked.{count}
 use Rattle.order.specs.Order.{insertInOrder, inOrder}
 
 take-cons : {A : Type 0} (m : ℕ) (y : A) (ys : List A) → take m (y ∷ take m ys) ≡ take m (y ∷ ys)
 take-cons zero y ys = refl
 take-cons (suc m) y ys = ap (λ t. y ∷ t) (take-take m (suc m) ys (omega arith))
 
-take-map : {A B : Type 0} (f : A → B) (m : ℕ) (xs : List A) → take m (map f xs) ≡ map f (take m xs)
+pub take-map : {A B : Type 0} (f : A → B) (m : ℕ) (xs : List A) → take m (map f xs) ≡ map f (take m xs)
 take-map f zero xs = refl
 take-map f (suc m) [] = refl
 take-map f (suc m) (x ∷ xs) = ap (λ t. f x ∷ t) (take-map f m xs)
@@ -145,37 +147,71 @@ over-over xs ys zs l =
     let d : drop (length ys + j) (ys ++ drop (length ys) zs) ≡ drop (length ys + j) zs = drop-append-add ys (drop (length ys) zs) j ∙ drop-drop j (length ys) zs in
     ap (λ s. xs ++ s) (rw q at d)
 
-pub length-inOrder : (order : ℕ → ℕ → Bool) (n : ℕ) → length (inOrder order n) ≡ n
-unfolding inOrder
-length-inOrder order zero = refl
-length-inOrder order (suc n) = length-insert order n (inOrder order n) ∙ ap suc (length-inOrder order n)
+pub length-inOrder : (visible : ℕ → Bool) (order : ℕ → ℕ → Bool) (n : ℕ) → length (inOrder visible order n) ≡ count n visible
+unfolding inOrder count sum
+length-inOrder visible order zero = refl
+length-inOrder visible order (suc n) = go (visible n) (length-inOrder visible order n)
+  where
+    go : (b : Bool) → length (inOrder visible order n) ≡ count n visible
+        → length (cond b (insertInOrder order n (inOrder visible order n)) (inOrder visible order n)) ≡ count n visible + cond b 1 0
+    go true ih = omega (arith, length-insert order n (inOrder visible order n), ih)
+    go false ih = omega (arith, ih)
 
--- The first m of the cells in an order, by what f says of each, written over zs: none yet, and a cell more.
-module _ {A : Type 0} (order : A → A → Bool) (f : ℕ → A) (m : ℕ) where
-  leading : ℕ → List A
-  leading n = map f (take m (inOrder (λ a b. order (f a) (f b)) n))
+pub count-more : (visible : ℕ → Bool) (n : ℕ) → count (n + 1) visible ≡ count n visible + cond (visible n) 1 0
+unfolding count sum
+count-more visible n = rw (add-one n)
 
-  length-leading : (n : ℕ) → length (leading n) ≡ min m n
-  unfolding leading
-  length-leading n =
-      let l : List ℕ = inOrder (λ a b. order (f a) (f b)) n in
-      length-map (take m l) f ∙ length-take m l ∙ ap (min m) (length-inOrder (λ a b. order (f a) (f b)) n)
+-- The first m of the visible cells in an order, by what f says of each, written over zs: none yet, and a cell more.
+module _ {A : Type 0} (order : A → A → Bool) (f : ℕ → A) (visible : ℕ → Bool) where
+  abbrev by : ℕ → ℕ → Bool
+  by a b = order (f a) (f b)
 
-  leading-more : (n : ℕ) → take m (insertInOrder order (f n) (leading n)) ≡ leading (n + 1)
-  unfolding leading inOrder
-  leading-more n =
-      let o : ℕ → ℕ → Bool = λ a b. order (f a) (f b) in
-      ap (take m) (sym (map-insert order f n (take m (inOrder o n)))) ∙ take-map f m (insertInOrder o n (take m (inOrder o n)))
-      ∙ ap (map f) (take-insert o m n (inOrder o n)) ∙ ap (λ (k : ℕ). map f (take m (inOrder o k))) (sym (add-one n))
+  module _ (m : ℕ) where
+    leading : ℕ → List A
+    leading n = map f (take m (inOrder visible by n))
 
-  pub cells-none : (zs : List A) → zs ≡ over (map f (take m (inOrder (λ a b. order (f a) (f b)) 0))) zs
-  unfolding over inOrder
-  cells-none zs = rw (take-nil {A = ℕ} m)
+    length-leading : (n : ℕ) → length (leading n) ≡ min m (count n visible)
+    unfolding leading
+    length-leading n = let l : List ℕ = inOrder visible by n in length-map (take m l) f ∙ length-take m l ∙ ap (min m) (length-inOrder visible by n)
 
-  pub cells-more : (n : ℕ) (zs es es′ : List A) {u : ℕ} → u ≡ min m n → es ≡ over (map f (take m (inOrder (λ a b. order (f a) (f b)) n))) zs
-      → es′ ≡ over (take m (insertInOrder order (f n) (take u es))) es → es′ ≡ over (map f (take m (inOrder (λ a b. order (f a) (f b)) (n + 1)))) zs
-  unfolding over leading
-  cells-more n zs es es′ {u} q e e′ =
-      let w : take u es ≡ leading n = rw e (take-at (leading n) (drop (length (leading n)) zs) u (length-leading n ∙ sym q)) in
-      let l : length (leading n) ≤ length (leading (n + 1)) = omega (arith, length-leading n, length-leading (n + 1)) in
-      e′ ∙ ap (λ s. over (take m (insertInOrder order (f n) s)) es) w ∙ ap (λ s. over s es) (leading-more n) ∙ ap (over (leading (n + 1))) e ∙ over-over (leading (n + 1)) (leading n) zs l
+    leading-more : (n : ℕ) → visible n ≡ true → take m (insertInOrder order (f n) (leading n)) ≡ leading (n + 1)
+    unfolding leading inOrder
+    leading-more n v =
+        ap (take m) (sym (map-insert order f n (take m (inOrder visible by n)))) ∙ take-map f m (insertInOrder by n (take m (inOrder visible by n)))
+        ∙ ap (map f) (take-insert by m n (inOrder visible by n)) ∙ rw (add-one n, v)
+
+    pub cells-none : (zs : List A) → zs ≡ over (map f (take m (inOrder visible (λ a b. order (f a) (f b)) 0))) zs
+    unfolding over inOrder
+    cells-none zs = rw (take-nil {A = ℕ} m)
+
+    pub cells-more : (n : ℕ) (zs es es′ : List A) {u : ℕ} → visible n ≡ true → u ≡ min m (count n visible)
+        → es ≡ over (map f (take m (inOrder visible (λ a b. order (f a) (f b)) n))) zs
+        → es′ ≡ over (take m (insertInOrder order (f n) (take u es))) es → es′ ≡ over (map f (take m (inOrder visible (λ a b. order (f a) (f b)) (n + 1)))) zs
+    unfolding over leading
+    cells-more n zs es es′ {u} v q e e′ =
+        let w : take u es ≡ leading n = rw e (take-at (leading n) (drop (length (leading n)) zs) u (length-leading n ∙ sym q)) in
+        let c : count (n + 1) visible ≡ count n visible + 1 = rw v at (count-more visible n) in
+        let l : length (leading n) ≤ length (leading (n + 1)) = omega (arith, length-leading n, length-leading (n + 1), c) in
+        e′ ∙ ap (λ s. over (take m (insertInOrder order (f n) s)) es) w ∙ ap (λ s. over s es) (leading-more n v) ∙ ap (over (leading (n + 1))) e
+        ∙ over-over (leading (n + 1)) (leading n) zs l
+
+    pub cells-passed : (n : ℕ) (zs es : List A) → visible n ≡ false → es ≡ over (map f (take m (inOrder visible (λ a b. order (f a) (f b)) n))) zs
+        → es ≡ over (map f (take m (inOrder visible (λ a b. order (f a) (f b)) (n + 1)))) zs
+    unfolding inOrder
+    cells-passed n zs es v e = rw (add-one n, v) e
+
+  -- another that says the same of each visible cell ranks them alike
+  pub ranked-alike : (g : ℕ → A) (n : ℕ) → ((c : ℕ) → c < n → visible c ≡ true → f c ≡ g c)
+      → map f (inOrder visible (λ a b. order (f a) (f b)) n) ≡ map g (inOrder visible (λ a b. order (g a) (g b)) n)
+  unfolding inOrder
+  ranked-alike g zero h = refl
+  ranked-alike g (suc n) h = go (visible n) refl (ranked-alike g n (λ c l. h c (omega arith)))
+    where
+      of-g : ℕ → ℕ → Bool
+      of-g a b = order (g a) (g b)
+
+      go : (b : Bool) → visible n ≡ b → map f (inOrder visible by n) ≡ map g (inOrder visible of-g n)
+          → map f (cond b (insertInOrder by n (inOrder visible by n)) (inOrder visible by n)) ≡ map g (cond b (insertInOrder of-g n (inOrder visible of-g n)) (inOrder visible of-g n))
+      go true v ih =
+          map-insert order f n (inOrder visible by n) ∙ rw (ih, h n (omega arith) v) refl ∙ sym (map-insert order g n (inOrder visible of-g n))
+      go false v ih = ih

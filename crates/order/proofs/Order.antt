@@ -8,6 +8,7 @@ use native.Mathlib.Nat.{not-suc-le-zero, le-of-suc-le-suc, eq-or-lt-of-le}
 use native.Mathlib.Omega.{arith}
 use lib.Dec.{eqb, leb}
 use lib.ListN.{length, getD, take, drop, length-take, take-append-drop}
+use Rattle.lists.specs.Marked.{count}
 use Rattle.lists.proofs.Tests.{Same, same, other, same?, Fits, fits, exceeds, fits?}
 use Rattle.order.specs.Order.{comesBefore, insertInOrder, inOrder}
 use Rattle.order.specs.declared.Ranked.{Ranked}
@@ -63,20 +64,32 @@ module _ (order : ℕ → ℕ → Bool) where
       go false ih (inl e) = List·Memᴰ·tail (ih (inl e))
       go false ih (inr t) = ⊎-elim (λ e. List·Memᴰ·head e) (λ s. List·Memᴰ·tail (ih (inr s))) (List·Memᴰ·cases-cons t)
 
-  -- the cells in order are those below n
-  inOrder-below : (n : ℕ) {c : ℕ} → List·Memᴰ c (inOrder order n) → c < n
-  unfolding inOrder
-  inOrder-below zero h = absurd (List·Memᴰ·not-nil h)
-  inOrder-below (suc n) h = ⊎-elim (λ e. omega arith) (λ t. omega (arith, inOrder-below n t)) (mem-insert n (inOrder order n) h)
+  -- the cells in order are the visible ones below n
+  module _ (visible : ℕ → Bool) where
+    inOrder-below : (n : ℕ) {c : ℕ} → List·Memᴰ c (inOrder visible order n) → (c < n) × (visible c ≡ true)
+    unfolding inOrder
+    inOrder-below zero h = absurd (List·Memᴰ·not-nil h)
+    inOrder-below (suc n) {c} h = go (visible n) refl (inOrder-below n) h
+      where
+        earlier : (c < n) × (visible c ≡ true) → (c < suc n) × (visible c ≡ true)
+        earlier p = (omega (arith, p .0), p .1)
 
-  inOrder-all : (n : ℕ) {c : ℕ} → c < n → List·Memᴰ c (inOrder order n)
-  unfolding inOrder
-  inOrder-all zero h = absurd (not-suc-le-zero h)
-  inOrder-all (suc n) {c} h = insert-mem n (inOrder order n) (go (eqb c n) (same? c n) (inOrder-all n))
-    where
-      go : (b : Bool) → Same c n b → (c < n → List·Memᴰ c (inOrder order n)) → (c ≡ n) ⊎ List·Memᴰ c (inOrder order n)
-      go true (same e) ih = inl e
-      go false (other d) ih = inr (ih (omega arith))
+        go : (b : Bool) → visible n ≡ b → (List·Memᴰ c (inOrder visible order n) → (c < n) × (visible c ≡ true))
+            → List·Memᴰ c (cond b (insertInOrder order n (inOrder visible order n)) (inOrder visible order n)) → (c < suc n) × (visible c ≡ true)
+        go true v ih t = ⊎-elim (λ (e : c ≡ n). (omega arith, rw e v)) (λ s. earlier (ih s)) (mem-insert n (inOrder visible order n) t)
+        go false v ih t = earlier (ih t)
+
+    inOrder-all : (n : ℕ) {c : ℕ} → c < n → visible c ≡ true → List·Memᴰ c (inOrder visible order n)
+    unfolding inOrder
+    inOrder-all zero h v = absurd (not-suc-le-zero h)
+    inOrder-all (suc n) {c} h v = go (visible n) refl (eqb c n) (same? c n) (λ l. inOrder-all n l v)
+      where
+        go : (b : Bool) → visible n ≡ b → (t : Bool) → Same c n t → (c < n → List·Memᴰ c (inOrder visible order n))
+            → List·Memᴰ c (cond b (insertInOrder order n (inOrder visible order n)) (inOrder visible order n))
+        go true w true (same e) ih = insert-mem n (inOrder visible order n) (inl e)
+        go true w false (other d) ih = insert-mem n (inOrder visible order n) (inr (ih (omega arith)))
+        go false w true (same e) ih = absurd (true≢false (sym v ∙ ap visible e ∙ w))
+        go false w false (other d) ih = ih (omega arith)
 
   before-cell : {a b c : ℕ} → c ≡ b → order a b ≡ true → order a c ≡ true
   before-cell e h = rw e h
@@ -103,13 +116,13 @@ module _ (order : ℕ → ℕ → Bool) where
   sorted-split (suc m) [] s h k = absurd (List·Memᴰ·not-nil h)
   sorted-split (suc m) (x ∷ l) s {a} {c} h k = ⊎-elim (λ (e : a ≡ x). rw e (s .0 c (drop-mem m l k))) (λ t. sorted-split m l (s .1) t k) (List·Memᴰ·cases-cons h)
 
-  -- The first m of the cells below n, or all of them where there are fewer.
-  module _ (m n : ℕ) where
-    pub first-count : length (take m (inOrder order n)) ≡ min m n
-    first-count = length-take m _ ∙ ap (min m) (length-inOrder order n)
+  -- The first m of the visible cells below n, or all of them where there are fewer.
+  module _ (visible : ℕ → Bool) (m n : ℕ) where
+    pub first-count : length (take m (inOrder visible order n)) ≡ min m (count n visible)
+    first-count = length-take m _ ∙ ap (min m) (length-inOrder visible order n)
 
-    pub first-below : {c : ℕ} → List·Memᴰ c (take m (inOrder order n)) → c < n
-    first-below h = inOrder-below n (take-mem m (inOrder order n) h)
+    pub first-below : {c : ℕ} → List·Memᴰ c (take m (inOrder visible order n)) → (c < n) × (visible c ≡ true)
+    first-below h = inOrder-below visible n (take-mem m (inOrder visible order n) h)
 
   module _ (n : ℕ) (strict : Strict n order) where
     sorted-insert : (c : ℕ) (l : List ℕ) → c < n → ((d : ℕ) → List·Memᴰ d l → d < n) → ((d : ℕ) → List·Memᴰ d l → c ≢ d) → Sorted l → Sorted (insertInOrder order c l)
@@ -127,31 +140,39 @@ module _ (order : ℕ → ℕ → Bool) where
             let r : order x c ≡ true = strict .total c x k (m x (List·Memᴰ·head refl)) (n x (List·Memᴰ·head refl)) e in
             ((λ d h. ⊎-elim (λ q. before-cell q r) (λ t. s .0 d t) (mem-insert c l h)), ih)
 
-    sorted-below : (k : ℕ) → k ≤ n → Sorted (inOrder order k)
-    unfolding inOrder
-    sorted-below zero h = tt
-    sorted-below (suc k) h =
-        sorted-insert k (inOrder order k) h (λ d t. omega (arith, inOrder-below k t)) (λ d t e. omega (arith, inOrder-below k t)) (sorted-below k (omega arith))
+    module _ (visible : ℕ → Bool) where
+      sorted-below : (k : ℕ) → k ≤ n → Sorted (inOrder visible order k)
+      unfolding inOrder
+      sorted-below zero h = tt
+      sorted-below (suc k) h = go (visible k) (sorted-below k (omega arith))
+        where
+          go : (b : Bool) → Sorted (inOrder visible order k) → Sorted (cond b (insertInOrder order k (inOrder visible order k)) (inOrder visible order k))
+          go true ih =
+              sorted-insert k (inOrder visible order k) h (λ d t. omega (arith, inOrder-below visible k t .0)) (λ d t e. omega (arith, inOrder-below visible k t .0)) ih
+          go false ih = ih
 
-    inOrder-sorted : Sorted (inOrder order n)
-    inOrder-sorted = sorted-below n (omega arith)
+      inOrder-sorted : Sorted (inOrder visible order n)
+      inOrder-sorted = sorted-below n (omega arith)
 
-    -- how the first m of them stand
-    module _ (m : ℕ) where
-      pub first-ordered : (i j : ℕ) → i < j → j < length (take m (inOrder order n)) → order (getD (take m (inOrder order n)) i 0) (getD (take m (inOrder order n)) j 0) ≡ true
-      first-ordered = sorted-places (take m (inOrder order n)) (sorted-take m (inOrder order n) inOrder-sorted)
+      -- how the first m of them stand
+      module _ (m : ℕ) where
+        pub first-ordered : (i j : ℕ) → i < j → j < length (take m (inOrder visible order n))
+            → order (getD (take m (inOrder visible order n)) i 0) (getD (take m (inOrder visible order n)) j 0) ≡ true
+        first-ordered = sorted-places (take m (inOrder visible order n)) (sorted-take m (inOrder visible order n) inOrder-sorted)
 
-      pub first-distinct : (i j : ℕ) → i < j → j < length (take m (inOrder order n)) → getD (take m (inOrder order n)) i 0 ≢ getD (take m (inOrder order n)) j 0
-      first-distinct i j h k e =
-          let a = getD (take m (inOrder order n)) i 0 in
-          let l : a < n = first-below m n (getD-mem (take m (inOrder order n)) i (omega arith)) in
-          true≢false (sym (before-cell e (first-ordered i j h k)) ∙ strict .irreflexive a l)
+        pub first-distinct : (i j : ℕ) → i < j → j < length (take m (inOrder visible order n))
+            → getD (take m (inOrder visible order n)) i 0 ≢ getD (take m (inOrder visible order n)) j 0
+        first-distinct i j h k e =
+            let a = getD (take m (inOrder visible order n)) i 0 in
+            let l : a < n = first-below visible m n (getD-mem (take m (inOrder visible order n)) i (omega arith)) .0 in
+            true≢false (sym (before-cell e (first-ordered i j h k)) ∙ strict .irreflexive a l)
 
-      -- a cell that is left out comes after each of the first
-      pub left-out-after : {c d : ℕ} → c < n → (List·Memᴰ c (take m (inOrder order n)) → ⊥) → List·Memᴰ d (take m (inOrder order n)) → order d c ≡ true
-      left-out-after {c} h out k =
-          let all : List·Memᴰ c (take m (inOrder order n) ++ drop m (inOrder order n)) = rw (take-append-drop m (inOrder order n)) (inOrder-all n h) in
-          ⊎-elim (λ t. absurd (out t)) (λ t. sorted-split m (inOrder order n) inOrder-sorted k t) (List·Memᴰ·append-cases (take m (inOrder order n)) all)
+        -- a visible cell that is left out comes after each of the first
+        pub left-out-after : {c d : ℕ} → c < n → visible c ≡ true → (List·Memᴰ c (take m (inOrder visible order n)) → ⊥)
+            → List·Memᴰ d (take m (inOrder visible order n)) → order d c ≡ true
+        left-out-after {c} h v out k =
+            let all : List·Memᴰ c (take m (inOrder visible order n) ++ drop m (inOrder visible order n)) = rw (take-append-drop m (inOrder visible order n)) (inOrder-all visible n h v) in
+            ⊎-elim (λ t. absurd (out t)) (λ t. sorted-split m (inOrder visible order n) inOrder-sorted k t) (List·Memᴰ·append-cases (take m (inOrder visible order n)) all)
 
 not-first : (a b : Ranked) → (First a b → ⊥) → comesBefore a b ≡ false
 not-first a b n = go (comesBefore a b) refl

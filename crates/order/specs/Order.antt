@@ -32,7 +32,7 @@ unfoldable pub insertInOrder : {A : Type 0} → (A → A → Bool) → A → Lis
 insertInOrder order x [] = x ∷ []
 insertInOrder order x (y ∷ ys) = cond (order x y) (x ∷ y ∷ ys) (y ∷ insertInOrder order x ys)
 
--- the cells below n in an order: each inserted among those below it
-unfoldable pub inOrder : (ℕ → ℕ → Bool) → ℕ → List ℕ
-inOrder order zero = []
-inOrder order (suc n) = insertInOrder order n (inOrder order n)
+-- the cells below n that are visible, in an order: each inserted among those below it
+unfoldable pub inOrder : (visible : ℕ → Bool) → (ℕ → ℕ → Bool) → ℕ → List ℕ
+inOrder visible order zero = []
+inOrder visible order (suc n) = cond (visible n) (insertInOrder order n (inOrder visible order n)) (inOrder visible order n)

@@ -1,8 +1,9 @@
 -- The cells of a page, what an accepted call has passed, and that every figure then fits its columns.
 use Prim.Native.Nat.{ℕ, suc, _+_, _-_, _*_, _^_, _≤_, _<_, min}
-use mathlib.Core.Path.{_≡_, ap, _∙_}
-use mathlib.Core.List.{List, [], _∷_}
+use mathlib.Core.Path.{_≡_, refl, ap, _∙_}
+use mathlib.Core.List.{List, [], _∷_, append-nil}
 use native.Mathlib.Nat.{le-div-iff-mul-le, lt-div-mul-add, suc-mul, mul-le-mul, mul-le-mul-right, le-trans}
+use native.Mathlib.Numerals.{add-one}
 use native.Mathlib.Omega.{arith}
 use borrow.Author.Tests.{ltb-true, lt-ltb, le-ltb}
 use lib.Dec.{leb, ltb}
@@ -20,9 +21,11 @@ use Rattle.model.proofs.Verdicts.{refused-at, both-fine, need-fine, long-fine, 
 use Rattle.model.proofs.Accepted.{field-passed, FieldPassed, few, salt-asks, field-fit, mass-small}
 use Rattle.checks.proofs.Laws.{sum-asks}
 use Rattle.text.specs.Digits.{mostDigits}
-use Rattle.page.specs.Page.{narrowPlaces, widePlaces, largest, restOf, restPlaces, massPlaces, lineBytes, pageCells, pages, cellsOn, pageBytes, qOf, pageMass}
+use Rattle.text.specs.Lines.{Puts, pieces}
+use Rattle.text.proofs.Lines.{same-length, puts-more}
+use Rattle.page.specs.Page.{narrowPlaces, widePlaces, largest, restOf, restPlaces, massPlaces, lineBytes, pageCells, pages, cellsOn, pageBytes, qOf, lineOf, lineIf, pageMass}
 use Rattle.page.specs.Fitting.{Fitting}
-use Rattle.page.specs.Answers.{pageVerdict}
+use Rattle.page.specs.Answers.{verdictWith}
 
 -- THE PAGES. One that is not beyond the last has a first cell; all of them have every cell.
 pub page-begins : (cells page : ℕ) → page < pages cells → page * pageCells < cells
@@ -90,6 +93,22 @@ module _ (volumes masses : List ℕ) (cells page : ℕ) {count : ℕ} (e : count
   pub part-gives : sum count (massIn (take (length masses - page * pageCells) (drop (page * pageCells) masses))) ≡ pageMass volumes masses cells page
   part-gives = rw (part-is masses (page * pageCells), e) (mass-from volumes masses cells page)
 
+-- THE LINES of visible cells: one cell more
+module _ (lent₀ : List ℕ) (volumes masses : List ℕ) (visible : ℕ → Bool) (places first : ℕ) where
+  pub line-more : (i : ℕ) {at r : ℕ} {lent lent′ : List ℕ} (b : Bool) → b ≡ visible (first + i) → length lent ≡ length lent₀
+      → Puts lent₀ 0 (pieces i (λ j. lineIf volumes masses visible places (first + j))) at lent
+      → (b ≡ true → Puts lent at (lineOf volumes masses places (first + i)) r lent′) × (b ≡ false → (r ≡ at) × (lent′ ≡ lent))
+      → (length lent′ ≡ length lent₀) × Puts lent₀ 0 (pieces (i + 1) (λ j. lineIf volumes masses visible places (first + j))) r lent′
+  unfolding lineIf pieces
+  line-more i {at} {r} {lent} {lent′} true o l p k =
+      let q : Puts lent at (lineIf volumes masses visible places (first + i)) r lent′ = rw (← o) (k .0 refl) in
+      (same-length lent (k .0 refl) ∙ l, puts-more lent₀ (λ j. lineIf volumes masses visible places (first + j)) i p q)
+  line-more i {at} {r} {lent} {lent′} false o l p k =
+      let s = k .1 refl in (
+        ap length (s .1) ∙ l,
+        rw (add-one i, ← o, append-nil (pieces i (λ j. lineIf volumes masses visible places (first + j))), s .0, s .1) p,
+      )
+
 -- WHAT AN ACCEPTED CALL HAS PASSED: the causes of a field, with those of the bytes among them
 all-in-turn : (a b c d e : Verdict) → (a andThen b andThen c) ≡ fine → d ≡ fine → e ≡ fine → inTurn (a ∷ b ∷ c ∷ d ∷ e ∷ []) ≡ fine
 all-in-turn a b c d e p q r = past e (past d p ∙ q) ∙ r
@@ -99,35 +118,37 @@ pub record PagePassed (volumes masses : List ℕ) (cells page room : ℕ) : Type
   pub room-enough : pageBytes (restPlaces cells volumes) cells page ≤ room
   pub there : page < pages cells
 
-in-order : (l s m f n : Verdict) → l ≡ fine → (l andThen s andThen m andThen f andThen n) ≡ (s andThen (l andThen m andThen f) andThen n)
-in-order l s m f n e = rw (past s e, past m e) (ap (λ (v : Verdict). v andThen n) (andThen-assoc s m f))
+in-order : (l s k m f n : Verdict) → l ≡ fine → (l andThen s andThen k andThen m andThen f andThen n) ≡ (s andThen k andThen (l andThen m andThen f) andThen n)
+in-order l s k m f n e = rw (past s e, past m e) (ap (λ (v : Verdict). v andThen n) (andThen-assoc (s andThen k) m f))
 
-module _ (volumes masses : List ℕ) (cells : ℕ) where
-  -- the tests as the call makes them: first what is lent, then the bytes, then all of the field
-  pub judged-out : (page room : ℕ) {k i : ℕ} → (counts (cellsOnly cells volumes) andThen meshTables (cellsOnly cells volumes) andThen fieldTable (cellsOnly cells volumes) masses) ≡ refused k i
-      → pageVerdict volumes masses cells page room ≡ refused k i
-  unfolding pageVerdict
-  judged-out page room e = refused-at [] (_ ∷ _ ∷ _ ∷ _ ∷ []) tt e
+module _ (further : Verdict) (volumes masses : List ℕ) (cells page room : ℕ) where
+  -- the tests as the call makes them: first what is lent, then the bytes and a further table, then all of the field
+  pub judged-out : {k i : ℕ} → (counts (cellsOnly cells volumes) andThen meshTables (cellsOnly cells volumes) andThen fieldTable (cellsOnly cells volumes) masses) ≡ refused k i
+      → verdictWith further volumes masses cells page room ≡ refused k i
+  unfolding verdictWith
+  judged-out e = refused-at [] (_ ∷ _ ∷ _ ∷ _ ∷ _ ∷ []) tt e
 
-  pub judged-on : (page room : ℕ) → (counts (cellsOnly cells volumes) andThen meshTables (cellsOnly cells volumes) andThen fieldTable (cellsOnly cells volumes) masses) ≡ fine
-      → pageVerdict volumes masses cells page room
-      ≡ (long 12 (pageBytes (restPlaces cells volumes) cells page) room andThen meshFieldVerdict (cellsOnly cells volumes) masses andThen need 14 page (ltb page (pages cells)))
-  unfolding pageVerdict meshFieldVerdict
-  judged-on page room e = in-order _ _ _ _ _ e
+  pub judged-on : (counts (cellsOnly cells volumes) andThen meshTables (cellsOnly cells volumes) andThen fieldTable (cellsOnly cells volumes) masses) ≡ fine
+      → verdictWith further volumes masses cells page room
+      ≡ (long 12 (pageBytes (restPlaces cells volumes) cells page) room andThen further andThen meshFieldVerdict (cellsOnly cells volumes) masses
+      andThen need 14 page (ltb page (pages cells)))
+  unfolding verdictWith meshFieldVerdict
+  judged-on e = in-order _ _ _ _ _ _ e
 
-  pub page-passed : (page room : ℕ) → pageVerdict volumes masses cells page room ≡ fine → PagePassed volumes masses cells page room
-  unfolding pageVerdict meshFieldVerdict
-  page-passed page room e =
+  pub page-passed : verdictWith further volumes masses cells page room ≡ fine → PagePassed volumes masses cells page room
+  unfolding verdictWith meshFieldVerdict
+  page-passed e =
       let p = both-fine _ _ e in
       let q = both-fine _ _ (p .0) in
       let v = both-fine _ _ (q .0) in
-      let b = both-fine _ _ (v .0) in
+      let b = both-fine _ _ (both-fine _ _ (v .0) .0) in
       record {
         field-fine = all-in-turn _ _ _ _ _ (b .0) (v .1) (q .1);
         room-enough = long-fine _ _ _ (b .1);
         there = ltb-true page (pages cells) (need-fine 14 page (ltb page (pages cells)) (p .1));
       }
 
+module _ (volumes masses : List ℕ) (cells : ℕ) where
   -- EVERY FIGURE FITS, of a field that is accepted
   module _ (e : meshFieldVerdict (cellsOnly cells volumes) masses ≡ fine) where
     passed : FieldPassed (cellsOnly cells volumes) masses

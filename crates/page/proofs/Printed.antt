@@ -65,7 +65,7 @@ whole-mass m v = omega (arith, div-mul-le-self m v)
 
 -- ONE PAGE, of a field whose figures fit
 module _ (places : ℕ) (volumes masses : List ℕ) (cells : ℕ) (f : Fitting places volumes masses cells) (page : ℕ) where
-  each-length : (i : ℕ) → i < cellsOn cells page → length (lineOf volumes masses places (page * pageCells + i)) ≡ lineBytes places
+  pub each-length : (i : ℕ) → i < cellsOn cells page → length (lineOf volumes masses places (page * pageCells + i)) ≡ lineBytes places
   unfolding lineOf
   each-length i h =
       let l = cell-there cells page i h in
@@ -132,7 +132,7 @@ module _ (volumes masses : List ℕ) (cells page : ℕ) (bytes : List ℕ) where
       → Puts bytes 0 (pageText volumes masses (restPlaces cells volumes) cells page) n bytes′ → PageIs volumes masses cells page bytes (Printed n) bytes′
   unfolding _andThen_
   page-accepted {n} {bytes′} e put =
-      let passed = page-passed volumes masses cells page (length bytes) e in
+      let passed = page-passed fine volumes masses cells page (length bytes) e in
       let long = page-length (restPlaces cells volumes) volumes masses cells (figures-fit volumes masses cells (passed .field-fine)) page ∙ sym (bytes-needed (restPlaces cells volumes) cells page (passed .there)) in
       let all = puts-all bytes put (omega (arith, passed .room-enough)) in
       record { answer = rw e (ap accepted (all .0 ∙ long)); bytes-after = rw e (all .1) }
@@ -143,7 +143,7 @@ module _ {volumes masses : List ℕ} {cells page : ℕ} {bytes bytes′ : List �
   told = accepted-of (pageVerdict volumes masses cells page (length bytes)) (pageBytes (restPlaces cells volumes) cells page) n (p .answer)
 
   passed : PagePassed volumes masses cells page (length bytes)
-  passed = page-passed volumes masses cells page (length bytes) (told .0)
+  passed = page-passed fine volumes masses cells page (length bytes) (told .0)
 
   fitting : Fitting (restPlaces cells volumes) volumes masses cells
   fitting = figures-fit volumes masses cells (passed .field-fine)

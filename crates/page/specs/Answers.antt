@@ -6,23 +6,28 @@ use lib.Dec.{ltb}
 use lib.ListN.{length}
 use Rattle.lists.specs.Table.{over}
 use Rattle.model.specs.Mesh.{ceiling}
-use Rattle.model.specs.Causes.{Outcome, accepted, Verdict, _andThen_, taken, long, need, cellsOnly, counts, meshTables, fieldTable, meshValues, fieldValues}
+use Rattle.model.specs.Causes.{Outcome, accepted, Verdict, fine, _andThen_, taken, long, need, cellsOnly, counts, meshTables, fieldTable, meshValues, fieldValues}
 use Rattle.model.specs.Answers.{told}
 use Rattle.page.specs.Page.{restPlaces, pages, pageBytes, pageText}
 use Rattle.page.specs.declared.PageAnswer.{PageAnswer}
 use Rattle.page.specs.declared.PageAnswer.the-variants.{Printed, Refused}
 
 -- The page's bytes are the table at position 12; 14, a page beyond the last, comes after 6 with the page as its place. The call is lent
--- no faces, so 4 and 5 find nothing.
-unfoldable pub pageVerdict : (volumes masses : List ℕ) (cells page room : ℕ) → Verdict
-pageVerdict volumes masses cells page room =
+-- no faces, so 4 and 5 find nothing. A further table that is lent after the bytes, S-14's marks, is judged between 2 and 3.
+unfoldable pub verdictWith : (further : Verdict) (volumes masses : List ℕ) (cells page room : ℕ) → Verdict
+verdictWith further volumes masses cells page room =
     counts (cellsOnly cells volumes)
     andThen meshTables (cellsOnly cells volumes)
     andThen fieldTable (cellsOnly cells volumes) masses
     andThen long 12 (pageBytes (restPlaces cells volumes) cells page) room
+    andThen further
     andThen meshValues ceiling (cellsOnly cells volumes)
     andThen fieldValues (cellsOnly cells volumes) masses
     andThen need 14 page (ltb page (pages cells))
+
+-- The growers' page is lent no further table.
+abbrev pub pageVerdict : (volumes masses : List ℕ) (cells page room : ℕ) → Verdict
+pageVerdict = verdictWith fine
 
 -- Document 01, "What form each place needs", on answers that are enums.
 abbrev pub pageSaid : PageAnswer → Outcome ℕ

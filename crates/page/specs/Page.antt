@@ -1,7 +1,7 @@
 -- Document 02, S-1: what a printed page holds. The definitions take the places of the rest, since S-10 makes the lines of larger cells wider.
 use Prim.Native.Nat.{ℕ, _+_, _-_, _*_, _/_, min}
-use mathlib.Core.Bool.{cond}
-use mathlib.Core.List.{List, _++_}
+use mathlib.Core.Bool.{Bool, cond}
+use mathlib.Core.List.{List, [], _++_}
 use lib.Dec.{leb, ltb}
 use lib.ListN.{getD}
 use Rattle.lists.specs.Fold.{sum, greatest}
@@ -66,6 +66,10 @@ module _ (volumes masses : List ℕ) where
 
   unfoldable pub lineOf : ℕ → ℕ → List ℕ
   lineOf places c = cellLine places c (qOf c) (restOf c)
+
+  -- Document 02, S-14: of a cell that the reader may not see there is no line, not even a blank one
+  unfoldable pub lineIf : (visible : ℕ → Bool) → ℕ → ℕ → List ℕ
+  lineIf visible places c = cond (visible c) (lineOf places c) []
 
   -- the mass of a page's cells
   unfoldable pub pageMass : ℕ → ℕ → ℕ

@@ -2,6 +2,7 @@
 use bits::least;
 use checks::check_cells;
 use checks::field::sum_of;
+use marks::is_open;
 use model::Answer;
 use model::Cause;
 use model::Refusal;
@@ -12,6 +13,7 @@ use text::NEWLINE;
 use text::SPACE;
 use text::column;
 ghost use mathlib.Core.Path.{_≡_};
+ghost use mathlib.Core.Bool.{true, false};
 ghost use Prim.Native.Nat.{ℕ, _+_, _*_, _≤_, _<_, _/_, _-_, _^_, max};
 ghost use lib.ListN.{length, getD};
 ghost use Rattle.lists.specs.Fold.{sum};
@@ -20,8 +22,9 @@ ghost use Rattle.model.specs.Answers.{said};
 ghost use Rattle.model.specs.Calls.{massIn};
 ghost use Rattle.text.specs.Digits.{mostDigits};
 ghost use Rattle.text.specs.Lines.{Puts, pieces};
-ghost use Rattle.page.specs.Page.{pageCells, largest as largestOf, restPlaces, massPlaces, cellLine, lineOf, pageText, pages as pagesOf, cellsOn, pageBytes};
-ghost use Rattle.page.specs.Answers.{pageVerdict, PageIs};
+ghost use Rattle.marks.specs.Marks.{isOpen};
+ghost use Rattle.page.specs.Page.{pageCells, largest as largestOf, restPlaces, massPlaces, cellLine, lineIf, pageText, pages as pagesOf, cellsOn, pageBytes};
+ghost use Rattle.page.specs.Answers.{verdictWith, PageIs};
 
 // Cells of a full page.
 pub const PAGE_CELLS: usize = 60;
@@ -66,7 +69,7 @@ fn largest(cells: usize, volumes: &[u64]) -> u64
 }
 
 // Places of the rest, by the largest volume: cause 3 has not judged it yet.
-fn rest_places(cells: usize, volumes: &[u64]) -> usize
+pub fn rest_places(cells: usize, volumes: &[u64]) -> usize
     requires { ⌜ cells ≤ length (now volumes) ⌝ }
     ensures { λ r. ⌜ (r ≡ restPlaces cells (now (volumes .entry))) × (massPlaces r ≤ mostDigits) ⌝ }
 {
@@ -92,7 +95,7 @@ fn pages(cells: usize) -> usize
 }
 
 // The cells of a page that there is.
-fn cells_on(cells: usize, page: usize) -> usize
+pub fn cells_on(cells: usize, page: usize) -> usize
     requires { ⌜ page * pageCells ≤ cells ⌝ }
     ensures { λ r. ⌜ r ≡ cellsOn cells page ⌝ }
 {
@@ -122,31 +125,60 @@ fn cell_line(lent: &mut [u8], at: usize, places: usize, cell: u64, volume: u64, 
     column(lent, b, places, rest, NEWLINE)
 }
 
-// The lines of so many cells, from the first of a page on.
-fn lines(
+// The line of a cell that is visible; of another, nothing.
+fn line_if(
+    visible: bool,
+    lent: &mut [u8],
+    at: usize,
+    places: usize,
+    cell: u64,
+    volume: u64,
+    mass: u64,
+) -> usize
+    requires { ⌜ (1 ≤ volume) × (places ≤ mostDigits) ⌝ }
+    ensures { λ r. ⌜ (visible ≡ true → Puts (now (lent .entry)) at (cellLine places cell (mass / volume) (mass - mass / volume * volume)) r (now (lent .exit)))
+        × (visible ≡ false → (r ≡ at) × (now (lent .exit) ≡ now (lent .entry))) ⌝ }
+{
+    if visible {
+        return cell_line(lent, at, places, cell, volume, mass);
+    }
+    at
+}
+
+// The lines of the open ones of so many cells, from the first of a page on.
+pub fn lines(
     lent: &mut [u8],
     places: usize,
     first: usize,
     count: usize,
     volumes: &[u64],
     masses: &[u64],
+    marks: &[u64],
 ) -> usize
     requires { ⌜ (places ≤ mostDigits) × (first + count ≤ length (now volumes)) × (first + count ≤ length (now masses)) ⌝ }
     requires { ⌜ ((c : ℕ) → c < first + count → 1 ≤ getD (now volumes) c 0) ⌝ }
     ensures { λ r. ⌜ Puts (now (lent .entry)) 0
-        (pieces count (λ i. lineOf (now (volumes .entry)) (now (masses .entry)) places (first + i))) r (now (lent .exit)) ⌝ }
+        (pieces count (λ i. lineIf (now (volumes .entry)) (now (masses .entry)) (isOpen (now (marks .entry))) places (first + i))) r (now (lent .exit)) ⌝ }
 {
     let mut at = 0;
     let mut i = 0;
     while i < count {
         let c = first + i;
-        at = cell_line(lent, at, places, c as u64, volumes[c], masses[c]);
+        at = line_if(
+            is_open(marks, c),
+            lent,
+            at,
+            places,
+            c as u64,
+            volumes[c],
+            masses[c],
+        );
         i += 1;
     }
     at
 }
 
-// A page that there is: the lines of its cells, and its mass.
+// A page that there is: the lines of all its cells, which no marks withhold, and its mass.
 fn put(
     lent: &mut [u8],
     places: usize,
@@ -162,14 +194,21 @@ fn put(
 {
     let first = page * PAGE_CELLS;
     let count = cells_on(cells, page);
-    let at = lines(lent, places, first, count, volumes, masses);
+    let at = lines(lent, places, first, count, volumes, masses, &volumes[..0]);
     let mass = sum_of(count, &masses[first..]);
     column(lent, at, mass_places(places), mass, NEWLINE)
 }
 
-// What printing a page into so many bytes is refused for.
-fn judge(cells: usize, volumes: &[u64], masses: &[u64], page: u64, room: usize) -> Answer
-    ensures { λ r. ⌜ said r ≡ pageVerdict (now (volumes .entry)) (now (masses .entry)) cells page room ⌝ }
+// What printing a page into so many bytes is refused for, with what a further table lent after the bytes is refused for.
+pub fn judge(
+    cells: usize,
+    volumes: &[u64],
+    masses: &[u64],
+    page: u64,
+    room: usize,
+    further: Answer,
+) -> Answer
+    ensures { λ r. ⌜ said r ≡ verdictWith (said further) (now (volumes .entry)) (now (masses .entry)) cells page room ⌝ }
 {
     let none = &volumes[..0];
     let tables = lent::field_lent(cells, 0, volumes, none, none, none, none, masses);
@@ -178,11 +217,12 @@ fn judge(cells: usize, volumes: &[u64], masses: &[u64], page: u64, room: usize) 
     }
     let places = rest_places(cells, volumes);
     let space = long(PAGE_TABLE, page_bytes(places, cells, page), room);
-    let field = and_then(space, check_cells(cells, volumes, masses));
+    let given = and_then(space, further);
+    let field = and_then(given, check_cells(cells, volumes, masses));
     and_then(field, need(Cause::Page, page, page < pages(cells) as u64))
 }
 
-// A page of a field: causes 1 (cells), 2 (volumes, masses, bytes), 3, 6 and 14, else its length, with the page in the first bytes.
+// A page of a field for the growers: causes 1 (cells), 2 (volumes, masses, bytes), 3, 6 and 14, else its length, with the page in the first bytes.
 pub fn page(
     cells: usize,
     volumes: &[u64],
@@ -192,7 +232,7 @@ pub fn page(
 ) -> PageAnswer
     ensures { λ r. ⌜ PageIs (now (volumes .entry)) (now (masses .entry)) cells page (now (bytes .entry)) r (now (bytes .exit)) ⌝ }
 {
-    let verdict = judge(cells, volumes, masses, page, bytes.len());
+    let verdict = judge(cells, volumes, masses, page, bytes.len(), Answer::Done);
     if let Answer::Refused(r) = verdict {
         return PageAnswer::Refused(r);
     }

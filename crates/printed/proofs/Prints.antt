@@ -17,7 +17,7 @@ use Rattle.heads.specs.Heads.{stepNeeds}
 use Rattle.heads.specs.declared.Width.{Width}
 use Rattle.reading.specs.Reading.{volumesIn, firstsIn, secondsIn, sharesIn, reachesIn, massesIn}
 use Rattle.reading.specs.declared.MeshCounts.{MeshCounts}
-use Rattle.board.specs.Board.{entryAt, listed, boardVerdict, boardEntries, boardSize, unused}
+use Rattle.board.specs.Board.{entryAt, listed, entriesOf, boardVerdict, boardEntries, boardSize, unused}
 use Rattle.board.specs.declared.Entry.{Entry}
 use Rattle.board.proofs.Listed.{listed-count}
 use Rattle.taking.specs.Taking.{StepTaking}
@@ -75,7 +75,7 @@ module _ (M : Mesh) where
   entries-used : (masses : List ℕ) (v : Verdict)
       → boardLines (take (taken v (min boardSize cells) 0) (taken v (boardEntries volumes masses cells) (replicate boardSize unused)))
       ≡ taken v (boardLines (map (entryAt volumes masses) (listed volumes masses cells))) []
-  unfolding boardEntries over boardLines
+  unfolding entriesOf over boardLines
   entries-used masses (accepted u) =
       let used = map (entryAt volumes masses) (listed volumes masses cells) in
       let count : length used ≡ min boardSize cells = length-map (listed volumes masses cells) (entryAt volumes masses) ∙ listed-count volumes masses cells in

@@ -9,7 +9,7 @@ use types.Run.{OneOf}
 use lib.Dec.{eqb}
 use Rattle.model.proofs.Cause.{the-type}
 use Rattle.model.specs.declared.Cause.{Cause}
-use Rattle.model.specs.declared.Cause.the-variants.{Limits, Table, Volume, Ends, Spacing, Concentration, Outside, Flux, Balance, Outflow, Length, Bit, Head, Page, Name, Room, Unkept, Release, Coordinate, Ratio, Moved, Bounds, Label, Part, Bands, Period}
+use Rattle.model.specs.declared.Cause.the-variants.{Limits, Table, Volume, Ends, Spacing, Concentration, Outside, Flux, Balance, Outflow, Length, Bit, Head, Page, Name, Room, Unkept, Release, Coordinate, Ratio, Moved, Bounds, Label, Part, Bands, Period, Mark}
 use Rattle.session.specs.Session.{endsRun}
 
 abbrev tagEnds : ℕ → Bool
@@ -42,19 +42,21 @@ tag-ends Label = refl
 tag-ends Part = refl
 tag-ends Bands = refl
 tag-ends Period = refl
+tag-ends Mark = refl
 
 yes : (t : ℕ) → OneOf (10 ∷ 12 ∷ []) t → true ≡ tagEnds t
 yes t = ⊎-elim (λ e. rw e) (λ e. rw e)
 
-no : (t : ℕ) → OneOf (0 ∷ 1 ∷ 2 ∷ 3 ∷ 4 ∷ 5 ∷ 6 ∷ 7 ∷ 8 ∷ 9 ∷ 11 ∷ 13 ∷ 14 ∷ 15 ∷ 16 ∷ 17 ∷ 18 ∷ 19 ∷ 20 ∷ 21 ∷ 22 ∷ 23 ∷ 24 ∷ 25 ∷ []) t → false ≡ tagEnds t
+no : (t : ℕ) → OneOf (0 ∷ 1 ∷ 2 ∷ 3 ∷ 4 ∷ 5 ∷ 6 ∷ 7 ∷ 8 ∷ 9 ∷ 11 ∷ 13 ∷ 14 ∷ 15 ∷ 16 ∷ 17 ∷ 18 ∷ 19 ∷ 20 ∷ 21 ∷ 22 ∷ 23 ∷ 24 ∷ 25 ∷ 26 ∷ []) t → false ≡ tagEnds t
 no t =
     ⊎-elim (λ e. rw e) (⊎-elim (λ e. rw e) (⊎-elim (λ e. rw e) (⊎-elim (λ e. rw e) (⊎-elim (λ e. rw e) (⊎-elim (λ e. rw e)
     (⊎-elim (λ e. rw e) (⊎-elim (λ e. rw e) (⊎-elim (λ e. rw e) (⊎-elim (λ e. rw e) (⊎-elim (λ e. rw e) (⊎-elim (λ e. rw e)
     (⊎-elim (λ e. rw e) (⊎-elim (λ e. rw e) (⊎-elim (λ e. rw e) (⊎-elim (λ e. rw e) (⊎-elim (λ e. rw e) (⊎-elim (λ e. rw e)
-    (⊎-elim (λ e. rw e) (⊎-elim (λ e. rw e) (⊎-elim (λ e. rw e) (⊎-elim (λ e. rw e) (⊎-elim (λ e. rw e) (λ e. rw e)))))))))))))))))))))))
+    (⊎-elim (λ e. rw e) (⊎-elim (λ e. rw e) (⊎-elim (λ e. rw e) (⊎-elim (λ e. rw e) (⊎-elim (λ e. rw e) (⊎-elim (λ e. rw e)
+    (λ e. rw e))))))))))))))))))))))))
 
 pub ends-run : (c : Cause) → OneOf (10 ∷ 12 ∷ []) (tagOf the-type c) → true ≡ endsRun c
 ends-run c h = rw (tag-ends c) (yes (tagOf the-type c) h)
 
-pub run-goes-on : (c : Cause) → OneOf (0 ∷ 1 ∷ 2 ∷ 3 ∷ 4 ∷ 5 ∷ 6 ∷ 7 ∷ 8 ∷ 9 ∷ 11 ∷ 13 ∷ 14 ∷ 15 ∷ 16 ∷ 17 ∷ 18 ∷ 19 ∷ 20 ∷ 21 ∷ 22 ∷ 23 ∷ 24 ∷ 25 ∷ []) (tagOf the-type c) → false ≡ endsRun c
+pub run-goes-on : (c : Cause) → OneOf (0 ∷ 1 ∷ 2 ∷ 3 ∷ 4 ∷ 5 ∷ 6 ∷ 7 ∷ 8 ∷ 9 ∷ 11 ∷ 13 ∷ 14 ∷ 15 ∷ 16 ∷ 17 ∷ 18 ∷ 19 ∷ 20 ∷ 21 ∷ 22 ∷ 23 ∷ 24 ∷ 25 ∷ 26 ∷ []) (tagOf the-type c) → false ≡ endsRun c
 run-goes-on c h = rw (tag-ends c) (no (tagOf the-type c) h)

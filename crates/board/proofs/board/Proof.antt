@@ -1,34 +1,14 @@
-use mathlib.Core.Path.{_∙_}
-use native.Mathlib.Omega.{arith}
+use mathlib.Core.Path.{sym, _∙_}
 use borrow.Author.Needs.{needs}
-use Rattle.model.proofs.Verdicts.{passes}
-use Rattle.board.proofs.Listed.{none-shown, entries-shown, rank-asks, accepted-board, refused-board}
+use Rattle.board.proofs.Listed.{rank-asks, without-marks}
 use Rattle.board.proofs.board.Statement.{statement}
 use Rattle.board.proofs.board.Tie as tie
 
-none-of-requires : tie.Need-entries-of-requires
-none-of-requires c κs = omega (arith, c .empty-ranking .ensures .0)
+board-after-requires : tie.Need-board-after-requires
+board-after-requires c κs e = rank-asks _ _ _ (sym (c .before .check-cells .ensures) ∙ e)
 
 returns : tie.Need-returns
-returns c =
-    let none = c .before .empty-ranking in
-    let at-told = c .before .before in
-    refused-board _ _ _ _ (at-told .before .before .check-cells .ensures) _ (at-told .enum-told .given .1)
-    (none .ensures .0) (c .entries-of .ensures ∙ none-shown (none .result .ranks) (none .ensures .0))
-
-rank-requires : tie.Need-rank-requires
-rank-requires c κs = rank-asks _ _ _ (passes (c .before .before .check-cells .ensures) (c .enum-told2 .given .1))
-
-entries-of-requires : tie.Need-entries-of-requires-2
-entries-of-requires c κs = omega (arith, c .rank .ensures .0)
-
-returns-2 : tie.Need-returns-2
-returns-2 c =
-    let ranked = c .before .rank in
-    let at-told = c .before .before in
-    accepted-board _ _ _ _ (at-told .before .before .check-cells .ensures) (at-told .enum-told2 .given .1)
-    (ranked .ensures .0) (c .entries-of2 .ensures ∙ entries-shown _ _ _ (ranked .ensures .0) (ranked .ensures .1))
+returns c = without-marks _ _ _ _ (rw (c .before .before .check-cells .ensures) at (c .board-after .ensures))
 
 pub board-spec : {M : Type 1} → statement M
-board-spec =
-    tie.close (tie.spec (search needs) (search needs) (search needs) none-of-requires returns (search needs) rank-requires entries-of-requires returns-2)
+board-spec = tie.close (tie.spec (λ c κs. search needs) (λ c. search needs) board-after-requires returns)

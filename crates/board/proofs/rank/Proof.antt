@@ -1,51 +1,59 @@
--- After c turns the ranking is that of the cells below c.
-use Prim.Native.Nat.{ℕ, _≤_, _-_, min}
-use mathlib.Core.Path.{_≡_, ap, _∙_}
-use native.Mathlib.Nat.{lt-of-lt-of-le}
+-- After c turns the ranking is that of the open cells below c.
+use Prim.Native.Nat.{_-_}
 use native.Mathlib.Omega.{arith}
 use borrow.Author.Needs.{needs}
-use Rattle.board.specs.Board.{boardSize, rankedCells}
-use Rattle.board.proofs.Listed.{ranked-none, ranked-more}
+use Rattle.lists.proofs.Turns.{turn-less, turn-in, turn-next, turn-bytes}
+use Rattle.marks.specs.Marks.{isOpen}
+use Rattle.board.proofs.Listed.{RankedTo, none-ranked, one-more, all-ranked}
 use Rattle.board.proofs.rank.Statement.{statement}
 use Rattle.board.proofs.rank.Tie as tie
 
 abbrev Inv-loop : tie.InvT-loop
-Inv-loop cells volumes masses ranking₀ c₀ ranking c = (c ≤ cells) × (ranking .used ≡ min boardSize c) × (ranking .ranks ≡ rankedCells volumes masses c)
+Inv-loop cells volumes masses marks ranking₀ c₀ ranking c = RankedTo volumes masses (isOpen marks) cells c (ranking .used) (ranking .ranks)
 
 abbrev μ-loop : tie.MeasureT-loop
-μ-loop cells volumes masses ranking₀ c₀ ranking c = cells - c
+μ-loop cells volumes masses marks ranking₀ c₀ ranking c = cells - c
 
 loop-holds : tie.Need-loop-holds Inv-loop μ-loop
-loop-holds c = (omega arith, omega (arith, c .empty-ranking .ensures .0), c .empty-ranking .ensures .1 ∙ ranked-none _ _)
+loop-holds c = none-ranked _ _ _ _ (c .empty-ranking .ensures .0) (c .empty-ranking .ensures .1)
 
 mul-ranked-of : tie.Need-mul-ranked-of Inv-loop μ-loop
-mul-ranked-of c = omega arith
+mul-ranked-of c = let s = c .before .before .before .before .before .before in turn-bytes (c .loop-test .taken) (s .pre .0 .0) (s .good .1 .0 .1)
+
+read-ranked-of : tie.Need-shared-slice-read-ranked-of Inv-loop μ-loop
+read-ranked-of c = let t = c .before in turn-in (t .loop-test .taken) (t .before .before .before .before .before .before .pre .0 .0)
+
+mul-ranked-of-2 : tie.Need-mul-ranked-of-2 Inv-loop μ-loop
+mul-ranked-of-2 c =
+    let t = c .before in
+    let s = t .before .before .before .before .before .before in
+    turn-bytes (t .loop-test .taken) (s .pre .0 .1) (s .good .1 .1 .0 .1)
+
+read-ranked-of-2 : tie.Need-shared-slice-read-ranked-of-2 Inv-loop μ-loop
+read-ranked-of-2 c = let t = c .before .before in turn-in (t .loop-test .taken) (t .before .before .before .before .before .before .pre .0 .1)
 
 ranked-of-requires : tie.Need-ranked-of-requires Inv-loop μ-loop
-ranked-of-requires c κs = c .before .before .before .before .before .before .before .pre .1 _ (c .before .before .loop-test .taken)
+ranked-of-requires c κs = let t = c .before .before in t .before .before .before .before .before .before .pre .1 _ (t .loop-test .taken)
 
-insert-requires : tie.Need-insert-requires Inv-loop μ-loop
-insert-requires c κs = omega (arith, c .before .before .before .before .loop .inv .1)
+insert-if-requires : tie.Need-insert-if-requires Inv-loop μ-loop
+insert-if-requires c κs = let l = c .before .before .before .before .before .loop in omega (arith, l .inv .counted)
+
+add-c : tie.Need-add-c Inv-loop μ-loop
+add-c c =
+    let t = c .before .before .before .before .before in
+    let s = t .before .before .before .before .before .before in
+    turn-next (t .loop-test .taken) (s .pre .0 .0) (s .good .1 .0 .0)
 
 loop-again : tie.Need-loop-again Inv-loop μ-loop
 loop-again c =
-    let p = c .before .before .before .before .before .loop in (
-      omega arith,
-      omega (arith, c .insert .ensures .0, p .inv .1),
-      ranked-more _ _ (p .c) (p .ranking .ranks) (c .insert .result .ranks) (p .inv .1) (p .inv .2) (c .before .ranked-of .ensures) (c .insert .ensures .1),
-    )
+    let t = c .before .before .before .before .before in
+    one-more _ _ _ (t .before .loop .inv) (t .loop-test .taken) (c .before .before .ranked-of .ensures) _ (c .before .is-open .ensures) (c .insert-if .ensures)
 
 returns : tie.Need-returns Inv-loop μ-loop
-returns c =
-    let p = c .before .loop in
-    let s = c .before .before .before .before .before in
-    let q : p .c ≡ s .args .cells = omega (arith, p .inv .0, c .loop-test .left) in
-    (omega (arith, p .inv .1), p .inv .2 ∙ ap (λ (n : ℕ). rankedCells (s .args .volumes .now) (s .args .masses .now) n) q)
+returns c = all-ranked _ _ _ (c .before .loop .inv) (c .loop-test .left)
 
 pub rank-spec : {M : Type 1} → statement M
 rank-spec =
     tie.close
-    (tie.spec Inv-loop μ-loop (search needs) loop-holds mul-ranked-of
-    (λ c. lt-of-lt-of-le (c .before .loop-test .taken) (c .before .before .before .before .before .before .pre .0 .0)) (λ c. mul-ranked-of (c .before))
-    (λ c. lt-of-lt-of-le (c .before .before .loop-test .taken) (c .before .before .before .before .before .before .before .pre .0 .1))
-    ranked-of-requires insert-requires (search needs) (search needs) loop-again returns)
+    (tie.spec Inv-loop μ-loop (λ c κs. tt) loop-holds mul-ranked-of read-ranked-of mul-ranked-of-2 read-ranked-of-2 ranked-of-requires (λ c κs. tt)
+    insert-if-requires add-c (λ c. turn-less (c .before .before .before .before .before .loop-test .taken)) loop-again returns)

@@ -10,13 +10,13 @@ returns c = page-refused _ _ _ _ _ (refuses (c .before .before .before .judge .e
 
 rest-places-requires : tie.Need-rest-places-requires
 rest-places-requires c κs =
-    let passed = page-passed _ _ _ _ _ (passes (c .before .before .judge .ensures) (c .enum-told .given .1)) in
+    let passed = page-passed _ _ _ _ _ _ (passes (c .before .before .judge .ensures) (c .enum-told .given .1)) in
     put-asks _ _ _ (passed .field-fine) _ (passed .there) .0 .2
 
 put-requires : tie.Need-put-requires
 put-requires c κs =
     let told = c .before .before in
-    let passed = page-passed _ _ _ _ _ (passes (told .before .before .judge .ensures) (told .enum-told .given .1)) in
+    let passed = page-passed _ _ _ _ _ _ (passes (told .before .before .judge .ensures) (told .enum-told .given .1)) in
     rw (c .before .rest-places .ensures .0) (put-asks _ _ _ (passed .field-fine) _ (passed .there))
 
 returns-2 : tie.Need-returns-2

@@ -1,0 +1,15 @@
+-- Document 02, S-14: what the public page tells of withheld cells, which is nothing.
+use Prim.Native.Nat.{ℕ}
+use mathlib.Core.Path.{_≡_}
+use mathlib.Core.List.{List}
+use Rattle.marks.specs.Marks.{SameInOpen}
+use Rattle.page.specs.Answers.{pageSaid}
+use Rattle.page.specs.declared.PageAnswer.{PageAnswer}
+use Rattle.public_page.specs.Public.{PublicPageIs}
+
+-- Two calls of `public_page` as they were made, for the same page and lent the same bytes: answers, refusals included, and bytes are equal.
+abbrev pub NothingTold : Type 0
+NothingTold = (volumes marks : List ℕ) (cells : ℕ) (masses masses′ : List ℕ) → SameInOpen volumes marks cells masses masses′
+    → (page : ℕ) (bytes : List ℕ) (r r′ : PageAnswer) (after after′ : List ℕ)
+    → PublicPageIs volumes masses marks cells page bytes r after → PublicPageIs volumes masses′ marks cells page bytes r′ after′
+    → (pageSaid r ≡ pageSaid r′) × (after ≡ after′)
