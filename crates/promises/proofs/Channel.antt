@@ -1,6 +1,6 @@
--- The channel session as a mixed list: its first step on tables, its second on records.
-use Prim.Native.Nat.{ℕ}
-use mathlib.Core.Path.{_≡_, refl}
+-- The channel session as a list of calls that were made: its first step on tables, its second on records.
+use Prim.Native.Nat.{ℕ, _+_}
+use mathlib.Core.Path.{_≡_, refl, ap}
 use mathlib.Core.List.{List, [], _∷_}
 use lib.IntN.{pos, negsuc}
 use lib.ListN.{take, replicate}
@@ -8,8 +8,8 @@ use Rattle.lists.specs.Fold.{sum, least, greatest}
 use Rattle.lists.specs.Table.{table, over}
 use Rattle.model.specs.Mesh.{oldCeiling, entering, leaving, incoming, outgoing, updated}
 use Rattle.model.specs.Step.{raised, releasedMass, inMass, outMass, next, moved, rounded, beyond, upwind, downwind, carried, low, upwindShare, correction, smooths, keptBy, lowConcentration, kept, adjacent, lo, hi, maxGain, maxLoss, receiver, giver, limitedBy, limited, portion}
-use Rattle.model.specs.Causes.{accepted, fine, _andThen_, Call, need, each, countsWithin, counts, meshTables, volumeGood, endsGood, spacingGood, meshValues, fieldTable, saltGood, fieldValues, raisedGood, raisedValues, meshFieldVerdict, stepTables, outsideGood, fluxGood, balanceGood, outflowGood, stepValues, verdict, callOf}
-use Rattle.model.specs.Calls.{lentMasses, crossingOf, corrected, stepOnTables, nextTable, afterAll, totalIn}
+use Rattle.model.specs.Causes.{fine, _andThen_, Call, meshVerdict, fieldVerdict, need, each, countsWithin, counts, meshTables, volumeGood, endsGood, spacingGood, meshValues, fieldTable, saltGood, fieldValues, raisedGood, raisedValues, meshFieldVerdict, stepTables, outsideGood, fluxGood, balanceGood, outflowGood, stepValues, verdict, callOf}
+use Rattle.model.specs.Calls.{lentMasses, crossingOf, corrected, stepAnswer, nextTable, movedTable, workTable, afterAll, totalIn}
 use Rattle.model.proofs.Figures.{channel}
 use Rattle.bits.specs.Field.{bitAt, bitsAt}
 use Rattle.bits.specs.Layout.{spelled, bitsOf, widthOf, bytesFor, octet, packed, rows}
@@ -21,12 +21,16 @@ use Rattle.zeros.specs.Zeros.{zeroBitGood, minusZero}
 use Rattle.reading.specs.Reading.{meshIn, volumesIn, firstsIn, secondsIn, sharesIn, reachesIn, massesIn, fluxesIn, outsidesIn, releasesIn, meshBitGood, stepBitGood, meshBodyVerdict, fieldBodyVerdict, stepBodyVerdict, fieldRead}
 use Rattle.mesh_taking.specs.MeshTaking.{meshRecordFound, meshJudged}
 use Rattle.taking.specs.Taking.{fieldJudged, blank, stepRecordFound, stepJudged}
-use Rattle.lagoon.specs.Host.{hostInput, hostVerdict, hostBytes}
-use Rattle.promises.specs.Demand3.{correcting, StepCall, onTables, onRecords, waterIn, stepOnRecords, comes}
+use Rattle.lagoon.specs.Host.{hostInput, hostVerdict, hostBytes, HostPromise}
+use Rattle.transport.specs.Promise.{StepPromise}
+use Rattle.transport.specs.declared.StepAnswer.the-variants.{Stepped}
+use Rattle.plain.specs.Made.{Made}
+use Rattle.promises.specs.Steps.{HostMade, StepCall, byStep, byHost, waterIn, cameTo, StepsMade}
+use Rattle.promises.proofs.Held.{mesh-holds, field-holds}
 
 -- the definitions that the figures compute
 figures : Unit {0}
-unfolding stepOnTables nextTable inMass outMass over verdict counts countsWithin meshTables fieldTable stepTables meshValues fieldValues saltGood raised releasedMass
+unfolding stepAnswer nextTable movedTable workTable inMass outMass over verdict meshVerdict fieldVerdict counts countsWithin meshTables fieldTable stepTables meshValues fieldValues saltGood raised releasedMass
     raisedGood raisedValues stepValues volumeGood
     endsGood spacingGood outsideGood fluxGood balanceGood outflowGood need each _andThen_ table sum least greatest entering leaving incoming outgoing updated next moved
     rounded beyond upwind downwind carried low upwindShare correction smooths keptBy lowConcentration kept adjacent lo hi maxGain
@@ -50,24 +54,34 @@ after = 100099 ∷ 81188 ∷ 18713 ∷ []
 abbrev water : Call
 water = callOf (negsuc 49 ∷ pos 50 ∷ pos 50 ∷ pos 50 ∷ []) (1000 ∷ 0 ∷ 0 ∷ 0 ∷ []) (7 ∷ 7 ∷ 7 ∷ []) (pos 0 ∷ pos 0 ∷ pos 0 ∷ pos 0 ∷ []) (replicate 16 7) (0 ∷ 0 ∷ 0 ∷ [])
 
+abbrev first : Made
+first = record {
+  past = 7 ∷ 7 ∷ [];
+  tables = water;
+  answer = Stepped (record { entered = 50000; gone = 0; released = 0 });
+  next = between;
+  moved = negsuc 49999 ∷ pos 49901 ∷ pos 0 ∷ pos 0 ∷ [];
+  work = replicate 16 0;
+}
+
 abbrev step : List ℕ
 step = 0x30 ∷ 0x02 ∷ 0x00 ∷ 0x00 ∷ 0x81 ∷ 0x90 ∷ 0x0c ∷ 0x80 ∷ 0x64 ∷ 0x03 ∷ 0x20 ∷ 0x03 ∷ 0xe8 ∷ 0x00 ∷ 0x00 ∷ 0x00 ∷ []
 
 abbrev room : List ℕ
 room = replicate 15 7
 
-pub values-fine : meshValues oldCeiling channel ≡ fine
+abbrev second : HostMade
+second = record { width = Narrow; mesh = meshRecord 1 channel; field = fieldRecord 2 3 between; step = step; room = room; number = 0; bytes = over (fieldRecord 2 3 after) room }
+
+abbrev calls : List StepCall
+calls = byStep first ∷ byHost second ∷ []
+
+-- they keep their contracts: the call on tables,
+first-kept : StepPromise corrected channel (lentMasses channel (7 ∷ 7 ∷ []) before) water (first .answer) between (first .moved) (first .work)
 unfolding figures
-values-fine = refl
+first-kept = record { answer = refl; next-masses = refl; moved-masses = refl; work-after = refl }
 
-abbrev calls : List (StepCall channel)
-calls = onTables correcting (7 ∷ 7 ∷ []) water ∷ onRecords Narrow values-fine step room ∷ []
-
-on-tables : stepOnTables corrected channel water (lentMasses channel (7 ∷ 7 ∷ []) before) ≡ accepted (record { field = between; crossing = record { entered = 50000; gone = 0; released = 0 } })
-unfolding figures
-on-tables = refl
-
--- the call on records: what it finds, the next field and its bytes, each computed once
+-- and the call on records: what it finds, the next field and its bytes, each computed once
 found : hostVerdict (meshRecord 1 channel) (fieldRecord 2 3 between) step 15 ≡ fine
 unfolding figures hostVerdict
 found = refl
@@ -84,26 +98,41 @@ next-are : table (meshIn (meshRecord 1 channel) .cells) (next (hostInput (meshRe
 unfolding figures
 next-are = refl
 
-bytes-are : hostBytes (meshRecord 1 channel) (fieldRecord 2 3 between) step room ≡ over (fieldRecord 2 3 after) room
+bytes-are : over (fieldRecord 2 3 after) room ≡ hostBytes (meshRecord 1 channel) (fieldRecord 2 3 between) step room
 unfolding hostBytes
 bytes-are = rw (found, width-is, next-are, cells-are)
 
+second-kept : HostPromise (meshRecord 1 channel) (fieldRecord 2 3 between) step room 0 (over (fieldRecord 2 3 after) room)
+second-kept = record { number = rw found; next-field = bytes-are }
+
+mesh-fine : meshVerdict channel ≡ fine
+unfolding figures
+mesh-fine = refl
+
+values-fine : meshValues oldCeiling channel ≡ fine
+unfolding figures
+values-fine = refl
+
+between-fine : fieldVerdict channel between ≡ fine
+unfolding figures
+between-fine = refl
+
+pub made : StepsMade channel before calls
+made = (first-kept, ((mesh-holds Narrow channel mesh-fine values-fine, field-holds Narrow channel mesh-fine values-fine between between-fine, second-kept), tt))
+
+-- the field that they leave, and what came in
 read-back : massesIn (take (fieldLength 2 3) (over (fieldRecord 2 3 after) room)) 3 ≡ after
 unfolding figures
 read-back = refl
 
-crossed : crossingOf channel between (waterIn channel step) ≡ record { entered = 50000; gone = 0; released = 0 }
+entered : crossingOf channel between (waterIn channel step) .entered ≡ 50000
 unfolding figures
-crossed = refl
+entered = refl
 
-on-records : stepOnRecords channel Narrow step room between ≡ accepted (record { field = after; crossing = record { entered = 50000; gone = 0; released = 0 } })
-unfolding stepOnRecords _andThen_
-on-records = rw (found, bytes-are, read-back, crossed)
+pub session : afterAll (cameTo channel) before calls ≡ after
+unfolding afterAll _andThen_
+session = rw read-back
 
-pub session : afterAll (comes channel) before calls ≡ after
-unfolding afterAll
-session = rw (on-tables, on-records)
-
-pub session-in : totalIn (comes channel) before calls ≡ 100000
-unfolding totalIn
-session-in = rw (on-tables, on-records)
+pub session-in : totalIn (cameTo channel) before calls ≡ 100000
+unfolding totalIn _andThen_
+session-in = ap (λ (n : ℕ). 50000 + (n + 0)) entered

@@ -1,2 +1,5 @@
 pub mod Held
-pub mod Demand3
+pub mod Lists
+pub mod Steps
+pub mod Stores
+pub mod Run
