@@ -1,6 +1,5 @@
 pub mod Held
 pub mod Counted
-pub mod Lists
 pub mod OnTables
 pub mod OnTaking
 pub mod OnRecords

@@ -1,5 +1,5 @@
 -- DEMAND 3, proved for every mesh, every first field and every list of step calls as they were made. Its parts are defined in
--- specs/Steps.antt and, for calls of any kind, in specs/Lists.antt (`Claim`).
+-- specs/Steps.antt and, for calls of any kind, in model/specs/Calls.antt (`Claim`).
 --
 -- In plain words: take any mesh that causes 1 to 5 accept, any first field that 2 and 6 accept, and any list of calls that were made one after
 -- another, each lent the mesh and the field as the one before it left them, and each keeping the contract of its function: `step`,
@@ -18,11 +18,10 @@ use mathlib.Core.List.{List}
 use Rattle.model.specs.Mesh.{Mesh}
 use Rattle.model.specs.Causes.{Outcome, accepted, refused, fine, meshVerdict, fieldVerdict}
 use Rattle.model.specs.Calls.{Left, corrected, plain, judged, stepping}
-use Rattle.model.proofs.Lists.{Fair, corrected-keeping, plain-keeping}
+use Rattle.model.proofs.Lists.{Fair, corrected-keeping, plain-keeping, Owes, claim-law}
 use Rattle.model.proofs.Claims.{judged-keeping}
 use Rattle.model.proofs.Figures.{Figures, figures}
 use Rattle.promises.specs.Steps.{StepCall, byStep, byPlainStep, byJudge, byTakeStep, byHost, cameTo, StepContract, StepOwed, Demand3}
-use Rattle.promises.proofs.Lists.{Owes, claim-law}
 use Rattle.promises.proofs.OnTables.{made-fair, made-refused, asStep, as-step}
 use Rattle.promises.proofs.OnTaking.{run-fair, run-refused}
 use Rattle.promises.proofs.OnRecords.{host-fair, host-refused}

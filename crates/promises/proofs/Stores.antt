@@ -1,5 +1,5 @@
 -- DEMAND 3 with calls on stores, proved for every list of calls as they were made. Its parts are defined in specs/Stores.antt and, for calls
--- of any kind, in specs/Lists.antt (`Ledger`).
+-- of any kind, in model/specs/Calls.antt (`Ledger`).
 --
 -- In plain words: among the step calls of Steps.antt there may stand keeps, drops and returns, each lent a store of any values and any length.
 -- The budget then starts anew from the masses given back at each accepted return, and counts the steps since; keeps and drops count nothing
@@ -20,6 +20,7 @@ use Rattle.model.specs.Answers.{said}
 use Rattle.model.specs.Calls.{massIn, Left, lentMasses, Deed, stepped, givenBack, storeOnly, stepping, fieldBy, lastField}
 use Rattle.model.proofs.Verdicts.{both-fine, refused-of}
 use Rattle.model.proofs.Accepted.{field-fit, field-accepted}
+use Rattle.model.proofs.Lists.{Owes, ledger-law}
 use Rattle.kept.specs.Store.{fieldsIn, heldUnder}
 use Rattle.store.specs.Calls.{keepStore, dropStore, returnVerdict, returnMasses}
 use Rattle.store.specs.Lists.{keeping, dropping}
@@ -28,7 +29,6 @@ use Rattle.store.proofs.Effects.{keep-effect, drop-effect, held-length, held-sa
 use Rattle.store.proofs.Back.{Holding, after-one, holding, return-fine, return-gives}
 use Rattle.promises.specs.Steps.{StepCall, cameTo, StepOwed}
 use Rattle.promises.specs.Stores.{StoreMade, ListCall, aStep, byKeep, byDrop, byReturn, did, CallContract, CallsMade, CallOwed, Demand3Stores, storeAfter, storeAfterAll, OnStore, OneStore, FieldReturns, KeepThenDrop}
-use Rattle.promises.proofs.Lists.{Owes, ledger-law}
 use Rattle.promises.proofs.Steps.{owes}
 
 -- An accepted call on a store.

@@ -8,7 +8,7 @@ use lib.Dec.{eqb}
 use lib.ListN.{take}
 use Rattle.model.specs.Mesh.{Mesh}
 use Rattle.model.specs.Causes.{Outcome, accepted, refused, Verdict, fine, _andThen_, Call, inputOf, meshVerdict, fieldVerdict, waterOf}
-use Rattle.model.specs.Calls.{Bounded, Left, crossingOf, corrected, plain, lentMasses}
+use Rattle.model.specs.Calls.{Bounded, Left, crossingOf, corrected, plain, lentMasses, EachStep, Claim}
 use Rattle.transport.specs.Promise.{stepSaid, leftBy, StepPromise}
 use Rattle.judging.specs.Promise.{JudgePromise}
 use Rattle.plain.specs.Made.{Made}
@@ -21,7 +21,6 @@ use Rattle.step_taken.specs.Said.{takenSaid}
 use Rattle.taking.specs.Taking.{StepTaking}
 use Rattle.lagoon.specs.Host.{causeStep, HostPromise}
 use Rattle.promises.specs.Held.{HoldsMesh, HoldsField}
-use Rattle.promises.specs.Lists.{EachStep, Claim}
 
 -- THE CALLS, as they were made: what was lent besides mesh and field, of any values and of any length; what was answered; and what then stood
 -- in the tables that the call writes. Of `step`, `plain_step` and `judge` that is `Made`; a claim is lent as moved, and of its call only the

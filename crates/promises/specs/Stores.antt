@@ -10,11 +10,10 @@ use Rattle.model.specs.Mesh.{Mesh}
 use Rattle.model.specs.Causes.{Outcome, accepted, fine, taken, _andThen_, meshVerdict, fieldVerdict}
 use Rattle.model.specs.Answers.{said}
 use Rattle.model.specs.declared.Answer.{Answer}
-use Rattle.model.specs.Calls.{massIn, lentMasses, Deed, givenBack, storeOnly, stepping, lastField}
+use Rattle.model.specs.Calls.{massIn, lentMasses, Deed, givenBack, storeOnly, stepping, lastField, EachCall, Ledger}
 use Rattle.kept.specs.Store.{count, used, fieldsIn, heldUnder, without}
 use Rattle.store.specs.Calls.{KeepPromise, DropPromise, ReturnPromise}
 use Rattle.promises.specs.Steps.{StepCall, cameTo, StepContract, StepOwed}
-use Rattle.promises.specs.Lists.{EachCall, Ledger}
 
 -- A call on a store as it was made: what stood in the table of masses past the field (a drop is lent none), the store lent to it, of any values
 -- and of any length, and the name; its answer; and the table that it writes, afterwards: the store, or of a return the masses.
