@@ -1,12 +1,13 @@
--- The channel session as a list of calls that were made: its first step on tables, its second on records.
-use Prim.Native.Nat.{ℕ, _+_}
-use mathlib.Core.Path.{_≡_, refl, ap}
+-- The channel session as a list of calls that were made: its first step on tables, its second on records; and a third through still water, on
+-- wide records, since widths may differ from call to call.
+use Prim.Native.Nat.{ℕ}
+use mathlib.Core.Path.{_≡_, refl, sym, subst}
 use mathlib.Core.List.{List, [], _∷_}
 use lib.IntN.{pos, negsuc}
 use lib.ListN.{take, replicate}
 use Rattle.lists.specs.Fold.{sum, least, greatest}
 use Rattle.lists.specs.Table.{table, over}
-use Rattle.model.specs.Mesh.{oldCeiling, entering, leaving, incoming, outgoing, updated}
+use Rattle.model.specs.Mesh.{ceiling, oldCeiling, entering, leaving, incoming, outgoing, updated}
 use Rattle.model.specs.Step.{raised, releasedMass, inMass, outMass, next, moved, rounded, beyond, upwind, downwind, carried, low, upwindShare, correction, smooths, keptBy, lowConcentration, kept, adjacent, lo, hi, maxGain, maxLoss, receiver, giver, limitedBy, limited, portion}
 use Rattle.model.specs.Causes.{fine, _andThen_, Call, meshVerdict, fieldVerdict, need, each, countsWithin, counts, meshTables, volumeGood, endsGood, spacingGood, meshValues, fieldTable, saltGood, fieldValues, raisedGood, raisedValues, meshFieldVerdict, stepTables, outsideGood, fluxGood, balanceGood, outflowGood, stepValues, verdict, callOf}
 use Rattle.model.specs.Calls.{lentMasses, crossingOf, corrected, stepAnswer, nextTable, movedTable, workTable, afterAll, totalIn}
@@ -16,7 +17,7 @@ use Rattle.bits.specs.Layout.{spelled, bitsOf, widthOf, bytesFor, octet, packed
 use Rattle.sections.specs.Sections.{those, row, fieldsOf, recordOf}
 use Rattle.heads.specs.Layouts.{valueBits, massBits, releaseBits, meshRecord, fieldRecord, meshLength, fieldLength, stepLength}
 use Rattle.heads.specs.Heads.{widthIn, meshHeadVerdict, fieldHeadVerdict, stepHeadVerdict}
-use Rattle.heads.specs.declared.Width.the-variants.{Narrow}
+use Rattle.heads.specs.declared.Width.the-variants.{Narrow, Wide}
 use Rattle.zeros.specs.Zeros.{zeroBitGood, minusZero}
 use Rattle.reading.specs.Reading.{meshIn, volumesIn, firstsIn, secondsIn, sharesIn, reachesIn, massesIn, fluxesIn, outsidesIn, releasesIn, meshBitGood, stepBitGood, meshBodyVerdict, fieldBodyVerdict, stepBodyVerdict, fieldRead}
 use Rattle.mesh_taking.specs.MeshTaking.{meshRecordFound, meshJudged}
@@ -25,7 +26,7 @@ use Rattle.lagoon.specs.Host.{hostInput, hostVerdict, hostBytes, HostPromise}
 use Rattle.transport.specs.Promise.{StepPromise}
 use Rattle.transport.specs.declared.StepAnswer.the-variants.{Stepped}
 use Rattle.plain.specs.Made.{Made}
-use Rattle.promises.specs.Steps.{HostMade, StepCall, byStep, byHost, waterIn, cameTo, StepsMade}
+use Rattle.promises.specs.Steps.{HostMade, StepCall, byStep, byHost, waterIn, cameTo, StepContract, StepsMade}
 use Rattle.promises.proofs.Held.{mesh-holds, field-holds}
 
 -- the definitions that the figures compute
@@ -73,8 +74,18 @@ room = replicate 15 7
 abbrev second : HostMade
 second = record { width = Narrow; mesh = meshRecord 1 channel; field = fieldRecord 2 3 between; step = step; room = room; number = 0; bytes = over (fieldRecord 2 3 after) room }
 
+-- four faces of kind 7 with U 0, and the two outside values
+abbrev still : List ℕ
+still = 0x70 ∷ 0x02 ∷ replicate 16 0x00
+
+abbrev wideRoom : List ℕ
+wideRoom = replicate 18 7
+
+abbrev third : HostMade
+third = record { width = Wide; mesh = meshRecord 5 channel; field = fieldRecord 6 3 after; step = still; room = wideRoom; number = 0; bytes = over (fieldRecord 6 3 after) wideRoom }
+
 abbrev calls : List StepCall
-calls = byStep first ∷ byHost second ∷ []
+calls = byStep first ∷ byHost second ∷ byHost third ∷ []
 
 -- they keep their contracts: the call on tables,
 first-kept : StepPromise corrected channel (lentMasses channel (7 ∷ 7 ∷ []) before) water (first .answer) between (first .moved) (first .work)
@@ -105,9 +116,37 @@ bytes-are = rw (found, width-is, next-are, cells-are)
 second-kept : HostPromise (meshRecord 1 channel) (fieldRecord 2 3 between) step room 0 (over (fieldRecord 2 3 after) room)
 second-kept = record { number = rw found; next-field = bytes-are }
 
+-- the third likewise
+wide-found : hostVerdict (meshRecord 5 channel) (fieldRecord 6 3 after) still 18 ≡ fine
+unfolding figures hostVerdict
+wide-found = refl
+
+wide-cells : meshIn (meshRecord 5 channel) .cells ≡ 3
+unfolding figures
+wide-cells = refl
+
+wide-width : widthIn (meshRecord 5 channel) ≡ Wide
+unfolding figures
+wide-width = refl
+
+wide-next : table (meshIn (meshRecord 5 channel) .cells) (next (hostInput (meshRecord 5 channel) (fieldRecord 6 3 after) still)) ≡ after
+unfolding figures
+wide-next = refl
+
+wide-bytes : over (fieldRecord 6 3 after) wideRoom ≡ hostBytes (meshRecord 5 channel) (fieldRecord 6 3 after) still wideRoom
+unfolding hostBytes
+wide-bytes = rw (wide-found, wide-width, wide-next, wide-cells)
+
+third-kept : HostPromise (meshRecord 5 channel) (fieldRecord 6 3 after) still wideRoom 0 (over (fieldRecord 6 3 after) wideRoom)
+third-kept = record { number = rw wide-found; next-field = wide-bytes }
+
 mesh-fine : meshVerdict channel ≡ fine
 unfolding figures
 mesh-fine = refl
+
+large-fine : meshValues ceiling channel ≡ fine
+unfolding figures
+large-fine = refl
 
 values-fine : meshValues oldCeiling channel ≡ fine
 unfolding figures
@@ -117,22 +156,46 @@ between-fine : fieldVerdict channel between ≡ fine
 unfolding figures
 between-fine = refl
 
-pub made : StepsMade channel before calls
-made = (first-kept, ((mesh-holds Narrow channel mesh-fine values-fine, field-holds Narrow channel mesh-fine values-fine between between-fine, second-kept), tt))
+after-fine : fieldVerdict channel after ≡ fine
+unfolding figures
+after-fine = refl
 
--- the field that they leave, and what came in
+-- what the next field records hold
 read-back : massesIn (take (fieldLength 2 3) (over (fieldRecord 2 3 after) room)) 3 ≡ after
 unfolding figures
 read-back = refl
+
+wide-back : massesIn (take (fieldLength 6 3) (over (fieldRecord 6 3 after) wideRoom)) 3 ≡ after
+unfolding figures
+wide-back = refl
+
+third-made : StepContract channel (byHost third) after
+third-made = (mesh-holds Wide channel mesh-fine large-fine, field-holds Wide channel mesh-fine large-fine after after-fine, third-kept)
+
+pub made : StepsMade channel before calls
+unfolding _andThen_
+made = (
+  first-kept,
+  (
+    (mesh-holds Narrow channel mesh-fine values-fine, field-holds Narrow channel mesh-fine values-fine between between-fine, second-kept),
+    (subst (λ (field : List ℕ). StepContract channel (byHost third) field) (sym read-back) third-made, tt),
+  ),
+)
+
+-- the field that they leave, and what came in
 
 entered : crossingOf channel between (waterIn channel step) .entered ≡ 50000
 unfolding figures
 entered = refl
 
+none-entered : crossingOf channel after (waterIn channel still) .entered ≡ 0
+unfolding figures
+none-entered = refl
+
 pub session : afterAll (cameTo channel) before calls ≡ after
 unfolding afterAll _andThen_
-session = rw read-back
+session = rw wide-back
 
 pub session-in : totalIn (cameTo channel) before calls ≡ 100000
 unfolding totalIn _andThen_
-session-in = ap (λ (n : ℕ). 50000 + (n + 0)) entered
+session-in = rw (read-back, entered, none-entered)
