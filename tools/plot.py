@@ -33,7 +33,7 @@ The engine is the C call of the library (`make lib`); with --run the run program
 
 --plain draws the first-order answer beside it, dashed: plain upwind (document 02, S-8) from the same first field, step by step, and its
 budget below. The C call makes corrected steps only, so the plain ones are made by the program `calls` (`rt check calls`, or --calls).
-After n accepted plain steps m / V of every cell is less than n from what the same steps give when q is not rounded down.
+How far m / V of a cell is from what the same steps give with no q rounded grows by less than 1 with each accepted one.
 
 examples:
   tools/plot.py tests/sessions/channel.in -o channel.svg

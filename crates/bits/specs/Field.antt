@@ -1,4 +1,4 @@
--- Document 01, "Record layouts": "Bit-packed, most significant bit first". A field of a list of bytes is the number that its bits spell.
+-- Document 01, "Record layouts", its first sentence: a field of a list of bytes is the number that its bits spell, the highest first.
 use mathlib.Core.List.{List}
 use Prim.Native.Nat.{ℕ, zero, suc, _+_, _-_, _*_, _/_, _%_, _^_}
 use lib.ListN.{getD}

@@ -105,7 +105,26 @@ faceBits kind = endBits + endBits + shareBits + valueBits kind
 abbrev pub fluxBits : ℕ → ℕ
 fluxBits kind = signBits + valueBits kind
 
+-- Where a value of the table stands: its section, counted from the head, and its field in a row of that.
+abbrev pub Column : Type 0
+Column = ℕ × ℕ
+
 -- A mesh: V for each cell; then first, second, s and K for each face.
+abbrev pub volumeColumn : Column
+volumeColumn = (1, 0)
+
+abbrev pub firstColumn : Column
+firstColumn = (2, 0)
+
+abbrev pub secondColumn : Column
+secondColumn = (2, 1)
+
+abbrev pub shareColumn : Column
+shareColumn = (2, 2)
+
+abbrev pub reachColumn : Column
+reachColumn = (2, 3)
+
 abbrev pub meshHead : Section
 meshHead = once (kindBits ∷ cellsBits ∷ facesBits ∷ meshZeroBits ∷ [])
 
@@ -123,6 +142,9 @@ meshValue kind M = values
     ∷ [])
 
 -- A field: m for each cell.
+abbrev pub massColumn : Column
+massColumn = (1, 0)
+
 abbrev pub fieldHead : Section
 fieldHead = once (kindBits ∷ cellsBits ∷ [])
 
@@ -145,6 +167,18 @@ fieldValue kind cells masses = values
 -- the release for each cell. A rim face is one whose second is the rim: a step record needs no more of the mesh than its counts and its seconds.
 abbrev pub isRim : List ℕ → ℕ → Bool
 isRim seconds f = marked rim seconds f
+
+abbrev pub signColumn : Column
+signColumn = (1, 0)
+
+abbrev pub sizeColumn : Column
+sizeColumn = (1, 1)
+
+abbrev pub outsideColumn : Column
+outsideColumn = (2, 0)
+
+abbrev pub releaseColumn : Column
+releaseColumn = (3, 0)
 
 -- how many rim faces there are below face n
 abbrev pub rimFaces : List ℕ → ℕ → ℕ

@@ -44,7 +44,7 @@ entriesOf (f ∷ fs) = f .name ∷ (f .masses ++ entriesOf fs)
 unfoldable pub storeOf : List Kept → List ℕ
 storeOf fs = length fs ∷ entriesOf fs
 
--- Of equal names in a broken store the first is meant. Whether a name is kept:
+-- Where a name stands twice, as only another hand can have left it, the earlier field counts. Whether a name is kept:
 module _ (name : ℕ) where
   unfoldable pub isKept : List Kept → Bool
   isKept [] = false

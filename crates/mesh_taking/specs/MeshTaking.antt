@@ -25,6 +25,10 @@ meshJudged bs volumes firsts seconds shares reaches = meshRecordFound bs
     andThen long 4 (facesIn bs) reaches)
     andThen meshValues ceiling (meshIn bs)
 
+-- The run and the host lend tables as long as the limits.
+abbrev pub meshJudgedInRun : List ℕ → Verdict
+meshJudgedInRun bs = meshJudged bs runCells runFaces runFaces runFaces runFaces
+
 -- A mesh of which v is found, in a record of this width: the answer, and each lent table. The counted entries are filled where it is accepted; no other entry is, and
 -- after a refusal none.
 pub record MeshKept (v : Verdict) (w : Width) (M : Mesh) (volumes firsts seconds shares reaches : List ℕ) (r : MeshAnswer) (volumes′ firsts′ seconds′ shares′ reaches′ : List ℕ) : Type 0 where

@@ -80,7 +80,7 @@ strait = record { cells = 1; faces = 2; volumes = 100 ∷ []; firsts = 0 ∷ 0 �
 abbrev pub through : ℕ → Call
 through u = record { fluxes = pos (suc u) ∷ negsuc u ∷ []; outsides = 0 ∷ 0 ∷ []; nexts = 0 ∷ []; moveds = pos 0 ∷ pos 0 ∷ []; work = replicate 6 0; releases = 0 ∷ [] }
 
--- The lines marked P, in document 01's order. Each step is accepted.
+-- The lines marked P, in document 01's order. Each step is accepted; 4 and 5 are corrections of one face, and no steps.
 pub record Figures : Type 0 where
   -- 1: channel step 1, with its cut correction
   pub channel-1-accepted : verdict channel (100000 ∷ 0 ∷ 0 ∷ []) channelCall ≡ fine

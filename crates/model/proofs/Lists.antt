@@ -1,8 +1,8 @@
 -- Demand 3 over an abstract kind of call, and the step on tables as such a call.
 use Prim.Native.Nat.{ℕ, _+_, _≤_, _<_}
-use mathlib.Core.Path.{_≡_, refl, ap, _∙_}
-use mathlib.Core.List.{List, [], _∷_, map}
-use native.Mathlib.Nat.{le-trans, add-zero, add-assoc}
+use mathlib.Core.Path.{_≡_, refl, _∙_}
+use mathlib.Core.List.{List, [], _∷_}
+use native.Mathlib.Nat.{le-trans}
 use native.Mathlib.Omega.{arith}
 use lib.IntN.{ℤ}
 use lib.ListN.{length, List·getD-append}
@@ -12,7 +12,7 @@ use Rattle.lists.proofs.Tables.{length-table, getD-table, length-over, getD-ove
 use Rattle.model.specs.Mesh.{Mesh, updated, total}
 use Rattle.model.specs.Step.{StepInput, mass, inMass, outMass, releasedMass}
 use Rattle.model.specs.Causes.{Outcome, accepted, refused, fine, Call, inputOf, fieldVerdict, verdict}
-use Rattle.model.specs.Calls.{massIn, Bounded, Left, fieldAfter, enteredBy, goneBy, releasedBy, crossingOf, Scheme, corrected, plain, lentMasses, nextTable, stepOnTables, afterAll, totalIn, totalOut, totalReleased, EachAccepted, Claim, Deed, stepped, givenBack, storeOnly, stepping, fieldBy, Account, startsAt, accountBy, lastField, lastAccount, EachDone, Ledger}
+use Rattle.model.specs.Calls.{massIn, Bounded, Left, fieldAfter, enteredBy, goneBy, releasedBy, crossingOf, Scheme, corrected, plain, lentMasses, nextTable, stepOnTables, afterAll, totalIn, totalOut, totalReleased, EachStep, Claim, Deed, stepped, givenBack, storeOnly, stepping, fieldBy, Account, startsAt, accountBy, lastField, lastAccount, EachCall, Ledger}
 use Rattle.model.proofs.Verdicts.{both-fine}
 use Rattle.model.proofs.Next.{Keeps, amounts-budget, moved-keeps, carried-keeps}
 use Rattle.model.proofs.Raised.{raised-sum}
@@ -25,109 +25,94 @@ pub record Fair (M : Mesh) (P : Type 0) (field : List ℕ) (l : Left) : Type 0 w
   pub holds : P
   pub field-accepted : fieldVerdict M (l .field) ≡ fine
 
--- what an accepted call of a list owes: a step is fair, and a field given back is accepted
-abbrev pub Owes : Mesh → Type 0 → List ℕ → Deed → Type 0
-Owes M P field (stepped l) = Fair M P field l
-Owes M P field (givenBack back) = P × (fieldVerdict M back ≡ fine)
-Owes M P field storeOnly = P
+-- what a call of a list owes that does this: P, and of a step that it is fair, of a field given back that it is accepted
+abbrev pub Owes : Mesh → Type 0 → List ℕ → Outcome Deed → Type 0
+Owes M P field (accepted (stepped l)) = Fair M P field l
+Owes M P field (accepted (givenBack back)) = P × (fieldVerdict M back ≡ fine)
+Owes M P field (accepted storeOnly) = P
+Owes M P field (refused i j) = P
 
-module _ (M : Mesh) {K : Type 0} (does : K → List ℕ → Outcome Deed) (P : K → List ℕ → Deed → Type 0)
-    (owes : (k : K) (field : List ℕ) (d : Deed) → fieldVerdict M field ≡ fine → does k field ≡ accepted d → Owes M (P k field d) field d) where
+-- From each call to every list of calls, where C holds of each call on the field lent to it: as that it kept its contract.
+module _ (M : Mesh) {K : Type 0} (does : K → List ℕ → Outcome Deed) (C : K → List ℕ → Type 0) (P : K → List ℕ → Outcome Deed → Type 0)
+    (owes : (k : K) (field : List ℕ) → C k field → fieldVerdict M field ≡ fine → (o : Outcome Deed) → does k field ≡ o → Owes M (P k field o) field o) where
   -- the budget stands at a field
   abbrev Stands : List ℕ → Account → Type 0
   Stands field a = total M (massIn field) + a .since .gone ≡ a .start + a .since .entered + a .since .released
 
-  one-stands : (k : K) (field : List ℕ) → fieldVerdict M field ≡ fine → (a : Account) → Stands field a → (o : Outcome Deed) → does k field ≡ o
+  one-stands : (k : K) (field : List ℕ) → C k field → fieldVerdict M field ≡ fine → (a : Account) → Stands field a → (o : Outcome Deed) → does k field ≡ o
       → Stands (fieldBy o field) (accountBy M o a)
-  one-stands k field g a s (accepted (stepped l)) e = omega (arith, owes k field (stepped l) g e .budget, s)
-  one-stands k field g a s (accepted (givenBack back)) e = omega arith
-  one-stands k field g a s (accepted storeOnly) e = s
-  one-stands k field g a s (refused i j) e = s
+  one-stands k field c g a s (accepted (stepped l)) e = omega (arith, owes k field c g (accepted (stepped l)) e .budget, s)
+  one-stands k field c g a s (accepted (givenBack back)) e = omega arith
+  one-stands k field c g a s (accepted storeOnly) e = s
+  one-stands k field c g a s (refused i j) e = s
 
-  one-accepted : (k : K) (field : List ℕ) → fieldVerdict M field ≡ fine → (o : Outcome Deed) → does k field ≡ o → fieldVerdict M (fieldBy o field) ≡ fine
-  one-accepted k field g (accepted (stepped l)) e = owes k field (stepped l) g e .field-accepted
-  one-accepted k field g (accepted (givenBack back)) e = owes k field (givenBack back) g e .1
-  one-accepted k field g (accepted storeOnly) e = g
-  one-accepted k field g (refused i j) e = g
+  one-accepted : (k : K) (field : List ℕ) → C k field → fieldVerdict M field ≡ fine → (o : Outcome Deed) → does k field ≡ o
+      → fieldVerdict M (fieldBy o field) ≡ fine
+  one-accepted k field c g (accepted (stepped l)) e = owes k field c g (accepted (stepped l)) e .field-accepted
+  one-accepted k field c g (accepted (givenBack back)) e = owes k field c g (accepted (givenBack back)) e .1
+  one-accepted k field c g (accepted storeOnly) e = g
+  one-accepted k field c g (refused i j) e = g
 
-  one-holds : (k : K) (field : List ℕ) → fieldVerdict M field ≡ fine → (d : Deed) → does k field ≡ accepted d → P k field d
-  one-holds k field g (stepped l) e = owes k field (stepped l) g e .holds
-  one-holds k field g (givenBack back) e = owes k field (givenBack back) g e .0
-  one-holds k field g storeOnly e = owes k field storeOnly g e
+  one-holds : (k : K) (field : List ℕ) → C k field → fieldVerdict M field ≡ fine → (o : Outcome Deed) → does k field ≡ o → P k field o
+  one-holds k field c g (accepted (stepped l)) e = owes k field c g (accepted (stepped l)) e .holds
+  one-holds k field c g (accepted (givenBack back)) e = owes k field c g (accepted (givenBack back)) e .0
+  one-holds k field c g (accepted storeOnly) e = owes k field c g (accepted storeOnly) e
+  one-holds k field c g (refused i j) e = owes k field c g (refused i j) e
 
-  all-stand : (a : Account) (field : List ℕ) → fieldVerdict M field ≡ fine → Stands field a → (ks : List K) → Stands (lastField M does field ks) (lastAccount M does a field ks)
+  all-stand : (a : Account) (field : List ℕ) → fieldVerdict M field ≡ fine → Stands field a → (ks : List K) → EachCall M does C field ks
+      → Stands (lastField M does field ks) (lastAccount M does a field ks)
   unfolding lastField lastAccount
-  all-stand a field g s [] = s
-  all-stand a field g s (k ∷ ks) =
-      all-stand (accountBy M (does k field) a) (fieldBy (does k field) field) (one-accepted k field g (does k field) refl) (one-stands k field g a s (does k field) refl) ks
+  all-stand a field g s [] c = s
+  all-stand a field g s (k ∷ ks) c = all-stand (accountBy M (does k field) a) (fieldBy (does k field) field) (one-accepted k field (c .0) g (does k field) refl)
+      (one-stands k field (c .0) g a s (does k field) refl) ks (c .1)
 
-  all-hold : (field : List ℕ) → fieldVerdict M field ≡ fine → (ks : List K) → EachDone M does P field ks
-  all-hold field g [] = tt
-  all-hold field g (k ∷ ks) = ((λ d e. one-holds k field g d e), all-hold (fieldBy (does k field) field) (one-accepted k field g (does k field) refl) ks)
-
-  pub all-accepted : (field : List ℕ) → fieldVerdict M field ≡ fine → (ks : List K) → fieldVerdict M (lastField M does field ks) ≡ fine
-  unfolding lastField
-  all-accepted field g [] = g
-  all-accepted field g (k ∷ ks) = all-accepted (fieldBy (does k field) field) (one-accepted k field g (does k field) refl) ks
-
-  -- from each call to every list of calls
-  pub ledger-law : (field : List ℕ) → fieldVerdict M field ≡ fine → (ks : List K) → Ledger M does P field ks
-  ledger-law field g ks = record { budget = all-stand (startsAt M field) field g (omega arith) ks; each-call = all-hold field g ks; field-accepted = all-accepted field g ks }
-
--- The case without store calls: lists whose calls are all steps, among calls of another kind.
-module _ (M : Mesh) {K L : Type 0} (comes : K → List ℕ → Outcome Left) (P : K → List ℕ → Left → Type 0) (does : L → List ℕ → Outcome Deed) (Q : L → List ℕ → Deed → Type 0)
-    (call : K → L) (same : (k : K) (field : List ℕ) → does (call k) field ≡ stepping (comes k field)) (says : (k : K) (field : List ℕ) (l : Left) → Q (call k) field (stepped l) → P k field l) where
-  field-by : (k : K) (field : List ℕ) (o : Outcome Left) → comes k field ≡ o → fieldBy (does (call k) field) field ≡ fieldAfter o field
-  field-by k field (accepted l) e = rw (same k field, e)
-  field-by k field (refused i j) e = rw (same k field, e)
-
-  last-field : (field : List ℕ) (ks : List K) → lastField M does field (map call ks) ≡ afterAll comes field ks
-  unfolding lastField afterAll
-  last-field field [] = refl
-  last-field field (k ∷ ks) =
-      ap (λ (f : List ℕ). lastField M does f (map call ks)) (field-by k field (comes k field) refl) ∙ last-field (fieldAfter (comes k field) field) ks
-
-  abbrev counting : Account → ℕ → ℕ → ℕ → Account
-  counting a entered gone released = record {
-    start = a .start;
-    since = record { entered = a .since .entered + entered; gone = a .since .gone + gone; released = a .since .released + released };
-  }
-
-  account-by : (k : K) (field : List ℕ) (a : Account) (o : Outcome Left) → comes k field ≡ o → accountBy M (does (call k) field) a ≡ counting a (enteredBy o) (goneBy o) (releasedBy o)
-  account-by k field a (accepted l) e = rw (same k field, e)
-  account-by k field a (refused i j) e = rw (same k field, e, add-zero (a .since .entered), add-zero (a .since .gone), add-zero (a .since .released))
-
-  last-account : (a : Account) (field : List ℕ) (ks : List K) → lastAccount M does a field (map call ks)
-      ≡ counting a (totalIn comes field ks) (totalOut comes field ks) (totalReleased comes field ks)
-  unfolding lastAccount totalIn totalOut totalReleased
-  last-account a field [] = rw (add-zero (a .since .entered), add-zero (a .since .gone), add-zero (a .since .released))
-  last-account a field (k ∷ ks) =
-      let o = comes k field in
-      let left = fieldAfter o field in
-      ap (λ (f : List ℕ). lastAccount M does (accountBy M (does (call k) field) a) f (map call ks)) (field-by k field o refl)
-      ∙ ap (λ (b : Account). lastAccount M does b left (map call ks)) (account-by k field a o refl)
-      ∙ last-account (counting a (enteredBy o) (goneBy o) (releasedBy o)) left ks
-      ∙ rw (
-        add-assoc (a .since .entered) (enteredBy o) (totalIn comes left ks),
-        add-assoc (a .since .gone) (goneBy o) (totalOut comes left ks),
-        add-assoc (a .since .released) (releasedBy o) (totalReleased comes left ks),
-      )
-
-  each-step : (field : List ℕ) (ks : List K) → EachDone M does Q field (map call ks) → EachAccepted comes P field ks
-  each-step field [] e = tt
-  each-step field (k ∷ ks) e = (
-    (λ l q. says k field l (e .0 (stepped l) (same k field ∙ ap stepping q))),
-    each-step (fieldAfter (comes k field) field) ks (rw (field-by k field (comes k field) refl) at (e .1)),
+  all-hold : (field : List ℕ) → fieldVerdict M field ≡ fine → (ks : List K) → EachCall M does C field ks
+      → EachCall M does (λ k before. P k before (does k before)) field ks
+  all-hold field g [] c = tt
+  all-hold field g (k ∷ ks) c = (
+    one-holds k field (c .0) g (does k field) refl,
+    all-hold (fieldBy (does k field) field) (one-accepted k field (c .0) g (does k field) refl) ks (c .1),
   )
 
-  pub steps-alone : (field : List ℕ) (ks : List K) → Ledger M does Q field (map call ks) → Claim M comes P field ks
-  steps-alone field ks l = record {
-    budget =
-        let b = rw (last-field field ks, last-account (startsAt M field) field ks) at (l .budget) in
-        omega (arith, b);
-    each-call = each-step field ks (l .each-call);
-    field-accepted = rw (last-field field ks) at (l .field-accepted);
+  all-accepted : (field : List ℕ) → fieldVerdict M field ≡ fine → (ks : List K) → EachCall M does C field ks → fieldVerdict M (lastField M does field ks) ≡ fine
+  unfolding lastField
+  all-accepted field g [] c = g
+  all-accepted field g (k ∷ ks) c = all-accepted (fieldBy (does k field) field) (one-accepted k field (c .0) g (does k field) refl) ks (c .1)
+
+  pub ledger-law : (field : List ℕ) → fieldVerdict M field ≡ fine → (ks : List K) → EachCall M does C field ks → Ledger M does P field ks
+  ledger-law field g ks c = record {
+    budget = all-stand (startsAt M field) field g (omega arith) ks c;
+    each-call = all-hold field g ks c;
+    field-accepted = all-accepted field g ks c;
   }
+
+-- The same of lists of steps alone.
+module _ (M : Mesh) {K : Type 0} (comes : K → List ℕ → Outcome Left) (C : K → List ℕ → Type 0) (P : K → List ℕ → Outcome Left → Type 0)
+    (owes : (k : K) (field : List ℕ) → C k field → fieldVerdict M field ≡ fine → (o : Outcome Left) → comes k field ≡ o → Owes M (P k field o) field (stepping o)) where
+  step-closes : (k : K) (field : List ℕ) → C k field → fieldVerdict M field ≡ fine → (o : Outcome Left) → comes k field ≡ o
+      → total M (massIn (fieldAfter o field)) + goneBy o ≡ total M (massIn field) + enteredBy o + releasedBy o
+  step-closes k field c g (accepted l) e = owes k field c g (accepted l) e .budget
+  step-closes k field c g (refused i j) e = omega arith
+
+  step-accepted : (k : K) (field : List ℕ) → C k field → fieldVerdict M field ≡ fine → (o : Outcome Left) → comes k field ≡ o
+      → fieldVerdict M (fieldAfter o field) ≡ fine
+  step-accepted k field c g (accepted l) e = owes k field c g (accepted l) e .field-accepted
+  step-accepted k field c g (refused i j) e = g
+
+  step-holds : (k : K) (field : List ℕ) → C k field → fieldVerdict M field ≡ fine → (o : Outcome Left) → comes k field ≡ o → P k field o
+  step-holds k field c g (accepted l) e = owes k field c g (accepted l) e .holds
+  step-holds k field c g (refused i j) e = owes k field c g (refused i j) e
+
+  pub claim-law : (field : List ℕ) → fieldVerdict M field ≡ fine → (ks : List K) → EachStep comes C field ks → Claim M comes P field ks
+  unfolding afterAll totalIn totalOut totalReleased
+  claim-law field g [] c = record { budget = omega arith; each-call = tt; field-accepted = g }
+  claim-law field g (k ∷ ks) c =
+      let rest = claim-law (fieldAfter (comes k field) field) (step-accepted k field (c .0) g (comes k field) refl) ks (c .1) in
+      record {
+        budget = omega (arith, step-closes k field (c .0) g (comes k field) refl, rest .budget);
+        each-call = (step-holds k field (c .0) g (comes k field) refl, rest .each-call);
+        field-accepted = rest .field-accepted;
+      }
 
 -- a field whose counted masses are those after the amounts x of a step that is ready keeps the budget and the bounds; the step started from
 -- another field, raised by what was released

@@ -111,16 +111,17 @@ module _ {K : Type 0} (comes : K → List ℕ → Outcome Left) where
   totalReleased field [] = 0
   totalReleased field (k ∷ ks) = releasedBy (comes k field) + totalReleased (fieldAfter (comes k field) field) ks
 
-  -- P holds of each accepted call, the field lent to it and what it leaves.
-  abbrev pub EachAccepted : (K → List ℕ → Left → Type 0) → List ℕ → List K → Type 0
-  EachAccepted P field [] = Unit {0}
-  EachAccepted P field (k ∷ ks) = ((l : Left) → comes k field ≡ accepted l → P k field l) × EachAccepted P (fieldAfter (comes k field) field) ks
+  -- P holds of each call of a list and of the field lent to it.
+  abbrev pub EachStep : (K → List ℕ → Type 0) → List ℕ → List K → Type 0
+  EachStep P field [] = Unit {0}
+  EachStep P field (k ∷ ks) = P k field × EachStep P (fieldAfter (comes k field) field) ks
 
--- Demand 3: the budget over all calls; what P says of each accepted one, as the bounds; and the field is an accepted one again.
-pub record Claim (M : Mesh) {K : Type 0} (comes : K → List ℕ → Outcome Left) (P : K → List ℕ → Left → Type 0) (field : List ℕ) (ks : List K) : Type 0 where
+-- Demand 3: the budget over all calls; what P says of each call, of the field lent to it and of what it comes to, as the bounds of a step that
+-- is accepted; and the field is an accepted one again.
+pub record Claim (M : Mesh) {K : Type 0} (comes : K → List ℕ → Outcome Left) (P : K → List ℕ → Outcome Left → Type 0) (field : List ℕ) (ks : List K) : Type 0 where
   pub budget : total M (massIn (afterAll comes field ks)) + totalOut comes field ks
       ≡ total M (massIn field) + totalIn comes field ks + totalReleased comes field ks
-  pub each-call : EachAccepted comes P field ks
+  pub each-call : EachStep comes (λ k before. P k before (comes k before)) field ks
   pub field-accepted : fieldVerdict M (afterAll comes field ks) ≡ fine
 
 -- Document 02, S-4: lists that hold calls on a store beside steps. What an accepted call does: it makes a step; it gives a field back; or it
@@ -175,15 +176,15 @@ module _ (M : Mesh) where
     lastAccount a field [] = a
     lastAccount a field (k ∷ ks) = lastAccount (accountBy (does k field) a) (fieldBy (does k field) field) ks
 
-    -- P holds of each accepted call, the field lent to it and what it does.
-    abbrev pub EachDone : (K → List ℕ → Deed → Type 0) → List ℕ → List K → Type 0
-    EachDone P field [] = Unit {0}
-    EachDone P field (k ∷ ks) = ((d : Deed) → does k field ≡ accepted d → P k field d) × EachDone P (fieldBy (does k field) field) ks
+    -- P holds of each call of a list and of the field lent to it.
+    abbrev pub EachCall : (K → List ℕ → Type 0) → List ℕ → List K → Type 0
+    EachCall P field [] = Unit {0}
+    EachCall P field (k ∷ ks) = P k field × EachCall P (fieldBy (does k field) field) ks
 
-    -- Demand 3 of such a list: the budget since the last return; what P says of each accepted call; and the field is an accepted one again.
-    pub record Ledger (P : K → List ℕ → Deed → Type 0) (field : List ℕ) (ks : List K) : Type 0 where
+    -- Demand 3 of such a list: the budget since the last return; what P says of each call; and the field is an accepted one again.
+    pub record Ledger (P : K → List ℕ → Outcome Deed → Type 0) (field : List ℕ) (ks : List K) : Type 0 where
       pub budget : total M (massIn (lastField field ks)) + lastAccount (startsAt field) field ks .since .gone
           ≡ lastAccount (startsAt field) field ks .start + lastAccount (startsAt field) field ks .since .entered
           + lastAccount (startsAt field) field ks .since .released
-      pub each-call : EachDone P field ks
+      pub each-call : EachCall (λ k before. P k before (does k before)) field ks
       pub field-accepted : fieldVerdict M (lastField field ks) ≡ fine

@@ -101,7 +101,8 @@ module _ (M : Mesh) where
   unfoldable pub outgoing : (ℕ → ℤ) → ℕ → ℕ
   outgoing x c = sum (M .faces) (leaving x c)
 
-  -- "One step", stages 1 and 5: the masses m after the amounts x have passed, low-order ones after the carried, next ones after the moved.
+  -- "One step", stages 1 and 5: the masses m after the amounts x have passed, low-order ones after the carried, next ones after the moved. What
+  -- leaves is there, so that the difference is never cut off at 0: `affords` of `Keeps`, Next.antt in proofs.
   unfoldable pub updated : (ℕ → ℕ) → (ℕ → ℤ) → ℕ → ℕ
   updated m x c = (m c + incoming x c) - outgoing x c
 

@@ -45,7 +45,8 @@ raised cells field releases = table cells (λ c. getD field c 0 + getD releases 
 unfoldable pub releasedMass : (cells : ℕ) (releases : List ℕ) → ℕ
 releasedMass cells releases = sum cells (λ c. getD releases c 0)
 
--- "Mesh, water and salt", items 4 and 5: what a step works on, m and q per cell, U and an outside value per face. The stages are written for any q.
+-- "Mesh, water and salt", items 4 and 5: what a step works on, m and q per cell, U and an outside value per face. The stages are written for
+-- any q; every step of the papers is made by `inputOf` (Causes.antt), where q is m / V rounded down, and nothing is promised of another.
 pub record StepInput : Type 0 where
   pub mesh : Mesh
   pub masses : List ℕ
@@ -95,7 +96,7 @@ module _ (S : StepInput) where
   unfoldable pub low : ℕ → ℕ
   low = updated M mass carried
 
-  -- Stage 2: t, the share of the way that lies upwind.
+  -- Stage 2: t, the share of the way that lies upwind. s is at most 255 by cause 5, so nothing is cut off.
   unfoldable pub upwindShare : ℕ → ℕ
   upwindShare f = cond (isNegative (flux f)) (256 - share M f) (share M f)
 
@@ -127,7 +128,7 @@ module _ (S : StepInput) where
   unfoldable pub hi : ℕ → ℕ
   hi c = greatest (M .faces) (concentration c) (adjacent c)
 
-  -- G = V·hi + V − 1 − m and L = m − V·lo, at the low-order mass m
+  -- G = V·hi + V − 1 − m and L = m − V·lo, at the low-order mass m. Never cut off at 0: Next.antt in proofs, `maxGain-is` and `maxLoss-is`.
   unfoldable pub maxGain : ℕ → ℕ
   maxGain c = (volume M c * hi c + volume M c - 1) - low c
 

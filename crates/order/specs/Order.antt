@@ -9,7 +9,7 @@ use Rattle.order.specs.declared.Ranked.{Ranked}
 abbrev pub maxRanked : ℕ
 maxRanked = 4294967295
 
--- A cell as the order sees it: its entry, and the volume that its rest is a part of.
+-- A cell as the order sees it: its entry, and the volume that its rest is a part of. q·V is at most m, so the rest is not cut off.
 unfoldable pub rankedOf : ℕ → ℕ → ℕ → Ranked
 rankedOf cell volume mass = record { cell = cell; q = mass / volume; rest = mass - mass / volume * volume; volume = volume }
 

@@ -12,8 +12,8 @@ use Rattle.page.specs.Page.{restPlaces, pages, pageBytes, pageText}
 use Rattle.page.specs.declared.PageAnswer.{PageAnswer}
 use Rattle.page.specs.declared.PageAnswer.the-variants.{Printed, Refused}
 
--- The page's bytes are the table at position 12; 14, a page beyond the last, comes after 6 with the page as its place. The call is lent
--- no faces, so 4 and 5 find nothing. A further table that is lent after the bytes, S-14's marks, is judged between 2 and 3.
+-- Causes in order: position 12 of 2 is what the page is printed into; 14 stands behind 6, and its place is the page asked for. The call is
+-- lent no faces, so 4 and 5 find nothing. A further table that is lent after the bytes, S-14's marks, is judged between 2 and 3.
 unfoldable pub verdictWith : (further : Verdict) (volumes masses : List ℕ) (cells page room : ℕ) → Verdict
 verdictWith further volumes masses cells page room =
     counts (cellsOnly cells volumes)

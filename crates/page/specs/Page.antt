@@ -49,6 +49,7 @@ pageCells = 60
 unfoldable pub pages : ℕ → ℕ
 pages cells = (cells + (pageCells - 1)) / pageCells
 
+-- Beyond the last page the difference is cut off at 0: there are no cells.
 unfoldable pub cellsOn : ℕ → ℕ → ℕ
 cellsOn cells page = min pageCells (cells - page * pageCells)
 
@@ -57,7 +58,7 @@ unfoldable pub pageBytes : ℕ → ℕ → ℕ → ℕ
 pageBytes places cells page = cond (ltb page (pages cells)) ((cellsOn cells page + 1) * lineBytes places) 0
 
 module _ (volumes masses : List ℕ) where
-  -- q is m / V rounded down, the rest m − qV
+  -- q is m / V rounded down, the rest m − qV, never cut off, since qV is at most m
   abbrev pub qOf : ℕ → ℕ
   qOf c = massIn masses c / getD volumes c 0
 

@@ -8,7 +8,7 @@ use Rattle.lists.proofs.Tables.{getD-table}
 use Rattle.model.specs.Mesh.{Mesh, volume}
 use Rattle.model.specs.Step.{rounded, mass, concentration, low}
 use Rattle.model.specs.Causes.{Outcome, accepted, refused, taken, fine, Call, release, inputOf, verdict}
-use Rattle.model.specs.Calls.{massIn, Left, fieldAfter, plain, lentMasses, stepOnTables, afterAll, EachAccepted}
+use Rattle.model.specs.Calls.{massIn, Left, fieldAfter, plain, lentMasses, stepOnTables, afterAll, EachStep}
 use Rattle.model.specs.Accepted.{Sound}
 use Rattle.model.proofs.Raised.{raised-at}
 use Rattle.model.proofs.Low.{low-is}
@@ -109,6 +109,9 @@ module _ (M : Mesh) {K : Type 0} (past : K → List ℕ) (tables : K → Call) (
   abbrev AsPlain : K → List ℕ → Left → Type 0
   AsPlain k field l = stepOnTables plain M (tables k) (lentMasses M (past k) field) ≡ accepted l
 
+  abbrev AllPlain : List ℕ → List K → Type 0
+  AllPlain = EachStep comes (λ k before. (l : Left) → comes k before ≡ accepted l → AsPlain k before l)
+
   abbrev accepts : List ℕ → List K → ℕ
   accepts = acceptedOf M tables comes
 
@@ -123,7 +126,7 @@ module _ (M : Mesh) {K : Type 0} (past : K → List ℕ) (tables : K → Call) (
   after-one k field x n a (refused i j) e = subst (λ (j : ℕ). AllCloser M j field x) (omega arith) a
 
   -- with an error below n, each accepted call adds less than one
-  grows : (ks : List K) (field : List ℕ) → EachAccepted comes AsPlain field ks → (x : Fractions) (n : ℕ) → AllCloser M n field x
+  grows : (ks : List K) (field : List ℕ) → AllPlain field ks → (x : Fractions) (n : ℕ) → AllCloser M n field x
       → AllCloser M (accepts field ks + n) (afterAll comes field ks) (unrounded x field ks)
   unfolding acceptedOf afterAll unroundedAfter
   grows [] field p x n a = subst (λ (j : ℕ). AllCloser M j field x) (omega arith) a
@@ -135,16 +138,16 @@ module _ (M : Mesh) {K : Type 0} (past : K → List ℕ) (tables : K → Call) (
       (grows ks left (p .1) y (taken o 1 0 + n) (after-one k field x n a o (p .0)))
 
   -- without error, the first accepted call brings one below 1
-  begins : (ks : List K) (field : List ℕ) → EachAccepted comes AsPlain field ks → (x : Fractions) → AllWithin M 0 field x → 1 ≤ accepts field ks
+  begins : (ks : List K) (field : List ℕ) → AllPlain field ks → (x : Fractions) → AllWithin M 0 field x → 1 ≤ accepts field ks
       → AllCloser M (accepts field ks) (afterAll comes field ks) (unrounded x field ks)
   unfolding acceptedOf afterAll unroundedAfter
   begins [] field p x w h = absurd (omega arith)
   begins (k ∷ ks) field p x w h = go (comes k field) (λ q. begins ks field q x w) (p .0) (p .1) h
     where
       go : (o : Outcome Left)
-          → (EachAccepted comes AsPlain field ks → 1 ≤ accepts field ks
+          → (AllPlain field ks → 1 ≤ accepts field ks
           → AllCloser M (accepts field ks) (afterAll comes field ks) (unrounded x field ks))
-          → ((l : Left) → o ≡ accepted l → AsPlain k field l) → EachAccepted comes AsPlain (fieldAfter o field) ks
+          → ((l : Left) → o ≡ accepted l → AsPlain k field l) → AllPlain (fieldAfter o field) ks
           → 1 ≤ taken o 1 0 + accepts (fieldAfter o field) ks
           → AllCloser M (taken o 1 0 + accepts (fieldAfter o field) ks) (afterAll comes (fieldAfter o field) ks)
           (unrounded (taken o (unroundedStep M (tables k) x) x) (fieldAfter o field) ks)
@@ -157,14 +160,14 @@ module _ (M : Mesh) {K : Type 0} (past : K → List ℕ) (tables : K → Call) (
   exact : (field : List ℕ) → AllWithin M 0 field (wholeMasses field)
   exact field = record { some = omega arith; each = λ c h. record { above = omega arith; below = omega arith } }
 
-  pub error-of : (field : List ℕ) (ks : List K) → EachAccepted comes AsPlain field ks → ErrorBelow M tables comes field ks
+  pub error-of : (field : List ℕ) (ks : List K) → AllPlain field ks → ErrorBelow M tables comes field ks
   error-of field ks p h c l =
       let a = begins ks field p (wholeMasses field) (exact field) h in
       as-fractions (a .roomy c l) (a .each c l)
 
 -- the calls of a list come to what they come to
 themselves : (M : Mesh) (field : List ℕ) (calls : List PlainCall)
-    → EachAccepted (plainComes M) (λ p before l. stepOnTables plain M (p .tables) (lentMasses M (p .past) before) ≡ accepted l) field calls
+    → EachStep (plainComes M) (λ p before. (l : Left) → plainComes M p before ≡ accepted l → stepOnTables plain M (p .tables) (lentMasses M (p .past) before) ≡ accepted l) field calls
 themselves M field [] = tt
 themselves M field (p ∷ ps) = ((λ l e. e), themselves M (fieldAfter (plainComes M p field) field) ps)
 

@@ -50,6 +50,10 @@ pub record PlainCall : Type 0 where
 abbrev pub plainComes : Mesh → PlainCall → List ℕ → Outcome Left
 plainComes M p field = stepOnTables plain M (p .tables) (lentMasses M (p .past) field)
 
+-- In these parts every q times V is m.
+abbrev pub NoneRounded : Mesh → Call → ℕ → List ℕ → Type 0
+NoneRounded M k E y = (c : ℕ) → c < M .cells → concentration (inputOf M y (inParts E k)) c * volume M c ≡ mass (inputOf M y (inParts E k)) c
+
 -- S-8's error. What makes it one about steps that are not rounded stands beside it.
 pub record PlainError : Type 0 where
   pub error-below : (M : Mesh) (field : List ℕ) (calls : List PlainCall) → ErrorBelow M (λ p. p .tables) (plainComes M) field calls
@@ -60,8 +64,8 @@ pub record PlainError : Type 0 where
   pub nothing-cut : (M : Mesh) (lent : List ℕ) (k : Call) → verdict M lent k ≡ fine → (x : Fractions) (c : ℕ) → c < M .cells
       → low (unroundedInput M k x) c + outgoing M (carried (unroundedInput M k x)) c
       ≡ mass (unroundedInput M k x) c + incoming M (carried (unroundedInput M k x)) c
-  -- The parts do not matter: the same masses y in any others, E to a unit, give the same fractions if no q is rounded in them.
+  -- The parts do not matter. Count the masses in any parts you like, E of them to a unit, y of them in each cell: if no q is rounded in them,
+  -- the plain step gives the same fractions.
   pub in-any-parts : (M : Mesh) (lent : List ℕ) (k : Call) → verdict M lent k ≡ fine → (x : Fractions) (E : ℕ) (y : List ℕ)
-      → ((c : ℕ) → c < M .cells → massIn y c * x .parts ≡ massIn (x .tops) c * E)
-      → ((c : ℕ) → c < M .cells → concentration (inputOf M y (inParts E k)) c * volume M c ≡ mass (inputOf M y (inParts E k)) c)
+      → ((c : ℕ) → c < M .cells → massIn y c * x .parts ≡ massIn (x .tops) c * E) → NoneRounded M k E y
       → (c : ℕ) → c < M .cells → low (inputOf M y (inParts E k)) c * unroundedStep M k x .parts ≡ massIn (unroundedStep M k x .tops) c * E

@@ -1,16 +1,16 @@
 -- Document 02, S-8: the error, of plain calls as they were made and answered.
 use Prim.Native.Nat.{ℕ}
-use mathlib.Core.List.{List, [], _∷_}
+use mathlib.Core.List.{List}
 use lib.IntN.{ℤ}
 use Rattle.model.specs.Mesh.{Mesh}
 use Rattle.model.specs.Causes.{Outcome, Call}
-use Rattle.model.specs.Calls.{Left, fieldAfter, plain, lentMasses}
+use Rattle.model.specs.Calls.{Left, plain, lentMasses, EachStep}
 use Rattle.plain.specs.Error.{ErrorBelow}
 use Rattle.transport.specs.Promise.{stepSaid, leftBy, StepPromise}
 use Rattle.transport.specs.declared.StepAnswer.{StepAnswer}
 
--- A call of `plain_step`: what stood in its table of masses past the field, the other tables lent to it, its answer, and its next masses,
--- moved and work afterwards.
+-- A call of `plain_step`, or of `step`, as it was made: what stood in its table of masses past the field, the other tables lent to it, its
+-- answer, and its next masses, moved and work afterwards.
 pub record Made : Type 0 where
   pub past : List ℕ
   pub tables : Call
@@ -25,10 +25,8 @@ cameTo m field = leftBy (stepSaid (m .answer)) (m .next)
 
 -- Each call was made on the field that the one before it had come to, and it kept the contract of `plain_step`.
 abbrev pub KeptOn : Mesh → List ℕ → List Made → Type 0
-KeptOn M field [] = Unit {0}
-KeptOn M field (m ∷ ms) =
-    StepPromise plain M (lentMasses M (m .past) field) (m .tables) (m .answer) (m .next) (m .moved) (m .work)
-    × KeptOn M (fieldAfter (cameTo m field) field) ms
+KeptOn M = EachStep cameTo
+    (λ m field. StepPromise plain M (lentMasses M (m .past) field) (m .tables) (m .answer) (m .next) (m .moved) (m .work))
 
 -- S-8's error, of whatever such calls answered and left
 abbrev pub ErrorOfCalls : Type 0

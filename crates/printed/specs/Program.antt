@@ -1,4 +1,4 @@
--- What the run program does, call by call. Each fact is the contract of the call that run/src, session/src/printing.rt or intake/src makes at
+-- What the run program does, call by call. Each fact is the contract of the call that run/src, session/src or intake/src makes at
 -- that place; the order is the program's. Of reading and writing no contract can speak: it is taken here that a read gives the next bytes of the input, fewer only where
 -- it ends, and that a write prints what it is lent.
 use Prim.Native.Nat.{ℕ, _+_, _<_}
@@ -9,7 +9,6 @@ use lib.ListN.{length, take, drop}
 use Rattle.lists.specs.Table.{table}
 use Rattle.model.specs.Mesh.{Mesh, meshOf, runCells, runFaces}
 use Rattle.model.specs.Causes.{Outcome}
-use Rattle.model.specs.Answers.{number}
 use Rattle.model.specs.declared.Refusal.{Refusal}
 use Rattle.checks.specs.declared.TotalAnswer.the-variants as total
 use Rattle.bits.specs.Layout.{bytesFor}
@@ -25,9 +24,9 @@ use Rattle.board.specs.declared.BoardAnswer.{BoardAnswer}
 use Rattle.mesh_taking.specs.MeshTaking.{MeshTaking}
 use Rattle.taking.specs.Taking.{FieldTaking, StepTaking}
 use Rattle.step_taken.specs.declared.StepTaken.{StepTaken}
-use Rattle.lines.specs.Lines.{Holds, letterM, letterF, refusalLine, stepLine, boardLine}
+use Rattle.lines.specs.Lines.{Holds, letterM, letterF, boardLine}
 use Rattle.intake.specs.Intake.{stillNeeded}
-use Rattle.session.specs.Session.{lineOf, goesOn}
+use Rattle.session.specs.Session.{refusedText, startText, lineOf, goesOn}
 use Rattle.lines.specs.declared.Line.{Line}
 
 -- intake: the head, what `heads` says of it, what `intake::still_needed` says is still to come.
@@ -70,17 +69,17 @@ pub data StepsPrint (w : Width) (M : Mesh) : ℕ → List ℕ → List ℕ → L
 pub data FieldPrints (w : Width) (M : Mesh) (input : List ℕ) : List ℕ → Type 0 where
   field-refused : (bs masses : List ℕ) (refusal : Refusal) (line : Line) → Reads (bytesFor fieldHeadBits) (fieldNeeds w (M .cells)) input bs
       → FieldTaking w (M .cells) (M .volumes) bs (table runCells (λ i. 0)) (total.Refused refusal) masses
-      → Holds line (refusalLine letterF (number (refusal .cause)) (refusal .place)) → FieldPrints w M input (shown line)
+      → Holds line (refusedText letterF refusal) → FieldPrints w M input (shown line)
   field-accepted : {out : List ℕ} (bs masses : List ℕ) (sum : ℕ) (line : Line) → Reads (bytesFor fieldHeadBits) (fieldNeeds w (M .cells)) input bs
       → FieldTaking w (M .cells) (M .volumes) bs (table runCells (λ i. 0)) (total.Total sum) masses
-      → Holds line (stepLine 0 0 0 sum 0) → StepsPrint w M 1 masses (drop (length bs) input) out → FieldPrints w M input (shown line ++ out)
+      → Holds line (startText sum) → StepsPrint w M 1 masses (drop (length bs) input) out → FieldPrints w M input (shown line ++ out)
 
 -- `main`: the mesh, in tables of zeros; refused, it has the only line.
 pub data Prints (input : List ℕ) : List ℕ → Type 0 where
   mesh-refused : (bs volumes firsts seconds shares reaches : List ℕ) (refusal : Refusal) (line : Line) → Reads (bytesFor meshHeadBits) (meshNeeds runCells runFaces) input bs
       → MeshTaking bs (table runCells (λ i. 0)) (table runFaces (λ i. 0)) (table runFaces (λ i. 0)) (table runFaces (λ i. 0)) (table runFaces (λ i. 0))
       (mesh.Refused refusal) volumes firsts seconds shares reaches
-      → Holds line (refusalLine letterM (number (refusal .cause)) (refusal .place)) → Prints input (shown line)
+      → Holds line (refusedText letterM refusal) → Prints input (shown line)
   mesh-accepted : {out : List ℕ} (bs volumes firsts seconds shares reaches : List ℕ) (counts : MeshCounts) → Reads (bytesFor meshHeadBits) (meshNeeds runCells runFaces) input bs
       → MeshTaking bs (table runCells (λ i. 0)) (table runFaces (λ i. 0)) (table runFaces (λ i. 0)) (table runFaces (λ i. 0)) (table runFaces (λ i. 0))
       (mesh.Read counts) volumes firsts seconds shares reaches

@@ -15,7 +15,7 @@ use Rattle.heads.specs.declared.Width.{Width}
 use Rattle.reading.specs.declared.MeshCounts.{MeshCounts}
 use Rattle.board.specs.Board.{entryAt, listed, boardVerdict}
 use Rattle.board.specs.declared.Entry.{Entry}
-use Rattle.mesh_taking.specs.MeshTaking.{meshJudged}
+use Rattle.mesh_taking.specs.MeshTaking.{meshJudgedInRun}
 use Rattle.taking.specs.Taking.{fieldJudged, stepJudged, stepIn, printedOf, massesAfter}
 use Rattle.step_taken.specs.declared.Printed.{Printed}
 use Rattle.lines.specs.Lines.{letterM, letterF, refusalLine, stepLine, boardLine}
@@ -91,7 +91,7 @@ abbrev pub runMesh : List ℕ → Mesh
 runMesh bs = inTables (meshIn bs)
 
 abbrev pub meshSaidOf : List ℕ → Outcome MeshCounts
-meshSaidOf bs = meshJudged bs runCells runFaces runFaces runFaces runFaces andThen accepted (countsIn bs)
+meshSaidOf bs = meshJudgedInRun bs andThen accepted (countsIn bs)
 
 abbrev pub fromMesh : Outcome MeshCounts → Mesh → List ℕ → List ℕ
 fromMesh (accepted counts) M input = fieldPrinted (counts .width) M input

@@ -10,14 +10,15 @@ use Rattle.lists.specs.Table.{table, over}
 use Rattle.lists.proofs.Tables.{length-table, getD-table, length-over, getD-over}
 use Rattle.model.specs.Mesh.{Mesh, meshOf, runCells, runFaces}
 use Rattle.model.specs.Alike.{AgreeMesh, AgreeCall}
-use Rattle.model.specs.Causes.{fine, long, cellsOnly, counts, meshTables, fieldTable, stepTables, meshFieldVerdict}
+use Rattle.model.specs.Causes.{fine, long, cellsOnly, counts, meshTables, meshValues, meshVerdict, fieldTable, fieldValues, fieldVerdict, stepTables, meshFieldVerdict}
 use Rattle.model.proofs.Verdicts.{both-fine, need-met}
+use Rattle.model.proofs.Accepted.{field-fit, field-accepted}
 use Rattle.model.proofs.Agree.{mesh-values-agree, field-values-agree, verdict-agree}
 use Rattle.heads.specs.Heads.{widthIn, cellsIn, facesIn}
 use Rattle.reading.specs.Reading.{volumesIn, firstsIn, secondsIn, sharesIn, reachesIn, meshIn, massesIn, outsidesIn, releasesIn}
 use Rattle.mesh_taking.specs.MeshTaking.{meshJudged}
 use Rattle.taking.specs.Taking.{fieldJudged, stepIn, stepRecordFound, stepJudged}
-use Rattle.mesh_taking.proofs.MeshLaws.{limits}
+use Rattle.mesh_taking.proofs.MeshLaws.{limits, values-left}
 use Rattle.lagoon.specs.Host.{meshTested, fieldTested, stepTested}
 use Rattle.promises.proofs.Counted.{outsides-same, releases-same, found-same}
 
@@ -42,11 +43,11 @@ module _ (mesh field step volumes firsts seconds shares reaches masses : List �
   mesh-as-the-run = rw (lv, lf, ls, lw, lk)
 
   -- what they hold of an accepted mesh, and of a field on it
-  abbrev lent : Mesh
+  abbrev pub lent : Mesh
   lent = meshOf (cellsIn mesh) (facesIn mesh) (over (volumesIn mesh) volumes) (over (firstsIn mesh) firsts) (over (secondsIn mesh) seconds) (over (sharesIn mesh) shares)
       (over (reachesIn mesh) reaches)
 
-  abbrev lentField : List ℕ
+  abbrev pub lentField : List ℕ
   lentField = over (massesIn field (cellsIn mesh)) masses
 
   module _ (mesh-fine : meshTested mesh field step ≡ fine) where
@@ -86,7 +87,7 @@ module _ (mesh field step volumes firsts seconds shares reaches masses : List �
     unfolding reachesIn
     reaches-long = (full _ _, held-long _ _ reaches (omega (arith, lk, within)))
 
-    masses-long : (cellsIn mesh ≤ length (massesIn field (cellsIn mesh))) × (cellsIn mesh ≤ length lentField)
+    pub masses-long : (cellsIn mesh ≤ length (massesIn field (cellsIn mesh))) × (cellsIn mesh ≤ length lentField)
     unfolding massesIn
     masses-long = (full _ _, held-long _ _ masses (omega (arith, lm, within)))
 
@@ -99,6 +100,14 @@ module _ (mesh field step volumes firsts seconds shares reaches masses : List �
       enough 3 shares-long,
       enough 4 reaches-long,
     )
+
+    -- the mesh in the run's tables is an accepted one
+    pub lent-fine : meshVerdict lent ≡ fine
+    unfolding meshVerdict counts meshJudged
+    lent-fine =
+        let p = both-fine _ _ mesh-fine in
+        let whole : meshVerdict (meshIn mesh) ≡ fine = values-left mesh (both-fine _ _ (p .0) .0) ∙ p .1 in
+        rw (tables-same, mesh-values-agree (meshIn mesh) lent agrees) whole
 
     cells-agree : AgreeMesh (cellsOnly (cellsIn mesh) (volumesIn mesh)) (cellsOnly (cellsIn mesh) (over (volumesIn mesh) volumes))
     cells-agree = record {
@@ -123,6 +132,14 @@ module _ (mesh field step volumes firsts seconds shares reaches masses : List �
       mesh-values-agree _ _ cells-agree,
       field-values-agree _ _ cells-agree (massesIn field (cellsIn mesh)) (massesIn field (cellsIn mesh)) (λ c h. refl),
     )
+
+    -- and so is a field on it
+    pub lent-field-fine : fieldTested mesh field step ≡ fine → fieldVerdict lent lentField ≡ fine
+    unfolding fieldJudged meshFieldVerdict massesIn
+    lent-field-fine e =
+        let salt : fieldValues (cellsOnly (cellsIn mesh) (volumesIn mesh)) (massesIn field (cellsIn mesh)) ≡ fine = both-fine _ _ (both-fine _ _ e .1) .1 in
+        field-accepted lent lentField (masses-long .1)
+        (λ c h. rw (held-same _ _ masses c h, agrees .volumes c h) (field-fit (cellsOnly (cellsIn mesh) (volumesIn mesh)) (massesIn field (cellsIn mesh)) salt c h))
 
     seconds-same : (f : ℕ) → f < facesIn mesh → getD (over (secondsIn mesh) seconds) f 0 ≡ getD (secondsIn mesh) f 0
     seconds-same = agrees .seconds

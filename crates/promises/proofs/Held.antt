@@ -1,4 +1,5 @@
--- The record of a mesh or of a field holds it, and no other bytes do: they would be read as the same entries, and writing undoes reading.
+-- The record of an accepted mesh within the ceilings of a width holds it, and so that of an accepted field; and a mesh that a record holds is
+-- within the ceilings of its width.
 use Prim.Native.Nat.{ℕ}
 use mathlib.Core.Path.{_≡_, sym, ap, _∙_}
 use mathlib.Core.List.{List}
@@ -9,20 +10,17 @@ use Rattle.model.specs.Ceilings.{MeshSmall}
 use Rattle.model.specs.Causes.{fine, counts, meshValues, meshVerdict, fieldValues, fieldVerdict}
 use Rattle.model.proofs.Verdicts.{both-fine}
 use Rattle.model.proofs.Ceilings.{old-meshes, small-of}
-use Rattle.bits.proofs.Layouts.{packed-lt}
-use Rattle.sections.specs.Sections.{fieldsOf, recordOf}
-use Rattle.heads.specs.Layouts.{meshKind, fieldKind, meshShape, meshValue, fieldShape, fieldValue, meshRecord, fieldRecord}
-use Rattle.heads.specs.Heads.{kindIn, widthIn}
+use Rattle.heads.specs.Layouts.{meshKind, fieldKind, meshRecord, fieldRecord}
+use Rattle.heads.specs.Heads.{widthIn}
 use Rattle.heads.specs.declared.Width.{Width}
 use Rattle.heads.specs.declared.Width.the-variants.{Narrow, Wide}
-use Rattle.reading.specs.Reading.{meshIn, massesIn}
+use Rattle.reading.specs.Reading.{meshIn}
 use Rattle.reading.specs.declared.MeshCounts.{MeshCounts}
-use Rattle.reading.proofs.ReadLaws.{mesh-kind-is}
 use Rattle.writing.specs.Writing.{mostOf}
-use Rattle.writing.proofs.Accepting.{mesh-passed, field-passed}
-use Rattle.writing.proofs.RoundTrip.{cells-read-back, faces-read-back, mesh-read-back, volumes-read-back, firsts-read-back, seconds-read-back, shares-read-back, reaches-read-back, field-read-back, masses-read-back, mesh-written-back, field-written-back}
+use Rattle.writing.proofs.Accepting.{mesh-passed}
+use Rattle.writing.proofs.RoundTrip.{cells-read-back, faces-read-back, mesh-read-back, volumes-read-back, firsts-read-back, seconds-read-back, shares-read-back, reaches-read-back, field-read-back, masses-read-back}
 use Rattle.mesh_taking.proofs.MeshLaws.{mesh-small}
-use Rattle.promises.specs.Held.{Bytes, cut, HoldsMesh, HoldsField}
+use Rattle.promises.specs.Held.{cut, HoldsMesh, HoldsField}
 
 -- V and K within the old ceilings, cut to the counts or not, and of a mesh that a record holds
 pub cut-small : (M : Mesh) → MeshSmall M → MeshSmall (cut M)
@@ -37,23 +35,10 @@ whole-small M s = record {
   small-reaches = λ f l. rw (getD-table (M .faces) (reach M) 0 f l) at (s .small-reaches f l);
 }
 
--- the width and the kind of a record that holds a mesh
+-- the width of a record that holds a mesh
 pub width-held : (w : Width) (M : Mesh) (bs : List ℕ) → HoldsMesh w M bs → w ≡ widthIn bs
 width-held w M bs h =
     ap (λ (k : MeshCounts). k .width) (mesh-passed maxCells maxFaces bs (M .cells) (M .faces) (M .faces) (M .faces) (M .faces) (h .mesh-read) .counts-are)
-
-kind-held : (w : Width) (M : Mesh) (bs : List ℕ) → HoldsMesh w M bs → kindIn bs ≡ meshKind w
-kind-held w M bs h =
-    let p = mesh-passed maxCells maxFaces bs (M .cells) (M .faces) (M .faces) (M .faces) (M .faces) (h .mesh-read) in
-    sym (mesh-kind-is (kindIn bs) (p .kind)) ∙ ap meshKind (sym (width-held w M bs h))
-
-mesh-bytes : (kind : ℕ) (M : Mesh) → Bytes (meshRecord kind M)
-unfolding meshRecord recordOf
-mesh-bytes kind M j = packed-lt (fieldsOf (meshShape kind (M .cells) (M .faces)) (meshValue kind M)) j
-
-field-bytes : (kind cells : ℕ) (field : List ℕ) → Bytes (fieldRecord kind cells field)
-unfolding fieldRecord recordOf
-field-bytes kind cells field j = packed-lt (fieldsOf (fieldShape kind cells) (fieldValue kind cells field)) j
 
 -- what an accepted mesh and field have passed
 module _ (M : Mesh) (mesh-fine : meshVerdict M ≡ fine) where
@@ -100,13 +85,6 @@ module _ (w : Width) (M : Mesh) (mesh-fine : meshVerdict M ≡ fine) (fits : mes
     mesh-held = mesh-is;
   }
 
-  pub mesh-alone : (bs : List ℕ) → Bytes bs → HoldsMesh w M bs → bs ≡ meshRecord (meshKind w) M
-  mesh-alone bs b h =
-      sym (mesh-written-back bs b maxCells maxFaces (M .cells) (M .faces) (M .faces) (M .faces) (M .faces) (h .mesh-read))
-      ∙ ap (λ (k : ℕ). meshRecord k (meshIn bs)) (kind-held w M bs h ∙ sym (kind-held w M (meshRecord (meshKind w) M) mesh-holds))
-      ∙ ap (meshRecord (kindIn (meshRecord (meshKind w) M))) (h .mesh-held ∙ sym mesh-is)
-      ∙ mesh-written-back (meshRecord (meshKind w) M) (mesh-bytes (meshKind w) M) maxCells maxFaces (M .cells) (M .faces) (M .faces) (M .faces) (M .faces) (mesh-holds .mesh-read)
-
   module _ (field : List ℕ) (field-fine : fieldVerdict M field ≡ fine) where
     pub salt : fieldValues M field ≡ fine
     unfolding fieldVerdict
@@ -114,12 +92,3 @@ module _ (w : Width) (M : Mesh) (mesh-fine : meshVerdict M ≡ fine) (fits : mes
 
     pub field-holds : HoldsField w M field (fieldRecord (fieldKind w) (M .cells) field)
     field-holds = record { field-read = field-read-back w M inside fits field salt (M .cells) (omega arith); field-held = masses-read-back w M inside fits field salt }
-
-    pub field-alone : (bs : List ℕ) → Bytes bs → HoldsField w M field bs → bs ≡ fieldRecord (fieldKind w) (M .cells) field
-    field-alone bs b h =
-        let same = field-passed w (M .cells) bs (M .cells) (h .field-read) .kind in
-        let own = field-passed w (M .cells) (fieldRecord (fieldKind w) (M .cells) field) (M .cells) (field-holds .field-read) .kind in
-        sym (field-written-back bs b w (M .cells) (M .cells) (h .field-read))
-        ∙ ap (λ (k : ℕ). fieldRecord k (M .cells) (massesIn bs (M .cells))) (same ∙ sym own)
-        ∙ ap (fieldRecord (kindIn (fieldRecord (fieldKind w) (M .cells) field)) (M .cells)) (h .field-held ∙ sym (field-holds .field-held))
-        ∙ field-written-back (fieldRecord (fieldKind w) (M .cells) field) (field-bytes (fieldKind w) (M .cells) field) w (M .cells) (M .cells) (field-holds .field-read)

@@ -1,7 +1,10 @@
 pub mod Held
 pub mod Counted
+pub mod OnTables
+pub mod OnTaking
 pub mod OnRecords
-pub mod Demand3
-pub mod Ties
+pub mod Steps
+pub mod Stores
 pub mod AsTheRun
 pub mod Channel
+pub mod Run

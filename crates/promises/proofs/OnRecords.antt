@@ -1,9 +1,10 @@
--- The host's call on records as a call of a list: what it owes where it is accepted. The records hold the counted entries, so the step is
--- one on tables cut to the counts, which agrees with the step on the whole tables.
-use Prim.Native.Nat.{ℕ}
+-- The host's call on records that hold a mesh and a field, as a call of a list: what it owes by its contract. The records hold the counted
+-- entries, so the step is one on tables cut to the counts, which agrees with the step on the whole tables.
+use Prim.Native.Nat.{ℕ, _+_, _*_, _/_, _%_, _≤_, _<_}
 use mathlib.Core.Path.{_≡_, refl, sym, ap, _∙_}
 use mathlib.Core.List.{List}
 use native.Mathlib.Omega.{arith}
+use borrow.Author.Tests.{ne-eqb}
 use lib.ListN.{length, drop}
 use lib.Seq.{take-at}
 use Rattle.lists.specs.Table.{table, over}
@@ -11,25 +12,33 @@ use Rattle.lists.proofs.Tables.{length-table, getD-table, table-cong}
 use Rattle.model.specs.Mesh.{Mesh, second}
 use Rattle.model.specs.Step.{StepInput, releasedMass, moved, next}
 use Rattle.model.specs.Accepted.{Ready}
-use Rattle.model.specs.Causes.{accepted, fine, Call, inputOf, meshValues, meshVerdict, fieldValues, fieldVerdict, verdict}
+use Rattle.model.specs.Causes.{accepted, refused, Verdict, fine, _andThen_, Call, inputOf, meshValues, meshVerdict, fieldValues, fieldVerdict, verdict}
 use Rattle.model.specs.Calls.{massIn, Bounded, Left, crossingOf}
-use Rattle.model.proofs.Verdicts.{both-fine}
+use Rattle.model.proofs.Verdicts.{both-fine, accepted-of, refused-of}
 use Rattle.model.proofs.Accepted.{ready, passed, counted, mesh-fit}
 use Rattle.model.proofs.Next.{moved-keeps}
 use Rattle.model.proofs.Lists.{Fair, amounts-fair, raised-total}
 use Rattle.model.proofs.Agree.{in-agree, out-agree, inputs-agree, fair-agree}
-use Rattle.heads.specs.Layouts.{meshKind, fieldKind, meshRecord, fieldRecord, fieldLength}
+use Rattle.heads.specs.Layouts.{fieldKind, fieldRecord, fieldLength}
 use Rattle.heads.specs.declared.Width.{Width}
 use Rattle.writing.specs.Writing.{mostOf}
 use Rattle.reading.specs.Reading.{meshIn, massesIn}
 use Rattle.writing.proofs.Back.{field-record-length}
 use Rattle.writing.proofs.RoundTrip.{masses-read-back}
 use Rattle.taking.specs.Taking.{ownTables, stepJudged}
-use Rattle.lagoon.specs.Host.{hostVerdict, hostBytes}
-use Rattle.promises.specs.Held.{cut, cutField}
-use Rattle.promises.specs.Demand3.{onRecords, waterIn, nextRecord, stepOnRecords, Kept}
+use Rattle.lagoon.specs.Host.{causeStep, hostVerdict, hostBytes, HostPromise}
+use Rattle.lagoon.proofs.Small.{taken-apart}
+use Rattle.promises.specs.Held.{cut, cutField, HoldsMesh, HoldsField}
+use Rattle.promises.specs.Steps.{HostMade, hostSaid, waterIn, nextRecord}
 use Rattle.promises.proofs.Counted.{outsides-same, releases-same, cut-agrees}
-use Rattle.promises.proofs.Held.{within, passes, width-held, cut-within, mesh-holds, field-holds}
+use Rattle.promises.proofs.Held.{within, passes, width-held, holds-within, cut-within, field-holds}
+
+-- a number taken apart: the verdict that it was made from
+number-apart : (n cause place : ℕ) → n ≡ causeStep * cause + place → 1 ≤ cause → place < causeStep → hostSaid n ≡ refused cause place
+number-apart n cause place e some less =
+    let c : n / causeStep ≡ cause = omega (arith, e, less) in
+    let p : n % causeStep ≡ place = omega (arith, e, less) in
+    rw (ne-eqb n 0 (omega (arith, e, some)), c, p)
 
 -- a step record holds the same water and releases on a mesh cut to its counts
 water-same : (M : Mesh) (step : List ℕ) → waterIn (cut M) step ≡ waterIn M step
@@ -44,49 +53,61 @@ water-same M step =
 abbrev own : Call → Call
 own k = ownTables (k .fluxes) (k .outsides) (k .releases)
 
-module _ (w : Width) (M : Mesh) (mesh-fine : meshVerdict M ≡ fine) (fits : meshValues (mostOf w) M ≡ fine) (field : List ℕ) (field-fine : fieldVerdict M field ≡ fine) (step : List ℕ) where
+module _ (M : Mesh) (mesh-fine : meshVerdict M ≡ fine) (field : List ℕ) (m : HostMade) (mesh-holds : HoldsMesh (m .width) M (m .mesh)) (field-was : HoldsField (m .width) M field (m .field)) where
+  abbrev w : Width
+  w = m .width
+
+  -- the mesh is within the ceilings of its records
+  fits : meshValues (mostOf w) M ≡ fine
+  fits = holds-within w M mesh-fine (m .mesh) mesh-holds
+
+  abbrev water : Call
+  water = waterIn M (m .step)
+
   -- whatever is said of what the records hold is said of the counted entries
   carry : {A : Type 0} (F : Mesh → List ℕ → Call → A)
-      → F (meshIn (meshRecord (meshKind w) M)) (massesIn (fieldRecord (fieldKind w) (M .cells) field) (meshIn (meshRecord (meshKind w) M) .cells)) (waterIn (meshIn (meshRecord (meshKind w) M)) step)
-      ≡ F (cut M) (cutField M field) (waterIn M step)
-  carry F = ap (λ (N : Mesh). F N (massesIn (fieldRecord (fieldKind w) (M .cells) field) (N .cells)) (waterIn N step)) (mesh-holds w M mesh-fine fits .mesh-held)
-      ∙ ap (λ (m : List ℕ). F (cut M) m (waterIn (cut M) step)) (field-holds w M mesh-fine fits field field-fine .field-held)
-      ∙ ap (λ (k : Call). F (cut M) (cutField M field) k) (water-same M step)
+      → F (meshIn (m .mesh)) (massesIn (m .field) (meshIn (m .mesh) .cells)) (waterIn (meshIn (m .mesh)) (m .step)) ≡ F (cut M) (cutField M field) water
+  carry F = ap (λ (N : Mesh). F N (massesIn (m .field) (N .cells)) (waterIn N (m .step))) (mesh-holds .mesh-held)
+      ∙ ap (λ (x : List ℕ). F (cut M) x (waterIn (cut M) (m .step))) (field-was .field-held)
+      ∙ ap (λ (k : Call). F (cut M) (cutField M field) k) (water-same M (m .step))
 
   -- the step that the records hold, and the masses after it
   abbrev cutStep : StepInput
-  cutStep = inputOf (cut M) (cutField M field) (waterIn M step)
+  cutStep = inputOf (cut M) (cutField M field) water
 
   abbrev whole : StepInput
-  whole = inputOf M field (waterIn M step)
+  whole = inputOf M field water
 
   abbrev after : List ℕ
   after = table (M .cells) (next cutStep)
 
   abbrev left : Left
-  left = record { field = after; crossing = crossingOf M field (waterIn M step) }
+  left = record { field = after; crossing = crossingOf M field water }
 
-  module _ (room : ℕ) (ok : hostVerdict (meshRecord (meshKind w) M) (fieldRecord (fieldKind w) (M .cells) field) step room ≡ fine) where
-    found : verdict (cut M) (cutField M field) (own (waterIn M step)) ≡ fine
+  abbrev verdictOf : Verdict
+  verdictOf = hostVerdict (m .mesh) (m .field) (m .step) (length (m .room))
+
+  module _ (ok : verdictOf ≡ fine) where
+    found : verdict (cut M) (cutField M field) (own water) ≡ fine
     unfolding hostVerdict stepJudged
-    found = sym (carry (λ N m k. verdict N m (own k))) ∙ both-fine _ _ (both-fine _ _ (both-fine _ _ ok .0) .1) .1
+    found = sym (carry (λ N x k. verdict N x (own k))) ∙ both-fine _ _ (both-fine _ _ (both-fine _ _ ok .0) .1) .1
 
     cut-ready : Ready cutStep
-    cut-ready = ready (cut M) (cutField M field) (own (waterIn M step)) found
+    cut-ready = ready (cut M) (cutField M field) (own water) found
 
     cut-fair : Fair (cut M) (Bounded cutStep after) (cutField M field) left
     unfolding next
     cut-fair =
         let few-cells = counted M (within M mesh-fine) .few-cells in
         let fit = mesh-fit M (passes M mesh-fine) in
-        let g = inputs-agree M (cut M) field (cutField M field) (waterIn M step) (waterIn M step) (cut-agrees M field (waterIn M step)) in
+        let g = inputs-agree M (cut M) field (cutField M field) water water (cut-agrees M field water) in
         amounts-fair cutStep cut-ready (moved cutStep) (moved-keeps cutStep (cut-ready .sound)) (cutField M field)
-        (releasedMass (M .cells) (waterIn M step .releases)) (raised-total (cut M) (cutField M field) (waterIn M step)) after (omega (arith, length-table (M .cells) (next cutStep)))
+        (releasedMass (M .cells) (water .releases)) (raised-total (cut M) (cutField M field) water) after (omega (arith, length-table (M .cells) (next cutStep)))
         (λ c h. getD-table (M .cells) (next cutStep) 0 c h)
         left refl (rw (in-agree whole cutStep few-cells fit g, out-agree whole cutStep few-cells fit g))
 
     left-fair : Fair M (Bounded whole after) field left
-    left-fair = fair-agree M (cut M) field (cutField M field) (waterIn M step) (waterIn M step) (cut-agrees M field (waterIn M step))
+    left-fair = fair-agree M (cut M) field (cutField M field) water water (cut-agrees M field water)
         (counted M (within M mesh-fine) .few-cells) (mesh-fit M (passes M mesh-fine)) left cut-fair
 
     after-salt : fieldValues (cut M) after ≡ fine
@@ -103,24 +124,48 @@ module _ (w : Width) (M : Mesh) (mesh-fine : meshVerdict M ≡ fine) (fits : mes
         masses-read-back w (cut M) (p .counts-fine) (cut-within w M fits (p .mesh-values-fine)) after after-salt
         ∙ table-cong 0 (M .cells) (massIn after) (next cutStep) (λ c h. getD-table (M .cells) (next cutStep) 0 c h)
 
-  module _ (bytes : List ℕ) (ok : hostVerdict (meshRecord (meshKind w) M) (fieldRecord (fieldKind w) (M .cells) field) step (length bytes) ≡ fine) where
-    -- the next field record is that of the masses after the step
-    next-record-is : nextRecord M w step bytes field ≡ fieldRecord (fieldKind w) (M .cells) after
-    unfolding hostBytes over
-    next-record-is =
-        rw (ok, ← width-held w M (meshRecord (meshKind w) M) (mesh-holds w M mesh-fine fits), carry (λ N m k. fieldRecord (fieldKind w) (N .cells) (table (N .cells) (next (inputOf N m k)))))
-        (take-at (fieldRecord (fieldKind w) (M .cells) after) (drop (length (fieldRecord (fieldKind w) (M .cells) after)) bytes) (fieldLength (fieldKind w) (M .cells)) (record-long (length bytes) ok))
+  module _ (p : HostPromise (m .mesh) (m .field) (m .step) (m .room) (m .number) (m .bytes)) where
+    -- the number says what was found
+    number-says : hostSaid (m .number) ≡ verdictOf
+    number-says = go verdictOf refl
+      where
+        go : (v : Verdict) → verdictOf ≡ v → hostSaid (m .number) ≡ v
+        go (accepted t) e = let n : m .number ≡ 0 = p .number ∙ rw e in rw n
+        go (refused i j) e =
+            let n : m .number ≡ causeStep * i + j = p .number ∙ rw e in
+            let a = taken-apart (m .mesh) (m .field) (m .step) (length (m .room)) i j e in
+            number-apart (m .number) i j n (a .0) (a .2)
 
-    masses-are : massesIn (nextRecord M w step bytes field) (M .cells) ≡ after
-    masses-are = ap (λ (r : List ℕ). massesIn r (M .cells)) next-record-is ∙ read-back (length bytes) ok
+    -- accepted: the next field record is that of the masses after the step
+    module _ (ok : verdictOf ≡ fine) where
+      next-record-is : nextRecord M m ≡ fieldRecord (fieldKind w) (M .cells) after
+      unfolding hostBytes over
+      next-record-is =
+          rw (p .next-field, ok, ← width-held w M (m .mesh) mesh-holds, carry (λ N x k. fieldRecord (fieldKind w) (N .cells) (table (N .cells) (next (inputOf N x k)))))
+          (take-at (fieldRecord (fieldKind w) (M .cells) after) (drop (length (fieldRecord (fieldKind w) (M .cells) after)) (m .room)) (fieldLength (fieldKind w) (M .cells)) (record-long ok))
 
-    left-kept : Fair M (Kept M (onRecords w fits step bytes) field left) field left
-    left-kept = let f = left-fair (length bytes) ok in record { budget = f .budget; holds = (f .holds, next-record-is); field-accepted = f .field-accepted }
+      masses-are : massesIn (nextRecord M m) (M .cells) ≡ after
+      masses-are = ap (λ (r : List ℕ). massesIn r (M .cells)) next-record-is ∙ read-back ok
 
-    left-is : {l : Left} → stepOnRecords M w step bytes field ≡ accepted l → left ≡ l
-    unfolding stepOnRecords
-    left-is e = let d = both-fine _ _ e .1 in let m = masses-are in cc
+      next-holds : HoldsField w M after (nextRecord M m)
+      next-holds = rw next-record-is (field-holds w M mesh-fine fits after (left-fair ok .field-accepted))
 
-  pub records-fair : (bytes : List ℕ) (l : Left) → stepOnRecords M w step bytes field ≡ accepted l → Fair M (Kept M (onRecords w fits step bytes) field l) field l
-  unfolding stepOnRecords
-  records-fair bytes l e = let ok = both-fine _ _ e .0 in rw (← left-is bytes ok e) (left-kept bytes ok)
+      left-kept : Fair M (Bounded whole after × HoldsField w M after (nextRecord M m)) field left
+      left-kept = let f = left-fair ok in record { budget = f .budget; holds = (f .holds, next-holds); field-accepted = f .field-accepted }
+
+    abbrev came : Left
+    came = record { field = massesIn (nextRecord M m) (M .cells); crossing = crossingOf M field water }
+
+    pub host-fair : (l : Left) → (hostSaid (m .number) andThen accepted came) ≡ accepted l → Fair M (Bounded whole (l .field) × HoldsField w M (l .field) (nextRecord M m)) field l
+    host-fair l e =
+        let b = accepted-of (hostSaid (m .number)) came l (sym e) in
+        let ok : verdictOf ≡ fine = sym number-says ∙ b .0 in
+        let same : l ≡ left = b .1 ∙ ap (λ (x : List ℕ). record { field = x; crossing = crossingOf M field water }) (masses-are ok) in
+        rw same (left-kept ok)
+
+    -- refused: the bytes are as they were
+    pub host-refused : (i j : ℕ) → (hostSaid (m .number) andThen accepted came) ≡ refused i j → m .bytes ≡ m .room
+    unfolding hostBytes
+    host-refused i j e =
+        let r : verdictOf ≡ refused i j = sym number-says ∙ refused-of (hostSaid (m .number)) came i j (sym e) in
+        p .next-field ∙ rw r

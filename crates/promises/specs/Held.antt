@@ -1,18 +1,13 @@
 -- Document 01, "A list of steps": records that hold a mesh and a field.
-use Prim.Native.Nat.{ℕ, _<_}
+use Prim.Native.Nat.{ℕ}
 use mathlib.Core.Path.{_≡_}
 use mathlib.Core.List.{List}
-use lib.ListN.{getD}
 use Rattle.lists.specs.Table.{table}
 use Rattle.model.specs.Mesh.{Mesh, meshOf, volume, first, second, share, reach, maxCells, maxFaces}
 use Rattle.model.specs.Causes.{accepted, fine}
 use Rattle.model.specs.Calls.{massIn}
 use Rattle.heads.specs.declared.Width.{Width}
 use Rattle.reading.specs.Reading.{meshIn, massesIn, meshRead, fieldRead}
-
--- a list of bytes, as a record is
-abbrev pub Bytes : List ℕ → Type 0
-Bytes bs = (j : ℕ) → getD bs j 0 < 256
 
 -- a mesh and a field with their tables cut to the counts
 abbrev pub cut : Mesh → Mesh

@@ -1,2 +1,4 @@
 pub mod Held
-pub mod Demand3
+pub mod Steps
+pub mod Stores
+pub mod Run

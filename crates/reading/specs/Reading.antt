@@ -10,7 +10,7 @@ use Rattle.signed.specs.Sign.{withSign}
 use Rattle.model.specs.Mesh.{Mesh, meshOf}
 use Rattle.model.specs.Causes.{Outcome, accepted, Verdict, _andThen_, each, long}
 use Rattle.sections.specs.Sections.{Section, place, valueIn, columnIn}
-use Rattle.heads.specs.Layouts.{valueBits, meshZeroBits, stepZeroBits, meshHeadBits, stepHeadBits, meshShape, fieldShape, stepHead, fluxSection, outsideSection, stepShape, meshBits, stepBits, meshLength, fieldLength, stepLength}
+use Rattle.heads.specs.Layouts.{valueBits, meshZeroBits, stepZeroBits, meshHeadBits, stepHeadBits, Column, volumeColumn, firstColumn, secondColumn, shareColumn, reachColumn, massColumn, signColumn, sizeColumn, outsideColumn, releaseColumn, meshShape, fieldShape, stepHead, fluxSection, outsideSection, stepShape, meshBits, stepBits, meshLength, fieldLength, stepLength}
 use Rattle.heads.specs.Heads.{kindIn, widthIn, cellsIn, facesIn, hasLength, meshHeadVerdict, fieldHeadVerdict, stepHeadVerdict}
 use Rattle.zeros.specs.Zeros.{zeroBitGood, minusZero}
 use Rattle.heads.specs.declared.Width.{Width}
@@ -20,6 +20,10 @@ use Rattle.reading.specs.declared.MeshCounts.{MeshCounts}
 abbrev pub waterShape : (kind faces : ℕ) → List ℕ → List Section
 waterShape kind faces seconds = stepHead ∷ fluxSection kind faces ∷ outsideSection faces seconds ∷ []
 
+-- the entries of a column
+abbrev pub columnOf : List ℕ → List Section → Column → List ℕ
+columnOf bs S c = columnIn bs S (c .0) (c .1)
+
 -- Values: reading does not judge them. Each is the number that the bits at its place spell; places count from the record's first bit.
 module _ (bs : List ℕ) where
   abbrev pub shapeIn : List Section
@@ -27,19 +31,19 @@ module _ (bs : List ℕ) where
 
   -- a mesh: section 1 has a row for each cell, section 2 one for each face
   unfoldable pub volumesIn : List ℕ
-  volumesIn = columnIn bs shapeIn 1 0
+  volumesIn = columnOf bs shapeIn volumeColumn
 
   unfoldable pub firstsIn : List ℕ
-  firstsIn = columnIn bs shapeIn 2 0
+  firstsIn = columnOf bs shapeIn firstColumn
 
   unfoldable pub secondsIn : List ℕ
-  secondsIn = columnIn bs shapeIn 2 1
+  secondsIn = columnOf bs shapeIn secondColumn
 
   unfoldable pub sharesIn : List ℕ
-  sharesIn = columnIn bs shapeIn 2 2
+  sharesIn = columnOf bs shapeIn shareColumn
 
   unfoldable pub reachesIn : List ℕ
-  reachesIn = columnIn bs shapeIn 2 3
+  reachesIn = columnOf bs shapeIn reachColumn
 
   abbrev pub countsIn : MeshCounts
   countsIn = record { cells = cellsIn bs; faces = facesIn bs; width = widthIn bs }
@@ -49,31 +53,31 @@ module _ (bs : List ℕ) where
 
   -- a field
   unfoldable pub massesIn : ℕ → List ℕ
-  massesIn cells = columnIn bs (fieldShape (kindIn bs) cells) 1 0
+  massesIn cells = columnOf bs (fieldShape (kindIn bs) cells) massColumn
 
   -- a step: the sign and the size of each face's U stand before the outside values, and do not rest on the seconds
   abbrev pub minusIn : ℕ → ℕ → Bool
-  minusIn faces f = eqb (valueIn bs (stepHead ∷ fluxSection (kindIn bs) faces ∷ []) 1 0 f) 1
+  minusIn faces f = eqb (valueIn bs (stepHead ∷ fluxSection (kindIn bs) faces ∷ []) (signColumn .0) (signColumn .1) f) 1
 
   abbrev pub sizeIn : ℕ → ℕ → ℕ
-  sizeIn faces f = valueIn bs (stepHead ∷ fluxSection (kindIn bs) faces ∷ []) 1 1 f
+  sizeIn faces f = valueIn bs (stepHead ∷ fluxSection (kindIn bs) faces ∷ []) (sizeColumn .0) (sizeColumn .1) f
 
   unfoldable pub fluxesIn : ℕ → List ℤ
   fluxesIn faces = table faces (λ f. withSign (minusIn faces f) (sizeIn faces f))
 
   -- outside values away from the rim read 0: there is no row
   abbrev pub outsidePlace : ℕ → List ℕ → ℕ → ℕ
-  outsidePlace faces seconds f = place (waterShape (kindIn bs) faces seconds) 2 0 f
+  outsidePlace faces seconds f = place (waterShape (kindIn bs) faces seconds) (outsideColumn .0) (outsideColumn .1) f
 
   unfoldable pub outsidesIn : ℕ → List ℕ → List ℕ
-  outsidesIn faces seconds = columnIn bs (waterShape (kindIn bs) faces seconds) 2 0
+  outsidesIn faces seconds = columnOf bs (waterShape (kindIn bs) faces seconds) outsideColumn
 
   -- S-6: the shape of the kind that the head says; in kind 3 the releases read 0, for they have no bits
   abbrev pub stepShapeIn : (cells faces : ℕ) → List ℕ → List Section
   stepShapeIn cells faces seconds = stepShape (kindIn bs) cells faces seconds
 
   unfoldable pub releasesIn : (cells faces : ℕ) → List ℕ → List ℕ
-  releasesIn cells faces seconds = columnIn bs (stepShapeIn cells faces seconds) 3 0
+  releasesIn cells faces seconds = columnOf bs (stepShapeIn cells faces seconds) releaseColumn
 
 -- Cause 12, by the bit at i: the zero bits, and in a step the minus with size 0.
 unfoldable pub meshBitGood : List ℕ → ℕ → Bool

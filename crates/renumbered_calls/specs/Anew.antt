@@ -4,18 +4,18 @@ use mathlib.Core.Path.{_≡_}
 use mathlib.Core.Bool.{Bool}
 use mathlib.Core.List.{List}
 use Rattle.lists.specs.Renumbering.{Renumbering}
-use Rattle.model.specs.Mesh.{Mesh, runCells, runFaces}
+use Rattle.model.specs.Mesh.{Mesh, runCells}
 use Rattle.model.specs.Causes.{fine, Call}
 use Rattle.heads.specs.Layouts.{meshKind, fieldKind, meshRecord, fieldRecord, stepRecord}
 use Rattle.heads.specs.Heads.{kindIn, widthIn, cellsIn, facesIn}
 use Rattle.reading.specs.Reading.{meshIn, massesIn, fieldRead}
-use Rattle.mesh_taking.specs.MeshTaking.{meshJudged}
+use Rattle.mesh_taking.specs.MeshTaking.{meshJudgedInRun}
 use Rattle.taking.specs.Taking.{stepIn, stepRecordFound}
 use Rattle.renumbered.specs.Renumbered.{renumberedMesh, renumberedField, renumberedCall}
 
 -- The first office's records: the mesh is accepted, and field and step read; their values may be refused.
 pub record Reads (mesh field step : List ℕ) : Type 0 where
-  pub mesh-accepted : meshJudged mesh runCells runFaces runFaces runFaces runFaces ≡ fine
+  pub mesh-accepted : meshJudgedInRun mesh ≡ fine
   pub field-reads : fieldRead (widthIn mesh) (cellsIn mesh) field runCells ≡ fine
   pub step-reads : stepRecordFound (widthIn mesh) (meshIn mesh) step ≡ fine
 

@@ -9,6 +9,7 @@ use model::RUN_CELLS;
 use model::RUN_FACES;
 use reading::MeshAnswer;
 use session::Next;
+use step_taken::StepTaken;
 ghost use Prim.Native.Nat.{_≤_};
 ghost use lib.ListN.{length};
 
@@ -48,7 +49,13 @@ fn step_once(
         reaches,
         masses,
     );
-    session::print_step(step, taken)
+    let StepTaken::Stepped(printed) = taken else {
+        if let StepTaken::Refused(refusal) = taken {
+            return session::print_refused(step, refusal);
+        }
+        return Next::Nothing;
+    };
+    session::print_stepped(step, printed)
 }
 
 // The steps, one after another. A proved loop has to end and nothing says that the input does, so the step number stops it: at a
@@ -113,11 +120,11 @@ fn run_on(
     let answer = taking::take_field(width, cells, &buffer[..got], volumes, &mut masses);
     let TotalAnswer::Total(total) = answer else {
         if let TotalAnswer::Refused(refusal) = answer {
-            session::print_refusal(b'F', refusal);
+            session::print(session::refused_field_line(refusal));
         }
         return;
     };
-    if !session::print_start(total) {
+    if !session::print(session::start_line(total)) {
         return;
     }
     let next = steps(
@@ -160,7 +167,7 @@ fn main() {
     );
     let MeshAnswer::Read(counts) = answer else {
         if let MeshAnswer::Refused(refusal) = answer {
-            session::print_refusal(b'M', refusal);
+            session::print(session::refused_mesh_line(refusal));
         }
         return;
     };

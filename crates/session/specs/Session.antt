@@ -7,10 +7,11 @@ use lib.Dec.{eqb}
 use Rattle.model.specs.Causes.{Outcome, accepted, refused}
 use Rattle.model.specs.Answers.{number}
 use Rattle.model.specs.declared.Cause.{Cause}
+use Rattle.model.specs.declared.Refusal.{Refusal}
 use Rattle.step_taken.specs.Said.{takenSaid}
 use Rattle.step_taken.specs.declared.Printed.{Printed}
 use Rattle.step_taken.specs.declared.StepTaken.{StepTaken}
-use Rattle.lines.specs.Lines.{stepLine, refusedStepLine}
+use Rattle.lines.specs.Lines.{refusalLine, stepLine, refusedStepLine}
 use Rattle.session.specs.declared.printing.Next.{Next}
 use Rattle.session.specs.declared.printing.Next.the-variants.{Step, Board, Nothing}
 
@@ -20,6 +21,14 @@ endsBy cause = eqb cause 11 || eqb cause 13
 
 abbrev pub endsRun : Cause → Bool
 endsRun c = endsBy (number c)
+
+-- The only line of a refused mesh or field, by its letter.
+abbrev pub refusedText : ℕ → Refusal → List ℕ
+refusedText letter r = refusalLine letter (number (r .cause)) (r .place)
+
+-- Step 0 is the first field: its total, and nothing that passed.
+abbrev pub startText : ℕ → List ℕ
+startText total = stepLine 0 0 0 total 0
 
 -- A step's line: its number and what is printed of it, or why it is refused.
 abbrev pub stepText : ℕ → Outcome Printed → List ℕ

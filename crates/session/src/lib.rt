@@ -1,18 +1,20 @@
-// When a run ends, the line of a step, and each line printed.
+// When a run ends, its lines of mesh, field and steps, and each line printed.
 mod printing;
 
 use lines::Line;
 use model::Cause;
+use model::Refusal;
 pub use printing::Next;
 pub use printing::greet;
 pub use printing::print;
-pub use printing::print_refusal;
-pub use printing::print_start;
-pub use printing::print_step;
-use step_taken::StepTaken;
+pub use printing::print_refused;
+pub use printing::print_stepped;
+use step_taken::Printed;
 ghost use mathlib.Core.Path.{_≡_};
-ghost use Rattle.lines.specs.Lines.{Holds};
-ghost use Rattle.session.specs.Session.{endsRun, lineOf, goesOn};
+ghost use Rattle.model.specs.Causes.{accepted};
+ghost use Rattle.model.specs.Answers.{told};
+ghost use Rattle.lines.specs.Lines.{Holds, letterM, letterF};
+ghost use Rattle.session.specs.Session.{endsRun, refusedText, startText, stepText};
 
 // Whether a refusal of a step ends the run: causes 11 and 13.
 pub fn ends(cause: Cause) -> bool
@@ -24,36 +26,46 @@ pub fn ends(cause: Cause) -> bool
     }
 }
 
-// Whether another step may follow.
-pub fn goes_on(taken: StepTaken) -> bool
-    ensures { λ r. ⌜ r ≡ goesOn taken ⌝ }
+// The one line of a refused mesh.
+pub fn refused_mesh_line(refusal: Refusal) -> Line
+    ensures { λ r. ⌜ Holds r (refusedText letterM refusal) ⌝ }
 {
-    match taken {
-        StepTaken::Stepped(_) => true,
-        StepTaken::Refused(refusal) => {
-            let cause = refusal.cause;
-            !ends(cause)
-        }
-    }
+    let cause = refusal.cause;
+    lines::refusal_line(b'M', model::number(cause), refusal.place)
 }
 
-// The line of a step.
-pub fn taken_line(step: u64, taken: StepTaken) -> Line
-    ensures { λ r. ⌜ Holds r (lineOf step taken) ⌝ }
+// The one line of a refused field.
+pub fn refused_field_line(refusal: Refusal) -> Line
+    ensures { λ r. ⌜ Holds r (refusedText letterF refusal) ⌝ }
 {
-    match taken {
-        StepTaken::Stepped(printed) => {
-            lines::step_line(
-                step,
-                printed.entered,
-                printed.gone,
-                printed.total,
-                printed.released,
-            )
-        }
-        StepTaken::Refused(refusal) => {
-            let cause = refusal.cause;
-            lines::refused_step_line(step, model::number(cause), refusal.place)
-        }
-    }
+    let cause = refusal.cause;
+    lines::refusal_line(b'F', model::number(cause), refusal.place)
+}
+
+// The line of step 0, the first field.
+pub fn start_line(total: u64) -> Line
+    ensures { λ r. ⌜ Holds r (startText total) ⌝ }
+{
+    lines::step_line(0, 0, 0, total, 0)
+}
+
+// The line of an accepted step.
+pub fn stepped_line(step: u64, printed: Printed) -> Line
+    ensures { λ r. ⌜ Holds r (stepText step (accepted printed)) ⌝ }
+{
+    lines::step_line(
+        step,
+        printed.entered,
+        printed.gone,
+        printed.total,
+        printed.released,
+    )
+}
+
+// The line of a refused step.
+pub fn refused_step_line(step: u64, refusal: Refusal) -> Line
+    ensures { λ r. ⌜ Holds r (stepText step (told refusal)) ⌝ }
+{
+    let cause = refusal.cause;
+    lines::refused_step_line(step, model::number(cause), refusal.place)
 }

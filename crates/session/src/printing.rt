@@ -1,14 +1,17 @@
 // The run's lines on standard output.
-use crate::goes_on;
-use crate::taken_line;
+use crate::ends;
+use crate::refused_step_line;
+use crate::stepped_line;
 use libc::STDERR_FILENO;
 use libc::STDIN_FILENO;
 use libc::STDOUT_FILENO;
 use lines::Line;
 use model::Refusal;
-use step_taken::StepTaken;
+use step_taken::Printed;
 ghost use Rattle.io.specs.Counts.{Counts};
-ghost use Rattle.session.specs.Session.{goesOn, Follows};
+ghost use Rattle.model.specs.Causes.{accepted};
+ghost use Rattle.model.specs.Answers.{told};
+ghost use Rattle.session.specs.Session.{goesOnAfter, Follows};
 
 // What follows a step: another, the board, or nothing, since something is lost.
 pub enum Next {
@@ -30,29 +33,25 @@ pub fn print(line: Line) -> bool
     false
 }
 
-// The one line of a refused mesh or field.
-pub fn print_refusal(letter: u8, refusal: Refusal) {
-    let cause = refusal.cause;
-    print(lines::refusal_line(letter, model::number(cause), refusal.place));
-}
-
-// Step 0, the first field.
-pub fn print_start(total: u64) -> bool {
-    print(lines::step_line(0, 0, 0, total, 0))
-}
-
-// The line of a step, accepted or refused.
-pub fn print_step(step: u64, taken: StepTaken) -> Next
-    ensures { λ r. ⌜ Follows r (goesOn taken) ⌝ }
+// The line of an accepted step, after which another may follow.
+pub fn print_stepped(step: u64, printed: Printed) -> Next
+    ensures { λ r. ⌜ Follows r (goesOnAfter (accepted printed)) ⌝ }
 {
-    if !print(taken_line(step, taken)) {
+    if print(stepped_line(step, printed)) {
+        return Next::Step;
+    }
+    Next::Nothing
+}
+
+// The line of a refused step, which may end the run.
+pub fn print_refused(step: u64, refusal: Refusal) -> Next
+    ensures { λ r. ⌜ Follows r (goesOnAfter (told refusal)) ⌝ }
+{
+    if !print(refused_step_line(step, refusal)) {
         return Next::Nothing;
     }
-    if goes_on(taken) {
-        Next::Step
-    } else {
-        Next::Board
-    }
+    let cause = refusal.cause;
+    if ends(cause) { Next::Board } else { Next::Step }
 }
 
 // A word to whoever gives arguments or sits at a terminal and does not know that a session is awaited.

@@ -24,7 +24,7 @@ module _ (cells : ℕ) (store : List ℕ) where
     unfoldable pub dropVerdict : Verdict
     dropVerdict = inTurn dropCauses
 
-    -- It closes the gap and sets the freed entries at the end to 0.
+    -- What was behind the field moves down over it, and as many entries as it had read 0 at the end.
     unfoldable pub dropStore : List ℕ
     dropStore = taken dropVerdict (over (storeOf (without name (fieldsIn cells store)) ++ replicate (cells + 1) 0) store) store
 

@@ -38,7 +38,7 @@ module _ (cells : ℕ) where
   Spared name store [] = Unit {0}
   Spared name store (k ∷ ks) = Spares name k store × Spared name (storeAfter k store) ks
 
--- "gives a field back exactly as kept": after an accepted keep and any list of calls that does not drop it, a return on the same volumes
+-- S-4, what a return gives: after an accepted keep and any list of calls that does not drop it, a return on the same volumes
 -- is accepted and fills the masses with those kept
 abbrev pub ComesBack : Type 0
 ComesBack = (cells : ℕ) (volumes masses store : List ℕ) (name : ℕ) → keepVerdict cells volumes masses store name ≡ fine

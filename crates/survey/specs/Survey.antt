@@ -105,11 +105,11 @@ notAbove k nan = false
 notAbove k (inf s) = not s
 notAbove k (fin s m e) = not s && leb (k * down e) (256 * (m * up e))
 
--- The share: the largest whole k with k / 256 not above the ratio.
+-- The share: of the numbers k up to 255 whose 256th part is at most the ratio, the largest.
 unfoldable pub share : Float → ℕ
 share r = largest (λ k. notAbove k r) 255
 
--- 19, then 20: a + b is 0, or the ratio is below 1/256 or not below 1.
+-- 20, behind 19: the ratio is not from 1/256 up to 1, the latter excluded; or there is none.
 unfoldable pub shareOf : Float → Outcome ℕ
 shareOf r = cond (notAbove 1 r && not (notAbove 256 r)) (accepted (share r)) (refused 20 0)
 

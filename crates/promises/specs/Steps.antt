@@ -1,0 +1,125 @@
+-- Document 01, "A list of steps": step calls as they were made, on tables and on records, and demand 3 about every list of them; with
+-- document 02's S-6, of steps with releases, its S-8, of plain steps, its S-10, of records of both widths, and its S-11, of claims.
+use Prim.Native.Nat.{ℕ, _/_, _%_}
+use mathlib.Core.Path.{_≡_}
+use mathlib.Core.Bool.{cond}
+use mathlib.Core.List.{List}
+use lib.Dec.{eqb}
+use lib.ListN.{take}
+use Rattle.model.specs.Mesh.{Mesh}
+use Rattle.model.specs.Causes.{Outcome, accepted, refused, Verdict, fine, _andThen_, Call, inputOf, meshVerdict, fieldVerdict, waterOf}
+use Rattle.model.specs.Calls.{Bounded, Left, crossingOf, corrected, plain, lentMasses, EachStep, Claim}
+use Rattle.transport.specs.Promise.{stepSaid, leftBy, StepPromise}
+use Rattle.judging.specs.Promise.{JudgePromise}
+use Rattle.plain.specs.Made.{Made}
+use Rattle.heads.specs.Layouts.{fieldKind, fieldLength}
+use Rattle.heads.specs.declared.Width.{Width}
+use Rattle.reading.specs.Reading.{massesIn, fluxesIn, outsidesIn, releasesIn}
+use Rattle.step_taken.specs.declared.Printed.{Printed}
+use Rattle.step_taken.specs.declared.StepTaken.{StepTaken}
+use Rattle.step_taken.specs.Said.{takenSaid}
+use Rattle.taking.specs.Taking.{StepTaking}
+use Rattle.lagoon.specs.Host.{causeStep, HostPromise}
+use Rattle.promises.specs.Held.{HoldsMesh, HoldsField}
+
+-- THE CALLS, as they were made: what was lent besides mesh and field, of any values and of any length; what was answered; and what then stood
+-- in the tables that the call writes. Of `step`, `plain_step` and `judge` that is `Made`; a claim is lent as moved, and of its call only the
+-- next masses are written.
+
+-- `take_step`, the step of a run: the width that it was told, what stood in the table of masses past the field, the step record, the answer,
+-- and the masses afterwards.
+pub record RunMade : Type 0 where
+  pub width : Width
+  pub past : List ℕ
+  pub step : List ℕ
+  pub answer : StepTaken
+  pub masses : List ℕ
+
+-- `lagoon_step`, the host's call: the width of its records, the three records and the bytes lent for the next field record; its number, and
+-- those bytes afterwards. Widths may differ from call to call of one list.
+pub record HostMade : Type 0 where
+  pub width : Width
+  pub mesh : List ℕ
+  pub field : List ℕ
+  pub step : List ℕ
+  pub room : List ℕ
+  pub number : ℕ
+  pub bytes : List ℕ
+
+pub data StepCall : Type 0 where
+  byStep : Made → StepCall
+  byPlainStep : Made → StepCall
+  byJudge : Made → StepCall
+  byTakeStep : RunMade → StepCall
+  byHost : HostMade → StepCall
+
+-- WHAT A CALL CAME TO, by its answer: a refusal, or the field that it left with what came in, went out and was released.
+abbrev pub runLeft : Outcome Printed → List ℕ → Outcome Left
+runLeft (accepted p) masses = accepted (record { field = masses; crossing = record { entered = p .entered; gone = p .gone; released = p .released } })
+runLeft (refused i j) masses = refused i j
+
+-- the number of a host's call, taken apart
+abbrev pub hostSaid : ℕ → Verdict
+hostSaid number = cond (eqb number 0) fine (refused (number / causeStep) (number % causeStep))
+
+module _ (M : Mesh) where
+  -- the fluxes, outside values and releases that a step record holds, and those of a call
+  abbrev pub waterIn : List ℕ → Call
+  waterIn step = waterOf (fluxesIn step (M .faces)) (outsidesIn step (M .faces) (M .seconds)) (releasesIn step (M .cells) (M .faces) (M .seconds))
+
+  abbrev pub waterBy : StepCall → Call
+  waterBy (byStep m) = m .tables
+  waterBy (byPlainStep m) = m .tables
+  waterBy (byJudge m) = m .tables
+  waterBy (byTakeStep m) = waterIn (m .step)
+  waterBy (byHost m) = waterIn (m .step)
+
+  abbrev pub nextRecord : HostMade → List ℕ
+  nextRecord m = take (fieldLength (fieldKind (m .width)) (M .cells)) (m .bytes)
+
+  -- A host is told no in-mass and no out-mass: they are those of the water in its step record.
+  abbrev pub cameTo : StepCall → List ℕ → Outcome Left
+  cameTo (byStep m) field = leftBy (stepSaid (m .answer)) (m .next)
+  cameTo (byPlainStep m) field = leftBy (stepSaid (m .answer)) (m .next)
+  cameTo (byJudge m) field = leftBy (stepSaid (m .answer)) (m .next)
+  cameTo (byTakeStep m) field = runLeft (takenSaid (m .answer)) (m .masses)
+  cameTo (byHost m) field =
+      hostSaid (m .number) andThen accepted (record { field = massesIn (nextRecord m) (M .cells); crossing = crossingOf M field (waterIn (m .step)) })
+
+  -- The call was lent the mesh and, as masses, the field, and kept its contract. Of a host's call the records hold them, whichever bytes they are.
+  abbrev pub StepContract : StepCall → List ℕ → Type 0
+  StepContract (byStep m) field = StepPromise corrected M (lentMasses M (m .past) field) (m .tables) (m .answer) (m .next) (m .moved) (m .work)
+  StepContract (byPlainStep m) field = StepPromise plain M (lentMasses M (m .past) field) (m .tables) (m .answer) (m .next) (m .moved) (m .work)
+  StepContract (byJudge m) field = JudgePromise M (lentMasses M (m .past) field) (m .tables) (m .answer) (m .next)
+  StepContract (byTakeStep m) field = StepTaking (m .width) M (lentMasses M (m .past) field) (m .step) (m .answer) (m .masses)
+  StepContract (byHost m) field =
+      HoldsMesh (m .width) M (m .mesh) × HoldsField (m .width) M field (m .field) × HostPromise (m .mesh) (m .field) (m .step) (m .room) (m .number) (m .bytes)
+
+  -- The calls ran one after another, each on the field as the last left it.
+  abbrev pub StepsMade : List ℕ → List StepCall → Type 0
+  StepsMade = EachStep cameTo StepContract
+
+  -- WHAT IS OWED of an accepted call: the bounds, and of a host's call that the next field record holds the field.
+  abbrev pub NextHeld : StepCall → List ℕ → Type 0
+  NextHeld (byStep m) after = Unit {0}
+  NextHeld (byPlainStep m) after = Unit {0}
+  NextHeld (byJudge m) after = Unit {0}
+  NextHeld (byTakeStep m) after = Unit {0}
+  NextHeld (byHost m) after = HoldsField (m .width) M after (nextRecord m)
+
+  -- And of a refused one: what it was lent to write is as it was.
+  abbrev pub Unwritten : StepCall → List ℕ → Type 0
+  Unwritten (byStep m) field = (m .next ≡ m .tables .nexts) × (m .moved ≡ m .tables .moveds) × (m .work ≡ m .tables .work)
+  Unwritten (byPlainStep m) field = (m .next ≡ m .tables .nexts) × (m .moved ≡ m .tables .moveds) × (m .work ≡ m .tables .work)
+  Unwritten (byJudge m) field = m .next ≡ m .tables .nexts
+  Unwritten (byTakeStep m) field = m .masses ≡ lentMasses M (m .past) field
+  Unwritten (byHost m) field = m .bytes ≡ m .room
+
+  abbrev pub StepOwed : StepCall → List ℕ → Outcome Left → Type 0
+  StepOwed call field (accepted l) = Bounded (inputOf M field (waterBy call)) (l .field) × NextHeld call (l .field)
+  StepOwed call field (refused i j) = Unwritten call field
+
+-- DEMAND 3: from any accepted mesh and first field, after any list of step calls, whichever of them were refused.
+abbrev pub Demand3 : Type 0
+Demand3 = (M : Mesh) → meshVerdict M ≡ fine → (field : List ℕ) → fieldVerdict M field ≡ fine → (calls : List StepCall) → StepsMade M field calls
+    → Claim M (cameTo M) (StepOwed M) field calls
