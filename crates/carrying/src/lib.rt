@@ -1,18 +1,19 @@
 // Stages 1 to 3 of document 01 by faces: what each carries, its correction, and the bounds of its cells.
 use cell::Q;
 use cell::fill;
-use cell::widen_across;
-use face::correction::face_code;
+use cell::widen;
+use face::correction::correction_code;
+use face::exchange::gain;
+use face::exchange::lose;
 use face::exchange::transfer;
 use face::upwind::entered;
 use face::upwind::gone;
 use face::upwind::upwind;
 use model::RIM;
 ghost use mathlib.Core.Path.{_≡_};
-ghost use mathlib.Core.Bool.{cond};
+ghost use mathlib.Core.Bool.{true, false, cond};
 ghost use mathlib.Core.Logic.{_≢_};
 ghost use Prim.Native.Nat.{ℕ, _≤_, _<_, _+_, _*_, _/_, _^_};
-ghost use lib.Dec.{eqb};
 ghost use lib.ListN.{length, getD, set};
 ghost use Rattle.signed.specs.Sign.{withSign};
 ghost use Rattle.model.specs.Mesh.{rim, maxCells};
@@ -77,19 +78,79 @@ pub fn concentration(work: &[u64], c: u64) -> u64
     work[4 * (c as usize) + Q]
 }
 
-// The concentration beyond a face: of its second cell, or outside.
-pub fn beyond(work: &[u64], second: u64, outside: u64) -> u64
-    requires { ⌜ (second ≢ rim → (4 * second + 3 < length (now work)) × (second < maxCells)) ⌝ }
-    ensures { λ r. ⌜ r ≡ cond (eqb second rim) outside (ofCell (now (work .entry)) second 0) ⌝ }
+// Water comes in over the rim: what it carries, which its cell gains, and what the cell meets. There is no correction.
+fn come_in(
+    f: usize,
+    first: u64,
+    size: u64,
+    a: u64,
+    outside: u64,
+    cells: usize,
+    next: &mut [u64],
+    moved: &mut [i64],
+    work: &mut [u64],
+) -> u64
+    requires { ⌜ FaceAsks f first rim size 0 0 a outside cells (withSign true (size * outside)) (now next) (now moved) (now work) × (size ≢ 0) ⌝ }
+    ensures { λ r. ⌜ FaceDone f first rim 0 0 a outside cells r (withSign true size) (withSign true (size * outside))
+        (now (next .entry)) (now (next .exit)) (now (moved .entry)) (now (moved .exit)) (now (work .entry)) (now (work .exit)) ⌝ }
 {
-    if second == RIM {
-        return outside;
-    }
-    concentration(work, second)
+    let amount = size * outside;
+    signed::put(moved, f, true, amount);
+    gain(next, first, amount);
+    widen(work, first as usize, outside);
+    work[4 * cells + f] = 0;
+    amount
 }
 
-// One face of the second pass: what it carries, what its cells meet across it, and its correction.
-pub fn carry_face(
+// Water goes out over the rim, or stays: what it carries, which its cell loses.
+fn go_out(
+    f: usize,
+    first: u64,
+    size: u64,
+    a: u64,
+    outside: u64,
+    cells: usize,
+    next: &mut [u64],
+    moved: &mut [i64],
+    work: &mut [u64],
+) -> u64
+    requires { ⌜ FaceAsks f first rim size 0 0 a outside cells (withSign false (size * a)) (now next) (now moved) (now work) ⌝ }
+    ensures { λ r. ⌜ FaceDone f first rim 0 0 a outside cells r (withSign false size) (withSign false (size * a))
+        (now (next .entry)) (now (next .exit)) (now (moved .entry)) (now (moved .exit)) (now (work .entry)) (now (work .exit)) ⌝ }
+{
+    let amount = size * a;
+    signed::put(moved, f, false, amount);
+    lose(next, first, amount);
+    work[4 * cells + f] = 0;
+    amount
+}
+
+// One face of the second pass at the rim.
+fn carry_rim(
+    f: usize,
+    first: u64,
+    negative: bool,
+    size: u64,
+    a: u64,
+    outside: u64,
+    cells: usize,
+    next: &mut [u64],
+    moved: &mut [i64],
+    work: &mut [u64],
+) -> u64
+    requires { ⌜ FaceAsks f first rim size 0 0 a outside cells (withSign negative (size * cond negative outside a)) (now next) (now moved) (now work) ⌝ }
+    requires { ⌜ (negative ≡ true → size ≢ 0) ⌝ }
+    ensures { λ r. ⌜ FaceDone f first rim 0 0 a outside cells r (withSign negative size) (withSign negative (size * cond negative outside a))
+        (now (next .entry)) (now (next .exit)) (now (moved .entry)) (now (moved .exit)) (now (work .entry)) (now (work .exit)) ⌝ }
+{
+    if negative {
+        return come_in(f, first, size, a, outside, cells, next, moved, work);
+    }
+    go_out(f, first, size, a, outside, cells, next, moved, work)
+}
+
+// One face of the second pass inside, with water: what it carries, what its cells meet across it, and its correction.
+fn carry_wet(
     f: usize,
     first: u64,
     second: u64,
@@ -103,18 +164,62 @@ pub fn carry_face(
     next: &mut [u64],
     moved: &mut [i64],
     work: &mut [u64],
-) -> u64
+)
     requires { ⌜ FaceAsks f first second size share reach a b cells (withSign negative (size * cond negative b a)) (now next) (now moved) (now work) ⌝ }
-    ensures { λ r. ⌜ FaceDone f first second share reach a b cells r (withSign negative size) (withSign negative (size * cond negative b a))
+    requires { ⌜ (second ≢ rim) × (size ≢ 0) ⌝ }
+    ensures { λ _. ⌜ FaceDone f first second share reach a b cells (size * cond negative b a) (withSign negative size) (withSign negative (size * cond negative b a))
         (now (next .entry)) (now (next .exit)) (now (moved .entry)) (now (moved .exit)) (now (work .entry)) (now (work .exit)) ⌝ }
 {
     let amount = size * upwind(negative, a, b);
     signed::put(moved, f, negative, amount);
     transfer(next, first, second, negative, amount);
-    widen_across(work, first, second, negative, size, a, b);
-    let code = face_code(second, negative, size, a, b, share, reach);
+    widen(work, first as usize, b);
+    widen(work, second as usize, a);
+    let code = correction_code(negative, size, a, b, share, reach);
     work[4 * cells + f] = code;
-    amount
+}
+
+// One face of the second pass inside. Through a still face nothing passes, and its cells do not meet.
+fn carry_inside(
+    f: usize,
+    first: u64,
+    second: u64,
+    negative: bool,
+    size: u64,
+    share: u64,
+    reach: u64,
+    a: u64,
+    b: u64,
+    cells: usize,
+    next: &mut [u64],
+    moved: &mut [i64],
+    work: &mut [u64],
+)
+    requires { ⌜ FaceAsks f first second size share reach a b cells (withSign negative (size * cond negative b a)) (now next) (now moved) (now work) ⌝ }
+    requires { ⌜ second ≢ rim ⌝ }
+    ensures { λ _. ⌜ FaceDone f first second share reach a b cells (size * cond negative b a) (withSign negative size) (withSign negative (size * cond negative b a))
+        (now (next .entry)) (now (next .exit)) (now (moved .entry)) (now (moved .exit)) (now (work .entry)) (now (work .exit)) ⌝ }
+{
+    if size == 0 {
+        signed::put(moved, f, false, 0);
+        work[4 * cells + f] = 0;
+        return;
+    }
+    carry_wet(
+        f,
+        first,
+        second,
+        negative,
+        size,
+        share,
+        reach,
+        a,
+        b,
+        cells,
+        next,
+        moved,
+        work,
+    );
 }
 
 // A turn of the second pass: face f.
@@ -145,10 +250,30 @@ fn carry_turn(
     let negative = signed::is_negative_at(fluxes, f);
     let size = signed::size_at(fluxes, f);
     let a = concentration(work, first);
-    let b = beyond(work, second, outsides[f]);
+    if second == RIM {
+        let amount = carry_rim(
+            f,
+            first,
+            negative,
+            size,
+            a,
+            outsides[f],
+            cells,
+            next,
+            moved,
+            work,
+        );
+        let more_in = entered(negative, amount);
+        let more_out = gone(negative, amount);
+        return Carried {
+            entered: so_far.entered + more_in,
+            gone: so_far.gone + more_out,
+        };
+    }
+    let b = concentration(work, second);
     let share = shares[f];
     let reach = reaches[f];
-    let amount = carry_face(
+    carry_inside(
         f,
         first,
         second,
@@ -163,12 +288,7 @@ fn carry_turn(
         moved,
         work,
     );
-    let more_in = entered(second, negative, amount);
-    let more_out = gone(second, negative, amount);
-    Carried {
-        entered: so_far.entered + more_in,
-        gone: so_far.gone + more_out,
-    }
+    so_far
 }
 
 // Second pass, on the concentrations in work and the masses in next.

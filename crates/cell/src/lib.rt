@@ -1,14 +1,11 @@
 // The four entries of a cell in the table lent as work, and what the passes do with them.
-use model::RIM;
 pub use signed::raise;
 ghost use mathlib.Core.Path.{_≡_};
-ghost use mathlib.Core.Logic.{_≢_};
 ghost use Prim.Native.Nat.{_<_, _+_, _*_, min, max};
 ghost use lib.ListN.{length};
-ghost use Rattle.signed.specs.Sign.{withSign};
 ghost use Rattle.lists.specs.Table.{table};
-ghost use Rattle.model.specs.Mesh.{rim, maxCells};
-ghost use Rattle.cell.specs.Work.{ofCell, filled, widened, widenedAcross, allowancesOf, CellAsks};
+ghost use Rattle.model.specs.Mesh.{maxCells};
+ghost use Rattle.cell.specs.Work.{ofCell, filled, widened, allowancesOf, CellAsks};
 
 // In passes 1 to 4: the cell's concentration, low-order from pass 3 on, and the least and the greatest in its neighbourhood.
 pub const Q: usize = 0;
@@ -62,33 +59,6 @@ pub fn widen(work: &mut [u64], c: usize, q: u64)
     let hi = greatest_of(work[greatest], q);
     work[least] = lo;
     work[greatest] = hi;
-}
-
-// Both cells of a face meet across it; a is the concentration of the first, b the one beyond the face.
-pub fn widen_across(
-    work: &mut [u64],
-    first: u64,
-    second: u64,
-    negative: bool,
-    size: u64,
-    a: u64,
-    b: u64,
-)
-    requires { ⌜ (4 * first + 3 < length (now work)) × (first < maxCells) ⌝ }
-    requires { ⌜ (second ≢ rim → (4 * second + 3 < length (now work)) × (second < maxCells)) ⌝ }
-    ensures { λ _. ⌜ now (work .exit) ≡ widenedAcross (now (work .entry)) first second (withSign negative size) a b ⌝ }
-{
-    if size == 0 {
-        return;
-    }
-    if second != RIM {
-        widen(work, first as usize, b);
-        widen(work, second as usize, a);
-        return;
-    }
-    if negative {
-        widen(work, first as usize, b);
-    }
 }
 
 // What a cell may lose and gain, from its bounds and its low-order mass; the sums of corrections start at 0.

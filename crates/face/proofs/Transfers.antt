@@ -55,39 +55,58 @@ one-lost xs g n h = record { same-length = length-set xs g _; at = λ c l. lower
 pub one-gained : (xs : List ℕ) (r n : ℕ) → (r < length xs) × (getD xs r 0 + n < 2 ^ 64) → Gained xs r n (set xs r (getD xs r 0 + n))
 one-gained xs r n h = record { same-length = length-set xs r _; at = λ c l. raised-at xs r n c (h .0) }
 
+pub transferred : (xs : List ℕ) (l k : ℕ) (p : Bool) (n : ℕ) (ys zs : List ℕ) → Lost xs (cond p k l) n ys → Gained ys (cond p l k) n zs → Transferred xs l k (withSign p n) zs
+transferred xs l k p n ys zs t u = record {
+  same-length = u .same-length ∙ t .same-length;
+  at = λ c h. omega (arith, u .at c (rw (t .same-length) h), t .at c h, brings-is p l k n c, takes-is p l k n c);
+}
+
+-- nothing passes
+pub none-transferred : (xs : List ℕ) (l k : ℕ) (p : Bool) → Transferred xs l k (withSign p 0) xs
+none-transferred xs l k p = transferred xs l k p 0 xs xs
+    (record { same-length = refl; at = λ c h. omega (arith, cond-same {A = ℕ} (eqb (cond p k l) c) 0) })
+    (record { same-length = refl; at = λ c h. omega (arith, cond-same {A = ℕ} (eqb (cond p l k) c) 0) })
+
+-- an amount goes out over the rim, or comes in
+pub transferred-out : (xs : List ℕ) (l n : ℕ) (ys : List ℕ) → length xs ≤ rim → Lost xs l n ys → Transferred xs l rim (withSign false n) ys
+transferred-out xs l n ys few t = transferred xs l rim false n ys ys t (none-gained ys (rw (t .same-length) few) rim n refl)
+
+pub transferred-in : (xs : List ℕ) (l n : ℕ) (ys : List ℕ) → length xs ≤ rim → Gained xs l n ys → Transferred xs l rim (withSign true n) ys
+transferred-in xs l n ys few t = transferred xs l rim true n xs ys (none-lost xs few rim n refl) t
+
+-- what the cell at the rim can afford, and has room for
+pub affords-out : (xs : List ℕ) (l k n : ℕ) → l < length xs → ((c : ℕ) → c < length xs → takes l k (withSign false n) c ≤ getD xs c 0) → n ≤ getD xs l 0
+affords-out xs l k n h afford = omega (arith, takes-is false l k n l, own l n, afford l h)
+
+pub has-room-in : (xs : List ℕ) (l k n : ℕ) → l < length xs → ((c : ℕ) → c < length xs → getD xs c 0 + brings l k (withSign true n) c < 2 ^ 64) → getD xs l 0 + n < 2 ^ 64
+has-room-in xs l k n h room = omega (arith, brings-is true l k n l, own l n, room l h)
+
 module _ (xs : List ℕ) (l k : ℕ) (p : Bool) (n : ℕ) (ends : EndsIn (length xs) l k)
     (afford : (c : ℕ) → c < length xs → takes l k (withSign p n) c ≤ getD xs c 0)
-    (room : (c : ℕ) → c < length xs → getD xs c 0 + brings l k (withSign p n) c < 2 ^ 64) where
+    (room : (c : ℕ) → c < length xs → getD xs c 0 + brings l k (withSign p n) c < 2 ^ 64) (inside : k ≢ rim) where
   abbrev giver : ℕ
   giver = cond p k l
 
   abbrev receiver : ℕ
   receiver = cond p l k
 
-  giver-in : giver ≢ rim → giver < length xs
+  giver-in : giver < length xs
   giver-in = go p
     where
-      go : (b : Bool) → cond b k l ≢ rim → cond b k l < length xs
-      go true d = ends .second-in d
-      go false d = ends .first-in
+      go : (b : Bool) → cond b k l < length xs
+      go true = ends .second-in inside
+      go false = ends .first-in
 
-  receiver-in : receiver ≢ rim → receiver < length xs
+  receiver-in : receiver < length xs
   receiver-in = go p
     where
-      go : (b : Bool) → cond b l k ≢ rim → cond b l k < length xs
-      go true d = ends .first-in
-      go false d = ends .second-in d
+      go : (b : Bool) → cond b l k < length xs
+      go true = ends .first-in
+      go false = ends .second-in inside
 
-  pub giver-affords : giver ≢ rim → (giver < length xs) × (n ≤ getD xs giver 0)
-  giver-affords d = let i = giver-in d in (i, omega (arith, afford giver i, takes-is p l k n giver, own giver n))
+  pub giver-affords : (giver < length xs) × (n ≤ getD xs giver 0)
+  giver-affords = (giver-in, omega (arith, afford giver giver-in, takes-is p l k n giver, own giver n))
 
-  pub receiver-has-room : (ys : List ℕ) → Lost xs giver n ys → receiver ≢ rim → (receiver < length ys) × (getD ys receiver 0 + n < 2 ^ 64)
-  receiver-has-room ys t d =
-      let i = receiver-in d in
-      rw (t .same-length) (i, omega (arith, t .at receiver i, room receiver i, brings-is p l k n receiver, own receiver n))
-
-  pub transferred : (ys zs : List ℕ) → Lost xs giver n ys → Gained ys receiver n zs → Transferred xs l k (withSign p n) zs
-  transferred ys zs t u = record {
-    same-length = u .same-length ∙ t .same-length;
-    at = λ c h. omega (arith, u .at c (rw (t .same-length) h), t .at c h, brings-is p l k n c, takes-is p l k n c);
-  }
+  pub receiver-has-room : (ys : List ℕ) → Lost xs giver n ys → (receiver < length ys) × (getD ys receiver 0 + n < 2 ^ 64)
+  receiver-has-room ys t =
+      rw (t .same-length) (receiver-in, omega (arith, t .at receiver receiver-in, room receiver receiver-in, brings-is p l k n receiver, own receiver n))

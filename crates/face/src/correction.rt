@@ -1,12 +1,10 @@
 // The antidiffusive correction of a face, stage 2, in one number.
-use model::RIM;
 ghost use mathlib.Core.Path.{_≡_};
 ghost use mathlib.Core.Bool.{cond};
-ghost use mathlib.Core.Logic.{_≢_};
 ghost use Prim.Native.Nat.{_≤_, _<_, _+_, _-_, _*_, _/_};
-ghost use lib.Dec.{eqb, leb, ltb};
+ghost use lib.Dec.{leb, ltb};
 ghost use Rattle.signed.specs.Sign.{withSign};
-ghost use Rattle.model.specs.Mesh.{rim, maxShare, maxReach, maxConcentration};
+ghost use Rattle.model.specs.Mesh.{maxShare, maxReach, maxConcentration};
 ghost use Rattle.model.specs.Accepted.{maxCarried};
 ghost use Rattle.face.specs.Correction.{coded, gap, correctionOf};
 
@@ -62,23 +60,4 @@ pub fn correction_code(negative: bool, size: u64, a: u64, b: u64, share: u64, re
     let amount = correction_size(size, a, b, way, reach);
     let back = runs_back(a, b, way, 128 * size);
     code(back, amount)
-}
-
-// A face's correction in one number; there is none at the rim.
-pub fn face_code(
-    second: u64,
-    negative: bool,
-    size: u64,
-    a: u64,
-    b: u64,
-    share: u64,
-    reach: u64,
-) -> u64
-    requires { ⌜ (a ≤ maxConcentration) × (b ≤ maxConcentration) × (share ≤ maxShare) × (reach ≤ maxReach) × (second ≢ rim → size ≤ reach) × (second ≢ rim → 1 ≤ reach) ⌝ }
-    ensures { λ r. ⌜ r ≡ cond (eqb second rim) 0 (coded (correctionOf (withSign negative size) a b share reach)) ⌝ }
-{
-    if second == RIM {
-        return 0;
-    }
-    correction_code(negative, size, a, b, share, reach)
 }

@@ -8,7 +8,7 @@ use lib.Dec.{eqb}
 use lib.ListN.{length}
 use Rattle.signed.specs.Sign.{withSign}
 use Rattle.model.specs.Accepted.{maxCarried}
-use Rattle.model.specs.Mesh.{maxCells}
+use Rattle.model.specs.Mesh.{rim, maxCells}
 use Rattle.model.proofs.Sizes.{portion-le}
 use Rattle.cell.specs.Work.{ofCell}
 use Rattle.smoothing.specs.Corrections.{enters, leaves}
@@ -72,7 +72,8 @@ transfer-requires : tie.Need-transfer-requires
 transfer-requires c κs =
     let w = joined c in
     let p = at-cut w .pre in
-    (p .ends, (rw (limited-is w) at (p .afford), rw (limited-is w) at (p .room)))
+    let i = p .inside (w .before .before .before .if1 .left) in
+    ((p .ends, λ (e : at-cut w .args .second ≡ rim). omega (arith, i .3)), (rw (limited-is w) at (p .afford), rw (limited-is w) at (p .room)))
 
 returns-2 : tie.Need-returns-2
 returns-2 c =

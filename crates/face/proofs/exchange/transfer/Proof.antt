@@ -19,25 +19,22 @@ lost c = rw (ends c .before .end-to .ensures) at (c .lose .ensures)
 lose-requires : tie.Need-lose-requires
 lose-requires c κs =
     let s = start (c .before) in
-    rw (c .before .before .end-to .ensures)
-    (s .pre .0 .few, giver-affords (s .args .next .now) (s .args .first) (s .args .second) (s .args .negative) (s .args .amount) (s .pre .0) (s .pre .1 .0) (s .pre .1 .1))
+    let g = giver-affords (s .args .next .now) (s .args .first) (s .args .second) (s .args .negative) (s .args .amount) (s .pre .0 .0) (s .pre .1 .0) (s .pre .1 .1) (s .pre .0 .1) in
+    rw (c .before .before .end-to .ensures) (s .pre .0 .0 .few, g .0, g .1)
 
 gain-requires : tie.Need-gain-requires
 gain-requires c κs =
     let w = c .before .before .before in
     let s = start (ends w) in
-    rw (ends w .end-to2 .ensures) (
-      rw (lost w .same-length) (s .pre .0 .few),
-      receiver-has-room (s .args .next .now) (s .args .first) (s .args .second) (s .args .negative) (s .args .amount) (s .pre .0)
-          (s .pre .1 .0) (s .pre .1 .1) _ (lost w),
-    )
+    let g = receiver-has-room (s .args .next .now) (s .args .first) (s .args .second) (s .args .negative) (s .args .amount) (s .pre .0 .0) (s .pre .1 .0) (s .pre .1 .1) (s .pre .0 .1) _ (lost w) in
+    rw (ends w .end-to2 .ensures) (rw (lost w .same-length) (s .pre .0 .0 .few), g .0, g .1)
 
 returns : tie.Need-returns
 returns c =
     let g = c .before .before in
     let w = g .before .before .before .before in
     let s = start (ends w) in
-    transferred (s .args .next .now) (s .args .first) (s .args .second) (s .args .negative) (s .args .amount) (s .pre .0) (s .pre .1 .0) (s .pre .1 .1) _ _ (lost w)
+    transferred (s .args .next .now) (s .args .first) (s .args .second) (s .args .negative) (s .args .amount) _ _ (lost w)
     (rw (ends w .end-to2 .ensures) at (g .gain .ensures))
 
 pub transfer-spec : {M : Type 1} → statement M
