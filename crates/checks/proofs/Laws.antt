@@ -2,26 +2,28 @@
 use Prim.Native.Nat.{ℕ, suc, _+_, _-_, _*_, _/_, _^_, _≤_, _<_}
 use mathlib.Core.Path.{_≡_, sym, _∙_}
 use mathlib.Core.Bool.{Bool, true, false}
-use mathlib.Core.List.{List}
+use mathlib.Core.List.{List, [], _∷_}
 use native.Mathlib.Nat.{div-lt-iff-lt-mul, div-mul-le-self, mul-le-mul-right}
 use native.Mathlib.Omega.{arith}
-use borrow.Author.Tests.{lt-ltb, le-ltb}
+use borrow.Author.Tests.{lt-ltb, le-ltb, leb-true}
 use lib.Dec.{leb, ltb}
-use lib.ListN.{length}
+use lib.ListN.{length, getD}
 use Rattle.lists.specs.Fold.{sum}
-use Rattle.lists.proofs.Tests.{Fits, fits, exceeds, fits?}
+use Rattle.lists.proofs.Tests.{Fits, fits, exceeds, fits?, both-true}
 use Rattle.signed.specs.Sign.{size}
-use Rattle.model.specs.Mesh.{Mesh, maxVolume, volume, first, second, total, rim, maxCells, maxFaces, maxConcentration, ceiling}
+use Rattle.model.specs.Mesh.{Mesh, maxVolume, volume, first, second, total, rim, maxCells, maxFaces, maxConcentration, ceiling, incoming, outgoing, entering, leaving}
 use Rattle.model.specs.Step.{flux}
-use Rattle.model.specs.Causes.{Verdict, waterOf, valuesVerdict, fine, _andThen_, each, counts, meshTables, fieldTable, meshValues, fieldValues, raisedGood, raisedValues, meshFieldVerdict, Call, inputOf, stepTables, outsideGood, fluxGood, balanceGood, outflowGood, stepValues, verdict}
+use Rattle.model.specs.Causes.{Verdict, between, release, meshCauses, waterCauses, volumeGood, endsGood, spacingGood, saltGood, waterOf, valuesVerdict, fine, _andThen_, each, counts, meshTables, fieldTable, meshValues, fieldValues, raisedGood, raisedValues, meshFieldVerdict, Call, inputOf, stepTables, outsideGood, fluxGood, balanceGood, outflowGood, stepValues, verdict}
 use Rattle.model.specs.Claims.{maxClaim, claimTables, unworkedVerdict}
 use Rattle.model.specs.Accepted.{StepLent, MeshFit}
 use Rattle.model.specs.Calls.{massIn}
-use Rattle.model.proofs.Verdicts.{both-fine, andThen-assoc}
+use Rattle.model.proofs.Verdicts.{both-fine, fine-all, fine-each, andThen-assoc}
 use Rattle.model.proofs.Accepted.{counted, mesh-lent, field-lent, call-lent, mesh-fit, field-fit, water-fit, mass-small, second-most, flux-small}
 use Rattle.model.proofs.Claims.{claim-lent}
 use Rattle.model.proofs.Sizes.{total-most}
 use Rattle.model.proofs.Accepted.{field-passed}
+use Rattle.passing.specs.Passing.{FacesPass}
+use Rattle.checks.specs.Quick.{CellFine}
 
 -- cause 6 without a division
 pub salt-test : (m v : ℕ) → 1 ≤ v → ltb m ((maxConcentration + 1) * v) ≡ leb (m / v) maxConcentration
@@ -149,3 +151,34 @@ module _ (M : Mesh) (field : List ℕ) (k : Call) where
               omega (arith, flux-small (inputOf M field k) fit (water-fit M field k (w .0) (w .1)) f h),
             ),
           )
+
+-- nothing is refused: one cell's numbers, and all of a step's
+pub volume-within : (v : ℕ) → between 1 ceiling v ≡ true → v ≤ ceiling
+volume-within v h = leb-true v ceiling (both-true (leb 1 v) (leb v ceiling) h .1)
+
+pub cell-fine : (v m r : ℕ) → between 1 ceiling v ≡ true → m < (maxConcentration + 1) * v → r < (maxConcentration + 1) * v - m → CellFine v m r
+cell-fine v m r h l k =
+    let some : 1 ≤ v = leb-true 1 v (both-true (leb 1 v) (leb v ceiling) h .0) in
+    (h, sym (salt-test m v some) ∙ lt-ltb m _ l, sym (raised-test m r v some l) ∙ lt-ltb r _ k)
+
+module _ (M : Mesh) (field : List ℕ) (k : Call) (h : (c : ℕ) → c < M .cells → CellFine (volume M c) (getD field c 0) (release k c))
+    (p : FacesPass (M .cells) (M .faces) (M .volumes) (M .firsts) (M .seconds) (M .shares) (M .reaches) (k .fluxes) (k .outsides)) where
+  mesh-passes : meshValues ceiling M ≡ fine
+  unfolding meshValues volumeGood endsGood spacingGood
+  mesh-passes = fine-all (meshCauses ceiling M) (fine-each 3 (M .cells) (volumeGood ceiling M) (λ c l. h c l .0), (p .0, (p .1, tt)))
+
+  water-passes : stepValues ceiling M field k ≡ fine
+  unfolding stepValues outsideGood fluxGood balanceGood outflowGood incoming outgoing entering leaving
+  water-passes = fine-all (waterCauses ceiling M field k) (p .2, (p .3, (p .4, (p .5, tt))))
+
+  salt-passes : fieldValues M field ≡ fine
+  unfolding fieldValues saltGood
+  salt-passes = fine-each 6 (M .cells) (saltGood M field) (λ c l. h c l .1)
+
+  raised-passes : raisedValues M field k ≡ fine
+  unfolding raisedValues raisedGood
+  raised-passes = fine-each 18 (M .cells) (raisedGood M field k) (λ c l. h c l .2)
+
+  pub all-pass : valuesVerdict M field k ≡ fine
+  unfolding valuesVerdict
+  all-pass = fine-all (meshValues ceiling M ∷ fieldValues M field ∷ raisedValues M field k ∷ stepValues ceiling M field k ∷ []) (mesh-passes, (salt-passes, (raised-passes, (water-passes, tt))))

@@ -1,5 +1,6 @@
 // Causes 1 to 10 of document 01, and 18 of document 02, on lent tables. No table is written.
 pub mod field;
+mod quick;
 mod raised;
 
 use model::Answer;
@@ -211,6 +212,21 @@ pub fn check_step(
     let b = lent::step_lent(cells, faces, fluxes, outsides, next, moved, work, releases);
     if let Answer::Refused(r) = b {
         return Answer::Refused(r);
+    }
+    if quick::pass(
+        cells,
+        faces,
+        volumes,
+        firsts,
+        seconds,
+        shares,
+        reaches,
+        masses,
+        fluxes,
+        outsides,
+        releases,
+    ) {
+        return Answer::Done;
     }
     step_values(
         cells,

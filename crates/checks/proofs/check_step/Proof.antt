@@ -1,4 +1,4 @@
--- The lengths, then the values: each part that is fine is passed, and the first that refuses is the answer.
+-- The lengths, then the values: each part that is fine is passed, and the first that refuses is the answer. Where the quick tests pass, nothing refuses.
 use mathlib.Core.Path.{sym, _∙_}
 use mathlib.Core.List.{[], _∷_}
 use borrow.Author.Needs.{needs}
@@ -29,9 +29,9 @@ returns-2 c =
     let lent = passes (tested .before .before .before .field-lent .ensures) (tested .before .enum-told .given .1) in
     sym (lengths-first _ _ _ ∙ refused-at (_ ∷ []) (_ ∷ []) (lent, tt) (refuses (tested .step-lent .ensures) (c .before .b .given .1)))
 
-step-values-requires : tie.Need-step-values-requires
+pass-requires : tie.Need-pass-requires
 unfolding stepTables
-step-values-requires c κs =
+pass-requires c κs =
     let tested = c .before .before in
     let s = start (tested .before .before .before .before) in
     step-lent _ _ (callOf (s .args .fluxes .now) (s .args .outsides .now) (s .args .next .now) (s .args .moved .now) (s .args .work .now)
@@ -41,12 +41,32 @@ step-values-requires c κs =
 returns-3 : tie.Need-returns-3
 unfolding stepTables
 returns-3 c =
-    let tested = c .before .before .before in
+    let told = c .before .before in
+    let tested = told .before .before in
     let lent = passes (tested .before .before .before .field-lent .ensures) (tested .before .enum-told .given .1) in
-    let step = passes (tested .step-lent .ensures) (c .before .enum-told2 .given .1) in
+    let step = passes (tested .step-lent .ensures) (told .enum-told2 .given .1) in
+    sym (lengths-first _ _ _ ∙ past _ (past _ lent ∙ step) ∙ c .before .pass .ensures (c .if1 .taken))
+
+step-values-requires : tie.Need-step-values-requires
+unfolding stepTables
+step-values-requires c κs =
+    let told = c .before .before in
+    let tested = told .before .before in
+    let s = start (tested .before .before .before .before) in
+    step-lent _ _ (callOf (s .args .fluxes .now) (s .args .outsides .now) (s .args .next .now) (s .args .moved .now) (s .args .work .now)
+    (s .args .releases .now))
+    (passes (tested .before .before .before .field-lent .ensures) (tested .before .enum-told .given .1)) (passes (tested .step-lent .ensures) (told .enum-told2 .given .1))
+
+returns-4 : tie.Need-returns-4
+unfolding stepTables
+returns-4 c =
+    let told = c .before .before .before in
+    let tested = told .before .before in
+    let lent = passes (tested .before .before .before .field-lent .ensures) (tested .before .enum-told .given .1) in
+    let step = passes (tested .step-lent .ensures) (told .enum-told2 .given .1) in
     c .step-values .ensures ∙ sym (lengths-first _ _ _ ∙ past _ (past _ lent ∙ step))
 
 pub check-step-spec : {M : Type 1} → statement M
 check-step-spec =
     tie.close
-    (tie.spec (search needs) (search needs) returns (search needs) step-lent-requires (search needs) returns-2 (search needs) step-values-requires returns-3)
+    (tie.spec (search needs) (search needs) returns (search needs) step-lent-requires (search needs) returns-2 (search needs) pass-requires returns-3 step-values-requires returns-4)
