@@ -10,8 +10,8 @@ use Rattle.bits.specs.Touched.{touched}
 use Rattle.bits.proofs.Fields.{bits-lt, bits-split, bits-fit}
 use Rattle.bits.proofs.Puts.{byte-bits}
 
--- counted from the start of the first of them
-pub touched-is : (b w : ℕ) → 0 < w → (b % 8 + w + 7) / 8 ≡ touched b w
+-- from the byte of its first bit to the byte of its last
+pub touched-is : (b w : ℕ) → 0 < w → (b + w - 1) / 8 + 1 - b / 8 ≡ touched b w
 unfolding touched
 touched-is b zero l = absurd (omega arith)
 touched-is b (suc w) l = omega arith
@@ -35,10 +35,12 @@ bits-within bs p a w s =
     ∙ ap (λ (x : ℕ). x % 2 ^ w) (high (bitsAt bs p (a + w)) s (bits-lt bs (p + (a + w)) s) ∙ bits-split bs p a w)
     ∙ low (bitsAt bs p a) w (bits-lt bs (p + a) w)
 
--- a reader's end: n bytes are read, among them all that the field touches
-pub bits-touched : (bs : List ℕ) (at w n : ℕ) {v : ℕ} → at % 8 + w ≤ 8 * n → v ≡ bitsAt bs (at / 8 * 8) (n * 8) → v / 2 ^ (8 * n - (at % 8 + w)) % 2 ^ w ≡ bitsAt bs at w
-bits-touched bs at w n l f =
-    let s : ℕ = 8 * n - (at % 8 + w) in
-    let p : n * 8 ≡ at % 8 + w + s = omega arith in
-    let q : at / 8 * 8 + at % 8 ≡ at = omega arith in
-    rw (f, p, bits-within bs (at / 8 * 8) (at % 8) w s, q)
+-- a reader's end: the n bytes from byte p on are read, the last of them the field's last, and the field begins within them
+pub bits-ending : (bs : List ℕ) (at w p n : ℕ) {v : ℕ} → 0 < w → p + n ≡ (at + w - 1) / 8 + 1 → p * 8 ≤ at → v ≡ bitsAt bs (p * 8) (n * 8)
+    → v / 2 ^ (7 - (at + w - 1) % 8) % 2 ^ w ≡ bitsAt bs at w
+bits-ending bs at w p n some ends starts f =
+    let s : ℕ = 7 - (at + w - 1) % 8 in
+    let a : ℕ = at - p * 8 in
+    let e : n * 8 ≡ a + w + s = omega arith in
+    let q : p * 8 + a ≡ at = omega arith in
+    rw (f, e, bits-within bs (p * 8) a w s, q)

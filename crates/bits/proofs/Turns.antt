@@ -6,26 +6,24 @@ use mir.Val.{Fits}
 use mir.Syntax.{w64}
 
 -- a field of w bits from bit `at` on, and the bytes that it touches
-module _ (at w : ℕ) (few : w ≤ 40) where
-  pub bits-small : Fits w64 (at % 8 + w)
-  bits-small = record { fits = omega arith }
-
-  pub bits-rounded : Fits w64 (at % 8 + w + 7)
-  bits-rounded = record { fits = omega arith }
-
+module _ (at w : ℕ) (few : w ≤ 40) (some : 0 < w) where
   pub width-small : w < 64
   width-small = omega arith
 
-  pub bits-in-eight : at % 8 + w ≤ 64
-  bits-in-eight = omega arith
+  module _ (n : ℕ) (held : at + w ≤ 8 * n) (small : at + w < 2 ^ 64) (far : 7 ≤ (at + w - 1) / 8) where
+    pub eight-in : (at + w - 1) / 8 - 7 + 8 ≤ n
+    eight-in = omega arith
 
-  pub shift-small : 1 ≤ w → 64 - (at % 8 + w) < 64
-  shift-small l = omega arith
+    pub eight-small : (at + w - 1) / 8 - 7 + 8 < 2 ^ 64
+    eight-small = omega arith
 
-  pub eight-small : at + w < 2 ^ 64 → at / 8 + 8 < 2 ^ 64
-  eight-small g = omega arith
+  pub eight-end : 7 ≤ (at + w - 1) / 8 → (at + w - 1) / 8 - 7 + 8 ≡ (at + w - 1) / 8 + 1
+  eight-end l = omega arith
 
-  module _ {k : ℕ} (turn : k < (at % 8 + w + 7) / 8) where
+  pub eight-start : ((at + w - 1) / 8 - 7) * 8 ≤ at
+  eight-start = omega arith
+
+  module _ {k : ℕ} (turn : k < (at + w - 1) / 8 + 1 - at / 8) where
     pub next-small : Fits w64 (k + 1)
     next-small = record { fits = omega arith }
 

@@ -60,7 +60,8 @@ fn eight(src: &[u8], first: usize) -> u64
     joined(src, first, 7, seven)
 }
 
-// The field of width bits at a bit position: eight bytes as one number and the field's bits of it; or, near the end, the bytes that it touches.
+// The field of width bits at a bit position: of the eight bytes that end with its last one, as one number, the field's bits; or, near the
+// start, of the bytes that it touches.
 pub fn read_bits(src: &[u8], at: usize, width: usize) -> u64
     requires { do ⌜ (at + width ≤ 8 * length (now src)) × (at + width < 2 ^ 64) × (width ≤ (← ⟦WIDEST⟧)) ⌝ }
     ensures { λ r. ⌜ r ≡ bitsAt (now (src .entry)) at width ⌝ }
@@ -68,20 +69,22 @@ pub fn read_bits(src: &[u8], at: usize, width: usize) -> u64
     if width == 0 {
         return 0;
     }
-    let first = at / 8;
-    let bits = at % 8 + width;
-    if first + 8 <= src.len() {
-        let whole = eight(src, first) >> (64 - bits);
+    let end = at + width - 1;
+    let last = end / 8;
+    let below = 7 - end % 8;
+    if 7 <= last {
+        let whole = eight(src, last - 7) >> below;
         return whole % pow2(width);
     }
-    let bytes = (bits + 7) / 8;
+    let first = at / 8;
+    let bytes = last + 1 - first;
     let mut v: u64 = 0;
     let mut k = 0;
     while k < bytes {
         v = joined(src, first, k, v);
         k += 1;
     }
-    let field = v >> (8 * bytes - bits);
+    let field = v >> below;
     field % pow2(width)
 }
 
