@@ -1,6 +1,6 @@
 #!/usr/bin/env bash
-# Every file, name and quoted line that README.md, the pages of docs/ and the landing notes cite is there; and that test does find a wrong
-# citation.
+# Every file, name and quoted line that README.md, the pages of docs/ and the landing notes cite is there, and the crates stand under the same
+# headings everywhere; and both tests do find what is wrong.
 set -eu
 cd "$(dirname "$0")/.."
 python3 tests/cites.py README.md docs/*.md docs/landings/*.md
@@ -19,3 +19,7 @@ found docs/PROMISES.md 's/: `_andThen_` and `each`/: `_andThen_` and `eachOf`/'
 found docs/CALLS.md 's/^total: accepted 200000/total: accepted 200001/'
 found docs/CALLS.md 's/^    masses: &\[u64\],/    masses: \&[u32],/'
 found docs/landings/S-04.md 's,`kept/specs/Store.antt`,`store/specs/Store.antt`,'
+
+python3 tests/families.py
+sed 's/^portion: /portions: /' crates.txt > "$made/crates.txt"
+if python3 tests/families.py "$made/crates.txt" > "$made/said" 2>&1; then echo "a crate that README.md does not have is not found"; exit 1; fi
