@@ -1,5 +1,6 @@
--- Document 01, "The board and the run", the channel session: its bytes, and what a run prints of them. Each record, each answer and each
--- field is computed from the definitions; the laws before them put the parts together as `printed` does.
+-- Document 01, "The board and the run", the channel session, and document 02, S-10, sessions of wide records: their bytes, and what a run prints
+-- of them. Each record, each answer and each field is computed from the definitions; the laws before them, of either width, put the parts
+-- together as `printed` does.
 use Prim.Native.Nat.{ℕ, suc, _+_, _≤_}
 use mathlib.Core.Path.{_≡_, refl, ap, _∙_}
 use mathlib.Core.Bool.{cond}
@@ -14,7 +15,7 @@ use Rattle.lists.proofs.Tables.{length-table}
 use Rattle.model.specs.Mesh.{Mesh, runCells, runFaces, entering, leaving, incoming, outgoing, updated, total, ceiling}
 use Rattle.model.specs.Step.{StepInput, portion, receiver, giver, limitedBy, rounded, beyond, upwind, downwind, carried, low, upwindShare, correction, smooths, keptBy, lowConcentration, kept, adjacent, lo, hi, maxGain}
 use Rattle.model.specs.Step.{maxLoss, limited, moved, next, inMass, outMass, raised, releasedMass}
-use Rattle.model.specs.Causes.{Outcome, accepted, Verdict, fine, Call, inputOf, workEntries, _andThen_, need, each, countsWithin, counts, meshTables, volumeGood, endsGood, spacingGood, meshValues}
+use Rattle.model.specs.Causes.{Outcome, accepted, Verdict, fine, inTurn, long, Call, inputOf, workEntries, _andThen_, need, each, countsWithin, counts, meshTables, volumeGood, endsGood, spacingGood, meshValues}
 use Rattle.model.specs.Causes.{fieldTable, saltGood, fieldValues, meshFieldVerdict, stepTables, raisedGood, raisedValues, outsideGood, fluxGood, balanceGood, outflowGood, stepValues, verdict}
 use Rattle.model.proofs.Figures.{channel}
 use Rattle.bits.specs.Field.{bitAt, bitsAt}
@@ -71,6 +72,99 @@ module _ (w : Width) (M : Mesh) where
       ∙ ap (λ (x : List ℕ). stepLine step (p .entered) (p .gone) (p .total) (p .released) ++ stepsPrinted w M most (step + 1) x (following bs (b ∷ input))) m
       ∙ ap (λ (x : List ℕ). stepLine step (p .entered) (p .gone) (p .total) (p .released) ++ stepsPrinted w M most (step + 1) masses′ x) r
       ∙ ap (λ (x : List ℕ). stepLine step (p .entered) (p .gone) (p .total) (p .released) ++ x) e
+
+  -- after the last step the board is printed
+  board-last : (most step : ℕ) (masses : List ℕ) → stepsPrinted w M (suc most) step masses [] ≡ boardPrinted M masses
+  unfolding stepsPrinted
+  board-last most step masses = refl
+
+  -- what a step's head says: how many bytes its record has, and so which bytes of the input it is
+  step-needs : (head : List ℕ) (kind n : ℕ) → stepHeadVerdict w (M .cells) (M .faces) (M .seconds) head ≡ fine → kindIn head ≡ kind
+      → stepLength kind (M .cells) (M .faces) (M .seconds) ≡ n → stepNeeds w (M .cells) (M .faces) (M .seconds) head ≡ accepted n
+  unfolding stepNeeds _andThen_
+  step-needs head kind n h k l = rw (h, k, l)
+
+  step-front : (a b c d n : ℕ) (rest : List ℕ) → stepNeeds w (M .cells) (M .faces) (M .seconds) (a ∷ b ∷ c ∷ d ∷ []) ≡ accepted n
+      → stepAt w M (a ∷ b ∷ c ∷ d ∷ rest) ≡ take (4 + stillNeeded (accepted n) 4) (a ∷ b ∷ c ∷ d ∷ rest)
+  unfolding recordAt bytesFor
+  step-front a b c d n rest e = ap (λ (o : Outcome ℕ). take (4 + stillNeeded o 4) (a ∷ b ∷ c ∷ d ∷ rest)) e
+
+  step-found : (bs : List ℕ) → stepHeadVerdict w (M .cells) (M .faces) (M .seconds) bs ≡ fine
+      → stepBodyVerdict (M .cells) (M .faces) (M .seconds) bs runFaces runFaces runCells ≡ fine → stepRecordFound w M bs ≡ fine
+  unfolding stepRecordFound _andThen_
+  step-found bs h b = rw (h, b)
+
+-- a step record, the call that it makes, and what that call does to a field
+module _ (w : Width) (M : Mesh) (bs : List ℕ) (call : Call) (found : stepRecordFound w M bs ≡ fine) (made : stepIn M bs ≡ call)
+    (masses masses′ : List ℕ) (p : Printed) (v : verdict M masses call ≡ fine) (said : printedOf M masses call ≡ p)
+    (moves : over (table (M .cells) (next (inputOf M masses call))) masses ≡ masses′) where
+  judged : stepJudged w M masses bs ≡ fine
+  unfolding stepJudged _andThen_
+  judged =
+      ap (λ (u : Verdict). u andThen verdict M masses (stepIn M bs)) found ∙ ap (λ (k : Call). verdict M masses k) made ∙ v
+
+  step-said : stepSaid w M masses bs ≡ accepted p
+  unfolding _andThen_
+  step-said =
+      ap (λ (u : Verdict). u andThen accepted (printedOf M masses (stepIn M bs))) judged
+      ∙ ap (λ (k : Call). accepted (printedOf M masses k)) made ∙ ap (λ (x : Printed). accepted x) said
+
+  field-then : fieldThen w M masses bs ≡ masses′
+  field-then =
+      ap (λ (u : Verdict). massesAfter M masses u (stepIn M bs)) judged
+      ∙ ap (λ (k : Call). over (table (M .cells) (next (inputOf M masses k))) masses) made ∙ moves
+
+  -- at the front of the input
+  step-printed : (most step b : ℕ) (input rest text : List ℕ) → stepAt w M (b ∷ input) ≡ bs → following bs (b ∷ input) ≡ rest
+      → stepsPrinted w M most (step + 1) masses′ rest ≡ text
+      → stepsPrinted w M (suc most) step masses (b ∷ input) ≡ stepLine step (p .entered) (p .gone) (p .total) (p .released) ++ text
+  step-printed most step b input rest text a r e = from-step w M most step b masses masses′ input bs rest text p a r step-said field-then e
+
+-- the tables are long enough: their lengths by law, since to count their entries takes long
+table-long : (n : ℕ) (xs : List ℕ) → length xs ≤ n → length (inTable n xs) ≡ n
+unfolding over
+table-long n xs h = rw (length-append, length-drop, length-table {A = ℕ} n (λ i. 0)) (omega arith)
+
+blank-long : {A : Type 0} (n : ℕ) (x : A) → length (blank n x) ≡ n
+unfolding blank
+blank-long n x = length-replicate n x
+
+mesh-long : (N : Mesh) → length (N .volumes) ≤ runCells → length (N .firsts) ≤ runFaces → length (N .seconds) ≤ runFaces → length (N .shares) ≤ runFaces
+    → length (N .reaches) ≤ runFaces
+    → inTurn (long 0 (N .cells) runCells ∷ long 1 (N .faces) runFaces ∷ long 2 (N .faces) runFaces ∷ long 3 (N .faces) runFaces ∷ long 4 (N .faces) runFaces ∷ []) ≡ fine
+    → meshTables (inTables N) ≡ fine
+unfolding meshTables
+mesh-long N v a b s k e =
+    rw (
+      table-long runCells (N .volumes) v,
+      table-long runFaces (N .firsts) a,
+      table-long runFaces (N .seconds) b,
+      table-long runFaces (N .shares) s,
+      table-long runFaces (N .reaches) k,
+    ) e
+
+field-long : (M : Mesh) (xs : List ℕ) → length xs ≤ runCells → long 5 (M .cells) runCells ≡ fine → fieldTable M (inTable runCells xs) ≡ fine
+unfolding fieldTable
+field-long M xs h e = rw (table-long runCells xs h) e
+
+step-long : (M : Mesh) (field : List ℕ) (fluxes : List ℤ) (outsides releases : List ℕ)
+    → inTurn (long 6 (M .faces) (length fluxes) ∷ long 7 (M .faces) (length outsides) ∷ long 8 (M .cells) runCells ∷ long 9 (M .faces) runFaces
+    ∷ long 10 (workEntries (M .cells) (M .faces)) (workEntries runCells runFaces) ∷ long 14 (M .cells) (length releases) ∷ []) ≡ fine
+    → stepTables M field (ownTables fluxes outsides releases) ≡ fine
+unfolding stepTables
+step-long M field fluxes outsides releases e =
+    rw (blank-long {A = ℕ} runCells 0, blank-long {A = ℤ} runFaces (pos 0), blank-long {A = ℕ} (workEntries runCells runFaces) 0) e
+
+-- a field written over another of as many cells
+over-field : (xs ys : List ℕ) → length xs ≡ length ys → over xs (inTable runCells ys) ≡ inTable runCells xs
+unfolding over
+over-field xs ys e = ap (λ (t : List ℕ). xs ++ t) (rw e (drop-append-seam ys (drop (length ys) (table runCells (λ i. 0)))))
+
+-- a step with none of its causes
+verdict-fine : (M : Mesh) (field : List ℕ) (call : Call) → counts M ≡ fine → meshTables M ≡ fine → fieldTable M field ≡ fine → stepTables M field call ≡ fine
+    → meshValues ceiling M ≡ fine → fieldValues M field ≡ fine → raisedValues M field call ≡ fine → stepValues ceiling M field call ≡ fine → verdict M field call ≡ fine
+unfolding verdict _andThen_
+verdict-fine M field call c t f k m s r w = rw (c, t, f, k, m, s, r, w)
 
 -- names for all that is computed through: to unfold one is to unfold what it names
 of-sums : Unit {0}
@@ -154,11 +248,6 @@ field₁ = inTable runCells (100099 ∷ 49901 ∷ 0 ∷ [])
 abbrev field₂ : List ℕ
 field₂ = inTable runCells (100099 ∷ 81188 ∷ 18713 ∷ [])
 
--- the tables are long enough: their lengths by law, since to count their entries takes long
-table-long : (n : ℕ) (xs : List ℕ) → length xs ≤ n → length (inTable n xs) ≡ n
-unfolding over
-table-long n xs h = rw (length-append, length-drop, length-table {A = ℕ} n (λ i. 0)) (omega arith)
-
 seconds-long : length (M .seconds) ≡ runFaces
 seconds-long = table-long runFaces (channel .seconds) (omega arith)
 
@@ -206,17 +295,9 @@ step-length : stepLength 3 3 4 (M .seconds) ≡ 16
 unfolding everything
 step-length = refl
 
-step-needs : stepNeeds Narrow 3 4 (M .seconds) stepHead ≡ accepted 16
-unfolding stepNeeds _andThen_
-step-needs = rw (step-head, step-kind, step-length)
-
-step-front₁ : stepAt Narrow M (channelStep ++ channelStep) ≡ channelStep
-unfolding recordAt bytesFor valueBits massBits releaseBits
-step-front₁ = ap (λ (o : Outcome ℕ). take (4 + stillNeeded o 4) (channelStep ++ channelStep)) step-needs
-
-step-front₂ : stepAt Narrow M channelStep ≡ channelStep
-unfolding recordAt bytesFor valueBits massBits releaseBits
-step-front₂ = ap (λ (o : Outcome ℕ). take (4 + stillNeeded o 4) channelStep) step-needs
+step-at : (rest : List ℕ) → stepAt Narrow M (channelStep ++ rest) ≡ channelStep
+unfolding of-bits
+step-at rest = step-front Narrow M 48 2 0 0 16 (drop 4 channelStep ++ rest) (step-needs Narrow M stepHead 3 16 step-head step-kind step-length)
 
 -- the call that the step record makes
 abbrev call : Call
@@ -239,35 +320,10 @@ unfolding everything
 body-fine = refl
 
 read-fine : stepRecordFound Narrow M channelStep ≡ fine
-unfolding stepRecordFound _andThen_
-read-fine = rw (step-headed, body-fine)
+read-fine = step-found Narrow M channelStep step-headed body-fine
 
 call-is : stepIn M channelStep ≡ call
 call-is = rw (fluxes-are, outsides-are, releases-are)
-
--- a step of this call on a field of three masses over zeros
-module _ (masses masses′ : List ℕ) (p : Printed) (v : verdict M masses call ≡ fine) (said : printedOf M masses call ≡ p)
-    (moves : over (table 3 (next (inputOf M masses call))) masses ≡ masses′) where
-  judged : stepJudged Narrow M masses channelStep ≡ fine
-  unfolding stepJudged _andThen_
-  judged =
-      ap (λ (u : Verdict). u andThen verdict M masses (stepIn M channelStep)) read-fine ∙ ap (λ (k : Call). verdict M masses k) call-is ∙ v
-
-  step-said : stepSaid Narrow M masses channelStep ≡ accepted p
-  unfolding _andThen_
-  step-said =
-      ap (λ (u : Verdict). u andThen accepted (printedOf M masses (stepIn M channelStep))) judged
-      ∙ ap (λ (k : Call). accepted (printedOf M masses k)) call-is ∙ ap (λ (x : Printed). accepted x) said
-
-  field-then : fieldThen Narrow M masses channelStep ≡ masses′
-  field-then =
-      ap (λ (u : Verdict). massesAfter M masses u (stepIn M channelStep)) judged
-      ∙ ap (λ (k : Call). over (table 3 (next (inputOf M masses k))) masses) call-is ∙ moves
-
--- a field written over another of as many cells
-over-field : (xs ys : List ℕ) → length xs ≡ length ys → over xs (inTable runCells ys) ≡ inTable runCells xs
-unfolding over
-over-field xs ys e = ap (λ (t : List ℕ). xs ++ t) (rw e (drop-append-seam ys (drop (length ys) (table runCells (λ i. 0)))))
 
 abbrev S₁ : StepInput
 S₁ = inputOf M field₀ call
@@ -276,23 +332,12 @@ abbrev S₂ : StepInput
 S₂ = inputOf M field₁ call
 
 mesh-tables : meshTables M ≡ fine
-unfolding meshTables need _andThen_
-mesh-tables =
-    rw (
-      table-long runCells (channel .volumes) (omega arith),
-      table-long runFaces (channel .firsts) (omega arith),
-      table-long runFaces (channel .seconds) (omega arith),
-      table-long runFaces (channel .shares) (omega arith),
-      table-long runFaces (channel .reaches) (omega arith),
-    )
-
-blank-long : {A : Type 0} (n : ℕ) (x : A) → length (blank n x) ≡ n
-unfolding blank
-blank-long n x = length-replicate n x
+unfolding need _andThen_
+mesh-tables = mesh-long channel (omega arith) (omega arith) (omega arith) (omega arith) (omega arith) refl
 
 step-tables : (field : List ℕ) → stepTables M field call ≡ fine
-unfolding stepTables need _andThen_
-step-tables field = rw (blank-long {A = ℕ} runCells 0, blank-long {A = ℤ} runFaces (pos 0), blank-long {A = ℕ} (workEntries runCells runFaces) 0)
+unfolding need _andThen_
+step-tables field = step-long M field _ _ _ refl
 
 counts-fine : counts M ≡ fine
 unfolding everything
@@ -303,8 +348,8 @@ unfolding everything
 mesh-values = refl
 
 field-table : (a b c : ℕ) → fieldTable M (inTable runCells (a ∷ b ∷ c ∷ [])) ≡ fine
-unfolding fieldTable need
-field-table a b c = rw (table-long runCells (a ∷ b ∷ c ∷ []) (omega arith))
+unfolding need
+field-table a b c = field-long M (a ∷ b ∷ c ∷ []) (omega arith) refl
 
 field-values₁ : fieldValues M field₀ ≡ fine
 unfolding everything
@@ -331,12 +376,10 @@ unfolding everything
 step-values₂ = refl
 
 verdict₁ : verdict M field₀ call ≡ fine
-unfolding verdict _andThen_
-verdict₁ = rw (counts-fine, mesh-tables, field-table 100000 0 0, step-tables field₀, mesh-values, field-values₁, raised-values₁, step-values₁)
+verdict₁ = verdict-fine M field₀ call counts-fine mesh-tables (field-table 100000 0 0) (step-tables field₀) mesh-values field-values₁ raised-values₁ step-values₁
 
 verdict₂ : verdict M field₁ call ≡ fine
-unfolding verdict _andThen_
-verdict₂ = rw (counts-fine, mesh-tables, field-table 100099 49901 0, step-tables field₁, mesh-values, field-values₂, raised-values₂, step-values₂)
+verdict₂ = verdict-fine M field₁ call counts-fine mesh-tables (field-table 100099 49901 0) (step-tables field₁) mesh-values field-values₂ raised-values₂ step-values₂
 
 next₁ : table 3 (next S₁) ≡ 100099 ∷ 49901 ∷ 0 ∷ []
 unfolding everything
@@ -393,10 +436,6 @@ board-is : boardPrinted M field₂ ≡ boardLine 0 1000 99 ++ (boardLine 1 811 8
 unfolding everything
 board-is = refl
 
-board-last : (most step : ℕ) → stepsPrinted Narrow M (suc most) step field₂ [] ≡ boardPrinted M field₂
-unfolding stepsPrinted
-board-last most step = refl
-
 abbrev channelLines : List ℕ
 channelLines = stepLine 0 0 0 100000 0
     ++ (stepLine 1 50000 0 150000 0 ++ (stepLine 2 50000 0 200000 0 ++ (boardLine 0 1000 99 ++ (boardLine 1 811 88 ++ boardLine 2 187 13))))
@@ -404,12 +443,9 @@ channelLines = stepLine 0 0 0 100000 0
 lines : printed channelInput ≡ channelLines
 lines =
     let steps = channelStep ++ channelStep in
-    let said₂ = step-said field₁ field₂ _ verdict₂ printed₂ moves₂ in
-    let then₂ = field-then field₁ field₂ _ verdict₂ printed₂ moves₂ in
-    let step₂ = from-step Narrow M 30 2 48 field₁ field₂ _ channelStep [] _ _ step-front₂ refl said₂ then₂ (board-last 29 3 ∙ board-is) in
-    let said₁ = step-said field₀ field₁ _ verdict₁ printed₁ moves₁ in
-    let then₁ = field-then field₀ field₁ _ verdict₁ printed₁ moves₁ in
-    let step₁ = from-step Narrow M 31 1 48 field₀ field₁ _ channelStep channelStep _ _ step-front₁ refl said₁ then₁ step₂ in
+    let last = board-last Narrow M 29 3 field₂ ∙ board-is in
+    let step₂ = step-printed Narrow M channelStep call read-fine call-is field₁ field₂ _ verdict₂ printed₂ moves₂ 30 2 48 _ [] _ (step-at []) refl last in
+    let step₁ = step-printed Narrow M channelStep call read-fine call-is field₀ field₁ _ verdict₁ printed₁ moves₁ 31 1 48 _ channelStep _ (step-at channelStep) refl step₂ in
     let first = ap (λ (ms : List ℕ). stepsPrinted Narrow M 32 1 (inTable runCells ms) (channelStep ++ channelStep)) field-is ∙ step₁ in
     let field = from-field Narrow M (channelField ++ steps) channelField steps _ 100000 field-front refl field-said first in
     from-mesh channelInput channelMesh (channelField ++ steps) _ _ mesh-front refl mesh-said
