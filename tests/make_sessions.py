@@ -173,6 +173,7 @@ def wide_sessions():
     yield "wide_outflow", strait(65534, 0, through(65534), through(65535), through(1))
     yield "wide_release", strait(65535, 0, through(65535, 65535065534), through(65535, 1), through(65535, outside=0), through(0, (1 << 40) - 1, 0),
                                  through(0, 65535000001, 0), through(0, 65535000000, 0))
+    yield "wide_strait", strait(65535, 1 << 32, through(40000), through(40000, 5000000000))
     yield "wide_product", pack_mesh(PAIR, True) + pack_field([39321000000, 6553500000], True) + pack_step(PAIR, [30000, -30000], [0, 0], wide=True)
     yield "wide_reach", pack_mesh(PAIR._replace(reaches=[65535, 0]), True) + pack_field([0, 0], True)
     yield "wide_flux", pack_mesh(PAIR._replace(reaches=[65535, 40000]), True) + pack_field([5, 5], True) \

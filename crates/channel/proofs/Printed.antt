@@ -12,18 +12,18 @@ use lib.Seq.{drop-append-seam}
 use Rattle.lists.specs.Fold.{sum, least, greatest}
 use Rattle.lists.specs.Table.{table, over}
 use Rattle.lists.proofs.Tables.{length-table}
-use Rattle.model.specs.Mesh.{Mesh, runCells, runFaces, entering, leaving, incoming, outgoing, updated, total, ceiling}
+use Rattle.model.specs.Mesh.{Mesh, runCells, runFaces, rim, entering, leaving, incoming, outgoing, updated, total, ceiling}
 use Rattle.model.specs.Step.{StepInput, portion, receiver, giver, limitedBy, rounded, beyond, upwind, downwind, carried, low, upwindShare, correction, smooths, keptBy, lowConcentration, kept, adjacent, lo, hi, maxGain}
 use Rattle.model.specs.Step.{maxLoss, limited, moved, next, inMass, outMass, raised, releasedMass}
 use Rattle.model.specs.Causes.{Outcome, accepted, Verdict, fine, inTurn, long, Call, inputOf, workEntries, _andThen_, need, each, countsWithin, counts, meshTables, volumeGood, endsGood, spacingGood, meshValues}
 use Rattle.model.specs.Causes.{fieldTable, saltGood, fieldValues, meshFieldVerdict, stepTables, raisedGood, raisedValues, outsideGood, fluxGood, balanceGood, outflowGood, stepValues, verdict}
-use Rattle.model.proofs.Figures.{channel}
+use Rattle.model.proofs.Figures.{channel, largeStrait}
 use Rattle.bits.specs.Field.{bitAt, bitsAt}
 use Rattle.bits.specs.Layout.{bytesFor}
 use Rattle.sections.specs.Sections.{those}
 use Rattle.heads.specs.Layouts.{valueBits, massBits, releaseBits, meshLength, fieldLength, stepLength}
 use Rattle.heads.specs.declared.Width.{Width}
-use Rattle.heads.specs.declared.Width.the-variants.{Narrow}
+use Rattle.heads.specs.declared.Width.the-variants.{Narrow, Wide}
 use Rattle.zeros.specs.Zeros.{zeroBitGood, minusZero}
 use Rattle.reading.specs.Reading.{meshIn, volumesIn, firstsIn, secondsIn, sharesIn, reachesIn, massesIn, fluxesIn, outsidesIn, releasesIn, meshBitGood, stepBitGood}
 use Rattle.heads.specs.Heads.{kindIn, meshHeadVerdict, fieldHeadVerdict, stepHeadVerdict, meshMeasured, meshNeeds, fieldNeeds, stepNeeds}
@@ -487,3 +487,223 @@ wide-printed = refl
 pub narrow-after-wide : printed (wideMesh ++ (32 ∷ 1 ∷ 0 ∷ 0 ∷ 0 ∷ 99 ∷ [])) ≡ 70 ∷ 32 ∷ 49 ∷ 51 ∷ 32 ∷ 48 ∷ 10 ∷ []
 unfolding everything
 narrow-after-wide = refl
+
+-- A session of kinds 5, 6, 7 and 8: a cell of V 65,535 with two faces over the rim
+abbrev pub straitMesh : List ℕ
+straitMesh = 80 ∷ 1 ∷ 0 ∷ 16 ∷ 255 ∷ 255 ∷ 0 ∷ 15 ∷ 255 ∷ 0 ∷ 0 ∷ 0 ∷ 0 ∷ 15 ∷ 255 ∷ 0 ∷ 0 ∷ 0 ∷ []
+
+-- a mass of 2^32
+abbrev pub straitField : List ℕ
+straitField = 96 ∷ 1 ∷ 1 ∷ 0 ∷ 0 ∷ 0 ∷ 0 ∷ []
+
+-- U −40000, 40000; outside value 1000000 at face 0
+abbrev pub straitStep : List ℕ
+straitStep = 112 ∷ 1 ∷ 0 ∷ 0 ∷ 206 ∷ 32 ∷ 39 ∷ 16 ∷ 61 ∷ 9 ∷ 0 ∷ 0 ∷ 0 ∷ 0 ∷ []
+
+-- the same water with a release of 5000000000
+abbrev pub straitOutfall : List ℕ
+straitOutfall = 128 ∷ 1 ∷ 0 ∷ 0 ∷ 206 ∷ 32 ∷ 39 ∷ 16 ∷ 61 ∷ 9 ∷ 0 ∷ 0 ∷ 0 ∷ 0 ∷ 74 ∷ 129 ∷ 124 ∷ 128 ∷ 0 ∷ []
+
+abbrev pub straitInput : List ℕ
+straitInput = straitMesh ++ (straitField ++ (straitStep ++ straitOutfall))
+
+abbrev strait : Mesh
+strait = inTables (largeStrait 65535)
+
+-- the field at first, after step 1 and after step 2
+abbrev strait₀ : List ℕ
+strait₀ = inTable runCells (4294967296 ∷ [])
+
+abbrev strait₁ : List ℕ
+strait₁ = inTable runCells (41673487296 ∷ [])
+
+abbrev strait₂ : List ℕ
+strait₂ = inTable runCells (58185847296 ∷ [])
+
+-- the calls that the step records make: this water with a release
+abbrev through : ℕ → Call
+through r = ownTables (negsuc 39999 ∷ pos 40000 ∷ []) (1000000 ∷ 0 ∷ []) (r ∷ [])
+
+abbrev water : Call
+water = through 0
+
+abbrev outfall : Call
+outfall = through 5000000000
+
+strait-mesh-is : meshIn straitMesh ≡ largeStrait 65535
+unfolding everything
+strait-mesh-is = refl
+
+strait-mesh-said : meshSaidOf straitMesh ≡ accepted (record { cells = 1; faces = 2; width = Wide })
+unfolding everything
+strait-mesh-said = refl
+
+strait-mesh-front : meshAt straitInput ≡ straitMesh
+unfolding everything
+strait-mesh-front = refl
+
+strait-field-front : fieldAt Wide strait (straitField ++ (straitStep ++ straitOutfall)) ≡ straitField
+unfolding everything
+strait-field-front = refl
+
+strait-field-is : massesIn straitField 1 ≡ 4294967296 ∷ []
+unfolding everything
+strait-field-is = refl
+
+strait-field-said : fieldSaid Wide strait straitField ≡ accepted 4294967296
+unfolding everything
+strait-field-said = refl
+
+strait-seconds : length (strait .seconds) ≡ runFaces
+strait-seconds = table-long runFaces (rim ∷ rim ∷ []) (omega arith)
+
+-- kind 7
+water-head : stepHeadVerdict Wide 1 2 (strait .seconds) (take 4 straitStep) ≡ fine
+unfolding of-causes of-bits of-reading
+water-head = rw strait-seconds
+
+water-headed : stepHeadVerdict Wide 1 2 (strait .seconds) straitStep ≡ fine
+unfolding of-causes of-bits of-reading
+water-headed = rw strait-seconds
+
+water-kind : kindIn (take 4 straitStep) ≡ 7
+unfolding of-bits
+water-kind = refl
+
+water-length : stepLength 7 1 2 (strait .seconds) ≡ 14
+unfolding everything
+water-length = refl
+
+water-at : stepAt Wide strait (straitStep ++ straitOutfall) ≡ straitStep
+unfolding of-bits
+water-at = step-front Wide strait 112 1 0 0 14 (drop 4 straitStep ++ straitOutfall) (step-needs Wide strait (take 4 straitStep) 7 14 water-head water-kind water-length)
+
+water-body : stepBodyVerdict 1 2 (strait .seconds) straitStep runFaces runFaces runCells ≡ fine
+unfolding everything
+water-body = refl
+
+water-fluxes : fluxesIn straitStep 2 ≡ negsuc 39999 ∷ pos 40000 ∷ []
+unfolding everything
+water-fluxes = refl
+
+water-outsides : outsidesIn straitStep 2 (strait .seconds) ≡ 1000000 ∷ 0 ∷ []
+unfolding everything
+water-outsides = refl
+
+water-releases : releasesIn straitStep 1 2 (strait .seconds) ≡ 0 ∷ []
+unfolding everything
+water-releases = refl
+
+water-call : stepIn strait straitStep ≡ water
+water-call = rw (water-fluxes, water-outsides, water-releases)
+
+-- kind 8
+outfall-head : stepHeadVerdict Wide 1 2 (strait .seconds) (take 4 straitOutfall) ≡ fine
+unfolding of-causes of-bits of-reading
+outfall-head = rw strait-seconds
+
+outfall-headed : stepHeadVerdict Wide 1 2 (strait .seconds) straitOutfall ≡ fine
+unfolding of-causes of-bits of-reading
+outfall-headed = rw strait-seconds
+
+outfall-kind : kindIn (take 4 straitOutfall) ≡ 8
+unfolding of-bits
+outfall-kind = refl
+
+outfall-length : stepLength 8 1 2 (strait .seconds) ≡ 19
+unfolding everything
+outfall-length = refl
+
+outfall-at : stepAt Wide strait straitOutfall ≡ straitOutfall
+unfolding of-bits
+outfall-at = step-front Wide strait 128 1 0 0 19 (drop 4 straitOutfall) (step-needs Wide strait (take 4 straitOutfall) 8 19 outfall-head outfall-kind outfall-length)
+
+outfall-body : stepBodyVerdict 1 2 (strait .seconds) straitOutfall runFaces runFaces runCells ≡ fine
+unfolding everything
+outfall-body = refl
+
+outfall-fluxes : fluxesIn straitOutfall 2 ≡ negsuc 39999 ∷ pos 40000 ∷ []
+unfolding everything
+outfall-fluxes = refl
+
+outfall-outsides : outsidesIn straitOutfall 2 (strait .seconds) ≡ 1000000 ∷ 0 ∷ []
+unfolding everything
+outfall-outsides = refl
+
+outfall-releases : releasesIn straitOutfall 1 2 (strait .seconds) ≡ 5000000000 ∷ []
+unfolding everything
+outfall-releases = refl
+
+outfall-call : stepIn strait straitOutfall ≡ outfall
+outfall-call = rw (outfall-fluxes, outfall-outsides, outfall-releases)
+
+-- the causes of both steps, and what they do
+strait-tables : meshTables strait ≡ fine
+unfolding need _andThen_
+strait-tables = mesh-long (largeStrait 65535) (omega arith) (omega arith) (omega arith) (omega arith) (omega arith) refl
+
+strait-counts : counts strait ≡ fine
+unfolding everything
+strait-counts = refl
+
+strait-values : meshValues ceiling strait ≡ fine
+unfolding everything
+strait-values = refl
+
+strait-step-tables : (field : List ℕ) (r : ℕ) → stepTables strait field (through r) ≡ fine
+unfolding need _andThen_
+strait-step-tables field r = step-long strait field _ _ _ refl
+
+strait-field-table : (m : ℕ) → fieldTable strait (inTable runCells (m ∷ [])) ≡ fine
+unfolding need
+strait-field-table m = field-long strait (m ∷ []) (omega arith) refl
+
+water-verdict : verdict strait strait₀ water ≡ fine
+unfolding everything
+water-verdict = verdict-fine strait strait₀ water strait-counts strait-tables (strait-field-table 4294967296) (strait-step-tables strait₀ 0) strait-values refl refl refl
+
+outfall-verdict : verdict strait strait₁ outfall ≡ fine
+unfolding everything
+outfall-verdict =
+    verdict-fine strait strait₁ outfall strait-counts strait-tables (strait-field-table 41673487296) (strait-step-tables strait₁ 5000000000) strait-values refl refl refl
+
+water-printed : printedOf strait strait₀ water ≡ record { entered = 40000000000; gone = 2621480000; total = 41673487296; released = 0 }
+unfolding everything
+water-printed = refl
+
+outfall-printed : printedOf strait strait₁ outfall ≡ record { entered = 40000000000; gone = 28487640000; total = 58185847296; released = 5000000000 }
+unfolding everything
+outfall-printed = refl
+
+water-next : table 1 (next (inputOf strait strait₀ water)) ≡ 41673487296 ∷ []
+unfolding everything
+water-next = refl
+
+outfall-next : table 1 (next (inputOf strait strait₁ outfall)) ≡ 58185847296 ∷ []
+unfolding everything
+outfall-next = refl
+
+water-moves : over (table 1 (next (inputOf strait strait₀ water))) strait₀ ≡ strait₁
+water-moves = ap (λ (xs : List ℕ). over xs strait₀) water-next ∙ over-field (41673487296 ∷ []) (4294967296 ∷ []) refl
+
+outfall-moves : over (table 1 (next (inputOf strait strait₁ outfall))) strait₁ ≡ strait₂
+outfall-moves = ap (λ (xs : List ℕ). over xs strait₁) outfall-next ∙ over-field (58185847296 ∷ []) (41673487296 ∷ []) refl
+
+strait-board : boardPrinted strait strait₂ ≡ boardLine 0 887859 7731
+unfolding everything
+strait-board = refl
+
+pub strait-printed : printed straitInput
+    ≡ stepLine 0 0 0 4294967296 0
+    ++ (stepLine 1 40000000000 2621480000 41673487296 0 ++ (stepLine 2 40000000000 28487640000 58185847296 5000000000 ++ boardLine 0 887859 7731))
+strait-printed =
+    let steps = straitStep ++ straitOutfall in
+    let last = board-last Wide strait 30 3 strait₂ ∙ strait-board in
+    let found₂ = step-found Wide strait straitOutfall outfall-headed outfall-body in
+    let step₂ = step-printed Wide strait straitOutfall outfall found₂ outfall-call strait₁ strait₂ _ outfall-verdict outfall-printed outfall-moves 31 2 128 _ [] _ outfall-at refl last in
+    let found₁ = step-found Wide strait straitStep water-headed water-body in
+    let step₁ = step-printed Wide strait straitStep water found₁ water-call strait₀ strait₁ _ water-verdict water-printed water-moves 32 1 112 _ straitOutfall _ water-at refl step₂ in
+    let first = ap (λ (ms : List ℕ). stepsPrinted Wide strait 33 1 (inTable runCells ms) steps) strait-field-is ∙ step₁ in
+    let field = from-field Wide strait (straitField ++ steps) straitField steps _ 4294967296 strait-field-front refl strait-field-said first in
+    from-mesh straitInput straitMesh (straitField ++ steps) _ _ strait-mesh-front refl strait-mesh-said
+    (ap (λ (N : Mesh). fieldPrinted Wide (inTables N) (straitField ++ steps)) strait-mesh-is ∙ field)
