@@ -1,6 +1,6 @@
 #!/usr/bin/env bash
 # Every file, name and quoted line that README.md, the pages of docs/ and the landing notes cite is there, and the crates stand under the same
-# headings everywhere; and both tests do find what is wrong.
+# headings everywhere, and every must-fail edit is one that rt reads whole; and the tests do find what is wrong.
 set -eu
 cd "$(dirname "$0")/.."
 python3 tests/cites.py README.md docs/*.md docs/landings/*.md
@@ -23,3 +23,9 @@ found docs/landings/S-04.md 's,`kept/specs/Store.antt`,`store/specs/Store.antt`,
 python3 tests/families.py
 sed 's/^portion: /portions: /' crates.txt > "$made/crates.txt"
 if python3 tests/families.py "$made/crates.txt" > "$made/said" 2>&1; then echo "a crate that README.md does not have is not found"; exit 1; fi
+
+python3 tests/edits.py
+mkdir -p "$made/bits/must-fail"
+cp -r crates/bits/src "$made/bits/src"
+printf 'file: src/lib.rt\nold: fn wide(x: u8) -> u64\n    ensures\nnew: fn wide(x: u8) -> u64\n    requires\n' > "$made/bits/must-fail/lines.edit"
+if python3 tests/edits.py "$made/bits/must-fail/lines.edit" > "$made/said" 2>&1; then echo "an edit of several lines is not found"; exit 1; fi
