@@ -7,6 +7,7 @@ edits.py [EDIT..]: says what is wrong, and then ends with status 1. Without name
 import sys
 from pathlib import Path
 
+
 def wrong(edit, crate):
     """What rt would not do with the edit."""
     texts, file, old, pairs = {}, None, None, 0
