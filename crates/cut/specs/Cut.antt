@@ -82,7 +82,7 @@ module _ (L : Lagoon) where
     abbrev pub partFaces : ℕ
     partFaces = count (L .faces) touches
 
-    -- "faces and cells in their old order": the new number of a cell is how many of its part come before it
+    -- order kept: the new number of a cell is how many of its part come before it
     abbrev pub newCell : ℕ → ℕ
     newCell c = count c inPart
 
@@ -116,11 +116,11 @@ module _ (L : Lagoon) where
     abbrev pub newFlux : ℕ → ℤ
     newFlux f = turn (isTurned f) (flux stepInput f)
 
-    -- at a cut face "the raised concentration across the cut where water enters, else 0"
+    -- at a cut face q of the raised field across it, where water comes in there; 0 where none does
     abbrev pub newOutside : ℕ → ℕ
     newOutside f = cond (isCut f) (cond (isNegative (newFlux f)) (concentration stepInput (across f)) 0) (outside stepInput f)
 
-    -- a table of the part's cells or faces, written over the front of a lent one: "entries past the part's own are untouched"
+    -- a table of the part's cells or faces, written over the front of a lent one, whose other entries stay
     abbrev pub byCell : {A : Type 0} → (ℕ → A) → List A → List A
     byCell entry ys = over (picked (L .cells) inPart entry) ys
 

@@ -24,7 +24,7 @@ module _ (L : Lagoon) (nexts : List ℕ) (moveds : List ℤ) (work : List ℕ) w
   abbrev pub plainMoved : List ℤ
   plainMoved = movedTable plain (meshIn L) (stepOn L nexts moveds work) (L .tables .masses)
 
--- "lent at the whole's counts": the tables that a part's step is to fill
+-- the tables that a part's step is to fill, each as long as the whole asks
 pub record LentAtCounts (L : Lagoon) (nexts : List ℕ) (moveds : List ℤ) (work : List ℕ) : Type 0 where
   pub nexts-long : L .cells ≤ length nexts
   pub moveds-long : L .faces ≤ length moveds

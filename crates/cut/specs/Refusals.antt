@@ -79,7 +79,7 @@ module _ (L : Lagoon) (labels : List ℕ) where
     unfoldable pub cutVerdict : Verdict
     cutVerdict = inTurn cutCauses
 
-    -- "both parts' counts are given"
+    -- the answer: cells and faces of part 0, then of part 1
     unfoldable pub cutAnswer : Outcome Sizes
     cutAnswer = cutVerdict andThen accepted sizesOf
 

@@ -1,4 +1,4 @@
--- Document 02, S-11: "The engine's own steps, corrected or plain, are always accepted", of two calls of the code.
+-- Document 02, S-11: a step of the engine, corrected or plain, handed in as a claim, is accepted: of two calls of the code.
 use Prim.Native.Nat.{ℕ, _≤_, _<_}
 use mathlib.Core.Path.{_≡_}
 use mathlib.Core.List.{List}
