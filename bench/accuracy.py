@@ -17,12 +17,12 @@ import sys
 from pathlib import Path
 
 ROOT = Path(__file__).resolve().parent.parent
-sys.path[:0] = [str(ROOT / "tools"), str(ROOT / "reference")]
+sys.path.insert(0, str(ROOT / "reference"))
 
 import engines
 import lagoon
-from calls import Calls, spelled
-from command import Bad
+from package.calls import Calls, spelled
+from package.command import Bad
 
 VOLUME = 4000           # of every cell; the Courant number times it is whole
 COURANT = (2, 5)

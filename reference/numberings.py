@@ -5,7 +5,7 @@ and steps on tables through calls.
     numberings.py --run RUN --call DRIVER --script CALLS --cases 400 --seed 1     equal but for the numbering, and every cause reached
     numberings.py --run RUN --call DRIVER --script CALLS --slips                  a second numbering wrong in one figure: must differ
 
-The second of each pair has its cells and faces numbered at random and about half of its interior faces turned (tools/renumber.py). Its masses
+The second of each pair has its cells and faces numbered at random and about half of its interior faces turned (lagoon renumber). Its masses
 and moved masses have to be the first's carried along, negated where turned, and its refusals have the first's numbers.
 Exit status 0: as it should be. 1: a pair that differs, a cause that was never reached, or a slip that was not seen.
 """
@@ -18,19 +18,18 @@ from collections import Counter
 from pathlib import Path
 
 HERE = Path(__file__).resolve().parent
-sys.path[:0] = [str(HERE), str(HERE.parent / "tools")]
+sys.path.insert(0, str(HERE))
 
 import engines
 import generate
 import generate_script
 import lagoon
-import layout
-import renumber
 import script
-from command import Bad
+from package import layout, renumber
+from package.command import Bad
 from lagoon import FIRSTS, FLUXES, MASSES, MOVED, NEXT, OUTSIDES, REACHES, RELEASES, RIM, SECONDS, SHARES, STEP_TABLES, VOLUMES, WORK
-from layout import Damage, Face
-from session import Session
+from package.layout import Face
+from package.session import Session
 
 LEAST = -(1 << 63)              # the one flux whose opposite does not fit its entry
 STEP_CAUSES = {2, 6, 7, 8, 9, 10, 18}

@@ -1,5 +1,5 @@
 #!/usr/bin/env python3
-"""Shares from survey points: tools/survey.py against the engine, through the program calls.
+"""Shares from survey points: lagoon survey against the engine, through the program calls.
 
     python3 tests/points.py target/compare/calls      many faces, each as a row of a table and as a call; and every place refused
 """
@@ -12,10 +12,10 @@ import tempfile
 from pathlib import Path
 
 ROOT = Path(__file__).resolve().parent.parent
-sys.path[:0] = [str(ROOT / "reference"), str(ROOT / "tools")]
+sys.path.insert(0, str(ROOT / "reference"))
 
-import points
-from causes import Refusal
+from package import points
+from package.causes import Refusal
 from generate_script import SPECIAL, survey_face
 from script import float_of, pattern, spell
 
@@ -46,13 +46,13 @@ def tool_share(row):
 
 
 def table_shares(rows):
-    """The shares that tools/survey.py writes for a table of faces that are not refused."""
+    """The shares that lagoon survey writes for a table of faces that are not refused."""
     with tempfile.TemporaryDirectory() as made:
         cells, table = Path(made, "cells.csv"), Path(made, "faces.csv")
         cells.write_text("cell,volume,salt\na,1,1\nb,1,1\n")
         table.write_text(",".join(["face", "from", "to", "area", *points.COLUMNS]) + "\n" + "".join(
             f"f{number},a,b,{1 / points.distance(row)!r}," + ",".join(map(repr, row)) + "\n" for number, row in enumerate(rows)))
-        done = subprocess.run([ROOT / "tools" / "survey.py", cells, table, "--volume-unit", "1"], capture_output=True, check=True)
+        done = subprocess.run([ROOT / "bin" / "lagoon", "survey", cells, table, "--volume-unit", "1"], capture_output=True, check=True)
     return [int(line.split(" share ")[1].split()[0]) for line in done.stdout.decode().splitlines() if " share " in line]
 
 
@@ -61,11 +61,11 @@ def main():
     said = engine_shares(sys.argv[1], rows)
     for row, engine in zip(rows, said, strict=True):
         if tool_share(row) != engine:
-            sys.exit(f"points: {row}: the engine says {engine}, tools/survey.py {tool_share(row)}")
+            sys.exit(f"points: {row}: the engine says {engine}, lagoon survey {tool_share(row)}")
     good = [(row, engine[0]) for row, engine in zip(rows, said) if len(engine) == 1 and 1e-6 < points.distance(row) < math.inf][:2000]
     if table_shares([row for row, _ in good]) != [share for _, share in good]:
-        sys.exit("points: tools/survey.py writes other shares than the engine gives")
-    print(f"points: {len(rows)} faces, {len(good)} of them in a table: tools/survey.py and the engine agree")
+        sys.exit("points: lagoon survey writes other shares than the engine gives")
+    print(f"points: {len(rows)} faces, {len(good)} of them in a table: lagoon survey and the engine agree")
 
 
 if __name__ == "__main__":

@@ -1,5 +1,5 @@
 #!/usr/bin/env python3
-"""tools/binder.py beside the engine's pages: last fields of sessions, field records of one page and of several, read back, and bad input.
+"""lagoon binder beside the engine's pages: last fields of sessions, field records of one page and of several, read back, and bad input.
 
     python3 tests/test_binder.py
 """
@@ -11,7 +11,7 @@ from toolcase import CHANNEL, ROOT, RUN, breaks, command, equal, folder, holds, 
 import generate
 import lagoon
 import script
-import sessiontext
+from package import sessiontext
 
 CALLS = ROOT / "target" / "compare" / "calls"
 TOP = 1_000_000
@@ -46,7 +46,7 @@ def read_back(text, volumes):
 
 
 def printed(*arguments, data):
-    status, out, said = command("binder.py", *arguments, data=data)
+    status, out, said = command("binder", *arguments, data=data)
     equal((status, said), (0, ""), f"{arguments}")
     return out
 
@@ -134,17 +134,17 @@ def test_a_field_record():
                                (lagoon.pack_field([(1 << 32) - 1] * 130), "(cause 6)")):
             with open(short, "wb") as file:
                 file.write(content)
-            refuses(words, "binder.py", "--field", short, data=pond(volumes, masses))
+            refuses(words, "binder", "--field", short, data=pond(volumes, masses))
 
 
 def test_bad_use():
-    known("binder.py")
-    refuses("(cause 6)", "binder.py", data=pond([1], [TOP + 1]))
-    refuses("No such file", "binder.py", "--field", "/nonexistent", data=pond([1], [1]))
-    refuses("is not there", "binder.py", "--library", "/nonexistent.so", data=pond([1], [1]))
-    breaks("binder.py", data=pond([1], [1]))
-    interrupted("binder.py")
+    known("binder")
+    refuses("(cause 6)", "binder", data=pond([1], [TOP + 1]))
+    refuses("No such file", "binder", "--field", "/nonexistent", data=pond([1], [1]))
+    refuses("is not there", "binder", "--library", "/nonexistent.so", data=pond([1], [1]))
+    breaks("binder", data=pond([1], [1]))
+    interrupted("binder")
 
 
 if __name__ == "__main__":
-    run_all(globals(), "tools/binder.py")
+    run_all(globals(), "lagoon binder")

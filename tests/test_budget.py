@@ -1,5 +1,5 @@
 #!/usr/bin/env python3
-"""tools/budget.py beside the run program and the reference: sums by rim face, refusals in words, and months that follow one another.
+"""lagoon budget beside the run program and the reference: sums by rim face, refusals in words, and months that follow one another.
 
     python3 tests/test_budget.py
 """
@@ -14,8 +14,7 @@ from toolcase import (CHANNEL, ONE_SIDED, ROOT, RUN, TIDE, breaks, command, equa
 
 import generate
 import lagoon
-import layout
-import sessiontext
+from package import layout, sessiontext
 
 
 def figures(report):
@@ -25,7 +24,7 @@ def figures(report):
 
 
 def test_the_tide():
-    status, out, said = command("budget.py", ROOT / "examples" / "tide.txt", "--run", RUN)
+    status, out, said = command("budget", ROOT / "examples" / "tide.txt", "--run", RUN)
     equal((status, said), (0, ""), "the tide's budget")
     report = out.decode()
     equal(figures(report), {"first total": 245000000, "in, face 0 (sea)": 210000000, "in, face 8 (river)": 1568000, "in, all rim faces": 211568000,
@@ -42,7 +41,7 @@ def test_beside_the_reference():
     for number in range(40):
         data = generate.session(23, number).data
         lines = [line.split() for line in lagoon.run(data).splitlines()]
-        status, out, said = command("budget.py", "--run", RUN, "--csv", "-", data=data)
+        status, out, said = command("budget", "--run", RUN, "--csv", "-", data=data)
         if lines[0][0] in "MF":
             holds(status == 1 and f"(cause {lines[0][1]})" in said, f"session {number}: {lines[0]} {said}")
             continue
@@ -67,7 +66,7 @@ def test_outfalls():
     """What was released, by cell, with its name; and a release that the field refuses."""
     session = CHANNEL.replace("field", "name cell 1 pump\nfield") + "step times 2\nface 0 flux 0\ncell 1 release 20000\ncell 2 release 5\n" \
         + "step\ncell 0 release 99900001\n"
-    status, out, said = command("budget.py", "--run", RUN, data=session.encode())
+    status, out, said = command("budget", "--run", RUN, data=session.encode())
     report = out.decode()
     equal((status, said, figures(report)), (0, "", {
         "first total": 100000, "in, face 0": 100000, "in, all rim faces": 100000, "released, cell 1 (pump)": 40000, "released, cell 2": 10,
@@ -84,7 +83,7 @@ def both(report):
 
 def test_plain():
     """The first-order answer beside the corrected one: of four steps of the channel."""
-    status, out, said = command("budget.py", "--plain", "--run", RUN, data=CHANNEL.replace("times 2", "times 4").encode())
+    status, out, said = command("budget", "--plain", "--run", RUN, data=CHANNEL.replace("times 2", "times 4").encode())
     report = out.decode()
     equal((status, said), (0, ""), "the channel with plain upwind")
     equal(both(report), {"first total": (100000, 100000), "in, face 0": (200000, 200000), "in, all rim faces": (200000, 200000),
@@ -94,7 +93,7 @@ def test_plain():
     holds("last fields farthest apart in cell 1: corrected q 1,000, rest 99; plain q 937, rest 50\n" in report, report)
     holds("plain upwind, 4 accepted steps: m / V of every cell is less than 4 from steps that round nothing" in report, report)
     still = CHANNEL[:CHANNEL.index("step times 2")] + "step\ncell 0 release 99900100\n"
-    report = command("budget.py", "--plain", data=still.encode())[1].decode()
+    report = command("budget", "--plain", data=still.encode())[1].decode()
     holds("both last fields are the same\n" in report and report.count("cause 18") == 2, f"refused by both, and no plain step is accepted: {report}")
 
 
@@ -107,8 +106,8 @@ def test_plain_beside_the_reference():
         if lines[0][0] in "MF":
             continue
         tried += 1
-        status, out, said = command("budget.py", "--plain", "--csv", "-", data=data)
-        alone = command("budget.py", "--csv", "-", data=data)[1]
+        status, out, said = command("budget", "--plain", "--csv", "-", data=data)
+        alone = command("budget", "--csv", "-", data=data)[1]
         equal((status, both(said)["difference"]), (0, (0, 0)), f"session {number}: {said}")
         rows, corrected = (list(csv.reader(io.StringIO(text.decode()))) for text in (out, alone))
         wide = len(corrected[0])
@@ -125,7 +124,7 @@ def test_wide_records():
     """The same budget in records of either width; and of a large bay, whose plain steps are made from wide records too."""
     wide = CHANNEL.replace("mesh", "mesh wide", 1)
     with folder() as made:
-        reports = [command("budget.py", "--plain", "--run", RUN, "--field", f"{made}/{number}", data=text.encode())
+        reports = [command("budget", "--plain", "--run", RUN, "--field", f"{made}/{number}", data=text.encode())
                    for number, text in enumerate((CHANNEL, wide))]
         equal(reports[1], reports[0], "the channel, wide and not")
         for number, kind in enumerate((layout.NARROW.field, layout.WIDE.field)):
@@ -133,7 +132,7 @@ def test_wide_records():
                 record = file.read()
             equal((layout.kind_of(record), layout.masses_in(record)), (kind, [100099, 81188, 18713]), "its last field")
     bay = ROOT / "examples" / "bay-wide.txt"
-    status, out, said = command("budget.py", bay, "--plain", "--run", RUN)
+    status, out, said = command("budget", bay, "--plain", "--run", RUN)
     equal((status, said), (0, ""), "a large bay")
     data, _ = sessiontext.pack(bay.read_text())
     totals = [int(lines(data).splitlines()[3].split()[3]) for lines in (lagoon.run, plain_run)]
@@ -143,7 +142,7 @@ def test_wide_records():
 def test_refused_by_one_alone():
     """A release that is too much for one of the two fields."""
     session = CHANNEL.replace("step times 2", "step") + ONE_SIDED
-    status, out, said = command("budget.py", "--plain", "--run", RUN, data=session.encode())
+    status, out, said = command("budget", "--plain", "--run", RUN, data=session.encode())
     report = out.decode()
     equal((status, said, both(report)["released, all cells"], both(report)["difference"]), (0, "", (99950100, 99900001), (0, 0)), report)
     holds("  step 2: cell 0: mass 100,099 and release 99,900,001" in report, report)
@@ -162,8 +161,8 @@ def test_months_follow_one_another():
         sums = {}
         for name in parts:
             more = ["--field", f"{made}/first.field"] if name == "second" else []
-            equal(command("records.py", "pack", f"{made}/{name}.txt", *more, "-o", f"{made}/{name}.in")[0], 0, f"{name} packed")
-            status, out, said = command("budget.py", f"{made}/{name}.in", "--field", f"{made}/{name}.field", "--run", RUN)
+            equal(command("pack", f"{made}/{name}.txt", *more, "-o", f"{made}/{name}.in")[0], 0, f"{name} packed")
+            status, out, said = command("budget", f"{made}/{name}.in", "--field", f"{made}/{name}.field", "--run", RUN)
             equal((status, said), (0, ""), name)
             sums[name] = figures(out.decode())
         for words in ("in, all rim faces", "out, face 0", "out, face 8"):
@@ -173,14 +172,14 @@ def test_months_follow_one_another():
         equal(fields["second"], fields["whole"], "the last field of the second half and of the whole")
         holds(fields["first"] != fields["whole"], "the halves differ")
         equal(sum(layout.masses_in(fields["whole"])), 184404100, "the last field's total")
-        refuses("a mesh of 3 cells", "records.py", "pack", ROOT / "examples" / "channel.txt", "--field", f"{made}/first.field")
-        refuses("is no field record", "records.py", "pack", ROOT / "examples" / "channel.txt", "--field", f"{made}/first.txt")
+        refuses("a mesh of 3 cells", "pack", ROOT / "examples" / "channel.txt", "--field", f"{made}/first.field")
+        refuses("is no field record", "pack", ROOT / "examples" / "channel.txt", "--field", f"{made}/first.txt")
 
 
 def test_many_refusals():
     """Refusals that differ are listed up to a number, and counted."""
     session = CHANNEL + "".join(f"step\nface 0 flux -{n}\n" for n in range(1, 31)) + "step times 5\nface 1 flux 200\n"
-    status, out, _ = command("budget.py", "--run", RUN, data=session.encode())
+    status, out, _ = command("budget", "--run", RUN, data=session.encode())
     report = out.decode()
     holds("30 steps refused by cause 9" in report and "5 steps refused by cause 8: a flux too large for its face" in report, report)
     holds("  step 3: cell 0: 1 enters, 0 leaves (cause 9)" in report and "  and 11 more" in report, report)
@@ -195,27 +194,27 @@ def test_an_engine_that_differs():
             with open(program, "w") as file:
                 file.write(f"#!/bin/sh\ncat > {made}/session\ncat <<'END'\n{printed}END\n")
             (ROOT / program).chmod(stat.S_IRWXU)
-            status, _, said = command("budget.py", "--run", program, data=data)
+            status, _, said = command("budget", "--run", program, data=data)
             holds(status == wanted and ("by the C call" in said) == bool(wanted), f"beside a program that prints {printed[:40]!r}: {said}")
         with open(f"{made}/lib.a", "w") as file:
             file.write("no archive")
-        refuses("has no call lagoon_step", "budget.py", "--library", f"{made}/lib.a", data=data)
-        refuses("has no call lagoon_step", "budget.py", "--library", program, data=data)
-        refuses("nowhere.a is not there", "budget.py", "--library", "nowhere.a", data=data)
-        refuses("nowhere: No such file", "budget.py", "--run", "nowhere", data=data)
+        refuses("has no call lagoon_step", "budget", "--library", f"{made}/lib.a", data=data)
+        refuses("has no call lagoon_step", "budget", "--library", program, data=data)
+        refuses("nowhere.a is not there", "budget", "--library", "nowhere.a", data=data)
+        refuses("nowhere: No such file", "budget", "--run", "nowhere", data=data)
 
 
 def test_the_command():
-    known("budget.py")
-    breaks("budget.py", ROOT / "examples" / "tide.txt")
-    interrupted("budget.py")
-    refuses("<stdin>:2:15: a volume", "budget.py", data=b"mesh\ncell 0 volume x\n")
-    refuses("the mesh is refused: cell 0: volume 0", "budget.py", data=CHANNEL.replace("volume 100", "volume 0", 1).encode())
-    refuses("nowhere: No such file", "budget.py", "nowhere")
-    without_calls("budget.py", data=CHANNEL.encode())
+    known("budget")
+    breaks("budget", ROOT / "examples" / "tide.txt")
+    interrupted("budget")
+    refuses("<stdin>:2:15: a volume", "budget", data=b"mesh\ncell 0 volume x\n")
+    refuses("the mesh is refused: cell 0: volume 0", "budget", data=CHANNEL.replace("volume 100", "volume 0", 1).encode())
+    refuses("nowhere: No such file", "budget", "nowhere")
+    without_calls("budget", data=CHANNEL.encode())
     tide = ROOT / "examples" / "tide.txt"
-    refuses("is read", "budget.py", tide, "--field", tide)
+    refuses("is read", "budget", tide, "--field", tide)
 
 
 if __name__ == "__main__":
-    run_all(globals(), "tools/budget.py")
+    run_all(globals(), "lagoon budget")

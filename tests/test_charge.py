@@ -1,5 +1,5 @@
 #!/usr/bin/env python3
-"""tools/charge.py: two months that hand remainders on, generated sessions and tariffs beside the reference, and what is refused.
+"""lagoon charge: two months that hand remainders on, generated sessions and tariffs beside the reference, and what is refused.
 
     python3 tests/test_charge.py
 """
@@ -11,13 +11,12 @@ import re
 
 from toolcase import CHANNEL, ROOT, RUN, TIDE, breaks, command, equal, folder, holds, interrupted, known, refuses, run_all, session_of
 
-import calls
 import generate
 import lagoon
 import script
-import sessiontext
-from command import Bad
-from layout import Damage
+from package import calls, sessiontext
+from package.command import Bad
+from package.layout import Damage
 
 SESSION, TARIFF, PORTS = (ROOT / "examples" / name for name in ("tide.txt", "tariff.csv", "ports.csv"))
 LAST, UNITS = lagoon.LAST_END, lagoon.UNITS
@@ -63,7 +62,7 @@ class Files:
 
     def charge(self, session, tariff, ports, *options):
         given = [self.path(name, text) for name, text in (("session", session), ("tariff.csv", tariff), ("ports.csv", ports))]
-        status, out, said = command("charge.py", *given, *options)
+        status, out, said = command("charge", *given, *options)
         return status, out.decode(), said.replace(self.made + "/", "")
 
     def rows(self, name):
@@ -75,22 +74,22 @@ def test_two_months():
     """The second month goes on from the last field and the remainders of the first, and no part of a cent is lost over both."""
     with folder() as made:
         files = Files(made)
-        june = command("charge.py", SESSION, TARIFF, PORTS, "-o", f"{made}/june.csv", "--csv", f"{made}/june.bill")
+        june = command("charge", SESSION, TARIFF, PORTS, "-o", f"{made}/june.csv", "--csv", f"{made}/june.bill")
         equal((june[0], june[2], june[1].decode().split("\n", 1)[1]), (0, "", JUNE), "June's bill")
         equal(open(f"{made}/june.csv").read(), "face,name,remainder\n0,sea,160000\n8,river,816500\n", "June's remainders")
-        equal(command("budget.py", SESSION, "--field", f"{made}/june.field")[0], 0, "June's last field")
-        july = command("charge.py", SESSION, TARIFF, PORTS, "--field", f"{made}/june.field", "--remainders", f"{made}/june.csv",
+        equal(command("budget", SESSION, "--field", f"{made}/june.field")[0], 0, "June's last field")
+        july = command("charge", SESSION, TARIFF, PORTS, "--field", f"{made}/june.field", "--remainders", f"{made}/june.csv",
                        "-o", f"{made}/july.csv", "--csv", f"{made}/july.bill")
         equal((july[0], july[2]), (0, ""), "July's bill")
         prices = [(int(row["end"]), int(row["price"])) for row in csv.DictReader(open(TARIFF))]
-        whole = command("records.py", "pack", SESSION, "--field", f"{made}/june.field", "-o", f"{made}/july.in")
+        whole = command("pack", SESSION, "--field", f"{made}/june.field", "-o", f"{made}/july.in")
         equal(whole[0], 0, "July packed")
         for first, second, left in zip(*(files.rows(name) for name in ("june.bill", "july.bill", "july.csv")), strict=True):
             sums = [lagoon.band_sum(int(row["total"]), *zip(*prices)) for row in (first, second)]
             equal((int(first["cents"]) + int(second["cents"])) * UNITS + int(left["remainder"]), sum(sums), f"both months, face {first['face']}")
             equal((second["before"], left["remainder"]), (first["remainder"], second["remainder"]), "the remainder handed on")
             holds(int(first["total"]) != int(second["total"]), "the second month begins with another field")
-            out = re.search(rf"out, face {second['face']} +- +([\d,]+)\n", command("budget.py", f"{made}/july.in")[1].decode())
+            out = re.search(rf"out, face {second['face']} +- +([\d,]+)\n", command("budget", f"{made}/july.in")[1].decode())
             equal(int(out[1].replace(",", "")), int(second["total"]), "July's total and the budget's out-mass of the face")
 
 
@@ -163,7 +162,7 @@ def test_the_largest_total():
         status, out, _ = files.charge(ONE + FLOW.format(268), FLAT, "port,face\nP,1\n")
         holds(status == 0 and "P pays 1,097,460,000,000 cents\nall rim faces together: 1,097,460,000,000," in out, out)
         status, out, said = files.charge(ONE + FLOW.format(269), FLAT, "port,face\nP,1\n")
-        equal((status, out, said), (1, "", "charge.py: step 269: face 1: 4,095,000,000 more than 1,097,460,000,000 is past 1,099,511,627,776 "
+        equal((status, out, said), (1, "", "lagoon charge: step 269: face 1: 4,095,000,000 more than 1,097,460,000,000 is past 1,099,511,627,776 "
                                            "(cause 26): end the period before this step\n"), "a total past the last band")
 
 
@@ -220,19 +219,19 @@ def test_an_engine_that_differs():
 
 
 def test_the_command():
-    known("charge.py")
-    breaks("charge.py", SESSION, TARIFF, PORTS)
-    interrupted("charge.py", SESSION, "-", PORTS)
-    refuses("is read", "charge.py", SESSION, TARIFF, PORTS, "-o", PORTS)
-    refuses("cannot hold both", "charge.py", SESSION, TARIFF, PORTS, "-o", "-", "--csv", "-")
-    refuses("only one input", "charge.py", "-", "-", PORTS)
-    refuses("nowhere: No such file", "charge.py", SESSION, TARIFF, "nowhere")
-    refuses("nowhere is not there: `rt check calls` makes it", "charge.py", SESSION, TARIFF, PORTS, "--calls", "nowhere")
-    refuses("asked for step, says 'M 13 0'", "charge.py", SESSION, TARIFF, PORTS, "--calls", RUN)
-    refuses("the field is refused", "charge.py", SESSION, TARIFF, PORTS, "--field", TARIFF)
+    known("charge")
+    breaks("charge", SESSION, TARIFF, PORTS)
+    interrupted("charge", SESSION, "-", PORTS)
+    refuses("is read", "charge", SESSION, TARIFF, PORTS, "-o", PORTS)
+    refuses("cannot hold both", "charge", SESSION, TARIFF, PORTS, "-o", "-", "--csv", "-")
+    refuses("only one input", "charge", "-", "-", PORTS)
+    refuses("nowhere: No such file", "charge", SESSION, TARIFF, "nowhere")
+    refuses("nowhere is not there: `rt check calls` makes it", "charge", SESSION, TARIFF, PORTS, "--calls", "nowhere")
+    refuses("asked for step, says 'M 13 0'", "charge", SESSION, TARIFF, PORTS, "--calls", RUN)
+    refuses("the field is refused", "charge", SESSION, TARIFF, PORTS, "--field", TARIFF)
     packed, _ = sessiontext.pack(TIDE)
-    refuses("ports.csv:2: 'sea' is no face", "charge.py", "-", TARIFF, PORTS, data=packed)
+    refuses("ports.csv:2: 'sea' is no face", "charge", "-", TARIFF, PORTS, data=packed)
 
 
 if __name__ == "__main__":
-    run_all(globals(), "tools/charge.py")
+    run_all(globals(), "lagoon charge")

@@ -1,5 +1,5 @@
 #!/usr/bin/env python3
-"""tools/cut.py beside the reference: both parts' sessions, stepped by themselves, give the whole's figures; names, text and packed, bad input.
+"""lagoon cut beside the reference: both parts' sessions, stepped by themselves, give the whole's figures; names, text and packed, bad input.
 
     python3 tests/test_cut.py
 """
@@ -12,7 +12,7 @@ from toolcase import CHANNEL, ROOT, RUN, TIDE, breaks, command, equal, folder, h
 
 import generate
 import lagoon
-import sessiontext
+from package import sessiontext
 
 OUTFALL = (ROOT / "examples" / "outfall.txt").read_text()
 NAMED = CHANNEL.replace("mesh\n", "unit mass kg\nname cell 0 Inlet\nname cell 2 Head\nname face 0 sea\nname face 1 sluice\nmesh\n", 1)
@@ -27,7 +27,7 @@ def labels_file(made, rows):
 def cut(made, data, labels, *options):
     """What the tool says, and what it writes of both parts."""
     parts = [f"{made}/part{part}" for part in (0, 1)]
-    status, out, said = command("cut.py", "-", labels, "-o", *parts, *options, data=data)
+    status, out, said = command("cut", "-", labels, "-o", *parts, *options, data=data)
     equal((status, said), (0, ""), f"{options}")
     return out.decode(), [Path(part).read_bytes() for part in parts]
 
@@ -145,27 +145,27 @@ def test_refusals():
                             ([(0, 0), (1, 1), (2, 1), ("Head", 1)], "labels.csv:5: a second label for cell 2 (Head)"),
                             ([(0, 0), (1, 1), ("Tail", 1)], "labels.csv:4: the session has no cell 'Tail'"),
                             ([(0, 0), (1, "x"), (2, 1)], "labels.csv:3: label should be 0 or 1, not 'x'")):
-            refuses(words, "cut.py", "-", labels_file(made, rows), *out, data=channel)
+            refuses(words, "cut", "-", labels_file(made, rows), *out, data=channel)
         good = labels_file(made, [(0, 0), (1, 1), (2, 1)])
-        refuses("the mesh is refused: cell 0 (Inlet): volume 0", "cut.py", "-", good, *out, data=NAMED.replace("volume 100", "volume 0", 1).encode())
-        refuses("not to standard output", "cut.py", "-", good, "-o", "-", f"{made}/b", data=channel)
-        refuses("files of their own", "cut.py", "-", good, "-o", f"{made}/b", f"{made}/b", data=channel)
-        refuses("is read: it cannot be written too", "cut.py", "-", good, "-o", f"{made}/a", good, data=channel)
-        refuses("nowhere is not there: `rt check calls` makes it", "cut.py", "-", good, *out, "--calls", "nowhere", data=channel)
-        refuses("asked for cut, says 'M 13 0'", "cut.py", "-", good, *out, "--calls", RUN, data=channel)
-        refuses("No such file", "cut.py", "-", f"{made}/none.csv", *out, data=channel)
+        refuses("the mesh is refused: cell 0 (Inlet): volume 0", "cut", "-", good, *out, data=NAMED.replace("volume 100", "volume 0", 1).encode())
+        refuses("not to standard output", "cut", "-", good, "-o", "-", f"{made}/b", data=channel)
+        refuses("files of their own", "cut", "-", good, "-o", f"{made}/b", f"{made}/b", data=channel)
+        refuses("is read: it cannot be written too", "cut", "-", good, "-o", f"{made}/a", good, data=channel)
+        refuses("nowhere is not there: `rt check calls` makes it", "cut", "-", good, *out, "--calls", "nowhere", data=channel)
+        refuses("asked for cut, says 'M 13 0'", "cut", "-", good, *out, "--calls", RUN, data=channel)
+        refuses("No such file", "cut", "-", f"{made}/none.csv", *out, data=channel)
         holds(not Path(made, "a").exists() and not Path(made, "b").exists(), "nothing is written")
 
 
 def test_as_every_tool():
-    known("cut.py")
+    known("cut")
     with folder() as made:
         out = ("-o", f"{made}/a", f"{made}/b")
-        breaks("cut.py", ROOT / "examples" / "tide.txt", ROOT / "examples" / "tide-labels.csv", *out)
-        interrupted("cut.py", "-", labels_file(made, [(0, 0)]), *out)
+        breaks("cut", ROOT / "examples" / "tide.txt", ROOT / "examples" / "tide-labels.csv", *out)
+        interrupted("cut", "-", labels_file(made, [(0, 0)]), *out)
         labels = labels_file(made, [(0, 0), (1, 1), (2, 1)])
-        refuses("the output is full", "cut.py", "-", labels, "-o", "/dev/full", f"{made}/b", data=CHANNEL.encode())
+        refuses("the output is full", "cut", "-", labels, "-o", "/dev/full", f"{made}/b", data=CHANNEL.encode())
 
 
 if __name__ == "__main__":
-    run_all(globals(), "tools/cut.py")
+    run_all(globals(), "lagoon cut")

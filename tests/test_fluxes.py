@@ -1,5 +1,5 @@
 #!/usr/bin/env python3
-"""tools/fluxes.py: whole fluxes that balance, on random meshes, at the engine's limits, out of balance, split and carried; and bad tables.
+"""lagoon fluxes: whole fluxes that balance, on random meshes, at the engine's limits, out of balance, split and carried; and bad tables.
 
     python3 tests/test_fluxes.py
 """
@@ -11,11 +11,9 @@ import re
 
 from toolcase import CHANNEL, ROOT, RUN, breaks, command, equal, folder, holds, interrupted, known, refuses, run_all, session_of
 
-import causes
-import layout
-import sessiontext
-from fluxes import UNIT, Water
-from layout import RIM, Face, mesh_of
+from package import causes, layout, sessiontext
+from package.fluxes import UNIT, Water
+from package.layout import RIM, Face, mesh_of
 
 LAGOON = CHANNEL[:CHANNEL.index("\nstep")].replace("mesh", "name face 0 sea\nmesh", 1)
 
@@ -73,7 +71,7 @@ def made(*arguments, table, lagoon=LAGOON, wanted=0):
     with folder() as place:
         with open(f"{place}/lagoon.txt", "w") as file:
             file.write(lagoon)
-        status, out, said = command("fluxes.py", f"{place}/lagoon.txt", "-", *arguments, data=table.encode())
+        status, out, said = command("fluxes", f"{place}/lagoon.txt", "-", *arguments, data=table.encode())
     equal(status, wanted, f"{arguments}: {said}")
     return out, said
 
@@ -196,7 +194,7 @@ def test_a_gyre_with_a_river():
         table.append(",".join(f"{value:.5f}" for value in [flux(a, b, size, through) for a, b in ends] + [-through, through]))
     out, said = made("--packed", table="\n".join(table) + "\n", lagoon="\n".join(lines) + "\n")
     holds(float(re.search(r"a face is changed by ([\d.]+) at most", said)[1]) < 1, said)
-    status, report, _ = command("budget.py", "--run", RUN, data=out)
+    status, report, _ = command("budget", "--run", RUN, data=out)
     holds(status == 0 and b"24 steps, 24 accepted, 0 refused" in report, report.decode())
     rounded = [[round(float(value)) for value in row.split(",")] for row in table[1:]]
     mesh = session_of(out).mesh
@@ -213,33 +211,33 @@ def test_bad_tables():
                          ("0\n\"a\nb\x1b\"\n", r"not 'a\nb\x1b'")):
         _, said = made(table=table, wanted=1)
         holds(words in said and said.count("\n") == 1, f"{table[:30]!r}: {said}")
-    refuses("has steps already", "fluxes.py", ROOT / "examples" / "channel.txt", "-", data=b"0\n1\n")
+    refuses("has steps already", "fluxes", ROOT / "examples" / "channel.txt", "-", data=b"0\n1\n")
 
 
 def test_the_command():
-    known("fluxes.py")
+    known("fluxes")
     with folder() as place:
         lagoon, table = f"{place}/lagoon.txt", f"{place}/table.csv"
         for path, text in ((lagoon, LAGOON), (table, "0,1,2,3\n-1,1,1,1\n")):
             with open(path, "w") as file:
                 file.write(text)
-        breaks("fluxes.py", lagoon, table)
-        interrupted("fluxes.py", lagoon, "-")
-        refuses("is read", "fluxes.py", lagoon, table, "-o", table)
-        refuses("'x' is no face of the mesh", "fluxes.py", lagoon, table, "--outside", "x=5")
-        refuses("'1' is no rim face", "fluxes.py", lagoon, table, "--outside", "1=5")
-        refuses("should be FACE=Q", "fluxes.py", lagoon, table, "--outside", "sea=1000001")
+        breaks("fluxes", lagoon, table)
+        interrupted("fluxes", lagoon, "-")
+        refuses("is read", "fluxes", lagoon, table, "-o", table)
+        refuses("'x' is no face of the mesh", "fluxes", lagoon, table, "--outside", "x=5")
+        refuses("'1' is no rim face", "fluxes", lagoon, table, "--outside", "1=5")
+        refuses("should be FACE=Q", "fluxes", lagoon, table, "--outside", "sea=1000001")
         for option, value in (("--split", "0"), ("--split", "9" * 5000), ("--factor", "nan"), ("--tolerance", "-1")):
-            refuses("not '", "fluxes.py", lagoon, table, option, value, status=2)
-        refuses("only one of the two", "fluxes.py", "-", "-")
+            refuses("not '", "fluxes", lagoon, table, option, value, status=2)
+        refuses("only one of the two", "fluxes", "-", "-")
         with open(table, "w") as file:
             file.write("0,1,2,3\n-1,2,1,1\n")
         with open(f"{place}/kept", "w") as file:
             file.write("as it was")
-        equal(command("fluxes.py", lagoon, table, "-o", f"{place}/kept")[0], 1, "out of balance")
+        equal(command("fluxes", lagoon, table, "-o", f"{place}/kept")[0], 1, "out of balance")
         with open(f"{place}/kept") as file:
             equal(file.read(), "as it was", "the output of a table that is refused")
 
 
 if __name__ == "__main__":
-    run_all(globals(), "tools/fluxes.py")
+    run_all(globals(), "lagoon fluxes")

@@ -1,5 +1,5 @@
 #!/usr/bin/env python3
-"""tools/judge.py: its example, claims of generated sessions beside the reference, both forms of a table, and each rule that refuses.
+"""lagoon judge: its example, claims of generated sessions beside the reference, both forms of a table, and each rule that refuses.
 
     python3 tests/test_judge.py
 """
@@ -11,12 +11,11 @@ import re
 
 from toolcase import CHANNEL, ROOT, RUN, breaks, command, equal, folder, holds, interrupted, known, refuses, run_all, session_of
 
-import calls
-import command as tool
 import generate
 import lagoon
-import layout
 import script
+from package import calls, layout
+from package import command as tool
 
 SESSION, CLAIMS = ROOT / "examples" / "judged.txt", ROOT / "examples" / "judged.csv"
 MOST = lagoon.MOST_CLAIMED
@@ -47,7 +46,7 @@ def judged(session, table, *options):
         for name, text in (("session", session), ("claims.csv", table)):
             with open(f"{made}/{name}", "wb") as file:
                 file.write(text if isinstance(text, bytes) else text.encode())
-        status, out, said = command("judge.py", f"{made}/session", f"{made}/claims.csv", *options)
+        status, out, said = command("judge", f"{made}/session", f"{made}/claims.csv", *options)
     return status, out.decode(), said.replace(made + "/", "")
 
 
@@ -60,7 +59,7 @@ def long_form(table):
 def test_the_example():
     """A step of plain upwind, the engine's own, one that makes salt, one without a limiter, and one that is neither of the engine's."""
     with folder() as made:
-        status, out, said = command("judge.py", SESSION, CLAIMS, "-o", f"{made}/refused.csv")
+        status, out, said = command("judge", SESSION, CLAIMS, "-o", f"{made}/refused.csv")
         rows = list(csv.DictReader(open(f"{made}/refused.csv")))
     equal((status, said), (1, ""), "the example's claims")
     equal(out.decode().split("\n", 1)[1], REPORT, "its verdicts and its budget")
@@ -217,15 +216,15 @@ def test_bad_tables():
 
 
 def test_the_command():
-    known("judge.py")
-    interrupted("judge.py", SESSION, "-")
-    breaks("judge.py", ROOT / "examples" / "channel.txt", "-", data=b"step,0,1,2,3\n1,-50000,50000,0,0\n")
-    refuses("is read", "judge.py", SESSION, CLAIMS, "-o", CLAIMS)
-    refuses("only one of the two", "judge.py", "-", "-")
-    refuses("nowhere: No such file", "judge.py", SESSION, "nowhere")
-    refuses("nowhere is not there: `rt check calls` makes it", "judge.py", SESSION, CLAIMS, "--calls", "nowhere")
-    refuses("asked for judge, says 'M 13 0'", "judge.py", SESSION, CLAIMS, "--calls", RUN)
-    refuses("the mesh is refused: cell 0: volume 0", "judge.py", "-", CLAIMS, data=CHANNEL.replace("volume 100", "volume 0", 1).encode())
+    known("judge")
+    interrupted("judge", SESSION, "-")
+    breaks("judge", ROOT / "examples" / "channel.txt", "-", data=b"step,0,1,2,3\n1,-50000,50000,0,0\n")
+    refuses("is read", "judge", SESSION, CLAIMS, "-o", CLAIMS)
+    refuses("only one of the two", "judge", "-", "-")
+    refuses("nowhere: No such file", "judge", SESSION, "nowhere")
+    refuses("nowhere is not there: `rt check calls` makes it", "judge", SESSION, CLAIMS, "--calls", "nowhere")
+    refuses("asked for judge, says 'M 13 0'", "judge", SESSION, CLAIMS, "--calls", RUN)
+    refuses("the mesh is refused: cell 0: volume 0", "judge", "-", CLAIMS, data=CHANNEL.replace("volume 100", "volume 0", 1).encode())
     with folder() as made:
         program = f"{made}/calls"
         for said, words in (("refused 21 2", "finds face 0: -51,000 moves where"), ("accepted 50000 0 1; next 1 2 3", "in, out and released are (50000, 0, 1)")):
@@ -233,8 +232,8 @@ def test_the_command():
                 file.write("#!/bin/sh\nread script\necho 'judge: accepted 50000 0 0; next 100000 50000 0'\nread script\n"
                            f"echo 'judge: accepted 50000 0 0; next 100099 81151 18750'\nread script\necho 'judge: {said}'\n")
             (ROOT / program).chmod(0o700)
-            refuses(words, "judge.py", SESSION, CLAIMS, "--calls", program)
+            refuses(words, "judge", SESSION, CLAIMS, "--calls", program)
 
 
 if __name__ == "__main__":
-    run_all(globals(), "tools/judge.py")
+    run_all(globals(), "lagoon judge")

@@ -1,5 +1,5 @@
 #!/usr/bin/env python3
-"""tools/plot.py: the pictures' points worked out again from their axes, bands, refusals, profiles, tables, and bad options.
+"""lagoon plot: the pictures' points worked out again from their axes, bands, refusals, profiles, tables, and bad options.
 
     python3 tests/test_plot.py
 """
@@ -11,15 +11,14 @@ from toolcase import (CHANNEL, ONE_SIDED, ROOT, RUN, TIDE, breaks, command, equa
                       run_all, without_calls)
 
 import lagoon
-import plot
-import sessiontext
+from package import plot, sessiontext
 
 SVG = "{http://www.w3.org/2000/svg}"
 CONCENTRATION, TOTAL, RATES = "Concentration q after each step", "Total of all masses", "In-mass and out-mass of each step"
 
 
 def picture(*arguments, data):
-    status, out, said = command("plot.py", *arguments, data=data)
+    status, out, said = command("plot", *arguments, data=data)
     equal((status, said), (0, ""), f"{arguments}")
     panels = [panel for panel in xml.fromstring(out).iter(f"{SVG}g") if panel.get("class") == "panel"]
     return {panel.find(f"{SVG}title").text: panel for panel in panels}, out.decode()
@@ -71,7 +70,7 @@ def test_the_channel():
 def test_the_tide():
     """The stored picture is that of its session: 49 steps, of which the 25th is refused."""
     panels, out = picture("--cells", "0-7", "--title", "A lagoon between sea and river: two tides", data=TIDE.encode())
-    equal(out == (ROOT / "docs" / "tide.svg").read_text(), True, "docs/tide.svg is what tools/plot.py makes with these options")
+    equal(out == (ROOT / "docs" / "tide.svg").read_text(), True, "docs/tide.svg is what lagoon plot makes with these options")
     equal([len(values) for values in drawn(panels[CONCENTRATION]).values()], [50] * 8, "points of the cells")
     total = drawn(panels[TOTAL])["total"]
     equal(total[24], total[25], "the total before and after the refused step")
@@ -179,37 +178,37 @@ def test_an_engine_that_differs():
         with open(program, "w") as file:
             file.write("#!/bin/sh\ncat > /dev/null\necho 0 0 0 100000 0\n")
         (ROOT / program).chmod(0o755)
-        refuses("line 2 of", "plot.py", "--run", program, data=data)
+        refuses("line 2 of", "plot", "--run", program, data=data)
 
 
 def test_no_picture():
     data, _ = sessiontext.pack(CHANNEL)
-    for arguments, given, words in (([], data[:20], "plot.py: the mesh is refused: the input ends in this mesh record, which needs 31 bytes and has 20 (cause 11)"),
-                                    ([], data[:31] + b"\x10" + data[32:], "plot.py: the field is refused: kind 0001 in binary"),
-                                    ([], b"mesh\ncell 0 volume x\n", "plot.py: <stdin>:2:15: a volume should be"),
+    for arguments, given, words in (([], data[:20], "lagoon plot: the mesh is refused: the input ends in this mesh record, which needs 31 bytes and has 20 (cause 11)"),
+                                    ([], data[:31] + b"\x10" + data[32:], "lagoon plot: the field is refused: kind 0001 in binary"),
+                                    ([], b"mesh\ncell 0 volume x\n", "lagoon plot: <stdin>:2:15: a volume should be"),
                                     ([], CHANNEL.replace("cell 1 mass 0", "cell 1 mass 100000100").encode(), "the field is refused: cell 1: mass 100,000,100"),
-                                    (["--cells", "3"], data, "plot.py: --cells: the mesh has cells 0 to 2, not '3'"),
+                                    (["--cells", "3"], data, "lagoon plot: --cells: the mesh has cells 0 to 2, not '3'"),
                                     (["--cells", "0-99999999999"], data, "--cells: the mesh has cells 0 to 2"),
                                     (["--cells", "9" * 5000], data, "--cells: the mesh has cells 0 to 2"),
                                     (["--cells", ""], data, "--cells: '' is neither a cell"), (["--cells", "2-1"], data, "'2-1' is no range"),
-                                    (["--cells", "0,x"], data, "plot.py: --cells: 'x' is neither"), (["--profile", "3"], data, "there is no step 3, the last is 2"),
+                                    (["--cells", "0,x"], data, "lagoon plot: --cells: 'x' is neither"), (["--profile", "3"], data, "there is no step 3, the last is 2"),
                                     (["--profile", "x"], data, "'x' is neither a step nor 'last'"), (["--profile", ""], data, "'' is neither a step"),
                                     (["--csv", "-"], data, "cannot both be on standard output")):
-        refuses(words, "plot.py", *arguments, data=given)
+        refuses(words, "plot", *arguments, data=given)
     for value in ("0", "x", "9" * 5000):
-        refuses("a whole number from 1", "plot.py", "--every", value, data=data, status=2)
+        refuses("a whole number from 1", "plot", "--every", value, data=data, status=2)
     equal(picture(data=data[:45])[0].keys(), {CONCENTRATION, TOTAL}, "a session without steps")
 
 
 def test_the_command():
-    known("plot.py")
-    breaks("plot.py", ROOT / "examples" / "channel.txt")
-    interrupted("plot.py")
+    known("plot")
+    breaks("plot", ROOT / "examples" / "channel.txt")
+    interrupted("plot")
     channel = ROOT / "examples" / "channel.txt"
-    refuses("is read", "plot.py", channel, "-o", channel)
-    refuses("nowhere: No such file", "plot.py", "nowhere")
-    without_calls("plot.py", data=CHANNEL.encode())
+    refuses("is read", "plot", channel, "-o", channel)
+    refuses("nowhere: No such file", "plot", "nowhere")
+    without_calls("plot", data=CHANNEL.encode())
 
 
 if __name__ == "__main__":
-    run_all(globals(), "tools/plot.py")
+    run_all(globals(), "lagoon plot")

@@ -1,5 +1,5 @@
 #!/usr/bin/env python3
-"""tools/binder.py --public beside the reference: pages and boards without withheld cells, marks by name and number, fields that differ in
+"""lagoon binder --public beside the reference: pages and boards without withheld cells, marks by name and number, fields that differ in
 withheld cells only, and bad tables.
 
     python3 tests/test_public.py
@@ -10,7 +10,7 @@ from pathlib import Path
 from toolcase import CHANNEL, ROOT, RUN, TIDE, command, equal, folder, holds, refuses, run_all
 
 import lagoon
-import sessiontext
+from package import sessiontext
 
 CLOSED = ROOT / "examples" / "closed.csv"
 NAMED = CHANNEL.replace("mesh\n", "name cell 0 Harbour\nname cell 1 North bed\nname cell 2 2\nmesh\n", 1)
@@ -37,7 +37,7 @@ def public(data, table, *more):
     with folder() as made:
         marks, board = Path(made, "marks.csv"), Path(made, "board")
         marks.write_text(table)
-        status, pages, said = command("binder.py", "--public", marks, "--board", board, *more, data=data)
+        status, pages, said = command("binder", "--public", marks, "--board", board, *more, data=data)
         equal((status, said), (0, ""), table[:60])
         return pages, board.read_bytes()
 
@@ -57,9 +57,9 @@ def test_the_channel():
 
 
 def test_the_example():
-    status, out, said = command("binder.py", ROOT / "examples" / "tide.txt", "--public", CLOSED, "--board", "-")
+    status, out, said = command("binder", ROOT / "examples" / "tide.txt", "--public", CLOSED, "--board", "-")
     equal((status, said), (0, ""), "the example")
-    _, whole, _ = command("binder.py", ROOT / "examples" / "tide.txt", "--board", "-")
+    _, whole, _ = command("binder", ROOT / "examples" / "tide.txt", "--board", "-")
     lines = whole.decode().splitlines(keepends=True)
     equal(out.decode(), "".join(line for line in lines if line.split()[0] not in "12" and line.split()[:2] not in (["B", "1"], ["B", "2"]) and len(line.split()) > 1),
           "the growers' lines but those of cells 1 and 2 and the mass")
@@ -84,7 +84,7 @@ def test_nothing_told():
     fields = [[V * (TOP if mark and high else cell) for cell, (V, mark) in enumerate(zip(volumes, marks))] for high in (False, True)]
     one, other = (public(pond(volumes, masses), as_table(marks)) for masses in fields)
     equal(one, other, "what the public reads of two fields")
-    growers = {command("binder.py", data=pond(volumes, masses))[1] for masses in fields}
+    growers = {command("binder", data=pond(volumes, masses))[1] for masses in fields}
     holds(len(growers) == 2, "the growers' pages should differ")
 
 
@@ -106,15 +106,15 @@ def test_bad_use():
                              ("cell,mark\n2,1\ncell 2,1\n", "a second mark of cell 2"), ("cell\n1\n", "one column 'mark'"),
                              ("cell,mark\n", "there is no row")):
             marks.write_text(table)
-            refuses(words, "binder.py", "--public", marks, data=NAMED.encode())
+            refuses(words, "binder", "--public", marks, data=NAMED.encode())
         marks.write_text("cell,mark\n1,1\n")
-        refuses("nowhere is not there: `rt check calls` makes it", "binder.py", "--public", marks, "--calls", "nowhere", data=NAMED.encode())
-        refuses("asked for public_page, says ''", "binder.py", "--public", marks, "--calls", "/bin/true", data=NAMED.encode())
-        refuses("cannot hold both", "binder.py", "--public", marks, "-o", f"{made}/one", "--board", f"{made}/one", data=NAMED.encode())
-        refuses("is read: it cannot be written too", "binder.py", "--public", marks, "--board", marks, data=NAMED.encode())
-        refuses("only one input can be standard input", "binder.py", "--public", "-", data=NAMED.encode())
-        refuses("No such file", "binder.py", "--public", f"{made}/none.csv", data=NAMED.encode())
+        refuses("nowhere is not there: `rt check calls` makes it", "binder", "--public", marks, "--calls", "nowhere", data=NAMED.encode())
+        refuses("asked for public_page, says ''", "binder", "--public", marks, "--calls", "/bin/true", data=NAMED.encode())
+        refuses("cannot hold both", "binder", "--public", marks, "-o", f"{made}/one", "--board", f"{made}/one", data=NAMED.encode())
+        refuses("is read: it cannot be written too", "binder", "--public", marks, "--board", marks, data=NAMED.encode())
+        refuses("only one input can be standard input", "binder", "--public", "-", data=NAMED.encode())
+        refuses("No such file", "binder", "--public", f"{made}/none.csv", data=NAMED.encode())
 
 
 if __name__ == "__main__":
-    run_all(globals(), "tools/binder.py --public")
+    run_all(globals(), "lagoon binder --public")

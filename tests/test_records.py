@@ -1,5 +1,5 @@
 #!/usr/bin/env python3
-"""tools/records.py on stored and generated sessions, on the engine's own records and on bad text.
+"""lagoon pack, unpack and check on stored and generated sessions, on the engine's own records and on bad text.
 
     python3 tests/test_records.py
 """
@@ -12,12 +12,9 @@ import sys
 
 from toolcase import CHANNEL, HERE, ROOT, TIDE, breaks, command, equal, folder, holds, interrupted, known, refuses, run_all, session_of
 
-import causes
 import generate
 import lagoon
-import layout
-import records
-import sessiontext
+from package import causes, layout, records, sessiontext
 
 GENERATED = 200
 
@@ -152,11 +149,11 @@ def test_the_mesh_fixes_the_width():
     for mesh, field, step, kind, wanted in ((wide, narrow, wide, "0010", "0110"), (narrow, wide, narrow, "0110", "0010"),
                                             (wide, wide, narrow, "0011", "0111 or 1000"), (narrow, narrow, wide, "0111", "0011 or 0100")):
         data = mesh[0] + field[1] + step[2]
-        status, text, said = command("records.py", "unpack", data=data)
+        status, text, said = command("unpack", data=data)
         words = f"kind {kind} in binary where a {'step' if field == mesh else 'field'} record has {wanted} (cause 13, place 0)"
         equal((status, words in said), (1, True), said)
         equal(sessiontext.pack(text.decode())[0], data, "records of two widths, unpacked and packed")
-        equal((command("records.py", "check", data=data)[0], " 13 0" in lagoon.run(data)), (1, True), "it is refused")
+        equal((command("check", data=data)[0], " 13 0" in lagoon.run(data)), (1, True), "it is refused")
 
 
 def lagoon_parts(text):
@@ -171,10 +168,10 @@ def test_wide_bytes_are_no_text():
     mesh = lagoon.Mesh([0x4141] * cells, [cells - 1] * faces, [layout.RIM] * faces, [0] * faces, [0] * faces)
     data = lagoon.pack_mesh(mesh, True) + lagoon.pack_field([0x41414141] * cells, True)
     holds(data[:64].isascii() and data[:64].decode().isprintable(), f"{data[:64]} is printable")
-    equal(command("records.py", "check", data=data)[:2],
+    equal(command("check", data=data)[:2],
           (0, b"<stdin>: 560 cells, 1,100 faces (1,100 at the rim), 0 steps: there is nothing to refuse\n"), "and packed")
     for word in ("Step", "Pond 1", "Sea", "Sessions of June", "_"):
-        refuses(f"<stdin>:1:1: 'mesh', 'field', 'step', 'bytes', 'unit' or 'name' should stand here, not '{word.split()[0]}'", "records.py", "check",
+        refuses(f"<stdin>:1:1: 'mesh', 'field', 'step', 'bytes', 'unit' or 'name' should stand here, not '{word.split()[0]}'", "check",
                 data=f"{word}\n{CHANNEL}".encode())
 
 
@@ -186,13 +183,13 @@ def test_a_field_of_either_width():
                                           (CHANNEL, (5, 1 << 32, 7), True, [5, 6, 7, 7])):
             with open(path, "wb") as file:
                 file.write(lagoon.pack_field(masses, wide))
-            status, out, said = command("records.py", "pack", "--field", path, data=text.encode())
+            status, out, said = command("pack", "--field", path, data=text.encode())
             equal((status, said, kinds_of(out)), (0, "", kinds), f"masses {masses}, wide: {wide}")
             its_own = re.sub(r"mass 100000\ncell 1 mass 0\ncell 2 mass 0", "mass {}\ncell 1 mass {}\ncell 2 mass {}".format(*masses), text)
             equal(out, sessiontext.pack(its_own)[0], "as if the text had these masses")
         with open(path, "wb"):
             pass
-        refuses("field is no field record: the input ends in this field record", "records.py", "pack", "--field", path, data=CHANNEL.encode())
+        refuses("field is no field record: the input ends in this field record", "pack", "--field", path, data=CHANNEL.encode())
 
 
 def test_equal_steps_are_folded():
@@ -270,7 +267,7 @@ def test_check_says_what_the_run_refuses():
               [(kind, step, cause) for kind, step, cause, _ in refused(printed) if step not in open_to_check], name)
         if not open_to_check:
             equal(checker.bad(), bool(refused(printed)), f"{name}, whether anything is refused")
-        equal(not checker.ended and "budget.py says" in report[-1], checker.open > 0, f"{name}, whether releases are left open")
+        equal(not checker.ended and "lagoon budget says" in report[-1], checker.open > 0, f"{name}, whether releases are left open")
         known += sum(cause == 18 and step not in open_to_check for _, step, cause, _ in refused(printed))
         places = judged_places(data)
         equal(places, [(cause, place) for _, _, cause, place in refused(printed)], f"{name}, places")
@@ -315,7 +312,7 @@ def checked(lines):
 
 
 def judged_places(data):
-    """Cause and place of each refusal, by tools/causes.py on the fields that the reference steps through."""
+    """Cause and place of each refusal, by python/lagoon/causes.py on the fields that the reference steps through."""
     source, found = layout.Source(io.BytesIO(data)), []
     try:
         mesh = source.mesh(causes.LIMITS)
@@ -338,12 +335,12 @@ def judged_places(data):
 
 def test_check_in_words():
     tide = ROOT / "examples" / "tide.txt"
-    status, out, said = command("records.py", "check", tide)
+    status, out, said = command("check", tide)
     line = TIDE[:TIDE.index("face 0 flux -300 outside 35000\nface 1 flux 299")].count("\n") + 1
     equal((status, out.decode().splitlines(), said), (1, [
         f"{tide}:{line}: step 25, cell 0: 300 enters, 299 leaves (cause 9)",
         f"{tide}: 8 cells, 9 faces (2 at the rim), 49 steps: the run refuses 1 of them"], ""), "the tide checked")
-    status, out, said = command("records.py", "check", data=sessiontext.pack(TIDE)[0])
+    status, out, said = command("check", data=sessiontext.pack(TIDE)[0])
     equal((status, out.decode().splitlines()[0]), (1, "<stdin>: byte 676: step 25, cell 0: 300 enters, 299 leaves (cause 9)"), "and packed")
     for old, new, line, words in (
             ("cell 1 volume 100", "cell 1 volume 0", 3, "mesh: cell 1: volume 0 is outside 1 to 65,535 (cause 3)"),
@@ -365,17 +362,17 @@ def test_check_in_words():
              "steps 1 to 2, cell 2: release 4,294,967,295 in volume 100 is a concentration of 42,949,672, above 1,000,000 (cause 18)"),
             ("face 3 flux 50", "face 3 flux 49\ncell 2 release 5", 18, "steps 1 to 2, cell 2: 50 enters, 49 leaves (cause 9)")):
         bad = CHANNEL.replace(old, new, 1)
-        status, out, said = command("records.py", "check", data=bad.encode())
+        status, out, said = command("check", data=bad.encode())
         holds(status == 1 and out.decode().startswith(f"<stdin>:{line}: {words}"), f"{new}: {out.decode()} {said}")
     wide = CHANNEL.replace("50", "101").replace("reach 100", "reach 200")
-    equal(command("records.py", "check", data=wide.encode())[1].decode().splitlines()[0],
+    equal(command("check", data=wide.encode())[1].decode().splitlines()[0],
           "<stdin>:16: steps 1 to 2, cell 0: 101 leaves, more than its volume 100 (cause 10)", "outflow above the volume")
-    equal(command("records.py", "check", data=CHANNEL.encode())[:2],
+    equal(command("check", data=CHANNEL.encode())[:2],
           (0, b"<stdin>: 3 cells, 4 faces (2 at the rim), 2 steps: the run accepts all\n"), "a session without fault")
-    equal(command("records.py", "check", data=CHANNEL[:CHANNEL.index("field")].encode())[0], 1, "a session without a field")
+    equal(command("check", data=CHANNEL[:CHANNEL.index("field")].encode())[0], 1, "a session without a field")
     later = CHANNEL + "step times 3\ncell 0 release 99900000\n"
-    equal(command("records.py", "check", data=later.encode())[:2],
-          (0, b"<stdin>: 3 cells, 4 faces (2 at the rim), 5 steps: the run accepts all; whether cause 18 refuses 3 with releases, budget.py says\n"),
+    equal(command("check", data=later.encode())[:2],
+          (0, b"<stdin>: 3 cells, 4 faces (2 at the rim), 5 steps: the run accepts all; whether cause 18 refuses 3 with releases, lagoon budget says\n"),
           "releases after an accepted step")
 
 
@@ -385,7 +382,7 @@ def test_damage_is_said():
                        (data[:47] + b"\x40" + data[48:], "<stdin>: byte 47: step 1, byte 2, bit 17: a zero bit is set (cause 12, place 17)"),
                        (data[:61] + b"\x20" + data[62:], "<stdin>: byte 61: step 2, byte 0, bit 0: kind 0010 in binary"),
                        (data[:31] + b"\x20\x04" + data[33:], "<stdin>: byte 31: field, byte 0, bit 4: 4 cells where the mesh has 3")):
-        status, text, said = command("records.py", "unpack", data=bad)
+        status, text, said = command("unpack", data=bad)
         equal((status, said.startswith(words)), (1, True), said)
         equal(sessiontext.pack(text.decode())[0], bad, "damaged bytes, unpacked and packed")
 
@@ -423,7 +420,7 @@ def test_bad_text():
             equal((error.line, error.column), (line, column), f"place of the error in {text.splitlines()[-1][:60]!r} ({error.words})")
         else:
             raise AssertionError(f"no error in {text!r}")
-    refuses("<stdin>:2:15: a volume is at most 65535, not 65536\n", "records.py", "pack", data=b"mesh\ncell 0 volume 65536\n")
+    refuses("<stdin>:2:15: a volume is at most 65535, not 65536\n", "pack", data=b"mesh\ncell 0 volume 65536\n")
 
 
 def test_words_of_bad_text():
@@ -434,10 +431,10 @@ def test_words_of_bad_text():
                         (FIELD + "step\nface 0 flux -", "should be a whole number, not '-'"), (FIELD + "step\nface 0 flux --5", "not '--5'"),
                         ("mesh\n\x1b[31m\0", r"not '\x1b[31m\x00'"), ("mesh\n" + "x" * 3000, "not '" + "x" * 37 + "...'"),
                         ("", "there is no mesh in this text"), ("mesh\ncell 0 volume " + "9" * 5000, "is at most 65535, not 999")):
-        refuses(words, "records.py", "pack", data=text.encode())
-    refuses("save it as UTF-8", "records.py", "pack", data=CHANNEL.encode("utf-16"))
-    equal(command("records.py", "pack", data=CHANNEL.encode("utf-8-sig"))[1], sessiontext.pack(CHANNEL)[0], "text with a byte order mark")
-    equal(command("records.py", "pack", data=CHANNEL.replace("\n", "\r\n").encode())[1], sessiontext.pack(CHANNEL)[0], "text with carriage returns")
+        refuses(words, "pack", data=text.encode())
+    refuses("save it as UTF-8", "pack", data=CHANNEL.encode("utf-16"))
+    equal(command("pack", data=CHANNEL.encode("utf-8-sig"))[1], sessiontext.pack(CHANNEL)[0], "text with a byte order mark")
+    equal(command("pack", data=CHANNEL.replace("\n", "\r\n").encode())[1], sessiontext.pack(CHANNEL)[0], "text with carriage returns")
 
 
 def test_nothing_is_overwritten():
@@ -446,14 +443,14 @@ def test_nothing_is_overwritten():
         for path in (mine, other):
             with open(path, "w") as file:
                 file.write(CHANNEL)
-        refuses("is read: it cannot be written too", "records.py", "pack", mine, "-o", mine)
-        done = subprocess.run(["bash", "-c", f"python3 '{ROOT}/tools/records.py' pack -o '{mine}' < '{mine}'"], capture_output=True)
+        refuses("is read: it cannot be written too", "pack", mine, "-o", mine)
+        done = subprocess.run(["bash", "-c", f"'{ROOT}/bin/lagoon' pack -o '{mine}' < '{mine}'"], capture_output=True)
         equal(done.returncode, 1, "pack over its standard input")
-        refuses("a volume should be", "records.py", "pack", "-o", other, data=b"mesh\ncell 0 volume x\n")
+        refuses("a volume should be", "pack", "-o", other, data=b"mesh\ncell 0 volume x\n")
         for path in (mine, other):
             with open(path) as file:
                 equal(file.read(), CHANNEL, f"{path} is as it was")
-        equal(command("records.py", "pack", mine, "-o", other)[0], 0, "pack over another file")
+        equal(command("pack", mine, "-o", other)[0], 0, "pack over another file")
         with open(other, "rb") as file:
             equal(file.read(), sessiontext.pack(CHANNEL)[0], "what is packed")
 
@@ -479,24 +476,25 @@ def test_units_and_names():
 
 
 def test_hexadecimal():
-    status, out, said = command("records.py", "unpack", "--hex", data=b"10 01 00 00 06 40 # mesh\n200100000063\n")
+    status, out, said = command("unpack", "--hex", data=b"10 01 00 00 06 40 # mesh\n200100000063\n")
     equal((status, out.decode(), said), (0, "mesh\ncell 0 volume 100\n\nfield\ncell 0 mass 99\n", ""), "bytes in hexadecimal")
-    equal(command("records.py", "pack", "--hex", data=out)[1], b"10 01 00 00 06 40 20 01 00 00 00 63\n", "and back")
-    refuses("<stdin>:1:4: bytes are pairs of hexadecimal digits, not '0'\n", "records.py", "unpack", "--hex", data=b"10 0\n")
+    equal(command("pack", "--hex", data=out)[1], b"10 01 00 00 06 40 20 01 00 00 00 63\n", "and back")
+    refuses("<stdin>:1:4: bytes are pairs of hexadecimal digits, not '0'\n", "unpack", "--hex", data=b"10 0\n")
 
 
 # ---------------------------------------------------------------- The command
 
 def test_the_command():
-    known("records.py", ((), ("pack",), ("unpack",), ("check",)))
-    breaks("records.py", "pack", ROOT / "examples" / "tide.txt")
-    breaks("records.py", "unpack", HERE / "sessions" / "channel.in")
-    breaks("records.py", "check", ROOT / "examples" / "tide.txt")
-    interrupted("records.py", "pack")
+    for name in ("pack", "unpack", "check"):
+        known(name)
+    breaks("pack", ROOT / "examples" / "tide.txt")
+    breaks("unpack", HERE / "sessions" / "channel.in")
+    breaks("check", ROOT / "examples" / "tide.txt")
+    interrupted("pack")
     for words, arguments in (("nowhere: No such file", ["pack", "nowhere"]), ("Is a directory", ["check", ROOT]),
                              ("nowhere/x: No such file", ["pack", ROOT / "examples" / "channel.txt", "-o", "nowhere/x"])):
-        refuses(words, "records.py", *arguments)
-    refuses("bytes or more: it is no text", "records.py", "pack", data=bytes(3 << 20))
+        refuses(words, *arguments)
+    refuses("bytes or more: it is no text", "pack", data=bytes(3 << 20))
     known("worked.py")
     breaks("worked.py", "printed")
 
@@ -504,10 +502,10 @@ def test_the_command():
 def test_little_memory():
     """A step many times over is written without being held."""
     many = CHANNEL.replace("step times 2", "step times 1000000")
-    line = f"ulimit -v 100000; '{sys.executable}' '{ROOT}/tools/records.py' pack | wc -c"
+    line = f"ulimit -v 100000; '{sys.executable}' '{ROOT}/bin/lagoon' pack | wc -c"
     done = subprocess.run(["bash", "-c", line], input=many.encode(), capture_output=True)
     equal((done.stdout.split(), done.stderr), ([b"16000045"], b""), "a million steps in 100 MB")
 
 
 if __name__ == "__main__":
-    run_all(globals(), "tools/records.py")
+    run_all(globals(), "lagoon pack, unpack and check")

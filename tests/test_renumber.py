@@ -1,5 +1,5 @@
 #!/usr/bin/env python3
-"""tools/renumber.py beside the reference: sessions in two numberings, the way back, and what it refuses.
+"""lagoon renumber beside the reference: sessions in two numberings, the way back, and what it refuses.
 
     python3 tests/test_renumber.py
 """
@@ -11,19 +11,19 @@ from toolcase import CHANNEL, ROOT, TIDE, breaks, command, equal, folder, holds,
 
 import generate
 import lagoon
-import layout
+from package import layout
 
 OTHER = ("--cells", "2,1,0", "--faces", "3,2,1,0", "--turn", "1,2")
 
 
 def packed(text):
-    status, out, said = command("records.py", "pack", data=text.encode())
+    status, out, said = command("pack", data=text.encode())
     equal((status, said), (0, ""), "packing")
     return out
 
 
 def renumbered(*options, data):
-    status, out, said = command("renumber.py", *options, data=data)
+    status, out, said = command("renumber", *options, data=data)
     equal((status, said), (0, ""), f"{options}")
     return out
 
@@ -31,7 +31,7 @@ def renumbered(*options, data):
 def test_the_channel():
     """The channel from its other end, both inner faces turned: share and fluxes, and the outside value at the new face 3."""
     out = renumbered(*OTHER, data=CHANNEL.encode())
-    text = command("records.py", "unpack", data=out)[1].decode()
+    text = command("unpack", data=out)[1].decode()
     for line in ("face 0 from 0 to rim", "face 1 from 0 to 1 share 128 reach 100", "face 2 from 1 to 2 share 128 reach 100", "face 3 from 2 to rim",
                  "cell 2 mass 100000", "face 0 flux 50", "face 1 flux -50", "face 2 flux -50", "face 3 flux -50 outside 1000"):
         holds(line + "\n" in text, f"'{line}' in {text}")
@@ -83,7 +83,7 @@ def test_beside_the_reference():
     accepted = refused = outfalls = wide = 0
     for number in range(60):
         data = generate.session(31, number).data
-        status, out, said = command("renumber.py", "--seed", number, "--turn", "some", data=data)
+        status, out, said = command("renumber", "--seed", number, "--turn", "some", data=data)
         first = lagoon.run(data).splitlines()
         if first[0][0] in "MF":
             holds(status == 1 and f"(cause {first[0].split()[1]})" in said, f"session {number}: {first[0]} {said}")
@@ -107,7 +107,7 @@ def test_beside_the_reference():
 def test_a_step_that_does_not_read():
     """It stays as it is, and is said; a next record still follows after a wrong bit."""
     text = CHANNEL.replace("flux -50", "flux -0", 1)
-    status, out, said = command("renumber.py", *OTHER, data=text.encode())
+    status, out, said = command("renumber", *OTHER, data=text.encode())
     equal(status, 0, said)
     holds("step 1 does not read (a minus with size 0; cause 12)" in said, said)
     equal([line[:6] for line in lagoon.run(out).splitlines() if " R " in line][0], "1 R 12", "the run's refusal")
@@ -115,26 +115,26 @@ def test_a_step_that_does_not_read():
 
 def test_refusals():
     channel = CHANNEL.encode()
-    refuses("give --cells, --faces, --seed or --turn", "renumber.py", data=channel, status=2)
-    refuses("--cells needs each number from 0 to 2 once: the mesh has 3 cells", "renumber.py", "--cells", "0,1", data=channel)
-    refuses("--faces needs each number from 0 to 3 once: the mesh has 4 faces", "renumber.py", "--faces", "0,1,2,2", data=channel)
-    refuses("--turn 0: a rim face is not turned", "renumber.py", "--turn", "1,0", data=channel)
-    refuses("--turn 4: the mesh has 4 faces", "renumber.py", "--turn", "4", data=channel)
-    refuses("--turn some needs --seed", "renumber.py", "--turn", "some", data=channel)
-    refuses("a whole number from 0 to 8191, not 'x'", "renumber.py", "--cells", "0,x", data=channel, status=2)
-    refuses("the mesh is refused", "renumber.py", "--seed", "1", data=CHANNEL.replace("volume 100", "volume 0", 1).encode())
+    refuses("give --cells, --faces, --seed or --turn", "renumber", data=channel, status=2)
+    refuses("--cells needs each number from 0 to 2 once: the mesh has 3 cells", "renumber", "--cells", "0,1", data=channel)
+    refuses("--faces needs each number from 0 to 3 once: the mesh has 4 faces", "renumber", "--faces", "0,1,2,2", data=channel)
+    refuses("--turn 0: a rim face is not turned", "renumber", "--turn", "1,0", data=channel)
+    refuses("--turn 4: the mesh has 4 faces", "renumber", "--turn", "4", data=channel)
+    refuses("--turn some needs --seed", "renumber", "--turn", "some", data=channel)
+    refuses("a whole number from 0 to 8191, not 'x'", "renumber", "--cells", "0,x", data=channel, status=2)
+    refuses("the mesh is refused", "renumber", "--seed", "1", data=CHANNEL.replace("volume 100", "volume 0", 1).encode())
 
 
 def test_as_every_tool():
-    known("renumber.py")
-    breaks("renumber.py", ROOT / "examples" / "tide.txt", "--seed", "1")
-    interrupted("renumber.py", "--seed", "1")
+    known("renumber")
+    breaks("renumber", ROOT / "examples" / "tide.txt", "--seed", "1")
+    interrupted("renumber", "--seed", "1")
     with folder() as place:
         path = f"{place}/session.txt"
         with open(path, "w") as file:
             file.write(CHANNEL)
-        refuses("is read: it cannot be written too", "renumber.py", path, "--seed", "1", "-o", path)
+        refuses("is read: it cannot be written too", "renumber", path, "--seed", "1", "-o", path)
 
 
 if __name__ == "__main__":
-    run_all(globals(), "renumber.py")
+    run_all(globals(), "renumber")

@@ -1,5 +1,5 @@
 #!/usr/bin/env python3
-"""tools/survey.py on the bay's tables and on bad ones; and docs/SURVEY-TO-SESSION.md, whose commands are run and print what it shows.
+"""lagoon survey on the bay's tables and on bad ones; and docs/SURVEY-TO-SESSION.md, whose commands are run and print what it shows.
 
     python3 tests/test_survey.py            tests
     python3 tests/test_survey.py --write    puts into the page what its commands print
@@ -47,7 +47,7 @@ def whole(cells, faces, *options, wanted=0):
         for name, text in (("cells", cells), ("faces", faces)):
             with open(f"{made}/{name}", "w") as file:
                 file.write(text)
-        status, out, said = command("survey.py", f"{made}/cells", f"{made}/faces", *options)
+        status, out, said = command("survey", f"{made}/cells", f"{made}/faces", *options)
     equal(status, wanted, said)
     return out.decode(), said
 
@@ -108,16 +108,16 @@ def test_bad_surveys():
 
 
 def test_the_command():
-    known("survey.py")
-    breaks("survey.py", CELLS, FACES)
-    interrupted("survey.py", CELLS, "-")
-    refuses("is read", "survey.py", CELLS, FACES, "-o", FACES)
-    refuses("nowhere: No such file", "survey.py", "nowhere", FACES)
-    refuses("a number above 0, not 'x'", "survey.py", CELLS, FACES, "--volume-unit", "x", status=2)
+    known("survey")
+    breaks("survey", CELLS, FACES)
+    interrupted("survey", CELLS, "-")
+    refuses("is read", "survey", CELLS, FACES, "-o", FACES)
+    refuses("nowhere: No such file", "survey", "nowhere", FACES)
+    refuses("a number above 0, not 'x'", "survey", CELLS, FACES, "--volume-unit", "x", status=2)
 
 
 if __name__ == "__main__":
     if "--write" in sys.argv:
         PAGE.write_text(worked(PAGE.read_text()))
     else:
-        run_all(globals(), "tools/survey.py and docs/SURVEY-TO-SESSION.md")
+        run_all(globals(), "lagoon survey and docs/SURVEY-TO-SESSION.md")

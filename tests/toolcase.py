@@ -1,19 +1,24 @@
 """What the tests of the tools share."""
 
+import fcntl
 import io
 import os
+import signal
+import struct
 import subprocess
 import sys
 import tempfile
+import termios
+import time
 from pathlib import Path
 
 HERE = Path(__file__).resolve().parent
 ROOT = HERE.parent
-TOOLS = ROOT / "tools"
 RUN = ROOT / "target" / "bin" / "run"
-sys.path[:0] = [str(TOOLS), str(ROOT / "reference")]
+sys.path.insert(0, str(ROOT / "reference"))
 
 import engines
+from package.session import Session
 
 CHANNEL = (ROOT / "examples" / "channel.txt").read_text()
 TIDE = (ROOT / "examples" / "tide.txt").read_text()
@@ -29,9 +34,15 @@ def holds(claim, what):
         raise AssertionError(what)
 
 
+def line_of(name, *arguments):
+    """The command line of a program of tools/, or of a command of lagoon."""
+    program = [ROOT / "tools" / name] if name.endswith(".py") else [ROOT / "bin" / "lagoon", name]
+    return [sys.executable, *map(str, [*program, *arguments])]
+
+
 def command(*arguments, data=b"", **more):
     """A tool's exit status, output and words; it never shows a traceback."""
-    done = subprocess.run([sys.executable, str(TOOLS / arguments[0]), *map(str, arguments[1:])], input=data, capture_output=True, **more)
+    done = subprocess.run(line_of(*arguments), input=data, capture_output=True, **more)
     said = done.stderr.decode("utf-8", "replace")
     holds("Traceback" not in said and "Exception ignored" not in said, f"{arguments}: {said}")
     return done.returncode, done.stdout, said
@@ -47,7 +58,7 @@ def refuses(words, *arguments, data=b"", status=1):
 
 def breaks(*arguments, data=b""):
     """Output that is closed, full or no longer read, and an interrupt: a line or none, and no traceback."""
-    line = " ".join(f"'{word}'" for word in [sys.executable, str(TOOLS / arguments[0]), *map(str, arguments[1:])])
+    line = " ".join(f"'{word}'" for word in line_of(*arguments))
     for ending, statuses in ((">&-", (0, 1)), ("> /dev/full", (0, 1)), ("2>&- >/dev/full", (0, 1)), ("| true", (0,)), ("<&- >/dev/null", (0, 1))):
         done = subprocess.run(["bash", "-c", f"{line} {ending}"], input=data, capture_output=True)
         said = done.stderr.decode()
@@ -58,23 +69,29 @@ def breaks(*arguments, data=b""):
 
 
 def interrupted(*arguments):
-    """Ctrl-C while the tool waits for its input."""
-    import signal
-    import time
-    tool = subprocess.Popen([sys.executable, str(TOOLS / arguments[0]), *map(str, arguments[1:])], stdin=subprocess.PIPE,
-                            stdout=subprocess.PIPE, stderr=subprocess.PIPE, preexec_fn=lambda: signal.signal(signal.SIGINT, signal.default_int_handler))
-    time.sleep(0.6)
+    """Ctrl-C while the tool waits for more input: it has taken the blank that it was given."""
+    tool = subprocess.Popen(line_of(*arguments), stdin=subprocess.PIPE, stdout=subprocess.PIPE, stderr=subprocess.PIPE,
+                            preexec_fn=lambda: signal.signal(signal.SIGINT, signal.default_int_handler))
+    tool.stdin.write(b" ")
+    tool.stdin.flush()
+    while unread(tool.stdin) and tool.poll() is None:
+        time.sleep(0.01)
     tool.send_signal(signal.SIGINT)
     out, said = tool.communicate(timeout=20)
     equal((tool.returncode, said), (130, b""), f"{arguments} interrupted")
 
 
-def known(name, commands=((),)):
+def unread(pipe):
+    """How many bytes of a pipe nobody has read."""
+    return struct.unpack("i", fcntl.ioctl(pipe, termios.FIONREAD, bytes(4)))[0]
+
+
+def known(name):
     """--help with examples, and --version from the file VERSION."""
-    for words in commands:
-        status, out, _ = command(name, *words, "--help")
-        equal((status, b"examples:" in out), (0, True), f"help of {name} {words}")
-    equal(command(name, "--version"), (0, f"{name} {(ROOT / 'VERSION').read_text().strip()}\n".encode(), ""), f"version of {name}")
+    status, out, _ = command(name, "--help")
+    equal((status, b"examples:" in out), (0, True), f"help of {name}")
+    program = name if name.endswith(".py") else f"lagoon {name}"
+    equal(command(name, "--version"), (0, f"{program} {(ROOT / 'VERSION').read_text().strip()}\n".encode(), ""), f"version of {name}")
 
 
 # two releases after the channel's first step: the first is too much for the corrected field alone, the second for the plain one alone
@@ -105,8 +122,7 @@ def without_calls(*arguments, data):
 
 def session_of(data):
     """The session of some bytes, text or packed."""
-    import session
-    return session.Session(io.BufferedReader(io.BytesIO(data)), "-")
+    return Session(io.BufferedReader(io.BytesIO(data)), "-")
 
 
 def folder():

@@ -11,10 +11,8 @@ HERE = Path(__file__).resolve().parent
 ROOT = HERE.parent
 sys.path[:0] = [str(HERE), str(ROOT / "reference")]
 
-import command
 import lagoon
-import layout
-import sessiontext
+from package import command, layout, sessiontext
 
 HELP = """\
 The page holds blocks between lines <!-- worked: NAME --> and <!-- end -->. Every number is worked out here by its

@@ -1,18 +1,14 @@
-#!/usr/bin/env python3
 """The brine charge of a period: what left over each port's rim faces, charged by bands, with the remainder handed on. Document 02, S-13."""
 
-import sys
 from collections import namedtuple
 
-import causes
-import command
-import engine
-from binder import stored_field
-from calls import Calls
-from causes import FACE, Refusal
-from command import Bad, count, shown
-from rows import Faces, Rows, as_csv
-from session import open_session
+from . import causes, command, engine
+from .binder import stored_field
+from .calls import Calls
+from .causes import FACE, Refusal
+from .command import Bad, count, shown
+from .rows import Faces, Rows, as_csv
+from .session import open_session
 
 HELP = """\
 The session, text or packed, is the period. Every accepted step is made and added through the proved calls (`step` and `add`), and every
@@ -35,13 +31,13 @@ rim faces together are held against the out-masses of the accepted steps, with w
 name, total, then mass, price and share of each band, sum, before, cents, remainder; shares and sums in cents. --field begins with
 another field than the session's, so that a month goes on where the last one ended:
 
-  tools/charge.py june.txt tariff.csv ports.csv -o june.csv
-  tools/budget.py june.txt --field june.field
-  tools/charge.py july.txt tariff.csv ports.csv --field june.field --remainders june.csv -o july.csv
+  lagoon charge june.txt tariff.csv ports.csv -o june.csv
+  lagoon budget june.txt --field june.field
+  lagoon charge july.txt tariff.csv ports.csv --field june.field --remainders june.csv -o july.csv
 
 examples:
-  tools/charge.py examples/tide.txt examples/tariff.csv examples/ports.csv
-  tools/charge.py session.in tariff.csv ports.csv --remainders last.csv -o next.csv --csv bill.csv
+  lagoon charge examples/tide.txt examples/tariff.csv examples/ports.csv
+  lagoon charge session.in tariff.csv ports.csv --remainders last.csv -o next.csv --csv bill.csv
 """
 
 LAST_END = 1 << 40                      # and the most that a total comes to
@@ -236,8 +232,8 @@ class Bills:
 
 # ---------------------------------------------------------------- The command
 
-def arguments():
-    parser = command.parser("charge.py", __doc__, HELP)
+def arguments(words):
+    parser = command.parser("lagoon charge", __doc__, HELP)
     parser.add_argument("file", help="the session of the period, text or packed (- is standard input)")
     parser.add_argument("tariff", help="ends and prices of the bands, CSV")
     parser.add_argument("ports", help="the faces of each port, CSV")
@@ -246,7 +242,7 @@ def arguments():
     parser.add_argument("--csv", metavar="FILE", help="write the bill as a table")
     parser.add_argument("--field", metavar="FILE", help="begin with this field record instead of the session's field")
     parser.add_argument("--calls", metavar="PROGRAM", help="the program that makes the calls (default: target/bin/calls, which `rt check calls` makes)")
-    return parser.parse_args()
+    return parser.parse_args(words)
 
 
 def checked(options):
@@ -262,8 +258,8 @@ def checked(options):
     return outputs
 
 
-def main():
-    options = arguments()
+def main(words):
+    options = arguments(words)
     outputs = checked(options)
     session = open_session(options.file)
     tariff, faces = Tariff(options.tariff), ports(options.ports, session)
@@ -280,7 +276,3 @@ def main():
     lines = "\n".join(bills.report(command.named(options.file)))
     command.say(lines) if "-" in outputs else print(lines)
     return 0
-
-
-if __name__ == "__main__":
-    sys.exit(command.finish("charge.py", main))

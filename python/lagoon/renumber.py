@@ -1,19 +1,16 @@
-#!/usr/bin/env python3
 """A session in another numbering of its cells and faces, with interior faces turned round: document 02, S-9."""
 
 import csv
 import io
 import random
-import sys
 
-import command
-import layout
-from command import Bad, Output, count
-from layout import RIM, Damage, Face
-from session import open_session
+from . import command, layout
+from .command import Bad, Output, count
+from .layout import RIM, Damage, Face
+from .session import open_session
 
 HELP = """\
-The session is text or packed; what is written is packed, and tools/records.py unpack shows it as text. The step on it gives the same
+The session is text or packed; what is written is packed, and lagoon unpack shows it as text. The step on it gives the same
 masses and moved masses at the new numbers, negated where a face is turned, and refuses with the same number, maybe at another place.
 
 --cells and --faces give the new number of each cell and face, from number 0 on: --cells 2,0,1 makes cell 0 the cell 2. --seed numbers at
@@ -27,8 +24,8 @@ as they are, and the run refuses them as before.
 --map writes what went where, a row for each cell and face: kind, old number, new number, turned. With it figures are carried back.
 
 examples:
-  tools/renumber.py examples/tide.txt --seed 7 --turn some -o other.in
-  tools/renumber.py examples/channel.txt --cells 2,1,0 --faces 3,2,1,0 --turn 1,2 --map map.csv -o other.in
+  lagoon renumber examples/tide.txt --seed 7 --turn some -o other.in
+  lagoon renumber examples/channel.txt --cells 2,1,0 --faces 3,2,1,0 --turn 1,2 --map map.csv -o other.in
 """
 
 
@@ -104,7 +101,7 @@ def records(session, numbering, say=lambda words: None):
                 raise damage
             record = layout.step_record(numbering.step(session.mesh, session.source.step(session.mesh)), widths)
         except Damage as found:
-            say(f"renumber.py: step {number} does not read ({found.words}; cause {found.cause}): its bytes are written as they are")
+            say(f"lagoon renumber: step {number} does not read ({found.words}; cause {found.cause}): its bytes are written as they are")
         yield record
 
 
@@ -159,8 +156,8 @@ def numbering_of(options, mesh):
     return Numbering(cells, faces, turned_faces(options.turn, mesh, rng))
 
 
-def arguments():
-    parser = command.parser("renumber.py", __doc__, HELP)
+def arguments(words):
+    parser = command.parser("lagoon renumber", __doc__, HELP)
     parser.add_argument("file", nargs="?", default="-", help="the session, text or packed (default: standard input)")
     parser.add_argument("-o", "--output", metavar="FILE", default="-", help="where the session goes (default: standard output)")
     parser.add_argument("--cells", type=listed_numbers, metavar="LIST", help="the new number of each cell")
@@ -168,14 +165,14 @@ def arguments():
     parser.add_argument("--seed", type=lambda text: command.whole(text, 0, (1 << 64) - 1), help="number at random, the same for the same seed")
     parser.add_argument("--turn", type=turning, metavar="LIST", help="interior faces to turn: numbers, all, or some at random")
     parser.add_argument("--map", metavar="FILE", help="write what went where")
-    options = parser.parse_args()
+    options = parser.parse_args(words)
     if all(given is None for given in (options.cells, options.faces, options.seed, options.turn)):
         parser.error("give --cells, --faces, --seed or --turn")
     return options
 
 
-def main():
-    options = arguments()
+def main(words):
+    options = arguments(words)
     command.apart(options.output, options.file)
     if options.map:
         command.apart(options.map, options.file)
@@ -187,7 +184,3 @@ def main():
     if options.map:
         command.write_whole(options.map, map_text(numbering).encode())
     return 0
-
-
-if __name__ == "__main__":
-    sys.exit(command.finish("renumber.py", main))

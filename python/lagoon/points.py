@@ -3,7 +3,7 @@
 import math
 from fractions import Fraction
 
-from causes import MOST_SHARE, Refusal
+from .causes import MOST_SHARE, Refusal
 
 # Two ends of the face, then the centres of its first and second cell.
 COLUMNS = ("x1", "y1", "x2", "y2", "first x", "first y", "second x", "second y")

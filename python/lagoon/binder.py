@@ -1,18 +1,14 @@
-#!/usr/bin/env python3
 """The pages for the binder: of the last field of a session, or of a field record, one page of sixty cells after another; and the board.
 For growers, or for the public, who are not shown withheld cells."""
 
-import sys
 
-import causes
-import command
-import engine
-from calls import Calls, spelled
-from causes import CELL
-from command import Bad
-from layout import Damage, Source
-from rows import Cells, Rows
-from session import open_session
+from . import causes, command, engine
+from .calls import Calls, spelled
+from .causes import CELL
+from .command import Bad
+from .layout import Damage, Source
+from .rows import Cells, Rows
+from .session import open_session
 
 HELP = """\
 A line for each cell, 18 bytes: the cell in 4 places, a space, q in 7, a space, the rest in 4, each at the right of its places, and a
@@ -31,11 +27,11 @@ differ in withheld cells alone print the same. MARKS is CSV with a heading; othe
   mark  0 open, 1 withheld
 
 examples:
-  tools/binder.py examples/tide.txt
-  tools/binder.py examples/tide.txt --public examples/closed.csv --board -
-  tools/binder.py session.in --run target/bin/run -o june.pages
-  tools/budget.py session.in --field june.field
-  tools/binder.py session.in --field june.field | lpr
+  lagoon binder examples/tide.txt
+  lagoon binder examples/tide.txt --public examples/closed.csv --board -
+  lagoon binder session.in --run target/bin/run -o june.pages
+  lagoon budget session.in --field june.field
+  lagoon binder session.in --field june.field | lpr
 """
 
 MOST_BYTES = 61 * 19            # of a page: sixty cells and their mass, in the widest lines
@@ -110,8 +106,8 @@ def last_field(session, options):
     return masses
 
 
-def arguments():
-    parser = command.parser("binder.py", __doc__, HELP)
+def arguments(words):
+    parser = command.parser("lagoon binder", __doc__, HELP)
     parser.add_argument("file", nargs="?", default="-", help="the session, text or packed (default: standard input)")
     parser.add_argument("--field", metavar="FILE", help="print the pages of this field record instead of the last field")
     parser.add_argument("--public", metavar="MARKS", help="print what the public may read, by this table of marks")
@@ -119,7 +115,7 @@ def arguments():
     parser.add_argument("--board", metavar="FILE", help="where the board goes, for the same readers, as lines of the run (default: nowhere)")
     parser.add_argument("--calls", metavar="PROGRAM", help="the program that prints them (default: target/bin/calls, which `rt check calls` makes)")
     engine.options(parser)
-    return parser.parse_args()
+    return parser.parse_args(words)
 
 
 def checked(options):
@@ -134,8 +130,8 @@ def checked(options):
         raise Bad(f"{options.output} cannot hold both the pages and the board")
 
 
-def main():
-    options = arguments()
+def main(words):
+    options = arguments(words)
     checked(options)
     session = open_session(options.file)
     marks = marks_in(options.public, session) if options.public else None
@@ -147,7 +143,3 @@ def main():
     if options.board:
         command.write_whole(options.board, board)
     return 0
-
-
-if __name__ == "__main__":
-    sys.exit(command.finish("binder.py", main))

@@ -6,8 +6,8 @@ import itertools
 import math
 from decimal import Decimal, InvalidOperation
 
-import command
-from command import Bad, shown
+from . import command
+from .command import Bad, shown
 
 LARGEST = 10 ** 12              # of a number that is measured
 MOST_DIGITS = 20                # of a whole number: more than any 64 bits hold

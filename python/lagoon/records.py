@@ -1,17 +1,13 @@
-#!/usr/bin/env python3
 """A session's records to readable text and back, and what the run would refuse in them. Written from document 01, "Record
 layouts" and "Causes", and document 02, S-6 and S-10; shares nothing with the engine."""
 
 import io
-import sys
 
-import causes
-import command
-import layout
-from command import Bad, Output, count, shown
-from layout import CELLS_BITS, MINUS_ZERO, WIDE, Damage, Source, most
-from session import is_text
-from sessiontext import MOST_TIMES, Line, Parser, StepText, TextError, field_text, mesh_text, packed, text_words
+from . import causes, command, layout
+from .command import Bad, Output, count, shown
+from .layout import CELLS_BITS, MINUS_ZERO, WIDE, Damage, Source, most
+from .session import is_text
+from .sessiontext import MOST_TIMES, Line, Parser, StepText, TextError, field_text, mesh_text, packed, text_words
 
 HELP = """\
 A session is what the run program reads: a mesh record, a field record, then step records. unpack turns its
@@ -38,7 +34,7 @@ The text has one item on a line; words are separated by blanks, and # begins a c
 
 The words are document 01's. Share: the way from the first cell's centre to the face, in 1/256 of the way between
 the centres. Reach: face area times distance between centres, in volume units. Outside: the concentration of the
-water that enters over the rim. Units and names are for budget.py and plot.py; the records hold none.
+water that enters over the rim. Units and names are for lagoon budget and lagoon plot; the records hold none.
 Records are of kinds 1 to 4. Where a volume, reach or size of a flux is above 4095, a mass or release above
 4294967295, or the text says "mesh wide", all records are wide ones, of kinds 5 to 8. Both hold the same values where
 both have room for them, and the run prints the same.
@@ -56,9 +52,9 @@ into the same bytes again, whatever they are (no bytes at all apart: pack refuse
 """
 
 UNPACK_EXAMPLES = """\
-  tools/records.py unpack tests/sessions/channel.in
-  tools/records.py unpack < session.in > session.txt
-  echo 10 01 00 00 06 40 20 01 00 00 00 63 | tools/records.py unpack --hex
+  lagoon unpack tests/sessions/channel.in
+  lagoon unpack < session.in > session.txt
+  echo 10 01 00 00 06 40 20 01 00 00 00 63 | lagoon unpack --hex
 """
 
 PACK_HELP = """\
@@ -67,10 +63,10 @@ written then, and the exit status is 1.
 """
 
 PACK_EXAMPLES = """\
-  tools/records.py pack examples/channel.txt -o session.in
-  tools/records.py pack examples/channel.txt | target/bin/run
-  tools/records.py pack --hex examples/channel.txt
-  tools/records.py pack july.txt --field june.field -o july.in
+  lagoon pack examples/channel.txt -o session.in
+  lagoon pack examples/channel.txt | target/bin/run
+  lagoon pack --hex examples/channel.txt
+  lagoon pack july.txt --field june.field -o july.in
 """
 
 CHECK_HELP = """\
@@ -79,13 +75,13 @@ lowest place. Of a text FILE:LINE is the line of that cell or face (or of the st
 where the record begins. The exit status is 1 where anything is refused, and for bad text.
 
 No step is made here, so the field is known until the first accepted step only. A later step with releases may be
-refused by cause 18 for what its cells then hold; the last line counts those steps, and budget.py, which asks the engine,
+refused by cause 18 for what its cells then hold; the last line counts those steps, and lagoon budget, which asks the engine,
 says it of each.
 """
 
 CHECK_EXAMPLES = """\
-  tools/records.py check examples/tide.txt
-  tools/records.py check session.in
+  lagoon check examples/tide.txt
+  lagoon check session.in
 """
 
 BYTES_ON_A_LINE = 16
@@ -218,7 +214,7 @@ class Checker:
         if not self.steps:
             said = "there is nothing to refuse"
         if self.open:
-            said += f"; whether cause 18 refuses {self.open:,} with releases, budget.py says"
+            said += f"; whether cause 18 refuses {self.open:,} with releases, lagoon budget says"
         mesh = self.mesh
         return self.lines + [f"{self.name}: {count(len(mesh.volumes), 'cell')}, {count(len(mesh.faces), 'face')} ({len(mesh.rim):,} at the rim), "
                              f"{count(self.steps, 'step')}: {said}"]
@@ -389,33 +385,40 @@ def field_of(path):
     return masses
 
 
-def arguments():
-    parser = command.parser("records.py", "A session's records to readable text and back, and what the run would refuse in them.",
-                            HELP + "\nexamples:\n" + UNPACK_EXAMPLES + PACK_EXAMPLES + CHECK_EXAMPLES)
-    commands = parser.add_subparsers(dest="command", required=True, metavar="{unpack,pack,check}")
-    form = parser.formatter_class
-    for name, words, more, examples in (("unpack", "a session's bytes to text", UNPACK_HELP, UNPACK_EXAMPLES),
-                                        ("pack", "a session's text to bytes", PACK_HELP, PACK_EXAMPLES),
-                                        ("check", "what the run would refuse, in words", CHECK_HELP, CHECK_EXAMPLES)):
-        one = commands.add_parser(name, help=words, description=words[0].upper() + words[1:] + ".", formatter_class=form,
-                                  epilog=f"{HELP}\n{more}\nexamples:\n{examples}")
-        one.add_argument("file", nargs="?", default="-", help="what to read (default: standard input)")
-        if name != "check":
-            one.add_argument("-o", "--output", default="-", help="what to write (default: standard output)")
-        one.add_argument("--hex", action="store_true", help=f"the bytes are {'written' if name == 'pack' else 'read'} as hexadecimal digits")
-        if name == "pack":
-            one.add_argument("--field", metavar="FILE", help="the masses of a field record (of budget.py --field) in the place of the text's")
-    return parser.parse_args()
+# Of each command: what it does, what its help says besides the format, its examples, and the function that does it.
+COMMANDS = {"unpack": ("a session's records to text", UNPACK_HELP, UNPACK_EXAMPLES, run_unpack),
+            "pack": ("a session's text to the records that the run reads", PACK_HELP, PACK_EXAMPLES, run_pack),
+            "check": ("what the run would refuse in a session, in words", CHECK_HELP, CHECK_EXAMPLES, run_check)}
 
 
-def main():
-    options = arguments()
+def arguments(name, words):
+    told, more, examples, _ = COMMANDS[name]
+    parser = command.parser(f"lagoon {name}", told[0].upper() + told[1:] + ".", f"{HELP}\n{more}\nexamples:\n{examples}")
+    parser.add_argument("file", nargs="?", default="-", help="what to read (default: standard input)")
+    if name != "check":
+        parser.add_argument("-o", "--output", default="-", help="what to write (default: standard output)")
+    parser.add_argument("--hex", action="store_true", help=f"the bytes are {'written' if name == 'pack' else 'read'} as hexadecimal digits")
+    if name == "pack":
+        parser.add_argument("--field", metavar="FILE", help="the masses of a field record (of lagoon budget --field) in the place of the text's")
+    return parser.parse_args(words)
+
+
+def main(name, words):
+    options = arguments(name, words)
     try:
-        return {"unpack": run_unpack, "pack": run_pack, "check": run_check}[options.command](options)
+        return COMMANDS[name][3](options)
     except TextError as error:
         command.say(text_words(options.file, error))
         return 1
 
 
-if __name__ == "__main__":
-    sys.exit(command.finish("records.py", main))
+def unpack_command(words):
+    return main("unpack", words)
+
+
+def pack_command(words):
+    return main("pack", words)
+
+
+def check_command(words):
+    return main("check", words)

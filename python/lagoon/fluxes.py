@@ -1,4 +1,3 @@
-#!/usr/bin/env python3
 """Real fluxes to whole ones that balance: a session from a lagoon's mesh and field, and a table of the water by face and step."""
 
 import argparse
@@ -6,17 +5,14 @@ import csv
 import io
 import math
 import re
-import sys
 from collections import deque
 
-import causes
-import command
-import layout
-from command import Bad, Output, count, shown
-from layout import RIM, Step
-from rows import Faces
-from session import Session, is_text
-from sessiontext import MOST_LINE, MOST_TIMES, StepText, field_text, mesh_text
+from . import causes, command, layout
+from .command import Bad, Output, count, shown
+from .layout import RIM, Step
+from .rows import Faces
+from .session import Session, is_text
+from .sessiontext import MOST_LINE, MOST_TIMES, StepText, field_text, mesh_text
 
 HELP = """\
 The engine takes whole fluxes, and in every cell as much has to leave as enters. A model of the water gives real ones,
@@ -47,8 +43,8 @@ The report, on standard error, ends with the largest change of any face, worked 
 step that is written has been tried by the causes of document 01.
 
 examples:
-  tools/fluxes.py lagoon.txt water.csv -o session.txt
-  tools/fluxes.py lagoon.txt water.csv --factor 3.6 --outside sea=35000 --split 2 --carry --packed -o session.in
+  lagoon fluxes lagoon.txt water.csv -o session.txt
+  lagoon fluxes lagoon.txt water.csv --factor 3.6 --outside sea=35000 --split 2 --carry --packed -o session.in
 """
 
 UNIT = 1_000_000                # a whole unit in the numbers that are counted with
@@ -387,7 +383,7 @@ class Maker:
         step = Step(whole, [outsides.get(face, 0) if whole[face] < 0 else 0 for face in self.mesh.rim])
         refusal = causes.step_refusal(self.mesh, step)
         if refusal:
-            raise Bad(f"row {self.rows}: the step made of it would be refused, {causes.told(refusal)}; this is a fault of fluxes.py")
+            raise Bad(f"row {self.rows}: the step made of it would be refused, {causes.told(refusal)}; this is a fault of lagoon fluxes")
         self.steps += 1
         return step
 
@@ -524,8 +520,8 @@ def number(text, least, greatest):
     return value
 
 
-def arguments():
-    parser = command.parser("fluxes.py", __doc__, HELP)
+def arguments(words):
+    parser = command.parser("lagoon fluxes", __doc__, HELP)
     parser.add_argument("lagoon", help="mesh and field: a session without steps, text or packed")
     parser.add_argument("table", help="the fluxes, CSV (- is standard input)")
     parser.add_argument("-o", "--output", default="-", help="the session to write (default: standard output)")
@@ -540,16 +536,12 @@ def arguments():
     parser.add_argument("--spread", action="store_true", help="carry larger differences to the rim too")
     parser.add_argument("--split", type=lambda text: command.whole(text, 1, MOST_SPLIT), default=1, metavar="N", help="make N steps of each row (default: 1)")
     parser.add_argument("--carry", action="store_true", help="hand what rounding left on to the next step")
-    return parser.parse_args()
+    return parser.parse_args(words)
 
 
-def main():
-    options = arguments()
+def main(words):
+    options = arguments(words)
     command.apart(options.output, options.lagoon, options.table)
     if options.lagoon == options.table == "-":
         raise Bad("only one of the two can be standard input")
     return run(options)
-
-
-if __name__ == "__main__":
-    sys.exit(command.finish("fluxes.py", main))

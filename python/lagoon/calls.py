@@ -3,7 +3,7 @@
 import os
 import subprocess
 
-from command import ROOT, Bad
+from .command import ROOT, Bad
 
 PROGRAM = ROOT / "target" / "bin" / "calls"
 # The numbers of the calls that are asked for.

@@ -8,10 +8,9 @@ import tempfile
 from collections import namedtuple
 from fractions import Fraction
 
-import causes
-import layout
-from calls import Calls, OnTables, spelled, water
-from command import ROOT, Bad
+from . import causes, layout
+from .calls import Calls, OnTables, spelled, water
+from .command import ROOT, Bad
 
 SHARED = ROOT / "target" / "lib" / "liblagoon.so"
 
@@ -76,7 +75,7 @@ class Plain:
 
 
 class Walk:
-    """A field carried on by one of the engine's steps. What the engine refuses has to be what the words of tools/causes.py say."""
+    """A field carried on by one of the engine's steps. What the engine refuses has to be what the words of causes.py say."""
 
     def __init__(self, session, step):
         self.session, self.mesh, self.step = session, session.mesh, step
@@ -157,7 +156,7 @@ class Tabled:
 def agreeing(number, refusal, refused):
     """The words of a refusal, which have to be about the engine's cause and place."""
     if refusal is None or (refusal.cause, refusal.place) != refused:
-        raise Bad(f"step {number}: the engine refuses it by cause {refused[0]}, place {refused[1]}, and tools/causes.py finds "
+        raise Bad(f"step {number}: the engine refuses it by cause {refused[0]}, place {refused[1]}, and causes.py finds "
                   + (causes.told(refusal) if refusal else "nothing wrong with it"))
     return refusal
 

@@ -7,7 +7,7 @@ import sys
 import tempfile
 from pathlib import Path
 
-ROOT = Path(__file__).resolve().parent.parent
+ROOT = Path(__file__).resolve().parents[2]         # of the tree
 CHUNK = 1 << 20
 MOST_SHOWN = 40
 

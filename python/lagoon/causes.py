@@ -2,8 +2,8 @@
 
 from collections import namedtuple
 
-import layout
-from layout import RIM
+from . import layout
+from .layout import RIM
 
 TOP = 1_000_000                             # greatest concentration
 LIMITS = 1023, 2046                         # cells and faces of the run and of the C call

@@ -1,10 +1,9 @@
 """A session of either kind, text or packed, as the engine takes it: mesh and field, accepted, and the bytes of each step."""
 
-import causes
-import command
-from command import Bad
-from layout import MESH_HEAD, WIDE, Damage, Source, beyond_limits, bits_of, counts_in, kind_of
-from sessiontext import Labels, Parser, TextError, packed, text_words
+from . import causes, command
+from .command import Bad
+from .layout import MESH_HEAD, WIDE, Damage, Source, beyond_limits, bits_of, counts_in, kind_of
+from .sessiontext import Labels, Parser, TextError, packed, text_words
 
 
 def is_text(file):

@@ -1,17 +1,13 @@
-#!/usr/bin/env python3
 """A survey's tables to a lagoon: mesh and field in whole units, from CSV files of the cells and of the faces."""
 
 import argparse
 import math
-import sys
 
-import causes
-import command
-import points
-from command import Bad, count, shown
-from layout import NARROW, RIM, Face, mesh_of, most
-from rows import LARGEST, Rows
-from sessiontext import face_line
+from . import causes, command, points
+from .command import Bad, count, shown
+from .layout import NARROW, RIM, Face, mesh_of, most
+from .rows import LARGEST, Rows
+from .sessiontext import face_line
 
 HELP = """\
 Both tables are CSV with a heading; other columns are not read.
@@ -22,7 +18,7 @@ Both tables are CSV with a heading; other columns are not read.
           or, in the place of way and distance, plane coordinates in metres: x1, y1, x2, y2 (the face's two ends),
           first x, first y, second x, second y (the centres of its cells)
 
-Cells and faces are numbered in the order of their rows. What is written is text for tools/records.py, without steps:
+Cells and faces are numbered in the order of their rows. What is written is text for lagoon pack, without steps:
 
   V      volume divided by the unit of volume, to the nearest whole number, 1 to 65,535
   share  256 times way divided by distance, 1 to 255; from coordinates by document 02's S-7, as the engine does it
@@ -32,12 +28,12 @@ Cells and faces are numbered in the order of their rows. What is written is text
 The unit of volume, unless given, is the least of 1, 2, 5, 10, 20, .. cubic metres with which every V and reach is at most
 4,095, so that records of kinds 1 to 4 hold them; with --wide at most 65,535, which takes records of kinds 5 to 8. The unit
 of salt is 1 gram per cubic metre unless given (0.1 makes q ten times finer; the greatest q is 1,000,000). The unit of mass
-is their product. The report says what rounding changed, and the factors that tools/fluxes.py needs.
+is their product. The report says what rounding changed, and the factors that lagoon fluxes needs.
 
 examples:
-  tools/survey.py examples/bay-cells.csv examples/bay-faces.csv -o bay.txt
-  tools/survey.py cells.csv faces.csv --volume-unit 250 --salt-unit 0.1 -o lagoon.txt
-  tools/survey.py cells.csv faces.csv --wide -o lagoon.txt
+  lagoon survey examples/bay-cells.csv examples/bay-faces.csv -o bay.txt
+  lagoon survey cells.csv faces.csv --volume-unit 250 --salt-unit 0.1 -o lagoon.txt
+  lagoon survey cells.csv faces.csv --wide -o lagoon.txt
 """
 
 LEAST = 1e-9                    # a length, area or volume that counts as above 0
@@ -137,7 +133,7 @@ class Lagoon:
         return [f"{count(len(mesh.volumes), 'cell')}, {count(len(mesh.faces), 'face')} ({len(mesh.rim):,} at the rim); a unit of volume is {self.unit:g} m3, "
                 f"of mass {self.unit * self.salt_unit:g} g, of concentration {self.salt_unit:g} g/m3",
                 f"made whole, a volume is changed by {100 * self.changed['volume']:.3g} % at most, a reach by {100 * self.changed['reach']:.3g} %",
-                f"for fluxes.py: --factor {1 / self.unit:.8g} times the seconds of a step, where the table has m3/s"
+                f"for lagoon fluxes: --factor {1 / self.unit:.8g} times the seconds of a step, where the table has m3/s"
                 + (f"; --outside-factor {1 / self.salt_unit:.8g}" if self.salt_unit != 1 else "")]
 
 
@@ -151,19 +147,19 @@ def amount(text):
     return value
 
 
-def arguments():
-    parser = command.parser("survey.py", __doc__, HELP)
+def arguments(words):
+    parser = command.parser("lagoon survey", __doc__, HELP)
     parser.add_argument("cells", help="the table of the cells, CSV")
     parser.add_argument("faces", help="the table of the faces, CSV")
     parser.add_argument("-o", "--output", default="-", help="the text to write (default: standard output)")
     parser.add_argument("--volume-unit", type=amount, metavar="M3", help="the unit of volume in cubic metres (default: the least round one that fits)")
     parser.add_argument("--wide", action="store_true", help="choose the unit of volume for cells up to 65,535, not 4,095")
     parser.add_argument("--salt-unit", type=amount, default=1, metavar="G", help="the unit of concentration in grams per cubic metre (default: 1)")
-    return parser.parse_args()
+    return parser.parse_args(words)
 
 
-def main():
-    options = arguments()
+def main(words):
+    options = arguments(words)
     command.apart(options.output, options.cells, options.faces)
     if options.cells == options.faces == "-":
         raise Bad("only one of the two can be standard input")
@@ -173,7 +169,3 @@ def main():
     command.write_whole(options.output, lagoon.text().encode())
     command.say("\n".join(lagoon.report()))
     return 0
-
-
-if __name__ == "__main__":
-    sys.exit(command.finish("survey.py", main))

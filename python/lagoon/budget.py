@@ -1,17 +1,13 @@
-#!/usr/bin/env python3
 """The salt budget of a session: first total, what entered and left over each rim face, what was released, last total, and the difference."""
 
 import csv
 import io
-import sys
 from collections import Counter
 from fractions import Fraction
 
-import causes
-import command
-import engine
-from command import Output, count
-from session import open_session
+from . import causes, command, engine
+from .command import Output, count
+from .session import open_session
 
 HELP = """\
 The session is text or packed. The engine steps through it, by the C call of the library (`make lib`); in-mass and out-mass are summed
@@ -25,16 +21,16 @@ adds less than 1 to how far m / V of a cell is from what the same steps give wit
 
 --field writes the field after the last step as a record. The next month begins with it:
 
-  tools/budget.py june.in --field june.field
-  tools/records.py pack july.txt --field june.field -o july.in
+  lagoon budget june.in --field june.field
+  lagoon pack july.txt --field june.field -o july.in
 
 --csv has a row for each step: step, in, out, total, released, cause and place of a refusal, then in and out of each rim face; with
 --plain, then the same but the step's number by plain upwind.
 
 examples:
-  tools/budget.py examples/tide.txt
-  tools/budget.py session.in --run target/bin/run --csv budget.csv --field last.field
-  tools/budget.py session.in --plain
+  lagoon budget examples/tide.txt
+  lagoon budget session.in --run target/bin/run --csv budget.csv --field last.field
+  lagoon budget session.in --plain
 """
 
 MOST_REFUSALS = 20
@@ -118,7 +114,7 @@ def refusals(budget, labels):
     for first, last, refusal in budget.refused[:MOST_REFUSALS]:
         lines.append(f"  {steps_words(first, last)}: {causes.told(refusal, labels)}")
     if len(budget.refused) > MOST_REFUSALS:
-        lines.append(f"  and {len(budget.refused) - MOST_REFUSALS:,} more: `tools/records.py check` lists all")
+        lines.append(f"  and {len(budget.refused) - MOST_REFUSALS:,} more: `lagoon check` lists all")
     return lines
 
 
@@ -201,23 +197,19 @@ def run(options):
     return 1 if any(budget.difference() for budget in budgets) else 0
 
 
-def arguments():
-    parser = command.parser("budget.py", __doc__, HELP)
+def arguments(words):
+    parser = command.parser("lagoon budget", __doc__, HELP)
     parser.add_argument("file", nargs="?", default="-", help="the session, text or packed (default: standard input)")
     parser.add_argument("--csv", metavar="FILE", help="write a row for each step (- is standard output; the report is then on standard error)")
     parser.add_argument("--field", metavar="FILE", help="write the last field record")
     engine.options(parser)
     engine.plain_options(parser)
-    return parser.parse_args()
+    return parser.parse_args(words)
 
 
-def main():
-    options = arguments()
+def main(words):
+    options = arguments(words)
     for output in (options.csv, options.field):
         if output:
             command.apart(output, options.file, *(path for path in (options.library, options.calls) if path))
     return run(options)
-
-
-if __name__ == "__main__":
-    sys.exit(command.finish("budget.py", main))

@@ -1,6 +1,6 @@
 """Records as document 01 lays them out in "Record layouts", and document 02 in S-6 and S-10: the one place of the tools that knows the widths.
 
-Written from the document; shares nothing with the engine. Reading does not judge values: tools/causes.py does.
+Written from the document; shares nothing with the engine. Reading does not judge values: causes.py does.
 """
 
 from collections import namedtuple

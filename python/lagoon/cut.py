@@ -1,18 +1,14 @@
-#!/usr/bin/env python3
 """One lagoon on two boards: a session cut in two along labels of its cells, a session for each office. Document 02, S-12."""
 
-import sys
 
-import causes
-import command
-import layout
-from calls import Calls, OnTables, spelled
-from command import Bad, Output, count, shown
-from engine import Walk
-from layout import RIM, Face, Step
-from rows import Rows, as_csv
-from session import Session, is_text
-from sessiontext import StepText, field_text, mesh_text
+from . import causes, command, layout
+from .calls import Calls, OnTables, spelled
+from .command import Bad, Output, count, shown
+from .engine import Walk
+from .layout import RIM, Face, Step
+from .rows import Rows, as_csv
+from .session import Session, is_text
+from .sessiontext import StepText, field_text, mesh_text
 
 HELP = """\
 LABELS is CSV with a heading; other columns are not read:
@@ -34,8 +30,8 @@ written. A step that the engine refuses changes no field: it is told, and left o
 --map writes what went where, a row for each cell and face of a part: kind, old number, part, new number, turned.
 
 examples:
-  tools/cut.py examples/tide.txt examples/tide-labels.csv -o sea.txt river.txt
-  tools/cut.py session.in labels.csv -o west.in east.in --map map.csv
+  lagoon cut examples/tide.txt examples/tide-labels.csv -o sea.txt river.txt
+  lagoon cut session.in labels.csv -o west.in east.in --map map.csv
 """
 
 PARTS = (0, 1)
@@ -215,15 +211,15 @@ def map_table(boards):
     return as_csv([MAP, *(row for board in boards for row in board.map_rows())])
 
 
-def arguments():
-    parser = command.parser("cut.py", __doc__, HELP)
+def arguments(words):
+    parser = command.parser("lagoon cut", __doc__, HELP)
     parser.add_argument("file", metavar="SESSION", help="the session, text or packed; - is standard input")
     parser.add_argument("labels", metavar="LABELS", help="the label of each cell, CSV")
     parser.add_argument("-o", "--output", nargs=2, metavar=("PART0", "PART1"), required=True, help="where the parts' sessions go")
     parser.add_argument("--map", metavar="FILE", help="write what went where")
     parser.add_argument("--calls", metavar="PROGRAM",
                         help="the program that cuts and steps (default: target/bin/calls, which `rt check calls` makes)")
-    return parser.parse_args()
+    return parser.parse_args(words)
 
 
 def judge_files(options):
@@ -236,8 +232,8 @@ def judge_files(options):
         raise Bad(f"{written[0]}: the parts and the map are written to files of their own")
 
 
-def main():
-    options = arguments()
+def main(words):
+    options = arguments(words)
     judge_files(options)
     file = command.opened(options.file)
     text = is_text(file)
@@ -253,7 +249,3 @@ def main():
     said.append(f"{count(made, 'plain step')}: next and moved masses of both parts are the whole's at the old numbers\n")
     command.write_whole("-", "".join(said).encode())
     return 0
-
-
-if __name__ == "__main__":
-    sys.exit(command.finish("cut.py", main))

@@ -1,21 +1,17 @@
-#!/usr/bin/env python3
 """From a session an SVG picture: concentrations of chosen cells over the steps, the total, and what enters and leaves."""
 
 import csv
 import io
 import shutil
-import sys
 import tempfile
 import unicodedata
 from array import array
 from collections import Counter, namedtuple
 from xml.sax.saxutils import escape
 
-import causes
-import command
-import engine
-from command import Bad, count, shown
-from session import Session
+from . import causes, command, engine
+from .command import Bad, count, shown
+from .session import Session
 
 HELP = """\
 The session is text or packed; names and units of a text stand in the picture. The panels show q, the mass of a cell
@@ -36,10 +32,10 @@ budget below. The C call makes corrected steps only, so the plain ones are made 
 How far m / V of a cell is from what the same steps give with no q rounded grows by less than 1 with each accepted one.
 
 examples:
-  tools/plot.py tests/sessions/channel.in -o channel.svg
-  tools/records.py pack examples/channel.txt | tools/plot.py --cells 0-2 > channel.svg
-  tools/plot.py session.in --cells 0,7,30-33 --title "East basin, June" --profile 0,last --run target/bin/run -o june.svg
-  tools/plot.py session.in --plain --cells 0,7 -o both.svg
+  lagoon plot tests/sessions/channel.in -o channel.svg
+  lagoon pack examples/channel.txt | lagoon plot --cells 0-2 > channel.svg
+  lagoon plot session.in --cells 0,7,30-33 --title "East basin, June" --profile 0,last --run target/bin/run -o june.svg
+  lagoon plot session.in --plain --cells 0,7 -o both.svg
 """
 
 MOST_CELLS = MOST_PROFILES = 8
@@ -519,8 +515,8 @@ def run(options):
     return 0
 
 
-def arguments():
-    parser = command.parser("plot.py", __doc__, HELP)
+def arguments(words):
+    parser = command.parser("lagoon plot", __doc__, HELP)
     parser.add_argument("file", nargs="?", default="-", help="the session, text or packed (default: standard input)")
     parser.add_argument("-o", "--output", default="-", help="the SVG to write (default: standard output)")
     parser.add_argument("--cells", help=f"cells to draw, as 0,7,30-33, at most {MOST_CELLS} (default: those of the last board)")
@@ -531,18 +527,14 @@ def arguments():
     parser.add_argument("--csv", metavar="FILE", help="write the figures that are drawn")
     engine.options(parser)
     engine.plain_options(parser)
-    return parser.parse_args()
+    return parser.parse_args(words)
 
 
-def main():
-    options = arguments()
+def main(words):
+    options = arguments(words)
     for output in (options.output, options.csv):
         if output:
             command.apart(output, options.file)
     if options.output == options.csv == "-":
         raise Bad("the picture and --csv cannot both be on standard output")
     return run(options)
-
-
-if __name__ == "__main__":
-    sys.exit(command.finish("plot.py", main))

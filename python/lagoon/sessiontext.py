@@ -1,11 +1,11 @@
-"""A session as text, both ways: the words of the documents, one item on a line. `tools/records.py --help` says the format."""
+"""A session as text, both ways: the words of the documents, one item on a line. `lagoon pack --help` says the format."""
 
 import io
 import re
 from collections import namedtuple
 
-from command import Bad, listed, named, shown
-from layout import (CELLS_BITS, END_BITS, FACES_BITS, MINUS_ZERO, NARROW, OUTSIDE_BITS, RIM, SHARE_BITS, WIDE, Face, Step, bits_of,
+from .command import Bad, listed, named, shown
+from .layout import (CELLS_BITS, END_BITS, FACES_BITS, MINUS_ZERO, NARROW, OUTSIDE_BITS, RIM, SHARE_BITS, WIDE, Face, Step, bits_of,
                     bits_of_flux, field_record, masses_in, mesh_of, mesh_record, most, step_of, step_record)
 
 MOST_TIMES = 1_000_000          # of "step times"

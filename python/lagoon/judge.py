@@ -1,19 +1,14 @@
-#!/usr/bin/env python3
 """Another model's steps judged: the masses that it says have moved through the faces, step by step. Document 02, S-11."""
 
-import sys
 from collections import namedtuple
 
-import budget
-import causes
-import command
-import engine
-from calls import Calls
-from causes import CELL, FACE, Refusal
-from command import Bad, count
-from layout import RIM
-from rows import Faces, Rows, as_csv
-from session import open_session
+from . import budget, causes, command, engine
+from .calls import Calls
+from .causes import CELL, FACE, Refusal
+from .command import Bad, count
+from .layout import RIM
+from .rows import Faces, Rows, as_csv
+from .session import open_session
 
 HELP = """\
 The session, text or packed, has the mesh, the first field and the water of each step: fluxes, outside values, releases. The claims
@@ -38,8 +33,8 @@ far it is off. Of a step that the engine itself refuses there are the words alon
 The exit status is 1 where a claim is refused.
 
 examples:
-  tools/judge.py examples/judged.txt examples/judged.csv
-  tools/judge.py session.in claims.csv --engine -o refused.csv
+  lagoon judge examples/judged.txt examples/judged.csv
+  lagoon judge session.in claims.csv --engine -o refused.csv
 """
 
 MOST_CLAIM = 1 << 40
@@ -223,18 +218,18 @@ class Verdicts:
         return [*head, "", *self.lines, "", *budget.sums([self.budget], self.session)]
 
 
-def arguments():
-    parser = command.parser("judge.py", __doc__, HELP)
+def arguments(words):
+    parser = command.parser("lagoon judge", __doc__, HELP)
     parser.add_argument("file", help="the session, text or packed (- is standard input)")
     parser.add_argument("claims", help="the masses that the other model has moved, CSV (- is standard input)")
     parser.add_argument("-o", "--output", metavar="FILE", help="write what was refused, and by how much (- is standard output; the report is then on standard error)")
     parser.add_argument("--engine", action="store_true", help="make the steps without a claim by the engine's corrected step")
     parser.add_argument("--calls", metavar="PROGRAM", help="the program that judges (default: target/bin/calls, which `rt check calls` makes)")
-    return parser.parse_args()
+    return parser.parse_args(words)
 
 
-def main():
-    options = arguments()
+def main(words):
+    options = arguments(words)
     if options.file == options.claims == "-":
         raise Bad("only one of the two can be standard input")
     if options.output:
@@ -249,7 +244,3 @@ def main():
     lines = "\n".join(verdicts.report(command.named(options.file)))
     command.say(lines) if options.output == "-" else print(lines)
     return 1 if verdicts.refused or verdicts.budget.difference() else 0
-
-
-if __name__ == "__main__":
-    sys.exit(command.finish("judge.py", main))

@@ -1,0 +1,1 @@
+"""Salt transport on a lagoon mesh, in whole numbers: the proved steps from Python, and the command `lagoon`."""
