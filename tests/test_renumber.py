@@ -137,4 +137,4 @@ def test_as_every_tool():
 
 
 if __name__ == "__main__":
-    run_all(globals(), "renumber")
+    run_all(globals(), "lagoon renumber")
