@@ -1,15 +1,21 @@
 #!/usr/bin/env python3
-"""What pages cite is there: every file, every name that is cited from a file, every quoted line.
+"""What pages cite is there: every file, every name that is cited from a file, every quoted line; and every link leads somewhere.
 
     python3 tests/cites.py docs/PROMISES.md docs/CALLS.md
+    python3 tests/cites.py --as docs/PROMISES.md copy.md    a page as if it stood there
+    python3 tests/cites.py --link docs/PROMISES.md          makes links of the cited paths, and the list of links at the page's end
     python3 tests/cites.py --landed docs/PROMISES.md        takes the mark † off what has come
 
 A path in backticks has to exist, from the top folder or from crates/. Names in backticks after it, as in
 `model/specs/Step.antt`: `lo`, `hi` and `moved`, have to be defined in that file. A block whose fence names a file, as in
 ```text calls/stdout, quotes it: its lines stand there in this order, without a gap but at a line of three dots.
 A path marked with a dagger, †, is planned: it has to be missing, so that the mark goes when the thing comes.
+A link [words](target) leads to a file, to a heading or to a heading of a file. A page that ends with <!-- links --> and a list has
+every cited path as a link by its own name, [`model/specs/Step.antt`], and so a heading, [Stage 1: upwind]: it can be read as plain text, and
+the list below says where each leads. --link writes it.
 """
 
+import os
 import re
 import sys
 from pathlib import Path
@@ -20,6 +26,10 @@ SPAN = re.compile(r"([^`]*)`([^`]+)`( ?†)?")
 JOINED = re.compile(r": |, | and |, and ")
 PATH = re.compile(r"[\w.-]+(/[\w.-]+)*/[\w.-]+(\.\w+)?/?|[\w-]+\.(txt|md)")
 FENCE = re.compile(r"```\w+ (\S*/\S*)( †)?")
+LINK = re.compile(r"(!?)\[(`[^`]+`|[^\[\]`]+)\](\([^()]*\))?|`[^`]*`")
+LINKED_SPAN = re.compile(r"\[(`[^`]+`)\](\([^()]*\))?")
+HEADING = re.compile(r"#+ (.*)")
+LIST = "<!-- links -->"
 MARKED = re.compile(r"(`([^`\n]+)`|^```\w+ (\S*/\S*)) ?†", re.MULTILINE)
 DEFINED = {
     ".antt": r"^\s*(unfoldable |abbrev )?(pub )?(record |data )?{}(?=[ :({{]|$)",
@@ -50,7 +60,7 @@ def path_faults(path, planned):
 def span_faults(line):
     """The paths of one line, and the names that are joined to them."""
     faults, count, file, awaited = [], 0, None, False
-    for before, words, planned in SPAN.findall(line):
+    for before, words, planned in SPAN.findall(LINKED_SPAN.sub(r"\1", line)):
         joined = (file or awaited) and JOINED.fullmatch(before)
         if PATH.fullmatch(words):
             count += 1
@@ -63,6 +73,79 @@ def span_faults(line):
             if not defined(words, file):
                 faults.append(f"{words} is not defined in {file.relative_to(ROOT)}")
     return faults, count
+
+
+def anchor(heading):
+    """The name by which a heading is linked to, as Markdown readers make it."""
+    return re.sub(r"[^\w\- ]", "", heading.lower()).replace(" ", "-")
+
+
+def prose(text):
+    """The lines of a page outside its blocks."""
+    within = False
+    for line in text.splitlines():
+        fence = line.startswith("```")
+        if not fence and not within:
+            yield line
+        within ^= fence
+
+
+def headings(text):
+    return [found[1] for found in map(HEADING.fullmatch, prose(text)) if found]
+
+
+def with_links(text, place):
+    """A page with a link for each cited path that is there, and the list of all links at its end."""
+    def link(mark):
+        path = mark[0].strip("`")
+        return f"[{mark[0]}]" if mark[2] is None and PATH.fullmatch(path) and found(path) else mark[0]
+
+    lines, within = [], False
+    for line in text.split(LIST)[0].rstrip("\n").splitlines():
+        fence = line.startswith("```")
+        within ^= fence
+        lines.append(line if fence or within or line.startswith("#") else LINK.sub(link, line))
+    body = "\n".join(lines)
+    labels = {mark[2] for line in prose(body) for mark in LINK.finditer(line) if mark[2] and not mark[3]}
+    named = [f"[{heading}]: #{anchor(heading)}" for heading in headings(body) if heading in labels]
+    paths = sorted(label.strip("`") for label in labels if label.startswith("`"))
+    files = [f"[`{path}`]: {os.path.relpath(found(path), (ROOT / place).parent)}" for path in paths if found(path)]
+    return "\n".join([body, "", LIST, "", *named, *files, ""])
+
+
+def link_faults(text, place):
+    """Links that lead nowhere, and a list that is not the one of this page."""
+    faults, count = [], 0
+    body = text.split(LIST)[0]
+    own = [anchor(heading) for heading in headings(body)]
+    labels = set(headings(body))
+    for line in prose(body):
+        for mark in LINK.finditer(line):
+            label, target = mark[2], mark[3]
+            if label is None or (target is None and LIST not in text):
+                continue
+            count += 1
+            if target is None:
+                good = found(label.strip("`")) if label.startswith("`") else label in labels
+                faults += [] if good else [f"[{label}] is no heading of this page and no path"]
+            else:
+                faults += target_faults(target[1:-1], place, own)
+    if LIST in text:
+        faults += [f"two headings are called {name}" for name in sorted({name for name in own if own.count(name) > 1})]
+        if with_links(text, place) != text:
+            faults.append("a path is no link, or the list of links is another: tests/cites.py --link makes it")
+    return [f"{place}: {fault}" for fault in faults], count
+
+
+def target_faults(target, place, own):
+    file, _, name = target.partition("#")
+    if "://" in target:
+        return []
+    path = place.parent / file if file else None
+    if path is not None and not path.exists():
+        return [f"{target} is not there"]
+    names = own if path is None else [anchor(heading) for heading in headings(path.read_text())] if name else [""]
+    return [] if name in names else [f"no heading is called {target}"]
 
 
 def quoted(lines, path):
@@ -78,9 +161,11 @@ def quoted(lines, path):
     return []
 
 
-def page_faults(page):
-    faults, count, block = [], 0, None
-    for number, line in enumerate(page.read_text().splitlines(), 1):
+def page_faults(page, place):
+    text = page.read_text()
+    faults, count = link_faults(text, place)
+    block = None
+    for number, line in enumerate(text.split(LIST)[0].splitlines(), 1):
         here, cited = [], 0
         fence = FENCE.fullmatch(line)
         if block is not None:
@@ -112,13 +197,16 @@ def main():
     if len(sys.argv) < 2 or "--help" in sys.argv:
         print(__doc__)
         return 0 if "--help" in sys.argv else 2
-    if sys.argv[1] == "--landed":
+    if sys.argv[1] in ("--landed", "--link"):
         for page in map(Path, sys.argv[2:]):
-            landed(page)
+            landed(page) if sys.argv[1] == "--landed" else page.write_text(with_links(page.read_text(), page))
         return 0
     faults, count = [], 0
-    for page in map(Path, sys.argv[1:]):
-        more, cited = page_faults(page)
+    pages = [(Path(page), Path(page)) for page in sys.argv[1:]]
+    if sys.argv[1] == "--as":
+        pages = [(Path(sys.argv[3]), Path(sys.argv[2]))]
+    for page, place in pages:
+        more, cited = page_faults(page, place)
         faults, count = faults + more, count + cited
     for fault in faults:
         print(fault)

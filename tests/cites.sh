@@ -1,6 +1,6 @@
 #!/usr/bin/env bash
-# Every file, name and quoted line that README.md, the pages of docs/ and the landing notes cite is there, and the crates stand under the same
-# headings everywhere, and every must-fail edit is one that rt reads whole; and the tests do find what is wrong.
+# Every file, name and quoted line that README.md, the pages of docs/ and the landing notes cite is there and every link leads somewhere, the
+# crates stand under the same headings everywhere, and every must-fail edit is one that rt reads whole; and the tests do find what is wrong.
 set -eu
 cd "$(dirname "$0")/.."
 python3 tests/cites.py README.md docs/*.md docs/landings/*.md
@@ -10,12 +10,20 @@ trap 'rm -r "$made"' EXIT
 found() { # PAGE SED-EXPRESSION: the page changed by it has to be refused
   sed "$2" "$1" > "$made/page.md"
   if cmp -s "$1" "$made/page.md"; then echo "$2 changes nothing in $1"; exit 1; fi
-  if python3 tests/cites.py "$made/page.md" > "$made/said" 2>&1; then echo "$2 in $1 is not found"; exit 1; fi
+  if python3 tests/cites.py --as "$1" "$made/page.md" > "$made/said" 2>&1; then echo "$2 in $1 is not found"; exit 1; fi
 }
+cp docs/PROMISES.md "$made/page.md"
+python3 tests/cites.py --as docs/PROMISES.md "$made/page.md" > "$made/said"     # what stands there unchanged is right
 found docs/PROMISES.md 's/`refused-promise`/`refused-promises`/'
-found docs/PROMISES.md 's,`limiter/must-fail/plain_upwind.edit`,`transport/must-fail/plain.edit`,'
-found docs/PROMISES.md 's,`transport/specs/Promise.antt`,`transport/specs/Promise.antt` †,'
+found docs/PROMISES.md 's,`limiter/must-fail/plain_upwind.edit`,`transport/must-fail/plain.edit`,g'
+found docs/PROMISES.md 's,\[`transport/specs/Promise.antt`\],`transport/specs/Promise.antt` †,'
 found docs/PROMISES.md 's/: `_andThen_` and `each`/: `_andThen_` and `eachOf`/'
+found docs/PROMISES.md 's/| \[Stage 1: upwind\]/| [Stage 1: upwinds]/'
+found docs/PROMISES.md 's/^### Stage 1: upwind/### Stage 1/'
+found docs/PROMISES.md 's,\[`judging/src/lib.rt`\],`judging/src/lib.rt`,'
+found docs/PROMISES.md '/^\[`zeros.src.lib.rt`\]:/d'
+found docs/PROMISES.md 's,: \.\./crates/zeros/src/lib.rt,: ../crates/zeros/src/lib.antt,'
+found docs/ACCURACY.md 's/(accuracy.svg)/(accurate.svg)/'
 found docs/CALLS.md 's/^total: accepted 200000/total: accepted 200001/'
 found docs/CALLS.md 's/^    masses: &\[u64\],/    masses: \&[u32],/'
 found docs/landings/S-04.md 's,`kept/specs/Store.antt`,`store/specs/Store.antt`,'
