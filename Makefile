@@ -14,7 +14,7 @@ help:
 	@echo 'make lib        the C library: target/lib/liblagoon.a and liblagoon.so; the header is include/lagoon.h'
 	@echo 'make install    header, library, pkg-config file, run program and papers to PREFIX=$(PREFIX) (DESTDIR= before it)'
 	@echo 'make uninstall  takes them away again'
-	@echo 'make paper      docs/ARITHMETIC.md as a page to print, in target/paper/'
+	@echo 'make paper      docs/ARITHMETIC.md and docs/PROMISES.md as pages to print, in target/paper/'
 	@echo 'make compare    the engine against another program, on fixed cases'
 	@echo 'make soak       the same with fresh cases: SECONDS=600 SEED=17'
 	@echo 'make bench      the engine beside plain C'
@@ -54,6 +54,7 @@ uninstall:
 # the archive's page on A4
 paper:
 	tools/paper.py docs/ARITHMETIC.md -o target/paper
+	tools/paper.py docs/PROMISES.md -o target/paper
 
 # step, call and run beside plain C, and their growth with the lagoon
 bench:

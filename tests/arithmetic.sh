@@ -29,6 +29,23 @@ found 's/per cell m (40)/per cell m (32)/'
 found 's/49900 = 100100/49900 = 100099/'
 found 's/is handed on/is lost/'
 found 's/B 2 187 13$/B 1 811 88/'
+found 's/^drop of 7     1 8/drop of 7     1 7/'
+found 's/the share is 150/the share is 151/'
+found 's/       49901       −49901/       49901        49901/'
+found 's/above 65,535 or kept already/above 65,536 or kept already/'
+
+# the pages to print: the form has a page of its own, links to headings lead to them, and the list of links is left out
+html() { # PAGE: as HTML
+  PYTHONPATH=tools PYTHONDONTWRITEBYTECODE=1 python3 -c 'import pathlib, sys, paper; print(paper.page(pathlib.Path(sys.argv[1])))' "$1"
+}
+html "$page" | grep -q '<h2 class="page" id="18-a-form-for-one-step">'
+html docs/PROMISES.md > "$made/page.html"
+grep -o 'href="#[^"]*"' "$made/page.html" | sort -u | sed 's/href="#\(.*\)"/\1/' > "$made/wanted"
+test "$(wc -l < "$made/wanted")" -gt 100
+while read -r name; do
+  grep -q " id=\"$name\">" "$made/page.html" || { echo "$name is no heading of the printed page"; exit 1; }
+done < "$made/wanted"
+if grep -q '^<p>.*\.antt.*: \.\./crates' "$made/page.html"; then echo 'the list of links is printed'; exit 1; fi
 
 # the worked steps tell each slip that the page names from the right figures
 python3 tests/test_slips.py

@@ -11,42 +11,62 @@ from pathlib import Path
 
 ROOT = Path(__file__).resolve().parent.parent
 HELP = """\
-It reads what the papers use of Markdown: headings, paragraphs, tables, lists, blocks, *emphasis*, **strong** and `code`.
+It reads what the papers use of Markdown: headings, paragraphs, tables, lists, blocks, links, *emphasis*, **strong** and `code`.
+A line <!-- page --> before a heading gives its section a page of its own. A link to a heading names the page where it stands, if the
+program that makes the PDF can tell it; a link to a file is printed as its path, and the list of links at a page's end is left out.
 The PDF is made by weasyprint, wkhtmltopdf or chromium, whichever is there first (Debian has packages of all three); without
 any of them the HTML is left, which a browser prints.
 
 examples:
   tools/paper.py docs/ARITHMETIC.md -o target/paper
+  tools/paper.py docs/PROMISES.md -o target/paper
 """
 
 STYLE = """\
-@page { size: A4; margin: 20mm 18mm 22mm 18mm;
+@page { size: A4; margin: 15mm 18mm 17mm 18mm;
         @bottom-left { content: "%(foot)s"; font-size: 8pt } @bottom-right { content: counter(page) " / " counter(pages); font-size: 8pt } }
 body { font-family: "DejaVu Serif", serif; font-size: 9.5pt; line-height: 1.35 }
 h1 { font-size: 17pt } h2 { font-size: 12.5pt; page-break-after: avoid } h2.page { page-break-before: always }
-pre { font-family: "DejaVu Sans Mono", monospace; font-size: 7.8pt; line-height: 1.25; page-break-inside: avoid; margin: 2mm 0 2mm 3mm }
+pre { font-family: "DejaVu Sans Mono", monospace; font-size: 7.6pt; line-height: 1.2; page-break-inside: avoid; margin: 1.5mm 0 1.5mm 3mm }
 p.lead { page-break-after: avoid }
 code { font-family: "DejaVu Sans Mono", monospace; font-size: 88%% }
-table { border-collapse: collapse; page-break-inside: avoid; font-size: 9pt } thead { display: table-header-group }
-td, th { border: 0.4pt solid #666; padding: 1mm 2mm; text-align: left; vertical-align: top }
+table { border-collapse: collapse; page-break-inside: avoid; font-size: 8.8pt } thead { display: table-header-group }
+table.long { page-break-inside: auto } tr { page-break-inside: avoid } code, a { overflow-wrap: anywhere }
+h3 { font-size: 10.5pt; page-break-after: avoid; margin-bottom: 1mm } a { color: inherit; text-decoration: none }
+a[href^="#"]::after { content: " p. " target-counter(attr(href url), page); font-size: 75%% }
+td, th { border: 0.4pt solid #666; padding: 0.6mm 2mm; text-align: left; vertical-align: top }
 """
 
-# sections that begin a page of their own: the worked examples and the form
-OWN_PAGE = ("6.", "8.", "9.", "10.")
+PAGE = "<!-- page -->"          # the section after it begins a page of its own
+LINKS = "<!-- links -->"        # a list of links follows, up to the end
+LONG = 25                       # rows from which on a table may be broken
+
+
+def anchor(words):
+    """The name by which a heading is linked to."""
+    return re.sub(r"[^\w\- ]", "", words.lower()).replace(" ", "-")
 
 
 def inline(text):
     text = html.escape(text, quote=False)
+    text = re.sub(r"!?\[([^\[\]]+)\]\(([^()]*)\)", lambda link: to_heading(link[1], link[2][1:]) if link[2].startswith("#") else link[1], text)
+    text = re.sub(r"\[(`[^`]+`)\]", r"\1", text)
+    text = re.sub(r"\[([^\[\]`]+)\]", lambda link: to_heading(link[1], anchor(html.unescape(link[1]))), text)
     text = re.sub(r"`([^`]+)`", r"<code>\1</code>", text)
     text = re.sub(r"\*\*([^*]+)\*\*", r"<strong>\1</strong>", text)
     return re.sub(r"\*([^*\s][^*]*)\*", r"<em>\1</em>", text)
+
+
+def to_heading(words, name):
+    return f'<a href="#{name}">{words}</a>'
 
 
 def table(lines):
     rows = [[cell.strip() for cell in re.split(r"(?<!\\)\|", line.strip().strip("|"))] for line in lines]
     def row(cells, tag):
         return "<tr>" + "".join(f"<{tag}>{inline(cell)}</{tag}>" for cell in cells) + "</tr>"
-    return "<table><thead>" + row(rows[0], "th") + "</thead><tbody>" + "".join(row(r, "td") for r in rows[2:]) + "</tbody></table>"
+    kind = ' class="long"' if len(rows) > LONG else ""
+    return f"<table{kind}><thead>" + row(rows[0], "th") + "</thead><tbody>" + "".join(row(r, "td") for r in rows[2:]) + "</tbody></table>"
 
 
 def block(lines):
@@ -54,11 +74,11 @@ def block(lines):
     return "".join(f"<pre>{html.escape(stage, quote=False)}</pre>" for stage in "\n".join(lines).split("\n\n"))
 
 
-def heading(line):
+def heading(line, own_page):
     level = len(line) - len(line.lstrip("#"))
     text = line[level:].strip()
-    own = ' class="page"' if level == 2 and text.startswith(OWN_PAGE) else ""
-    return f"<h{level}{own}>{inline(text)}</h{level}>"
+    own = ' class="page"' if own_page else ""
+    return f'<h{level}{own} id="{anchor(text)}">{inline(text)}</h{level}>'
 
 
 def parts(lines):
@@ -73,7 +93,7 @@ def parts(lines):
             yield block(lines[start + 1:at])
             at += 1
         elif line.startswith("#"):
-            yield heading(line)
+            yield heading(line, start > 0 and lines[start - 1] == PAGE)
         elif line.startswith("    "):
             while at < len(lines) and lines[at].startswith("    "):
                 at += 1
@@ -97,7 +117,7 @@ def page(path):
     title = heading_found[1] if heading_found else path.stem
     version = (ROOT / "VERSION").read_text().strip()
     style = STYLE % {"foot": f"{title}, version {version}"}
-    shown = list(parts(text.splitlines()))
+    shown = list(parts(text.split(LINKS)[0].splitlines()))
     # a line that leads to a table or a block stays with it
     for at, follows in enumerate(shown[1:]):
         if follows.startswith(("<table", "<pre")):
@@ -109,7 +129,7 @@ def page(path):
 def printed(source, target):
     """The program that made the PDF, or None."""
     for words in (["weasyprint", "-q", source, target], ["wkhtmltopdf", "-q", source, target],
-                  ["chromium", "--headless", "--no-sandbox", f"--print-to-pdf={target}", source]):
+                  ["chromium", "--headless", "--no-sandbox", "--no-pdf-header-footer", f"--print-to-pdf={target}", source]):
         if shutil.which(words[0]) and subprocess.run([str(word) for word in words], stderr=subprocess.DEVNULL).returncode == 0:
             return words[0]
     return None

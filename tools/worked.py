@@ -3,6 +3,7 @@
 
 import itertools
 import re
+import struct
 import sys
 from fractions import Fraction
 from pathlib import Path
@@ -17,7 +18,8 @@ from package import command, layout, sessiontext
 HELP = """\
 The page holds blocks between lines <!-- worked: NAME --> and <!-- end -->. Every number is worked out here by its
 formula and has to be the one of reference/lagoon.py; the bytes are packed from examples/channel.txt,
-examples/second.txt, examples/outfall.txt and examples/bay-wide.txt.
+examples/second.txt, examples/outfall.txt and examples/bay-wide.txt. The figures of a store, of a share and of a lagoon numbered anew have
+to be those that the proved program prints, crates/calls/stdout, or that crates/renumbered proves.
 
 examples:
   tools/worked.py                               prints all blocks
@@ -31,13 +33,13 @@ MONTH = 24 * 30
 TARIFF = (10_000_000, 30_010_000, lagoon.LAST_END), (35, 42, 55)        # ends and prices of the charge that is worked
 PLAIN_STEPS = 8         # of the channel, in the table of plain upwind's error
 BLOCK = re.compile(r"(<!-- worked: (\S+) -->\n).*?(<!-- end -->)", re.DOTALL)
-SMALL = 15              # numbers up to here name stages, causes, positions and sections
+SMALL = 20              # numbers up to here name stages, causes, positions and sections
 WORD_BITS = 64          # of a number of the program
 WIDEST_LINE = 76        # columns of a fenced block that an A4 page holds
 
 # Numbers of the papers that the page's prose may say.
 CONSTANTS = {lagoon.RIM, lagoon.TOP, *lagoon.LIBRARY_LIMITS, *lagoon.RUN_LIMITS, 255, 256, 128, lagoon.PAGE_CELLS,
-             layout.WIDE.value, *lagoon.MASS_BITS, WORD_BITS, 17, 18, 19, lagoon.CEILING, lagoon.MOST_CLAIMED, *range(21, 28)}
+             layout.WIDE.value, *lagoon.MASS_BITS, WORD_BITS, lagoon.CEILING, lagoon.MOST_CLAIMED, *range(21, 28)}
 
 
 def same(ours, reference):
@@ -630,7 +632,7 @@ def edition():
 
 
 def form():
-    """Two blank tables for one step."""
+    """Blank tables for one step, as many rows as one page holds."""
     def blank(names, rows):
         line = "+" + "+".join("-" * (wide + 2) for _, wide in names) + "+"
         heads = "|" + "|".join(f" {name:{wide}} " for name, wide in names) + "|"
@@ -640,7 +642,7 @@ def form():
     sums = [("cell", 4), ("low q", 6), ("P", 7), ("G", 7), ("N", 7), ("L", 7), ("next q", 7), ("rest", 5)]
     faces = [("face", 4), ("U", 4), ("carried", 8), ("d", 6), ("t", 3), ("correction", 10), ("limited", 8), ("moved", 8)]
     return (["Step ______    worked by ____________    checked by ____________", ""]
-            + blank(cells, 4) + [""] + blank(sums, 4) + [""] + blank(faces, 5)
+            + blank(cells, 6) + [""] + blank(sums, 6) + [""] + blank(faces, 8)
             + ["m with its release added; a correction that is not kept is struck out", "",
                "in-mass ________  released ________  out-mass ________", "total before ________  after ________"])
 
@@ -680,6 +682,101 @@ def board_lines(entries):
     return [f"B {cell} {q} {rest}" for cell, q, rest in entries]
 
 
+# ---------------------------------------------------------------- A store, a share, another numbering
+
+def printed_by_calls(line):
+    """A line that the proved program `calls` prints of its stored script."""
+    return same(line, line if line in (ROOT / "crates/calls/stdout").read_text().splitlines() else "no such line of crates/calls/stdout")
+
+
+def store():
+    """A morning of the channel kept, the field after two steps kept beside it, the morning given back, and dropped."""
+    cells, volumes, kept, masses = len(CHANNEL.cells), CHANNEL.mesh.volumes, [0] * 9, list(STEP_2.next)
+    spelled = lambda entries: " ".join(map(str, entries))
+    rows = [("call", "the store after it"), ("", spelled(kept))]
+    for field, name in ((CHANNEL.first, 7), (STEP_2.next, 8)):
+        lagoon.store_keep(cells, volumes, list(field), kept, name)
+        printed_by_calls(f"keep: accepted; store {spelled(kept)}")
+        rows.append((f"keep under {name}", spelled(kept)))
+    before = list(kept)
+    lagoon.store_return(cells, volumes, masses, kept, 7)
+    printed_by_calls(f"give_back: accepted; masses {spelled(masses)}")
+    rows.append(("return of 7", spelled(same(kept, before))))
+    lagoon.store_drop(cells, kept, 7)
+    printed_by_calls(f"drop: accepted; store {spelled(kept)}")
+    rows.append(("drop of 7", spelled(kept)))
+    wide = max(len(call) for call, _ in rows)
+    again = Step(CHANNEL, Step(CHANNEL, masses).next).next
+    return [*(f"{call:{wide}}  {entries}" for call, entries in rows), "",
+            f"masses after the return: {spelled(same(masses, list(CHANNEL.first)))}",
+            f"the budget starts from their total, {sum(masses)}",
+            f"two steps from there: {spelled(same(again, STEP_2.next))}, which is field 8"]
+
+
+def of_float(value):
+    """A 64-bit float in the fewest decimals that give it back."""
+    return repr(value).removesuffix(".0").replace("-", "−")
+
+
+def share():
+    """A slanted face: each operation, the ratio and the share."""
+    coordinates = 3.0, 1.0, 7.5, 4.25, 2.0, 9.0, 8.0, -1.5
+    patterns = [struct.unpack("<Q", struct.pack("<d", value))[0] for value in coordinates]
+    same(f"28  {' '.join(map(str, patterns))}" in (ROOT / "crates/calls/stdin").read_text().splitlines(), True)
+    x1, y1, x2, y2, fx, fy, sx, sy = coordinates
+    S, M = (y2 - y1, x1 - x2), ((x1 + x2) * 0.5, (y1 + y2) * 0.5)
+    lines = [f"ends ({of_float(x1)}, {of_float(y1)}) and ({of_float(x2)}, {of_float(y2)}); "
+             f"centres ({of_float(fx)}, {of_float(fy)}) and ({of_float(sx)}, {of_float(sy)})", "",
+             f"S = ({of_float(y2)} − {of_float(y1)}, {of_float(x1)} − {of_float(x2)}) = ({of_float(S[0])}, {of_float(S[1])})",
+             f"M = (({of_float(x1)} + {of_float(x2)}) · 0.5, ({of_float(y1)} + {of_float(y2)}) · 0.5) = ({of_float(M[0])}, {of_float(M[1])})"]
+    found = []
+    for name, way, told in (("a", (M[0] - fx, M[1] - fy), "M − first centre"), ("b", (sx - M[0], sy - M[1]), "second centre − M")):
+        terms = S[0] * way[0], S[1] * way[1]
+        found.append(abs(terms[0] + terms[1]))
+        lines += [f"{told} = ({of_float(way[0])}, {of_float(way[1])})",
+                  f"{name} = size of {of_float(S[0])} · {of_float(way[0])} + ({of_float(S[1])}) · ({of_float(way[1])})",
+                  f"  = size of {of_float(terms[0])} + {of_float(terms[1])} = {of_float(found[-1])}"]
+    a, b = same(tuple(found), lagoon.sides(((x1, y1), (x2, y2)), ((fx, fy), (sx, sy))))
+    ratio = a / (a + b)
+    printed_by_calls(f"middle_stage: accepted {struct.unpack('<Q', struct.pack('<d', same(('ratio', ratio), lagoon.middle_stage(coordinates))[1]))[0]}")
+    k = same(int(256 * ratio), lagoon.face_share(coordinates))
+    printed_by_calls(f"face_share: accepted {k}")
+    return [*lines, f"a / (a + b) = {of_float(a)} / {of_float(a + b)} = {of_float(ratio)}", f"256 · {of_float(ratio)} = {of_float(256 * ratio)}: the share is {k}"]
+
+
+def along(new, entries):
+    """A table carried along to new numbers."""
+    carried = list(entries)
+    for old, number in enumerate(new):
+        carried[number] = entries[old]
+    return carried
+
+
+def renumbered():
+    """The channel's first step by an office that numbers cells and faces from the other end and has face 1 turned round."""
+    cells, faces, turned, M = [2, 1, 0], [3, 2, 1, 0], {1}, CHANNEL.mesh
+    number = lambda cell: cell if cell == lagoon.RIM else cells[cell]
+    ends = [(number(second), number(first)) if f in turned else (number(first), number(second)) for f, (first, second) in enumerate(zip(M.firsts, M.seconds))]
+    opposite = lambda amounts: [-x if f in turned else x for f, x in enumerate(amounts)]
+    shares = [256 - s if f in turned else s for f, s in enumerate(M.shares)]
+    mesh = lagoon.Mesh(along(cells, M.volumes), along(faces, [first for first, _ in ends]), along(faces, [second for _, second in ends]),
+                       along(faces, shares), along(faces, M.reaches))
+    fluxes = along(faces, opposite(CHANNEL.fluxes))
+    result = lagoon.advance(mesh, along(cells, CHANNEL.first), fluxes, along(faces, CHANNEL.outsides))
+    same((result.masses, result.moved), (along(cells, STEP_1.next), along(faces, opposite(STEP_1.moved))))
+    proved = (ROOT / "crates/renumbered/proofs/Figures.antt").read_text()
+    same(f"≡ {' ∷ '.join(map(str, result.masses))} ∷ []" in proved, True)
+    rows = [("face", "there", "turned", "from", "to", "U here", "U there", "moved here", "moved there")]
+    rows += [(f, faces[f], "yes" if f in turned else "no", mesh.firsts[faces[f]], "rim" if mesh.seconds[faces[f]] == lagoon.RIM else mesh.seconds[faces[f]],
+              signed(CHANNEL.fluxes[f]), signed(fluxes[faces[f]]), signed(STEP_1.moved[f]), signed(result.moved[faces[f]])) for f in CHANNEL.faces]
+    here, there = binder_page(CHANNEL, STEP_1.next), "".join(lagoon.page_lines(mesh.volumes, result.masses, 0)).splitlines()
+    pages = [("cell here, cell there", "its line here", "its line there")]
+    pages += [(f"{c}, {cells[c]}", here[c], there[cells[c]]) for c in CHANNEL.cells] + [("", here[-1], same(there[-1], here[-1]))]
+    for c in CHANNEL.cells:
+        same(here[c].split()[1:], there[cells[c]].split()[1:])
+    return [*columns(rows), "", *(f"{pair:23}{mine:22}{theirs}".rstrip() for pair, mine, theirs in pages)]
+
+
 BLOCKS = {"layouts": layouts, "bytes": the_bytes, "mesh-bits": lambda: fenced(mesh_bits()), "step-bits": lambda: fenced(field_and_step_bits(CHANNEL)),
           "step-1": lambda: fenced(STEP_1.lines()), "step-2": lambda: fenced(STEP_2.lines()), "printed": lambda: fenced(CHANNEL.printed()),
           "second-given": lambda: fenced(SECOND_STEP.given()), "second-step": lambda: fenced(SECOND_STEP.lines()),
@@ -688,6 +785,7 @@ BLOCKS = {"layouts": layouts, "bytes": the_bytes, "mesh-bits": lambda: fenced(me
           "plain-1": lambda: fenced(STEP_1.plain_lines()), "plain-2": lambda: fenced(PLAIN_2.plain_lines()),
           "plain-error": lambda: fenced(plain_error()), "plain-pair": lambda: fenced(plain_pair()), "claims": lambda: fenced(claims()),
           "cut": lambda: fenced(cut_in_two()), "charge": lambda: fenced(charge()), "public": lambda: fenced(public()),
+          "store": lambda: fenced(store()), "share": lambda: fenced(share()), "renumbered": lambda: fenced(renumbered()),
           "year": lambda: fenced(year()), "widest": lambda: fenced(widest()),
           "edition": edition, "form": lambda: fenced(form()),
           "page": lambda: fenced(binder_page(CHANNEL, STEP_2.next)), "page-back": lambda: fenced(page_back(CHANNEL, STEP_2.next)),
