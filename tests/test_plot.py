@@ -260,7 +260,7 @@ def test_no_picture():
                                     (["--cells", ""], data, "--cells: '' is no cell"), (["--cells", "2-1"], data, "'2-1' is no range"),
                                     (["--cells", "0,x"], data, "lagoon plot: --cells: 'x' is no cell"), (["--profile", "3"], data, "there is no step 3, the last is 2"),
                                     (["--profile", "x"], data, "'x' is neither a step nor 'last'"), (["--profile", ""], data, "'' is neither a step"),
-                                    (["--csv", "-"], data, "cannot both be on standard output")):
+                                    (["--csv", "-"], data, "cannot both be standard output")):
         refuses(words, "plot", *arguments, data=given)
     for value in ("0", "x", "9" * 5000):
         refuses("a whole number from 1", "plot", "--every", value, data=data, status=2)

@@ -361,10 +361,6 @@ def arguments(words):
 
 def main(words):
     options = arguments(words)
-    for output in (options.output, options.csv):
-        if output:
-            command.apart(output, options.file)
-    if options.output == options.csv == "-":
-        raise Bad("the picture and --csv cannot both be on standard output")
+    command.keep_apart([options.output, options.csv], [options.file, *engine.read_by(options)])
     return run(options)
 
