@@ -215,7 +215,7 @@ def rounding(title, rings, engine):
 
 # ---------------------------------------------------------------- Picture
 
-PANEL, HIGH, EDGE, GAP = 400, 220, 44, 52       # the width and height of a panel, the edge around, between panels
+PANEL, HIGH, EDGE, GAP = 400, 220, 60, 68       # the width and height of a panel, the edge around, between panels
 
 
 def polyline(points, style):
@@ -242,6 +242,9 @@ def panel(left, title, exact, upwind, corrected):
         parts.append(text(x - 6, y + 4, f"{value:g}", 'text-anchor="end"'))
     for x in (0, 0.25, 0.5, 0.75, 1):
         parts.append(text(place(x, 0)[0], place(0, 0)[1] + 18, f"{x:g}", 'text-anchor="middle"'))
+    (x, y), (middle, _) = place(0, 0.55), place(0.5, 0)
+    parts.append(text(middle, place(0, 0)[1] + 36, "way round the ring", 'text-anchor="middle"'))
+    parts.append(text(x - 42, y, "concentration / greatest", f'text-anchor="middle" transform="rotate(-90 {x - 42:.1f} {y:.1f})"'))
     parts.append(polyline(stairs(exact, place), 'stroke="#777" stroke-width="1.2"'))
     parts.append(polyline(centres(upwind), 'stroke="#c25400" stroke-width="2" stroke-dasharray="6 4"'))
     parts.append(polyline(centres(corrected), 'stroke="#0b5fa5" stroke-width="2"'))
@@ -260,7 +263,7 @@ def legend(y):
 
 def picture(engine):
     """Both profiles after one turn, as SVG."""
-    wide, high = 2 * (EDGE + PANEL) + GAP, EDGE + HIGH + 62
+    wide, high = 2 * (EDGE + PANEL) + GAP, EDGE + HIGH + 80
     parts = [f'<svg xmlns="http://www.w3.org/2000/svg" viewBox="0 0 {wide} {high}" width="{wide}" height="{high}" '
              'font-family="sans-serif" font-size="12" fill="#222">',
              f'<rect width="{wide}" height="{high}" fill="#fff"/>']

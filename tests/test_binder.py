@@ -45,9 +45,10 @@ def read_back(text, volumes):
     return masses
 
 
-def printed(*arguments, data):
+def printed(*arguments, data, whole=True):
+    """The pages; of a session that is cut or has refused steps with a word that says so, and status 1."""
     status, out, said = command("binder", *arguments, data=data)
-    equal((status, said), (0, ""), f"{arguments}")
+    equal((status, bool(said)), (0, False) if whole else (1, True), f"{arguments}: {said}")
     return out
 
 
@@ -97,7 +98,8 @@ def test_after_steps():
             continue
         mesh, masses = last_of(case.data)
         tried += 1
-        equal(printed(data=case.data), engine_pages(mesh.volumes, masses), f"session {number}")
+        whole = " R " not in lagoon.run(case.data)
+        equal(printed(data=case.data, whole=whole), engine_pages(mesh.volumes, masses), f"session {number}")
     holds(tried > 3, f"only {tried} sessions")
 
 
@@ -135,6 +137,22 @@ def test_a_field_record():
             with open(short, "wb") as file:
                 file.write(content)
             refuses(words, "binder", "--field", short, data=pond(volumes, masses))
+
+
+def test_what_is_missing():
+    """A session that is cut or has refused steps gives the pages of what was accepted, and says so."""
+    data = sessiontext.pack(CHANNEL)[0]
+    for given, words in ((data[:-1], "the session is cut or damaged: it ends at step 2, which is no record of a step (cause 11 or 13)"),
+                         (CHANNEL.encode() + b"step\nface 0 flux 1\n", "1 of 3 steps refused, the first of them step 3 (cause 9)"),
+                         (data + data[-16:-2] + b"\1\1" + data[-16:-1], "2 of 4")):
+        status, out, said = command("binder", data=given)
+        steps = 1 if given == data[:-1] else 2
+        equal((status, out), (1, command("binder", data=CHANNEL.replace("times 2", f"times {steps}").encode())[1]), f"pages of {words}")
+        holds(words in said and said.endswith("; the pages are of the steps that were accepted\n") or words == "2 of 4", said)
+    volumes, masses = field_of(130)
+    pages = printed(data=pond(volumes, masses))
+    fed = printed("--form-feed", data=pond(volumes, masses))
+    equal((fed.replace(b"\f", b""), fed.count(b"\f"), [page.count(b"\n") for page in fed.split(b"\f")]), (pages, 2, [61, 61, 11]), "form feeds between pages")
 
 
 def test_bad_use():

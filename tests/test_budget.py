@@ -35,6 +35,24 @@ def test_the_tide():
     holds("1 step refused by cause 9: a cell whose inflow and outflow differ\n  step 25: cell 0: 300 enters, 299 leaves (cause 9)\n" in report, report)
 
 
+def test_any_step():
+    """The field after any step, refused ones included, is what the same steps alone end with."""
+    with folder() as made:
+        for step, steps in ((0, ""), (3, "step times 3\n"), (10, "step times 10\n")):
+            equal(command("budget", ROOT / "examples" / "tide.txt", "--field", f"{made}/at", "--at", step)[0], 0, f"step {step}")
+            cut = TIDE[:TIDE.index("step times 10")] + (steps + TIDE[TIDE.index("face 0 flux -300"):TIDE.index("step times 14")] if steps else "")
+            equal(command("budget", "--field", f"{made}/alone", data=cut.encode())[0], 0, f"{step} steps alone")
+            with open(f"{made}/at", "rb") as at, open(f"{made}/alone", "rb") as alone:
+                equal(at.read(), alone.read(), f"the field after step {step}")
+        for step in (24, 25):
+            command("budget", ROOT / "examples" / "tide.txt", "--field", f"{made}/{step}", "--at", step)
+        with open(f"{made}/24", "rb") as before, open(f"{made}/25", "rb") as after:
+            equal(before.read(), after.read(), "a refused step changes nothing")
+    refuses("--at 50: the session has 49 steps", "budget", ROOT / "examples" / "tide.txt", "--at", "50", "--field", "/dev/null")
+    refuses("--at says of which step --field is", "budget", "--at", "5", data=CHANNEL.encode())
+    refuses("two outputs cannot both be standard output", "budget", "--csv", "-", "--field", "-", data=CHANNEL.encode())
+
+
 def test_beside_the_reference():
     """Sums of the lines that the reference prints, of generated sessions; and every row of --csv."""
     tried = released = 0

@@ -223,7 +223,7 @@ def test_the_command():
     breaks("charge", SESSION, TARIFF, PORTS)
     interrupted("charge", SESSION, "-", PORTS)
     refuses("is read", "charge", SESSION, TARIFF, PORTS, "-o", PORTS)
-    refuses("cannot hold both", "charge", SESSION, TARIFF, PORTS, "-o", "-", "--csv", "-")
+    refuses("cannot both be standard output", "charge", SESSION, TARIFF, PORTS, "-o", "-", "--csv", "-")
     refuses("only one input", "charge", "-", "-", PORTS)
     refuses("nowhere: No such file", "charge", SESSION, TARIFF, "nowhere")
     refuses("nowhere is not there: `rt check calls` makes it", "charge", SESSION, TARIFF, PORTS, "--calls", "nowhere")

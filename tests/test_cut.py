@@ -149,7 +149,7 @@ def test_refusals():
         good = labels_file(made, [(0, 0), (1, 1), (2, 1)])
         refuses("the mesh is refused: cell 0 (Inlet): volume 0", "cut", "-", good, *out, data=NAMED.replace("volume 100", "volume 0", 1).encode())
         refuses("not to standard output", "cut", "-", good, "-o", "-", f"{made}/b", data=channel)
-        refuses("files of their own", "cut", "-", good, "-o", f"{made}/b", f"{made}/b", data=channel)
+        refuses("cannot hold two outputs", "cut", "-", good, "-o", f"{made}/b", f"{made}/b", data=channel)
         refuses("is read: it cannot be written too", "cut", "-", good, "-o", f"{made}/a", good, data=channel)
         refuses("nowhere is not there: `rt check calls` makes it", "cut", "-", good, *out, "--calls", "nowhere", data=channel)
         refuses("asked for cut, says 'M 13 0'", "cut", "-", good, *out, "--calls", RUN, data=channel)

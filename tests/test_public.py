@@ -58,7 +58,8 @@ def test_the_channel():
 
 def test_the_example():
     status, out, said = command("binder", ROOT / "examples" / "tide.txt", "--public", CLOSED, "--board", "-")
-    equal((status, said), (0, ""), "the example")
+    equal((status, said), (1, "lagoon binder: note: 1 of 49 steps refused, the first of them step 25 (cause 9); the pages are of the steps that were accepted\n"),
+          "the example, one step of which is refused")
     _, whole, _ = command("binder", ROOT / "examples" / "tide.txt", "--board", "-")
     lines = whole.decode().splitlines(keepends=True)
     equal(out.decode(), "".join(line for line in lines if line.split()[0] not in "12" and line.split()[:2] not in (["B", "1"], ["B", "2"]) and len(line.split()) > 1),
@@ -110,7 +111,7 @@ def test_bad_use():
         marks.write_text("cell,mark\n1,1\n")
         refuses("nowhere is not there: `rt check calls` makes it", "binder", "--public", marks, "--calls", "nowhere", data=NAMED.encode())
         refuses("asked for public_page, says ''", "binder", "--public", marks, "--calls", "/bin/true", data=NAMED.encode())
-        refuses("cannot hold both", "binder", "--public", marks, "-o", f"{made}/one", "--board", f"{made}/one", data=NAMED.encode())
+        refuses("cannot hold two outputs", "binder", "--public", marks, "-o", f"{made}/one", "--board", f"{made}/one", data=NAMED.encode())
         refuses("is read: it cannot be written too", "binder", "--public", marks, "--board", marks, data=NAMED.encode())
         refuses("only one input can be standard input", "binder", "--public", "-", data=NAMED.encode())
         refuses("No such file", "binder", "--public", f"{made}/none.csv", data=NAMED.encode())

@@ -5,4 +5,4 @@
 set -eu
 cd "$(dirname "$0")/.."
 reference/build.sh
-printf '%s\n' records run budget fluxes plot survey binder renumber judge cut charge public | xargs -P 2 -I NAME python3 tests/test_NAME.py
+printf '%s\n' records run budget fluxes plot export survey binder renumber judge cut charge public | xargs -P 2 -I NAME python3 tests/test_NAME.py

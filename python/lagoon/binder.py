@@ -5,7 +5,7 @@ For growers, or for the public, who are not shown withheld cells."""
 from . import causes, command, engine
 from .calls import Calls, spelled
 from .causes import CELL
-from .command import Bad
+from .command import Bad, count
 from .layout import Damage, Source
 from .rows import Cells, Rows
 from .session import open_session
@@ -19,6 +19,9 @@ its line as q times its volume plus the rest; the masses of all pages add up to 
 The session is text or packed. The engine steps through it, by the C call of the library (`make lib`). With --field no step is made:
 the pages are those of the field record, on the mesh of the session. Pages and board are printed by the proved calls, by the program
 `calls` (`rt check calls`, or --calls).
+
+Where a step of the session is refused, or the session is cut, the pages are of the steps that were accepted; that is said on standard
+error, and the exit status is 1.
 
 With --public the pages have no lines of withheld cells and no masses, and the board is ranked among open cells only; two fields that
 differ in withheld cells alone print the same. MARKS is CSV with a heading; other columns are not read:
@@ -36,7 +39,9 @@ examples:
 
 MOST_BYTES = 61 * 19            # of a page: sixty cells and their mass, in the widest lines
 BEYOND = 14                     # the cause of a page beyond the last
+LENGTH, KIND = 11, 13           # the causes of what is no record of a step
 OPEN, WITHHELD = 0, 1
+FORM_FEED = b"\f"
 
 
 def marks_in(path, session):
@@ -60,13 +65,13 @@ class Printer:
         self.calls, self.public = calls, "public_" if marks else ""
         self.field, self.marks = (len(volumes), spelled(volumes), spelled(masses)), [spelled(marks)] if marks else []
 
-    def pages(self):
-        """The bytes of all pages, one after another."""
+    def pages(self, between=b""):
+        """The bytes of all pages, one after another, with these bytes between them."""
         found, room = [], spelled([0] * MOST_BYTES)
         while True:
             said, left = self.calls.ask(f"{self.public}page", *self.field, len(found), room, *self.marks)
             if said[:2] == ["refused", str(BEYOND)]:
-                return b"".join(found)
+                return between.join(found)
             self.accepted(said)
             found.append(bytes(left["bytes"][:int(said[1])]))
 
@@ -100,10 +105,23 @@ def stored_field(session, path):
 
 
 def last_field(session, options):
-    """The masses after the last step."""
+    """The masses after the last step, and what the reader of the pages has to know of the steps, in words."""
+    refused = []
     for moment in engine.History(session, options.library, options.run).moments():
         masses = moment.masses
-    return masses
+        if moment.refusal:
+            refused.append(moment)
+    return masses, not_whole(refused, moment.number)
+
+
+def not_whole(refused, steps):
+    """What is missing from a session of so many steps; nothing where all were accepted. No figure is named: pages may be for the public."""
+    words = []
+    if refused and refused[-1].refusal.cause in (LENGTH, KIND):
+        words.append(f"the session is cut or damaged: it ends at step {refused.pop().number}, which is no record of a step (cause 11 or 13)")
+    if refused:
+        words.append(f"{len(refused):,} of {count(steps, 'step')} refused, the first of them step {refused[0].number} (cause {refused[0].refusal.cause})")
+    return words
 
 
 def arguments(words):
@@ -114,6 +132,7 @@ def arguments(words):
     parser.add_argument("-o", "--output", metavar="FILE", default="-", help="where the pages go (default: standard output)")
     parser.add_argument("--board", metavar="FILE", help="where the board goes, for the same readers, as lines of the run (default: nowhere)")
     parser.add_argument("--calls", metavar="PROGRAM", help="the program that prints them (default: target/bin/calls, which `rt check calls` makes)")
+    parser.add_argument("--form-feed", action="store_true", help="a form feed between pages, for a printer; it is no part of S-1's bytes")
     engine.options(parser)
     return parser.parse_args(words)
 
@@ -123,11 +142,8 @@ def checked(options):
     inputs = [path for path in (options.file, options.field, options.public, options.library, options.calls) if path]
     if inputs.count("-") > 1:
         raise Bad("only one input can be standard input")
-    for output in (options.output, options.board):
-        if output:
-            command.apart(output, *inputs)
-    if options.board == options.output != "-":
-        raise Bad(f"{options.output} cannot hold both the pages and the board")
+    both = options.board == options.output == "-"           # the board then follows the pages
+    command.keep_apart([options.output, None if both else options.board], [*inputs, *engine.read_by(options)])
 
 
 def main(words):
@@ -135,11 +151,13 @@ def main(words):
     checked(options)
     session = open_session(options.file)
     marks = marks_in(options.public, session) if options.public else None
-    masses = stored_field(session, options.field) if options.field else last_field(session, options)
+    masses, missing = (stored_field(session, options.field), []) if options.field else last_field(session, options)
     printer = Printer(Calls(options.calls), session.mesh.volumes, masses, marks)
-    pages, board = printer.pages(), printer.board() if options.board else b""
+    pages, board = printer.pages(FORM_FEED if options.form_feed else b""), printer.board() if options.board else b""
     printer.calls.finish()
     command.write_whole(options.output, pages)
     if options.board:
         command.write_whole(options.board, board)
-    return 0
+    for words in missing:
+        command.say(f"lagoon binder: note: {words}; the pages are of the steps that were accepted")
+    return 1 if missing else 0

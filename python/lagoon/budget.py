@@ -6,7 +6,7 @@ from collections import Counter
 from fractions import Fraction
 
 from . import causes, command, engine
-from .command import Output, count
+from .command import Bad, Output, count
 from .session import open_session
 
 HELP = """\
@@ -19,7 +19,7 @@ its own in the report and columns of its own in --csv. The C call makes correcte
 `calls` (`rt check calls`, or --calls). Its error is a promise: each accepted plain step
 adds less than 1 to how far m / V of a cell is from what the same steps give with no q rounded. --field is of the corrected steps, and so is what --run is held against.
 
---field writes the field after the last step as a record. The next month begins with it:
+--field writes the field after the last step as a record, with --at N that after step N. The next month begins with it:
 
   lagoon budget june.in --field june.field
   lagoon pack july.txt --field june.field -o july.in
@@ -165,14 +165,18 @@ class Rows:
         return [entered, gone, sum(moment.masses), released, *refused, *faces]
 
 
-def walked(history, budgets, rows=None):
-    """Adds every step to its budgets, and its row."""
+def walked(history, budgets, rows=None, at=None):
+    """Adds every step to its budgets, and its row; gives the field record after step `at`, by default the last, None where there is none."""
+    field = None
     for both in history.both():
+        if both[0].number == at:
+            field = history.corrected.field
         moments = both[:len(budgets)]
         for budget, moment in zip(budgets, moments):
             budget.add(moment)
         if rows:
             rows.add(moments)
+    return history.corrected.field if at is None else field
 
 
 def run(options):
@@ -182,13 +186,15 @@ def run(options):
     budgets = [Budget(session) for _ in range(2 if plain else 1)]
     if options.csv:
         with Output(options.csv) as output:
-            walked(history, budgets, Rows(output, session, plain))
+            field = walked(history, budgets, Rows(output, session, plain), options.at)
     else:
-        walked(history, budgets)
+        field = walked(history, budgets, None, options.at)
     if plain:
         plain.calls.finish()
+    if field is None:
+        raise Bad(f"--at {options.at}: the session has {count(budgets[0].accepted + sum(budgets[0].causes.values()), 'step')}")
     if options.field:
-        command.write_whole(options.field, history.corrected.field)
+        command.write_whole(options.field, field)
     lines = report(budgets, session, command.named(options.file))
     if options.csv == "-" or options.field == "-":
         command.say("\n".join(lines))
@@ -201,7 +207,8 @@ def arguments(words):
     parser = command.parser("lagoon budget", __doc__, HELP)
     parser.add_argument("file", nargs="?", default="-", help="the session, text or packed (default: standard input)")
     parser.add_argument("--csv", metavar="FILE", help="write a row for each step (- is standard output; the report is then on standard error)")
-    parser.add_argument("--field", metavar="FILE", help="write the last field record")
+    parser.add_argument("--field", metavar="FILE", help="write the last field record, or with --at that after another step")
+    parser.add_argument("--at", type=lambda text: command.whole(text, 0, 10 ** 12), metavar="N", help="--field is after step N; 0 is the first field")
     engine.options(parser)
     engine.plain_options(parser)
     return parser.parse_args(words)
@@ -209,7 +216,7 @@ def arguments(words):
 
 def main(words):
     options = arguments(words)
-    for output in (options.csv, options.field):
-        if output:
-            command.apart(output, options.file, *(path for path in (options.library, options.calls) if path))
+    if options.at is not None and not options.field:
+        raise Bad("--at says of which step --field is")
+    command.keep_apart([options.csv, options.field], [options.file, *engine.read_by(options)])
     return run(options)

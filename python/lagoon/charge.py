@@ -251,10 +251,7 @@ def checked(options):
     if inputs.count("-") > 1:
         raise Bad("only one input can be standard input")
     outputs = [path for path in (options.output, options.csv) if path]
-    for output in outputs:
-        command.apart(output, *inputs)
-    if len(set(outputs)) < len(outputs):
-        raise Bad(f"{outputs[0]} cannot hold both the remainders and the bill")
+    command.keep_apart(outputs, [*inputs, *engine.read_by(options)])
     return outputs
 
 

@@ -3,8 +3,10 @@
 import argparse
 import errno
 import os
+import signal
 import sys
 import tempfile
+import time
 from pathlib import Path
 
 ROOT = Path(__file__).resolve().parents[2]         # of the tree
@@ -91,6 +93,45 @@ def apart(output, *inputs):
             raise Bad(f"{output} is read: it cannot be written too")
 
 
+def same_file(path, other):
+    """Would both write one file? Devices hold nothing, and may be named twice."""
+    if os.path.exists(path) and not os.path.isfile(path):
+        return False
+    return os.path.realpath(path) == os.path.realpath(other) or (os.path.exists(path) and os.path.exists(other) and os.path.samefile(path, other))
+
+
+def keep_apart(outputs, inputs):
+    """No output is an input, nor are two outputs one file or both standard output; those that are not given are empty."""
+    outputs = [path for path in outputs if path]
+    for place, output in enumerate(outputs):
+        apart(output, *(str(path) for path in inputs if path))
+        for other in outputs[:place]:
+            if output == other == "-":
+                raise Bad("two outputs cannot both be standard output")
+            if "-" not in (output, other) and same_file(output, other):
+                raise Bad(f"{output} cannot hold two outputs")
+
+
+class Progress:
+    """How far a long work is, about once a second on a terminal; elsewhere nothing is said."""
+
+    def __init__(self, words):
+        self.words, self.shown, self.next = words, False, time.monotonic() + 1 if sys.stderr is not None and sys.stderr.isatty() else None
+
+    def at(self, number):
+        if self.next is not None and time.monotonic() >= self.next:
+            sys.stderr.write(f"\r{self.words} {number:,}")
+            sys.stderr.flush()
+            self.shown, self.next = True, time.monotonic() + 1
+
+    def end(self):
+        """The line is empty again."""
+        if self.shown:
+            sys.stderr.write("\r\033[K")
+            sys.stderr.flush()
+            self.shown = False
+
+
 class Output:
     """What is written: a file stands whole under its name at the end, or as it was before; standard output as it comes."""
 
@@ -147,6 +188,8 @@ def finish(name, main):
     """Calls main and gives the exit status; every failure that is no fault of the tool's is one line."""
     if sys.stdout is not None:
         sys.stdout.reconfigure(encoding="utf-8", errors="replace")
+    for number in (signal.SIGTERM, signal.SIGHUP):
+        signal.signal(number, ended)
     try:
         status = main()
         if sys.stdout is not None:
@@ -160,9 +203,16 @@ def finish(name, main):
         return silent(141)
     except MemoryError:
         say(f"{name}: there is too little memory for this")
+    except UnicodeDecodeError as error:
+        say(f"{name}: byte {error.start} of the text is no UTF-8")
     except (Bad, OSError) as error:
         say(f"{name}: {words_of(error)}")
     return silent(1)
+
+
+def ended(number, frame):
+    """A signal that ends the tool leaves nothing half written behind."""
+    raise SystemExit(128 + number)
 
 
 def left(name, code):

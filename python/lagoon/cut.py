@@ -4,11 +4,11 @@
 from . import causes, command, layout
 from .calls import Calls, OnTables, spelled
 from .command import Bad, Output, count, shown
-from .engine import Walk
+from .engine import Walk, read_by
 from .layout import RIM, Face, Step
 from .rows import Rows, as_csv
 from .session import Session, is_text
-from .sessiontext import StepText, field_text, mesh_text
+from .sessiontext import StepText, at_line, field_text, mesh_text
 
 HELP = """\
 LABELS is CSV with a heading; other columns are not read:
@@ -104,7 +104,7 @@ class Board:
         return Step(tables["fluxes"], [tables["outsides"][face] for face in self.mesh.rim], tables["releases"] if releases else None)
 
     def names(self, labels):
-        """Lines of names and units for a text."""
+        """Lines of names, units and places for a text."""
         lines = [f"unit {what} {words}" for what, words in labels.units.items()]
         old = labels.names
         lines += [f"name cell {new} {old['cell'][cell]}" for new, cell in enumerate(self.cells) if cell in old["cell"]]
@@ -112,6 +112,8 @@ class Board:
             name = old["face"].get(face) or (f"cut {face}" if face in self.at_cut else None)
             if name:
                 lines.append(f"name face {new} {name}")
+        for thing, olds in (("cell", self.cells), ("face", self.faces)):
+            lines += [at_line(thing, new, labels.at[thing][old]) for new, old in enumerate(olds) if old in labels.at[thing]]
         return "".join(line + "\n" for line in lines)
 
     def told(self, path):
@@ -184,12 +186,12 @@ class Text:
     """A part's session as text, with the names of the whole; each step has its number in the whole."""
 
     def __init__(self, board, output, labels):
-        self.output, self.steps = output, StepText(board.mesh)
+        self.output, self.steps, self.times = output, StepText(board.mesh), labels.times
         head = f"# Part {board.part} of a lagoon that was cut in two: its steps are plain ones.\n"
         output.write((head + board.names(labels) + mesh_text(board.mesh) + field_text(board.masses)).encode())
 
     def step(self, number, step):
-        self.output.write(self.steps.of(step, number, 1).encode())
+        self.output.write(self.steps.of(step, number, 1, self.times.get(number, "")).encode())
 
 
 def cut_session(session, cutting, papers):
@@ -227,9 +229,7 @@ def judge_files(options):
     for path in written:
         if path == "-":
             raise Bad("the parts are written to two files, not to standard output")
-        command.apart(path, options.file, options.labels)
-    if len(set(written)) < len(written):
-        raise Bad(f"{written[0]}: the parts and the map are written to files of their own")
+    command.keep_apart(written, [options.file, options.labels, *read_by(options)])
 
 
 def main(words):

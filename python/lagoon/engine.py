@@ -9,10 +9,10 @@ from collections import namedtuple
 from fractions import Fraction
 
 from . import causes, layout
-from .calls import Calls, OnTables, spelled, water
-from .command import ROOT, Bad
+from .calls import PROGRAM, Calls, OnTables, spelled, water
+from .command import ROOT, Bad, Progress
 
-SHARED = ROOT / "target" / "lib" / "liblagoon.so"
+SHARED, RUN = ROOT / "target" / "lib" / "liblagoon.so", ROOT / "target" / "bin" / "run"
 
 # One step of a session: its number, None or the refusal, the masses after it, its in-mass and out-mass by rim face, and what it released
 # by cell.
@@ -28,6 +28,12 @@ def plain_options(parser):
     parser.add_argument("--plain", action="store_true", help="show plain upwind beside the corrected step")
     parser.add_argument("--calls", metavar="PROGRAM",
                         help="the program that makes the plain steps (default: target/bin/calls, which `rt check calls` makes)")
+
+
+def read_by(options):
+    """The library and the programs that a command reads or may read: nothing is written over them."""
+    given = vars(options)
+    return [given.get("library") or SHARED, given.get("calls") or PROGRAM, given.get("run") or RUN]
 
 
 def loaded(path):
@@ -181,9 +187,12 @@ class History:
     def both(self):
         """The same, and beside it the moment by plain upwind, or None."""
         yield self.kept(self.corrected.first()), self.plain and self.plain.first()
+        progress = Progress("step")
         for number, (record, damage) in enumerate(self.session.steps(), 1):
+            progress.at(number)
             corrected = self.corrected.after(number, record, damage)
             yield self.kept(corrected, record), self.plain and self.plain.after(number, record, damage)
+        progress.end()
         if self.program:
             self.lines += [f"B {cell} {q} {rest}" for cell, q, rest in board(self.mesh.volumes, self.corrected.masses)]
             self.records.seek(0)

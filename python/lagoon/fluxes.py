@@ -541,7 +541,7 @@ def arguments(words):
 
 def main(words):
     options = arguments(words)
-    command.apart(options.output, options.lagoon, options.table)
+    command.keep_apart([options.output], [options.lagoon, options.table])
     if options.lagoon == options.table == "-":
         raise Bad("only one of the two can be standard input")
     return run(options)

@@ -232,8 +232,7 @@ def main(words):
     options = arguments(words)
     if options.file == options.claims == "-":
         raise Bad("only one of the two can be standard input")
-    if options.output:
-        command.apart(options.output, options.file, options.claims, *([options.calls] if options.calls else []))
+    command.keep_apart([options.output], [options.file, options.claims, *engine.read_by(options)])
     session = open_session(options.file)
     calls = Calls(options.calls)
     verdicts = Verdicts(session, Claims(options.claims, session), Judge(session, calls), options.engine)

@@ -341,7 +341,7 @@ def hex_lines(pieces):
 
 
 def run_unpack(options):
-    command.apart(options.output, options.file)
+    command.keep_apart([options.output], [options.file])
     file = command.opened(options.file)
     unpacker = Unpacker(io.BytesIO(from_hex(file.read())) if options.hex else file)
     with Output(options.output) as output:
@@ -355,7 +355,7 @@ def run_unpack(options):
 
 
 def run_pack(options):
-    command.apart(options.output, options.file, *([options.field] if options.field else []))
+    command.keep_apart([options.output], [options.file, options.field])
     parser = Parser(command.opened(options.file))
     masses = field_of(options.field) if options.field else None
     found, lacks = packed(parser, masses)

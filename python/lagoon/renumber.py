@@ -173,9 +173,7 @@ def arguments(words):
 
 def main(words):
     options = arguments(words)
-    command.apart(options.output, options.file)
-    if options.map:
-        command.apart(options.map, options.file)
+    command.keep_apart([options.output, options.map], [options.file])
     session = open_session(options.file)
     numbering = numbering_of(options, session.mesh)
     with Output(options.output) as output:

@@ -137,3 +137,33 @@ class Faces(Called):
 class Cells(Called):
     def __init__(self, mesh, labels):
         super().__init__("cell", len(mesh.volumes), labels)
+
+
+def listed_cells(text, session):
+    """Cells from the words of an option, as 0,Marsh,30-33: a name, a number, or two numbers joined by a minus; each once."""
+    cells, found = Cells(session.mesh, session.labels), []
+    try:
+        words = next(csv.reader([text], skipinitialspace=True), None) or [""]
+    except csv.Error as error:
+        raise Bad(f"--cells: {error}") from None
+    for word in words:
+        try:
+            new = [cells.of(word)]
+        except Bad as bad:
+            new = cells_between(word.strip(), len(session.mesh.volumes))
+            if new is None:
+                raise Bad(f"--cells: {bad}") from None
+        found += [cell for cell in new if cell not in found]
+    return found
+
+
+def cells_between(word, total):
+    """The cells of a range like 30-33, None where the word is none."""
+    first, dash, last = word.partition("-")
+    if not (dash and all(part.isascii() and part.isdigit() and len(part) <= 9 for part in (first, last))):
+        return None
+    if max(int(first), int(last)) >= total:
+        raise Bad(f"--cells: the mesh has cells 0 to {total - 1}, not {shown(word)}")
+    if int(first) > int(last):
+        raise Bad(f"--cells: {shown(word)} is no range, its first cell is above its last")
+    return range(int(first), int(last) + 1)

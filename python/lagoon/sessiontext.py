@@ -13,6 +13,8 @@ MOST_LINE = 1 << 20             # bytes in a line of text
 MOST_VALUE, MOST_MASS = most(WIDE.value), most(WIDE.mass)       # of a volume, reach or size of a flux; of a mass or release
 FORMER = {"boundary": "rim", "weight": "share", "span": "reach"}        # words that the format once took
 UNITS = ("volume", "mass", "step")
+COORDINATES = {"cell": 2, "face": 4}     # of an `at` line: a centre, or the two ends
+MOST_COORDINATE = 1e9
 
 
 # ---------------------------------------------------------------- To text
@@ -40,12 +42,13 @@ class StepText:
     def __init__(self, mesh):
         self.rim, self.lines = mesh.rim, "".join([f"face {number} flux %s\n" for number in range(len(mesh.faces))])
 
-    def of(self, step, first, times):
+    def of(self, step, first, times, time=""):
         fluxes = list(step.fluxes)
         for face, outside in zip(self.rim, step.outsides):
             if outside or step.fluxes[face] < 0:
                 fluxes[face] = f"{fluxes[face]} outside {outside}"
         head = f"\nstep  # {first}\n" if times == 1 else f"\nstep times {times}  # {first} to {first + times - 1}\n"
+        head += f"time {time}\n" if time else ""
         released = [f"cell {cell} release {release}\n" for cell, release in enumerate(step.releases or [])]
         return head + self.lines % tuple(fluxes) + "".join(released)
 
@@ -112,6 +115,13 @@ class Line:
             raise self.error(f"{what} is at most {greatest}, not {shown(found)[1:-1]}")
         return int(digits)
 
+    def coordinate(self):
+        """A number with or without decimals."""
+        found = self.word("a coordinate")
+        if not re.fullmatch(r"[-+]?[0-9]{1,10}(\.[0-9]{0,12})?(e[-+]?[0-9]{1,2})?", found) or not abs(float(found)) <= MOST_COORDINATE:
+            raise self.unlike(f"a coordinate should be a number up to {MOST_COORDINATE:,.0f}", found)
+        return float(found)
+
     def rest(self, what):
         """All words that are left, as they stand."""
         self.word(what)
@@ -126,10 +136,10 @@ class Line:
 
 
 class Labels:
-    """The words for units, cells and faces."""
+    """What a text says beside the records: units, names of cells and faces, where they lie, and when steps begin."""
 
     def __init__(self):
-        self.units, self.names = {}, {"cell": {}, "face": {}}
+        self.units, self.names, self.at, self.times = {}, {"cell": {}, "face": {}}, {"cell": {}, "face": {}}, {}
 
     def of(self, thing, number):
         name = self.names[thing].get(number)
@@ -138,6 +148,12 @@ class Labels:
 
 # A line of a step as it nearly always looks; every other goes word by word.
 FLUX_LINE = re.compile(rb"[ \t]*face[ \t]+([0-9]{1,4})[ \t]+flux[ \t]+([-+]?[0-9]{1,5})(?:[ \t]+outside[ \t]+([0-9]{1,7}))?[ \t]*\r?\n?")
+
+
+def at_line(thing, number, coordinates):
+    """Where a cell's centre or a face's ends lie."""
+    return f"at {thing} {number} " + " ".join(f"{value:.12g}" for value in coordinates)
+
 
 Item = namedtuple("Item", "kind value times line lines")    # of a text: line where it begins, lines of its cells and faces
 
@@ -148,6 +164,7 @@ class Parser:
     def __init__(self, file):
         self.file, self.number = file, 0
         self.labels, self.named = Labels(), []
+        self.step_number = 0            # of the step that is read; None after lines of bytes, which may hold steps
         self.section, self.volumes, self.faces, self.mesh, self.has_field = None, None, None, None, False
         self.widths = NARROW            # as the text says, whatever its values ask for
         self.values, self.outsides, self.releases, self.next, self.times, self.begun, self.lines = [], [], None, 0, 1, 0, {}
@@ -196,14 +213,13 @@ class Parser:
 
     def take(self, line):
         items = {"mesh": {"cell": self.mesh_cell, "face": self.mesh_face}, "field": {"cell": self.field_cell},
-                 "step": {"face": self.step_face, "cell": self.step_cell}}.get(self.section, {})
-        keyword = line.keyword(*items, "mesh", "field", "step", "bytes", "unit", "name")
+                 "step": {"face": self.step_face, "cell": self.step_cell, "time": self.step_time}}.get(self.section, {})
+        beside = {"unit": self.unit, "name": self.name, "at": self.at}
+        keyword = line.keyword(*items, "mesh", "field", "step", "bytes", *beside)
         if keyword in items:
             items[keyword](line)
-        elif keyword == "unit":
-            self.unit(line)
-        elif keyword == "name":
-            self.name(line)
+        elif keyword in beside:
+            beside[keyword](line)
         else:
             yield from self.close()
             self.begin(line, keyword)
@@ -229,10 +245,12 @@ class Parser:
         elif section == "step":
             if not self.has_field:
                 raise line.error("a step follows a field, and there is none above")
+            if self.step_number is not None:
+                self.step_number += self.times
             self.times = self.step_times(line)
             self.values, self.outsides, self.releases = [0] * len(self.faces), dict.fromkeys(self.mesh.rim, 0), None
         else:
-            self.has_field = self.has_field or self.volumes is not None
+            self.has_field, self.step_number = self.has_field or self.volumes is not None, None
         self.section = section
 
     def step_times(self, line):
@@ -272,17 +290,37 @@ class Parser:
 
     def name(self, line):
         self.before_steps(line)
+        thing, number = self.thing(line)
+        self.labels.names[thing][number] = line.rest("a name")
+
+    def thing(self, line):
+        """Which cell or face a name or a place is of; whether there is one is known at the end."""
         thing = line.keyword("cell", "face")
         number = line.number_of(f"the number of the {thing}", most(CELLS_BITS if thing == "cell" else FACES_BITS) - 1)
         self.named.append((line.number, line.words[line.taken - 1][0], thing, number))
-        self.labels.names[thing][number] = line.rest("a name")
+        return thing, number
+
+    def at(self, line):
+        """Where a cell's centre or a face's ends lie."""
+        self.before_steps(line)
+        thing, number = self.thing(line)
+        self.labels.at[thing][number] = tuple(line.coordinate() for _ in range(COORDINATES[thing]))
+
+    def step_time(self, line):
+        """When the step begins, the first of them where it comes more than once."""
+        if self.lines:
+            raise line.error("the time of a step stands before its faces, and once")
+        self.lines["time", 0] = line.number
+        words = line.rest("a time")
+        if self.step_number is not None:
+            self.labels.times[self.step_number] = words
 
     def before_steps(self, line):
         if self.section == "step":
-            raise line.error("units and names stand before the steps")
+            raise line.error("units, names and places stand before the steps")
 
     def check_names(self):
-        """Every name is that of a cell or face that is there."""
+        """Every name and place is that of a cell or face that is there."""
         rows = {"cell": self.volumes, "face": self.faces}
         for number, column, thing, place in self.named:
             if self.volumes is not None and place >= len(rows[thing]):

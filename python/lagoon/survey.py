@@ -160,7 +160,7 @@ def arguments(words):
 
 def main(words):
     options = arguments(words)
-    command.apart(options.output, options.cells, options.faces)
+    command.keep_apart([options.output], [options.cells, options.faces])
     if options.cells == options.faces == "-":
         raise Bad("only one of the two can be standard input")
     survey = Survey(Rows(options.cells, ("cell", "volume", "salt")), Rows(options.faces, ("face", "from", "to", "area"), (("way", "distance"), points.COLUMNS)))
