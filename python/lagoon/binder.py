@@ -1,6 +1,7 @@
 """The pages for the binder: of the last field of a session, or of a field record, one page of sixty cells after another; and the board.
 For growers, or for the public, who are not shown withheld cells."""
 
+from itertools import count, takewhile
 
 from . import causes, command, engine
 from .calls import Calls, spelled
@@ -37,7 +38,7 @@ examples:
   lagoon binder session.in --field june.field | lpr
 """
 
-MOST_BYTES = 61 * 19            # of a page: sixty cells and their mass, in the widest lines
+ROOM = spelled([0] * (61 * 19))  # for a page: sixty cells and their mass, in the widest lines
 BEYOND = 14                     # the cause of a page beyond the last
 LENGTH, KIND = 11, 13           # the causes of what is no record of a step
 OPEN, WITHHELD = 0, 1
@@ -65,22 +66,31 @@ class Printer:
         self.calls, self.public = calls, "public_" if marks else ""
         self.field, self.marks = (len(volumes), spelled(volumes), spelled(masses)), [spelled(marks)] if marks else []
 
+    def page(self, number):
+        """The bytes of a page, None of one beyond the last."""
+        said, left = self.calls.ask(f"{self.public}page", *self.field, number, ROOM, *self.marks)
+        if said[:2] == ["refused", str(BEYOND)]:
+            return None
+        self.accepted(said)
+        return bytes(left["bytes"][:int(said[1])])
+
+    def all_pages(self):
+        """The bytes of each page."""
+        return takewhile(lambda page: page is not None, map(self.page, count()))
+
     def pages(self, between=b""):
         """The bytes of all pages, one after another, with these bytes between them."""
-        found, room = [], spelled([0] * MOST_BYTES)
-        while True:
-            said, left = self.calls.ask(f"{self.public}page", *self.field, len(found), room, *self.marks)
-            if said[:2] == ["refused", str(BEYOND)]:
-                return between.join(found)
-            self.accepted(said)
-            found.append(bytes(left["bytes"][:int(said[1])]))
+        return between.join(self.all_pages())
+
+    def entries(self):
+        """Cell, q and rest of each line of the board."""
+        said, left = self.calls.ask(f"{self.public}board", *self.field, *self.marks)
+        self.accepted(said)
+        return list(zip(*[iter(left["entries"][:3 * left["used"][0]])] * 3))
 
     def board(self):
         """The board's lines, as the run prints them."""
-        said, left = self.calls.ask(f"{self.public}board", *self.field, *self.marks)
-        self.accepted(said)
-        entries = zip(*[iter(left["entries"])] * 3)
-        return "".join(f"B {cell} {q} {rest}\n" for (cell, q, rest), _ in zip(entries, range(left["used"][0]))).encode()
+        return "".join(f"B {cell} {q} {rest}\n" for cell, q, rest in self.entries()).encode()
 
     def accepted(self, said):
         """Mesh, field and marks are right by now, and so nothing else is refused."""

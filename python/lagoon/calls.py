@@ -3,11 +3,10 @@
 import os
 import subprocess
 
-from .command import ROOT, Bad
+from .command import Bad, built
 
-PROGRAM = ROOT / "target" / "bin" / "calls"
 # The numbers of the calls that are asked for.
-NUMBERS = {"step": 7, "read_step": 13, "board": 18, "page": 23, "plain_step": 29, "judge": 30, "cut": 31, "add": 32, "charge": 33,
+NUMBERS = {"step": 7, "read_step": 13, "board": 18, "page": 23, "face_share": 28, "plain_step": 29, "judge": 30, "cut": 31, "add": 32, "charge": 33,
            "public_page": 34, "public_board": 35}
 
 
@@ -22,7 +21,7 @@ class Calls:
     """The program as a process that answers a call before it is asked for the next."""
 
     def __init__(self, program=None):
-        self.program = str(program or PROGRAM)
+        self.program = str(program or built("calls") or "")
         if not os.path.exists(self.program):
             raise Bad(f"{program or 'target/bin/calls'} is not there: `rt check calls` makes it")
         try:

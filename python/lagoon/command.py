@@ -9,7 +9,8 @@ import tempfile
 import time
 from pathlib import Path
 
-ROOT = Path(__file__).resolve().parents[2]         # of the tree
+HERE = Path(__file__).resolve().parent
+ROOT = HERE.parents[1]                             # of the tree
 CHUNK = 1 << 20
 MOST_SHOWN = 40
 
@@ -19,10 +20,18 @@ class Bad(Exception):
 
 
 def version():
-    try:
-        return (ROOT / "VERSION").read_text().strip()
-    except OSError:
-        return "unknown (the file VERSION is not there)"
+    """As the file VERSION says, which an installed package has in its folder and a tree at its top."""
+    for folder in (HERE, ROOT):
+        try:
+            return (folder / "VERSION").read_text().strip()
+        except OSError:
+            pass
+    return "unknown (the file VERSION is not there)"
+
+
+def built(name, folder="bin"):
+    """A proved program or library: packed with this package, else made in the tree's target/; None where it is not there."""
+    return next((str(path) for path in (HERE / "built" / name, ROOT / "target" / folder / name) if path.exists()), None)
 
 
 def parser(name, description, epilog):

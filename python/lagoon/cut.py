@@ -83,16 +83,14 @@ def label_refusal(session, labels, cause, place):
 class Board:
     """One part: where its cells and faces stood, its mesh, its names, and its field carried on by plain steps of its own."""
 
-    def __init__(self, session, labels, part, calls, tables):
-        mesh = session.mesh
-        self.part, self.cells = part, [cell for cell, label in enumerate(labels) if label == part]
-        sides = {face: [labels[end] for end in (first, second) if end != RIM] for face, (first, second, _, _) in enumerate(mesh.faces)}
-        self.faces = [face for face, side in sides.items() if part in side]
-        self.turned = {face for face in self.faces if sides[face][0] != part}
-        self.at_cut = {face for face in self.faces if len(set(sides[face])) == 2}
+    def __init__(self, session, cutter, part, tables):
+        mesh, labels = session.mesh, cutter.labelled
+        self.part, (self.cells, self.faces) = part, cutter.sides(part)
+        self.turned = {face for face in self.faces if labels[mesh.faces[face].first] != part}
+        self.at_cut = {face for face in self.faces if mesh.faces[face].second != RIM and len({labels[end] for end in mesh.faces[face][:2]}) == 2}
         rows = zip(*(tables[column] for column in COLUMNS[1:5]))
         self.mesh = layout.mesh_of(tables["volumes"], [Face(*row) for row in rows], mesh.widths)
-        self.masses, self.tables = tables["masses"], OnTables(self.mesh, calls)
+        self.masses, self.tables = tables["masses"], OnTables(self.mesh, cutter.calls)
 
     def step(self, number, tables, whole, releases):
         """The part's own plain step, held against the whole's; gives the step as it is written."""
@@ -127,21 +125,15 @@ class Board:
             yield "face", face, self.part, new, "turned" if face in self.turned else ""
 
 
-class Cutting:
-    """A session's lagoon cut before each step, by the program `calls`."""
+class Cutter:
+    """A lagoon and its labels, cut by the proved call as often as it is asked."""
 
-    def __init__(self, session, labels, program):
-        self.calls, self.mesh, self.labels = Calls(program), session.mesh, spelled(labels)
-        self.tables = OnTables(self.mesh, self.calls)
+    def __init__(self, mesh, labels, calls):
+        self.calls, self.mesh, self.labelled, self.labels = calls, mesh, labels, spelled(labels)
+        self.tables = OnTables(mesh, calls)
         by_cell, by_face = self.tables.next, self.tables.moved      # tables of zeros, to be filled
-        self.read = (int(self.mesh.widths == layout.WIDE), self.tables.cells, self.tables.faces, spelled([face.second for face in self.mesh.faces]))
-        self.read_into = (by_face, by_face, by_cell)
+        self.no_water = (by_face, by_face, by_cell)
         self.parts_into = tuple(by_cell if column in BY_CELL else by_face for column in COLUMNS) * len(PARTS)
-        said, left = self.cut(session.masses, self.read_into)
-        if said[0] == "refused":
-            raise Bad("the cutting is refused: " + label_refusal(session, labels, *map(int, said[1:])))
-        self.boards = [Board(session, labels, part, self.calls, self.own(said, left, part)) for part in PARTS]
-        self.number, self.written = 0, None
 
     def cut(self, masses, water):
         """What the engine says and leaves; water: fluxes, outsides and releases."""
@@ -152,20 +144,41 @@ class Cutting:
         cells, faces = map(int, said[1 + 2 * part:3 + 2 * part])
         return {column: left[f"{column}{part}"][:cells if column in BY_CELL else faces] for column in COLUMNS}
 
+    def sides(self, part):
+        """The old numbers of a part's cells and of its faces."""
+        faces = [number for number, face in enumerate(self.mesh.faces)
+                 if part in [self.labelled[end] for end in (face.first, face.second) if end != RIM]]
+        return [cell for cell, label in enumerate(self.labelled) if label == part], faces
+
+
+class Cutting:
+    """A session's lagoon cut before each step, by the program `calls`."""
+
+    def __init__(self, session, labels, program):
+        self.mesh = session.mesh
+        self.cutter = Cutter(self.mesh, labels, Calls(program))
+        self.calls, self.tables = self.cutter.calls, self.cutter.tables
+        self.read = (int(self.mesh.widths == layout.WIDE), self.tables.cells, self.tables.faces, spelled([face.second for face in self.mesh.faces]))
+        said, left = self.cutter.cut(session.masses, self.cutter.no_water)
+        if said[0] == "refused":
+            raise Bad("the cutting is refused: " + label_refusal(session, labels, *map(int, said[1:])))
+        self.boards = [Board(session, self.cutter, part, self.cutter.own(said, left, part)) for part in PARTS]
+        self.number, self.written = 0, None
+
     def step(self, field, record):
         """The next field record and, in `written`, the steps of both parts; or None and the answer's cause and place."""
         self.number += 1
-        said, read = self.calls.ask("read_step", *self.read, list(record), *self.read_into)
+        said, read = self.calls.ask("read_step", *self.read, list(record), *self.cutter.no_water)
         if said[0] == "accepted":
             masses, water = layout.masses_in(field), [read[column] for column in WATER]
-            said, left = self.cut(masses, water)
+            said, left = self.cutter.cut(masses, water)
         if said[0] == "refused":
             return None, tuple(map(int, said[1:]))
         answer, whole = self.tables.step("plain_step", masses, water)
         if answer[0] != "accepted":
             raise Bad(f"step {self.number}: the engine cuts it and refuses it: that is a fault of the engine")
         releases = layout.kind_of(record) == self.mesh.widths.outfalls
-        self.written = [board.step(self.number, self.own(said, left, board.part), whole, releases) for board in self.boards]
+        self.written = [board.step(self.number, self.cutter.own(said, left, board.part), whole, releases) for board in self.boards]
         return layout.field_record(whole["next"], self.mesh.widths), None
 
 

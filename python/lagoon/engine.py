@@ -1,18 +1,19 @@
 """The proved steps, called from Python, and a session stepped through them: the corrected step through the library's shared object, the
 plain one of document 02's S-8 through the program `calls`."""
 
+import atexit
 import ctypes
 import os
 import subprocess
 import tempfile
 from collections import namedtuple
+from ctypes.util import find_library
 from fractions import Fraction
+from functools import lru_cache
 
-from . import causes, layout
-from .calls import PROGRAM, Calls, OnTables, spelled, water
-from .command import ROOT, Bad, Progress
-
-SHARED, RUN = ROOT / "target" / "lib" / "liblagoon.so", ROOT / "target" / "bin" / "run"
+from . import causes, command, layout
+from .calls import Calls, OnTables, spelled, water
+from .command import Bad, Progress
 
 # One step of a session: its number, None or the refusal, the masses after it, its in-mass and out-mass by rim face, and what it released
 # by cell.
@@ -33,14 +34,29 @@ def plain_options(parser):
 def read_by(options):
     """The library and the programs that a command reads or may read: nothing is written over them."""
     given = vars(options)
-    return [given.get("library") or SHARED, given.get("calls") or PROGRAM, given.get("run") or RUN]
+    found = given.get("library") or library(), given.get("calls") or command.built("calls"), given.get("run") or command.built("run")
+    return [path for path in found if path]
+
+
+def library():
+    """Where the library is: packed with this package, made in the tree, or installed in the system."""
+    return command.built("liblagoon.so", "lib") or find_library("lagoon")
 
 
 def loaded(path):
     """The shared object of the library."""
-    if not os.path.exists(path or SHARED):
+    found = path or library()
+    if not found or path and not os.path.exists(path):
         raise Bad(f"{path or 'target/lib/liblagoon.so'} is not there: `make lib` makes it")
-    return ctypes.CDLL(os.path.abspath(path or SHARED))
+    return ctypes.CDLL(os.path.abspath(found) if os.path.exists(found) else found)
+
+
+@lru_cache(maxsize=None)
+def asked():
+    """The program that makes the calls which the library has not, one for all who ask in this process."""
+    calls = Calls()
+    atexit.register(calls.finish)
+    return calls
 
 
 class Engine:
@@ -50,7 +66,7 @@ class Engine:
         try:
             self.call = loaded(library).lagoon_step
         except (OSError, AttributeError) as error:
-            raise Bad(f"{library or SHARED} has no call lagoon_step: {str(error)[:200]}") from None
+            raise Bad(f"{library or 'the library'} has no call lagoon_step: {str(error)[:200]}") from None
         self.call.restype = ctypes.c_uint64
         self.call.argtypes = [ctypes.c_char_p, ctypes.c_size_t] * 4
         self.mesh = mesh_record
@@ -65,8 +81,8 @@ class Engine:
 class Plain:
     """The plain step on a mesh, by the program `calls`: the C call makes corrected steps only."""
 
-    def __init__(self, mesh, program=None):
-        self.calls = Calls(program)
+    def __init__(self, mesh, program=None, calls=None):
+        self.calls = calls or Calls(program)
         self.tables = OnTables(mesh, self.calls)
         cells, faces = len(mesh.volumes), len(mesh.faces)
         self.widths, self.read = mesh.widths, (int(mesh.widths == layout.WIDE), cells, faces, spelled([face.second for face in mesh.faces]))
@@ -162,7 +178,7 @@ class Tabled:
 def agreeing(number, refusal, refused):
     """The words of a refusal, which have to be about the engine's cause and place."""
     if refusal is None or (refusal.cause, refusal.place) != refused:
-        raise Bad(f"step {number}: the engine refuses it by cause {refused[0]}, place {refused[1]}, and causes.py finds "
+        raise Bad(f"{f'step {number}' if isinstance(number, int) else number}: the engine refuses it by cause {refused[0]}, place {refused[1]}, and causes.py finds "
                   + (causes.told(refusal) if refusal else "nothing wrong with it"))
     return refusal
 

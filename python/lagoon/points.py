@@ -1,6 +1,7 @@
 """The share of a face from survey points, document 02's S-7, in Python's 64-bit floats: each operation is rounded once."""
 
 import math
+import struct
 from fractions import Fraction
 
 from .causes import MOST_SHARE, Refusal
@@ -26,6 +27,11 @@ def share(coordinates):
     if not 1 <= found <= MOST_SHARE:
         return Refusal(20, "", 0, f"the face lies at {a / (a + b):g} of the way between the centres")
     return found
+
+
+def pattern(value):
+    """The 64 bits of a float, as a script spells it; of what is no number always the same."""
+    return 0x7FF8 << 48 if value != value else struct.unpack("<Q", struct.pack("<d", value))[0]
 
 
 def distance(coordinates):

@@ -2,10 +2,11 @@
 
 import os
 import subprocess
+from shutil import which
 from threading import Thread
 
 from . import command
-from .command import ROOT, Bad
+from .command import Bad, built
 from .session import is_text
 from .sessiontext import Parser, TextError, packed, text_words
 
@@ -21,7 +22,6 @@ examples:
   lagoon run session.in | tail -n 8
 """
 
-PROGRAM = ROOT / "target" / "bin" / "run"
 PIECE = 1 << 16
 
 
@@ -53,11 +53,12 @@ def fed(process, pieces):
         pass
 
 
-def started(program):
-    if not os.path.exists(program or PROGRAM):
-        raise Bad(f"{program or 'target/bin/run'} is not there: `make run` makes it")
+def started(given):
+    program = given or built("run") or which("lagoon-run")
+    if not program or not os.path.exists(program):
+        raise Bad(f"{given or 'target/bin/run'} is not there: `make run` makes it")
     try:
-        return subprocess.Popen([program or PROGRAM], stdin=subprocess.PIPE, stdout=subprocess.PIPE)
+        return subprocess.Popen([program], stdin=subprocess.PIPE, stdout=subprocess.PIPE)
     except OSError as error:
         raise Bad(f"{program}: {error.strerror}") from None
 
