@@ -10,10 +10,12 @@ import random
 from collections import Counter, namedtuple
 
 import lagoon
-from lagoon import CEILING, FIELD, MESH, OLD_CEILING, OUTFALLS, RIM, TOP, WATER
+from lagoon import CEILING, FIELD, MESH, MOST_SHARE, OLD_CEILING, OUTFALLS, RIM, TOP, WATER
 
 Session = namedtuple("Session", "kinds data piece")      # piece: bytes handed over at a time, None for all
 Call = namedtuple("Call", "kinds mesh field step room")
+
+HALF = 128              # the share of a face in the middle
 
 
 # ---------------------------------------------------------------- Raw records
@@ -29,21 +31,21 @@ class Raw:
         """The same record in the kind of the other width."""
         self.kind = self.laid = other_width(self.laid)
 
-    def spare(self):
-        """The zero bits at its end."""
-        return -sum(width for _, width in self.values()) % 8
-
     def bytes(self):
-        """A value too large for its width, which only a record turned to the narrow kind has, becomes the greatest of that width."""
-        values = [(min(value, all_ones(width)), width) for value, width in self.values()]
-        if self.spare():
-            values.append((self.padding, self.spare()))
-        record = lagoon.pack(values)
+        """A value too large for its width, which only a record turned to the other width has, becomes the greatest of that width."""
+        fields = self.fields()
+        fields.append((self.padding, spare_bits(fields)))
+        record = lagoon.pack([(min(value, all_ones(width)), width) for value, width in fields if width])
         return (record if self.cut is None else record[:self.cut]) + self.tail
 
 
 def all_ones(width):
     return (1 << width) - 1
+
+
+def spare_bits(fields):
+    """The zero bits after the last field of a record."""
+    return -sum(width for _, width in fields) % 8
 
 
 def other_width(kind):
@@ -56,12 +58,8 @@ class RawMesh(Raw):
         self.cells, self.count, self.zeros = len(volumes), len(faces), 0
         self.volumes, self.faces = list(volumes), [list(face) for face in faces]
 
-    def values(self):
-        volume, *face = lagoon.MESH_BITS[self.laid]
-        values = lagoon.mesh_start(self.kind, self.cells, self.count, self.zeros) + [(V, volume) for V in self.volumes]
-        for row in self.faces:
-            values += zip(row, face)
-        return values
+    def fields(self):
+        return lagoon.mesh_fields(self.kind, self.cells, self.count, self.zeros, lagoon.MESH_BITS[self.laid], self.volumes, self.faces)
 
 
 class RawField(Raw):
@@ -69,8 +67,8 @@ class RawField(Raw):
         super().__init__(lagoon.of_width(FIELD, wide))
         self.cells, self.masses = len(masses), list(masses)
 
-    def values(self):
-        return lagoon.field_start(self.kind, self.cells) + [(m, lagoon.FIELD_BITS[self.laid]) for m in self.masses]
+    def fields(self):
+        return lagoon.field_fields(self.kind, self.cells, lagoon.FIELD_BITS[self.laid], self.masses)
 
 
 class RawStep(Raw):
@@ -84,13 +82,10 @@ class RawStep(Raw):
         self.signs, self.sizes = [int(U < 0) for U in fluxes], [abs(U) for U in fluxes]
         self.outsides = list(outsides)
 
-    def values(self):
-        bits = lagoon.STEP_BITS[self.laid]
-        values = lagoon.step_start(self.kind, self.count, self.zeros)
-        for sign, size in zip(self.signs, self.sizes):
-            values += [(sign, 1), (size, bits.size)]
-        values += [(self.outsides[face], bits.outside) for face in self.rims]
-        return values + [(release, bits.release) for release in self.releases]
+    def fields(self):
+        return lagoon.step_fields(self.kind, self.count, self.zeros, lagoon.STEP_BITS[self.laid], zip(self.signs, self.sizes),
+                                  [self.outsides[face] for face in self.rims], self.releases)
+
 
 # ---------------------------------------------------------------- Valid lagoons
 
@@ -193,7 +188,7 @@ class Lagoon:
             if second == RIM:
                 faces.append((first, RIM, 0, 0))
                 continue
-            s = {"half": 128, "any": rng.randint(1, 255), "ends": rng.choice([1, 255])}[shares]
+            s = {"half": HALF, "any": rng.randint(1, MOST_SHARE), "ends": rng.choice([1, MOST_SHARE])}[shares]
             near = self.volumes[first]
             K = {"one": 1, "top": self.top, "ends": rng.choice([1, self.top]), "any": rng.randint(1, self.top),
                  "ceilings": near_ceilings(rng, self.top), "volume": min(self.top, rng.randint(near, 2 * near))}[reaches]
@@ -311,8 +306,11 @@ class Lagoon:
         return RawStep(self.rims, fluxes, self.outsides(rng, fluxes), self.releases(rng), self.wide)
 
 
+RUN_CELLS, RUN_FACES = lagoon.RUN_LIMITS
+MOST_CELLS, MOST_FACES = all_ones(lagoon.CELLS_BITS), all_ones(lagoon.FACES_BITS)       # that a head can say
 # Cells, most faces and least faces of lagoons at the run's limits, taken in turn.
-LIMITS = [(1023, 2046, 2046), (1023, 2046, 0), (2, 2046, 2046), (1023, 0, 0), (1, 2046, 0), (1000, 2046, 1500)]
+LIMITS = [(RUN_CELLS, RUN_FACES, RUN_FACES), (RUN_CELLS, RUN_FACES, 0), (2, RUN_FACES, RUN_FACES), (RUN_CELLS, 0, 0), (1, RUN_FACES, 0),
+          (1000, RUN_FACES, 1500)]
 
 
 def pick_size(rng, number):
@@ -321,7 +319,7 @@ def pick_size(rng, number):
         return LIMITS[number // 40 % len(LIMITS)]
     if number % 40 == 20:
         cells = rng.randint(41, 700)
-        return cells, 2046, rng.choice([0, 2 * cells])
+        return cells, RUN_FACES, rng.choice([0, 2 * cells])
     cells = rng.choice([1, 2, 3, rng.randint(1, 8), rng.randint(1, 8), rng.randint(4, 20), rng.randint(4, 40)])
     return cells, 80, 0
 
@@ -331,7 +329,7 @@ def size_kinds(lag):
     cells, faces = len(lag.volumes), len(lag.faces)
     kinds = ["more than 40 cells"] if cells > 40 else []
     kinds += ["wide records"] * lag.wide + ["V above the old ceiling"] * (max(lag.volumes) > OLD_CEILING) + ["steep"] * lag.steep
-    return kinds + ["1,023 cells"] * (cells == 1023) + ["2,046 faces"] * (faces == 2046)
+    return kinds + [f"{RUN_CELLS:,} cells"] * (cells == RUN_CELLS) + [f"{RUN_FACES:,} faces"] * (faces == RUN_FACES)
 
 
 # ---------------------------------------------------------------- Damage
@@ -359,26 +357,26 @@ def mesh_no_cells(rng, lag, raw):
     raw.cells = 0
 
 def mesh_cells_beyond(rng, lag, raw):
-    raw.cells = rng.choice([1024, 4095, rng.randint(1024, 4095)])
+    raw.cells = rng.choice([RUN_CELLS + 1, MOST_CELLS, rng.randint(RUN_CELLS + 1, MOST_CELLS)])
 
 def mesh_faces_beyond(rng, lag, raw):
-    raw.count = rng.choice([2047, 8190, 8191, rng.randint(2047, 8191)])
+    raw.count = rng.choice([RUN_FACES + 1, MOST_FACES - 1, MOST_FACES, rng.randint(RUN_FACES + 1, MOST_FACES)])
 
 def mesh_one_cell_more(rng, lag, raw):
-    raw.cells = 1024
-    raw.volumes += [1] * (1024 - len(raw.volumes))
+    raw.cells = RUN_CELLS + 1
+    raw.volumes += [1] * (raw.cells - len(raw.volumes))
 
 def mesh_one_face_more(rng, lag, raw):
-    raw.count = 2047
-    raw.faces += [[0, RIM, 0, 0] for _ in range(2047 - len(raw.faces))]
+    raw.count = RUN_FACES + 1
+    raw.faces += [[0, RIM, 0, 0] for _ in range(raw.count - len(raw.faces))]
 
 def mesh_both_beyond(rng, lag, raw):
     mesh_cells_beyond(rng, lag, raw)
     mesh_faces_beyond(rng, lag, raw)
 
 def mesh_other_counts(rng, lag, raw):
-    raw.cells = min(4095, max(1, raw.cells + rng.choice([-1, 0, 1])))
-    raw.count = min(8191, max(0, raw.count + rng.choice([-1, 1])))
+    raw.cells = min(MOST_CELLS, max(1, raw.cells + rng.choice([-1, 0, 1])))
+    raw.count = min(MOST_FACES, max(0, raw.count + rng.choice([-1, 1])))
 
 def mesh_zero_bit(rng, lag, raw):
     raw.zeros = rng.randint(1, all_ones(lagoon.MESH_ZEROS))
@@ -387,7 +385,7 @@ def mesh_padding_bit(rng, lag, raw):
     return set_padding(rng, raw)
 
 def set_padding(rng, raw):
-    spare = raw.spare()
+    spare = spare_bits(raw.fields())
     if not spare:
         return False
     raw.padding = rng.choice([1, 1 << (spare - 1), rng.randint(1, all_ones(spare))])
@@ -404,14 +402,14 @@ def set_face(rng, raw, column, value, rim):
 
 def mesh_first_out(rng, lag, raw):
     cells = len(raw.volumes)
-    return set_face(rng, raw, 0, rng.choice([cells, rng.randint(min(cells, 4094), 4094)]), None)
+    return set_face(rng, raw, 0, rng.choice([cells, rng.randint(min(cells, RIM - 1), RIM - 1)]), None)
 
 def mesh_first_mark(rng, lag, raw):
     return set_face(rng, raw, 0, RIM, rng.choice([None, True, False]))
 
 def mesh_second_out(rng, lag, raw):
     cells = len(raw.volumes)
-    return set_face(rng, raw, 1, rng.choice([cells, 4094, rng.randint(min(cells, 4094), 4094)]), None)
+    return set_face(rng, raw, 1, rng.choice([cells, RIM - 1, rng.randint(min(cells, RIM - 1), RIM - 1)]), None)
 
 def mesh_self_loop(rng, lag, raw):
     if not raw.faces:
@@ -426,7 +424,7 @@ def mesh_reach_zero(rng, lag, raw):
     return set_face(rng, raw, 3, 0, False)
 
 def mesh_share_at_rim(rng, lag, raw):
-    return set_face(rng, raw, 2, rng.choice([1, 128, 255]), True)
+    return set_face(rng, raw, 2, rng.choice([1, HALF, MOST_SHARE]), True)
 
 def mesh_reach_at_rim(rng, lag, raw):
     return set_face(rng, raw, 3, rng.choice([1, 100, lag.top]), True)
@@ -436,6 +434,10 @@ def mesh_interior_like_rim(rng, lag, raw):
     if not rows:
         return False
     rng.choice(rows)[2:] = [0, 0]
+
+def other_counts(count, limit, most):
+    """Counts that a head can say in the place of this one."""
+    return [n for n in (0, count - 1, count + 1, limit + 1, most) if n != count and 0 <= n <= most]
 
 def field_missing(rng, lag, raw):
     raw.cut = 0
@@ -456,7 +458,7 @@ def field_of_the_other_width(rng, lag, raw):
     raw.turn_width()
 
 def field_count(rng, lag, raw):
-    raw.cells = rng.choice([n for n in (0, raw.cells - 1, raw.cells + 1, 1024, 4095) if n != raw.cells and 0 <= n <= 4095])
+    raw.cells = rng.choice(other_counts(raw.cells, RUN_CELLS, MOST_CELLS))
 
 def field_salt_above(rng, lag, raw):
     cell = rng.randrange(len(raw.masses))
@@ -491,8 +493,7 @@ def step_other_kind(rng, lag, raw):
     raw.kind = outfalls if raw.kind == water else water
 
 def step_count(rng, lag, raw):
-    count = raw.count
-    raw.count = rng.choice([n for n in (0, count - 1, count + 1, 2047, 8191) if n != count and 0 <= n <= 8191])
+    raw.count = rng.choice(other_counts(raw.count, RUN_FACES, MOST_FACES))
 
 def step_zero_bit(rng, lag, raw):
     last = lagoon.STEP_ZEROS - 1

@@ -14,9 +14,10 @@ from collections import Counter, namedtuple
 import generate
 import lagoon
 from generate import all_ones
-from lagoon import (CEILING, CLAIM_TABLES, CUT_TABLES, FIRSTS, FLUXES, MASSES, MOST_NAME, MOVED, NEXT, OLD_CEILING, OUTFALLS, OUTSIDES, REACHES,
-                    RELEASES, RIM, SECONDS, SHARES, STEP_TABLES, TOP, VOLUMES, WATER, WORK)
-from script import CALLS, Engine, answered, pattern, spell
+from lagoon import (CEILING, CELLS_BITS, CLAIM_TABLES, CUT_TABLES, FACES_BITS, FIELD_HEAD, FIRSTS, FLUXES, KIND_BITS, LAST_BIT, MASSES, MESH_HEAD,
+                    MOST_BITS, MOST_NAME, MOST_SHARE, MOVED, NEXT, OLD_CEILING, OUTFALLS, OUTSIDES, OUTSIDE_BITS, REACHES, RELEASES, RIM, SECONDS,
+                    SHARES, SHARE_BITS, SIGN_BITS, STEP_HEAD, STEP_TABLES, TOP, VOLUMES, WATER, WORK)
+from script import CALLS, MOST_NUMBERS, ROOM, TOLD_NARROW, TOLD_WIDE, Engine, answered, pattern, spell
 
 Script = namedtuple("Script", "kinds text")
 
@@ -44,7 +45,7 @@ EDGES = {
     VOLUMES: edges(OLD_CEILING, CEILING),
     FIRSTS: edges(RIM - 1, RIM),
     SECONDS: edges(RIM - 1, RIM),
-    SHARES: edges(255),
+    SHARES: edges(MOST_SHARE),
     REACHES: edges(OLD_CEILING, CEILING),
     MASSES: edges(OLD_FULL, FULL, *map(all_ones, lagoon.MASS_BITS)),
     FLUXES: [0, 1, -1, MOST, LEAST] + [sign * (most + more) for most in (OLD_CEILING, CEILING) for more in (0, 1) for sign in (1, -1)],
@@ -271,7 +272,7 @@ def write_step(rng, large, kinds):
         kinds.append("release at an edge")
     kinds.append(f"written as kind {kind}")
     width = told(rng, lent.lag, kinds)
-    need = lagoon.step_length(lagoon.of_width(kind, width == WIDE), lent.cells, lent.faces, lent.tables[SECONDS])
+    need = lagoon.step_length(lagoon.of_width(kind, width == TOLD_WIDE), lent.cells, lent.faces, lent.tables[SECONDS])
     room = room_for(rng, need if need <= 60_000 else 64, kinds)
     return (width, kind, lent.cells, lent.faces, *(lent.tables[position] for position in (*MESH_TABLES, FLUXES, OUTSIDES)), room,
             lent.tables[RELEASES])
@@ -280,16 +281,14 @@ def writer(positions, length):
     def make(rng, large, kinds):
         lent = tables_for(rng, positions, large, kinds)
         width = told(rng, lent.lag, kinds)
-        need = length(lent, width == WIDE)
+        need = length(lent, width == TOLD_WIDE)
         room = room_for(rng, need if need <= 60_000 else 64, kinds)
         return (width, lent.cells, lent.faces, *(lent.tables[position] for position in positions), room)
     return make
 
-NARROW, WIDE = 0, 1
-
 def told(rng, lag, kinds):
-    """The width that a call is told first (document 02, S-10): 1 the wide kinds, any other number the narrow ones."""
-    width = rng.choice([int(lag.wide)] * 6 + [NARROW, WIDE, 2])
+    """The width that a call is told first, as a rule the lagoon's."""
+    width = rng.choice([TOLD_WIDE if lag.wide else TOLD_NARROW] * 6 + [TOLD_NARROW, TOLD_WIDE, 2])
     kinds.append(f"width {width}")
     return width
 
@@ -328,7 +327,7 @@ def mesh_of(rng, large, kinds):
 
 def mesh_length(rng, large, kinds):
     cells, faces, record = mesh_of(rng, False, kinds)
-    return (*limits_for(rng, cells, faces), spoilt(rng, record[:rng.choice([4, 4, 5, len(record)])]))
+    return (*limits_for(rng, cells, faces), spoilt(rng, record[:rng.choice([MESH_HEAD, MESH_HEAD, MESH_HEAD + 1, len(record)])]))
 
 def read_mesh(rng, large, kinds):
     cells, faces, record = mesh_of(rng, large, kinds)
@@ -347,7 +346,7 @@ def field_of(rng, large, kinds):
 
 def field_length(rng, large, kinds):
     width, cells, record, _ = field_of(rng, False, kinds)
-    return width, cells, spoilt(rng, record[:rng.choice([2, 2, 3, len(record)])])
+    return width, cells, spoilt(rng, record[:rng.choice([FIELD_HEAD, FIELD_HEAD, FIELD_HEAD + 1, len(record)])])
 
 def read_field(rng, large, kinds):
     width, cells, record, need = field_of(rng, large, kinds)
@@ -375,7 +374,7 @@ def step_of(rng, large, kinds):
 
 def step_length(rng, large, kinds):
     expected, record, _ = step_of(rng, False, kinds)
-    return *expected, spoilt(rng, record[:rng.choice([4, 4, 5, len(record)])])
+    return *expected, spoilt(rng, record[:rng.choice([STEP_HEAD, STEP_HEAD, STEP_HEAD + 1, len(record)])])
 
 def read_step(rng, large, kinds):
     expected, record, lag = step_of(rng, large, kinds)
@@ -383,13 +382,15 @@ def read_step(rng, large, kinds):
     tables = [filled(rng, need, value, kinds) if rng.random() < 0.5 else [value] * need for need, value in needs]
     return *expected, spoilt(rng, record), *tables
 
+FIELD_WIDTHS = SIGN_BITS, KIND_BITS, SHARE_BITS, CELLS_BITS, FACES_BITS, OUTSIDE_BITS, lagoon.NARROW.mass
+
 def number_at(rng, large, kinds):
     record = list(rng.randbytes(rng.choice([0, 1, 5, 6, 9, 30])))
     bits = 8 * len(record)
-    width = rng.choice([0, 1, 4, 8, 12, 13, 20, 32, 39, 40, 41, rng.choice([64, GREATEST])])
+    width = rng.choice([0, *FIELD_WIDTHS, MOST_BITS - 1, MOST_BITS, MOST_BITS + 1, rng.choice([64, GREATEST])])
     last = max(0, bits - width)
     bit = rng.choice([0, last, last, rng.randint(0, last), rng.randint(0, last), last + 1,
-                      rng.choice([bits, bits + 1, 1 << 32, (1 << 32) + 1, GREATEST])])
+                      rng.choice([bits, bits + 1, LAST_BIT, LAST_BIT + 1, GREATEST])])
     return record, bit, width
 
 def harmed_call(rng):
@@ -573,7 +574,7 @@ def charge(rng, large, kinds):
     elif damage == "remainder":
         remainder = rng.choice([units, GREATEST])
     elif damage == "bands":
-        bands = rng.choice([0, 9, 1 << 61, GREATEST])
+        bands = rng.choice([0, lagoon.MOST_BANDS + 1, 1 << 61, GREATEST])
     elif damage == "short ends":
         del ends[bands - 1:]
     elif damage == "short prices":
@@ -704,7 +705,7 @@ def broken(rng, text):
     elif kind == "call":
         words[0] = rng.choice(["0", str(1 + max(CALLS)), "-1", str(GREATEST)])
     elif kind == "long table":
-        words[min(3, len(words) - 1)] = rng.choice(["24577", "65537", str(GREATEST)])
+        words[min(3, len(words) - 1)] = rng.choice([str(ROOM["t"] + 1), str(ROOM["b"] + 1), str(GREATEST)])
     elif kind == "signed":
         words[at] = rng.choice([str(LEAST), str(LEAST - 1), str(MOST), str(MOST + 1)])
     else:
@@ -716,7 +717,7 @@ def broken(rng, text):
 
 RIM_FACES = [0] * FACES, [RIM] * FACES, [0] * FACES, [0] * FACES
 
-CUT_FACES = (119_999 - 30 - 10 * CELLS) // 18      # all numbers of a cutting of so many cells and faces are fewer than 120,000
+CUT_FACES = (MOST_NUMBERS - 1 - 30 - 10 * CELLS) // 18     # all numbers of a cutting of so many cells and faces are fewer than a call may have
 
 def whole_channel():
     """Tables of a cutting: all cells in a row, water through all of them, and rim faces without water."""
@@ -732,7 +733,7 @@ def room_for_part():
 
 def largest_records(width):
     """The largest records of a width with the greatest values, written and read back, and handed to the calls that take no more than the run."""
-    wide = width == WIDE
+    wide = width == TOLD_WIDE
     ceiling, most_release = lagoon.ceiling_of(wide), MOST_RELEASE[wide]
     mesh, pool = (lagoon.Mesh([ceiling] * cells, *RIM_FACES) for cells in (CELLS, 1))
     volumes, masses = mesh.volumes, [ceiling * (TOP + 1) - 1] * CELLS
@@ -771,8 +772,8 @@ def largest():
     last = (CELLS - 1) // lagoon.PAGE_CELLS
     rooms = [170] * (1 + lagoon.page_length(volumes, CELLS, 0)), [170] * lagoon.page_length(volumes, CELLS, last)
     return "".join([
-        *largest_records(NARROW),
-        *largest_records(WIDE),
+        *largest_records(TOLD_NARROW),
+        *largest_records(TOLD_WIDE),
         "# the largest tables\n",
         spell("check_mesh", CELLS, FACES, *mesh),
         spell("check_field", CELLS, FACES, *mesh, masses),
@@ -804,7 +805,7 @@ def largest():
         spell("add", FACES, [RIM] * FACES, [0] * (FACES - 1) + [1], [GREATEST] * (FACES - 1) + [lagoon.LAST_END]),
         spell("add", FACES, [0] * FACES, [MOST] * FACES, [GREATEST] * FACES),
         "# more numbers than a call may have\n",
-        spell("check_field", 1, 1, *([0] * 24_576 for _ in range(6))),
+        spell("check_field", 1, 1, *([0] * ROOM["t"] for _ in range(6))),
     ])
 
 def script(seed, number):

@@ -2,7 +2,21 @@
 """Document 01 and the requests of document 02 written once more, in plain integers and from the documents alone.
 
 The functions follow its order; nothing is made fast. A refusal is raised as Refusal(cause, place), with the numbers
-of the document's table of causes.
+of the document's table of causes. One file, since a slip (slips.py) replaces a function here for all that call it. Its parts:
+
+    Mesh, water and salt    concentrations, and the quotient toward 0
+    One step                stages 1 to 5; S-5, S-6; advance, and S-8's plain and unrounded steps
+    Causes                  a judge for each
+    Tables lent to a step   lengths, all causes of a step, the steps on tables; S-11's judging
+    Record layouts          bits, fields, heads, reading and writing, of both widths (S-10)
+    The host's call         records to the next field
+    Named states            S-4
+    Shares                  S-7, from survey points
+    The board and the run   S-2's order, and what the run prints
+    Pages                   S-1
+    Two boards              S-12, a lagoon cut in two
+    Brine charge            S-13
+    Closed grounds          S-14, the public page and board
 """
 
 import argparse
@@ -13,6 +27,7 @@ from fractions import Fraction
 
 RIM = 4095                  # the mark of the rim in the place of a second cell
 TOP = 1_000_000             # greatest concentration
+MOST_SHARE = 255
 CEILING = 65_535            # greatest V, K and |U| over the rim (document 02, S-10)
 OLD_CEILING = 4_095         # and those that records of kinds 1 to 4 hold
 MOST_CLAIMED = 1 << 40      # greatest size of a claimed mass
@@ -30,22 +45,27 @@ CUT_TABLES = (*range(NEXT), RELEASES)           # of a cutting, of the whole and
 MESH, FIELD, WATER, OUTFALLS = 1, 2, 3, 4
 WIDER = 4                   # document 02, S-10: kinds 5 to 8 are kinds 1 to 4 with wider fields
 
-# Bits of what stands in a record. V, K and the size of U have a narrow and a wide width, and so have masses and releases.
+# Bits of a head's fields, and of those of a body that have one width.
 KIND_BITS, CELLS_BITS, FACES_BITS, MESH_ZEROS, STEP_ZEROS = 4, 12, 13, 3, 15
-END_BITS, SHARE_BITS, OUTSIDE_BITS = 12, 8, 20
-VALUE_BITS, MASS_BITS = (12, 16), (32, 40)
+END_BITS, SHARE_BITS, SIGN_BITS, OUTSIDE_BITS = 12, 8, 1, 20
+# And of those that have two: V, K, the size of U, and masses, to which releases belong.
+Widths = namedtuple("Widths", "volume reach size mass")
+NARROW, WIDE = Widths(12, 12, 12, 32), Widths(16, 16, 16, 40)
+MASS_BITS = NARROW.mass, WIDE.mass
 MESH_HEAD = (KIND_BITS + CELLS_BITS + FACES_BITS + MESH_ZEROS) // 8         # bytes
 FIELD_HEAD = (KIND_BITS + CELLS_BITS) // 8
 STEP_HEAD = (KIND_BITS + FACES_BITS + STEP_ZEROS) // 8
 
-# The same by the kind of the record.
+# The fields of a body by the kind of the record; kinds 3 and 7 have no releases.
 MeshBits = namedtuple("MeshBits", "volume first second share reach")
 StepBits = namedtuple("StepBits", "size outside release")
-WIDTHS = tuple(zip((0, WIDER), VALUE_BITS, MASS_BITS))
-MESH_BITS = {wider + MESH: MeshBits(value, END_BITS, END_BITS, SHARE_BITS, value) for wider, value, _ in WIDTHS}
-FIELD_BITS = {wider + FIELD: mass for wider, _, mass in WIDTHS}
-STEP_BITS = {wider + kind: StepBits(value, OUTSIDE_BITS, release)
-             for wider, value, mass in WIDTHS for kind, release in ((WATER, 0), (OUTFALLS, mass))}
+BY_WIDTH = (0, NARROW), (WIDER, WIDE)
+MESH_BITS = {wider + MESH: MeshBits(bits.volume, END_BITS, END_BITS, SHARE_BITS, bits.reach) for wider, bits in BY_WIDTH}
+FIELD_BITS = {wider + FIELD: bits.mass for wider, bits in BY_WIDTH}
+STEP_BITS = {wider + kind: StepBits(bits.size, OUTSIDE_BITS, release)
+             for wider, bits in BY_WIDTH for kind, release in ((WATER, 0), (OUTFALLS, bits.mass))}
+MOST_BITS = 40              # the engine's own bound (docs/CALLS.md): a number is read by so many bits at most,
+LAST_BIT = 1 << 32          # and from no later bit than this
 
 Mesh = namedtuple("Mesh", "volumes firsts seconds shares reaches")
 Step = namedtuple("Step", "kind fluxes outsides releases")
@@ -244,7 +264,7 @@ def judge_mesh(mesh, ceiling=CEILING):
     refuse_first(3, (not 1 <= V <= ceiling for V in mesh.volumes))
     refuse_first(4, (not 0 <= first < cells or not (0 <= second < cells or second == RIM) or first == second
                      for first, second in zip(mesh.firsts, mesh.seconds)))
-    refuse_first(5, ((s != 0 or K != 0) if second == RIM else not (1 <= s <= 255 and 1 <= K <= ceiling)
+    refuse_first(5, ((s != 0 or K != 0) if second == RIM else not (1 <= s <= MOST_SHARE and 1 <= K <= ceiling)
                      for second, s, K in zip(mesh.seconds, mesh.shares, mesh.reaches)))
 
 def judge_field(mesh, masses):
@@ -404,14 +424,11 @@ def field_length(cells, wide=False):
 
 def step_length(kind, cells, faces, seconds):
     size, outside, release = STEP_BITS[kind]
-    return STEP_HEAD + whole_bytes((1 + size) * faces + outside * seconds[:faces].count(RIM) + release * cells)
+    return STEP_HEAD + whole_bytes((SIGN_BITS + size) * faces + outside * seconds[:faces].count(RIM) + release * cells)
 
 def number_at(record, bit, width):
-    """The number that so many bits spell, None where they are not all there.
-
-    The engine's own bounds (docs/CALLS.md): up to 40 bits at once, from a bit up to 2 to the 32.
-    """
-    if width > 40 or bit > 1 << 32 or bit + width > 8 * len(record):
+    """The number that so many bits spell, None where they are not all there or past the engine's bounds."""
+    if width > MOST_BITS or bit > LAST_BIT or bit + width > 8 * len(record):
         return None
     bits = Bits(record[bit // 8:whole_bytes(bit + width)])
     bits.at = bit % 8
@@ -497,7 +514,7 @@ def read_step(record, cells, faces, seconds, limits=LIBRARY_LIMITS, lengths=None
     bits.take_zeros(STEP_ZEROS)
     fluxes = []
     for _ in range(faces):
-        at, minus, size = bits.at, bits.take(1), bits.take(STEP_BITS[kind].size)
+        at, minus, size = bits.at, bits.take(SIGN_BITS), bits.take(STEP_BITS[kind].size)
         if minus and size == 0:
             raise Refusal(12, at)
         fluxes.append(-size if minus else size)
@@ -506,35 +523,36 @@ def read_step(record, cells, faces, seconds, limits=LIBRARY_LIMITS, lengths=None
     bits.take_padding()
     return Step(kind, fluxes, outsides, releases)
 
-def mesh_start(kind, cells, faces, zeros=0):
-    return [(kind, KIND_BITS), (cells, CELLS_BITS), (faces, FACES_BITS), (zeros, MESH_ZEROS)]
+def mesh_fields(kind, cells, faces, zeros, bits, volumes, rows):
+    """All fields of a mesh record as (value, width), in its order: the head, the volumes, and a row for each face."""
+    head = [(kind, KIND_BITS), (cells, CELLS_BITS), (faces, FACES_BITS), (zeros, MESH_ZEROS)]
+    volume, *face = bits
+    return head + [(V, volume) for V in volumes] + [field for row in rows for field in zip(row, face)]
 
-def field_start(kind, cells):
-    return [(kind, KIND_BITS), (cells, CELLS_BITS)]
+def field_fields(kind, cells, bits, masses):
+    return [(kind, KIND_BITS), (cells, CELLS_BITS)] + [(m, bits) for m in masses]
 
-def step_start(kind, faces, zeros=0):
-    return [(kind, KIND_BITS), (faces, FACES_BITS), (zeros, STEP_ZEROS)]
+def step_fields(kind, faces, zeros, bits, fluxes, outsides, releases):
+    """The same of a step record; fluxes as (sign, size), outside values of the rim faces alone."""
+    fields = [(kind, KIND_BITS), (faces, FACES_BITS), (zeros, STEP_ZEROS)]
+    for sign, size in fluxes:
+        fields += (sign, SIGN_BITS), (size, bits.size)
+    return fields + [(o, bits.outside) for o in outsides] + [(release, bits.release) for release in releases]
 
 def pack_mesh(mesh, wide=False):
     kind = of_width(MESH, wide)
-    volume, *face = MESH_BITS[kind]
-    values = mesh_start(kind, len(mesh.volumes), len(mesh.firsts)) + [(V, volume) for V in mesh.volumes]
-    for row in zip(*mesh[1:]):
-        values += zip(row, face)
-    return pack(values)
+    return pack(mesh_fields(kind, len(mesh.volumes), len(mesh.firsts), 0, MESH_BITS[kind], mesh.volumes, zip(*mesh[1:])))
 
 def pack_field(masses, wide=False):
     kind = of_width(FIELD, wide)
-    return pack(field_start(kind, len(masses)) + [(m, FIELD_BITS[kind]) for m in masses])
+    return pack(field_fields(kind, len(masses), FIELD_BITS[kind], masses))
 
 def pack_step(mesh, fluxes, outsides, releases=None, wide=False):
     """Kind 4 where there are releases, else kind 3; wide, 8 and 7."""
     kind = of_width(WATER if releases is None else OUTFALLS, wide)
-    values = step_start(kind, len(fluxes))
-    for U in fluxes:
-        values += [(1 if U < 0 else 0, 1), (abs(U), STEP_BITS[kind].size)]
-    values += [(o, STEP_BITS[kind].outside) for second, o in zip(mesh.seconds, outsides) if second == RIM]
-    return pack(values + [(release, STEP_BITS[kind].release) for release in releases or []])
+    signed = [(int(U < 0), abs(U)) for U in fluxes]
+    at_rim = [o for second, o in zip(mesh.seconds, outsides) if second == RIM]
+    return pack(step_fields(kind, len(fluxes), 0, STEP_BITS[kind], signed, at_rim, releases or []))
 
 def judge_writing(cells, faces, tables, needs, length, room, wide):
     """What all writers test first: causes 1 to 5, where the bytes lent are position 11 of cause 2."""
@@ -692,7 +710,7 @@ def face_share(coordinates):
     found = middle_stage(coordinates)
     if found[0] == "bad":
         raise Refusal(19, found[1])
-    if found[0] == "nothing" or not 1 <= share_of(found[1]) <= 255:
+    if found[0] == "nothing" or not 1 <= share_of(found[1]) <= MOST_SHARE:
         raise Refusal(20, 0)
     return share_of(found[1])
 
