@@ -38,7 +38,8 @@ found 's/above 65,535 or kept already/above 65,536 or kept already/'
 html() { # PAGE: as HTML
   PYTHONPATH=tools PYTHONDONTWRITEBYTECODE=1 python3 -c 'import pathlib, sys, paper; print(paper.page(pathlib.Path(sys.argv[1])))' "$1"
 }
-html "$page" | grep -q '<h2 class="page" id="18-a-form-for-one-step">'
+html "$page" > "$made/page.html"
+grep -q '<h2 class="page" id="18-a-form-for-one-step">' "$made/page.html"
 html docs/PROMISES.md > "$made/page.html"
 grep -o 'href="#[^"]*"' "$made/page.html" | sort -u | sed 's/href="#\(.*\)"/\1/' > "$made/wanted"
 test "$(wc -l < "$made/wanted")" -gt 100

@@ -13,7 +13,7 @@ from toolcase import ROOT, breaks, command, equal, folder, holds, interrupted, k
 
 PAGE = ROOT / "docs" / "SURVEY-TO-SESSION.md"
 CELLS, FACES = ROOT / "examples" / "bay-cells.csv", ROOT / "examples" / "bay-faces.csv"
-COMMANDS = 9
+COMMANDS = 11
 
 
 def printed(block):
