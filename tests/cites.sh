@@ -1,6 +1,6 @@
 #!/usr/bin/env bash
 # Every file, name and quoted line that README.md, the pages of docs/ and the landing notes cite is there and every link leads somewhere, the
-# crates stand under the same headings everywhere, and every must-fail edit is one that rt reads whole; and the tests do find what is wrong.
+# crates stand under the same headings everywhere, the causes are told alike, and every must-fail edit is one that rt reads whole; and the tests do find what is wrong.
 set -eu
 cd "$(dirname "$0")/.."
 python3 tests/cites.py README.md docs/*.md docs/landings/*.md
@@ -31,6 +31,22 @@ found docs/landings/S-04.md 's,`kept/specs/Store.antt`,`store/specs/Store.antt`,
 python3 tests/families.py
 sed 's/^portion: /portions: /' crates.txt > "$made/crates.txt"
 if python3 tests/families.py "$made/crates.txt" > "$made/said" 2>&1; then echo "a crate that README.md does not have is not found"; exit 1; fi
+
+python3 tests/causes.py
+other() { # PAGE SED-EXPRESSION: a cause that is told otherwise has to be found
+  sed "$2" "$1" > "$made/page.md"
+  if cmp -s "$1" "$made/page.md"; then echo "$2 changes nothing in $1"; exit 1; fi
+  if python3 tests/causes.py --in "$1" "$made/page.md" > "$made/said" 2>&1; then echo "$2 in $1 is not found"; exit 1; fi
+}
+other docs/CALLS.md 's/^| 21 | `Moved` |/| 21 | `Bounds` |/'
+other docs/CALLS.md '/^| 27 | `Mark`/d'
+other README.md 's/9 inflow and outflow differ, 10 outflow above the volume/9 outflow above the volume, 10 inflow and outflow differ/'
+other docs/ARITHMETIC.md '/^| 16 | a store/d'
+other docs/ARITHMETIC.md 's/^| 15 | a name 0, above 65,535/| 15 | a name 0, above 4,095/'
+other docs/ARITHMETIC.md 's/^\(| 22 | .*\) | cell |$/\1 | face |/'
+other include/lagoon.h 's/volume outside 1 to 65,535; place: the cell/volume outside 1 to 4,096; place: the cell/'
+other python/lagoon/causes.py 's/"a wrong bit in a record"/"a record of the wrong kind"/'
+other examples/lagoon_records.h 's/"record of the wrong length"/"a flux larger than its reach"/'
 
 python3 tests/edits.py
 mkdir -p "$made/bits/must-fail"
