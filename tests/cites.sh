@@ -1,6 +1,6 @@
 #!/usr/bin/env bash
 # Every file, name and quoted line that README.md, the pages of docs/ and the landing notes cite is there and every link leads somewhere, the
-# crates stand under the same headings everywhere, the causes are told alike, and every must-fail edit is one that rt reads whole; and the tests do find what is wrong.
+# crates stand under the same headings everywhere, laws are cited where it is said, the causes are told alike, and every must-fail edit is one that rt reads whole; and the tests do find what is wrong.
 set -eu
 cd "$(dirname "$0")/.."
 python3 tests/cites.py README.md docs/*.md docs/landings/*.md
@@ -27,6 +27,10 @@ found docs/ACCURACY.md 's/(accuracy.svg)/(accurate.svg)/'
 found docs/CALLS.md 's/^total: accepted 200000/total: accepted 200001/'
 found docs/CALLS.md 's/^    masses: &\[u64\],/    masses: \&[u32],/'
 found docs/landings/S-04.md 's,`kept/specs/Store.antt`,`store/specs/Store.antt`,'
+
+python3 tests/laws.py
+sed 's#`judging/proofs/Own.antt`, billed#`judging/proofs/Laws.antt`, billed#' docs/DESIGN.md > "$made/page.md"
+if python3 tests/laws.py "$made/page.md" > "$made/said" 2>&1; then echo "a file that cites no law is not found"; exit 1; fi
 
 python3 tests/families.py
 sed 's/^portion: /portions: /' crates.txt > "$made/crates.txt"
