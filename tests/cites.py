@@ -12,7 +12,7 @@ A path in backticks has to exist, from the top folder or from crates/. Names in 
 A path marked with a dagger, †, is planned: it has to be missing, so that the mark goes when the thing comes.
 A link [words](target) leads to a file, to a heading or to a heading of a file. A page that ends with <!-- links --> and a list has
 every cited path as a link by its own name, [`model/specs/Step.antt`], and so a heading, [Stage 1: upwind]: it can be read as plain text, and
-the list below says where each leads. --link writes it.
+the list below says where each leads. --link writes it. There every heading of the third level is linked to, so that an index is whole.
 """
 
 import os
@@ -90,8 +90,9 @@ def prose(text):
         within ^= fence
 
 
-def headings(text):
-    return [found[1] for found in map(HEADING.fullmatch, prose(text)) if found]
+def headings(text, level=""):
+    """The headings of a page, or those of one level."""
+    return [found[1] for found in map(HEADING.fullmatch, prose(text)) if found and found[0].startswith(level)]
 
 
 def with_links(text, place):
@@ -132,6 +133,8 @@ def link_faults(text, place):
                 faults += target_faults(target[1:-1], place, own)
     if LIST in text:
         faults += [f"two headings are called {name}" for name in sorted({name for name in own if own.count(name) > 1})]
+        linked = {mark[2] for line in prose(body) for mark in LINK.finditer(line)}
+        faults += [f"no link leads to the heading {heading}" for heading in headings(body, "### ") if heading not in linked]
         if with_links(text, place) != text:
             faults.append("a path is no link, or the list of links is another: tests/cites.py --link makes it")
     return [f"{place}: {fault}" for fault in faults], count
