@@ -92,7 +92,12 @@ def prose(text):
 
 def headings(text, level=""):
     """The headings of a page, or those of one level."""
-    return [found[1] for found in map(HEADING.fullmatch, prose(text)) if found and found[0].startswith(level)]
+    return [line[1] for line in map(HEADING.fullmatch, prose(text)) if line and line[0].startswith(level)]
+
+
+def links(text):
+    """The links of a page, each with its words and its target, None where the list at the end has it."""
+    return [(mark[2], mark[3]) for line in prose(text.split(LIST)[0]) for mark in LINK.finditer(line) if mark[2]]
 
 
 def with_links(text, place):
@@ -107,7 +112,7 @@ def with_links(text, place):
         within ^= fence
         lines.append(line if fence or within or line.startswith("#") else LINK.sub(link, line))
     body = "\n".join(lines)
-    labels = {mark[2] for line in prose(body) for mark in LINK.finditer(line) if mark[2] and not mark[3]}
+    labels = {words for words, target in links(body) if not target}
     named = [f"[{heading}]: #{anchor(heading)}" for heading in headings(body) if heading in labels]
     paths = sorted(label.strip("`") for label in labels if label.startswith("`"))
     files = [f"[`{path}`]: {os.path.relpath(found(path), (ROOT / place).parent)}" for path in paths if found(path)]
@@ -115,29 +120,27 @@ def with_links(text, place):
 
 
 def link_faults(text, place):
-    """Links that lead nowhere, and a list that is not the one of this page."""
-    faults, count = [], 0
-    body = text.split(LIST)[0]
-    own = [anchor(heading) for heading in headings(body)]
-    labels = set(headings(body))
-    for line in prose(body):
-        for mark in LINK.finditer(line):
-            label, target = mark[2], mark[3]
-            if label is None or (target is None and LIST not in text):
-                continue
-            count += 1
-            if target is None:
-                good = found(label.strip("`")) if label.startswith("`") else label in labels
-                faults += [] if good else [f"[{label}] is no heading of this page and no path"]
-            else:
-                faults += target_faults(target[1:-1], place, own)
-    if LIST in text:
-        faults += [f"two headings are called {name}" for name in sorted({name for name in own if own.count(name) > 1})]
-        linked = {mark[2] for line in prose(body) for mark in LINK.finditer(line)}
-        faults += [f"no link leads to the heading {heading}" for heading in headings(body, "### ") if heading not in linked]
-        if with_links(text, place) != text:
-            faults.append("a path is no link, or the list of links is another: tests/cites.py --link makes it")
+    """Links that lead nowhere."""
+    faults, count = list_faults(text, place) if LIST in text else [], 0
+    named = headings(text.split(LIST)[0])
+    for words, target in links(text):
+        if target:
+            faults += target_faults(target[1:-1], place, [anchor(heading) for heading in named])
+        elif LIST in text and not (found(words.strip("`")) if words.startswith("`") else words in named):
+            faults.append(f"[{words}] is no heading of this page and no path")
+        count += bool(target) or LIST in text
     return [f"{place}: {fault}" for fault in faults], count
+
+
+def list_faults(text, place):
+    """What is wrong with a page that has a list of links."""
+    body = text.split(LIST)[0]
+    names, linked = [anchor(heading) for heading in headings(body)], {words for words, _ in links(body)}
+    faults = [f"two headings are called {name}" for name in sorted({name for name in names if names.count(name) > 1})]
+    faults += [f"no link leads to the heading {heading}" for heading in headings(body, "### ") if heading not in linked]
+    if with_links(text, place) != text:
+        faults.append("a path is no link, or the list of links is another: tests/cites.py --link makes it")
+    return faults
 
 
 def target_faults(target, place, own):
