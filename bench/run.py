@@ -59,7 +59,7 @@ def build(engine_too):
     if engine_too:
         command("rt", "check", "bench_step", "run")
         command("rt", "staticlib", "lagoon")
-    gcc = ("gcc", "-std=c11", "-O3", "-Wall", "-Wextra", "-Werror")
+    gcc = ("gcc", "-std=c11", "-O2", "-Wall", "-Wextra", "-Werror")     # quicker than -O3: bench/README.md
     for form in FORMS:
         for large in (False, True):
             defined = ["-DTUNED"] * (form == TUNED) + ["-DLARGE"] * large
