@@ -1,7 +1,7 @@
 #!/usr/bin/env python3
 """The bench's lagoon through the reference, with all its tests.
 
-Prints the line that yardstick and bench_step print for one round, and on standard error how busy each stage is.
+Prints the line that yardstick and bench_step print for so many rounds, and on standard error how busy each stage is at the start of each.
 """
 
 import argparse
@@ -22,12 +22,12 @@ def wave(k):
 def stream(x, y):
     return 5 * wave(x) * wave(y) + 37 * x * y % 11
 
-def make(width, height, large=False):
-    """The tables in document 01's order up to the outsides."""
+def make(width, height, large):
+    """The tables in document 01's order up to the fluxes."""
     scale = SCALE if large else 1
     scaled = lambda value: min(scale * value, lagoon.CEILING)
     volumes, masses = [], []
-    firsts, seconds, shares, reaches, fluxes, outsides = [], [], [], [], [], []
+    firsts, seconds, shares, reaches, fluxes = [], [], [], [], []
     for c in range(width * height):
         y, x = divmod(c, width)
         V = scaled(150 + 29 * c % 256)
@@ -43,11 +43,21 @@ def make(width, height, large=False):
             shares.append(0 if is_open else 64 + 53 * f % 128)
             reaches.append(0 if is_open else scaled(80 + 23 * f % 256))
             fluxes.append(scale * U)
-            outsides.append(f % 5 * 250000 if is_open and U < 0 else 0)
-    return [volumes, firsts, seconds, shares, reaches, masses, fluxes, outsides]
+    return [volumes, firsts, seconds, shares, reaches, masses, fluxes]
 
 def mixed(digest, x):
     return (digest * BASE + x % PRIME) % PRIME
+
+def seasons(rounds):
+    """A number for each round, by which its outside values are told; they follow no rule that comes round again soon."""
+    season = 1
+    for r in range(rounds):
+        season = mixed(season, r)
+        yield season
+
+def outsides_of(season, seconds, fluxes):
+    """Where water comes in over the rim, else 0."""
+    return [(f + season) % 5 * 250000 if second == lagoon.RIM and U < 0 else 0 for f, (second, U) in enumerate(zip(seconds, fluxes))]
 
 def products(mesh, kept, gains, losses):
     """What the limiter divides: a·G where the receiver's P is above G, a·L where the giver's N is above L."""
@@ -80,18 +90,20 @@ def how_busy(tables):
             "cut to 0": sum(a != 0 and b == 0 for a, b in zip(kept, limited)),
             "past 64 bits": sum(product >= 1 << 64 for product in products(mesh, kept, *allowed))}
 
-def one_round(width, height, large=False, watch=lambda step, tables: None):
-    """Masses and moved after one round, and in-mass and out-mass of all its steps."""
+def after_rounds(width, height, large, rounds, watch=lambda r, tables: None):
+    """Masses and moved after so many rounds, and in-mass and out-mass of all their steps."""
     tables = make(width, height, large)
     cells, faces = width * height, 2 * width * height
     entered = gone = 0
-    for step in range(STEPS):
-        watch(step, tables)
-        filled = [0] * cells, [0] * faces, [0] * (4 * cells + faces)
-        lent = dict(zip(lagoon.STEP_TABLES, (*tables, *filled, [0] * cells), strict=True))
-        crossed = lagoon.step_on_tables(cells, faces, lent)
-        entered, gone = entered + crossed[0], gone + crossed[1]
-        tables[5], moved = lent[lagoon.NEXT], lent[lagoon.MOVED]
+    for r, season in enumerate(seasons(rounds)):
+        outsides = outsides_of(season, tables[2], tables[6])
+        watch(r, [*tables, outsides])
+        for _ in range(STEPS):
+            filled = [0] * cells, [0] * faces, [0] * (4 * cells + faces)
+            lent = dict(zip(lagoon.STEP_TABLES, (*tables, outsides, *filled, [0] * cells), strict=True))
+            crossed = lagoon.step_on_tables(cells, faces, lent)
+            entered, gone = entered + crossed[0], gone + crossed[1]
+            tables[5], moved = lent[lagoon.NEXT], lent[lagoon.MOVED]
     return tables[5], moved, entered, gone
 
 def digest_of(numbers):
@@ -100,25 +112,26 @@ def digest_of(numbers):
         digest = mixed(digest, x)
     return digest
 
-def line_of_tables(width, height, large=False):
-    """What yardstick and bench_step print for one round."""
-    masses, moved, entered, gone = one_round(width, height, large)
+def line_of_tables(width, height, large, rounds):
+    """What yardstick and bench_step print."""
+    masses, moved, entered, gone = after_rounds(width, height, large, rounds)
     return f"{sum(masses)} {entered} {gone} {digest_of(masses + [2 * abs(x) + (x < 0) for x in moved])}\n"
 
-def line_of_records(width, height, large=False):
-    """What records prints for one round of calls."""
-    masses, *_ = one_round(width, height, large)
+def line_of_records(width, height, large, rounds):
+    """What records prints of its calls."""
+    masses, *_ = after_rounds(width, height, large, rounds)
     return f"{sum(masses)} {digest_of(masses)}\n"
 
 def main():
     parser = argparse.ArgumentParser(description=__doc__, formatter_class=argparse.RawDescriptionHelpFormatter)
     parser.add_argument("width", type=int)
     parser.add_argument("height", type=int)
+    parser.add_argument("rounds", type=int)
     parser.add_argument("--large", action="store_true", help="volumes, reaches and fluxes up to document 02's ceiling")
     options = parser.parse_args()
-    lagoon_of = options.width, options.height, options.large
+    lagoon_of = options.width, options.height, options.large, options.rounds
     print(line_of_tables(*lagoon_of), end="")
-    one_round(*lagoon_of, watch=lambda step, tables: print(f"step {step}:", how_busy(tables), file=sys.stderr))
+    after_rounds(*lagoon_of, watch=lambda r, tables: print(f"round {r}:", how_busy(tables), file=sys.stderr))
 
 
 if __name__ == "__main__":

@@ -13,6 +13,8 @@ struct cell {
   uint64_t q_or_p, lo_or_l, hi_or_g, n, low_q;
 };
 
+typedef int64_t correction_type;
+
 static inline void widen(struct cell *c, uint64_t q) {
   if (q < c->lo_or_l) c->lo_or_l = q;
   if (q > c->hi_or_g) c->hi_or_g = q;
@@ -34,7 +36,7 @@ static void step(size_t cells, size_t faces, const uint64_t *restrict volume, co
                  const uint64_t *restrict second, const uint64_t *restrict share, const uint64_t *restrict reach,
                  const uint64_t *restrict mass, const int64_t *restrict flux, const uint64_t *restrict outside,
                  const uint64_t *restrict release, uint64_t *restrict after, int64_t *restrict through,
-                 struct cell *restrict cell, int64_t *restrict correction, uint64_t *restrict in_mass,
+                 struct cell *restrict cell, correction_type *restrict correction, uint64_t *restrict in_mass,
                  uint64_t *restrict out_mass, uint64_t *restrict released_mass) {
   uint64_t in = 0, out = 0, released = 0;
   for (size_t c = 0; c < cells; c++) {

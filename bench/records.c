@@ -6,17 +6,17 @@
    records session WIDTH HEIGHT ROUNDS   writes a session for the run, with STEPS * ROUNDS steps
    records run                           the plain host as a run: a session from standard input, a line for each step
 
-   At most 1,023 cells. The records are narrow, compiled with LARGE wide. A round of the first three takes STEPS steps from the first field; they print the total and a
-   digest of the last field. */
+   At most 1,023 cells. The records are narrow, compiled with LARGE wide; the plain host is straightforward, compiled with TUNED tuned. A
+   round takes STEPS steps from the field that the one before left; the first three print the total and a digest of the last field. */
 #include <stdio.h>
 #include <stdlib.h>
 #include <string.h>
 
 #include "../include/lagoon.h"
-#include "plain_host.h"
+#include "host.h"
 #include "synthetic.h"
 
-static uint8_t mesh[RECORD], water[RECORD], first_field[RECORD], here[RECORD], there[RECORD];
+static uint8_t mesh[RECORD], water[RECORD], here[RECORD], there[RECORD];
 static size_t mesh_length, water_length, field_length;
 static struct host host;
 
@@ -36,9 +36,9 @@ static void pack_mesh(size_t cells, size_t faces) {
   mesh_length = whole_bytes(c.at);
 }
 
-static void pack_water(size_t faces) {
+/* The head and the fluxes, which all steps share. */
+static void pack_fluxes(size_t faces) {
   struct cursor c = {water, 0};
-  memset(water, 0, sizeof water);
   put(&c, WATER, 4);
   put(&c, faces, 13);
   put(&c, 0, 15);
@@ -46,8 +46,16 @@ static void pack_water(size_t faces) {
     put(&c, fluxes[f] < 0, 1);
     put(&c, (uint64_t)llabs(fluxes[f]), VALUE_BITS);
   }
+}
+
+/* The outside values after them, over those of the round before. */
+static void pack_outsides(size_t faces) {
+  size_t begin = 8 * HEAD + FLUX_BITS * faces;
+  struct cursor c = {water, begin};
+  if (begin % 8) water[begin / 8] &= (uint8_t)(0xff00 >> begin % 8);
+  memset(water + whole_bytes(begin), 0, RECORD - whole_bytes(begin));
   for (size_t f = 0; f < faces; f++)
-    if (seconds[f] == RIM) put(&c, outsides[f], 20);
+    if (seconds[f] == RIM) put(&c, outsides[f], OUTSIDE_BITS);
   water_length = whole_bytes(c.at);
 }
 
@@ -76,9 +84,10 @@ static void by_unpack(uint8_t *from, uint8_t *to) {
   pack_field(host.masses, host.cells, to);
 }
 
-static void take_rounds(void (*way)(uint8_t *, uint8_t *), size_t cells, uint64_t rounds) {
+static void take_rounds(void (*way)(uint8_t *, uint8_t *), size_t cells, size_t faces, uint64_t rounds) {
   for (uint64_t r = 0; r < rounds; r++) {
-    memcpy(here, first_field, field_length);
+    next_season(faces, r);
+    pack_outsides(faces);
     for (int s = 0; s < STEPS; s += 2) {
       way(here, there);
       way(there, here);
@@ -94,15 +103,13 @@ static void take_rounds(void (*way)(uint8_t *, uint8_t *), size_t cells, uint64_
   printf("%llu %llu\n", (unsigned long long)total, (unsigned long long)digest);
 }
 
-/* The outside values change every four steps, so that fronts go on entering however long the session is. */
 static void write_session(size_t faces, uint64_t rounds) {
   fwrite(mesh, 1, mesh_length, stdout);
-  fwrite(first_field, 1, field_length, stdout);
-  for (uint64_t s = 0; s < rounds * STEPS; s++) {
-    for (size_t f = 0; f < faces; f++)
-      if (seconds[f] == RIM && fluxes[f] < 0) outsides[f] = (f + s / 4) % 5 * 250000;
-    pack_water(faces);
-    fwrite(water, 1, water_length, stdout);
+  fwrite(here, 1, field_length, stdout);
+  for (uint64_t r = 0; r < rounds; r++) {
+    next_season(faces, r);
+    pack_outsides(faces);
+    for (int s = 0; s < STEPS; s++) fwrite(water, 1, water_length, stdout);
   }
 }
 
@@ -117,6 +124,7 @@ static void take(uint8_t *bytes, size_t length) {
 }
 
 static void run_session(void) {
+  begin_run();
   take(mesh, HEAD);
   struct cursor c = {mesh, 4};
   size_t cells = get(&c, 12), faces = get(&c, 13), rims = 0;
@@ -125,16 +133,14 @@ static void run_session(void) {
   take(here, FIELD_HEAD + MASS_BYTES * cells);
   unpack_field(&host, here);
   for (size_t f = 0; f < faces; f++) rims += host.seconds[f] == RIM;
-  size_t body = whole_bytes(FLUX_BITS * faces + 20 * rims);
-  printf("0 0 0 %llu 0\n", (unsigned long long)total_of(host.masses, cells));
+  size_t body = whole_bytes(FLUX_BITS * faces + OUTSIDE_BITS * rims);
+  print_line(0, 0, 0, total_of(host.masses, cells), 0);
   for (uint64_t number = 1; fread(water, 1, HEAD, stdin) == HEAD; number++) {
     take(water + HEAD, body + (kind_of(water) == OUTFALLS ? MASS_BYTES * cells : 0));
     unpack_step(&host, water);
     host_step(&host);
     memcpy(host.masses, host.next, cells * sizeof host.next[0]);
-    printf("%llu %llu %llu %llu %llu\n", (unsigned long long)number, (unsigned long long)host.in_mass,
-           (unsigned long long)host.out_mass, (unsigned long long)total_of(host.masses, cells),
-           (unsigned long long)host.released);
+    print_line(number, host.in_mass, host.out_mass, total_of(host.masses, cells), host.released);
   }
 }
 
@@ -154,15 +160,15 @@ int main(int argc, char **argv) {
   size_t cells = width * height, faces = 2 * cells;
   make(width, height);
   pack_mesh(cells, faces);
-  pack_water(faces);
-  pack_field(field, cells, first_field);
+  pack_fluxes(faces);
+  pack_field(masses, cells, here);
   field_length = FIELD_HEAD + MASS_BYTES * cells;
   if (strcmp(argv[1], "call") == 0)
-    take_rounds(by_call, cells, rounds);
+    take_rounds(by_call, cells, faces, rounds);
   else if (strcmp(argv[1], "plain") == 0)
-    take_rounds(by_plain, cells, rounds);
+    take_rounds(by_plain, cells, faces, rounds);
   else if (strcmp(argv[1], "unpack") == 0)
-    take_rounds(by_unpack, cells, rounds);
+    take_rounds(by_unpack, cells, faces, rounds);
   else if (strcmp(argv[1], "session") == 0)
     write_session(faces, rounds);
   else

@@ -5,7 +5,7 @@
 
 #include <stdint.h>
 
-#include "plain_step.h"
+#include "step.h"
 
 enum { CELLS = 4095, FACES = 8190, STEPS = 16, PRIME = 1000000007, BASE = 1000003, CEILING = 65535 };
 
@@ -16,7 +16,7 @@ enum { SCALE = 1 };
 #endif
 
 static uint64_t volumes[CELLS], firsts[FACES], seconds[FACES], shares[FACES], reaches[FACES];
-static uint64_t field[CELLS], outsides[FACES];
+static uint64_t masses[CELLS], outsides[FACES];
 static int64_t fluxes[FACES];
 
 static uint64_t wave(uint64_t k) {
@@ -37,7 +37,7 @@ static void make(uint64_t width, uint64_t height) {
     uint64_t x = c % width, y = c / width;
     volumes[c] = scaled(150 + 29 * c % 256);
     uint64_t q = (x / 6 + y / 6) % 2 == 0 ? 900000 + 7919 * c % 100000 : 4973 * c % 100000;
-    field[c] = volumes[c] * q + 31 * c % 150;
+    masses[c] = volumes[c] * q + 31 * c % 150;
     for (uint64_t side = 0; side < 2; side++) {
       uint64_t f = 2 * c + side;
       int open = side == 0 ? x + 1 == width : y + 1 == height;
@@ -47,11 +47,19 @@ static void make(uint64_t width, uint64_t height) {
       reaches[f] = open ? 0 : scaled(80 + 23 * f % 256);
       fluxes[f] = SCALE * (side == 0 ? (int64_t)stream(x + 1, y + 1) - (int64_t)stream(x + 1, y)
                                      : (int64_t)stream(x, y + 1) - (int64_t)stream(x + 1, y + 1));
-      outsides[f] = open && fluxes[f] < 0 ? f % 5 * 250000 : 0;
     }
   }
 }
 
 static uint64_t mixed(uint64_t digest, uint64_t x) { return (digest * BASE + x % PRIME) % PRIME; }
+
+/* Before each round: other outside values where water comes in over the rim, by a rule that does not come round again soon. So fronts go on
+   entering, and no branch predictor meets a step that it has learnt. */
+static void next_season(size_t faces, uint64_t round) {
+  static uint64_t season = 1;
+  season = mixed(season, round);
+  for (size_t f = 0; f < faces; f++)
+    if (seconds[f] == RIM && fluxes[f] < 0) outsides[f] = (f + season) % 5 * 250000;
+}
 
 #endif

@@ -1,17 +1,18 @@
 /* The arithmetic of one step of document 01 as plain C, with no test of its input, on a lagoon made here.
-   crates/bench_step makes the same lagoon and calls the engine: both print the same line. Compiled with LARGE it is
-   that of document 02's S-10, on a lagoon of large cells.
+   crates/bench_step makes the same lagoon and calls the engine: both print the same line. Compiled with TUNED it is the tuned form; with
+   LARGE it is that of document 02's S-10, on a lagoon of large cells.
 
-   yardstick WIDTH HEIGHT ROUNDS: a grid of WIDTH * HEIGHT cells, at most 4,095; each round takes STEPS steps from
-   the first field. Printed: total, in-mass and out-mass of all steps, digest of the last masses and moved. */
+   yardstick WIDTH HEIGHT ROUNDS: a grid of WIDTH * HEIGHT cells, at most 4,095; each round takes STEPS steps from the field that the one
+   before left. Printed: total, in-mass and out-mass of all steps, digest of the last masses and moved. */
 #include <stdio.h>
 #include <stdlib.h>
 
-#include "plain_step.h"
+#include "step.h"
 #include "synthetic.h"
 
-static uint64_t masses[CELLS], next[CELLS], releases[CELLS]; /* the step is lent releases, and they are 0 */
-static int64_t moved[FACES], corrections[FACES];
+static uint64_t next[CELLS], releases[CELLS]; /* the step is lent releases, and they are 0 */
+static int64_t moved[FACES];
+static correction_type corrections[FACES];
 static struct cell work[CELLS];
 
 static uint64_t digest_of(size_t cells, size_t faces) {
@@ -27,7 +28,7 @@ static uint64_t digest_of(size_t cells, size_t faces) {
 static void run(size_t cells, size_t faces, uint64_t rounds, uint64_t *in_mass, uint64_t *out_mass) {
   uint64_t released = 0;
   for (uint64_t r = 0; r < rounds; r++) {
-    for (size_t c = 0; c < cells; c++) masses[c] = field[c];
+    next_season(faces, r);
     for (int s = 0; s < STEPS; s += 2) {
       step(cells, faces, volumes, firsts, seconds, shares, reaches, masses, fluxes, outsides, releases, next, moved, work,
            corrections, in_mass, out_mass, &released);

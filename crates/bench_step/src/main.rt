@@ -6,9 +6,9 @@ use model::MAX_CELLS;
 use model::MAX_FACES;
 use std::num::wrapping_add_u64;
 use transport::StepAnswer;
-ghost use Prim.Native.Nat.{_≤_};
-ghost use Rattle.model.specs.Mesh.{maxCells};
-ghost use Rattle.bench_step.specs.Bounds.{maxArgument};
+ghost use Prim.Native.Nat.{_≤_, _<_};
+ghost use Rattle.model.specs.Mesh.{maxCells, maxFaces};
+ghost use Rattle.bench_step.specs.Bounds.{maxArgument, prime};
 
 // Most cells on a side of the grid.
 const SIDE: u64 = MAX_CELLS as u64;
@@ -93,7 +93,28 @@ fn pair(
     with(with(sums, there), back)
 }
 
-// The pairs of some rounds, reported. Each round starts from the first field, so that its fronts stay.
+// Before a pair of steps: another season with its outside values, if a round begins.
+fn change(
+    i: u64,
+    season: u64,
+    faces: usize,
+    seconds: &[u64; MAX_FACES],
+    fluxes: &[i64; MAX_FACES],
+    outsides: &mut [u64; MAX_FACES],
+) -> u64
+    requires { ⌜ (season < prime) × (faces ≤ maxFaces) ⌝ }
+    ensures { λ r. ⌜ r < prime ⌝ }
+{
+    if i % PAIRS != 0 {
+        return season;
+    }
+    let next = text::mixed(season, i / PAIRS);
+    grid::vary(next, faces, seconds, fluxes, outsides);
+    next
+}
+
+// The pairs of some rounds, reported. The field goes on from round to round, and each round has outside values of its own, so that
+// fronts go on entering and no step is taken twice.
 fn repeat(
     cells: usize,
     faces: usize,
@@ -103,14 +124,13 @@ fn repeat(
     seconds: &[u64; MAX_FACES],
     shares: &[u64; MAX_FACES],
     reaches: &[u64; MAX_FACES],
-    field: &[u64; MAX_CELLS],
+    masses: &mut [u64; MAX_CELLS],
     fluxes: &[i64; MAX_FACES],
-    outsides: &[u64; MAX_FACES],
+    outsides: &mut [u64; MAX_FACES],
     releases: &[u64; MAX_CELLS],
 )
-    requires { ⌜ cells ≤ maxCells ⌝ }
+    requires { ⌜ (cells ≤ maxCells) × (faces ≤ maxFaces) ⌝ }
 {
-    let mut masses = [0u64; MAX_CELLS];
     let mut next = [0u64; MAX_CELLS];
     let mut moved = [0i64; MAX_FACES];
     let mut work = [0u64; WORK];
@@ -119,11 +139,10 @@ fn repeat(
         gone: 0,
         refused: 0,
     };
+    let mut season: u64 = 1;
     let mut i = 0;
     while i < pairs {
-        if i % PAIRS == 0 {
-            grid::copy(cells, field, &mut masses);
-        }
+        season = change(i, season, faces, seconds, fluxes, outsides);
         sums = pair(
             cells,
             faces,
@@ -132,7 +151,7 @@ fn repeat(
             seconds,
             shares,
             reaches,
-            &mut masses,
+            masses,
             fluxes,
             outsides,
             &mut next,
@@ -144,7 +163,7 @@ fn repeat(
         i += 1;
     }
     if sums.refused == 0 {
-        text::report(cells, sums.entered, sums.gone, &masses, &moved);
+        text::report(cells, sums.entered, sums.gone, masses, &moved);
     }
 }
 
@@ -157,11 +176,11 @@ fn run(large: bool, cells: usize, width: u64, height: u64, rounds: u64)
     let mut seconds = [0u64; MAX_FACES];
     let mut shares = [0u64; MAX_FACES];
     let mut reaches = [0u64; MAX_FACES];
-    let mut field = [0u64; MAX_CELLS];
+    let mut masses = [0u64; MAX_CELLS];
     let mut fluxes = [0i64; MAX_FACES];
     let mut outsides = [0u64; MAX_FACES];
     let releases = [0u64; MAX_CELLS];
-    grid::make_cells(large, cells, width, &mut volumes, &mut field);
+    grid::make_cells(large, cells, width, &mut volumes, &mut masses);
     grid::make_faces(
         large,
         2 * cells,
@@ -172,7 +191,6 @@ fn run(large: bool, cells: usize, width: u64, height: u64, rounds: u64)
         &mut shares,
         &mut reaches,
         &mut fluxes,
-        &mut outsides,
     );
     repeat(
         cells,
@@ -183,9 +201,9 @@ fn run(large: bool, cells: usize, width: u64, height: u64, rounds: u64)
         &seconds,
         &shares,
         &reaches,
-        &field,
+        &mut masses,
         &fluxes,
-        &outsides,
+        &mut outsides,
         &releases,
     );
 }

@@ -59,7 +59,7 @@ fn total(cells: usize, masses: &[u64; MAX_CELLS]) -> u64
     sum
 }
 
-fn mixed(digest: u64, x: u64) -> u64
+pub fn mixed(digest: u64, x: u64) -> u64
     requires { ⌜ digest < prime ⌝ }
     ensures { λ r. ⌜ r < prime ⌝ }
 {

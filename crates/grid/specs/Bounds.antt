@@ -15,3 +15,7 @@ maxStream = 10000000000000
 -- a value of the large lagoon
 abbrev pub maxScaled : ℕ
 maxScaled = 4360000000000000
+
+-- a season, which outside values follow
+abbrev pub maxSeason : ℕ
+maxSeason = 1000000007

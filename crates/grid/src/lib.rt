@@ -6,7 +6,7 @@ use model::MAX_FACES;
 use model::RIM;
 ghost use Prim.Native.Nat.{_≤_, _<_};
 ghost use Rattle.model.specs.Mesh.{maxCells, maxFaces, maxConcentration, ceiling};
-ghost use Rattle.grid.specs.Bounds.{maxFactor, maxProduct, maxStream, maxScaled};
+ghost use Rattle.grid.specs.Bounds.{maxFactor, maxProduct, maxStream, maxScaled, maxSeason};
 
 const SCALE: u64 = 436;
 
@@ -189,15 +189,6 @@ fn gap(a: u64, b: u64) -> u64
     if a < b { b - a } else { a - b }
 }
 
-fn outside(f: u64, open: bool, inflow: bool) -> u64 {
-    if open {
-        if inflow {
-            return f % 5 * 250000;
-        }
-    }
-    0
-}
-
 fn make_ends(
     large: bool,
     f: usize,
@@ -216,23 +207,15 @@ fn make_ends(
     reaches[f] = reach(large, f as u64, open);
 }
 
-fn make_water(
-    large: bool,
-    f: usize,
-    width: u64,
-    open: bool,
-    fluxes: &mut [i64; MAX_FACES],
-    outsides: &mut [u64; MAX_FACES],
-)
+fn flux(large: bool, f: u64, width: u64) -> i64
     requires { ⌜ (f < maxFaces) × (1 ≤ width) ⌝ }
 {
-    let a = ahead(f as u64, width);
-    let b = behind(f as u64, width);
-    fluxes[f] = signed::with_sign(a < b, scaled(large, gap(a, b)));
-    outsides[f] = outside(f as u64, open, a < b);
+    let a = ahead(f, width);
+    let b = behind(f, width);
+    signed::with_sign(a < b, scaled(large, gap(a, b)))
 }
 
-// The faces of the mesh, and a step's water.
+// The faces of the mesh, and the water through them.
 pub fn make_faces(
     large: bool,
     faces: usize,
@@ -243,7 +226,6 @@ pub fn make_faces(
     shares: &mut [u64; MAX_FACES],
     reaches: &mut [u64; MAX_FACES],
     fluxes: &mut [i64; MAX_FACES],
-    outsides: &mut [u64; MAX_FACES],
 )
     requires { ⌜ (faces ≤ maxFaces) × (1 ≤ width) × (width ≤ maxCells) ⌝ }
 {
@@ -251,18 +233,34 @@ pub fn make_faces(
     while f < faces {
         let open = is_open(f as u64, width, height);
         make_ends(large, f, width, open, firsts, seconds, shares, reaches);
-        make_water(large, f, width, open, fluxes, outsides);
+        fluxes[f] = flux(large, f as u64, width);
         f += 1;
     }
 }
 
-// A field, to be stepped anew.
-pub fn copy(cells: usize, from: &[u64; MAX_CELLS], to: &mut [u64; MAX_CELLS])
-    requires { ⌜ cells ≤ maxCells ⌝ }
+fn outside(season: u64, f: u64) -> u64
+    requires { ⌜ (season ≤ maxSeason) × (f < maxFaces) ⌝ }
 {
-    let mut c = 0;
-    while c < cells {
-        to[c] = from[c];
-        c += 1;
+    (f + season) % 5 * 250000
+}
+
+// The outside values of a season, where water comes in over the rim.
+pub fn vary(
+    season: u64,
+    faces: usize,
+    seconds: &[u64; MAX_FACES],
+    fluxes: &[i64; MAX_FACES],
+    outsides: &mut [u64; MAX_FACES],
+)
+    requires { ⌜ (season ≤ maxSeason) × (faces ≤ maxFaces) ⌝ }
+{
+    let mut f = 0;
+    while f < faces {
+        if seconds[f] == RIM {
+            if signed::is_negative(fluxes[f]) {
+                outsides[f] = outside(season, f as u64);
+            }
+        }
+        f += 1;
     }
 }
