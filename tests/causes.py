@@ -63,7 +63,7 @@ class Table:
         most = max(map(shared, self.rows))
         return {number for number in self.rows if shared(number) == most} if most else set()
 
-    def faults(self, name, said, wanted, places=True):
+    def faults(self, name, said, wanted):
         """What is wrong with a paper's rows, by number: words, and words about the place or None."""
         found = [f"{name}: causes {sorted(set(wanted) ^ set(said))} are missing or too many"] if set(said) != set(wanted) else []
         for number, (what, place) in said.items():
@@ -102,8 +102,8 @@ def of_the_tools(text):
     return {int(number): (what, None) for number, what in re.findall(r'(\d+): "([^"]*)"', re.search(r"^IN_WORDS = \{(.*?)\}", text, re.M | re.S)[1])}
 
 
-def of_the_example(text, table):
-    """lagoon_cause_text, by the names of the header."""
+def of_the_texts(text, table):
+    """lagoon_cause_text in C, by the names of the header."""
     number = {case.upper(): n for n, (case, _, _) in table.rows.items()}
     return {number[case]: (f"{case.lower()} {what}", None) for case, what in re.findall(r'case LAGOON_(\w+): return "([^"]*)"', text)}
 
@@ -116,15 +116,15 @@ def main():
     model = of_the_model(read("crates/model/specs/Answers.antt"))
     faults = [] if model == {number: case for number, (case, _, _) in table.rows.items()} else [f"{SOURCE} and the model number other cases"]
     header, tools = of_the_header(read("include/lagoon.h")), of_the_tools(read("python/lagoon/causes.py"))
-    example = of_the_example(read("examples/lagoon_records.h"), table)
+    texts = of_the_texts(read("include/lagoon.h") + read("examples/lagoon_records.h"), table)
     faults += table.faults("README.md", of_readme(read("README.md")), OF_A_RUN)
     faults += table.faults("docs/ARITHMETIC.md", of_arithmetic(read("docs/ARITHMETIC.md")), every)
     faults += table.faults("include/lagoon.h", header, OF_A_RUN | (every & set(header)))
     faults += table.faults("python/lagoon/causes.py", tools, (OF_A_RUN - {2}) | (every & set(tools)))
-    faults += table.faults("examples/lagoon_records.h", example, set(header) if example else OF_A_RUN)
+    faults += table.faults("lagoon_cause_text", texts, set(header))
     for fault in faults:
         print(fault)
-    print(f"{len(every)} causes, as {SOURCE} has them, in the model, two papers, the header, the tools and the example")
+    print(f"{len(every)} causes, as {SOURCE} has them, in the model, two papers, the header, its texts and the tools")
     return 1 if faults else 0
 
 

@@ -51,7 +51,8 @@ other docs/ARITHMETIC.md 's/^| 15 | a name 0, above 65,535/| 15 | a name 0, abov
 other docs/ARITHMETIC.md 's/^\(| 22 | .*\) | cell |$/\1 | face |/'
 other include/lagoon.h 's/volume outside 1 to 65,535; place: the cell/volume outside 1 to 4,096; place: the cell/'
 other python/lagoon/causes.py 's/"a wrong bit in a record"/"a record of the wrong kind"/'
-other examples/lagoon_records.h 's/"record of the wrong length"/"a flux larger than its reach"/'
+texts=$(grep -l 'case LAGOON_LENGTH: return' include/lagoon.h examples/lagoon_records.h)
+other "$texts" 's/"record of the wrong length"/"a flux larger than its reach"/'
 
 python3 tests/edits.py
 mkdir -p "$made/bits/must-fail"

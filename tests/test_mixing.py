@@ -42,7 +42,7 @@ def pair(volumes, first, fluxes, reach):
 def test_exactly():
     """With share 128 and reach U the pair moves U·(q1 − q2), whatever the volumes, the rests and the order of the two faces."""
     rng = random.Random(38)
-    for _ in range(60):
+    for _ in range(20):
         volumes = [rng.randint(1, 4095) for _ in range(2)]
         U = rng.randint(1, min(volumes))
         first = [volume * rng.randint(0, 1_000_000) + rng.randint(0, volume - 1) for volume in volumes]
