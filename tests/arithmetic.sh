@@ -48,5 +48,11 @@ while read -r name; do
 done < "$made/wanted"
 if grep -q '^<p>.*\.antt.*: \.\./crates' "$made/page.html"; then echo 'the list of links is printed'; exit 1; fi
 
+# and no page is written over what it was read from
+printf '# A page\n' > "$made/own.html"
+cp "$made/own.html" "$made/as_it_was"
+if python3 tools/paper.py "$made/own.html" -o "$made" > "$made/said" 2>&1; then echo 'a page is written over'; exit 1; fi
+cmp "$made/own.html" "$made/as_it_was"
+
 # the worked steps tell each slip that the page names from the right figures
 python3 tests/test_slips.py

@@ -141,13 +141,16 @@ def main():
     parser.add_argument("-o", "--out", type=Path, default=Path("target/paper"), help="the folder (default: target/paper)")
     parser.add_argument("--version", action="version", version=(ROOT / "VERSION").read_text().strip())
     options = parser.parse_args()
+    source = options.out / (options.paper.stem + ".html")
+    target = source.with_suffix(".pdf")
     try:
+        if options.paper.resolve() in (source.resolve(), target.resolve()):
+            sys.exit(f"paper.py: {options.paper} would be written over; -o takes another folder")
+        shown = page(options.paper)
         options.out.mkdir(parents=True, exist_ok=True)
-        source = options.out / (options.paper.stem + ".html")
-        source.write_text(page(options.paper))
+        source.write_text(shown)
     except (OSError, UnicodeDecodeError) as fault:
         sys.exit(f"paper.py: {fault}")
-    target = source.with_suffix(".pdf")
     maker = printed(source, target)
     print(f"{target}, made by {maker}" if maker else f"{source}; no program is here that makes a PDF of it: a browser prints it")
 
