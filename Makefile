@@ -3,6 +3,10 @@
 PREFIX ?= /usr/local
 VERSION := $(shell cat VERSION)
 TO = $(DESTDIR)$(PREFIX)
+PAPERS = $(TO)/share/doc/lagoon
+MANUAL = $(TO)/share/man
+MODULES = $(TO)/share/lagoon/python/lagoon
+SONAME = liblagoon.so.$(firstword $(subst ., ,$(VERSION)))
 
 # as in .ci/run
 export RT_JOBS ?= 4
@@ -12,7 +16,7 @@ help:
 	@echo 'make run        the channel session of document 01: six lines (the first time it proves what it builds, some minutes)'
 	@echo 'make test       the gate: tests, proofs, must-fail edits, programs; its last line is "N passed, M failed"'
 	@echo 'make lib        the C library: target/lib/liblagoon.a and liblagoon.so; the header is include/lagoon.h'
-	@echo 'make install    header, library, pkg-config file, run program and papers to PREFIX=$(PREFIX) (DESTDIR= before it)'
+	@echo 'make install    headers, library, the command lagoon, manual pages, examples and papers to PREFIX=$(PREFIX) (DESTDIR= before it)'
 	@echo 'make uninstall  takes them away again'
 	@echo 'make paper      docs/ARITHMETIC.md and docs/PROMISES.md as pages to print, in target/paper/'
 	@echo 'make compare    the engine against another program, on fixed cases'
@@ -38,18 +42,31 @@ lib:
 
 install: lib
 	@[ -e target/bin/run ] || rt check run > target/run.log 2>&1 || { tail -n 40 target/run.log >&2; exit 1; }
-	install -d $(TO)/include $(TO)/lib/pkgconfig $(TO)/bin $(TO)/share/doc/lagoon
-	install -m 644 include/lagoon.h $(TO)/include/
+	@[ -e target/bin/calls ] || rt check calls > target/calls.log 2>&1 || { tail -n 40 target/calls.log >&2; exit 1; }
+	install -d $(TO)/include $(TO)/lib/pkgconfig $(TO)/bin $(MANUAL)/man1 $(MANUAL)/man3 $(PAPERS)/examples $(MODULES)/built
+	install -m 644 include/lagoon.h examples/lagoon_records.h $(TO)/include/
 	install -m 644 target/lib/liblagoon.a $(TO)/lib/
-	install -m 755 target/lib/liblagoon.so $(TO)/lib/
+	install -m 755 target/lib/liblagoon.so $(TO)/lib/liblagoon.so.$(VERSION)
+	ln -sf liblagoon.so.$(VERSION) $(TO)/lib/$(SONAME)
+	ln -sf $(SONAME) $(TO)/lib/liblagoon.so
 	install -m 755 target/bin/run $(TO)/bin/lagoon-run
-	install -m 644 README.md CHANGES.md docs/*.md examples/lagoon_records.h $(TO)/share/doc/lagoon/
+	install -m 755 bin/lagoon $(TO)/bin/
+	install -m 644 python/lagoon/*.py python/lagoon/py.typed VERSION $(MODULES)/
+	install -m 755 target/bin/calls $(MODULES)/built/
+	ln -sf ../../../../../bin/lagoon-run $(MODULES)/built/run
+	ln -sf ../../../../../lib/$(SONAME) $(MODULES)/built/liblagoon.so
+	install -m 644 README.md CHANGES.md docs/*.md docs/*.svg $(PAPERS)/
+	install -m 644 examples/* $(PAPERS)/examples/
+	install -m 644 docs/man/*.1 $(MANUAL)/man1/
+	install -m 644 docs/man/*.3 $(MANUAL)/man3/
 	printf 'prefix=%s\nName: lagoon\nDescription: salt transport on a lagoon mesh, in whole numbers\nVersion: %s\nCflags: -I$${prefix}/include\nLibs: -L$${prefix}/lib -llagoon\n' \
 	    '$(PREFIX)' '$(VERSION)' > $(TO)/lib/pkgconfig/lagoon.pc
+	@[ -n '$(DESTDIR)' ] || echo 'ldconfig, once and as root, lets programs find $(SONAME) in $(PREFIX)/lib'
 
 uninstall:
-	rm -f $(TO)/include/lagoon.h $(TO)/lib/liblagoon.a $(TO)/lib/liblagoon.so $(TO)/bin/lagoon-run $(TO)/lib/pkgconfig/lagoon.pc
-	rm -rf $(TO)/share/doc/lagoon
+	rm -f $(TO)/include/lagoon.h $(TO)/include/lagoon_records.h $(TO)/lib/liblagoon.a $(TO)/lib/liblagoon.so* $(TO)/bin/lagoon-run $(TO)/bin/lagoon
+	rm -f $(TO)/lib/pkgconfig/lagoon.pc $(MANUAL)/man1/lagoon.1 $(MANUAL)/man3/lagoon.3
+	rm -rf $(PAPERS) $(TO)/share/lagoon
 
 # the archive's page on A4
 paper:

@@ -7,6 +7,7 @@ Stepped through target/lib/liblagoon.so (`make lib`).
 """
 import ctypes
 import sys
+from pathlib import Path
 
 MESH = bytes.fromhex("1003 0020 0640 6406 4000 fff0 0000 0000 0180 0640 0100 2800 6400 2fff 0000 00")
 FIELD = bytes.fromhex("2003 000186a0 00000000 00000000")
@@ -16,7 +17,8 @@ WIDE_MESH = bytes.fromhex("5003 0020 9c40 ffff 9c40 000f ff00 0000 0000 0180 fff
 WIDE_FIELD = bytes.fromhex("6003 0053724e00 0f4231bdbe 09502f9000")
 WIDE_STEP = bytes.fromhex("7002 0000 a710 1388 09c4 04e2 0088 b800 0000")
 
-library = ctypes.CDLL(sys.argv[1] if len(sys.argv) > 1 else "target/lib/liblagoon.so")
+LIBRARY = Path(__file__).resolve().parent.parent / "target" / "lib" / "liblagoon.so"
+library = ctypes.CDLL(sys.argv[1] if len(sys.argv) > 1 else str(LIBRARY))
 library.lagoon_step.restype = ctypes.c_uint64
 library.lagoon_step.argtypes = [ctypes.c_char_p, ctypes.c_size_t] * 4
 

@@ -6,9 +6,9 @@
 
 import subprocess
 
-from toolcase import CHANNEL, HERE, ROOT, RUN, TIDE, breaks, command, equal, folder, interrupted, known, refuses, run_all
+from toolcase import CHANNEL, HERE, ROOT, RUN, TIDE, breaks, command, equal, folder, holds, interrupted, known, refuses, run_all
 
-from package import sessiontext
+from package import cli, sessiontext
 
 
 def test_lines_and_status():
@@ -44,7 +44,10 @@ def test_the_words_of_the_command():
     refuses("invalid choice: 'nothing'", "nothing", status=2)
     status, out, _ = command("--help")
     listed = [line.split()[0] for line in out.decode().splitlines() if line.startswith("    ")]
-    equal((status, listed), (0, "survey fluxes check pack unpack run budget plot binder judge cut charge renumber".split()), "commands in the help")
+    equal((status, listed), (0, list(cli.COMMANDS)), "commands in the help")
+    manual = (ROOT / "docs" / "man" / "lagoon.1").read_text().replace("\\-", "-")
+    for name, (_, _, told) in cli.COMMANDS.items():
+        holds(f".B lagoon {name}\n{told[0].upper() + told[1:]}.\n" in manual, f"docs/man/lagoon.1 should say: lagoon {name}, {told}")
     done = subprocess.run(["python3", "-m", "lagoon", "check"], cwd=ROOT / "python", input=CHANNEL.encode(), capture_output=True)
     equal(done.returncode, 0, "python3 -m lagoon")
 

@@ -1,7 +1,7 @@
 """The pages for the binder: of the last field of a session, or of a field record, one page of sixty cells after another; and the board.
 For growers, or for the public, who are not shown withheld cells."""
 
-from itertools import count, takewhile
+import itertools
 
 from . import causes, command, engine
 from .calls import Calls, spelled
@@ -76,7 +76,7 @@ class Printer:
 
     def all_pages(self):
         """The bytes of each page."""
-        return takewhile(lambda page: page is not None, map(self.page, count()))
+        return itertools.takewhile(lambda page: page is not None, map(self.page, itertools.count()))
 
     def pages(self, between=b""):
         """The bytes of all pages, one after another, with these bytes between them."""

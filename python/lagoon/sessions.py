@@ -9,16 +9,18 @@ from typing import Callable, Iterable, Iterator, NamedTuple, Optional, Union
 
 from . import budget, causes, engine, layout, plot, records, session, sessiontext
 from .command import Bad
+from .timeline import Timeline
 from .values import Field, Mesh, Named, Refused, Step
 
 FIGURES = {"q": lambda mass, volume: mass // volume, "mass": lambda mass, volume: mass, "rest": lambda mass, volume: mass % volume}
 
 
 class Moment:
-    """A session after one of its steps: `step` is its number, 0 before the first; `refusal` is None, or why the step changed nothing."""
+    """A session after one of its steps: `step` is its number, 0 before the first; `time` says when that is, in the words of the text, or
+    nothing; `refusal` is None, or why the step changed nothing."""
 
-    def __init__(self, mesh: Mesh, inner):
-        self.mesh, self.step, self._inner = mesh, inner.number, inner
+    def __init__(self, mesh: Mesh, inner, time: str = ""):
+        self.mesh, self.step, self.time, self._inner = mesh, inner.number, time, inner
         self.refusal = inner.refusal and Refused(inner.refusal, mesh.labels, inner.number)
 
     @property
@@ -114,14 +116,14 @@ class Run:
                 self.progress(number, of)
 
     def __iter__(self) -> Iterator[Moment]:
-        held = None
+        held, mesh, timeline = None, self.session.mesh, Timeline(self.session.labels)
         for inner in self._moments():
             held = inner
             if inner.number % self.every == 0:
                 held = None
-                yield Moment(self.session.mesh, inner)
+                yield Moment(mesh, inner, timeline.words(inner.number))
         if held:
-            yield Moment(self.session.mesh, held)
+            yield Moment(mesh, held, timeline.words(held.number))
 
     def table(self, what: str = "q") -> dict:
         """All cells over all steps that are kept: the steps, then q (or mass, or rest) under the name or number of each cell. It is what
