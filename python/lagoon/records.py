@@ -29,8 +29,12 @@ The text has one item on a line; words are separated by blanks, and # begins a c
                                                   of the step; a cell left out has release 0. A step with such a
                                                   line is a record of kind 4 (wide: 8), one without of kind 3 (7)
   bytes 30 02 00 00                               these bytes as they are, in hexadecimal
+  time 2026-06-01T03:00                           when the step begins, after its first line: a date, a number with or without
+                                                  s, min, h or d, or other words
   unit volume 1000 m3                             what one unit is: volume, mass or step, in words; before the steps
   name cell N Inlet                               the name of a cell or a face, in words; before the steps
+  at cell N X Y                                   where the centre of a cell lies, in metres; before the steps
+  at face N X1 Y1 X2 Y2                           where a face ends
 
 The words are document 01's. Share: the way from the first cell's centre to the face, in 1/256 of the way between
 the centres. Reach: face area times distance between centres, in volume units. Outside: the concentration of the
