@@ -13,7 +13,7 @@ from toolcase import ROOT, breaks, command, equal, folder, holds, interrupted, k
 
 PAGE = ROOT / "docs" / "SURVEY-TO-SESSION.md"
 CELLS, FACES = ROOT / "examples" / "bay-cells.csv", ROOT / "examples" / "bay-faces.csv"
-COMMANDS = 11
+COMMANDS = 13
 
 
 def printed(block):
@@ -38,8 +38,9 @@ def test_the_page():
     for number, (has, wanted) in enumerate(zip(page.splitlines(), again.splitlines()), 1):
         equal(has, wanted, f"{PAGE.name}:{number}, shown and printed")
     equal(again, page, "the page with what its commands print")
+    equal((ROOT / "target" / "bay" / "map.svg").read_text() == (ROOT / "docs" / "bay-map.svg").read_text(), True, "docs/bay-map.svg is what the page makes")
     svg = (ROOT / "target" / "bay" / "bay.svg").read_text()
-    holds(all(name in svg for name in ("North basin", "River mouth", "kg/m³")), "names and units in the picture")
+    holds(all(name in svg for name in ("North basin", "River mouth", "kg/m³", "hours")), "names, units and hours in the picture")
 
 
 def whole(cells, faces, *options, wanted=0):
@@ -146,5 +147,6 @@ def test_the_command():
 if __name__ == "__main__":
     if "--write" in sys.argv:
         PAGE.write_text(worked(PAGE.read_text()))
+        (ROOT / "docs" / "bay-map.svg").write_text((ROOT / "target" / "bay" / "map.svg").read_text())
     else:
         run_all(globals(), "lagoon survey and docs/SURVEY-TO-SESSION.md")

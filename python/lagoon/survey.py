@@ -162,9 +162,14 @@ class Lagoon:
         mesh = self.mesh
         return [f"{count(len(mesh.volumes), 'cell')}, {count(len(mesh.faces), 'face')} ({len(mesh.rim):,} at the rim); a unit of volume is {self.unit:g} m3, "
                 f"of mass {self.unit * self.salt_unit:g} g, of concentration {self.salt_unit:g} g/m3",
-                f"made whole, a volume is changed by {100 * self.changed['volume']:.3g} % at most, a reach by {100 * self.changed['reach']:.3g} %, a first q by {100 * self.changed['q']:.3g} %",
+                f"made whole, a volume is changed by {percent(self.changed['volume'])} at most, a reach by {percent(self.changed['reach'])}, a first q by {percent(self.changed['q'])}",
                 f"for lagoon fluxes: --factor {1 / self.unit:.8g} times the seconds of a step, where the table has m3/s"
                 + (f"; --outside-factor {1 / self.salt_unit:.8g}" if self.salt_unit != 1 else ""), *self.survey.notes]
+
+
+def percent(part):
+    """Of a change; what floats leave of none is none."""
+    return f"{100 * part:.3g} %" if part > 1e-9 else "0 %"
 
 
 def amount(text):
