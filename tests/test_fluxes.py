@@ -6,10 +6,13 @@
 
 import io
 import math
+import os
 import random
 import re
+import subprocess
+import time
 
-from toolcase import CHANNEL, ROOT, RUN, breaks, command, equal, folder, holds, interrupted, known, refuses, run_all, session_of
+from toolcase import CHANNEL, ROOT, RUN, breaks, command, equal, folder, holds, interrupted, known, line_of, refuses, run_all, session_of, unread
 
 from package import causes, layout, sessiontext
 from package.fluxes import UNIT, Water
@@ -120,6 +123,70 @@ def test_out_of_balance():
     made("--tolerance", "0.001", table=near, wanted=1)
 
 
+def test_printed_digits():
+    """A cell may be out of balance by what printing can have taken from its faces, and no more."""
+    for table, factor, fits in (("-1.234,1.235,1.234,1.234", 20, True), ("-1.234,1.236,1.234,1.234", 20, False), ("-1.2340,1.2350,1.2340,1.2340", 20, False),
+                                ("-12.3,12.4,12.3,12.3", 1, True), ("-12.3,12.5,12.3,12.3", 1, False), ("-12,12.0,12,12.1", 1, True),
+                                ("-12,13,12,12", 1, False), ("-1.2e1,1.21e1,12,12", 1, False)):
+        _, said = made("--factor", str(factor), table=f"0,1,2,3\n{table}\n", wanted=0 if fits else 1)
+        holds(("every cell balances in every step" in said) == fits, f"{table} times {factor}: {said}")
+    _, said = made("--factor", "20", table="0,1,2,3\n-1.234,1.235,1.234,1.234\n")
+    holds("differ by 0.02 at most (row 1, cell 0), the tolerance is 0.01 for each of a cell's faces (3 decimals times 20), 0.01 at least" in said, said)
+    made("--factor", "20", "--tolerance", "0.01", table="0,1,2,3\n-1.234,1.235,1.234,1.234\n", wanted=1)
+
+
+def test_releases():
+    """Masses released, by columns and options, times a factor; the parts of a row add up to it, and --carry loses nothing over the rows."""
+    lagoon = LAGOON.replace("mesh", "name cell 1 Salt Pan\nmesh", 1)
+    table = "0,1,2,3,release Salt Pan,release 2\n" + "-1,1,1,1,10.3,0\n" * 4
+    out, _ = made("--packed", table=table, lagoon=lagoon)
+    equal([step.releases for step in steps_of(out)], [[0, 10, 0]] * 4, "each row rounded")
+    out, _ = made("--packed", "--carry", table=table, lagoon=lagoon)
+    equal([step.releases[1] for step in steps_of(out)], [10, 11, 10, 10], "and carried: 41 of 41.2")
+    out, _ = made("--packed", "--split", "3", "--release-factor", "10", "--release", "0=7", table=table, lagoon=lagoon)
+    equal([step.releases for step in steps_of(out)][:3], [[2, 34, 0], [3, 35, 0], [2, 34, 0]], "three parts of 7 and of 103")
+    text, _ = made(table=table, lagoon=lagoon)
+    equal(sessiontext.pack(text.decode())[0], made("--packed", table=table, lagoon=lagoon)[0], "as text and packed")
+    equal([step.releases for step in steps_of(made("--packed", table="0,1,2,3,release 2\n-1,1,1,1,0\n")[0])], [None], "a row that releases nothing")
+    for bad, words in (("release Pan\n1\n", "'Pan' is no cell of the mesh"), ("0,release 0\n1,-1\n", "should be a mass from 0 on, not '-1'"),
+                       ("0,release 0,release cell 0\n1,1,1\n", "release 0 has two columns"), ("release 0\n1e8\n", "row 1: cell 0: release 1,000,000,000"),
+                       ("release 0\nx\n", "should be a mass from 0 on")):
+        _, said = made(table=bad, wanted=1) if words[:3] != "row" else made("--release-factor", "10", table=bad, wanted=1)
+        holds(words in said and said.count("\n") == 1, f"{bad!r}: {said}")
+
+
+def test_times():
+    """The time of a row is kept in the text, where the first part of its steps begins; a unit comes from the heading."""
+    for head, rows, words in (("time", ["2026-06-01 00:00", "2026-06-01 01:00"], ["2026-06-01 00:00", "2026-06-01 01:00"]), ("Time h", ["0", "1"], ["0 h", "1 h"]),
+                              ("date", ["mon", ""], ["mon", ""]), ("step", ["0", "1"], ["", ""])):
+        text, _ = made("--split", "2", table=f"{head},0,1,2,3\n" + "".join(f"{row},-1,1,1,1\n" for row in rows))
+        times = session_of(text).labels.times
+        equal([times.get(step, "") for step in (1, 2, 3, 4)], [words[0], "", words[1], ""], f"times of {head}")
+        equal([step.fluxes[1] for step in steps_of(text)], [step.fluxes[1] for step in steps_of(made("--packed", "--split", "2", table="0,1,2,3\n-1,1,1,1\n-1,1,1,1\n")[0])], head)
+    for bad in ("time,0\n#,1\n", "time,0\n\x1b,1\n"):
+        holds("should be a time" in made(table=bad, wanted=1)[1], bad)
+    holds("two columns" in made(table="time,date,0\n1,1,1\n", wanted=1)[1], "two times")
+
+
+def test_ended():
+    """Ended while it writes, it leaves what was there before, and nothing beside it."""
+    with folder() as place:
+        for name, content in (("lagoon.txt", LAGOON), ("session.txt", "as it was")):
+            with open(f"{place}/{name}", "w") as file:
+                file.write(content)
+        tool = subprocess.Popen(line_of("fluxes", f"{place}/lagoon.txt", "-", "-o", f"{place}/session.txt"), stdin=subprocess.PIPE, stderr=subprocess.PIPE)
+        tool.stdin.write(b"0,1,2,3\n" + b"-1,1,1,1\n" * 1000)
+        tool.stdin.flush()
+        while unread(tool.stdin) or len(os.listdir(place)) < 3:
+            holds(tool.poll() is None, "it waits for more rows")
+            time.sleep(0.01)
+        tool.terminate()
+        said = tool.communicate(timeout=20)[1]
+        equal((tool.returncode, said, sorted(os.listdir(place))), (143, b"", ["lagoon.txt", "session.txt"]), "ended by SIGTERM")
+        with open(f"{place}/session.txt") as file:
+            equal(file.read(), "as it was", "the output")
+
+
 def test_limits():
     """They are named with how far beyond; as many steps of each row as are said keep them."""
     table = "0,1,2,3\n-150.5,150.5,150.5,150.5\n"
@@ -225,7 +292,7 @@ def test_the_command():
         interrupted("fluxes", lagoon, "-")
         refuses("is read", "fluxes", lagoon, table, "-o", table)
         refuses("'x' is no face of the mesh", "fluxes", lagoon, table, "--outside", "x=5")
-        refuses("'1' is no rim face", "fluxes", lagoon, table, "--outside", "1=5")
+        refuses("face 1 is no rim face", "fluxes", lagoon, table, "--outside", "1=5")
         refuses("should be FACE=Q", "fluxes", lagoon, table, "--outside", "sea=1000001")
         for option, value in (("--split", "0"), ("--split", "9" * 5000), ("--factor", "nan"), ("--tolerance", "-1")):
             refuses("not '", "fluxes", lagoon, table, option, value, status=2)

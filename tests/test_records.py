@@ -171,7 +171,7 @@ def test_wide_bytes_are_no_text():
     equal(command("check", data=data)[:2],
           (0, b"<stdin>: 560 cells, 1,100 faces (1,100 at the rim), 0 steps: there is nothing to refuse\n"), "and packed")
     for word in ("Step", "Pond 1", "Sea", "Sessions of June", "_"):
-        refuses(f"<stdin>:1:1: 'mesh', 'field', 'step', 'bytes', 'unit' or 'name' should stand here, not '{word.split()[0]}'", "check",
+        refuses(f"<stdin>:1:1: 'mesh', 'field', 'step', 'bytes', 'unit', 'name' or 'at' should stand here, not '{word.split()[0]}'", "check",
                 data=f"{word}\n{CHANNEL}".encode())
 
 
@@ -255,25 +255,21 @@ def refusals_in(printed):
 
 
 def test_check_says_what_the_run_refuses():
-    """Every refusal of the reference, with its cause, step and place, and no other; of stored and generated sessions. Steps that
-    cause 18 refuses after an accepted one are left out, since check makes no step; it says that there are such."""
-    seen, known = set(), 0
+    """Every refusal of the reference, with its cause, step and place, and no other; of stored and generated sessions. What cause 18 refuses
+    after an accepted step is found by the engine's steps."""
+    seen, later = set(), 0
     for name, data in [*stored(), *generated()]:
         printed = printed_by_reference(data)
         checker = records.check_packed(io.BytesIO(data), name)
-        open_to_check = raised_later(printed)
         report = checker.report()
-        equal([said for said in checked(report[:-1]) if said[1] not in open_to_check],
-              [(kind, step, cause) for kind, step, cause, _ in refused(printed) if step not in open_to_check], name)
-        if not open_to_check:
-            equal(checker.bad(), bool(refused(printed)), f"{name}, whether anything is refused")
-        equal(not checker.ended and "lagoon budget says" in report[-1], checker.open > 0, f"{name}, whether releases are left open")
-        known += sum(cause == 18 and step not in open_to_check for _, step, cause, _ in refused(printed))
+        equal(checked(report[:-1]), [(kind, step, cause) for kind, step, cause, _ in refused(printed)], name)
+        equal((checker.bad(), checker.open), (bool(refused(printed)), 0), f"{name}, whether anything is refused, and all is judged")
+        later += len(raised_later(printed))
         places = judged_places(data)
         equal(places, [(cause, place) for _, _, cause, place in refused(printed)], f"{name}, places")
         seen |= {cause for cause, _ in places}
     equal(seen, {1, 3, 4, 5, 6, 7, 8, 9, 10, 11, 12, 13, 18}, "causes that were tried")
-    holds(known > 5, f"only {known} steps that cause 18 refuses on the first field")
+    holds(later > 5, f"only {later} steps that cause 18 refuses after an accepted one")
 
 
 def raised_later(printed):
@@ -371,9 +367,13 @@ def test_check_in_words():
           (0, b"<stdin>: 3 cells, 4 faces (2 at the rim), 2 steps: the run accepts all\n"), "a session without fault")
     equal(command("check", data=CHANNEL[:CHANNEL.index("field")].encode())[0], 1, "a session without a field")
     later = CHANNEL + "step times 3\ncell 0 release 99900000\n"
-    equal(command("check", data=later.encode())[:2],
-          (0, b"<stdin>: 3 cells, 4 faces (2 at the rim), 5 steps: the run accepts all; whether cause 18 refuses 3 with releases, lagoon budget says\n"),
-          "releases after an accepted step")
+    for given, where in ((later.encode(), ":21"), (sessiontext.pack(later)[0], ": byte 105")):
+        equal(command("check", data=given)[:2], (1, (f"<stdin>{where}: steps 4 to 5, cell 0: mass 100,000,099 and release 99,900,000 in volume 100 are a concentration "
+              "of 1,999,000, above 1,000,000 (cause 18)\n<stdin>: 3 cells, 4 faces (2 at the rim), 5 steps: the run refuses 2 of them\n").encode()),
+              "releases after an accepted step")
+    equal(command("check", "--library", "nowhere", data=later.encode())[:2],
+          (0, b"<stdin>: 3 cells, 4 faces (2 at the rim), 5 steps: the run accepts all; cause 18 is not judged in 3 with releases: nowhere is not there: "
+              b"`make lib` makes it\n"), "without the library")
 
 
 def test_damage_is_said():

@@ -13,7 +13,7 @@ from toolcase import ROOT, breaks, command, equal, folder, holds, interrupted, k
 
 PAGE = ROOT / "docs" / "SURVEY-TO-SESSION.md"
 CELLS, FACES = ROOT / "examples" / "bay-cells.csv", ROOT / "examples" / "bay-faces.csv"
-COMMANDS = 11
+COMMANDS = 13
 
 
 def printed(block):
@@ -38,8 +38,9 @@ def test_the_page():
     for number, (has, wanted) in enumerate(zip(page.splitlines(), again.splitlines()), 1):
         equal(has, wanted, f"{PAGE.name}:{number}, shown and printed")
     equal(again, page, "the page with what its commands print")
+    equal((ROOT / "target" / "bay" / "map.svg").read_text() == (ROOT / "docs" / "bay-map.svg").read_text(), True, "docs/bay-map.svg is what the page makes")
     svg = (ROOT / "target" / "bay" / "bay.svg").read_text()
-    holds(all(name in svg for name in ("North basin", "River mouth", "g per m3")), "names and units in the picture")
+    holds(all(name in svg for name in ("North basin", "River mouth", "kg/m³", "hours")), "names, units and hours in the picture")
 
 
 def whole(cells, faces, *options, wanted=0):
@@ -73,6 +74,33 @@ def test_figures():
     text, _ = whole(TWO.replace("1000", "65535"), ONE, "--volume-unit", "1")
     equal(session_of(text.encode()).mesh.volumes, [65535, 400], "a unit that is given, up to the ceiling")
     equal(whole(TWO.replace(",", ";").replace("100.5", "100,5"), ONE, "--volume-unit", "2")[0], whole(TWO, ONE, "--volume-unit", "2")[0], "semicolons")
+
+
+def test_salt():
+    """By the heading of its column; where that says nothing, small figures are noticed, and what rounding does to them is said."""
+    for heading, salt, q in (("salt", "34800", 34800), ("salt g/m3", "34800", 34800), ("salt kg/m3", "34.8", 34800), ("Salt (kg/m³)", "34.8", 34800),
+                             ("salt [g/l]", "34.8", 34800), ("salt psu", "35", 35931), ("salt mg/l", "34800.9", 34800)):
+        text, said = whole(TWO.replace("salt", heading).replace("35000", salt).replace("100.5", "0"), ONE, "--volume-unit", "1")
+        equal(session_of(text.encode()).masses[0] // 1000, q, f"{heading} {salt}")
+        holds("looks like" not in said, said)
+    _, said = whole(TWO.replace("35000", "34.8").replace("100.5", "4.9"), ONE)
+    holds("a first q by 18.4 %" in said and "note: salt up to 34.8 is taken as g/m3 and looks like kg/m3 or PSU: head the column `salt kg/m3`" in said, said)
+    _, said = whole(TWO.replace("35000", "34.8").replace("100.5", "4.9"), ONE, "--salt-unit", "0.001")
+    holds("a first q by 0 %" in said, said)
+
+
+def test_places():
+    """Centres and ends are kept in the text, from the table of the cells or of the faces; centres that differ are said."""
+    text, _ = whole(TWO, POINTS.replace("g,b,rim,,,,,,,,,", "g,b,rim,,20,-2,20,2,,,,"), "--volume-unit", "2")
+    labels = session_of(text.encode()).labels
+    equal((labels.at["cell"], labels.at["face"]), ({0: (-30, 0), 1: (10, 0)}, {0: (0, -2, 0, 2), 1: (20, -2, 20, 2)}), "from the faces")
+    text, said = whole("cell,volume,salt,x,y\na,1000,35000,1.5,2\nb,400,100.5,,\n", ONE, "--volume-unit", "2")
+    equal((session_of(text.encode()).labels.at["cell"], "note" in said), ({0: (1.5, 2)}, False), "from the cells")
+    text, said = whole("cell,volume,salt,x,y\na,1000,35000,-33,0\nb,400,100.5,10,0.5\n", POINTS, "--volume-unit", "2")
+    equal(session_of(text.encode()).labels.at["cell"], {0: (-33, 0), 1: (10, 0.5)}, "the first is kept")
+    equal([line for line in said.splitlines() if "note" in line],
+          ["note: cell 'a' lies at -33, 0 and by another row at -30, 0: the first is kept for the map"], "and what differs is said")
+    equal(whole(TWO, ONE)[0].count("at "), 0, "no coordinates, no places")
 
 
 POINTS = "face,from,to,area,x1,y1,x2,y2,first x,first y,second x,second y\nf,a,b,10,0,-2,0,2,-30,0,10,0\ng,b,rim,,,,,,,,,\n"
@@ -119,5 +147,6 @@ def test_the_command():
 if __name__ == "__main__":
     if "--write" in sys.argv:
         PAGE.write_text(worked(PAGE.read_text()))
+        (ROOT / "docs" / "bay-map.svg").write_text((ROOT / "target" / "bay" / "map.svg").read_text())
     else:
         run_all(globals(), "lagoon survey and docs/SURVEY-TO-SESSION.md")

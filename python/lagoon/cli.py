@@ -15,6 +15,7 @@ COMMANDS = {
     "run": ("run", "main", "the lines of the run program; status 1 where it refuses anything"),
     "budget": ("budget", "main", "what entered, left and was released, and that it closes"),
     "plot": ("plot", "main", "a picture of a session, or its figures as a table"),
+    "map": ("map", "main", "a map of the lagoon by its concentrations, GeoJSON and VTK"),
     "export": ("export", "main", "all cells over all steps as a table"),
     "binder": ("binder", "main", "the pages for the binder, and the board"),
     "judge": ("judge", "main", "another model's steps judged"),

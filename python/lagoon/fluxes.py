@@ -5,12 +5,12 @@ import csv
 import io
 import math
 import re
-from collections import deque
+from collections import Counter, deque, namedtuple
 
 from . import causes, command, layout
 from .command import Bad, Output, count, shown
 from .layout import RIM, Step
-from .rows import Faces
+from .rows import Cells, Faces
 from .session import Session, is_text
 from .sessiontext import MOST_LINE, MOST_TIMES, StepText, field_text, mesh_text
 
@@ -24,15 +24,20 @@ LAGOON is a session without steps, text or packed. The table is CSV with a row f
 
   face N, N or the face's name     the flux of a face, positive from first to second cell (outward at the rim)
   outside N or outside NAME        the concentration outside a rim face, rounded to whole; used where water enters
-  time, step, date                 not read
+  release N or release NAME        the mass released into a cell, times --release-factor; made whole so that over the parts of
+                                   a row, and with --carry over any number of rows, its sum is changed by half a unit at most
+  time or date                     when the step begins: a date like 2026-06-01T03:00, or a number; kept as `time` of the step. `time h`,
+                                   `time min`, `time s` and `time d` say what a number counts
+  step                             not read
 
 A face without a column has flux 0; that is said. Columns are apart by commas, or by semicolons (a decimal comma is then
 taken too). What is written is the session: LAGOON with the steps, as text, or with --packed as bytes for the run.
 
 Balance: fluxes times --factor are taken to the nearest 1/1,000,000 of a unit, and counted exactly from there. A cell whose
 inflow and outflow differ by at most the tolerance counts as balanced: such a difference comes from printed digits, and is
-carried from cell to cell to the nearest rim face. A larger one is said, with its place, and nothing is written; with
---spread it is carried to the rim like a small one. What that changes is said.
+carried from cell to cell to the nearest rim face. The tolerance, unless given, is for each of a cell's faces half of the last
+decimal that its row prints, times --factor, and 0.01 at least; a row of whole numbers counts as exact. A larger one is said,
+with its place, and nothing is written; with --spread it is carried to the rim like a small one. What that changes is said.
 
 Limits: a flux is at most the reach of its face (65,535 at the rim), a cell's outflow at most its volume. Whole fluxes keep
 them where the real ones do; where those do not, it is said by how much, and --split N makes N shorter steps of each row.
@@ -44,6 +49,7 @@ step that is written has been tried by the causes of document 01.
 
 examples:
   lagoon fluxes lagoon.txt water.csv -o session.txt
+  lagoon fluxes lagoon.txt water.csv --release-factor 7.2 --release 'Salt Pan=2000' -o session.txt
   lagoon fluxes lagoon.txt water.csv --factor 3.6 --outside sea=35000 --split 2 --carry --packed -o session.in
 """
 
@@ -51,6 +57,10 @@ UNIT = 1_000_000                # a whole unit in the numbers that are counted w
 MOST_SAID = 10
 MOST_SPLIT = 1000
 LARGEST = 1e9                   # no flux of a table is beyond this, after its factor
+LEAST_TOLERANCE = 0.01          # in units, however many digits are printed
+MOST_RELEASE = layout.most(layout.WIDE.mass)
+NOT_READ, TIME = "", "time"
+TIME_WORDS = {"time": "", "date": "", **{f"time {unit}": f" {unit}" for unit in ("s", "min", "h", "d")}}
 
 
 # ---------------------------------------------------------------- Whole fluxes
@@ -143,6 +153,7 @@ class Water:
         self.graph = Graph(self.cells + 1, firsts, seconds)
         self.limits = [UNIT * (causes.MOST_AT_RIM if face.second == RIM else face.reach) for face in mesh.faces]
         self.ways = self.found_ways()
+        self.degrees = [len(near) for near in self.graph.near[:self.cells]]
 
     def found_ways(self):
         """Cell, face and next node of each way, nearest first; a part without a rim leads to its lowest cell."""
@@ -218,11 +229,15 @@ def real(value):
 
 # ---------------------------------------------------------------- The table
 
-class Table:
-    """The rows of a CSV file: for each its line, its fluxes and its outside values."""
+Row = namedtuple("Row", "line time fluxes outsides releases decimals")       # decimals: the most that a flux of the row is printed with
 
-    def __init__(self, file, name, mesh, labels, factor, outside_factor):
-        self.name, self.mesh, self.factor, self.outside_factor = name, mesh, factor, outside_factor
+
+class Table:
+    """The rows of a CSV file."""
+
+    def __init__(self, file, name, session, options):
+        self.name, self.mesh, self.factor = name, session.mesh, options.factor
+        self.factors = {"outside": options.outside_factor, "release": options.release_factor}
         text = io.TextIOWrapper(file, encoding="utf-8-sig", errors="replace", newline="")
         heading = text.readline(MOST_LINE)
         if not heading.strip():
@@ -230,37 +245,42 @@ class Table:
         self.comma = "," if ";" not in heading else ";"
         self.reader = csv.reader(text, delimiter=self.comma)
         try:
-            self.columns(next(csv.reader([heading], delimiter=self.comma)), labels)
+            self.columns(next(csv.reader([heading], delimiter=self.comma)), session.labels)
         except csv.Error as error:
             raise Bad(f"{name}:1: {error}") from None
 
     def columns(self, heading, labels):
-        """The column of each face and of each outside value."""
-        self.width, self.faces, self.outsides = len(heading), {}, {}
-        faces = Faces(self.mesh, labels)
+        """The column of each flux, outside value and release, and of the time."""
+        self.width, found = len(heading), {"face": {}, "outside": {}, "release": {}, TIME: {}}
+        faces, cells = Faces(self.mesh, labels), Cells(self.mesh, labels)
         for column, words in enumerate(heading):
-            kind, face = self.heading_of(words.strip(), faces)
-            if kind == "":
+            kind, place = self.heading_of(words.strip(), faces, cells)
+            if kind == NOT_READ:
                 continue
-            into = self.faces if kind == "face" else self.outsides
-            if face in into:
-                raise Bad(f"{self.name}:1: {kind} {face} has two columns, {shown(heading[into[face]])} and {shown(words)}")
-            into[face] = column
+            if place in found[kind]:
+                raise Bad(f"{self.name}:1: {kind} {place} has two columns, {shown(heading[found[kind][place]])} and {shown(words)}")
+            found[kind][place] = column
+        self.faces, self.outsides, self.releases = found["face"], found["outside"], found["release"]
+        self.time = next(iter(found[TIME].values()), None)
+        self.time_unit = TIME_WORDS[" ".join(heading[self.time].lower().split())] if self.time is not None else ""
         self.missing = [face for face in range(len(self.mesh.faces)) if face not in self.faces]
 
-    def heading_of(self, words, faces):
-        """flux or outside value and the face, or nothing where the column is not read."""
-        if words.lower() in ("", "time", "step", "date"):
-            return "", 0
-        found = re.fullmatch(r"(outside\s+)?(\S.*)", words)
-        kind = "outside" if found[1] else "face"
+    def heading_of(self, words, faces, cells):
+        """What a column has, and of which face or cell."""
+        lower = " ".join(words.lower().split())
+        if lower in ("", "step"):
+            return NOT_READ, 0
+        if lower in TIME_WORDS:
+            return TIME, 0
+        found = re.fullmatch(r"(?:(outside|release)\s+)?(\S.*)", words)
+        kind = found[1] or "face"
         try:
-            face = faces.of(found[2])
+            place = (cells if kind == "release" else faces).of(found[2])
         except Bad as bad:
             raise Bad(f"{self.name}:1: {bad}") from None
-        if kind == "outside" and face not in self.mesh.rim:
-            raise Bad(f"{self.name}:1: {shown(words)}: face {face} is not at the rim")
-        return kind, face
+        if kind == "outside" and place not in self.mesh.rim:
+            raise Bad(f"{self.name}:1: {shown(words)}: face {place} is not at the rim")
+        return kind, place
 
     def rows(self):
         fluxes = [(face, self.faces[face]) for face in sorted(self.faces)]
@@ -275,9 +295,18 @@ class Table:
                 values = list(empty)
                 for face, column in fluxes:
                     values[face] = self.flux(row[column], line, column)
-                yield line, values, {face: self.outside(row[column], line, column) for face, column in self.outsides.items()}
+                others = [{place: value(row[column], line, column) for place, column in columns.items()}
+                          for columns, value in ((self.outsides, self.outside), (self.releases, self.release))]
+                yield Row(line, self.time_of(row, line), values, *others, max([decimals(row[column]) for _, column in fluxes], default=0))
         except csv.Error as error:
             raise Bad(f"{self.name}:{self.reader.line_num + 1}: {error}") from None
+
+    def time_of(self, row, line):
+        """The words of a step's time, which a text can hold."""
+        words = " ".join(row[self.time].split()) if self.time is not None else ""
+        if "#" in words or not words.isprintable():
+            raise Bad(f"{self.name}:{line}: column {self.time + 1} should be a time, not {shown(words)}")
+        return words + self.time_unit if words else ""
 
     def flux(self, word, line, column):
         value = self.number(word) * self.factor
@@ -286,16 +315,28 @@ class Table:
         return round(value * UNIT)
 
     def outside(self, word, line, column):
-        value = self.number(word) * self.outside_factor
+        value = self.number(word) * self.factors["outside"]
         if not -0.5 <= value <= causes.TOP:
             raise Bad(f"{self.name}:{line}: column {column + 1} should be a concentration from 0 to {causes.TOP:,}, not {shown(word.strip())}")
         return round(value)
+
+    def release(self, word, line, column):
+        value = self.number(word) * self.factors["release"]
+        if not 0 <= value <= MOST_RELEASE:
+            raise Bad(f"{self.name}:{line}: column {column + 1} should be a mass from 0 on, not {shown(word.strip())}")
+        return round(value * UNIT)
 
     def number(self, word):
         try:
             return float(word.replace(",", ".") if self.comma == ";" else word) if "_" not in word else math.nan
         except ValueError:
             return math.nan
+
+
+def decimals(word):
+    """How many decimals a number is printed with; one with a power counts as exact."""
+    _, point, after = word.strip().replace(",", ".").partition(".")
+    return len(after) if point and after.isdigit() else 0
 
 
 # ---------------------------------------------------------------- The steps
@@ -319,21 +360,23 @@ class Maker:
 
     def __init__(self, water, options):
         self.water, self.mesh, self.options = water, water.mesh, options
-        self.tolerance = round(options.tolerance * UNIT)
+        self.tolerance, self.decimals = None if options.tolerance is None else round(options.tolerance * UNIT), 0
         self.rows = self.steps = self.unbalanced = self.too_large = self.dropped = 0
         self.said, self.worst = [], 0
         self.difference, self.bent, self.change = Largest(), Largest(), Largest()
         self.sums = [0] * len(self.mesh.faces)              # by how much each face's sum is changed
         self.left = [0] * len(self.mesh.faces)              # what rounding left of the steps before
+        self.unreleased = Counter()                         # what rounding left of the releases before, by cell
 
-    def steps_of(self, name, line, values, outsides):
+    def steps_of(self, name, row):
         """The whole steps of one row; none where something is wrong with it."""
         self.rows += 1
-        where = f"{name}:{line}: row {self.rows}"
+        where, values = f"{name}:{row.line}: row {self.rows}", row.fluxes
         net = self.water.differences(values)
         self.difference.take(net, lambda cell: f"row {self.rows}, cell {cell}")
-        if not self.options.spread and max(map(abs, net)) > self.tolerance:
-            self.out_of_balance(where, values, net)
+        allowed = self.allowed(row.decimals)
+        if not self.options.spread and any(abs(more) > most for more, most in zip(net, allowed)):
+            self.out_of_balance(where, values, net, allowed)
             return
         level = self.water.carried(values, net) if any(net) else values
         if not self.options.carry:
@@ -346,7 +389,7 @@ class Maker:
             whole = self.water.whole(wanted)
             self.left = [value - UNIT * flux for value, flux in zip(wanted, whole)]
             changes = [change + UNIT * flux for change, flux in zip(changes, whole)]
-            yield self.step(whole, outsides)
+            yield self.step(whole, row, self.released(row.releases, part)), row.time if part == 1 else ""
         self.bent.take([value - other for value, other in zip(level, values)], lambda face: f"row {self.rows}, face {face}")
         self.change.take(changes, lambda face: f"row {self.rows}, face {face}: {real(values[face])} is {real(values[face] + changes[face])}")
         self.sums = [total + change for total, change in zip(self.sums, changes)]
@@ -367,21 +410,46 @@ class Maker:
         self.say(where, [words for words, _ in beyond])
         return None
 
-    def out_of_balance(self, where, values, net):
+    def allowed(self, decimals):
+        """The tolerance of each cell: as given, or for each of its faces half of the last decimal that is printed."""
+        if self.tolerance is not None:
+            return [self.tolerance] * self.water.cells
+        self.decimals = max(self.decimals, decimals)
+        half = self.half(decimals) if decimals else 0
+        return [max(math.ceil(degree * half), round(LEAST_TOLERANCE * UNIT)) for degree in self.water.degrees]
+
+    def half(self, decimals):
+        return UNIT * abs(self.options.factor) / 10 ** decimals / 2
+
+    def released(self, releases, part):
+        """The whole masses released in a part of a row: those of its parts add up to the row's, to half a unit."""
+        if part == 1 and not self.options.carry:
+            self.unreleased = Counter()
+        split, found = self.options.split, {}
+        for cell, mass in releases.items():
+            self.unreleased[cell] += mass * part // split - mass * (part - 1) // split
+            found[cell] = max((self.unreleased[cell] + UNIT // 2) // UNIT, 0)
+            self.unreleased[cell] -= UNIT * found[cell]
+        return found
+
+    def out_of_balance(self, where, values, net, allowed):
         self.unbalanced += 1
         leaves = self.water.outflows(values)
         self.say(where, [f"cell {cell}: {real(leaves[cell] + more)} enters, {real(leaves[cell])} leaves, {real(abs(more))} "
-                         + ("too much enters" if more > 0 else "too much leaves") for cell, more in enumerate(net) if abs(more) > self.tolerance])
+                         + ("too much enters" if more > 0 else "too much leaves") for cell, (more, most) in enumerate(zip(net, allowed)) if abs(more) > most])
 
     def say(self, where, words):
         more = f" (and {len(words) - 1:,} more)" if len(words) > 1 else ""
         if len(self.said) < MOST_SAID:
             self.said.append(f"{where}, {words[0]}{more}")
 
-    def step(self, whole, outsides):
-        """The step, tried by the causes of document 01."""
-        step = Step(whole, [outsides.get(face, 0) if whole[face] < 0 else 0 for face in self.mesh.rim])
+    def step(self, whole, row, released):
+        """The step, tried by the causes of documents 01 and 02; what a cell holds by then is not known here."""
+        releases = [released.get(cell, 0) for cell in range(len(self.mesh.volumes))] if any(released.values()) else None
+        step = Step(whole, [row.outsides.get(face, 0) if whole[face] < 0 else 0 for face in self.mesh.rim], releases)
         refusal = causes.step_refusal(self.mesh, step)
+        if refusal and refusal.cause == 18:
+            raise Bad(f"row {self.rows}: {causes.told(refusal)}")
         if refusal:
             raise Bad(f"row {self.rows}: the step made of it would be refused, {causes.told(refusal)}; this is a fault of lagoon fluxes")
         self.steps += 1
@@ -394,7 +462,7 @@ class Maker:
         lines = [f"{name}: {count(self.rows, 'row')}, {count(len(self.mesh.volumes), 'cell')}, {count(len(self.mesh.faces), 'face')} "
                  f"({len(self.mesh.rim):,} at the rim); {count(self.steps, 'step')}"]
         lines.append(f"balance as read: inflow and outflow of a cell differ by {real(self.difference.size)} at most"
-                     + (f" ({self.difference.where})" if self.difference.size else "") + f", the tolerance is {real(self.tolerance)}")
+                     + (f" ({self.difference.where})" if self.difference.size else "") + f", the tolerance is {self.tolerance_words()}")
         if self.bad():
             return lines + self.said + self.advice()
         if self.bent.size:
@@ -408,6 +476,14 @@ class Maker:
         if self.dropped:
             lines.append(f"what rounding had left was dropped in {count(self.dropped, 'step')}, where it would have passed a limit")
         return lines
+
+    def tolerance_words(self):
+        if self.tolerance is not None:
+            return real(self.tolerance)
+        if self.decimals == 0:
+            return f"{LEAST_TOLERANCE:g}"
+        return (f"{real(self.half(self.decimals))} for each of a cell's faces ({count(self.decimals, 'decimal')} times {abs(self.options.factor):g}), "
+                f"{LEAST_TOLERANCE:g} at least")
 
     def advice(self):
         lines = []
@@ -437,63 +513,87 @@ class Lagoon:
             self.text = mesh_text(self.session.mesh) + field_text(self.session.masses)
 
 
-def outside_values(texts, lagoon):
-    """The constant outside values of --outside FACE=Q."""
-    faces, found = Faces(lagoon.mesh, lagoon.labels), {}
+def constants(option, texts, called, form, greatest):
+    """The values of options like --outside FACE=Q, by face or cell."""
+    found = {}
     for text in texts:
         name, _, value = text.rpartition("=")
-        if not re.fullmatch("[0-9]{1,7}", value) or int(value) > causes.TOP:
-            raise Bad(f"--outside {shown(text)} should be FACE=Q, with Q from 0 to {causes.TOP:,}")
+        if not re.fullmatch("[0-9]{1,13}", value) or int(value) > greatest:
+            raise Bad(f"{option} {shown(text)} should be {form}, from 0 to {greatest:,}")
         try:
-            face = faces.of(name)
+            found[called.of(name)] = int(value)
         except Bad as bad:
-            raise Bad(f"--outside {shown(text)}: {bad}") from None
-        if face not in lagoon.mesh.rim:
-            raise Bad(f"--outside {shown(text)}: {shown(name)} is no rim face")
-        found[face] = int(value)
+            raise Bad(f"{option} {shown(text)}: {bad}") from None
     return found
 
 
-def written(steps, lagoon, packed):
-    """The pieces of the session: the lagoon and its steps; in text equal steps that follow one another are one."""
-    if packed:
-        yield lagoon.packed
-        for step in steps:
-            yield layout.step_record(step, lagoon.session.mesh.widths)
-        return
+def outside_values(texts, lagoon):
+    found = constants("--outside", texts, Faces(lagoon.mesh, lagoon.labels), "FACE=Q", causes.TOP)
+    for face in found:
+        if face not in lagoon.mesh.rim:
+            raise Bad(f"--outside: {lagoon.labels.of('face', face)} is no rim face")
+    return found
+
+
+def release_values(texts, lagoon):
+    found = constants("--release", texts, Cells(lagoon.mesh, lagoon.labels), "CELL=M", MOST_RELEASE)
+    return {cell: mass * UNIT for cell, mass in found.items()}
+
+
+def records(steps, lagoon):
+    """The records of the session. A release that narrow ones do not hold asks for a text, which is packed as wide."""
+    widths = lagoon.session.mesh.widths
+    yield lagoon.packed
+    for step, _ in steps:
+        if max(step.releases or [0]) > layout.most(widths.mass):
+            raise Bad("a release is above 4,294,967,295: write the text, and pack it, or say `mesh wide` in it")
+        yield layout.step_record(step, widths)
+
+
+def text(steps, lagoon):
+    """The pieces of the session's text: equal steps that follow one another, and have no time, are one."""
     yield lagoon.text.encode()
     writer, held, times, number = StepText(lagoon.session.mesh), None, 0, 0
-    for step in steps:
-        if step != held or times == MOST_TIMES:
+    for step, time in steps:
+        if (step, time) != held or time or times == MOST_TIMES:
             if times:
-                yield writer.of(held, number - times + 1, times).encode()
-            held, times = step, 0
+                yield writer.of(held[0], number - times + 1, times, held[1]).encode()
+            held, times = (step, time), 0
         times += 1
         number += 1
     if times:
-        yield writer.of(held, number - times + 1, times).encode()
+        yield writer.of(held[0], number - times + 1, times, held[1]).encode()
 
 
 def run(options):
     lagoon = Lagoon(options.lagoon)
     session, name = lagoon.session, command.named(options.table)
-    constant = outside_values(options.outside, session)
-    table = Table(command.opened(options.table), name, session.mesh, session.labels, options.factor, options.outside_factor)
-    maker = Maker(Water(session.mesh), options)
+    constant, releases = outside_values(options.outside, session), release_values(options.release, session)
+    table = Table(command.opened(options.table), name, session, options)
+    maker, progress = Maker(Water(session.mesh), options), command.Progress("row")
 
     def steps():
-        for line, values, outsides in table.rows():
-            yield from maker.steps_of(name, line, values, {**constant, **outsides})
+        for row in table.rows():
+            progress.at(maker.rows)
+            yield from maker.steps_of(name, row._replace(outsides={**constant, **row.outsides}, releases={**releases, **row.releases}))
+        progress.end()
         if maker.bad() or not maker.rows:
             raise NotWritten
 
+    pieces = (records if options.packed else text)(steps(), lagoon)
     try:
         with Output(options.output) as output:
-            for piece in written(steps(), lagoon, options.packed) if options.output != "-" else list(written(steps(), lagoon, options.packed)):
+            for piece in pieces if options.output != "-" else list(pieces):
                 output.write(piece)
     except NotWritten:
         if not maker.rows:
             raise Bad(f"{name}: there is no row under the heading") from None
+    command.say("\n".join(maker.report(name) + notes_of(table, constant, session)))
+    return 1 if maker.bad() else 0
+
+
+def notes_of(table, constant, session):
+    """What the table has no column for."""
     notes = []
     if table.missing:
         notes = [f"note: no column for {command.listed(f'face {face}' for face in table.missing[:5]).replace(' or ', ' and ')}"
@@ -502,8 +602,7 @@ def run(options):
     if fresh:
         notes.append(f"note: no outside value for {command.listed(session.labels.of('face', face) for face in fresh[:5]).replace(' or ', ' and ')}"
                      + (f" and {len(fresh) - 5:,} more" if len(fresh) > 5 else "") + ": what enters there is without salt")
-    command.say("\n".join(maker.report(name) + notes))
-    return 1 if maker.bad() else 0
+    return notes
 
 
 class NotWritten(Exception):
@@ -531,8 +630,11 @@ def arguments(words):
     parser.add_argument("--outside", action="append", default=[], metavar="FACE=Q", help="the concentration outside a rim face that has no column")
     parser.add_argument("--outside-factor", type=lambda text: number(text, 0, 1e9), default=1, metavar="X",
                         help="what an outside value of the table is as a concentration (default: 1)")
-    parser.add_argument("--tolerance", type=lambda text: number(text, 0, 1e6), default=0.01, metavar="T",
-                        help="how much inflow and outflow of a cell may differ as read, in units (default: 0.01)")
+    parser.add_argument("--release", action="append", default=[], metavar="CELL=M", help="the mass released in each row into a cell that has no column")
+    parser.add_argument("--release-factor", type=lambda text: number(text, 0, 1e9), default=1, metavar="X",
+                        help="what a release of the table is in units of mass (default: 1)")
+    parser.add_argument("--tolerance", type=lambda text: number(text, 0, 1e6), metavar="T",
+                        help="how much inflow and outflow of a cell may differ as read, in units (default: by the digits printed)")
     parser.add_argument("--spread", action="store_true", help="carry larger differences to the rim too")
     parser.add_argument("--split", type=lambda text: command.whole(text, 1, MOST_SPLIT), default=1, metavar="N", help="make N steps of each row (default: 1)")
     parser.add_argument("--carry", action="store_true", help="hand what rounding left on to the next step")

@@ -3,9 +3,9 @@ layouts" and "Causes", and document 02, S-6 and S-10; shares nothing with the en
 
 import io
 
-from . import causes, command, layout
+from . import causes, command, engine, layout
 from .command import Bad, Output, count, shown
-from .layout import CELLS_BITS, MINUS_ZERO, WIDE, Damage, Source, most
+from .layout import CELLS_BITS, MINUS_ZERO, WIDE, Damage, Source, field_record, mesh_record, most, step_record
 from .session import is_text
 from .sessiontext import MOST_TIMES, Line, Parser, StepText, TextError, field_text, mesh_text, packed, text_words
 
@@ -29,12 +29,17 @@ The text has one item on a line; words are separated by blanks, and # begins a c
                                                   of the step; a cell left out has release 0. A step with such a
                                                   line is a record of kind 4 (wide: 8), one without of kind 3 (7)
   bytes 30 02 00 00                               these bytes as they are, in hexadecimal
+  time 2026-06-01T03:00                           when the step begins, after its first line: a date, a number with or without
+                                                  s, min, h or d, or other words
   unit volume 1000 m3                             what one unit is: volume, mass or step, in words; before the steps
   name cell N Inlet                               the name of a cell or a face, in words; before the steps
+  at cell N X Y                                   where the centre of a cell lies, in metres; before the steps
+  at face N X1 Y1 X2 Y2                           where a face ends
 
 The words are document 01's. Share: the way from the first cell's centre to the face, in 1/256 of the way between
 the centres. Reach: face area times distance between centres, in volume units. Outside: the concentration of the
-water that enters over the rim. Units and names are for lagoon budget and lagoon plot; the records hold none.
+water that enters over the rim. Units, names, places and times are for reports, pictures and maps; the
+records hold none.
 Records are of kinds 1 to 4. Where a volume, reach or size of a flux is above 4095, a mass or release above
 4294967295, or the text says "mesh wide", all records are wide ones, of kinds 5 to 8. Both hold the same values where
 both have room for them, and the run prints the same.
@@ -74,9 +79,8 @@ One line for each record that the run refuses, with the cause that it would prin
 lowest place. Of a text FILE:LINE is the line of that cell or face (or of the step, where it has none), of bytes the byte
 where the record begins. The exit status is 1 where anything is refused, and for bad text.
 
-No step is made here, so the field is known until the first accepted step only. A later step with releases may be
-refused by cause 18 for what its cells then hold; the last line counts those steps, and lagoon budget, which asks the engine,
-says it of each.
+Whether cause 18 refuses a step with releases depends on the field before it. The steps up to there are then made by the C call of the
+library (`make lib`); where it is not there, the last line counts the steps that could not be judged.
 """
 
 CHECK_EXAMPLES = """\
@@ -166,14 +170,46 @@ def unpack(data):
 
 # ---------------------------------------------------------------- Checking
 
+class Carried:
+    """The field as the accepted steps leave it. The engine makes them only when a release is judged on it."""
+
+    def __init__(self, mesh, masses, library):
+        self.mesh, self.library, self.engine, self.lacks = mesh, library, None, ""
+        self.field, self.made, self.waiting = field_record(masses, mesh.widths), masses, []
+
+    def accept(self, record, times=1):
+        self.waiting.append((record, times))
+
+    def masses(self):
+        """The masses now; None where they are not known, since the library is not there."""
+        if self.waiting and not self.lacks:
+            try:
+                self.engine = self.engine or engine.Engine(mesh_record(self.mesh), self.library)
+            except Bad as bad:
+                self.lacks = str(bad)
+        if self.waiting and self.lacks:
+            return None
+        for record, times in self.waiting:
+            for _ in range(times):
+                self.field, refused = self.engine.step(self.field, record)
+                if refused:
+                    raise Bad(f"the engine refuses a step by cause {refused[0]}, place {refused[1]}, and here nothing like it is found")
+        if self.waiting:
+            self.waiting, self.made = [], layout.masses_in(self.field)
+        return self.made
+
+
 class Checker:
     """What the run would refuse, a line each, and the counts at the end. Equal steps one after another are one line."""
 
-    def __init__(self, name, labels):
-        self.name, self.labels, self.lines = name, labels, []
+    def __init__(self, name, labels, library):
+        self.name, self.labels, self.library, self.lines = name, labels, library, []
         self.mesh, self.steps, self.refused, self.ended = None, 0, 0, ""
-        self.masses, self.open = None, 0        # the field, up to the first accepted step; steps whose releases need a later one
+        self.field, self.open = None, 0         # the field as it is carried; steps whose releases could not be judged
         self.held = None        # the refusal, where it stands, and the first and last of the steps that have it
+
+    def begin(self, mesh, masses):
+        self.field = Carried(mesh, masses, self.library)
 
     def judge(self, kind, refusal, where):
         if refusal:
@@ -181,12 +217,23 @@ class Checker:
             self.ended = f"the run ends at this {kind}"
         return not refusal
 
-    def water(self, refusal, where, releases, times=1):
-        """Equal steps with their refusal, on the field where it is known."""
-        if not refusal:
-            self.open += (times if self.masses is None else times - 1) if releases else 0
-            self.masses = None
-        self.step(refusal, where, times)
+    def water(self, step, record, place, times=1):
+        """Equal steps, whose place is by the refusal and how many of them stand before: those with releases one after another, since each is judged on the field that the one before left."""
+        if not any(step.releases or []):
+            refusal = step_refusal(self.mesh, step, None)
+            if not refusal:
+                self.field.accept(record(), times)
+            self.step(refusal, place(refusal, 0), times)
+            return
+        for left in range(times, 0, -1):
+            masses = self.field.masses()
+            refusal = step_refusal(self.mesh, step, masses)
+            if refusal:
+                self.step(refusal, place(refusal, times - left), left)
+                return
+            self.open += masses is None
+            self.field.accept(record())
+            self.step(None, "")
 
     def step(self, refusal, where, times=1):
         first, self.steps = self.steps + 1, self.steps + times
@@ -214,7 +261,7 @@ class Checker:
         if not self.steps:
             said = "there is nothing to refuse"
         if self.open:
-            said += f"; whether cause 18 refuses {self.open:,} with releases, lagoon budget says"
+            said += f"; cause 18 is not judged in {self.open:,} with releases: {self.field.lacks}"
         mesh = self.mesh
         return self.lines + [f"{self.name}: {count(len(mesh.volumes), 'cell')}, {count(len(mesh.faces), 'face')} ({len(mesh.rim):,} at the rim), "
                              f"{count(self.steps, 'step')}: {said}"]
@@ -223,9 +270,10 @@ class Checker:
         return bool(self.ended or self.refused)
 
 
-def check_text(parser, name):
-    """The checker of a text; None where it has lines of bytes, whose places only the packed session has."""
-    checker = Checker(name, parser.labels)
+def check_text(parser, name, library=None):
+    """The checker of a text; None where it has lines of bytes, whose places only the packed session has. Its steps are made as wide
+    records, which hold any value of a text."""
+    checker = Checker(name, parser.labels, library)
     for item in parser.items():
         if item.kind == "bytes":
             return None
@@ -238,10 +286,9 @@ def check_text(parser, name):
             refusal = causes.field_refusal(checker.mesh, item.value)
             if not checker.judge("field", refusal, place_in(name, item, refusal, checker.mesh)):
                 return checker
-            checker.masses = item.value
+            checker.begin(checker.mesh._replace(widths=WIDE), item.value)
         else:
-            refusal = step_refusal(checker.mesh, item.value, checker.masses)
-            checker.water(refusal, place_in(name, item, refusal, checker.mesh), any(item.value.releases or []), item.times)
+            checker.water(item.value, lambda: step_record(item.value, WIDE), lambda refusal, before: place_in(name, item, refusal, checker.mesh), item.times)
     if not parser.has_field:
         checker.ended = "there is no field, and the run refuses such a session (cause 11)"
     return checker
@@ -272,42 +319,63 @@ def place_in(name, item, refusal, mesh):
     return f"{name}:{line}"
 
 
-def check_packed(file, name):
-    source, checker = Source(file), Checker(name, None)
+def check_packed(file, name, library=None):
+    source, checker = Source(file), Checker(name, None, library)
     try:
         checker.mesh = mesh = source.mesh(causes.LIMITS)
         if not checker.judge("mesh", causes.mesh_refusal(mesh), f"{name}: byte {source.at}"):
             return checker
-        checker.masses = source.field_on(mesh)
-        if not checker.judge("field", causes.field_refusal(mesh, checker.masses), f"{name}: byte {source.at}"):
+        masses = source.field_on(mesh)
+        if not checker.judge("field", causes.field_refusal(mesh, masses), f"{name}: byte {source.at}"):
             return checker
     except Damage as damage:
         checker.judge(source.name, causes.damaged(damage), f"{name}: byte {source.at}")
         return checker
-    held, refusal, releases = None, None, False
+    checker.begin(mesh, masses)
+    check_steps(source, checker)
+    return checker
+
+
+def check_steps(source, checker):
+    """The steps of a packed session; equal ones that follow one another are judged together."""
+    held, times, at = None, 0, 0
     while True:
         try:
-            record = source.next_step(mesh)
-        except Damage as damage:
-            checker.step(causes.damaged(damage), f"{name}: byte {source.at}")
-            return checker
+            record, damage = source.next_step(checker.mesh), None
+        except Damage as found:
+            record, damage = None, found
+        if times and record != held:
+            packed_steps(source, checker, held, times, at)
+            times = 0
+        if damage:
+            checker.step(causes.damaged(damage), f"{checker.name}: byte {source.at}")
         if record is None:
-            return checker
-        if record != held:
-            held, refusal = record, causes.refused_step(source, mesh, checker.masses)
-            releases = any(layout.releases_in(record, mesh))
-        checker.water(refusal, f"{name}: byte {source.at}", releases)
+            return
+        if not times:
+            held, at = record, source.at
+        times += 1
+
+
+def packed_steps(source, checker, record, times, at):
+    """Equal steps, of which the first begins at this byte."""
+    where = lambda before: f"{checker.name}: byte {at + before * len(record)}"
+    try:
+        step = source.step_in(layout.bits_of(record), checker.mesh)
+    except Damage as damage:
+        checker.step(causes.damaged(damage), where(0), times)
+        return
+    checker.water(step, lambda: record, lambda refusal, before: where(before), times)
 
 
 def run_check(options):
     name, file = command.named(options.file), command.opened(options.file)
     if not options.hex and is_text(file):
         parser = Parser(file)
-        checker = check_text(parser, name)
+        checker = check_text(parser, name, options.library)
         if checker is None:
             raise Bad(f"{name} has lines of bytes: pack it, and check what is packed")
     else:
-        checker = check_packed(io.BytesIO(from_hex(file.read())) if options.hex else file, name)
+        checker = check_packed(io.BytesIO(from_hex(file.read())) if options.hex else file, name, options.library)
     print("\n".join(checker.report()))
     return 1 if checker.bad() else 0
 
@@ -398,6 +466,8 @@ def arguments(name, words):
     if name != "check":
         parser.add_argument("-o", "--output", default="-", help="what to write (default: standard output)")
     parser.add_argument("--hex", action="store_true", help=f"the bytes are {'written' if name == 'pack' else 'read'} as hexadecimal digits")
+    if name == "check":
+        parser.add_argument("--library", metavar="FILE", help="the shared object of the library (default: target/lib/liblagoon.so, which `make lib` makes)")
     if name == "pack":
         parser.add_argument("--field", metavar="FILE", help="the masses of a field record (of lagoon budget --field) in the place of the text's")
     return parser.parse_args(words)

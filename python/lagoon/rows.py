@@ -4,6 +4,7 @@ import csv
 import io
 import itertools
 import math
+import re
 from decimal import Decimal, InvalidOperation
 
 from . import command
@@ -24,7 +25,7 @@ class Rows:
         self.comma = ";" if ";" in first else ","
         self.reader = csv.reader(itertools.chain([first], self.file), delimiter=self.comma)
         self.heading = [" ".join(words.split()) for words in self.next_row() or []]
-        lower = [words.lower() for words in self.heading]
+        lower = [plain(words) for words in self.heading]
         self.chosen = next((columns for columns in either if all(words in lower for words in columns)), either[0])
         for words in (*wanted, *self.chosen):
             if lower.count(words) != 1:
@@ -51,6 +52,11 @@ class Rows:
 
     def bad(self, line, words):
         return Bad(f"{self.path}:{line}: {words}")
+
+    def numbers(self, row, columns):
+        """The numbers under some headings that a table may have; None where it lacks one of them, or the row one of the numbers."""
+        found = [self.float(self.word(row, column)) if column in self.at else math.nan for column in columns]
+        return tuple(found) if all(abs(value) <= LARGEST for value in found) else None
 
     def word(self, row, column):
         """The word under a heading, or in a column by its number; empty where the row is shorter."""
@@ -89,6 +95,11 @@ class Rows:
             title = column if isinstance(column, str) else self.heading[column]
             raise self.bad(line, f"{title} should be a whole number from {least:,} to {greatest:,}, not {shown(word)}")
         return value
+
+
+def plain(words):
+    """A heading as it is compared: salt (kg/m³) is salt kg/m3."""
+    return re.sub(r"[()\[\]]", "", words.lower()).replace("³", "3").strip()
 
 
 def whole_in(word):
