@@ -202,18 +202,44 @@ def show_causes(title, causes, names):
 
 # ---------------------------------------------------------------- Comparison
 
+class Once:
+    """A program, or a maker of cases, that is asked for each case once."""
+
+    def __init__(self, program):
+        self.program, self.answers = program, {}
+
+    def __call__(self, *case):
+        if case not in self.answers:
+            self.answers[case] = self.program(*case)
+        return self.answers[case]
+
+    def finish(self):
+        return self.program.finish()
+
+
+class Programs:
+    """The engine's programs, and what makes their cases; each asked once where many slips meet the same cases."""
+
+    def __init__(self, run, calls, script, once=False):
+        asked = Once if once else lambda program: program
+        self.run_path, self.run = run, run and asked(engines.run_program(run))
+        self.drivers = {path: asked(engines.driver(path)) for path in calls}
+        self.script_path, self.script = script, script and asked(engines.script_program(script))
+        self.make_session, self.make_call, self.make_script = map(asked, (generate.session, generate.call, generate_script.script))
+        self.paths = [path for path in [run, *calls, script] if path]
+
+
 class Sides:
     """The reference, right or with a slip in it, and the engine's programs."""
 
-    def __init__(self, run, calls, calls_program, slip=None):
+    def __init__(self, programs, slip=None):
         self.reference = engines.load(HERE / "lagoon.py", "reference_lagoon")
         if slip:
             ALL_SLIPS[slip](self.reference)
         self.long_products = 0
         self.count_long_products()
-        self.run_path, self.run = run, run and engines.run_program(run)
-        self.drivers = {path: engines.driver(path) for path in calls}
-        self.script_path, self.script = calls_program, calls_program and engines.script_program(calls_program)
+        self.programs = programs
+        self.run, self.drivers, self.script = programs.run, programs.drivers, programs.script
 
     def count_long_products(self):
         """The reference's proportional parts are counted where their product has more than 64 bits."""
@@ -236,42 +262,44 @@ class Sides:
         return engines.with_room(*self.reference.host_step(*case), case[3])
 
     def session(self, tally, seed, number):
-        case = generate.session(seed, number)
+        case = self.programs.make_session(seed, number)
         expected = self.with_products(tally.run_causes, lambda: self.reference.run(case.data))
         tally.sessions += 1
         tally.run_causes += causes_of_text(expected)
         if self.run(case.data, case.piece) != expected:
-            tally.mismatches.append(Mismatch(self.run_path, seed, number, case.kinds, len(case.data)))
+            tally.mismatches.append(Mismatch(self.programs.run_path, seed, number, case.kinds, len(case.data)))
 
-    def call(self, tally, seed, number):
-        case = generate.call(seed, number)
+    def call(self, tally, seed, number, paths):
+        case = self.programs.make_call(seed, number)
         expected = self.with_products(tally.call_causes, lambda: self.expected_call(case[1:]))
         tally.calls += 1
         tally.call_causes[cause_of_call(self.reference, case, expected[0])] += 1
-        for path, driver in self.drivers.items():
-            if driver(*case[1:]) != expected:
+        for path in paths:
+            if self.drivers[path](*case[1:]) != expected:
                 size = len(engines.stream(*case[1:]))
                 tally.mismatches.append(Mismatch(path, seed, number, case.kinds, size))
 
     def play(self, tally, seed, number):
-        case = generate_script.script(seed, number)
+        case = self.programs.make_script(seed, number)
         expected = self.with_products(tally.script_causes, lambda: self.expected_script(case.text))
         tally.scripts += 1
         tally.script_causes += causes_of_script(expected)
         if self.script(case.text) != expected:
-            tally.mismatches.append(Mismatch(self.script_path, seed, number, case.kinds, len(case.text)))
+            tally.mismatches.append(Mismatch(self.programs.script_path, seed, number, case.kinds, len(case.text)))
 
     def expected_script(self, text):
         return script.answer(text, self.reference)
 
-    def block(self, seed, numbers):
-        tally = Tally()
+    def block(self, seed, numbers, paths=None):
+        """Compares so many cases through the programs at these paths, else through all."""
+        tally, paths = Tally(), self.programs.paths if paths is None else paths
+        drivers = [path for path in self.drivers if path in paths]
         for number in numbers:
-            if self.run:
+            if self.programs.run_path in paths:
                 self.session(tally, seed, number)
-            if self.drivers:
-                self.call(tally, seed, number)
-            if self.script:
+            if drivers:
+                self.call(tally, seed, number, drivers)
+            if self.programs.script_path in paths:
                 self.play(tally, seed, number)
         for path, driver in self.drivers.items():
             if driver.finish():
@@ -290,11 +318,16 @@ class Sides:
         return bool(driver.finish()) or answer != self.expected_call(case)
 
 
-# Each process of a pool has its own sides.
+# Each process of a pool has its own sides, or for slips its own programs.
 
-def prepare(run, calls, calls_program, slip):
+def prepare(run, calls, script, slip):
     global sides
-    sides = Sides(run, calls, calls_program, slip)
+    sides = Sides(Programs(run, calls, script), slip)
+
+
+def prepare_slips(*paths):
+    global programs
+    programs = Programs(*paths, once=True)
 
 
 def compare_block(block):
@@ -333,28 +366,26 @@ def soak(pool, tally, seed, seconds):
 # ---------------------------------------------------------------- Slips
 
 def see_slip(task):
-    """The first case of each engine program that tells the reference with this slip from the engine."""
-    slip, run, calls, calls_program, seed = task
-    wrong = Sides(run, calls, calls_program, slip)
-    wanted = [path for path in [run, *calls, calls_program] if path]
-    first = {}
+    """The first case of each program that tells the reference with this slip from the engine."""
+    slip, paths, seed = task
+    wrong, first = Sides(programs, slip), {}
     for number in range(1, SLIP_CASES):         # case 0 of the scripts is the largest, and slow
-        for mismatch in wrong.block(seed, [number]).mismatches:
-            first.setdefault(mismatch.engine, number)
-        if len(first) == len(wanted):
+        unseen = [path for path in paths if path not in first]
+        if not unseen:
             break
-    return slip, [(path, first.get(path)) for path in wanted]
+        for mismatch in wrong.block(seed, [number], unseen).mismatches:
+            first.setdefault(mismatch.engine, number)
+    return slip, [(path, first.get(path)) for path in paths]
 
 
-def see_slips(run, calls, calls_program, seed, jobs):
+def see_slips(run, calls, script, seed, jobs):
     """True where every slip was seen through every program; those of a run show in sessions, those of the host's call in calls and
     scripts, those of the answers in scripts."""
-    tasks = [(slip, run, calls, calls_program, seed) for slip in SLIPS]
-    tasks += [(slip, None, calls, calls_program, seed) for slip in CALL_SLIPS if calls or calls_program]
-    tasks += [(slip, run, [], None, seed) for slip in RUN_SLIPS if run]
-    tasks += [(slip, None, [], calls_program, seed) for slip in ANSWER_SLIPS if calls_program]
+    runs, scripts = [run] if run else [], [script] if script else []
+    shown = ((SLIPS, runs + calls + scripts), (CALL_SLIPS, calls + scripts), (RUN_SLIPS, runs), (ANSWER_SLIPS, scripts))
+    tasks = [(slip, paths, seed) for slips, paths in shown if paths for slip in slips]
     all_seen = True
-    with Pool(jobs) as pool:
+    with Pool(jobs, prepare_slips, (run, calls, script)) as pool:
         for slip, seen in pool.imap(see_slip, tasks):
             words = [f"{Path(path).name} case {number}" if number is not None else f"{Path(path).name} NOT SEEN"
                      for path, number in seen]
@@ -371,13 +402,13 @@ def keep_mismatch(sides, mismatch, folder):
     name, seed, number = Path(mismatch.engine).name, mismatch.seed, mismatch.number
     print(f"MISMATCH of {name}: seed {seed}, case {number} ({', '.join(mismatch.kinds)})")
     base = f"{folder}/{name}-{seed}-{number}"
-    if mismatch.engine == sides.run_path:
+    if mismatch.engine == sides.programs.run_path:
         data = generate.session(seed, number).data
         write_session(sides, base, data)
         if sides.run_differs(data):
             write_session(sides, base + "-small", shrink.session(data, sides.run_differs, SHRINK_SECONDS))
         return
-    if mismatch.engine == sides.script_path and mismatch.engine not in sides.drivers:
+    if mismatch.engine == sides.programs.script_path and mismatch.engine not in sides.drivers:
         text = generate_script.script(seed, number).text
         write_script(sides, base, text)
         if sides.script_differs(text):
@@ -456,14 +487,14 @@ def main():
         print(f"slips in {time.monotonic() - start:.0f} s: " + ("all seen" if seen else "NOT ALL SEEN"))
         return 0 if seen else 1
     tally = Tally()
-    sides = (options.run, options.call, options.script, options.slip)
-    with Pool(options.jobs, prepare, sides) as pool:
+    paths = options.run, options.call, options.script
+    with Pool(options.jobs, prepare, (*paths, options.slip)) as pool:
         if options.soak is None:
             compare(pool, tally, options.seed, options.sessions)
         else:
             soak(pool, tally, options.seed, options.soak)
     if tally.mismatches:
-        keep_mismatch(Sides(*sides), min(tally.mismatches, key=lambda mismatch: mismatch.size), options.keep)
+        keep_mismatch(Sides(Programs(*paths), options.slip), min(tally.mismatches, key=lambda mismatch: mismatch.size), options.keep)
         return 1
     tally.show()
     missing = tally.never_reached() if options.soak is None else []

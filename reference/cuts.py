@@ -20,10 +20,10 @@ HERE = Path(__file__).resolve().parent
 sys.path.insert(0, str(HERE))
 
 import engines
-import generate_script
 import lagoon
 import script
 from lagoon import CUT_TABLES, FIRSTS, FLUXES, MASSES, OUTSIDES, RELEASES, RIM, SECONDS, VOLUMES
+from making.lent import Lent
 from slips import CUT_SLIPS
 
 PAST = 7                # what the tables to be filled hold before
@@ -58,9 +58,9 @@ class Case:
 
     def __init__(self, seed, number):
         rng = random.Random(f"cuts {seed} {number}")
-        lent = generate_script.Lent(rng)
+        lent = Lent(rng)
         while lent.cells < 2:
-            lent = generate_script.Lent(rng)
+            lent = Lent(rng)
         lent.lengthen(CUT_TABLES)
         if number % 4 == 3:
             lent.damage(CUT_TABLES, [])

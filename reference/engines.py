@@ -54,30 +54,38 @@ def script_program(path):
 
 
 def printing_program(path):
+    """A program as a function. Its output, and its input unless that comes in pieces, are files in memory: no turns with a reader."""
     def run(data, piece=None):
-        process = subprocess.Popen([path], stdin=subprocess.PIPE, stdout=subprocess.PIPE, stderr=subprocess.PIPE)
-        if piece:
-            data = hand_over(process.stdin, data, piece)
-        try:
-            output, errors = process.communicate(data, timeout=PATIENCE)
-        except subprocess.TimeoutExpired:
-            process.kill()
-            process.communicate()
-            return f"(no end within {PATIENCE} seconds)\n"
-        return output.decode("ascii", "backslashreplace") + complaint(process.returncode, errors)
+        with in_memory() as given, in_memory() as printed:
+            given.write(data)
+            given.seek(0)
+            process = subprocess.Popen([path], stdin=subprocess.PIPE if piece else given, stdout=printed, stderr=subprocess.PIPE)
+            if piece:
+                hand_over(process.stdin, data, piece)
+            try:
+                _, errors = process.communicate(timeout=PATIENCE)
+            except subprocess.TimeoutExpired:
+                process.kill()
+                process.communicate()
+                return f"(no end within {PATIENCE} seconds)\n"
+            printed.seek(0)
+            return printed.read().decode("ascii", "backslashreplace") + complaint(process.returncode, errors)
 
     return run
 
 
+def in_memory():
+    return open(os.memfd_create("case"), "w+b", buffering=0)
+
+
 def hand_over(pipe, data, piece):
-    """Writes the input in pieces, so that a read may give fewer bytes than asked; gives what is left."""
+    """Writes the input in pieces, so that a read may give fewer bytes than asked."""
     try:
         for at in range(0, len(data), piece):
             os.write(pipe.fileno(), data[at:at + piece])
             time.sleep(0)
     except BrokenPipeError:         # the run has ended before its input did, as it may
         pass
-    return b""
 
 
 # ---------------------------------------------------------------- The host's call

@@ -22,12 +22,12 @@ sys.path.insert(0, str(HERE))
 
 import engines
 import generate
-import generate_script
 import lagoon
 import script
 from package import layout, renumber
 from package.command import Bad
 from lagoon import FIRSTS, FLUXES, MASSES, MOVED, NEXT, OUTSIDES, REACHES, RELEASES, RIM, SECONDS, SHARES, STEP_TABLES, VOLUMES, WORK
+from making.lent import tables_for
 from package.layout import Face
 from package.session import Session
 
@@ -176,7 +176,7 @@ def accepted_mesh(lent):
 
 
 def compare_tables(calls, name, rng, kind, met):
-    lent = generate_script.tables_for(rng, STEP_TABLES, False, [])
+    lent = tables_for(rng, STEP_TABLES, False, [])
     mesh = accepted_mesh(lent)
     if mesh is None:
         return

@@ -6,6 +6,7 @@ n a number, t a table, s a table of signed numbers, b bytes, p and q such tables
 """
 
 import argparse
+import bisect
 import re
 import struct
 import sys
@@ -58,6 +59,8 @@ TOLD_NARROW, TOLD_WIDE = 0, 1   # the width that a call is told (document 02, S-
 SKIPPED = re.compile(rb"(?:[ \t\r\n]+|#[^\n]*)*")
 SPELLED = re.compile(rb"(-?)([0-9]*)")
 ENDED = re.compile(rb"[ \t\r\n#]|\Z")
+WORDS = re.compile(rb"#[^\n]*|[^ \t\r\n#]+")
+SIGNED = "sq"
 
 
 class Fault(Exception):
@@ -71,10 +74,48 @@ class Fault(Exception):
 # ---------------------------------------------------------------- Reading a script
 
 class Reader:
-    """A script's text and the byte that reading has come to."""
+    """A script's text and the byte that reading has come to.
+
+    A call without fault is read by its words, many numbers at once; any other number by number, so that a fault has its place.
+    """
 
     def __init__(self, text):
         self.text, self.at = text, 0
+        found = [match for match in WORDS.finditer(text) if text[match.start()] != ord("#")]
+        self.words, self.ends = [match.group() for match in found], [match.end() for match in found]
+        self.next = 0                   # the word that follows
+
+    def take(self, many, kind="n"):
+        """So many words as numbers of a kind; ValueError where one is none or too large for it."""
+        words = self.words[self.next:self.next + many]
+        letters = b"".join(words)
+        if len(words) < many or words and not (letters.replace(b"-", b"") if kind in SIGNED else letters).isdigit():
+            raise ValueError
+        values = list(map(int, words))
+        least, most = (-WORD // 2, WORD // 2 - 1) if kind in SIGNED else (0, 255 if kind == "b" else WORD - 1)
+        if values and not least <= min(values) <= max(values) <= most:
+            raise ValueError
+        self.next += many
+        return values
+
+    def plain_call(self):
+        """The next call, where it is one; ValueError where it has a fault, or the script is at its end."""
+        start = self.next
+        [number] = self.take(1)
+        if number not in CALLS:
+            raise ValueError
+        name, kinds = CALLS[number]
+        values = []
+        for kind in kinds:
+            [value] = self.take(1)
+            if kind != "n":
+                if value > ROOM[kind]:
+                    raise ValueError
+                value = self.take(value, kind)
+            values.append(bytearray(value) if kind == "b" else value)
+        if self.next - start > MOST_NUMBERS:
+            raise ValueError
+        return name, values
 
     def number(self):
         """The next number as (minus, size), None at the end."""
@@ -112,7 +153,7 @@ class Reader:
         return size
 
     def entry(self, kind, found):
-        if kind in "sq":
+        if kind in SIGNED:
             value = -found[1] if found[0] else found[1]
             if not -WORD // 2 <= value < WORD // 2:
                 raise Fault("too large", self.at)
@@ -121,6 +162,15 @@ class Reader:
 
     def call(self):
         """The next call as (name, arguments), None at the end."""
+        try:
+            found = self.plain_call()
+            self.at = self.ends[self.next - 1]
+        except ValueError:
+            found = self.call_by_numbers()
+            self.next = bisect.bisect_right(self.ends, self.at)
+        return found
+
+    def call_by_numbers(self):
         found = self.number()
         if found is None:
             return None

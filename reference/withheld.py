@@ -26,6 +26,7 @@ import generate_script
 import lagoon
 import script
 import slips
+from making.lent import GREATEST
 
 TELLING = (slips.revealing, slips.weighed, slips.outranked)
 GROWERS = {"public_page": "page", "public_board": "board"}
@@ -37,17 +38,17 @@ class Wrong(Exception):
 
 def accepted(cells, volumes, masses):
     """Whether the tables are of 64 bits, the field long enough and no q of it too large; a volume of 0 is the mesh's fault."""
-    return (all(0 <= entry <= generate_script.GREATEST for entry in (*volumes, *masses)) and cells <= min(len(volumes), len(masses))
+    return (all(0 <= entry <= GREATEST for entry in (*volumes, *masses)) and cells <= min(len(volumes), len(masses))
             and all(m // V <= lagoon.TOP for V, m in zip(volumes[:cells], masses) if V))
 
 
 def other_field(rng, cells, volumes, masses, marks):
     """The field with other masses in withheld cells, and anything past the counts."""
     open_cells = set(lagoon.open_cells((marks + [lagoon.OPEN] * cells)[:cells]))
-    most = [min(V * (lagoon.TOP + 1), generate_script.GREATEST) for V in volumes[:cells]]
+    most = [min(V * (lagoon.TOP + 1), GREATEST) for V in volumes[:cells]]
     field = [m if cell in open_cells or not most[cell] else rng.choice([0, most[cell] - 1, rng.randrange(most[cell])])
              for cell, m in enumerate(masses[:cells])]
-    return field + [rng.choice([0, generate_script.GREATEST]) for _ in range(rng.choice([0, 0, 1, 3]))]
+    return field + [rng.choice([0, GREATEST]) for _ in range(rng.choice([0, 0, 1, 3]))]
 
 
 def a_pair(seed, number):

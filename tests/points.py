@@ -16,7 +16,7 @@ sys.path.insert(0, str(ROOT / "reference"))
 
 from package import points
 from package.causes import Refusal
-from generate_script import SPECIAL, survey_face
+from making.points import SPECIAL, survey_face
 from script import float_of, pattern, spell
 
 FACES = 4000
