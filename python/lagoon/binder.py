@@ -4,7 +4,6 @@ For growers, or for the public, who are not shown withheld cells."""
 import itertools
 
 from . import causes, command, engine
-from .calls import Calls, spelled
 from .causes import CELL
 from .command import Bad, count
 from .layout import Damage, Source
@@ -38,7 +37,7 @@ examples:
   lagoon binder session.in --field june.field | lpr
 """
 
-ROOM = spelled([0] * (61 * 19))  # for a page: sixty cells and their mass, in the widest lines
+MOST_BYTES = 61 * 19            # of a page: sixty cells and their mass, in the widest lines
 BEYOND = 14                     # the cause of a page beyond the last
 LENGTH, KIND = 11, 13           # the causes of what is no record of a step
 OPEN, WITHHELD = 0, 1
@@ -64,11 +63,12 @@ class Printer:
 
     def __init__(self, calls, volumes, masses, marks):
         self.calls, self.public = calls, "public_" if marks else ""
-        self.field, self.marks = (len(volumes), spelled(volumes), spelled(masses)), [spelled(marks)] if marks else []
+        self.field, self.marks = (len(volumes), calls.lend(volumes), calls.lend(masses)), [calls.lend(marks)] if marks else []
+        self.room = calls.lend([0] * MOST_BYTES)
 
     def page(self, number):
         """The bytes of a page, None of one beyond the last."""
-        said, left = self.calls.ask(f"{self.public}page", *self.field, number, ROOM, *self.marks)
+        said, left = self.calls.ask(f"{self.public}page", *self.field, number, self.room, *self.marks)
         if said[:2] == ["refused", str(BEYOND)]:
             return None
         self.accepted(said)
@@ -162,7 +162,7 @@ def main(words):
     session = open_session(options.file)
     marks = marks_in(options.public, session) if options.public else None
     masses, missing = (stored_field(session, options.field), []) if options.field else last_field(session, options)
-    printer = Printer(Calls(options.calls), session.mesh.volumes, masses, marks)
+    printer = Printer(engine.asker(options.calls), session.mesh.volumes, masses, marks)
     pages, board = printer.pages(FORM_FEED if options.form_feed else b""), printer.board() if options.board else b""
     printer.calls.finish()
     command.write_whole(options.output, pages)

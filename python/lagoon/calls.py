@@ -29,6 +29,10 @@ class Calls:
         except OSError as error:
             raise Bad(f"{self.program}: {error.strerror}") from None
 
+    def lend(self, values):
+        """A table as the program reads it, spelled once for many calls."""
+        return spelled(values)
+
     def ask(self, name, *arguments):
         """The words that are printed after the call's name, and the tables by their names."""
         script = "  ".join([str(NUMBERS[name]), *map(spelled, arguments)]) + "\n"
@@ -60,10 +64,10 @@ class OnTables:
 
     def __init__(self, mesh, calls):
         self.calls, self.cells, self.faces = calls, len(mesh.volumes), len(mesh.faces)
-        columns = [spelled([face[column] for face in mesh.faces]) for column in range(4)]
-        self.mesh = (self.cells, self.faces, spelled(mesh.volumes), *columns)
-        self.next, self.moved = spelled([0] * self.cells), spelled([0] * self.faces)
-        self.work = spelled([0] * (4 * self.cells + self.faces))
+        columns = [calls.lend([face[column] for face in mesh.faces]) for column in range(4)]
+        self.mesh = (self.cells, self.faces, calls.lend(mesh.volumes), *columns)
+        self.next, self.moved = calls.lend([0] * self.cells), calls.lend([0] * self.faces)
+        self.work = calls.lend([0] * (4 * self.cells + self.faces))
 
     def step(self, name, masses, water):
         """The step of that name; water: fluxes, outsides and releases, an entry for each face or cell."""

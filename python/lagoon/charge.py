@@ -4,7 +4,6 @@ from collections import namedtuple
 
 from . import causes, command, engine
 from .binder import stored_field
-from .calls import Calls
 from .causes import FACE, Refusal
 from .command import Bad, count, shown
 from .rows import Faces, Rows, as_csv
@@ -262,7 +261,7 @@ def main(words):
     tariff, faces = Tariff(options.tariff), ports(options.ports, session)
     handed = remainders(options.remainders, session) if options.remainders else {}
     masses = stored_field(session, options.field) if options.field else None
-    calls = Calls(options.calls)
+    calls = engine.asker(options.calls)
     period = Period(session, calls, masses)
     bills = Bills(session, tariff, period, [charged(calls, tariff, port, face, period.totals[face], handed.get(face, 0)) for port, face in faces], handed)
     calls.finish()

@@ -2,9 +2,9 @@
 
 
 from . import causes, command, layout
-from .calls import Calls, OnTables, spelled
+from .calls import OnTables
 from .command import Bad, Output, count, shown
-from .engine import Walk, read_by
+from .engine import Walk, asker, read_by
 from .layout import RIM, Face, Step
 from .rows import Rows, as_csv
 from .session import Session, is_text
@@ -129,7 +129,7 @@ class Cutter:
     """A lagoon and its labels, cut by the proved call as often as it is asked."""
 
     def __init__(self, mesh, labels, calls):
-        self.calls, self.mesh, self.labelled, self.labels = calls, mesh, labels, spelled(labels)
+        self.calls, self.mesh, self.labelled, self.labels = calls, mesh, labels, calls.lend(labels)
         self.tables = OnTables(mesh, calls)
         by_cell, by_face = self.tables.next, self.tables.moved      # tables of zeros, to be filled
         self.no_water = (by_face, by_face, by_cell)
@@ -156,9 +156,9 @@ class Cutting:
 
     def __init__(self, session, labels, program):
         self.mesh = session.mesh
-        self.cutter = Cutter(self.mesh, labels, Calls(program))
+        self.cutter = Cutter(self.mesh, labels, asker(program))
         self.calls, self.tables = self.cutter.calls, self.cutter.tables
-        self.read = (int(self.mesh.widths == layout.WIDE), self.tables.cells, self.tables.faces, spelled([face.second for face in self.mesh.faces]))
+        self.read = (int(self.mesh.widths == layout.WIDE), self.tables.cells, self.tables.faces, self.calls.lend([face.second for face in self.mesh.faces]))
         said, left = self.cutter.cut(session.masses, self.cutter.no_water)
         if said[0] == "refused":
             raise Bad("the cutting is refused: " + label_refusal(session, labels, *map(int, said[1:])))

@@ -12,8 +12,9 @@ from fractions import Fraction
 from functools import lru_cache
 
 from . import causes, command, layout
-from .calls import Calls, OnTables, spelled, water
+from .calls import Calls, OnTables, water
 from .command import Bad, Progress
+from .shared import Shared
 
 # One step of a session: its number, None or the refusal, the masses after it, its in-mass and out-mass by rim face, and what it released
 # by cell.
@@ -51,10 +52,18 @@ def loaded(path):
     return ctypes.CDLL(os.path.abspath(found) if os.path.exists(found) else found)
 
 
+def asker(program=None):
+    """Who makes the calls on tables: the library where it exports any, else the program `calls`, or the program that is named."""
+    if program or not library():
+        return Calls(program)
+    shared = Shared(loaded(None))
+    return shared if shared.made else Calls()
+
+
 @lru_cache(maxsize=None)
 def asked():
-    """The program that makes the calls which the library has not, one for all who ask in this process."""
-    calls = Calls()
+    """The same, one for all who ask in this process."""
+    calls = asker()
     atexit.register(calls.finish)
     return calls
 
@@ -82,10 +91,10 @@ class Plain:
     """The plain step on a mesh, by the program `calls`: the C call makes corrected steps only."""
 
     def __init__(self, mesh, program=None, calls=None):
-        self.calls = calls or Calls(program)
+        self.calls = calls or asker(program)
         self.tables = OnTables(mesh, self.calls)
         cells, faces = len(mesh.volumes), len(mesh.faces)
-        self.widths, self.read = mesh.widths, (int(mesh.widths == layout.WIDE), cells, faces, spelled([face.second for face in mesh.faces]))
+        self.widths, self.read = mesh.widths, (int(mesh.widths == layout.WIDE), cells, faces, self.calls.lend([face.second for face in mesh.faces]))
         self.fluxes_outsides_releases = ([0] * faces, [0] * faces, [0] * cells)
 
     def step(self, field, step):

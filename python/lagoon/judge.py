@@ -3,7 +3,6 @@
 from collections import namedtuple
 
 from . import budget, causes, command, engine
-from .calls import Calls
 from .causes import CELL, FACE, Refusal
 from .command import Bad, count
 from .layout import RIM
@@ -234,7 +233,7 @@ def main(words):
         raise Bad("only one of the two can be standard input")
     command.keep_apart([options.output], [options.file, options.claims, *engine.read_by(options)])
     session = open_session(options.file)
-    calls = Calls(options.calls)
+    calls = engine.asker(options.calls)
     verdicts = Verdicts(session, Claims(options.claims, session), Judge(session, calls), options.engine)
     refused = [COLUMNS, *verdicts.rows()]
     calls.finish()

@@ -30,7 +30,7 @@ class After(Field):
     def moved(self):
         """The mass that moved through each face, by number."""
         if self._moved is None:         # lagoon_step gives the next field alone
-            self._moved = tables(self.mesh).step("step", self.before.masses.tolist(), water(self.step))[1]["moved"]
+            self._moved = tables(self.mesh).step("step", self.before.masses, water(self.step))[1]["moved"]
         return table(self._moved, SIGNED)
 
     @property
@@ -58,7 +58,7 @@ def tables(mesh: Mesh):
 
 
 def water(step: Step):
-    return step.flux.tolist(), step.outside.tolist(), step.release.tolist()
+    return step.flux, step.outside, step.release
 
 
 def same_mesh(field: Field, step: Step):
@@ -93,7 +93,7 @@ def step(field: Field, step: Step) -> After:
 def plain_step(field: Field, step: Step) -> After:
     """The same by plain upwind, first order and without corrections (document 02, S-8)."""
     same_mesh(field, step)
-    said, left = tables(field.mesh).step("plain_step", field.masses.tolist(), water(step))
+    said, left = tables(field.mesh).step("plain_step", field.masses, water(step))
     if said[0] != "accepted":
         raise refused(field, causes.step_refusal(field.mesh.inner, step.inner, field.masses), tuple(map(int, said[1:])))
     return After(field, step, left["next"], left["moved"])
@@ -114,7 +114,7 @@ def judged(field: Field, step: Step, claim) -> After:
     """
     same_mesh(field, step)
     mesh, claim = field.mesh.inner, spread(claim, field.mesh.faces, SIGNED, "claim").tolist()
-    said, left = tables(field.mesh).judge(field.masses.tolist(), water(step), claim)
+    said, left = tables(field.mesh).judge(field.masses, water(step), claim)
     if said[0] == "accepted":
         return After(field, step, left["next"], claim)
     refusal = causes.step_refusal(mesh, step.inner, field.masses)
@@ -149,7 +149,7 @@ def in_two(field: Field, step: Step, labels) -> "tuple[Part, Part]":
     same_mesh(field, step)
     mesh, labels = field.mesh, spread(labels, field.mesh.cells, "Q", "labels").tolist()
     cutter = Cutter(mesh.inner, labels, engine.asked())
-    said, left = cutter.cut(field.masses.tolist(), water(step))
+    said, left = cutter.cut(field.masses, water(step))
     if said[0] != "accepted":
         cause, place = map(int, said[1:])
         words = {23: f"label {labels[place]} is neither 0 nor 1", 24: f"no cell has label {place}"} if cause > 20 else {}
@@ -181,7 +181,7 @@ def printer(field: Field, withheld):
     marks = [0] * len(field.masses)
     for cell in withheld:
         marks[field.mesh.cells.of(str(cell))] = 1
-    return Printer(engine.asked(), field.mesh.inner.volumes, field.masses.tolist(), marks if any(marks) else None)
+    return Printer(engine.asked(), field.mesh.inner.volumes, field.masses, marks if any(marks) else None)
 
 
 def page(field: Field, number: int, withheld: Sequence = ()) -> bytes:
@@ -269,7 +269,7 @@ class Period:
 
     def add(self, after: After) -> None:
         seconds = self.mesh.second.tolist()
-        said, left = engine.asked().ask("add", len(seconds), seconds, after.moved.tolist(), self._totals)
+        said, left = engine.asked().ask("add", len(seconds), seconds, after.moved, self._totals)
         if said[0] != "accepted":
             cause, face = map(int, said[1:])
             raise Refused(Refusal(cause, FACE, face, IN_WORDS[cause]), self.mesh.labels)
