@@ -14,7 +14,7 @@ import zipfile
 from array import array
 from pathlib import Path
 
-from toolcase import CHANNEL, ROOT, equal, folder, holds, run_all
+from toolcase import CHANNEL, ROOT, command, equal, folder, holds, run_all
 
 import generate
 import lagoon as reference
@@ -193,6 +193,18 @@ def test_texts():
         raises(FileNotFoundError, "nowhere", lambda: sessions.Session.open(f"{made}/nowhere"))
 
 
+def test_pictures():
+    """A plot by name, a map where places are known and a word where they are not; a session saved is the session."""
+    with folder() as made:
+        equal(command("survey", *(ROOT / "examples" / f"bay-{name}.csv" for name in ("cells", "faces")), "-o", f"{made}/bay.txt")[0], 0, "the bay")
+        bay = sessions.Session.open(f"{made}/bay.txt")
+        names = list(bay.field.q)
+        holds(names[0] in bay.run().plot(cells=names[:1]).svg and names[0] in bay.run().map(steps=["last"])._repr_svg_(), "names in both pictures")
+        bay.save(f"{made}/again.txt")
+        equal(Path(f"{made}/again.txt").read_bytes(), bay.data, "saved")
+    raises(ValueError, "", lambda: sessions.Session.of(CHANNEL).run().map())
+
+
 # ---------------------------------------------------------------- Installed
 
 def test_the_wheel():
@@ -211,6 +223,25 @@ def test_the_wheel():
             done = subprocess.run([f"{made}/pip/bin/lagoon", "run", str(ROOT / "examples" / "tide.txt")], cwd=made,
                                   env={**os.environ, "PYTHONPATH": f"{made}/pip"}, capture_output=True, text=True)
             equal((done.returncode, done.stdout.splitlines()[25]), (1, "25 R 9 0"), done.stderr)
+
+
+def test_make_install():
+    """Command, library, headers, pages and examples: from where they were put, and all taken away again."""
+    with folder() as made:
+        done = subprocess.run(["make", "-s", "install", f"DESTDIR={made}", "PREFIX=/usr"], cwd=ROOT, capture_output=True, text=True)
+        equal((done.returncode, done.stderr), (0, ""), "make install")
+        usr, shown = Path(made, "usr"), {**os.environ, "PYTHONPATH": ""}
+        examples = usr / "share" / "doc" / "lagoon" / "examples"
+        for words, status in ((["check", examples / "channel.txt"], 0), (["run", examples / "tide.txt"], 1), (["budget", "--plain", examples / "tide.txt"], 0)):
+            done = subprocess.run([usr / "bin" / "lagoon", *words], cwd=made, env=shown, capture_output=True)
+            equal((done.returncode, done.stderr), (status, b""), f"lagoon {words[0]}")
+        subprocess.run(["gcc", examples / "host.c", f"-I{usr}/include", f"-L{usr}/lib", "-llagoon", f"-Wl,-rpath,{usr}/lib", "-o", f"{made}/host"], check=True)
+        equal(subprocess.run([f"{made}/host"], capture_output=True, check=True).stdout, (ROOT / "tests" / "host.out").read_bytes(), "a host by the shared object")
+        for page in ("man1/lagoon.1", "man3/lagoon.3"):
+            holds((usr / "share" / "man" / page).exists(), page)
+        subprocess.run(["make", "-s", "uninstall", f"DESTDIR={made}", "PREFIX=/usr"], cwd=ROOT, check=True)
+        left = [path for path in usr.rglob("*") if not path.is_dir()]
+        equal(left, [], "after make uninstall")
 
 
 if __name__ == "__main__":

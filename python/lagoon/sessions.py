@@ -8,6 +8,7 @@ from pathlib import Path
 from typing import Callable, Iterable, Iterator, NamedTuple, Optional, Union
 
 from . import budget, causes, engine, layout, plot, records, session, sessiontext
+from . import map as map_command
 from .command import Bad
 from .timeline import Timeline
 from .values import Field, Mesh, Named, Refused, Step
@@ -168,12 +169,20 @@ class Run:
         return drawn(plot.main, self.session, words)
 
 
+    def map(self, steps: Iterable = (0, "last"), title: str = "") -> Picture:
+        """What `lagoon map` draws: the lagoon after these steps, where its text says where cells and faces lie."""
+        return drawn(map_command.main, self.session, ["--title", title or self.session.name, "--steps", ",".join(str(step) for step in steps)])
+
+
 def drawn(main, shown: "Session", words) -> Picture:
     """The picture that a command makes of a session."""
     with tempfile.TemporaryDirectory(prefix="lagoon.") as made:
         given, picture = Path(made, "session"), Path(made, "picture.svg")
         given.write_bytes(shown.data)
-        main([str(given), "-o", str(picture), *words])
+        try:
+            main([str(given), "-o", str(picture), *words])
+        except Bad as bad:
+            raise ValueError(str(bad)) from None
         return Picture(picture.read_text(encoding="utf-8"))
 
 
@@ -215,6 +224,10 @@ class Session:
         writer = sessiontext.StepText(mesh.inner)
         body = [writer.of(step.inner, number, 1) for number, step in enumerate(steps, 1)]
         return cls.of("".join([*head, sessiontext.mesh_text(mesh.inner), sessiontext.field_text(field.masses), *body]))
+
+    def save(self, path: Union[str, "os.PathLike[str]"]) -> None:
+        """Writes it as it was opened or made, text or packed."""
+        Path(path).write_bytes(self.data)
 
     def opened(self):
         """Read from its beginning, as the tools do."""
