@@ -188,7 +188,7 @@ def test_tools():
             file.write("# Größe\n".encode("latin-1"))
         refuses("is no UTF-8", "worked.py", "--check", page)
         refuses("is no UTF-8", "worked.py", "--write", page)
-        refuses("is read: it cannot be written too", "paper.py", page, "-o", place)
+        refuses("would be written over", "paper.py", page, "-o", place)
         with open(page, "rb") as file:
             equal(file.read(), "# Größe\n".encode("latin-1"), "the page")
         status, _, said = command("paper.py", page, "-o", os.path.join(place, "out"))
