@@ -366,6 +366,10 @@ def test_check_in_words():
     equal(command("check", data=CHANNEL.encode())[:2],
           (0, b"<stdin>: 3 cells, 4 faces (2 at the rim), 2 steps: the run accepts all\n"), "a session without fault")
     equal(command("check", data=CHANNEL[:CHANNEL.index("field")].encode())[0], 1, "a session without a field")
+
+
+def test_check_after_steps():
+    """What cause 18 refuses on a field that steps have changed, with its line or byte; without the library it is said what is not judged."""
     later = CHANNEL + "step times 3\ncell 0 release 99900000\n"
     for given, where in ((later.encode(), ":21"), (sessiontext.pack(later)[0], ": byte 105")):
         equal(command("check", data=given)[:2], (1, (f"<stdin>{where}: steps 4 to 5, cell 0: mass 100,000,099 and release 99,900,000 in volume 100 are a concentration "

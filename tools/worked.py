@@ -836,7 +836,7 @@ def main():
     if options.check:
         check(options.check)
     elif options.write:
-        options.write.write_text(filled(options.write.read_text()))
+        command.write_whole(str(options.write), filled(options.write.read_text()).encode())
     else:
         for name in [options.block] if options.block else BLOCKS:
             print("\n".join([f"<!-- worked: {name} -->", *BLOCKS[name](), "<!-- end -->"]))

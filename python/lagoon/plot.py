@@ -263,7 +263,8 @@ class Picture:
 
     def budget(self, figures, whose):
         scale = quantities.masses(self.labels.units, max(figures.total[0], figures.total[-1], figures.all_in, figures.all_out))
-        self.say(whose + balance(figures, lambda mass: f"{mass:,}"))
+        unit = self.labels.units.get("mass", "")
+        self.say(whose + balance(figures, lambda mass: f"{mass:,}") + (f" (in {'units of ' * unit[:1].isdigit()}{unit})" if unit else ""))
         if self.labels.units.get("mass") and scale.factor != 1:
             self.drawing.top += 20
             self.say(f"in {scale.words}, rounded: {balance(figures, lambda mass: quantities.rounded(mass * scale.factor))}")

@@ -218,7 +218,8 @@ class Checker:
         return not refusal
 
     def water(self, step, record, place, times=1):
-        """Equal steps, whose place is by the refusal and how many of them stand before: those with releases one after another, since each is judged on the field that the one before left."""
+        """Equal steps, whose place is by the refusal and how many of them stand before. Those with releases go one after another, since
+        each is judged on the field that the one before left."""
         if not any(step.releases or []):
             refusal = step_refusal(self.mesh, step, None)
             if not refusal:

@@ -162,7 +162,8 @@ class Lagoon:
         mesh = self.mesh
         return [f"{count(len(mesh.volumes), 'cell')}, {count(len(mesh.faces), 'face')} ({len(mesh.rim):,} at the rim); a unit of volume is {self.unit:g} m3, "
                 f"of mass {self.unit * self.salt_unit:g} g, of concentration {self.salt_unit:g} g/m3",
-                f"made whole, a volume is changed by {percent(self.changed['volume'])} at most, a reach by {percent(self.changed['reach'])}, a first q by {percent(self.changed['q'])}",
+                f"made whole, a volume is changed by {percent(self.changed['volume'])} at most, a reach by {percent(self.changed['reach'])}, "
+                f"a first q by {percent(self.changed['q'])}",
                 f"for lagoon fluxes: --factor {1 / self.unit:.8g} times the seconds of a step, where the table has m3/s"
                 + (f"; --outside-factor {1 / self.salt_unit:.8g}" if self.salt_unit != 1 else ""), *self.survey.notes]
 
@@ -198,7 +199,8 @@ def main(words):
     command.keep_apart([options.output], [options.cells, options.faces])
     if options.cells == options.faces == "-":
         raise Bad("only one of the two can be standard input")
-    survey = Survey(Rows(options.cells, ("cell", "volume"), tuple((salt,) for salt in SALTS)), Rows(options.faces, ("face", "from", "to", "area"), (("way", "distance"), points.COLUMNS)))
+    survey = Survey(Rows(options.cells, ("cell", "volume"), tuple((salt,) for salt in SALTS)),
+                    Rows(options.faces, ("face", "from", "to", "area"), (("way", "distance"), points.COLUMNS)))
     ceiling = causes.MOST_VOLUME if options.wide else most(NARROW.value)
     lagoon = Lagoon(survey, options.volume_unit or chosen_unit(survey, ceiling), options.salt_unit)
     command.write_whole(options.output, lagoon.text().encode())
