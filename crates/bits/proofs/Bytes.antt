@@ -35,6 +35,19 @@ bits-within bs p a w s =
     ∙ ap (λ (x : ℕ). x % 2 ^ w) (high (bitsAt bs p (a + w)) s (bits-lt bs (p + (a + w)) s) ∙ bits-split bs p a w)
     ∙ low (bitsAt bs p a) w (bits-lt bs (p + a) w)
 
+-- three fields of w bits read as one
+pub three-within : (bs : List ℕ) (p w : ℕ) {x : ℕ} → x ≡ bitsAt bs p (3 * w)
+    → (x / 2 ^ (2 * w) % 2 ^ w ≡ bitsAt bs p w) × (x / 2 ^ w % 2 ^ w ≡ bitsAt bs (p + w) w) × (x / 2 ^ 0 % 2 ^ w ≡ bitsAt bs (p + 2 * w) w)
+three-within bs p w {x} e =
+    let a : 3 * w ≡ 0 + w + 2 * w = omega arith in
+    let b : 3 * w ≡ w + w + w = omega arith in
+    let d : 3 * w ≡ 2 * w + w + 0 = omega arith in
+    let z : p + 0 ≡ p = omega arith in (
+      ap (λ (n : ℕ). n / 2 ^ (2 * w) % 2 ^ w) (e ∙ ap (λ (n : ℕ). bitsAt bs p n) a) ∙ bits-within bs p 0 w (2 * w) ∙ ap (λ (n : ℕ). bitsAt bs n w) z,
+      ap (λ (n : ℕ). n / 2 ^ w % 2 ^ w) (e ∙ ap (λ (n : ℕ). bitsAt bs p n) b) ∙ bits-within bs p w w w,
+      ap (λ (n : ℕ). n / 2 ^ 0 % 2 ^ w) (e ∙ ap (λ (n : ℕ). bitsAt bs p n) d) ∙ bits-within bs p (2 * w) w 0,
+    )
+
 -- a reader's end: the n bytes from byte p on are read, the last of them the field's last, and the field begins within them
 pub bits-ending : (bs : List ℕ) (at w p n : ℕ) {v : ℕ} → 0 < w → p + n ≡ (at + w - 1) / 8 + 1 → p * 8 ≤ at → v ≡ bitsAt bs (p * 8) (n * 8)
     → v / 2 ^ (7 - (at + w - 1) % 8) % 2 ^ w ≡ bitsAt bs at w

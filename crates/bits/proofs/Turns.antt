@@ -6,7 +6,7 @@ use mir.Val.{Fits}
 use mir.Syntax.{w64}
 
 -- a field of w bits from bit `at` on, and the bytes that it touches
-module _ (at w : ℕ) (few : w ≤ 40) (some : 0 < w) where
+module _ (at w : ℕ) (few : w ≤ 57) (some : 0 < w) where
   pub width-small : w < 64
   width-small = omega arith
 

@@ -9,6 +9,9 @@ ghost use Rattle.bits.specs.Mixed.{mixed};
 // The widest field: with it no shift and no sum below leaves 64 bits.
 pub const WIDEST: usize = 40;
 
+// So many bits, from any bit on, lie within eight bytes: several fields of a row can be read as one.
+pub const HELD: usize = 57;
+
 fn wide(x: u8) -> u64
     ensures { λ r. ⌜ r ≡ x ⌝ }
 {
@@ -30,7 +33,7 @@ pub fn bytes_for(n: usize) -> usize
 }
 
 // 2^k.
-fn pow2(k: usize) -> u64
+pub fn pow2(k: usize) -> u64
     requires { ⌜ k < 64 ⌝ }
     ensures { λ r. ⌜ r ≡ 2 ^ k ⌝ }
 {
@@ -60,10 +63,19 @@ fn eight(src: &[u8], first: usize) -> u64
     joined(src, first, 7, seven)
 }
 
+// Of a number, the field of width bits above its lowest `below`.
+pub fn part(v: u64, below: usize, width: usize) -> u64
+    requires { ⌜ (below < 64) × (width < 64) ⌝ }
+    ensures { λ r. ⌜ r ≡ v / 2 ^ below % 2 ^ width ⌝ }
+{
+    let rest = v >> below;
+    rest % pow2(width)
+}
+
 // The field of width bits at a bit position: of the eight bytes that end with its last one, as one number, the field's bits; or, near the
 // start, of the bytes that it touches.
 pub fn read_bits(src: &[u8], at: usize, width: usize) -> u64
-    requires { do ⌜ (at + width ≤ 8 * length (now src)) × (at + width < 2 ^ 64) × (width ≤ (← ⟦WIDEST⟧)) ⌝ }
+    requires { do ⌜ (at + width ≤ 8 * length (now src)) × (at + width < 2 ^ 64) × (width ≤ (← ⟦HELD⟧)) ⌝ }
     ensures { λ r. ⌜ r ≡ bitsAt (now (src .entry)) at width ⌝ }
 {
     if width == 0 {
@@ -73,8 +85,7 @@ pub fn read_bits(src: &[u8], at: usize, width: usize) -> u64
     let last = end / 8;
     let below = 7 - end % 8;
     if 7 <= last {
-        let whole = eight(src, last - 7) >> below;
-        return whole % pow2(width);
+        return part(eight(src, last - 7), below, width);
     }
     let first = at / 8;
     let bytes = last + 1 - first;
@@ -84,8 +95,7 @@ pub fn read_bits(src: &[u8], at: usize, width: usize) -> u64
         v = joined(src, first, k, v);
         k += 1;
     }
-    let field = v >> below;
-    field % pow2(width)
+    part(v, below, width)
 }
 
 // A byte with v in the k bits above its lowest e.

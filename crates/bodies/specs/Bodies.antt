@@ -8,7 +8,25 @@ use lib.ListN.{length}
 use Rattle.lists.specs.Table.{table, over}
 use Rattle.signed.specs.Sign.{withSign}
 use Rattle.sections.specs.Sections.{Section, shapeBits, valueIn, columnIn}
-use Rattle.heads.specs.Layouts.{faceBits, outsideBits, meshBody, stepBody}
+use Rattle.bits.specs.Field.{bitsAt}
+use Rattle.heads.specs.Layouts.{endBits, shareBits, faceBits, outsideBits, meshBody, stepBody}
+
+-- The faces of a mesh from bit `first` on, K of `value` bits: a body holds n of them, and the tables can take them.
+pub record FacesRoom (value : ℕ) (body : List ℕ) (first n firsts seconds shares reaches : ℕ) : Type 0 where
+  pub narrow : value ≤ 16
+  pub small : 8 * length body < 2 ^ 64
+  pub holds : (f : ℕ) → f < n → first + f * (32 + value) + (32 + value) ≤ 8 * length body
+  pub firsts-long : n ≤ firsts
+  pub seconds-long : n ≤ seconds
+  pub shares-long : n ≤ shares
+  pub reaches-long : n ≤ reaches
+
+-- the tables hold n of them
+pub record FacesFilled (value : ℕ) (bs : List ℕ) (first n : ℕ) (firsts seconds shares reaches firsts′ seconds′ shares′ reaches′ : List ℕ) : Type 0 where
+  pub firsts-in : firsts′ ≡ over (table n (λ f. bitsAt bs (first + f * (32 + value)) endBits)) firsts
+  pub seconds-in : seconds′ ≡ over (table n (λ f. bitsAt bs (first + endBits + f * (32 + value)) endBits)) seconds
+  pub shares-in : shares′ ≡ over (table n (λ f. bitsAt bs (first + endBits + endBits + f * (32 + value)) shareBits)) shares
+  pub reaches-in : reaches′ ≡ over (table n (λ f. bitsAt bs (first + endBits + endBits + shareBits + f * (32 + value)) value)) reaches
 
 -- a mesh's body holds what its tables are to take
 pub record MeshRoom (kind cells faces : ℕ) (body : List ℕ) (volumes firsts seconds shares reaches : ℕ) : Type 0 where

@@ -13,7 +13,37 @@ ghost use lib.ListN.{length};
 ghost use Rattle.lists.specs.Table.{over};
 ghost use Rattle.sections.specs.Sections.{shapeBits, columnIn};
 ghost use Rattle.heads.specs.Layouts.{meshKind, fieldKind, kindNumber, meshBody, fieldBody, stepBody};
-ghost use Rattle.bodies.specs.Bodies.{MeshRoom, MeshFilled, StepRoom, StepFilled};
+ghost use Rattle.bodies.specs.Bodies.{FacesRoom, FacesFilled, MeshRoom, MeshFilled, StepRoom, StepFilled};
+
+// The four fields of each of n faces from a bit on: they stand one after another, and are read as one number.
+fn read_faces(
+    value: usize,
+    body: &[u8],
+    first: usize,
+    n: usize,
+    firsts: &mut [u64],
+    seconds: &mut [u64],
+    shares: &mut [u64],
+    reaches: &mut [u64],
+)
+    requires { ⌜ FacesRoom value (now body) first n (length (now firsts)) (length (now seconds)) (length (now shares)) (length (now reaches)) ⌝ }
+    ensures { λ _. ⌜ FacesFilled value (now (body .entry)) first n
+        (now (firsts .entry)) (now (seconds .entry)) (now (shares .entry)) (now (reaches .entry))
+        (now (firsts .exit)) (now (seconds .exit)) (now (shares .exit)) (now (reaches .exit)) ⌝ }
+{
+    let face = Body::ENDS_AND_SHARE + value;
+    let share = value + Body::SHARE;
+    let ends = share + Body::END;
+    let mut f = 0;
+    while f < n {
+        let row = bits::read_bits(body, first + f * face, face);
+        firsts[f] = bits::part(row, ends, Body::END);
+        seconds[f] = bits::part(row, share, Body::END);
+        shares[f] = bits::part(row, value, Body::SHARE);
+        reaches[f] = bits::part(row, 0, value);
+        f += 1;
+    }
+}
 
 pub fn mesh(
     width: Width,
@@ -32,16 +62,17 @@ pub fn mesh(
         (now (volumes .exit)) (now (firsts .exit)) (now (seconds .exit)) (now (shares .exit)) (now (reaches .exit)) ⌝ }
 {
     let value = lengths::value_width(width);
-    let face = Body::ENDS_AND_SHARE + value;
-    let first = Body::new(cells * value);
-    let second = first.past(Body::END);
-    let share = second.past(Body::END);
-    let reach = share.past(Body::SHARE);
     read_column(body, 0, value, value, cells, volumes);
-    read_column(body, first.at, face, Body::END, faces, firsts);
-    read_column(body, second.at, face, Body::END, faces, seconds);
-    read_column(body, share.at, face, Body::SHARE, faces, shares);
-    read_column(body, reach.at, face, value, faces, reaches);
+    read_faces(
+        value,
+        body,
+        cells * value,
+        faces,
+        firsts,
+        seconds,
+        shares,
+        reaches,
+    );
 }
 
 pub fn field(width: Width, cells: usize, body: &[u8], masses: &mut [u64])

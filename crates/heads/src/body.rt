@@ -1,6 +1,5 @@
 // Where the fields of a body stand.
 ghost use mathlib.Core.Path.{_≡_};
-ghost use Prim.Native.Nat.{_+_, _^_, _<_};
 
 // A place in a body, in bits from the body's first, and the widths of the fields there.
 pub struct Body {
@@ -33,15 +32,5 @@ impl Body {
         ensures { λ r. ⌜ r .at ≡ bit ⌝ }
     {
         Body { at: bit }
-    }
-
-    // The place after a field of this width.
-    pub fn past(self, width: usize) -> Self
-        requires { ⌜ self .at + width < 2 ^ 64 ⌝ }
-        ensures { λ r. ⌜ r .at ≡ self .at + width ⌝ }
-    {
-        Body {
-            at: self.at + width,
-        }
     }
 }

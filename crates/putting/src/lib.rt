@@ -10,9 +10,16 @@ use sections::put_column;
 use sections::put_marked;
 use sections::put_signs;
 use sections::put_sizes;
+ghost use mathlib.Core.Bool.{true};
+ghost use Prim.Native.Nat.{ℕ, _+_, _*_, _^_, _≤_, _<_};
+ghost use lib.ListN.{length, getD};
+ghost use Rattle.sections.specs.Columns.{PutColumn};
 ghost use Rattle.model.specs.Mesh.{meshOf};
-ghost use Rattle.heads.specs.Layouts.{meshKind, fieldKind, kindNumber, meshRecord, fieldRecord, stepRecord, meshLength, fieldLength, stepLength};
+ghost use Rattle.heads.specs.Layouts.{meshKind, fieldKind, kindNumber, massWidth, fieldHeadBits, meshRecord, fieldRecord, stepRecord, meshLength, fieldLength, stepLength};
 ghost use Rattle.putting.specs.Putting.{MeshWhole, FieldWhole, StepWhole, Wrote};
+
+// In bits.
+const FIELD_HEAD: usize = 8 * lengths::FIELD_HEAD;
 
 pub fn mesh(
     width: Width,
@@ -56,17 +63,37 @@ pub fn mesh(
     pad(bytes, first + faces * face)
 }
 
+// The masses, each width by itself: of a width and a place that it knows the compiler makes whole words.
+fn put_masses(bytes: &mut [u8], width: Width, cells: usize, masses: &[u64])
+    requires { ⌜ (cells ≤ length (now masses)) × ((i : ℕ) → i < cells
+        → (fieldHeadBits + i * massWidth width + massWidth width ≤ 8 * length (now bytes))
+        × (fieldHeadBits + i * massWidth width + massWidth width < 2 ^ 64))
+        × ((i : ℕ) → i < cells → getD (now masses) i 0 < 2 ^ massWidth width) ⌝ }
+    ensures { λ _. ⌜ PutColumn (now (bytes .entry)) cells (λ _. true) (λ i. fieldHeadBits + i * massWidth width) (massWidth width)
+        (λ i. getD (now (masses .entry)) i 0) (now (bytes .exit)) ⌝ }
+{
+    match width {
+        Width::Narrow => {
+            let mass = Body::NARROW_MASS;
+            put_column(bytes, FIELD_HEAD, mass, mass, cells, masses);
+        }
+        Width::Wide => {
+            let mass = Body::WIDE_MASS;
+            put_column(bytes, FIELD_HEAD, mass, mass, cells, masses);
+        }
+    }
+}
+
 pub fn field(width: Width, cells: usize, masses: &[u64], bytes: &mut [u8]) -> usize
     requires { ⌜ FieldWhole (fieldKind width) cells (now masses) (now bytes) ⌝ }
     ensures { λ r. ⌜ Wrote (now (bytes .entry)) (fieldRecord (fieldKind width) cells (now (masses .entry))) (fieldLength (fieldKind width) cells) (now (bytes .exit)) r ⌝ }
 {
     let kind = heads::of_width(width, heads::FIELD_KIND);
     let mass = lengths::mass_width(width);
-    let head = 8 * lengths::FIELD_HEAD;
     write_bits(bytes, 0, heads::KIND, kind);
     write_bits(bytes, heads::KIND, heads::CELLS, cells as u64);
-    put_column(bytes, head, mass, mass, cells, masses);
-    pad(bytes, head + cells * mass)
+    put_masses(bytes, width, cells, masses);
+    pad(bytes, FIELD_HEAD + cells * mass)
 }
 
 // Zero bits up to a whole byte come once, after the releases.

@@ -108,10 +108,6 @@ pub sign-fits : (b : Bool) → cond b 1 0 < 2 ^ 1
 sign-fits true = omega arith
 sign-fits false = omega arith
 
--- a sign and a size that were read
-pub signed-read : (bs : List ℕ) (at w : ℕ) {x y : ℕ} → x ≡ bitsAt bs at 1 → y ≡ bitsAt bs (at + 1) w → withSign (eqb x 1) y ≡ withSign (eqb (bitsAt bs at 1) 1) (bitsAt bs (at + 1) w)
-signed-read bs at w e d = rw (e, d)
-
 one-most : (b : Bool) → cond b 1 0 ≤ 1
 one-most true = omega arith
 one-most false = omega arith

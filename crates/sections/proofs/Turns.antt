@@ -1,5 +1,6 @@
 -- The places of the fields of a row, in a loop over the rows of a table.
-use Prim.Native.Nat.{ℕ, _+_, _^_, _≤_, _<_}
+use Prim.Native.Nat.{ℕ, _+_, _-_, _*_, _^_, _≤_, _<_}
+use native.Mathlib.Nat.{add-mul}
 use native.Mathlib.Omega.{arith}
 use mir.Val.{Fits}
 use mir.Syntax.{w64}
@@ -18,13 +19,14 @@ module _ (a b w : ℕ) (h : a + b + w < 2 ^ 64) where
   pub place-fits : Fits w64 (a + b)
   place-fits = record { fits = omega arith }
 
--- of 1 + w bits at p, the first and the rest
-module _ (p w : ℕ) where
-  pub first-in : {m : ℕ} → p + (1 + w) ≤ m → p + 1 ≤ m
-  first-in l = omega arith
+-- three rows of r bits at a time
+module _ (a i r : ℕ) where
+  pub three-in : {m : ℕ} → a + (i + 2) * r + r ≤ m → a + i * r + 3 * r ≤ m
+  three-in l = omega (arith, add-mul i 2 r)
 
-  pub rest-in : {m : ℕ} → p + (1 + w) ≤ m → p + 1 + w ≤ m
-  rest-in l = omega arith
+module _ (i : ℕ) {n : ℕ} (h : i + 2 < n) where
+  pub three-within : i + 3 ≤ n
+  three-within = omega arith
 
-  pub after-fits : p + (1 + w) < 2 ^ 64 → Fits w64 (p + 1)
-  after-fits g = record { fits = omega arith }
+  pub three-less : n - (i + 3) < n - i
+  three-less = omega arith

@@ -3,16 +3,17 @@ use signed::is_negative_at;
 use signed::size_at;
 ghost use mathlib.Core.Path.{_≡_};
 ghost use mathlib.Core.Bool.{true, cond};
-ghost use Prim.Native.Nat.{ℕ, _+_, _-_, _*_, _^_, _≤_, _<_};
+ghost use Prim.Native.Nat.{ℕ, _+_, _-_, _*_, _/_, _%_, _^_, _≤_, _<_};
 ghost use lib.Dec.{eqb};
 ghost use lib.IntN.{pos};
-ghost use lib.ListN.{length, getD};
+ghost use lib.ListN.{length, getD, set};
 ghost use Rattle.signed.specs.Sign.{isNegative, size as sizeOf, withSign};
 ghost use Rattle.lists.specs.Table.{table, over};
 ghost use Rattle.bits.specs.Field.{bitsAt};
 ghost use Rattle.bits.specs.Put.{Put};
 ghost use Rattle.bits.specs.Layout.{bytesFor};
 ghost use Rattle.sections.specs.Columns.{PutIf, PutColumn};
+ghost use Rattle.sections.specs.Codes.{coded};
 ghost use Rattle.sections.specs.Sections.{marked, those};
 
 // What a row that is not there reads.
@@ -112,20 +113,60 @@ pub fn put_sizes(
     }
 }
 
+// A sign and a size of width bits, read as one number, become entry i.
+fn put_code(out: &mut [i64], i: usize, width: usize, code: u64)
+    requires { ⌜ (i < length (now out)) × (width < 63) ⌝ }
+    ensures { λ _. ⌜ now (out .exit) ≡ set (now (out .entry)) i (coded width code) ⌝ }
+{
+    let unit = bits::pow2(width);
+    signed::put(out, i, unit <= code, code % unit);
+}
+
+// Three of them, read as one number, become the entries from i on.
+fn put_three(out: &mut [i64], i: usize, width: usize, codes: u64)
+    requires { ⌜ (i + 2 < length (now out)) × (3 * (1 + width) < 64) ⌝ }
+    ensures { λ _. ⌜ now (out .exit) ≡ set (set (set (now (out .entry))
+        i (coded width (codes / 2 ^ (2 * (1 + width)) % 2 ^ (1 + width))))
+        (i + 1) (coded width (codes / 2 ^ (1 + width) % 2 ^ (1 + width))))
+        (i + 2) (coded width (codes / 2 ^ 0 % 2 ^ (1 + width))) ⌝ }
+{
+    let row = 1 + width;
+    put_code(out, i, width, bits::part(codes, 2 * row, row));
+    put_code(out, i + 1, width, bits::part(codes, row, row));
+    put_code(out, i + 2, width, bits::part(codes, 0, row));
+}
+
+// A sign and a size for each of n entries, from `first` on, three entries at a time; how many were read. Entries past them stay.
+fn read_threes(bytes: &[u8], first: usize, width: usize, n: usize, out: &mut [i64]) -> usize
+    requires { do ⌜ (8 * length (now bytes) < 2 ^ 64) × (3 * (1 + width) ≤ (← ⟦bits::HELD⟧)) × (n ≤ length (now out)) ⌝ }
+    requires { ⌜ ((i : ℕ) → i < n → first + i * (1 + width) + (1 + width) ≤ 8 * length (now bytes)) ⌝ }
+    ensures { λ r. ⌜ (r ≤ n) × (now (out .exit) ≡ over (table r (λ i. withSign
+        (eqb (bitsAt (now (bytes .entry)) (first + i * (1 + width)) 1) 1)
+        (bitsAt (now (bytes .entry)) (first + i * (1 + width) + 1) width))) (now (out .entry))) ⌝ }
+{
+    let row = 1 + width;
+    let mut i = 0;
+    while i + 2 < n {
+        let codes = bits::read_bits(bytes, first + i * row, 3 * row);
+        put_three(out, i, width, codes);
+        i += 3;
+    }
+    i
+}
+
 // A sign and a size for each of n entries, from `first` on; entries from n on stay.
 pub fn read_signed(bytes: &[u8], first: usize, width: usize, n: usize, out: &mut [i64])
-    requires { do ⌜ (8 * length (now bytes) < 2 ^ 64) × (width ≤ (← ⟦bits::WIDEST⟧)) × (n ≤ length (now out)) ⌝ }
+    requires { do ⌜ (8 * length (now bytes) < 2 ^ 64) × (3 * (1 + width) ≤ (← ⟦bits::HELD⟧)) × (n ≤ length (now out)) ⌝ }
     requires { ⌜ ((i : ℕ) → i < n → first + i * (1 + width) + (1 + width) ≤ 8 * length (now bytes)) ⌝ }
     ensures { λ _. ⌜ now (out .exit) ≡ over (table n (λ i. withSign
         (eqb (bitsAt (now (bytes .entry)) (first + i * (1 + width)) 1) 1)
         (bitsAt (now (bytes .entry)) (first + i * (1 + width) + 1) width))) (now (out .entry)) ⌝ }
 {
-    let mut i = 0;
+    let row = 1 + width;
+    let mut i = read_threes(bytes, first, width, n, out);
     while i < n {
-        let at = first + i * (1 + width);
-        let minus = bits::read_bits(bytes, at, 1);
-        let size = bits::read_bits(bytes, at + 1, width);
-        signed::put(out, i, minus == 1, size);
+        let code = bits::read_bits(bytes, first + i * row, row);
+        put_code(out, i, width, code);
         i += 1;
     }
 }

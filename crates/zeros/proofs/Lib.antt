@@ -1,1 +1,2 @@
 pub mod ZeroLaws
+pub mod Minus

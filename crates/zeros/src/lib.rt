@@ -14,7 +14,7 @@ ghost use Rattle.model.specs.Answers.{said};
 ghost use Rattle.bits.specs.Field.{bitsAt};
 ghost use Rattle.heads.specs.Layouts.{meshZeroBits, stepZeroBits, meshHeadBits, stepHeadBits, signBits};
 ghost use Rattle.zeros.specs.Zeros.{zeroBitGood, minusZero};
-ghost use Rattle.zeros.specs.Scans.{FirstSet, FirstMinus};
+ghost use Rattle.zeros.specs.Scans.{FirstSet, NoMinus, FirstMinus, oneOfThree};
 
 // The first bit set from `from` on, or `to`.
 fn first_set(bytes: &[u8], from: usize, to: usize) -> usize
@@ -31,26 +31,54 @@ fn first_set(bytes: &[u8], from: usize, to: usize) -> usize
     i
 }
 
-// Whether the sign at a place is a minus of size 0.
+// Whether the sign at a place is a minus of size 0: of both as one number only the sign's bit is set.
 fn minus_zero(bytes: &[u8], at: usize, value: usize) -> bool
-    requires { ⌜ (at + signBits + value ≤ 8 * length (now bytes)) × (at + signBits + value < 2 ^ 64) × (value ≤ 40) ⌝ }
+    requires { ⌜ (at + (signBits + value) ≤ 8 * length (now bytes)) × (at + (signBits + value) < 2 ^ 64) × (value ≤ 16) ⌝ }
     ensures { λ r. ⌜ r ≡ (eqb (bitsAt (now (bytes .entry)) at signBits) 1 && eqb (bitsAt (now (bytes .entry)) (at + signBits) value) 0) ⌝ }
 {
-    let sign = bits::read_bits(bytes, at, Body::SIGN);
-    let size = bits::read_bits(bytes, at + Body::SIGN, value);
-    if sign == 1 {
-        return size == 0;
+    bits::read_bits(bytes, at, Body::SIGN + value) == bits::pow2(value)
+}
+
+// Whether one of three signs and sizes, read as one number, is a minus of size 0.
+fn minus_in_three(codes: u64, value: usize) -> bool
+    requires { ⌜ value ≤ 16 ⌝ }
+    ensures { λ r. ⌜ r ≡ oneOfThree codes (signBits + value) (2 ^ value) ⌝ }
+{
+    let flux = Body::SIGN + value;
+    let minus = bits::pow2(value);
+    if bits::part(codes, 2 * flux, flux) == minus {
+        return true;
     }
-    false
+    if bits::part(codes, flux, flux) == minus {
+        return true;
+    }
+    bits::part(codes, 0, flux) == minus
+}
+
+// Faces, three at a time, as far as none of the three has a minus and size 0.
+fn plain_threes(bytes: &[u8], faces: usize, value: usize) -> usize
+    requires { ⌜ (stepHeadBits + faces * (signBits + value) ≤ 8 * length (now bytes)) × (8 * length (now bytes) < 2 ^ 64) × (value ≤ 16) ⌝ }
+    ensures { λ r. ⌜ (r ≤ faces) × NoMinus (now (bytes .entry)) value faces r ⌝ }
+{
+    let flux = Body::SIGN + value;
+    let mut f = 0;
+    while f + 2 < faces {
+        let codes = bits::read_bits(bytes, 8 * lengths::STEP_HEAD + f * flux, 3 * flux);
+        if minus_in_three(codes, value) {
+            return f;
+        }
+        f += 3;
+    }
+    f
 }
 
 // The first face with a minus and size 0, or `faces`.
 fn first_minus(bytes: &[u8], faces: usize, value: usize) -> usize
-    requires { ⌜ (stepHeadBits + faces * (signBits + value) ≤ 8 * length (now bytes)) × (8 * length (now bytes) < 2 ^ 64) × (value ≤ 40) ⌝ }
+    requires { ⌜ (stepHeadBits + faces * (signBits + value) ≤ 8 * length (now bytes)) × (8 * length (now bytes) < 2 ^ 64) × (value ≤ 16) ⌝ }
     ensures { λ r. ⌜ FirstMinus (now (bytes .entry)) value faces r ⌝ }
 {
     let flux = Body::SIGN + value;
-    let mut f = 0;
+    let mut f = plain_threes(bytes, faces, value);
     while f < faces {
         if minus_zero(bytes, 8 * lengths::STEP_HEAD + f * flux, value) {
             return f;
@@ -86,7 +114,7 @@ pub fn mesh(bytes: &[u8], end: usize) -> Answer
 
 // A size has so many bits.
 pub fn step(bytes: &[u8], faces: usize, end: usize, value: usize) -> Answer
-    requires { ⌜ (8 * length (now bytes) < 2 ^ 64) × (stepHeadBits + faces * (signBits + value) ≤ end) × (end ≤ 8 * length (now bytes)) × (value ≤ 40) ⌝ }
+    requires { ⌜ (8 * length (now bytes) < 2 ^ 64) × (stepHeadBits + faces * (signBits + value) ≤ end) × (end ≤ 8 * length (now bytes)) × (value ≤ 16) ⌝ }
     ensures { λ r. ⌜ said r ≡ each 12 (8 * length (now (bytes .entry))) (λ i. zeroBitGood (now (bytes .entry)) stepZeroBits stepHeadBits end i && not (minusZero (now (bytes .entry)) value faces i)) ⌝ }
 {
     let head = 8 * lengths::STEP_HEAD;

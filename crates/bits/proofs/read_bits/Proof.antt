@@ -1,9 +1,8 @@
 -- The eight bytes that end with the field's last one hold it. Near the start the number that falls is the count of bytes still to be touched.
 -- It starts at all that the field touches, since k starts at 0.
 use Prim.Native.Nat.{_≤_, _<_, _-_, _+_, _*_, _/_, zero-le}
-use mathlib.Core.Path.{_≡_, sym}
+use mathlib.Core.Path.{_≡_, sym, _∙_}
 use native.Mathlib.Omega.{arith}
-use lib.Pow.{pow-pos}
 use borrow.Author.Needs.{needs}
 use Rattle.bits.specs.Field.{bitsAt}
 use Rattle.bits.specs.Touched.{touched}
@@ -32,16 +31,16 @@ eight-requires c κs =
       eight-small (s .args .at) (s .args .width) (s .pre .2) (omega arith) _ (s .pre .0) (s .pre .1) (c .if2 .taken),
     )
 
-pow2-requires : tie.Need-pow2-requires Inv-loop μ-loop
-pow2-requires c κs = let s = c .before .before .before .before in width-small (s .args .at) (s .args .width) (s .pre .2) (omega arith)
+part-requires : tie.Need-part-requires Inv-loop μ-loop
+part-requires c κs = let s = c .before .before .before .before in (omega arith, width-small (s .args .at) (s .args .width) (s .pre .2) (omega arith))
 
 returns-2 : tie.Need-returns-2 Inv-loop μ-loop
 returns-2 c =
     let s = c .before .before .before .before .before in
     let some : 0 < s .args .width = omega arith in
     let far = c .before .before .if2 .taken in
-    rw (c .pow2 .ensures) (bits-ending (s .args .src .now) (s .args .at) (s .args .width) _ 8 some
-    (eight-end (s .args .at) (s .args .width) (s .pre .2) some far) (eight-start (s .args .at) (s .args .width) (s .pre .2) some) (c .before .eight .ensures))
+    c .part .ensures ∙ bits-ending (s .args .src .now) (s .args .at) (s .args .width) _ 8 some
+    (eight-end (s .args .at) (s .args .width) (s .pre .2) some far) (eight-start (s .args .at) (s .args .width) (s .pre .2) some) (c .before .eight .ensures)
 
 joined-requires : tie.Need-joined-requires Inv-loop μ-loop
 joined-requires c κs =
@@ -68,20 +67,20 @@ loop-again c =
     let s = c .before .before .before .before .before .before in
     (omega (arith, touched-is (s .args .at) (s .args .width) (omega arith)), c .joined .ensures)
 
-pow2-requires-2 : tie.Need-pow2-requires-2 Inv-loop μ-loop
-pow2-requires-2 c κs = let s = c .before .before .before .before .before in width-small (s .args .at) (s .args .width) (s .pre .2) (omega arith)
+part-requires-2 : tie.Need-part-requires-2 Inv-loop μ-loop
+part-requires-2 c κs = let s = c .before .before .before .before .before in (omega arith, width-small (s .args .at) (s .args .width) (s .pre .2) (omega arith))
 
 returns-3 : tie.Need-returns-3 Inv-loop μ-loop
 returns-3 c =
     let s = c .before .before .before .before .before .before in
     let l = c .before .before .loop in
     let some : 0 < s .args .width = omega arith in
-    rw (c .pow22 .ensures) (bits-ending (s .args .src .now) (s .args .at) (s .args .width) (s .args .at / 8) (l .k) some
-    (omega (arith, touched-is (s .args .at) (s .args .width) some)) (omega arith) (l .inv .1))
+    c .part2 .ensures ∙ bits-ending (s .args .src .now) (s .args .at) (s .args .width) (s .args .at / 8) (l .k) some
+    (omega (arith, touched-is (s .args .at) (s .args .width) some)) (omega arith) (l .inv .1)
 
 pub read-bits-spec : {M : Type 1} → statement M
 read-bits-spec =
     tie.close
-    (tie.spec Inv-loop μ-loop returns (search needs) (search needs) (search needs) eight-requires (search needs) pow2-requires
-    (λ c. rw (c .pow2 .ensures) (pow-pos _)) returns-2 (search needs) (search needs) (λ c. (zero-le, sym (bits-zero _ _))) joined-requires add-k
-    loop-less loop-again (search needs) pow2-requires-2 (λ c. rw (c .pow22 .ensures) (pow-pos _)) returns-3)
+    (tie.spec Inv-loop μ-loop returns (search needs) (search needs) (search needs) eight-requires part-requires
+    returns-2 (search needs) (search needs) (λ c. (zero-le, sym (bits-zero _ _))) joined-requires add-k
+    loop-less loop-again part-requires-2 returns-3)

@@ -1,6 +1,6 @@
 -- Each column is read at its place of the body: `column-is` says that it is the section's.
 use Prim.Native.Nat.{ℕ, _+_, _*_, _≤_, _<_}
-use mathlib.Core.Path.{_≡_, sym, ap, _∙_}
+use mathlib.Core.Path.{_≡_, refl, sym, ap, _∙_}
 use mathlib.Core.List.{List}
 use native.Mathlib.Omega.{arith}
 use borrow.Author.Needs.{needs}
@@ -44,94 +44,54 @@ value-is c = c .value-width .ensures ∙ sym (mesh-value (start c .args .width))
 value-small : (c : tie.After-value-width) → valueBits (kind (start c)) ≤ 40
 value-small c = omega (arith, value-most (kind (start c)))
 
-first-at : (c : tie.After-new) → c .new .result .at ≡ start (c .before) .args .cells * valueBits (kind (start (c .before)))
-first-at c = c .new .ensures ∙ ap (λ (v : ℕ). start (c .before) .args .cells * v) (value-is (c .before))
-
-second-at : (c : tie.After-past) → c .past .result .at ≡ start (c .before .before) .args .cells * valueBits (kind (start (c .before .before))) + endBits
-second-at c = omega (arith, c .past .ensures, first-at (c .before))
-
-share-at : (c : tie.After-past2) → c .past2 .result .at ≡ start (c .before .before .before) .args .cells * valueBits (kind (start (c .before .before .before))) + endBits + endBits
-share-at c = omega (arith, c .past2 .ensures, second-at (c .before))
-
-reach-at : (c : tie.After-past3) → c .past3 .result .at ≡ start (c .before .before .before .before) .args .cells * valueBits (kind (start (c .before .before .before .before))) + endBits + endBits + shareBits
-reach-at c = omega (arith, c .past3 .ensures, share-at (c .before))
-
-add-face : tie.Need-add-face
-add-face c = rw (value-is c) (omega (arith, value-small c))
-
-mul-new : tie.Need-mul-new
-mul-new c = rw (value-is c) (omega (arith, within (start c)))
-
-past-requires : tie.Need-past-requires
-past-requires c κs = omega (arith, within (start (c .before)), first-at c)
-
-past-requires-2 : tie.Need-past-requires-2
-past-requires-2 c κs = omega (arith, within (start (c .before .before)), second-at c)
-
-past-requires-3 : tie.Need-past-requires-3
-past-requires-3 c κs = omega (arith, within (start (c .before .before .before)), share-at c)
-
 read-column-requires : tie.Need-read-column-requires
 read-column-requires c κs =
-    let v = c .before .before .before .before .before in
+    let v = c .before in
     let s = start v in
     rw (value-is v) (asks s (volumes-at (kind s) (s .args .cells) (s .args .faces)) (value-small v) (s .pre .volumes-long))
 
-read-column-requires-2 : tie.Need-read-column-requires-2
-read-column-requires-2 c κs =
-    let n = c .before .before .before .before .before .before .before .before in
-    let v = n .before in
-    let s = start v in
-    rw (value-is v) (asks s (firsts-at (kind s) (s .args .cells) (s .args .faces) {p = n .new .result .at} (first-at n)) (omega arith) (s .pre .firsts-long))
+mul-read-faces : tie.Need-mul-read-faces
+mul-read-faces c =
+    let v = c .before .before .before .before in
+    rw (value-is v) (omega (arith, within (start v)))
 
-read-column-requires-3 : tie.Need-read-column-requires-3
-read-column-requires-3 c κs =
-    let n = c .before .before .before .before .before .before .before .before .before .before .before in
-    let v = n .before .before in
+-- a face ends with its reach
+read-faces-requires : tie.Need-read-faces-requires
+read-faces-requires c κs =
+    let v = c .before .before .before .before .before .before .before .before in
     let s = start v in
-    rw (value-is v) (asks s (seconds-at (kind s) (s .args .cells) (s .args .faces) {p = n .past .result .at} (second-at n)) (omega arith) (s .pre .seconds-long))
-
-read-column-requires-4 : tie.Need-read-column-requires-4
-read-column-requires-4 c κs =
-    let n = c .before .before .before .before .before .before .before .before .before .before .before .before .before .before in
-    let v = n .before .before .before in
-    let s = start v in
-    rw (value-is v) (asks s (shares-at (kind s) (s .args .cells) (s .args .faces) {p = n .past2 .result .at} (share-at n)) (omega arith) (s .pre .shares-long))
-
-read-column-requires-5 : tie.Need-read-column-requires-5
-read-column-requires-5 c κs =
-    let n = c .before .before .before .before .before .before .before .before .before .before .before .before .before .before .before .before .before in
-    let v = n .before .before .before .before in
-    let s = start v in
-    rw (value-is v) (asks s (reaches-at (kind s) (s .args .cells) (s .args .faces) {p = n .past3 .result .at} (reach-at n)) (value-small v) (s .pre .reaches-long))
+    let reach = reaches-at (kind s) (s .args .cells) (s .args .faces) {p = s .args .cells * valueBits (kind s) + endBits + endBits + shareBits} refl in
+    rw (value-is v) (record {
+      narrow = omega (arith, value-most (kind s));
+      small = omega (arith, s .pre .small);
+      holds = λ f h. omega (arith, column-room reach (s .pre .holds) f h);
+      firsts-long = s .pre .firsts-long;
+      seconds-long = s .pre .seconds-long;
+      shares-long = s .pre .shares-long;
+      reaches-long = s .pre .reaches-long;
+    })
 
 returns : tie.Need-returns
 returns c =
-    let p1 = c .before .before in
-    let p2 = p1 .before .before .before .before in
-    let p3 = p2 .before .before .before .before in
-    let p4 = p3 .before .before .before .before in
-    let p5 = p4 .before .before .before .before in
-    let p6 = p5 .before .before in
-    let p7 = p6 .before in
-    let p8 = p7 .before in
-    let p9 = p8 .before in
-    let v = p9 .before in
+    let p1 = c .before .before .before .before .before .before .before .before in
+    let p2 = p1 .before .before .before .before .before .before .before in
+    let v = p2 .before .before in
     let s = start v in
     let k = kind s in
     let n = s .args .cells in
     let f = s .args .faces in
+    let at = n * valueBits k in
+    let read = rw (value-is v) at (p1 .read-faces .ensures) in
     record {
-      volumes-full = taken s (volumes-at k n f) (s .args .volumes .now) (rw (value-is v) at (p5 .read-column .ensures));
-      firsts-full = taken s (firsts-at k n f {p = p9 .new .result .at} (first-at p9)) (s .args .firsts .now) (rw (value-is v) at (p4 .read-column2 .ensures));
-      seconds-full = taken s (seconds-at k n f {p = p8 .past .result .at} (second-at p8)) (s .args .seconds .now) (rw (value-is v) at (p3 .read-column3 .ensures));
-      shares-full = taken s (shares-at k n f {p = p7 .past2 .result .at} (share-at p7)) (s .args .shares .now) (rw (value-is v) at (p2 .read-column4 .ensures));
-      reaches-full = taken s (reaches-at k n f {p = p6 .past3 .result .at} (reach-at p6)) (s .args .reaches .now) (rw (value-is v) at (p1 .read-column5 .ensures));
+      volumes-full = taken s (volumes-at k n f) (s .args .volumes .now) (rw (value-is v) at (p2 .read-column .ensures));
+      firsts-full = taken s (firsts-at k n f {p = at} refl) (s .args .firsts .now) (read .firsts-in);
+      seconds-full = taken s (seconds-at k n f {p = at + endBits} refl) (s .args .seconds .now) (read .seconds-in);
+      shares-full = taken s (shares-at k n f {p = at + endBits + endBits} refl) (s .args .shares .now) (read .shares-in);
+      reaches-full = taken s (reaches-at k n f {p = at + endBits + endBits + shareBits} refl) (s .args .reaches .now) (read .reaches-in);
     }
 
 pub mesh-spec : {M : Type 1} → statement M
 mesh-spec =
     tie.close
-    (tie.spec (search needs) add-face mul-new (search needs) past-requires past-requires-2 past-requires-3
-    read-column-requires read-column-requires-2 read-column-requires-3 read-column-requires-4 read-column-requires-5
+    (tie.spec (search needs) read-column-requires mul-read-faces read-faces-requires
     (search needs) (search needs) (search needs) (search needs) (search needs) returns)

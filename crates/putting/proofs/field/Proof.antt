@@ -60,7 +60,7 @@ mass-is c = c .mass-width .ensures ∙ sym (field-mass (reckoned c .args .width)
 abbrev from-two : tie.After-write-bits2 → tie.After-write-bits
 from-two c = c .before .before .before .before
 
-abbrev from-three : tie.After-put-column → tie.After-write-bits
+abbrev from-three : tie.After-put-masses → tie.After-write-bits
 from-three c = from-two (c .before .before .before .before)
 
 one : (c : tie.After-write-bits) → Some (start c) (and none 0 0) (c .write-bits .last .0)
@@ -74,11 +74,11 @@ two c =
     let s = start (from-two c) in
     head-written (field-cells-in (kind s) (s .args .cells)) (value s) (s .pre .fits) (one p1) (c .write-bits2 .ensures) refl
 
-three : (c : tie.After-put-column) → Some (start (from-three c)) (and (and (and none 0 0) 0 1) 1 0) (c .put-column .last .0)
+three : (c : tie.After-put-masses) → Some (start (from-three c)) (and (and (and none 0 0) 0 1) 1 0) (c .put-masses .last .0)
 three c =
     let p1 = c .before .before .before .before in
     let s = start (from-three c) in
-    column-written (masses-in (kind s) (s .args .cells)) (value s) (s .pre .fits) (two p1) (rw (mass-is (from-mass (from-three c))) at (c .put-column .ensures)) (λ i l. refl)
+    column-written (masses-in (kind s) (s .args .cells)) (value s) (s .pre .fits) (two p1) (rw (sym (field-mass (s .args .width))) at (c .put-masses .ensures)) (λ i l. refl)
 
 write-bits-requires : tie.Need-write-bits-requires
 write-bits-requires c κs =
@@ -93,12 +93,12 @@ write-bits-requires-2 c κs =
     let s = start p1 in
     field-asks (holds s) (one p1) kindBits cellsBits _ (omega arith) (omega (arith, s .pre .few-cells))
 
-put-column-requires : tie.Need-put-column-requires
-put-column-requires c κs =
+put-masses-requires : tie.Need-put-masses-requires
+put-masses-requires c κs =
     let p1 = c .before .before .before in
     let s = start (from-two p1) in
-    rw (mass-is (from-mass (from-two p1)))
-    (column-asks (holds s) (two p1) (masses-in (kind s) (s .args .cells)) (s .pre .fits) (s .args .masses .now) (omega (arith, mass-most (kind s))) (s .pre .masses-long) (λ i l. refl))
+    let asked = column-asks (holds s) (two p1) (masses-in (kind s) (s .args .cells)) (s .pre .fits) (s .args .masses .now) (omega (arith, mass-most (kind s))) (s .pre .masses-long) (λ i l. refl) in
+    rw (← field-mass (s .args .width)) (asked .0 .2, asked .1 .0, asked .1 .1)
 
 mul-pad : tie.Need-mul-pad
 mul-pad c =
@@ -138,4 +138,4 @@ returns c =
     }
 
 pub field-spec : {M : Type 1} → statement M
-field-spec = tie.close (tie.spec (search needs) (search needs) (search needs) write-bits-requires write-bits-requires-2 put-column-requires mul-pad add-pad pad-requires same-length returns)
+field-spec = tie.close (tie.spec (search needs) (search needs) write-bits-requires write-bits-requires-2 put-masses-requires mul-pad add-pad pad-requires same-length returns)
