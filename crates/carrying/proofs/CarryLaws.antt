@@ -18,14 +18,14 @@ use Rattle.lists.specs.Fold.{least, greatest}
 use Rattle.lists.proofs.Tests.{Same, same, other, same?}
 use Rattle.lists.proofs.Sums.{sum-zero, sum-more, sum-term, least-start, greatest-start, least-more, greatest-more}
 use Rattle.model.specs.Accepted.{Ready, maxCarried}
-use Rattle.model.specs.Mesh.{Mesh, rim, atRim, first, second, share, reach, incoming, outgoing}
+use Rattle.model.specs.Mesh.{Mesh, rim, atRim, first, second, share, reach, incoming, outgoing, maxConcentration}
 use Rattle.model.specs.Step.{StepInput, roundedInput, flux, outside, mass, concentration, beyond, upwind, downwind, upwindShare, carried, correction, adjacent, inMass, outMass}
 use Rattle.model.proofs.Low.{low-affords}
 use Rattle.model.proofs.Accepted.{flux-few, flux-reach}
 use Rattle.model.proofs.Sizes.{mass-most, beyond-most, carried-size, incoming-most, inMass-most, outMass-most}
 use Rattle.face.specs.Correction.{coded, correctionOf}
 use Rattle.face.specs.Exchange.{EndsIn, Transferred, Lost, Gained}
-use Rattle.face.proofs.Corrections.{correction-none}
+use Rattle.face.proofs.Corrections.{correction-none, correction-by-flux}
 use Rattle.face.proofs.Transfers.{none-transferred, transferred-in, transferred-out}
 use Rattle.face.proofs.Flows.{flow-start, flow-afford, flow-room, flow-turn}
 use Rattle.cell.specs.Work.{ofCell, ofFace, widened as widenedBy, widenedAcross}
@@ -66,6 +66,23 @@ module _ (S : StepInput) (r : Ready S) where
 
   bounded : (c : ℕ) → c < M .cells → mass S c + incoming M (carried S) c < 2 ^ 64
   bounded c l = omega (arith, mass-most S r c l, incoming-most M (carried S) maxCarried (r .counts-fit .few-faces) (carried-size S r) c)
+
+  abbrev between-cells : ℕ → ℤ
+  between-cells f = correctionOf (flux S f) (concentration S (first M f)) (beyond S f) (share M f) (reach M f)
+
+  correction-there : (f : ℕ) → correction S f ≡ cond (eqb (second M f) rim || isZero (flux S f)) (pos 0) (between-cells f)
+  unfolding correction correctionOf upwind downwind upwindShare
+  correction-there f = refl
+
+  -- it is at most the flux times the greatest concentration
+  pub correction-within : (f : ℕ) → f < M .faces → size (correction S f) ≤ size (flux S f) * maxConcentration
+  correction-within f h = rw (correction-there f) (go (eqb (second M f) rim) (same? (second M f) rim) (isZero (flux S f)))
+    where
+      go : (b : Bool) → Same (second M f) rim b → (z : Bool) → size (cond (b || z) (pos 0) (between-cells f)) ≤ size (flux S f) * maxConcentration
+      go true s z = omega arith
+      go false s true = omega arith
+      go false (other d) false = correction-by-flux (flux S f) (concentration S (first M f)) (beyond S f) (share M f) (reach M f)
+          (flux-reach S r f h d) (r .salt-most (first M f) (r .fit .first-in f h)) (beyond-most S r f h) (r .fit .share-most f h)
 
 -- a correction inside the mesh is that between the concentrations of its two cells
 inside : (z : ℤ) (a b s k : ℕ) → correctionOf z a b s k ≡ cond (isZero z) (pos 0) (correctionOf z a b s k)
@@ -218,16 +235,12 @@ module _ (S : StepInput) (r : Ready S) (f : ℕ) (h : f < S .mesh .faces) (enter
       → FaceAsks f (first M f) (second M f) u (share M f) (reach M f) a b (M .cells) (withSign p (u * cond p b a)) next moved work
   face-asks p u a b d e i j = rw (d, e, i, j) asks-there
 
-  correction-there : correction S f ≡ cond (eqb (second M f) rim || isZero (flux S f)) (pos 0) (correctionOf (flux S f) (concentration S (first M f)) (beyond S f) (share M f) (reach M f))
-  unfolding correction correctionOf upwind downwind upwindShare
-  correction-there = refl
-
   -- the number in which the face's correction is kept
   abbrev code : ℕ
   code = cond (eqb (second M f) rim) 0 (coded (correctionOf (flux S f) near far (share M f) (reach M f)))
 
   code-is : code ≡ coded (correction S f)
-  code-is = rw (correction-there, near-is, far-is) (go (eqb (second M f) rim))
+  code-is = rw (correction-there S r f, near-is, far-is) (go (eqb (second M f) rim))
     where
       go : (b : Bool) → cond b 0 (coded (correctionOf (flux S f) (concentration S (first M f)) (beyond S f) (share M f) (reach M f)))
           ≡ coded (cond (b || isZero (flux S f)) (pos 0) (correctionOf (flux S f) (concentration S (first M f)) (beyond S f) (share M f) (reach M f)))

@@ -6,7 +6,7 @@ use lib.IntN.{ℤ, pos, _-ℤ_, _*ℤ_}
 use lib.Signed.{quotZ}
 use Rattle.signed.specs.Sign.{size, isNegative, withSign}
 
--- the way between two numbers
+-- how far two numbers are apart
 abbrev pub gap : ℕ → ℕ → ℕ
 gap a b = (a - b) + (b - a)
 
