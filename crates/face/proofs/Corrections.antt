@@ -93,7 +93,7 @@ correction-by-flux z a b s k h ha hb hs =
     let tk : ℕ = cond (isNegative z) (256 - s) s * k in
     let t : tk ≤ 256 * k = mul-le-mul-right k (share-le (isNegative z) s hs) in
     let e : correctionOf z a b s k ≡ withSign (back a b tk (128 * size z)) (size z * gap a b * gap tk (128 * size z) / (256 * k)) =
-        ap (λ (y : ℤ). correctionOf y a b s k) (sym (withSign-of z)) ∙ correction-is (isNegative z) (size z) a b s k in
+    ap (λ (y : ℤ). correctionOf y a b s k) (sym (withSign-of z)) ∙ correction-is (isNegative z) (size z) a b s k in
     rw (e, size-withSign) (size-by-flux (size z) a b tk k h ha hb t)
 
 pub decoded-coded : (z : ℤ) → decoded (coded z) ≡ z

@@ -38,7 +38,8 @@ pub fn cut(work: &[u64], size: u64, receiver: usize, giver: usize) -> u64
     ensures { λ r. ⌜ r ≡ min (portionOf size (ofCell (now (work .entry)) receiver 2) (enteringIn (now (work .entry)) receiver))
         (portionOf size (ofCell (now (work .entry)) giver 1) (ofCell (now (work .entry)) giver 3)) ⌝ }
 {
-    let gained = portion(size, work[4 * receiver + G], work[4 * receiver + P] / OVER_Q);
+    let entering = work[4 * receiver + P] / OVER_Q;
+    let gained = portion(size, work[4 * receiver + G], entering);
     let lost = portion(size, work[4 * giver + L], work[4 * giver + N]);
     least_of(gained, lost)
 }

@@ -223,7 +223,7 @@ module _ (M : Mesh) (w : List ℕ) (asks : CorrectionsIn M w) (begun : Uncounted
   smooth-turn : kept f ≡ pos 0 → KeptTo M w (f + 1) (set work (4 * M .cells + f) 0)
   smooth-turn e =
       let elsewhere : (g : ℕ) → g ≢ f → ofFace (set work (4 * M .cells + f) 0) (M .cells) g ≡ ofFace work (M .cells) g =
-          λ g d. getD-set-other work (4 * M .cells + f) (4 * M .cells + g) 0 0 (λ (q : 4 * M .cells + g ≡ 4 * M .cells + f). d (omega arith)) in
+      λ g d. getD-set-other work (4 * M .cells + f) (4 * M .cells + g) 0 0 (λ (q : 4 * M .cells + g ≡ 4 * M .cells + f). d (omega arith)) in
       record {
         same-length = length-set work (4 * M .cells + f) 0 ∙ s .same-length;
         p-at = λ c l. face-slot work (M .cells) f 0 c 0 refl l ∙ omega (arith, s .p-at c l, sum-more f (entering M kept c), enters-none e c);
@@ -241,7 +241,8 @@ module _ (M : Mesh) (w : List ℕ) (asks : CorrectionsIn M w) (begun : Uncounted
       let in-to = enters-in M w asks f h d in
       let in-from = leaves-in M w asks f h d in
       let at = counted-at work to from n (slots-in in-to) (slots-in in-from) in
-      let elsewhere : (g : ℕ) → ofFace (counted work to from n) (M .cells) g ≡ ofFace work (M .cells) g = λ g. counted-face work to from n (M .cells) g in-to in-from in
+      let elsewhere : (g : ℕ) → ofFace (counted work to from n) (M .cells) g ≡ ofFace work (M .cells) g =
+      λ g. counted-face work to from n (M .cells) g in-to in-from in
       record {
         same-length = simp length-set (s .same-length);
         p-at = λ c l. omega (arith, at c 0 refl, many (eqb to c) n, s .p-at c l, sum-more f (entering M kept c), enters-whole e c);

@@ -32,11 +32,12 @@ module _ (b : ℕ) where
   one false true z y h = part z y h (0 + backward z) (0 + backward y + (forward y + 0)) (omega (arith, size-is z)) (omega (arith, size-is y))
   one false false z y h = omega arith
 
-  entering-by-flux : (M : Mesh) (x u : ℕ → ℤ) → ((f : ℕ) → f < M .faces → size (x f) ≤ size (u f) * b) → (c : ℕ) → incoming M x c ≤ (incoming M u c + outgoing M u c) * b
+  entering-by-flux : (M : Mesh) (x u : ℕ → ℤ) → ((f : ℕ) → f < M .faces → size (x f) ≤ size (u f) * b) → (c : ℕ)
+      → incoming M x c ≤ (incoming M u c + outgoing M u c) * b
   unfolding incoming outgoing entering leaving
   entering-by-flux M x u small c =
       let e : sum (M .faces) (λ f. (entering M u c f + leaving M u c f) * b) ≡ (incoming M u c + outgoing M u c) * b =
-          sum-scale (M .faces) b (λ f. entering M u c f + leaving M u c f) ∙ ap (λ (k : ℕ). k * b) (sum-add (M .faces) (entering M u c) (leaving M u c)) in
+      sum-scale (M .faces) b (λ f. entering M u c f + leaving M u c f) ∙ ap (λ (k : ℕ). k * b) (sum-add (M .faces) (entering M u c) (leaving M u c)) in
       rw (← e) (sum-mono (M .faces) (entering M x c) (λ f. (entering M u c f + leaving M u c f) * b)
       (λ f l. one (eqb (second M f) c) (eqb (first M f) c) (x f) (u f) (small f l)))
 

@@ -19,7 +19,8 @@ raise-requires-2 : tie.Need-raise-requires-2
 raise-requires-2 c κs =
     let u = c .before .before .before in
     let s = start u in
-    giver-has-room (s .args .work .now) _ (s .args .receiver) (s .args .giver) (overQ * s .args .size) (s .args .size) (s .pre .0 .0) (s .pre .1 .0) (u .raise .ensures) (s .pre .1 .2)
+    giver-has-room (s .args .work .now) _ (s .args .receiver) (s .args .giver) (overQ * s .args .size) (s .args .size)
+    (s .pre .0 .0) (s .pre .1 .0) (u .raise .ensures) (s .pre .1 .2)
 
 returns : tie.Need-returns
 returns c = let v = c .before .before in rw (v .raise2 .ensures, v .before .before .before .before .raise .ensures)

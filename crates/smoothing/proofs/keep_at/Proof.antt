@@ -25,15 +25,15 @@ some c = c .before .before .if1 .left
 
 -- the ends, as the code has them
 receiver-long : (c : tie.After-end-to2) → 4 * c .before .end-to .result + 3 < length (start c .args .work .now)
-receiver-long c = let p = start c .pre .inside (some c) in end-holds (λ e. 4 * e + 3 < length (start c .args .work .now)) (eqb (code (start c) % 2) 1) (c .before .end-to .ensures)
-    (p .0) (p .1)
+receiver-long c = let p = start c .pre .inside (some c) in
+    end-holds (λ e. 4 * e + 3 < length (start c .args .work .now)) (eqb (code (start c) % 2) 1) (c .before .end-to .ensures) (p .0) (p .1)
 
 receiver-few : (c : tie.After-end-to2) → c .before .end-to .result < maxCells
 receiver-few c = let p = start c .pre .inside (some c) in end-holds (λ e. e < maxCells) (eqb (code (start c) % 2) 1) (c .before .end-to .ensures) (p .2) (p .3)
 
 giver-long : (c : tie.After-end-to2) → 4 * c .end-to2 .result + 3 < length (start c .args .work .now)
-giver-long c = let p = start c .pre .inside (some c) in end-holds (λ e. 4 * e + 3 < length (start c .args .work .now)) (eqb (code (start c) % 2) 1) (c .end-to2 .ensures)
-    (p .1) (p .0)
+giver-long c = let p = start c .pre .inside (some c) in
+    end-holds (λ e. 4 * e + 3 < length (start c .args .work .now)) (eqb (code (start c) % 2) 1) (c .end-to2 .ensures) (p .1) (p .0)
 
 giver-few : (c : tie.After-end-to2) → c .end-to2 .result < maxCells
 giver-few c = let p = start c .pre .inside (some c) in end-holds (λ e. e < maxCells) (eqb (code (start c) % 2) 1) (c .end-to2 .ensures) (p .3) (p .2)

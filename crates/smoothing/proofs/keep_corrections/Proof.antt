@@ -49,7 +49,8 @@ loop-again c =
     let l = w .before .loop in
     let s = start w in (
       omega (arith, below w),
-      keep-turn (mesh s) (s .args .work .now) (s .pre .0) (s .pre .1) (l .f) (below w) (l .work) (l .inv .1) _ (rw (as-it-was w) at (c .before .before .keep-at .ensures)),
+      keep-turn (mesh s) (s .args .work .now) (s .pre .0) (s .pre .1) (l .f) (below w) (l .work) (l .inv .1) _
+          (rw (as-it-was w) at (c .before .before .keep-at .ensures)),
     )
 
 returns : tie.Need-returns Inv-loop μ-loop
@@ -59,8 +60,10 @@ pub keep-corrections-spec : {M : Type 1} → statement M
 keep-corrections-spec =
     tie.close
     (tie.spec Inv-loop μ-loop (λ c. (search needs, keep-start _ _))
-    (λ c. cells-fit (start (c .before) .pre .0 .few-cells)) (λ c. face-fits (below (c .before)) (start (c .before) .pre .0 .few-cells) (start (c .before) .pre .0 .few-faces))
-    (λ c. face-bytes (below (c .before)) (start (c .before) .pre .0 .few-faces)) (λ c. lt-of-lt-of-le (below (c .before .before)) (start (c .before .before) .pre .0 .firsts-long))
+    (λ c. cells-fit (start (c .before) .pre .0 .few-cells))
+    (λ c. face-fits (below (c .before)) (start (c .before) .pre .0 .few-cells) (start (c .before) .pre .0 .few-faces))
+    (λ c. face-bytes (below (c .before)) (start (c .before) .pre .0 .few-faces))
+    (λ c. lt-of-lt-of-le (below (c .before .before)) (start (c .before .before) .pre .0 .firsts-long))
     (λ c. face-bytes (below (c .before .before)) (start (c .before .before) .pre .0 .few-faces))
     (λ c. lt-of-lt-of-le (below (c .before .before .before)) (start (c .before .before .before) .pre .0 .seconds-long))
     keep-at-requires
