@@ -13,7 +13,7 @@ use lib.IntN.{ℤ, pos, negsuc}
 use lib.ListN.{length, getD, set, length-set}
 use lib.Seq.{getD-set-same, getD-set-other}
 use Rattle.signed.specs.Sign.{size, isZero, isNegative, forward, backward, withSign}
-use Rattle.signed.proofs.Laws.{scale, withSign-of, withSign-zero, isZero-size, size-withSign, forward-is, backward-is}
+use Rattle.signed.proofs.Laws.{scale, withSign-of, isZero-size, size-withSign, forward-is, backward-is}
 use Rattle.lists.specs.Fold.{least, greatest}
 use Rattle.lists.proofs.Tests.{Same, same, other, same?}
 use Rattle.lists.proofs.Sums.{sum-zero, sum-more, sum-term, least-start, greatest-start, least-more, greatest-more}
@@ -24,15 +24,16 @@ use Rattle.model.proofs.Low.{low-affords}
 use Rattle.model.proofs.Accepted.{flux-few, flux-reach}
 use Rattle.model.proofs.Sizes.{mass-most, beyond-most, carried-size, incoming-most, inMass-most, outMass-most}
 use Rattle.face.specs.Correction.{coded, correctionOf}
-use Rattle.face.specs.Exchange.{EndsIn, Transferred, Lost, Gained}
+use Rattle.face.specs.Exchange.{EndsIn}
 use Rattle.face.proofs.Corrections.{correction-none, correction-by-flux}
-use Rattle.face.proofs.Transfers.{none-transferred, transferred-in, transferred-out}
 use Rattle.face.proofs.Flows.{flow-start, flow-afford, flow-room, flow-turn}
-use Rattle.cell.specs.Work.{ofCell, ofFace, widened as widenedBy, widenedAcross}
+use Rattle.cell.specs.Work.{ofCell, ofFace, widenedAcross}
 use Rattle.cell.proofs.Places.{cell-in, face-in}
 use Rattle.cell.proofs.Slots.{face-slot}
-use Rattle.cell.proofs.BoundLaws.{across-still, across-inside, across-in, across-out, length-across, across-q, across-face, across-lo, across-hi, across-adjacent}
-use Rattle.carrying.specs.Carrying.{Concentrations, CarriedTo, FaceAsks, FaceDone, inMassTo, outMassTo}
+use Rattle.cell.proofs.BoundLaws.{length-across, across-q, across-face, across-lo, across-hi, across-adjacent}
+use Rattle.raising.specs.Raising.{Concentrations}
+use Rattle.face_carrying.specs.OneFace.{FaceAsks, FaceDone}
+use Rattle.carrying.specs.Carrying.{CarriedTo, inMassTo, outMassTo}
 
 -- from the first pass
 pub carried-to-start : (M : Mesh) (masses : List ℕ) (fluxes : List ℤ) (outsides next work w : List ℕ) (moved : List ℤ)
@@ -91,74 +92,6 @@ inside z a b s k = go (isZero z) refl
     go : (y : Bool) → isZero z ≡ y → correctionOf z a b s k ≡ cond y (pos 0) (correctionOf z a b s k)
     go true e = correction-none z a b s k (isZero-size z e)
     go false e = refl
-
--- one face's calls: water that comes in over the rim, water that goes out, water inside, by the upwind concentration v, and no water
-pub in-done : (f l a o n u : ℕ) (next next′ : List ℕ) (moved moved′ : List ℤ) (work met work′ : List ℕ) → u ≢ 0 → length next ≤ rim
-    → Gained next l (u * o) next′ → moved′ ≡ set moved f (withSign true (u * o)) → met ≡ widenedBy work l o → work′ ≡ set met (4 * n + f) 0
-    → FaceDone f l rim 0 0 a o n (u * o) (withSign true u) (withSign true (u * o)) next next′ moved moved′ work work′
-in-done f l a o n u next next′ moved moved′ work met work′ h few t m w q = record {
-  amount = sym (size-withSign true (u * o));
-  flowed = transferred-in next l (u * o) next′ few t;
-  carries = m;
-  worked = rw (q, w, across-in work l rim a o u h refl);
-}
-
-pub out-done : (f l a o n u : ℕ) (next next′ : List ℕ) (moved moved′ : List ℤ) (work work′ : List ℕ) → length next ≤ rim
-    → Lost next l (u * a) next′ → moved′ ≡ set moved f (withSign false (u * a)) → work′ ≡ set work (4 * n + f) 0
-    → FaceDone f l rim 0 0 a o n (u * a) (withSign false u) (withSign false (u * a)) next next′ moved moved′ work work′
-out-done f l a o n u next next′ moved moved′ work work′ few t m q = record {
-  amount = sym (size-withSign false (u * a));
-  flowed = transferred-out next l (u * a) next′ few t;
-  carries = m;
-  worked = rw (q, across-out work l rim a o u refl);
-}
-
-pub wet-done : (f l k s r a b n v c : ℕ) (p : Bool) (u : ℕ) (next next′ : List ℕ) (moved moved′ : List ℤ) (work met both work′ : List ℕ) → k ≢ rim → u ≢ 0 → v ≡ cond p b a
-    → Transferred next l k (withSign p (u * v)) next′ → moved′ ≡ set moved f (withSign p (u * v)) → met ≡ widenedBy work l b → both ≡ widenedBy met k a
-    → c ≡ coded (correctionOf (withSign p u) a b s r) → work′ ≡ set both (4 * n + f) c
-    → FaceDone f l k s r a b n (u * cond p b a) (withSign p u) (withSign p (u * cond p b a)) next next′ moved moved′ work work′
-wet-done f l k s r a b n v c p u next next′ moved moved′ work met both work′ i h e t m w x d q = record {
-  amount = sym (size-withSign p (u * cond p b a));
-  flowed = rw e at t;
-  carries = rw e at m;
-  worked = rw (q, x, w, d, across-inside work l k a b p u h i, ne-eqb k rim i);
-}
-
-pub still-done : (f l k s r a b n : ℕ) (p : Bool) (u : ℕ) (next : List ℕ) (moved moved′ : List ℤ) (work work′ : List ℕ) → k ≢ rim → u ≡ 0
-    → moved′ ≡ set moved f (pos 0) → work′ ≡ set work (4 * n + f) 0
-    → FaceDone f l k s r a b n (u * cond p b a) (withSign p u) (withSign p (u * cond p b a)) next next moved moved′ work work′
-still-done f l k s r a b n p u next moved moved′ work work′ i e m q =
-    let z : u * cond p b a ≡ 0 = rw e (zero-mul (cond p b a)) in
-    record {
-      amount = sym (size-withSign p (u * cond p b a));
-      flowed = rw z (none-transferred next l k p);
-      carries = rw (z, withSign-zero p) m;
-      worked = rw (e, across-still work l k a b p, ne-eqb k rim i, withSign-zero p, correction-none (pos 0) a b s r refl) q;
-    }
-
--- at the rim neither share nor reach counts
-pub rim-asks : (f l k u s r a b n : ℕ) (z : ℤ) (next : List ℕ) (moved : List ℤ) (work : List ℕ) → k ≡ rim
-    → FaceAsks f l k u s r a b n z next moved work → FaceAsks f l rim u 0 0 a b n z next moved work
-rim-asks f l k u s r a b n z next moved work e h = record {
-  ends = rw e at (h .ends);
-  next-long = h .next-long;
-  in-moved = h .in-moved;
-  in-work = h .in-work;
-  first-most = h .first-most;
-  beyond-most = h .beyond-most;
-  size-most = h .size-most;
-  within-reach = λ d. absurd (d refl);
-  share-most = omega arith;
-  reach-some = λ d. absurd (d refl);
-  reach-most = omega arith;
-  afford = rw e at (h .afford);
-  room = rw e at (h .room);
-}
-
-pub rim-done : (f l k s r a b n m : ℕ) (u z : ℤ) (next next′ : List ℕ) (moved moved′ : List ℤ) (work work′ : List ℕ) → k ≡ rim
-    → FaceDone f l rim 0 0 a b n m u z next next′ moved moved′ work work′ → FaceDone f l k s r a b n m u z next next′ moved moved′ work work′
-rim-done f l k s r a b n m u z next next′ moved moved′ work work′ e d =
-    record { amount = d .amount; flowed = rw e (d .flowed); carries = d .carries; worked = rw e (d .worked) }
 
 -- water that runs back is some
 pub runs-back : (z : ℤ) (p : Bool) (u : ℕ) → p ≡ isNegative z → u ≡ size z → p ≡ true → u ≢ 0

@@ -9,10 +9,10 @@ use lib.ListN.{length, getD, length-set}
 use Rattle.model.specs.Step.{raised}
 use Rattle.model.proofs.Raised.{raised-at}
 use Rattle.face.proofs.Places.{cell-bytes, cell-next}
-use Rattle.carrying.specs.Carrying.{Concentrations}
-use Rattle.carrying.proofs.ConcentrationLaws.{concentrations-start, concentrations-turn}
-use Rattle.carrying.proofs.concentrations.Statement.{statement}
-use Rattle.carrying.proofs.concentrations.Tie as tie
+use Rattle.raising.specs.Raising.{Concentrations}
+use Rattle.raising.proofs.ConcentrationLaws.{concentrations-start, concentrations-turn}
+use Rattle.raising.proofs.concentrations.Statement.{statement}
+use Rattle.raising.proofs.concentrations.Tie as tie
 
 abbrev Inv-loop : tie.InvT-loop
 Inv-loop cells volumes masses releases next₀ work₀ c₀ next work c =

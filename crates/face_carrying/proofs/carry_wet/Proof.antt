@@ -9,9 +9,9 @@ use lib.ListN.{length-set}
 use Rattle.model.specs.Accepted.{maxCarried}
 use Rattle.model.specs.Mesh.{maxConcentration}
 use Rattle.cell.proofs.BoundLaws.{length-widened}
-use Rattle.carrying.proofs.CarryLaws.{wet-done}
-use Rattle.carrying.proofs.carry_wet.Statement.{statement}
-use Rattle.carrying.proofs.carry_wet.Tie as tie
+use Rattle.face_carrying.proofs.FaceLaws.{wet-done}
+use Rattle.face_carrying.proofs.carry_wet.Statement.{statement}
+use Rattle.face_carrying.proofs.carry_wet.Tie as tie
 
 -- from each call back to the one before
 abbrev start : tie.After-upwind → tie.Start

@@ -1,6 +1,6 @@
 use borrow.Author.Needs.{needs}
-use Rattle.carrying.proofs.carry_rim.Statement.{statement}
-use Rattle.carrying.proofs.carry_rim.Tie as tie
+use Rattle.face_carrying.proofs.carry_rim.Statement.{statement}
+use Rattle.face_carrying.proofs.carry_rim.Tie as tie
 
 come-in-requires : tie.Need-come-in-requires
 come-in-requires c κs =

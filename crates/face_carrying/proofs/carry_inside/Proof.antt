@@ -1,8 +1,8 @@
 use borrow.Author.Needs.{needs}
 use mathlib.Core.Path.{refl}
-use Rattle.carrying.proofs.CarryLaws.{still-done}
-use Rattle.carrying.proofs.carry_inside.Statement.{statement}
-use Rattle.carrying.proofs.carry_inside.Tie as tie
+use Rattle.face_carrying.proofs.FaceLaws.{still-done}
+use Rattle.face_carrying.proofs.carry_inside.Statement.{statement}
+use Rattle.face_carrying.proofs.carry_inside.Tie as tie
 
 returns : tie.Need-returns
 returns c =

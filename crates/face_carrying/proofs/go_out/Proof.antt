@@ -7,9 +7,9 @@ use borrow.Author.Needs.{needs}
 use Rattle.model.specs.Accepted.{maxCarried}
 use Rattle.model.specs.Mesh.{rim}
 use Rattle.face.proofs.Transfers.{affords-out}
-use Rattle.carrying.proofs.CarryLaws.{out-done}
-use Rattle.carrying.proofs.go_out.Statement.{statement}
-use Rattle.carrying.proofs.go_out.Tie as tie
+use Rattle.face_carrying.proofs.FaceLaws.{out-done}
+use Rattle.face_carrying.proofs.go_out.Statement.{statement}
+use Rattle.face_carrying.proofs.go_out.Tie as tie
 
 amount-small : (s : tie.Start) → s .args .size * s .args .a ≤ maxCarried
 amount-small s = mul-le-mul (s .pre .size-most) (s .pre .first-most)

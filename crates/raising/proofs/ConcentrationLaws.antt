@@ -9,7 +9,7 @@ use lib.Seq.{getD-set-same, getD-set-other}
 use Rattle.model.specs.Step.{rounded}
 use Rattle.cell.specs.Work.{filled}
 use Rattle.cell.proofs.Filling.{filling-start, filling-turn}
-use Rattle.carrying.specs.Carrying.{Concentrations}
+use Rattle.raising.specs.Raising.{Concentrations}
 
 module _ (volumes masses w : List ℕ) where
   abbrev q : ℕ → ℕ

@@ -9,9 +9,9 @@ use Rattle.model.specs.Accepted.{maxCarried}
 use Rattle.model.specs.Mesh.{rim}
 use Rattle.face.proofs.Transfers.{has-room-in}
 use Rattle.cell.proofs.BoundLaws.{length-widened}
-use Rattle.carrying.proofs.CarryLaws.{in-done}
-use Rattle.carrying.proofs.come_in.Statement.{statement}
-use Rattle.carrying.proofs.come_in.Tie as tie
+use Rattle.face_carrying.proofs.FaceLaws.{in-done}
+use Rattle.face_carrying.proofs.come_in.Statement.{statement}
+use Rattle.face_carrying.proofs.come_in.Tie as tie
 
 amount-small : (s : tie.Start) → s .args .size * s .args .outside ≤ maxCarried
 amount-small s = mul-le-mul (s .pre .0 .size-most) (s .pre .0 .beyond-most)
