@@ -23,7 +23,7 @@ use Rattle.model.proofs.Limit.{kept-either, kept-zero}
 use Rattle.model.proofs.Sizes.{outgoing-most}
 use Rattle.face.specs.Correction.{decoded}
 use Rattle.face.specs.Exchange.{brings, takes}
-use Rattle.face.proofs.Transfers.{raised-at, brings-is, takes-is}
+use Rattle.face.proofs.Transfers.{more-at, brings-is, takes-is}
 use Rattle.cell.specs.Work.{ofCell, ofFace, overQ, lowIn}
 use Rattle.cell.proofs.OverQ.{lower}
 use Rattle.cell.proofs.Places.{cell-in, face-in, slot-in}
@@ -37,8 +37,8 @@ module _ (w : List ℕ) (r g n : ℕ) where
   counted-at : 4 * r + 3 < length w → 4 * g + 3 < length w → (c j : ℕ) → leb j 3 ≡ true
       → ofCell (counted w r g n) c j ≡ ofCell w c j + cond (eqb 0 j && eqb r c) (overQ * n) 0 + cond (eqb 3 j && eqb g c) n 0
   counted-at in-r in-g c j t =
-      raised-at (more w (4 * r + 0) (overQ * n)) (4 * g + 3) n (4 * c + j) (simp length-set in-g)
-      ∙ rw (raised-at w (4 * r + 0) (overQ * n) (4 * c + j) (slot-in r 0 (length w) refl in-r), same-slot r 0 c j refl t, same-slot g 3 c j refl t)
+      more-at (more w (4 * r + 0) (overQ * n)) (4 * g + 3) n (4 * c + j) (simp length-set in-g)
+      ∙ rw (more-at w (4 * r + 0) (overQ * n) (4 * c + j) (slot-in r 0 (length w) refl in-r), same-slot r 0 c j refl t, same-slot g 3 c j refl t)
 
   counted-face : (cells f : ℕ) → r < cells → g < cells → ofFace (counted w r g n) cells f ≡ ofFace w cells f
   counted-face cells f in-r in-g = slot-face (more w (4 * r + 0) (overQ * n)) g 3 _ cells f refl in-g ∙ slot-face w r 0 _ cells f refl in-r
