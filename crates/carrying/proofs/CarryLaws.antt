@@ -23,7 +23,7 @@ use Rattle.model.specs.Step.{StepInput, roundedInput, flux, outside, mass, conc
 use Rattle.model.proofs.Low.{low-affords}
 use Rattle.model.proofs.Accepted.{flux-few, flux-reach}
 use Rattle.model.proofs.Sizes.{mass-most, beyond-most, carried-size, incoming-most, inMass-most, outMass-most}
-use Rattle.face.specs.Correction.{coded, correctionOf}
+use Rattle.face.specs.Correction.{decoded, correctionOf}
 use Rattle.face.specs.Exchange.{EndsIn}
 use Rattle.face.proofs.Corrections.{correction-none, correction-by-flux}
 use Rattle.face.proofs.Flows.{flow-start, flow-afford, flow-room, flow-turn}
@@ -168,17 +168,13 @@ module _ (S : StepInput) (r : Ready S) (f : ℕ) (h : f < S .mesh .faces) (enter
       → FaceAsks f (first M f) (second M f) u (share M f) (reach M f) a b (M .cells) (withSign p (u * cond p b a)) next moved work
   face-asks p u a b d e i j = rw (d, e, i, j) asks-there
 
-  -- the number in which the face's correction is kept
-  abbrev code : ℕ
-  code = cond (eqb (second M f) rim) 0 (coded (correctionOf (flux S f) near far (share M f) (reach M f)))
-
-  code-is : code ≡ coded (correction S f)
-  code-is = rw (correction-there S r f, near-is, far-is) (go (eqb (second M f) rim))
+  -- the face's correction, of the concentrations that the code has read
+  correction-is : cond (eqb (second M f) rim) (pos 0) (correctionOf (flux S f) near far (share M f) (reach M f)) ≡ correction S f
+  correction-is = rw (correction-there S r f, near-is, far-is) (go (eqb (second M f) rim))
     where
-      go : (b : Bool) → cond b 0 (coded (correctionOf (flux S f) (concentration S (first M f)) (beyond S f) (share M f) (reach M f)))
-          ≡ coded (cond (b || isZero (flux S f)) (pos 0) (correctionOf (flux S f) (concentration S (first M f)) (beyond S f) (share M f) (reach M f)))
+      go : (b : Bool) → cond b (pos 0) (between-cells S r f) ≡ cond (b || isZero (flux S f)) (pos 0) (between-cells S r f)
       go true = refl
-      go false = ap coded (inside (flux S f) (concentration S (first M f)) (beyond S f) (share M f) (reach M f))
+      go false = inside (flux S f) (concentration S (first M f)) (beyond S f) (share M f) (reach M f)
 
   -- work after the cells have met
   widened : List ℕ
@@ -268,6 +264,16 @@ module _ (S : StepInput) (r : Ready S) (f : ℕ) (h : f < S .mesh .faces) (enter
     gone-fits : (o : ℕ) → o ≡ cond (eqb (second M f) rim) (cond p 0 amount) 0 → gone + o < 2 ^ 64
     gone-fits o e = out-mass-fits (gone + o) (out-is o e)
 
+    -- the number in which the face's correction is kept
+    abbrev code : ℕ
+    code = there .code
+
+    code-says : decoded code ≡ correction S f
+    code-says =
+        let e : decoded code ≡ cond (eqb (second M f) rim) (pos 0) (correctionOf (flux S f) near far (share M f) (reach M f)) =
+        rw (withSign-of (flux S f)) at (there .code-is) in
+        e ∙ correction-is
+
     worked : work′ ≡ set widened (4 * M .cells + f) code
     unfolding widened
     worked = rw (withSign-of (flux S f)) at (there .worked)
@@ -286,9 +292,11 @@ module _ (S : StepInput) (r : Ready S) (f : ℕ) (h : f < S .mesh .faces) (enter
       q-at = λ c l. rw worked (face-slot widened (M .cells) f code c 0 refl l ∙ widened-q c l);
       lo-at = λ c l. rw worked (face-slot widened (M .cells) f code c 1 refl l ∙ widened-lo c l);
       hi-at = λ c l. rw worked (face-slot widened (M .cells) f code c 2 refl l ∙ widened-hi c l);
-      code-at = rw worked (below-more (λ g. ofFace (set widened (4 * M .cells + f) code) (M .cells) g ≡ coded (correction S g)) f
-          (λ g l. getD-set-other widened (4 * M .cells + f) (4 * M .cells + g) code 0 (λ (e : 4 * M .cells + g ≡ 4 * M .cells + f). omega arith) ∙ widened-face g ∙ s .code-at g l)
-          (getD-set-same widened (4 * M .cells + f) code 0 (rw widened-long (face-in f (M .cells) (M .faces) (length work) h (s .work-long))) ∙ code-is));
+      code-at = rw worked (below-more (λ g. decoded (ofFace (set widened (4 * M .cells + f) code) (M .cells) g) ≡ correction S g) f
+          (λ g l. ap decoded (getD-set-other widened (4 * M .cells + f) (4 * M .cells + g) code 0
+          (λ (e : 4 * M .cells + g ≡ 4 * M .cells + f). omega arith) ∙ widened-face g) ∙ s .code-at g l)
+          (ap decoded (getD-set-same widened (4 * M .cells + f) code 0
+          (rw widened-long (face-in f (M .cells) (M .faces) (length work) h (s .work-long)))) ∙ code-says));
     }
 
     -- at the rim, and inside

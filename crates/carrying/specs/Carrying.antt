@@ -11,7 +11,7 @@ use Rattle.model.specs.Mesh.{meshOf, atRim, first}
 use Rattle.model.specs.Step.{StepInput, flux, outside, mass, concentration, carried, correction, adjacent}
 use Rattle.model.specs.Causes.{inputOf, waterOf}
 use Rattle.model.specs.Accepted.{Ready}
-use Rattle.face.specs.Correction.{coded}
+use Rattle.face.specs.Correction.{decoded}
 use Rattle.face.specs.Exchange.{Flowing}
 use Rattle.cell.specs.Work.{ofCell, ofFace}
 
@@ -38,7 +38,7 @@ pub record CarriedTo (S : StepInput) (f entered gone : ℕ) (next : List ℕ) (m
   pub q-at : (c : ℕ) → c < S .mesh .cells → ofCell work c 0 ≡ concentration S c
   pub lo-at : (c : ℕ) → c < S .mesh .cells → ofCell work c 1 ≡ least f (concentration S c) (adjacent S c)
   pub hi-at : (c : ℕ) → c < S .mesh .cells → ofCell work c 2 ≡ greatest f (concentration S c) (adjacent S c)
-  pub code-at : (g : ℕ) → g < f → ofFace work (S .mesh .cells) g ≡ coded (correction S g)
+  pub code-at : (g : ℕ) → g < f → decoded (ofFace work (S .mesh .cells) g) ≡ correction S g
 
 -- What the pass by faces is not lent of a step: the masses start in next, q stands in work, and no face asks a volume.
 pub record Unseen : Type 0 where

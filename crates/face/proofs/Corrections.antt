@@ -12,7 +12,7 @@ use lib.Signed.{quotZ}
 use Rattle.signed.specs.Sign.{size, isNegative, withSign}
 use Rattle.signed.proofs.Laws.{size-zero, size-withSign, withSign-of, withSign-zero, mul-withSign, quot-withSign, diff-withSign}
 use Rattle.model.specs.Mesh.{maxConcentration, maxShare, maxReach}
-use Rattle.face.specs.Correction.{coded, decoded, gap, correctionOf}
+use Rattle.face.specs.Correction.{decoded, gap, correctionOf}
 
 -- whether a correction between concentrations a and b runs back
 abbrev pub back : ℕ → ℕ → ℕ → ℕ → Bool
@@ -96,23 +96,18 @@ correction-by-flux z a b s k h ha hb hs =
     ap (λ (y : ℤ). correctionOf y a b s k) (sym (withSign-of z)) ∙ correction-is (isNegative z) (size z) a b s k in
     rw (e, size-withSign) (size-by-flux (size z) a b tk k h ha hb t)
 
-pub decoded-coded : (z : ℤ) → decoded (coded z) ≡ z
-decoded-coded (pos n) =
-    let a : (2 * n + 0) % 2 ≡ 0 = omega arith in
-    let b : (2 * n + 0) / 2 ≡ n = omega arith in
-    rw (a, b)
-decoded-coded (negsuc n) =
-    let a : (2 * suc n + 1) % 2 ≡ 1 = omega arith in
-    let b : (2 * suc n + 1) / 2 ≡ suc n = omega arith in
+-- twice a size, and one more
+pub decoded-even : (n : ℕ) → decoded (2 * n) ≡ pos n
+decoded-even n =
+    let a : (2 * n) % 2 ≡ 0 = omega arith in
+    let b : (2 * n) / 2 ≡ n = omega arith in
     rw (a, b)
 
-pub coded-none : (p : Bool) → coded (withSign p 0) ≡ 0
-coded-none false = refl
-coded-none true = refl
-
-pub coded-back : (n : ℕ) → n ≢ 0 → coded (withSign true n) ≡ 2 * n + 1
-coded-back zero h = absurd (h refl)
-coded-back (suc n) h = refl
+pub decoded-odd : (n : ℕ) → decoded (2 * n + 1) ≡ withSign true n
+decoded-odd n =
+    let a : (2 * n + 1) % 2 ≡ 1 = omega arith in
+    let b : (2 * n + 1) / 2 ≡ n = omega arith in
+    rw (a, b)
 
 -- no flux, no correction
 pub correction-none : (z : ℤ) (a b s k : ℕ) → size z ≡ 0 → correctionOf z a b s k ≡ pos 0

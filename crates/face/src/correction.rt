@@ -6,7 +6,7 @@ ghost use lib.Dec.{leb, ltb};
 ghost use Rattle.signed.specs.Sign.{withSign};
 ghost use Rattle.model.specs.Mesh.{maxShare, maxReach, maxConcentration};
 ghost use Rattle.model.specs.Accepted.{maxCarried};
-ghost use Rattle.face.specs.Correction.{coded, gap, correctionOf};
+ghost use Rattle.face.specs.Correction.{decoded, gap, correctionOf};
 
 // How far two numbers are apart.
 pub fn gap_of(a: u64, b: u64) -> u64
@@ -43,18 +43,15 @@ pub fn correction_size(size: u64, a: u64, b: u64, tk: u64, reach: u64) -> u64
 // A signed amount in one number.
 pub fn code(negative: bool, amount: u64) -> u64
     requires { ⌜ amount ≤ maxCarried ⌝ }
-    ensures { λ r. ⌜ r ≡ coded (withSign negative amount) ⌝ }
+    ensures { λ r. ⌜ decoded r ≡ withSign negative amount ⌝ }
 {
-    if amount == 0 {
-        return 0;
-    }
     if negative { 2 * amount + 1 } else { 2 * amount }
 }
 
 // The correction of an interior face, in one number.
 pub fn correction_code(negative: bool, size: u64, a: u64, b: u64, share: u64, reach: u64) -> u64
     requires { ⌜ (size ≤ reach) × (a ≤ maxConcentration) × (b ≤ maxConcentration) × (share ≤ maxShare) × (1 ≤ reach) × (reach ≤ maxReach) ⌝ }
-    ensures { λ r. ⌜ r ≡ coded (correctionOf (withSign negative size) a b share reach) ⌝ }
+    ensures { λ r. ⌜ decoded r ≡ correctionOf (withSign negative size) a b share reach ⌝ }
 {
     let tk = upwind_share(negative, share) * reach;
     let amount = correction_size(size, a, b, tk, reach);

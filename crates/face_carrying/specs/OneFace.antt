@@ -5,11 +5,11 @@ use mathlib.Core.Logic.{_≢_}
 use mathlib.Core.Bool.{cond}
 use mathlib.Core.List.{List}
 use lib.Dec.{eqb}
-use lib.IntN.{ℤ}
+use lib.IntN.{ℤ, pos}
 use lib.ListN.{length, getD, set}
 use Rattle.signed.specs.Sign.{size}
 use Rattle.model.specs.Mesh.{rim, maxConcentration, maxRimFlux, maxShare, maxReach}
-use Rattle.face.specs.Correction.{coded, correctionOf}
+use Rattle.face.specs.Correction.{decoded, correctionOf}
 use Rattle.face.specs.Exchange.{brings, takes, Transferred, EndsIn}
 use Rattle.cell.specs.Work.{widenedAcross}
 
@@ -29,9 +29,11 @@ pub record FaceAsks (f first second size share reach a b cells : ℕ) (z : ℤ) 
   pub afford : (c : ℕ) → c < cells → takes first second z c ≤ getD next c 0
   pub room : (c : ℕ) → c < cells → getD next c 0 + brings first second z c < 2 ^ 64
 
--- what it has done, with the flux u: r is the size of what it carries
+-- what it has done, with the flux u: r is the size of what it carries, and its correction stands in work in one number
 pub record FaceDone (f first second share reach a b cells r : ℕ) (u z : ℤ) (next next′ : List ℕ) (moved moved′ : List ℤ) (work work′ : List ℕ) : Type 0 where
   pub amount : r ≡ size z
   pub flowed : Transferred next first second z next′
   pub carries : moved′ ≡ set moved f z
-  pub worked : work′ ≡ set (widenedAcross work first second u a b) (4 * cells + f) (cond (eqb second rim) 0 (coded (correctionOf u a b share reach)))
+  pub code : ℕ
+  pub code-is : decoded code ≡ cond (eqb second rim) (pos 0) (correctionOf u a b share reach)
+  pub worked : work′ ≡ set (widenedAcross work first second u a b) (4 * cells + f) code
