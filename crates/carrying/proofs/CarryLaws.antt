@@ -13,26 +13,27 @@ use lib.IntN.{ℤ, pos, negsuc}
 use lib.ListN.{length, getD, set, length-set}
 use lib.Seq.{getD-set-same, getD-set-other}
 use Rattle.signed.specs.Sign.{size, isZero, isNegative, forward, backward, withSign}
-use Rattle.signed.proofs.Laws.{scale, withSign-of, withSign-zero, isZero-size, size-withSign, forward-is, backward-is}
+use Rattle.signed.proofs.Laws.{scale, withSign-of, isZero-size, size-withSign, forward-is, backward-is}
 use Rattle.lists.specs.Fold.{least, greatest}
 use Rattle.lists.proofs.Tests.{Same, same, other, same?}
 use Rattle.lists.proofs.Sums.{sum-zero, sum-more, sum-term, least-start, greatest-start, least-more, greatest-more}
 use Rattle.model.specs.Accepted.{Ready, maxCarried}
-use Rattle.model.specs.Mesh.{Mesh, rim, atRim, first, second, share, reach, incoming, outgoing}
+use Rattle.model.specs.Mesh.{Mesh, rim, atRim, first, second, share, reach, incoming, outgoing, maxConcentration}
 use Rattle.model.specs.Step.{StepInput, roundedInput, flux, outside, mass, concentration, beyond, upwind, downwind, upwindShare, carried, correction, adjacent, inMass, outMass}
 use Rattle.model.proofs.Low.{low-affords}
 use Rattle.model.proofs.Accepted.{flux-few, flux-reach}
 use Rattle.model.proofs.Sizes.{mass-most, beyond-most, carried-size, incoming-most, inMass-most, outMass-most}
-use Rattle.face.specs.Correction.{coded, correctionOf}
-use Rattle.face.specs.Exchange.{EndsIn, Transferred, Lost, Gained}
-use Rattle.face.proofs.Corrections.{correction-none}
-use Rattle.face.proofs.Transfers.{none-transferred, transferred-in, transferred-out}
+use Rattle.face.specs.Correction.{decoded, correctionOf}
+use Rattle.face.specs.Exchange.{EndsIn}
+use Rattle.face.proofs.Corrections.{correction-none, correction-by-flux}
 use Rattle.face.proofs.Flows.{flow-start, flow-afford, flow-room, flow-turn}
-use Rattle.cell.specs.Work.{ofCell, ofFace, widened as widenedBy, widenedAcross}
+use Rattle.cell.specs.Work.{ofCell, ofFace, widenedAcross}
 use Rattle.cell.proofs.Places.{cell-in, face-in}
 use Rattle.cell.proofs.Slots.{face-slot}
-use Rattle.cell.proofs.BoundLaws.{across-still, across-inside, across-in, across-out, length-across, across-q, across-face, across-lo, across-hi, across-adjacent}
-use Rattle.carrying.specs.Carrying.{Concentrations, CarriedTo, FaceAsks, FaceDone, inMassTo, outMassTo}
+use Rattle.cell.proofs.BoundLaws.{length-across, across-q, across-face, across-lo, across-hi, across-adjacent}
+use Rattle.raising.specs.Raising.{Concentrations}
+use Rattle.face_carrying.specs.OneFace.{FaceAsks, FaceDone}
+use Rattle.carrying.specs.Carrying.{CarriedTo, inMassTo, outMassTo}
 
 -- from the first pass
 pub carried-to-start : (M : Mesh) (masses : List ℕ) (fluxes : List ℤ) (outsides next work w : List ℕ) (moved : List ℤ)
@@ -67,6 +68,23 @@ module _ (S : StepInput) (r : Ready S) where
   bounded : (c : ℕ) → c < M .cells → mass S c + incoming M (carried S) c < 2 ^ 64
   bounded c l = omega (arith, mass-most S r c l, incoming-most M (carried S) maxCarried (r .counts-fit .few-faces) (carried-size S r) c)
 
+  abbrev between-cells : ℕ → ℤ
+  between-cells f = correctionOf (flux S f) (concentration S (first M f)) (beyond S f) (share M f) (reach M f)
+
+  correction-there : (f : ℕ) → correction S f ≡ cond (eqb (second M f) rim || isZero (flux S f)) (pos 0) (between-cells f)
+  unfolding correction correctionOf upwind downwind upwindShare
+  correction-there f = refl
+
+  -- it is at most the flux times the greatest concentration
+  pub correction-within : (f : ℕ) → f < M .faces → size (correction S f) ≤ size (flux S f) * maxConcentration
+  correction-within f h = rw (correction-there f) (go (eqb (second M f) rim) (same? (second M f) rim) (isZero (flux S f)))
+    where
+      go : (b : Bool) → Same (second M f) rim b → (z : Bool) → size (cond (b || z) (pos 0) (between-cells f)) ≤ size (flux S f) * maxConcentration
+      go true s z = omega arith
+      go false s true = omega arith
+      go false (other d) false = correction-by-flux (flux S f) (concentration S (first M f)) (beyond S f) (share M f) (reach M f)
+          (flux-reach S r f h d) (r .salt-most (first M f) (r .fit .first-in f h)) (beyond-most S r f h) (r .fit .share-most f h)
+
 -- a correction inside the mesh is that between the concentrations of its two cells
 inside : (z : ℤ) (a b s k : ℕ) → correctionOf z a b s k ≡ cond (isZero z) (pos 0) (correctionOf z a b s k)
 inside z a b s k = go (isZero z) refl
@@ -74,74 +92,6 @@ inside z a b s k = go (isZero z) refl
     go : (y : Bool) → isZero z ≡ y → correctionOf z a b s k ≡ cond y (pos 0) (correctionOf z a b s k)
     go true e = correction-none z a b s k (isZero-size z e)
     go false e = refl
-
--- one face's calls: water that comes in over the rim, water that goes out, water inside, by the upwind concentration v, and no water
-pub in-done : (f l a o n u : ℕ) (next next′ : List ℕ) (moved moved′ : List ℤ) (work met work′ : List ℕ) → u ≢ 0 → length next ≤ rim
-    → Gained next l (u * o) next′ → moved′ ≡ set moved f (withSign true (u * o)) → met ≡ widenedBy work l o → work′ ≡ set met (4 * n + f) 0
-    → FaceDone f l rim 0 0 a o n (u * o) (withSign true u) (withSign true (u * o)) next next′ moved moved′ work work′
-in-done f l a o n u next next′ moved moved′ work met work′ h few t m w q = record {
-  amount = sym (size-withSign true (u * o));
-  flowed = transferred-in next l (u * o) next′ few t;
-  carries = m;
-  worked = rw (q, w, across-in work l rim a o u h refl);
-}
-
-pub out-done : (f l a o n u : ℕ) (next next′ : List ℕ) (moved moved′ : List ℤ) (work work′ : List ℕ) → length next ≤ rim
-    → Lost next l (u * a) next′ → moved′ ≡ set moved f (withSign false (u * a)) → work′ ≡ set work (4 * n + f) 0
-    → FaceDone f l rim 0 0 a o n (u * a) (withSign false u) (withSign false (u * a)) next next′ moved moved′ work work′
-out-done f l a o n u next next′ moved moved′ work work′ few t m q = record {
-  amount = sym (size-withSign false (u * a));
-  flowed = transferred-out next l (u * a) next′ few t;
-  carries = m;
-  worked = rw (q, across-out work l rim a o u refl);
-}
-
-pub wet-done : (f l k s r a b n v c : ℕ) (p : Bool) (u : ℕ) (next next′ : List ℕ) (moved moved′ : List ℤ) (work met both work′ : List ℕ) → k ≢ rim → u ≢ 0 → v ≡ cond p b a
-    → Transferred next l k (withSign p (u * v)) next′ → moved′ ≡ set moved f (withSign p (u * v)) → met ≡ widenedBy work l b → both ≡ widenedBy met k a
-    → c ≡ coded (correctionOf (withSign p u) a b s r) → work′ ≡ set both (4 * n + f) c
-    → FaceDone f l k s r a b n (u * cond p b a) (withSign p u) (withSign p (u * cond p b a)) next next′ moved moved′ work work′
-wet-done f l k s r a b n v c p u next next′ moved moved′ work met both work′ i h e t m w x d q = record {
-  amount = sym (size-withSign p (u * cond p b a));
-  flowed = rw e at t;
-  carries = rw e at m;
-  worked = rw (q, x, w, d, across-inside work l k a b p u h i, ne-eqb k rim i);
-}
-
-pub still-done : (f l k s r a b n : ℕ) (p : Bool) (u : ℕ) (next : List ℕ) (moved moved′ : List ℤ) (work work′ : List ℕ) → k ≢ rim → u ≡ 0
-    → moved′ ≡ set moved f (pos 0) → work′ ≡ set work (4 * n + f) 0
-    → FaceDone f l k s r a b n (u * cond p b a) (withSign p u) (withSign p (u * cond p b a)) next next moved moved′ work work′
-still-done f l k s r a b n p u next moved moved′ work work′ i e m q =
-    let z : u * cond p b a ≡ 0 = rw e (zero-mul (cond p b a)) in
-    record {
-      amount = sym (size-withSign p (u * cond p b a));
-      flowed = rw z (none-transferred next l k p);
-      carries = rw (z, withSign-zero p) m;
-      worked = rw (e, across-still work l k a b p, ne-eqb k rim i, withSign-zero p, correction-none (pos 0) a b s r refl) q;
-    }
-
--- at the rim neither share nor reach counts
-pub rim-asks : (f l k u s r a b n : ℕ) (z : ℤ) (next : List ℕ) (moved : List ℤ) (work : List ℕ) → k ≡ rim
-    → FaceAsks f l k u s r a b n z next moved work → FaceAsks f l rim u 0 0 a b n z next moved work
-rim-asks f l k u s r a b n z next moved work e h = record {
-  ends = rw e at (h .ends);
-  next-long = h .next-long;
-  in-moved = h .in-moved;
-  in-work = h .in-work;
-  first-most = h .first-most;
-  beyond-most = h .beyond-most;
-  size-most = h .size-most;
-  within-reach = λ d. absurd (d refl);
-  share-most = omega arith;
-  reach-some = λ d. absurd (d refl);
-  reach-most = omega arith;
-  afford = rw e at (h .afford);
-  room = rw e at (h .room);
-}
-
-pub rim-done : (f l k s r a b n m : ℕ) (u z : ℤ) (next next′ : List ℕ) (moved moved′ : List ℤ) (work work′ : List ℕ) → k ≡ rim
-    → FaceDone f l rim 0 0 a b n m u z next next′ moved moved′ work work′ → FaceDone f l k s r a b n m u z next next′ moved moved′ work work′
-rim-done f l k s r a b n m u z next next′ moved moved′ work work′ e d =
-    record { amount = d .amount; flowed = rw e (d .flowed); carries = d .carries; worked = rw e (d .worked) }
 
 -- water that runs back is some
 pub runs-back : (z : ℤ) (p : Bool) (u : ℕ) → p ≡ isNegative z → u ≡ size z → p ≡ true → u ≢ 0
@@ -218,21 +168,13 @@ module _ (S : StepInput) (r : Ready S) (f : ℕ) (h : f < S .mesh .faces) (enter
       → FaceAsks f (first M f) (second M f) u (share M f) (reach M f) a b (M .cells) (withSign p (u * cond p b a)) next moved work
   face-asks p u a b d e i j = rw (d, e, i, j) asks-there
 
-  correction-there : correction S f ≡ cond (eqb (second M f) rim || isZero (flux S f)) (pos 0) (correctionOf (flux S f) (concentration S (first M f)) (beyond S f) (share M f) (reach M f))
-  unfolding correction correctionOf upwind downwind upwindShare
-  correction-there = refl
-
-  -- the number in which the face's correction is kept
-  abbrev code : ℕ
-  code = cond (eqb (second M f) rim) 0 (coded (correctionOf (flux S f) near far (share M f) (reach M f)))
-
-  code-is : code ≡ coded (correction S f)
-  code-is = rw (correction-there, near-is, far-is) (go (eqb (second M f) rim))
+  -- the face's correction, of the concentrations that the code has read
+  correction-is : cond (eqb (second M f) rim) (pos 0) (correctionOf (flux S f) near far (share M f) (reach M f)) ≡ correction S f
+  correction-is = rw (correction-there S r f, near-is, far-is) (go (eqb (second M f) rim))
     where
-      go : (b : Bool) → cond b 0 (coded (correctionOf (flux S f) (concentration S (first M f)) (beyond S f) (share M f) (reach M f)))
-          ≡ coded (cond (b || isZero (flux S f)) (pos 0) (correctionOf (flux S f) (concentration S (first M f)) (beyond S f) (share M f) (reach M f)))
+      go : (b : Bool) → cond b (pos 0) (between-cells S r f) ≡ cond (b || isZero (flux S f)) (pos 0) (between-cells S r f)
       go true = refl
-      go false = ap coded (inside (flux S f) (concentration S (first M f)) (beyond S f) (share M f) (reach M f))
+      go false = inside (flux S f) (concentration S (first M f)) (beyond S f) (share M f) (reach M f)
 
   -- work after the cells have met
   widened : List ℕ
@@ -322,6 +264,16 @@ module _ (S : StepInput) (r : Ready S) (f : ℕ) (h : f < S .mesh .faces) (enter
     gone-fits : (o : ℕ) → o ≡ cond (eqb (second M f) rim) (cond p 0 amount) 0 → gone + o < 2 ^ 64
     gone-fits o e = out-mass-fits (gone + o) (out-is o e)
 
+    -- the number in which the face's correction is kept
+    abbrev code : ℕ
+    code = there .code
+
+    code-says : decoded code ≡ correction S f
+    code-says =
+        let e : decoded code ≡ cond (eqb (second M f) rim) (pos 0) (correctionOf (flux S f) near far (share M f) (reach M f)) =
+        rw (withSign-of (flux S f)) at (there .code-is) in
+        e ∙ correction-is
+
     worked : work′ ≡ set widened (4 * M .cells + f) code
     unfolding widened
     worked = rw (withSign-of (flux S f)) at (there .worked)
@@ -340,9 +292,11 @@ module _ (S : StepInput) (r : Ready S) (f : ℕ) (h : f < S .mesh .faces) (enter
       q-at = λ c l. rw worked (face-slot widened (M .cells) f code c 0 refl l ∙ widened-q c l);
       lo-at = λ c l. rw worked (face-slot widened (M .cells) f code c 1 refl l ∙ widened-lo c l);
       hi-at = λ c l. rw worked (face-slot widened (M .cells) f code c 2 refl l ∙ widened-hi c l);
-      code-at = rw worked (below-more (λ g. ofFace (set widened (4 * M .cells + f) code) (M .cells) g ≡ coded (correction S g)) f
-          (λ g l. getD-set-other widened (4 * M .cells + f) (4 * M .cells + g) code 0 (λ (e : 4 * M .cells + g ≡ 4 * M .cells + f). omega arith) ∙ widened-face g ∙ s .code-at g l)
-          (getD-set-same widened (4 * M .cells + f) code 0 (rw widened-long (face-in f (M .cells) (M .faces) (length work) h (s .work-long))) ∙ code-is));
+      code-at = rw worked (below-more (λ g. decoded (ofFace (set widened (4 * M .cells + f) code) (M .cells) g) ≡ correction S g) f
+          (λ g l. ap decoded (getD-set-other widened (4 * M .cells + f) (4 * M .cells + g) code 0
+          (λ (e : 4 * M .cells + g ≡ 4 * M .cells + f). omega arith) ∙ widened-face g) ∙ s .code-at g l)
+          (ap decoded (getD-set-same widened (4 * M .cells + f) code 0
+          (rw widened-long (face-in f (M .cells) (M .faces) (length work) h (s .work-long)))) ∙ code-says));
     }
 
     -- at the rim, and inside

@@ -1,2 +1,1 @@
-pub mod ConcentrationLaws
 pub mod CarryLaws

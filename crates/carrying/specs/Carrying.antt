@@ -1,31 +1,24 @@
--- The states of the passes that carry salt: document 01, "One step", stages 1 to 3, as far as cells and faces have been passed.
-use Prim.Native.Nat.{ℕ, _+_, _*_, _^_, _≤_, _<_}
+-- The state of the pass that carries salt: document 01, "One step", stages 1 to 3, as far as faces have been passed.
+use Prim.Native.Nat.{ℕ, _+_, _*_, _<_}
 use mathlib.Core.Path.{_≡_}
-use mathlib.Core.Logic.{_≢_}
 use mathlib.Core.Bool.{cond}
 use mathlib.Core.List.{List}
-use lib.Dec.{eqb}
 use lib.IntN.{ℤ, pos}
-use lib.ListN.{length, getD, set}
+use lib.ListN.{length, getD}
 use Rattle.lists.specs.Fold.{sum, least, greatest}
-use Rattle.signed.specs.Sign.{size, forward, backward}
-use Rattle.model.specs.Mesh.{meshOf, rim, maxConcentration, maxRimFlux, maxShare, maxReach, atRim, first}
-use Rattle.model.specs.Step.{StepInput, rounded, flux, outside, mass, concentration, carried, correction, adjacent}
+use Rattle.signed.specs.Sign.{forward, backward}
+use Rattle.model.specs.Mesh.{meshOf, atRim, first}
+use Rattle.model.specs.Step.{StepInput, flux, outside, mass, concentration, carried, correction, adjacent}
 use Rattle.model.specs.Causes.{inputOf, waterOf}
 use Rattle.model.specs.Accepted.{Ready}
-use Rattle.face.specs.Correction.{coded, correctionOf}
-use Rattle.face.specs.Exchange.{brings, takes, Transferred, EndsIn, Flowing}
-use Rattle.cell.specs.Work.{ofCell, ofFace, Filling, widenedAcross}
+use Rattle.face.specs.Correction.{decoded}
+use Rattle.face.specs.Exchange.{Flowing}
+use Rattle.cell.specs.Work.{ofCell, ofFace}
 
 -- what a step works on, from the tables lent to a pass
 abbrev pub inputFrom : ℕ → ℕ → List ℕ → List ℕ → List ℕ → List ℕ → List ℕ → List ℕ → List ℤ → List ℕ → List ℕ → StepInput
 inputFrom cells faces volumes firsts seconds shares reaches masses fluxes outsides releases =
     inputOf (meshOf cells faces volumes firsts seconds shares reaches) masses (waterOf fluxes outsides releases)
-
--- Pass 1 on the raised masses, after the cells below i: next masses are these, and a cell's entries are q three times
-pub record Concentrations (volumes masses w : List ℕ) (i : ℕ) (next work : List ℕ) : Type 0 where
-  pub next-at : (c : ℕ) → c < i → getD next c 0 ≡ getD masses c 0
-  pub filling : let q : ℕ → ℕ = rounded volumes masses in Filling w q q q (λ c. 0) i work
 
 -- the in-mass and the out-mass of the faces below f
 abbrev pub inMassTo : StepInput → ℕ → ℕ
@@ -45,7 +38,7 @@ pub record CarriedTo (S : StepInput) (f entered gone : ℕ) (next : List ℕ) (m
   pub q-at : (c : ℕ) → c < S .mesh .cells → ofCell work c 0 ≡ concentration S c
   pub lo-at : (c : ℕ) → c < S .mesh .cells → ofCell work c 1 ≡ least f (concentration S c) (adjacent S c)
   pub hi-at : (c : ℕ) → c < S .mesh .cells → ofCell work c 2 ≡ greatest f (concentration S c) (adjacent S c)
-  pub code-at : (g : ℕ) → g < f → ofFace work (S .mesh .cells) g ≡ coded (correction S g)
+  pub code-at : (g : ℕ) → g < f → decoded (ofFace work (S .mesh .cells) g) ≡ correction S g
 
 -- What the pass by faces is not lent of a step: the masses start in next, q stands in work, and no face asks a volume.
 pub record Unseen : Type 0 where
@@ -65,29 +58,6 @@ pub record AtFace (through : Unseen → StepInput) (f entered gone : ℕ) (next 
   pub so-far : CarriedTo (through unseen) f entered gone next moved work
 
 -- of whichever step it is, pass 2 goes on from face f to face g
-abbrev pub Carries : (Unseen → StepInput) → (f entered gone : ℕ) → List ℕ → List ℤ → List ℕ → (g entered′ gone′ : ℕ) → List ℕ → List ℤ → List ℕ → Type 0
-Carries through f entered gone next moved work g entered′ gone′ next′ moved′ work′ =
+abbrev pub CarriedFrom : (Unseen → StepInput) → (f entered gone : ℕ) → List ℕ → List ℤ → List ℕ → (g entered′ gone′ : ℕ) → List ℕ → List ℤ → List ℕ → Type 0
+CarriedFrom through f entered gone next moved work g entered′ gone′ next′ moved′ work′ =
     (u : Unseen) → Ready (through u) → CarriedTo (through u) f entered gone next moved work → CarriedTo (through u) g entered′ gone′ next′ moved′ work′
-
--- one face of pass 2, with the concentrations a of its first cell and b beyond it: z is what it carries
-pub record FaceAsks (f first second size share reach a b cells : ℕ) (z : ℤ) (next : List ℕ) (moved : List ℤ) (work : List ℕ) : Type 0 where
-  pub ends : EndsIn cells first second
-  pub next-long : length next ≡ cells
-  pub in-moved : f < length moved
-  pub in-work : 4 * cells + f < length work
-  pub first-most : a ≤ maxConcentration
-  pub beyond-most : b ≤ maxConcentration
-  pub size-most : size ≤ maxRimFlux
-  pub within-reach : second ≢ rim → size ≤ reach
-  pub share-most : share ≤ maxShare
-  pub reach-some : second ≢ rim → 1 ≤ reach
-  pub reach-most : reach ≤ maxReach
-  pub afford : (c : ℕ) → c < cells → takes first second z c ≤ getD next c 0
-  pub room : (c : ℕ) → c < cells → getD next c 0 + brings first second z c < 2 ^ 64
-
--- what it has done, with the flux u: r is the size of what it carries
-pub record FaceDone (f first second share reach a b cells r : ℕ) (u z : ℤ) (next next′ : List ℕ) (moved moved′ : List ℤ) (work work′ : List ℕ) : Type 0 where
-  pub amount : r ≡ size z
-  pub flowed : Transferred next first second z next′
-  pub carries : moved′ ≡ set moved f z
-  pub worked : work′ ≡ set (widenedAcross work first second u a b) (4 * cells + f) (cond (eqb second rim) 0 (coded (correctionOf u a b share reach)))

@@ -1,6 +1,6 @@
 -- The table lent as work: document 01, "Tables lent to a step", gives it four entries per cell, then one per face.
 -- What the passes keep there is their own affair: nothing of it is promised to a caller of the step.
-use Prim.Native.Nat.{ℕ, zero, suc, _+_, _-_, _*_, _≤_, _<_, min, max}
+use Prim.Native.Nat.{ℕ, zero, suc, _+_, _-_, _*_, _/_, _%_, _≤_, _<_, min, max}
 use mathlib.Core.Path.{_≡_}
 use mathlib.Core.Bool.{true, cond}
 use mathlib.Core.List.{List}
@@ -16,6 +16,16 @@ ofCell w c j = getD w (4 * c + j) 0
 
 abbrev pub ofFace : List ℕ → ℕ → ℕ → ℕ
 ofFace w cells f = getD w (4 * cells + f) 0
+
+-- from pass 3 on entry 0 of a cell holds two numbers: low-order q, which is below this, and P of stage 4, as a multiple of this
+abbrev pub overQ : ℕ
+overQ = 1048576
+
+abbrev pub lowIn : List ℕ → ℕ → ℕ
+lowIn w c = ofCell w c 0 % overQ
+
+abbrev pub enteringIn : List ℕ → ℕ → ℕ
+enteringIn w c = ofCell w c 0 / overQ
 
 -- the four entries of cell c written
 unfoldable pub filled : List ℕ → ℕ → ℕ → ℕ → ℕ → ℕ → List ℕ
@@ -42,9 +52,9 @@ unfoldable pub widenedAcross : List ℕ → ℕ → ℕ → ℤ → ℕ → ℕ 
 widenedAcross w l k z a b =
     cond (isZero z) w (cond (eqb k rim) (cond (isNegative z) (widened w l b) w) (widened (widened w l b) k a))
 
--- Stage 3, G and L of one cell: its entries are then 0, L, G and 0
+-- Low-order q of document 02, S-5, and stage 3, G and L, of one cell: its entries are then q, L, G and 0
 unfoldable pub allowancesOf : List ℕ → ℕ → ℕ → ℕ → List ℕ
-allowancesOf w c volume low = filled w c 0 (low - volume * ofCell w c 1) (volume * ofCell w c 2 + volume - 1 - low) 0
+allowancesOf w c volume low = filled w c (low / volume) (low - volume * ofCell w c 1) (volume * ofCell w c 2 + volume - 1 - low) 0
 
 -- what keeps them in range: the low-order mass is within the bounds
 pub record CellAsks (volume low least most : ℕ) : Type 0 where

@@ -7,14 +7,14 @@ ghost use Rattle.lists.specs.Table.{table};
 ghost use Rattle.model.specs.Mesh.{maxCells};
 ghost use Rattle.cell.specs.Work.{ofCell, filled, widened, allowancesOf, CellAsks};
 
-// In passes 1 to 4: the cell's concentration, low-order from pass 3 on, and the least and the greatest in its neighbourhood.
+// In passes 1 and 2: the cell's concentration, and the least and the greatest in its neighbourhood.
 pub const Q: usize = 0;
 
 pub const LO: usize = 1;
 
 pub const HI: usize = 2;
 
-// From pass 5 on: the sum of corrections that enter, what the cell may lose and gain, the sum of those that leave.
+// From pass 3 on: P, the sum of corrections that enter, over low-order q; what the cell may lose and gain; the sum of those that leave.
 pub const P: usize = 0;
 
 pub const L: usize = 1;
@@ -22,6 +22,9 @@ pub const L: usize = 1;
 pub const G: usize = 2;
 
 pub const N: usize = 3;
+
+// Low-order q is below this: so P stands over it in one entry, as a multiple of this.
+pub const OVER_Q: u64 = 1048576;
 
 pub fn least_of(a: u64, b: u64) -> u64
     ensures { λ r. ⌜ r ≡ min a b ⌝ }
@@ -61,7 +64,7 @@ pub fn widen(work: &mut [u64], c: usize, q: u64)
     work[greatest] = hi;
 }
 
-// What a cell may lose and gain, from its bounds and its low-order mass; the sums of corrections start at 0.
+// Low-order q of a cell, and what it may lose and gain, from its bounds and its low-order mass; the sums of corrections start at 0.
 pub fn allowance_at(work: &mut [u64], c: usize, volume: u64, low: u64)
     requires { ⌜ (4 * c + 3 < length (now work)) × (c < maxCells) ⌝ }
     requires { ⌜ CellAsks volume low (ofCell (now work) c 1) (ofCell (now work) c 2) ⌝ }
@@ -70,7 +73,8 @@ pub fn allowance_at(work: &mut [u64], c: usize, volume: u64, low: u64)
     let at = 4 * c;
     let loss = low - volume * work[at + LO];
     let gain = volume * work[at + HI] + volume - 1 - low;
-    fill(work, c, 0, loss, gain, 0);
+    let q = low / volume;
+    fill(work, c, q, loss, gain, 0);
 }
 
 // All entries 0.

@@ -3,20 +3,20 @@ use Prim.Native.Nat.{ℕ, zero, suc, _+_, _-_, _*_, _/_, _%_, _≤_}
 use mathlib.Core.Path.{_≡_, refl, sym, ap, _∙_}
 use mathlib.Core.Logic.{_≢_}
 use mathlib.Core.Bool.{Bool, true, false, not, cond}
-use native.Mathlib.Nat.{zero-mul, mul-zero, zero-div, mul-le-mul, mul-le-mul-left, div-le-of-le-mul, le-trans}
+use native.Mathlib.Nat.{zero-mul, mul-zero, zero-div, mul-le-mul-left, mul-le-mul-right, div-le-of-le-mul, le-trans}
 use native.Mathlib.Omega.{arith}
 use borrow.Author.Tests.{ltb-true, ltb-false, lt-leb, le-leb}
 use lib.Dec.{leb, ltb}
 use lib.IntN.{ℤ, pos, negsuc, _-ℤ_, _*ℤ_}
 use lib.Signed.{quotZ}
-use Rattle.signed.specs.Sign.{size, withSign}
-use Rattle.signed.proofs.Laws.{size-zero, withSign-zero, mul-withSign, quot-withSign, diff-withSign}
-use Rattle.model.specs.Mesh.{maxConcentration, maxReach}
-use Rattle.face.specs.Correction.{coded, decoded, gap, correctionOf}
+use Rattle.signed.specs.Sign.{size, isNegative, withSign}
+use Rattle.signed.proofs.Laws.{size-zero, size-withSign, withSign-of, withSign-zero, mul-withSign, quot-withSign, diff-withSign}
+use Rattle.model.specs.Mesh.{maxConcentration, maxShare, maxReach}
+use Rattle.face.specs.Correction.{decoded, gap, correctionOf}
 
 -- whether a correction between concentrations a and b runs back
 abbrev pub back : ℕ → ℕ → ℕ → ℕ → Bool
-back a b way drift = cond (ltb b a) (leb drift way) (ltb way drift)
+back a b tk half = cond (ltb b a) (leb half tk) (ltb tk half)
 
 -- the product of three numbers by their signs and sizes, over 256 k
 product : (p q r : Bool) (u d w k : ℕ) → quotZ (withSign p u *ℤ withSign q d *ℤ withSign r w) (pos k) ≡ withSign (cond (cond p (not q) q) (not r) r) (u * d * w / k)
@@ -70,32 +70,44 @@ correction-is true zero a b s k = by-sign false 0 a b (s * k) (128 * 0) (256 * k
 correction-is true (suc n) a b s k = by-sign true (suc n) a b ((256 - s) * k) (128 * suc n) (256 * k)
 
 -- the size of a correction is that of the flux at most, times the greatest difference
-pub size-most : (u a b way k : ℕ) → u ≤ k → a ≤ maxConcentration → b ≤ maxConcentration → way ≤ 256 * k → k ≤ maxReach
-    → u * gap a b * gap way (128 * u) / (256 * k) ≤ maxReach * maxConcentration
-size-most u a b way k h ha hb hw hk =
+pub size-by-flux : (u a b tk k : ℕ) → u ≤ k → a ≤ maxConcentration → b ≤ maxConcentration → tk ≤ 256 * k
+    → u * gap a b * gap tk (128 * u) / (256 * k) ≤ u * maxConcentration
+size-by-flux u a b tk k h ha hb hw =
     let g : gap a b ≤ maxConcentration = omega arith in
-    let w : gap way (128 * u) ≤ 256 * k = omega arith in
-    let d : u * gap a b * gap way (128 * u) ≤ 256 * k * (u * gap a b) = omega (arith, mul-le-mul-left (u * gap a b) w) in
-    let l : u ≤ maxReach = omega arith in
-    le-trans (div-le-of-le-mul (256 * k) d) (mul-le-mul l g)
+    let w : gap tk (128 * u) ≤ 256 * k = omega arith in
+    let d : u * gap a b * gap tk (128 * u) ≤ 256 * k * (u * gap a b) = omega (arith, mul-le-mul-left (u * gap a b) w) in
+    le-trans (div-le-of-le-mul (256 * k) d) (mul-le-mul-left u g)
 
-pub decoded-coded : (z : ℤ) → decoded (coded z) ≡ z
-decoded-coded (pos n) =
-    let a : (2 * n + 0) % 2 ≡ 0 = omega arith in
-    let b : (2 * n + 0) / 2 ≡ n = omega arith in
+pub size-most : (u a b tk k : ℕ) → u ≤ k → a ≤ maxConcentration → b ≤ maxConcentration → tk ≤ 256 * k → k ≤ maxReach
+    → u * gap a b * gap tk (128 * u) / (256 * k) ≤ maxReach * maxConcentration
+size-most u a b tk k h ha hb hw hk = le-trans (size-by-flux u a b tk k h ha hb hw) (mul-le-mul-right maxConcentration (le-trans h hk))
+
+-- of any share
+pub share-le : (p : Bool) (s : ℕ) → s ≤ maxShare → cond p (256 - s) s ≤ 256
+share-le true s h = omega arith
+share-le false s h = omega arith
+
+pub correction-by-flux : (z : ℤ) (a b s k : ℕ) → size z ≤ k → a ≤ maxConcentration → b ≤ maxConcentration → s ≤ maxShare
+    → size (correctionOf z a b s k) ≤ size z * maxConcentration
+correction-by-flux z a b s k h ha hb hs =
+    let tk : ℕ = cond (isNegative z) (256 - s) s * k in
+    let t : tk ≤ 256 * k = mul-le-mul-right k (share-le (isNegative z) s hs) in
+    let e : correctionOf z a b s k ≡ withSign (back a b tk (128 * size z)) (size z * gap a b * gap tk (128 * size z) / (256 * k)) =
+    ap (λ (y : ℤ). correctionOf y a b s k) (sym (withSign-of z)) ∙ correction-is (isNegative z) (size z) a b s k in
+    rw (e, size-withSign) (size-by-flux (size z) a b tk k h ha hb t)
+
+-- twice a size, and one more
+pub decoded-even : (n : ℕ) → decoded (2 * n) ≡ pos n
+decoded-even n =
+    let a : (2 * n) % 2 ≡ 0 = omega arith in
+    let b : (2 * n) / 2 ≡ n = omega arith in
     rw (a, b)
-decoded-coded (negsuc n) =
-    let a : (2 * suc n + 1) % 2 ≡ 1 = omega arith in
-    let b : (2 * suc n + 1) / 2 ≡ suc n = omega arith in
+
+pub decoded-odd : (n : ℕ) → decoded (2 * n + 1) ≡ withSign true n
+decoded-odd n =
+    let a : (2 * n + 1) % 2 ≡ 1 = omega arith in
+    let b : (2 * n + 1) / 2 ≡ n = omega arith in
     rw (a, b)
-
-pub coded-none : (p : Bool) → coded (withSign p 0) ≡ 0
-coded-none false = refl
-coded-none true = refl
-
-pub coded-back : (n : ℕ) → n ≢ 0 → coded (withSign true n) ≡ 2 * n + 1
-coded-back zero h = absurd (h refl)
-coded-back (suc n) h = refl
 
 -- no flux, no correction
 pub correction-none : (z : ℤ) (a b s k : ℕ) → size z ≡ 0 → correctionOf z a b s k ≡ pos 0

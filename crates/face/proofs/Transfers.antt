@@ -14,16 +14,16 @@ use Rattle.lists.proofs.Tables.{getD-set}
 use Rattle.model.specs.Mesh.{rim}
 use Rattle.face.specs.Exchange.{brings, takes, Lost, Gained, Transferred, EndsIn}
 
--- one entry raised, one lowered
-pub raised-at : (xs : List ℕ) (r n c : ℕ) → r < length xs → getD (set xs r (getD xs r 0 + n)) c 0 ≡ getD xs c 0 + cond (eqb r c) n 0
-raised-at xs r n c h = getD-set xs r c _ 0 h ∙ go (eqb r c) (same? r c)
+-- one entry with more, one with less
+pub more-at : (xs : List ℕ) (r n c : ℕ) → r < length xs → getD (set xs r (getD xs r 0 + n)) c 0 ≡ getD xs c 0 + cond (eqb r c) n 0
+more-at xs r n c h = getD-set xs r c _ 0 h ∙ go (eqb r c) (same? r c)
   where
     go : (b : Bool) → Same r c b → cond b (getD xs r 0 + n) (getD xs c 0) ≡ getD xs c 0 + cond b n 0
     go true (same e) = rw e
     go false o = omega arith
 
-lowered-at : (xs : List ℕ) (g n c : ℕ) → g < length xs → n ≤ getD xs g 0 → getD (set xs g (getD xs g 0 - n)) c 0 + cond (eqb g c) n 0 ≡ getD xs c 0
-lowered-at xs g n c h k = rw (getD-set xs g c (getD xs g 0 - n) 0 h) (go (eqb g c) (same? g c))
+less-at : (xs : List ℕ) (g n c : ℕ) → g < length xs → n ≤ getD xs g 0 → getD (set xs g (getD xs g 0 - n)) c 0 + cond (eqb g c) n 0 ≡ getD xs c 0
+less-at xs g n c h k = rw (getD-set xs g c (getD xs g 0 - n) 0 h) (go (eqb g c) (same? g c))
   where
     go : (b : Bool) → Same g c b → cond b (getD xs g 0 - n) (getD xs c 0) + cond b n 0 ≡ getD xs c 0
     go true (same e) = let d : getD xs g 0 ≡ getD xs c 0 = ap (λ (i : ℕ). getD xs i 0) e in omega arith
@@ -50,10 +50,10 @@ module _ (xs : List ℕ) (few : length xs ≤ rim) (e : ℕ) (n : ℕ) where
   none-gained d = record { same-length = refl; at = λ c h. omega (arith, over-rim d c h) }
 
 pub one-lost : (xs : List ℕ) (g n : ℕ) → (g < length xs) × (n ≤ getD xs g 0) → Lost xs g n (set xs g (getD xs g 0 - n))
-one-lost xs g n h = record { same-length = length-set xs g _; at = λ c l. lowered-at xs g n c (h .0) (h .1) }
+one-lost xs g n h = record { same-length = length-set xs g _; at = λ c l. less-at xs g n c (h .0) (h .1) }
 
 pub one-gained : (xs : List ℕ) (r n : ℕ) → (r < length xs) × (getD xs r 0 + n < 2 ^ 64) → Gained xs r n (set xs r (getD xs r 0 + n))
-one-gained xs r n h = record { same-length = length-set xs r _; at = λ c l. raised-at xs r n c (h .0) }
+one-gained xs r n h = record { same-length = length-set xs r _; at = λ c l. more-at xs r n c (h .0) }
 
 pub transferred : (xs : List ℕ) (l k : ℕ) (p : Bool) (n : ℕ) (ys zs : List ℕ) → Lost xs (cond p k l) n ys → Gained ys (cond p l k) n zs → Transferred xs l k (withSign p n) zs
 transferred xs l k p n ys zs t u = record {

@@ -6,7 +6,7 @@ use lib.IntN.{ℤ, pos, _-ℤ_, _*ℤ_}
 use lib.Signed.{quotZ}
 use Rattle.signed.specs.Sign.{size, isNegative, withSign}
 
--- the way between two numbers
+-- how far two numbers are apart
 abbrev pub gap : ℕ → ℕ → ℕ
 gap a b = (a - b) + (b - a)
 
@@ -17,9 +17,6 @@ correctionOf z a b s k =
     (z *ℤ (pos (cond (isNegative z) a b) -ℤ pos (cond (isNegative z) b a)) *ℤ (pos (cond (isNegative z) (256 - s) s * k) -ℤ pos (128 * size z)))
     (pos (256 * k))
 
--- a correction in one entry: twice its size, and one more where it is below 0
-abbrev pub coded : ℤ → ℕ
-coded z = 2 * size z + cond (isNegative z) 1 0
-
+-- a correction in one entry: twice its size, and one more where it is below 0; a size of 0 is 0 under either
 abbrev pub decoded : ℕ → ℤ
 decoded n = withSign (eqb (n % 2) 1) (n / 2)

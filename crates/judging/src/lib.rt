@@ -1,10 +1,10 @@
 // Document 02's S-11: another model's step, told by the moved masses that it claims, is judged; where it is accepted, next masses are filled.
 use carrying::Carried;
 use carrying::carry;
-use carrying::concentrations;
 use model::Answer;
 use model::MAX_CELLS;
 use model::MAX_FACES;
+use raising::concentrations;
 use transport::Crossed;
 use transport::StepAnswer;
 ghost use mathlib.Core.Path.{_≡_};

@@ -1,4 +1,4 @@
--- The seventh pass, face by face: limited corrections join the moved masses and the next masses.
+-- The fifth pass, face by face: limited corrections join the moved masses and the next masses.
 use Prim.Native.Nat.{ℕ, _+_, _*_, _/_, _%_, _^_, _≤_, _<_}
 use mathlib.Core.Path.{_≡_, refl, _∙_}
 use mathlib.Core.Logic.{_≢_}

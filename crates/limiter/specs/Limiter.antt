@@ -6,52 +6,30 @@ use mathlib.Core.Bool.{cond}
 use mathlib.Core.List.{List}
 use lib.Dec.{eqb}
 use lib.IntN.{ℤ, pos, _+ℤ_}
-use lib.ListN.{length, getD, set}
-use Rattle.lists.specs.Fold.{sum}
+use lib.ListN.{length, getD}
 use Rattle.signed.specs.Sign.{size, withSign}
 use Rattle.model.specs.Accepted.{maxCarried, maxMass}
-use Rattle.model.specs.Mesh.{Mesh, rim, entering, leaving, incoming, outgoing}
+use Rattle.model.specs.Mesh.{Mesh, rim, incoming, outgoing}
 use Rattle.model.specs.Step.{portion, limitedBy}
 use Rattle.face.specs.Exchange.{brings, takes, Transferred, EndsIn, Flowing}
-use Rattle.cell.specs.Work.{ofCell, ofFace, Filling}
+use Rattle.cell.specs.Work.{ofCell, enteringIn, Filling}
 use Rattle.smoothing.specs.Corrections.{enters, leaves, corrections, CorrectionsIn}
 
--- Pass 5, after the cells below i: their entries are 0, L, G and 0, from the bounds in w and the low-order masses
+-- Pass 3, after the cells below i: their entries are low-order q, L, G and 0, from the bounds in w and the low-order masses
 abbrev pub Allowances : (volumes next w : List ℕ) → ℕ → List ℕ → Type 0
 Allowances volumes next w =
-    Filling w (λ c. 0) (λ c. getD next c 0 - getD volumes c 0 * ofCell w c 1) (λ c. getD volumes c 0 * ofCell w c 2 + getD volumes c 0 - 1 - getD next c 0) (λ c. 0)
-
--- the sums have not begun
-pub record Unsummed (cells : ℕ) (w : List ℕ) : Type 0 where
-  pub p-none : (c : ℕ) → c < cells → ofCell w c 0 ≡ 0
-  pub n-none : (c : ℕ) → c < cells → ofCell w c 3 ≡ 0
-
--- one entry raised by n
-abbrev pub raised : List ℕ → ℕ → ℕ → List ℕ
-raised w i n = set w i (getD w i 0 + n)
-
--- Stage 4, P and N: a face's correction counted where it enters and where it leaves
-unfoldable pub correctionAdded : List ℕ → ℕ → ℕ → ℕ → List ℕ
-correctionAdded w l k code = cond (eqb (code / 2) 0) w (raised (raised w (4 * enters code l k + 0) (code / 2)) (4 * leaves code l k + 3) (code / 2))
-
--- Pass 6, after the faces below f: entry 0 of a cell has gained what enters it, entry 3 what leaves it
-pub record CorrectionSums (M : Mesh) (w : List ℕ) (f : ℕ) (work : List ℕ) : Type 0 where
-  pub same-length : length work ≡ length w
-  pub p-at : (c : ℕ) → c < M .cells → ofCell work c 0 ≡ ofCell w c 0 + sum f (entering M (corrections (M .cells) w) c)
-  pub loss-at : (c : ℕ) → c < M .cells → ofCell work c 1 ≡ ofCell w c 1
-  pub gain-at : (c : ℕ) → c < M .cells → ofCell work c 2 ≡ ofCell w c 2
-  pub n-at : (c : ℕ) → c < M .cells → ofCell work c 3 ≡ ofCell w c 3 + sum f (leaving M (corrections (M .cells) w) c)
-  pub face-at : (g : ℕ) → ofFace work (M .cells) g ≡ ofFace w (M .cells) g
+    Filling w (λ c. getD next c 0 / getD volumes c 0) (λ c. getD next c 0 - getD volumes c 0 * ofCell w c 1)
+    (λ c. getD volumes c 0 * ofCell w c 2 + getD volumes c 0 - 1 - getD next c 0) (λ c. 0)
 
 -- Stage 4: the size that a correction in one number is cut to, between receiver r and giver g
 abbrev pub cutOf : List ℕ → ℕ → ℕ → ℕ → ℕ
-cutOf w code r g = min (portion (code / 2) (ofCell w r 2) (ofCell w r 0)) (portion (code / 2) (ofCell w g 1) (ofCell w g 3))
+cutOf w code r g = min (portion (code / 2) (ofCell w r 2) (enteringIn w r)) (portion (code / 2) (ofCell w g 1) (ofCell w g 3))
 
 -- the limited correction of a face from l to k
 unfoldable pub limitedOf : List ℕ → ℕ → ℕ → ℕ → ℤ
 limitedOf w code l k = cond (eqb (code / 2) 0) (pos 0) (withSign (eqb (code % 2) 1) (cutOf w code (enters code l k) (leaves code l k)))
 
--- one face of pass 7
+-- one face of pass 5
 pub record CutAsks (f l k code : ℕ) (next : List ℕ) (moved : List ℤ) (work : List ℕ) : Type 0 where
   pub ends : EndsIn (length next) l k
   pub inside : code / 2 ≢ 0 → (4 * l + 3 < length work) × (4 * k + 3 < length work) × (l < rim) × (k < rim)
@@ -66,7 +44,7 @@ pub record CutDone (f l k code : ℕ) (work next next′ : List ℕ) (moved move
   pub moved-long : length moved′ ≡ length moved
   pub moved-at : (g : ℕ) → getD moved′ g (pos 0) ≡ cond (eqb f g) (getD moved f (pos 0) +ℤ limitedOf work code l k) (getD moved g (pos 0))
 
--- Pass 7: the corrections in work, limited by the G, L, P and N that stand there
+-- Pass 5: the corrections in work, limited by the G, L, P and N that stand there
 abbrev pub limitedIn : Mesh → List ℕ → ℕ → ℤ
 limitedIn M w = limitedBy M (λ c. ofCell w c 2) (λ c. ofCell w c 1) (corrections (M .cells) w)
 
@@ -75,7 +53,7 @@ pub record LimitAsks (M : Mesh) (next : List ℕ) (moved : List ℤ) (work : Lis
   pub coded-in : CorrectionsIn M work
   pub next-long : length next ≡ M .cells
   pub moved-long : length moved ≡ M .faces
-  pub p-is : (c : ℕ) → c < M .cells → ofCell work c 0 ≡ incoming M (corrections (M .cells) work) c
+  pub p-is : (c : ℕ) → c < M .cells → enteringIn work c ≡ incoming M (corrections (M .cells) work) c
   pub n-is : (c : ℕ) → c < M .cells → ofCell work c 3 ≡ outgoing M (corrections (M .cells) work) c
   pub gain-most : (c : ℕ) → c < M .cells → ofCell work c 2 ≤ maxMass
   pub loss-most : (c : ℕ) → c < M .cells → ofCell work c 1 ≤ getD next c 0

@@ -1,25 +1,24 @@
-// Stages 3 to 5 of document 01: what cells may gain and lose, and the corrections cut to it.
+// Stages 3 to 5 of document 01: what cells may gain and lose, and the corrections cut to it. Low-order q of S-5 is found with the former.
 use cell::G;
 use cell::L;
 use cell::N;
+use cell::OVER_Q;
 use cell::P;
 use cell::allowance_at;
 use cell::least_of;
-use cell::raise;
 use face::exchange::end_to;
 use face::exchange::transfer;
 use portion::portion;
 ghost use mathlib.Core.Path.{_≡_};
-ghost use mathlib.Core.Logic.{_≢_};
-ghost use Prim.Native.Nat.{ℕ, _≤_, _<_, _+_, _*_, _/_, _^_, min};
+ghost use Prim.Native.Nat.{ℕ, _≤_, _<_, _+_, _*_, min};
 ghost use lib.ListN.{length, getD};
 ghost use Rattle.model.specs.Step.{portion as portionOf};
 ghost use Rattle.model.specs.Mesh.{maxCells};
-ghost use Rattle.cell.specs.Work.{ofCell, CellAsks};
-ghost use Rattle.smoothing.specs.Corrections.{enters, leaves, endsOf, CorrectionsIn};
-ghost use Rattle.limiter.specs.Limiter.{Allowances, correctionAdded, Unsummed, CorrectionSums, CutAsks, CutDone, LimitAsks, Limited};
+ghost use Rattle.cell.specs.Work.{ofCell, enteringIn, CellAsks};
+ghost use Rattle.smoothing.specs.Corrections.{endsOf};
+ghost use Rattle.limiter.specs.Limiter.{Allowances, CutAsks, CutDone, LimitAsks, Limited};
 
-// Fifth pass: what each cell may lose and gain.
+// Third pass: low-order q of each cell, and what it may lose and gain.
 pub fn allowances(cells: usize, volumes: &[u64], next: &[u64], work: &mut [u64])
     requires { ⌜ (cells ≤ maxCells) × (cells ≤ length (now volumes)) × (cells ≤ length (now next)) × (4 * cells ≤ length (now work)) ⌝ }
     requires { ⌜ ((c : ℕ) → c < cells → CellAsks (getD (now volumes) c 0) (getD (now next) c 0) (ofCell (now work) c 1) (ofCell (now work) c 2)) ⌝ }
@@ -32,52 +31,15 @@ pub fn allowances(cells: usize, volumes: &[u64], next: &[u64], work: &mut [u64])
     }
 }
 
-// A face's correction counted where it enters and where it leaves.
-pub fn add_correction(work: &mut [u64], first: u64, second: u64, code: u64)
-    requires { ⌜ (code / 2 ≢ 0 → (4 * first + 3 < length (now work)) × (4 * second + 3 < length (now work)) × (first < maxCells) × (second < maxCells)) ⌝ }
-    requires { ⌜ (code / 2 ≢ 0 → ofCell (now work) (enters code first second) 0 + code / 2 < 2 ^ 64) ⌝ }
-    requires { ⌜ (code / 2 ≢ 0 → ofCell (now work) (leaves code first second) 3 + code / 2 < 2 ^ 64) ⌝ }
-    ensures { λ _. ⌜ now (work .exit) ≡ correctionAdded (now (work .entry)) first second code ⌝ }
-{
-    let size = code / 2;
-    if size == 0 {
-        return;
-    }
-    let negative = code % 2 == 1;
-    let receiver = end_to(negative, first, second);
-    let giver = end_to(negative, second, first);
-    raise(work, 4 * (receiver as usize) + P, size);
-    raise(work, 4 * (giver as usize) + N, size);
-}
-
-// Sixth pass: the sums of the corrections that enter and that leave each cell.
-pub fn sum_corrections(
-    cells: usize,
-    faces: usize,
-    firsts: &[u64],
-    seconds: &[u64],
-    work: &mut [u64],
-)
-    requires { ⌜ CorrectionsIn (endsOf cells faces (now firsts) (now seconds)) (now work) ⌝ }
-    requires { ⌜ Unsummed cells (now work) ⌝ }
-    ensures { λ _. ⌜ CorrectionSums (endsOf cells faces (now (firsts .entry)) (now (seconds .entry))) (now (work .entry)) faces (now (work .exit)) ⌝ }
-{
-    let mut f = 0;
-    while f < faces {
-        let code = work[4 * cells + f];
-        add_correction(work, firsts[f], seconds[f], code);
-        f += 1;
-    }
-}
-
 // The size that the limiter cuts a correction to: what the receiver may gain, and what the giver may lose.
 pub fn cut(work: &[u64], size: u64, receiver: usize, giver: usize) -> u64
     requires { ⌜ (4 * receiver + 3 < length (now work)) × (receiver < maxCells) ⌝ }
     requires { ⌜ (4 * giver + 3 < length (now work)) × (giver < maxCells) ⌝ }
-    ensures { λ r. ⌜ r ≡ min (portionOf size (ofCell (now (work .entry)) receiver 2) (ofCell (now (work .entry)) receiver 0))
+    ensures { λ r. ⌜ r ≡ min (portionOf size (ofCell (now (work .entry)) receiver 2) (enteringIn (now (work .entry)) receiver))
         (portionOf size (ofCell (now (work .entry)) giver 1) (ofCell (now (work .entry)) giver 3)) ⌝ }
 {
-    let gained = portion(size, work[4 * receiver + G], work[4 * receiver + P]);
+    let entering = work[4 * receiver + P] / OVER_Q;
+    let gained = portion(size, work[4 * receiver + G], entering);
     let lost = portion(size, work[4 * giver + L], work[4 * giver + N]);
     least_of(gained, lost)
 }
@@ -107,7 +69,7 @@ pub fn limit_face(
     transfer(next, first, second, negative, amount);
 }
 
-// Seventh pass: the limited corrections.
+// Fifth pass: the limited corrections.
 pub fn limit(
     cells: usize,
     faces: usize,

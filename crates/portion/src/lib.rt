@@ -33,7 +33,7 @@ fn doubled(d: Divided, p: u64) -> Divided
 }
 
 // The number and g more.
-fn raised(d: Divided, g: u64, p: u64) -> Divided
+fn increased(d: Divided, g: u64, p: u64) -> Divided
     requires { ⌜ (d .rest < p) × (g < p) × (d .quotient + 1 < 2 ^ 64) ⌝ }
     ensures { λ r. ⌜ (r .quotient * p + r .rest ≡ d .quotient * p + d .rest + g) × (r .rest < p) ⌝ }
 {
@@ -65,7 +65,7 @@ fn by_halves(a: u64, g: u64, p: u64, few: u64) -> Divided
     if a % 2 == 0 {
         return twice;
     }
-    raised(twice, g, p)
+    increased(twice, g, p)
 }
 
 // A number of which so many times g surely fits.

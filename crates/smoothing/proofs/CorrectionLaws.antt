@@ -5,7 +5,6 @@ use mathlib.Core.Logic.{_≢_}
 use mathlib.Core.Bool.{Bool, true, false, cond}
 use mathlib.Core.List.{List}
 use lib.Dec.{eqb}
-use lib.ListN.{length}
 use Rattle.signed.specs.Sign.{size}
 use Rattle.signed.proofs.Laws.{size-withSign}
 use Rattle.model.specs.Mesh.{Mesh, first, second}
@@ -19,19 +18,6 @@ either-end P false p q = q
 
 pub end-holds : (P : ℕ → Type 0) (b : Bool) {l k e : ℕ} → e ≡ cond b l k → P l → P k → P e
 end-holds P b d p q = rw d (either-end P b p q)
-
--- corrections rest on the faces' entries only
-pub corrections-kept : (M : Mesh) (w w′ : List ℕ) → CorrectionsIn M w → length w′ ≡ length w → ((g : ℕ) → ofFace w′ (M .cells) g ≡ ofFace w (M .cells) g) → CorrectionsIn M w′
-corrections-kept M w w′ s n e = record {
-  few-cells = s .few-cells;
-  few-faces = s .few-faces;
-  firsts-long = s .firsts-long;
-  seconds-long = s .seconds-long;
-  work-long = n ∙ s .work-long;
-  ends = s .ends;
-  rim-none = λ f h d. rw (e f) (s .rim-none f h d);
-  size-most = λ f h. rw (e f) (s .size-most f h);
-}
 
 module _ (M : Mesh) (w : List ℕ) (s : CorrectionsIn M w) (f : ℕ) (h : f < M .faces) where
   abbrev pub code : ℕ

@@ -1,122 +1,266 @@
--- The third and the fourth pass, cell by cell and face by face.
-use Prim.Native.Nat.{ℕ, _+_, _*_, _/_, _%_, _≤_, _<_}
+-- The fourth pass, face by face: a correction that smooths becomes 0, the others are counted.
+use Prim.Native.Nat.{ℕ, _+_, _*_, _/_, _%_, _^_, _≤_, _<_}
 use mathlib.Core.Path.{_≡_, refl, sym, ap, _∙_}
 use mathlib.Core.Logic.{_≢_}
-use mathlib.Core.Bool.{Bool, true, false, cond}
+use mathlib.Core.Bool.{Bool, true, false, cond, _&&_}
 use mathlib.Core.List.{List}
 use native.Mathlib.Omega.{arith}
 use borrow.Author.Count.{below-none, below-more}
-use borrow.Author.Tests.{ne-eqb, lt-ltb, le-ltb}
-use lib.Dec.{eqb}
-use lib.IntN.{pos}
+use borrow.Author.Tests.{eq-eqb, ne-eqb, lt-ltb, le-ltb}
+use lib.Dec.{eqb, leb}
+use lib.IntN.{ℤ, pos}
 use lib.ListN.{length, getD, set, length-set}
 use lib.Seq.{getD-set-same, getD-set-other}
 use Rattle.signed.specs.Sign.{isNegative, withSign}
 use Rattle.signed.proofs.Laws.{negative-withSign, withSign-zero}
-use Rattle.lists.proofs.Tests.{Same, same, other, same?, cond-same}
-use Rattle.model.specs.Mesh.{Mesh, rim, first, second}
+use Rattle.lists.specs.Fold.{sum}
+use Rattle.lists.proofs.Tests.{Same, same, other, same?, own, cond-same}
+use Rattle.lists.proofs.Sums.{sum-zero, sum-more, sum-term, sum-mono}
+use Rattle.model.specs.Accepted.{maxCarried}
+use Rattle.model.specs.Mesh.{Mesh, rim, first, second, entering, leaving, incoming, outgoing}
 use Rattle.model.specs.Step.{receiver, giver, smooths, keptBy}
+use Rattle.model.proofs.Limit.{kept-either, kept-zero}
+use Rattle.model.proofs.Sizes.{outgoing-most}
 use Rattle.face.specs.Correction.{decoded}
-use Rattle.cell.specs.Work.{ofCell}
-use Rattle.cell.proofs.Places.{cell-in, face-in}
-use Rattle.cell.proofs.Slots.{slot-set, slot-face, face-slot}
+use Rattle.face.specs.Exchange.{brings, takes}
+use Rattle.face.proofs.Transfers.{more-at, brings-is, takes-is}
+use Rattle.cell.specs.Work.{ofCell, ofFace, overQ, lowIn}
+use Rattle.cell.proofs.OverQ.{lower}
+use Rattle.cell.proofs.Places.{cell-in, face-in, slot-in}
+use Rattle.cell.proofs.Slots.{same-slot, slot-set, slot-face, face-slot}
 use Rattle.smoothing.specs.Corrections.{enters, leaves, corrections, CorrectionsIn}
-use Rattle.smoothing.specs.Smoothing.{LowConcentrations, keptOf, Kept}
+use Rattle.smoothing.specs.Smoothing.{Uncounted, more, counted, keptAt, KeepAsks, keptIn, KeptTo}
 use Rattle.smoothing.proofs.CorrectionLaws.{code, inside, enters-in, leaves-in}
 
--- pass 3
-pub low-start : (cells : ℕ) (volumes next w : List ℕ) → LowConcentrations cells volumes next w 0 w
-low-start cells volumes next w = record { same-length = refl; low-at = below-none _; lo-kept = λ c. refl; hi-kept = λ c. refl; face-kept = λ f. refl }
+-- P of cell r and N of cell g with a correction of size n
+module _ (w : List ℕ) (r g n : ℕ) where
+  counted-at : 4 * r + 3 < length w → 4 * g + 3 < length w → (c j : ℕ) → leb j 3 ≡ true
+      → ofCell (counted w r g n) c j ≡ ofCell w c j + cond (eqb 0 j && eqb r c) (overQ * n) 0 + cond (eqb 3 j && eqb g c) n 0
+  counted-at in-r in-g c j t =
+      more-at (more w (4 * r + 0) (overQ * n)) (4 * g + 3) n (4 * c + j) (simp length-set in-g)
+      ∙ rw (more-at w (4 * r + 0) (overQ * n) (4 * c + j) (slot-in r 0 (length w) refl in-r), same-slot r 0 c j refl t, same-slot g 3 c j refl t)
 
-pub low-turn : (cells : ℕ) (volumes next w : List ℕ) (i : ℕ) (work work′ : List ℕ) → i < cells → 4 * i + 3 < length w → LowConcentrations cells volumes next w i work
-    → work′ ≡ set work (4 * i + 0) (getD next i 0 / getD volumes i 0) → LowConcentrations cells volumes next w (i + 1) work′
-low-turn cells volumes next w i work work′ l h s e =
-    let long : 4 * i + 3 < length work = rw (s .same-length) h in
-    let q : ℕ = getD next i 0 / getD volumes i 0 in
-    rw e (record {
-      same-length = length-set work (4 * i + 0) q ∙ s .same-length;
-      low-at = below-more (λ c. ofCell (set work (4 * i + 0) q) c 0 ≡ getD next c 0 / getD volumes c 0) i
-          (λ c m. getD-set-other work (4 * i + 0) (4 * c + 0) q 0 (λ (d : 4 * c + 0 ≡ 4 * i + 0). omega arith) ∙ s .low-at c m)
-          (getD-set-same work (4 * i + 0) q 0 (omega arith));
-      lo-kept = λ c. slot-set work i 0 q c 1 refl refl long ∙ s .lo-kept c;
-      hi-kept = λ c. slot-set work i 0 q c 2 refl refl long ∙ s .hi-kept c;
-      face-kept = λ f. slot-face work i 0 q cells f refl l ∙ s .face-kept f;
-    })
+  counted-face : (cells f : ℕ) → r < cells → g < cells → ofFace (counted w r g n) cells f ≡ ofFace w cells f
+  counted-face cells f in-r in-g = slot-face (more w (4 * r + 0) (overQ * n)) g 3 _ cells f refl in-g ∙ slot-face w r 0 _ cells f refl in-r
+
+-- the code's two steps: the second entry has its room after the first has more
+pub giver-has-room : (w w′ : List ℕ) (r g m n : ℕ) → 4 * r + 3 < length w → 4 * g + 3 < length w → w′ ≡ more w (4 * r + 0) m → ofCell w g 3 + n < 2 ^ 64
+    → (4 * g + 3 < length w′) × (ofCell w′ g 3 + n < 2 ^ 64)
+giver-has-room w w′ r g m n in-r in-g e h = rw (e, length-set, slot-set w r 0 (ofCell w r 0 + m) g 3 refl refl in-r) (in-g, h)
+
+-- the code's three ways, from the giver's low-order q a and the receiver's b
+module _ (w : List ℕ) (i l k code : ℕ) where
+  pub none-there : code / 2 ≡ 0 → w ≡ keptAt w i l k code
+  unfolding keptAt
+  none-there e = rw (eq-eqb (code / 2) 0 e)
+
+  module _ (d : code / 2 ≢ 0) (a b : ℕ) (from : a ≡ lowIn w (leaves code l k)) (to : b ≡ lowIn w (enters code l k)) where
+    pub drops : b < a → set w i 0 ≡ keptAt w i l k code
+    unfolding keptAt smooths
+    drops h = rw (ne-eqb (code / 2) 0 d, ← from, ← to, lt-ltb b a h)
+
+    pub keeps : a ≤ b → counted w (enters code l k) (leaves code l k) (code / 2) ≡ keptAt w i l k code
+    unfolding keptAt smooths
+    keeps h = rw (ne-eqb (code / 2) 0 d, ← from, ← to, le-ltb b a h)
 
 positive : (n : ℕ) → n ≢ 0 → 0 < n
 positive n d = omega arith
 
--- a correction in one number, kept or not, is the correction kept or not
-kept-code : (q : ℕ → ℕ) (code l k : ℕ)
-    → decoded (cond (eqb (code / 2) 0) 0 (cond (smooths (q (leaves code l k)) (q (enters code l k))) 0 code))
-    ≡ cond (smooths (q (cond (isNegative (decoded code)) k l)) (q (cond (isNegative (decoded code)) l k))) (pos 0) (decoded code)
-kept-code q code l k = go (eqb (code / 2) 0) (same? (code / 2) 0)
-  where
-    either : (b : Bool) → decoded (cond b 0 code) ≡ cond b (pos 0) (decoded code)
-    either true = refl
-    either false = refl
+many : (b : Bool) (n : ℕ) → cond b (overQ * n) 0 ≡ overQ * cond b n 0
+many true n = refl
+many false n = refl
 
-    go : (b : Bool) → Same (code / 2) 0 b
-        → decoded (cond b 0 (cond (smooths (q (leaves code l k)) (q (enters code l k))) 0 code))
-        ≡ cond (smooths (q (cond (isNegative (decoded code)) k l)) (q (cond (isNegative (decoded code)) l k))) (pos 0) (decoded code)
-    go true (same e) =
-        let z : decoded code ≡ pos 0 = ap (withSign (eqb (code % 2) 1)) e ∙ withSign-zero (eqb (code % 2) 1) in
-        rw z (sym (cond-same (smooths (q l) (q k)) (pos 0)))
-    go false (other d) = rw (negative-withSign (eqb (code % 2) 1) (code / 2) (positive (code / 2) d)) (either (smooths (q (leaves code l k)) (q (enters code l k))))
+pub keep-start : (M : Mesh) (w : List ℕ) → KeptTo M w 0 w
+keep-start M w = record {
+  same-length = refl;
+  p-at = λ c h. omega (arith, sum-zero (entering M (keptIn M w) c));
+  loss-at = λ c h. refl;
+  gain-at = λ c h. refl;
+  n-at = λ c h. omega (arith, sum-zero (leaving M (keptIn M w) c));
+  kept-at = below-none _;
+  rest-at = λ g h. refl;
+}
 
--- the code's two ways, from the giver's low-order q a and the receiver's b
-module _ (w : List ℕ) (l k code a b : ℕ) (d : code / 2 ≢ 0) (from : a ≡ ofCell w (leaves code l k) 0) (to : b ≡ ofCell w (enters code l k) 0) where
-  pub drops : b < a → 0 ≡ keptOf w l k code
-  unfolding keptOf smooths
-  drops h = rw (ne-eqb (code / 2) 0 d, ← from, ← to, lt-ltb b a h)
+module _ (M : Mesh) (w : List ℕ) (asks : CorrectionsIn M w) (begun : Uncounted M w) (f : ℕ) (h : f < M .faces) (work : List ℕ) (s : KeptTo M w f work) where
+  abbrev x : ℕ → ℤ
+  x = corrections (M .cells) w
 
-  pub keeps : a ≤ b → code ≡ keptOf w l k code
-  unfolding keptOf smooths
-  keeps h = rw (ne-eqb (code / 2) 0 d, ← from, ← to, le-ltb b a h)
+  abbrev kept : ℕ → ℤ
+  kept = keptIn M w
 
--- pass 4
-pub keep-start : (M : Mesh) (w : List ℕ) → Kept M w 0 w
-keep-start M w = record { same-length = refl; cell-at = λ c j h t. refl; kept-at = below-none _; rest-at = λ g h. refl }
-
-module _ (M : Mesh) (w : List ℕ) (asks : CorrectionsIn M w) (f : ℕ) (h : f < M .faces) (work : List ℕ) (s : Kept M w f work) where
   abbrev k : ℕ
   k = code M w asks f h
+
+  abbrev n : ℕ
+  n = k / 2
+
+  abbrev back : Bool
+  back = eqb (k % 2) 1
+
+  abbrev to : ℕ
+  to = enters k (first M f) (second M f)
+
+  abbrev from : ℕ
+  from = leaves k (first M f) (second M f)
 
   long : length work ≡ 4 * M .cells + M .faces
   long = s .same-length ∙ asks .work-long
 
-  pub keep-asks : k / 2 ≢ 0 → (4 * first M f + 3 < length work) × (4 * second M f + 3 < length work) × (first M f < rim) × (second M f < rim)
-  keep-asks d =
-      let i = inside M w asks f h d in (
-        cell-in (first M f) (M .cells) (M .faces) (length work) (i .0) long,
-        cell-in (second M f) (M .cells) (M .faces) (length work) (i .1) long,
-        omega (arith, asks .few-cells),
-        omega (arith, asks .few-cells),
+  slots-in : {c : ℕ} → c < M .cells → 4 * c + 3 < length work
+  slots-in {c} l = cell-in c (M .cells) (M .faces) (length work) l long
+
+  in-work : 4 * M .cells + f < length work
+  in-work = face-in f (M .cells) (M .faces) (length work) h long
+
+  -- what is kept of any face enters and leaves no more than its correction
+  less-enters : (c g : ℕ) → entering M kept c g ≤ entering M x c g
+  unfolding entering
+  less-enters c g = kept-either (λ z. brings (first M g) (second M g) z c ≤ brings (first M g) (second M g) (x g) c) M (λ c. ofCell w c 0) x g (omega arith)
+      (omega (arith, cond-same {A = ℕ} (eqb (second M g) c) 0, cond-same {A = ℕ} (eqb (first M g) c) 0))
+
+  less-leaves : (c g : ℕ) → leaving M kept c g ≤ leaving M x c g
+  unfolding leaving
+  less-leaves c g = kept-either (λ z. takes (first M g) (second M g) z c ≤ takes (first M g) (second M g) (x g) c) M (λ c. ofCell w c 0) x g (omega arith)
+      (omega (arith, cond-same {A = ℕ} (eqb (second M g) c) 0, cond-same {A = ℕ} (eqb (first M g) c) 0))
+
+  whole-enters : (c : ℕ) → entering M x c f ≡ cond (eqb to c) n 0
+  unfolding entering
+  whole-enters c = brings-is back (first M f) (second M f) n c
+
+  whole-leaves : (c : ℕ) → leaving M x c f ≡ cond (eqb from c) n 0
+  unfolding leaving
+  whole-leaves c = takes-is back (first M f) (second M f) n c
+
+  p-room : n ≢ 0 → ofCell work to 0 + overQ * n < 2 ^ 64
+  unfolding incoming
+  p-room d =
+      let l = enters-in M w asks f h d in
+      omega (
+        arith,
+        s .p-at to l,
+        begun .q-below to l,
+        whole-enters to,
+        own to n,
+        sum-mono f (entering M kept to) (entering M x to) (λ g m. less-enters to g),
+        sum-term f (M .faces) (entering M x to) h,
+        begun .p-most to l,
       )
 
-  -- the low-order q of both ends stand in work as they stood in w
-  same-kept : keptOf work (first M f) (second M f) k ≡ keptOf w (first M f) (second M f) k
-  unfolding keptOf
-  same-kept = go (eqb (k / 2) 0) (same? (k / 2) 0)
+  n-room : n ≢ 0 → ofCell work from 3 + n < 2 ^ 64
+  unfolding outgoing
+  n-room d =
+      let l = leaves-in M w asks f h d in
+      omega (
+        arith,
+        s .n-at from l,
+        begun .n-none from l,
+        whole-leaves from,
+        own from n,
+        sum-mono f (leaving M kept from) (leaving M x from) (λ g m. less-leaves from g),
+        sum-term f (M .faces) (leaving M x from) h,
+        outgoing-most M x maxCarried (asks .few-faces) (asks .size-most) from,
+      )
+
+  pub keep-asks : KeepAsks (4 * M .cells + f) (first M f) (second M f) k work
+  keep-asks = record {
+    in-work = in-work;
+    small = omega (arith, asks .few-cells, asks .few-faces);
+    inside = λ d.
+        let i = inside M w asks f h d in
+        (slots-in (i .0), slots-in (i .1), omega (arith, asks .few-cells), omega (arith, asks .few-cells));
+    p-room = p-room;
+    n-room = n-room;
+  }
+
+  -- low-order q stands in work below P as it stood in w
+  low-there : {c : ℕ} → c < M .cells → lowIn work c ≡ ofCell w c 0
+  low-there {c} l = lower (ofCell w c 0) (sum f (entering M kept c)) (ofCell work c 0) (begun .q-below c l) (s .p-at c l)
+
+  smooths-there : n ≢ 0 → smooths (lowIn work from) (lowIn work to) ≡ smooths (ofCell w (giver M x f) 0) (ofCell w (receiver M x f) 0)
+  unfolding receiver giver
+  smooths-there d = rw (low-there (leaves-in M w asks f h d), low-there (enters-in M w asks f h d), negative-withSign back n (positive n d))
+
+  -- what is kept of the face, in each of the three ways
+  kept-none : n ≡ 0 → kept f ≡ pos 0
+  kept-none e = kept-zero M (λ c. ofCell w c 0) x f (ap (withSign back) e ∙ withSign-zero back)
+
+  kept-smooth : smooths (ofCell w (giver M x f) 0) (ofCell w (receiver M x f) 0) ≡ true → kept f ≡ pos 0
+  unfolding keptBy
+  kept-smooth e = rw e
+
+  kept-whole : smooths (ofCell w (giver M x f) 0) (ofCell w (receiver M x f) 0) ≡ false → kept f ≡ withSign back n
+  unfolding keptBy
+  kept-whole e = rw e
+
+  enters-none : kept f ≡ pos 0 → (c : ℕ) → entering M kept c f ≡ 0
+  unfolding entering
+  enters-none e c = rw e (omega (arith, cond-same {A = ℕ} (eqb (second M f) c) 0, cond-same {A = ℕ} (eqb (first M f) c) 0))
+
+  leaves-none : kept f ≡ pos 0 → (c : ℕ) → leaving M kept c f ≡ 0
+  unfolding leaving
+  leaves-none e c = rw e (omega (arith, cond-same {A = ℕ} (eqb (second M f) c) 0, cond-same {A = ℕ} (eqb (first M f) c) 0))
+
+  enters-whole : kept f ≡ withSign back n → (c : ℕ) → entering M kept c f ≡ cond (eqb to c) n 0
+  unfolding entering
+  enters-whole e c = rw e (brings-is back (first M f) (second M f) n c)
+
+  leaves-whole : kept f ≡ withSign back n → (c : ℕ) → leaving M kept c f ≡ cond (eqb from c) n 0
+  unfolding leaving
+  leaves-whole e c = rw e (takes-is back (first M f) (second M f) n c)
+
+  still-turn : kept f ≡ pos 0 → n ≡ 0 → KeptTo M w (f + 1) work
+  still-turn e z = record {
+    same-length = s .same-length;
+    p-at = λ c l. omega (arith, s .p-at c l, sum-more f (entering M kept c), enters-none e c);
+    loss-at = s .loss-at;
+    gain-at = s .gain-at;
+    n-at = λ c l. omega (arith, s .n-at c l, sum-more f (leaving M kept c), leaves-none e c);
+    kept-at = below-more (λ g. corrections (M .cells) work g ≡ kept g) f (s .kept-at)
+        (ap decoded (s .rest-at f (omega arith)) ∙ ap (withSign back) z ∙ withSign-zero back ∙ sym e);
+    rest-at = λ g m. s .rest-at g (omega arith);
+  }
+
+  smooth-turn : kept f ≡ pos 0 → KeptTo M w (f + 1) (set work (4 * M .cells + f) 0)
+  smooth-turn e =
+      let elsewhere : (g : ℕ) → g ≢ f → ofFace (set work (4 * M .cells + f) 0) (M .cells) g ≡ ofFace work (M .cells) g =
+      λ g d. getD-set-other work (4 * M .cells + f) (4 * M .cells + g) 0 0 (λ (q : 4 * M .cells + g ≡ 4 * M .cells + f). d (omega arith)) in
+      record {
+        same-length = length-set work (4 * M .cells + f) 0 ∙ s .same-length;
+        p-at = λ c l. face-slot work (M .cells) f 0 c 0 refl l ∙ omega (arith, s .p-at c l, sum-more f (entering M kept c), enters-none e c);
+        loss-at = λ c l. face-slot work (M .cells) f 0 c 1 refl l ∙ s .loss-at c l;
+        gain-at = λ c l. face-slot work (M .cells) f 0 c 2 refl l ∙ s .gain-at c l;
+        n-at = λ c l. face-slot work (M .cells) f 0 c 3 refl l ∙ omega (arith, s .n-at c l, sum-more f (leaving M kept c), leaves-none e c);
+        kept-at = below-more (λ g. corrections (M .cells) (set work (4 * M .cells + f) 0) g ≡ kept g) f
+            (λ g m. ap decoded (elsewhere g (λ (q : g ≡ f). omega arith)) ∙ s .kept-at g m)
+            (ap decoded (getD-set-same work (4 * M .cells + f) 0 0 in-work) ∙ sym e);
+        rest-at = λ g m. elsewhere g (λ (q : g ≡ f). omega arith) ∙ s .rest-at g (omega arith);
+      }
+
+  kept-turn : kept f ≡ withSign back n → n ≢ 0 → KeptTo M w (f + 1) (counted work to from n)
+  kept-turn e d =
+      let in-to = enters-in M w asks f h d in
+      let in-from = leaves-in M w asks f h d in
+      let at = counted-at work to from n (slots-in in-to) (slots-in in-from) in
+      let elsewhere : (g : ℕ) → ofFace (counted work to from n) (M .cells) g ≡ ofFace work (M .cells) g =
+      λ g. counted-face work to from n (M .cells) g in-to in-from in
+      record {
+        same-length = simp length-set (s .same-length);
+        p-at = λ c l. omega (arith, at c 0 refl, many (eqb to c) n, s .p-at c l, sum-more f (entering M kept c), enters-whole e c);
+        loss-at = λ c l. omega (arith, at c 1 refl, s .loss-at c l);
+        gain-at = λ c l. omega (arith, at c 2 refl, s .gain-at c l);
+        n-at = λ c l. omega (arith, at c 3 refl, s .n-at c l, sum-more f (leaving M kept c), leaves-whole e c);
+        kept-at = below-more (λ g. corrections (M .cells) (counted work to from n) g ≡ kept g) f
+            (λ g m. ap decoded (elsewhere g) ∙ s .kept-at g m)
+            (ap decoded (elsewhere f ∙ s .rest-at f (omega arith)) ∙ sym e);
+        rest-at = λ g m. elsewhere g ∙ s .rest-at g (omega arith);
+      }
+
+  pub keep-turn : (work′ : List ℕ) → work′ ≡ keptAt work (4 * M .cells + f) (first M f) (second M f) k → KeptTo M w (f + 1) work′
+  unfolding keptAt
+  keep-turn work′ e = rw e (go (eqb n 0) (same? n 0) (smooths (lowIn work from) (lowIn work to)) refl)
     where
-      go : (b : Bool) → Same (k / 2) 0 b
-          → cond b 0 (cond (smooths (ofCell work (leaves k (first M f) (second M f)) 0) (ofCell work (enters k (first M f) (second M f)) 0)) 0 k)
-          ≡ cond b 0 (cond (smooths (ofCell w (leaves k (first M f) (second M f)) 0) (ofCell w (enters k (first M f) (second M f)) 0)) 0 k)
-      go true e = refl
-      go false (other d) = rw (s .cell-at _ 0 (leaves-in M w asks f h d) refl, s .cell-at _ 0 (enters-in M w asks f h d) refl)
-
-  kept-is : decoded (keptOf work (first M f) (second M f) k) ≡ keptBy M (λ c. ofCell w c 0) (corrections (M .cells) w) f
-  unfolding keptOf keptBy receiver giver
-  kept-is = ap decoded same-kept ∙ kept-code (λ c. ofCell w c 0) k (first M f) (second M f)
-
-  pub keep-turn : (work′ : List ℕ) → work′ ≡ set work (4 * M .cells + f) (keptOf work (first M f) (second M f) k) → Kept M w (f + 1) work′
-  keep-turn work′ e =
-      let v : ℕ = keptOf work (first M f) (second M f) k in
-      rw e (record {
-        same-length = length-set work (4 * M .cells + f) v ∙ s .same-length;
-        cell-at = λ c j m t. face-slot work (M .cells) f v c j t m ∙ s .cell-at c j m t;
-        kept-at = below-more (λ g. corrections (M .cells) (set work (4 * M .cells + f) v) g ≡ keptBy M (λ c. ofCell w c 0) (corrections (M .cells) w) g) f
-            (λ g m. ap decoded (getD-set-other work (4 * M .cells + f) (4 * M .cells + g) v 0 (λ (d : 4 * M .cells + g ≡ 4 * M .cells + f). omega arith)) ∙ s .kept-at g m)
-            (ap decoded (getD-set-same work (4 * M .cells + f) v 0 (face-in f (M .cells) (M .faces) (length work) h long)) ∙ kept-is);
-        rest-at = λ g m. getD-set-other work (4 * M .cells + f) (4 * M .cells + g) v 0 (λ (d : 4 * M .cells + g ≡ 4 * M .cells + f). omega arith) ∙ s .rest-at g (omega arith);
-      })
+      go : (b : Bool) → Same n 0 b → (t : Bool) → smooths (lowIn work from) (lowIn work to) ≡ t
+          → KeptTo M w (f + 1) (cond b work (cond t (set work (4 * M .cells + f) 0) (counted work to from n)))
+      go true (same z) t q = still-turn (kept-none z) z
+      go false (other d) true q = smooth-turn (kept-smooth (sym (smooths-there d) ∙ q))
+      go false (other d) false q = kept-turn (kept-whole (sym (smooths-there d) ∙ q)) d

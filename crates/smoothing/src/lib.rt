@@ -1,51 +1,44 @@
-// Document 02, S-5: corrections that would smooth are 0 before the limiter.
-use cell::Q;
+// Document 02, S-5, and P and N of document 01's stage 4: corrections that would smooth are 0, the others are counted.
+use cell::N;
+use cell::OVER_Q;
+use cell::P;
+use cell::raise;
 use face::exchange::end_to;
 ghost use mathlib.Core.Path.{_≡_};
-ghost use mathlib.Core.Logic.{_≢_};
-ghost use Prim.Native.Nat.{ℕ, _≤_, _<_, _+_, _*_, _/_, _^_};
-ghost use lib.ListN.{length, getD, set};
+ghost use Prim.Native.Nat.{_<_, _+_, _*_, _^_};
+ghost use lib.ListN.{length, getD};
 ghost use Rattle.model.specs.Mesh.{maxCells};
-ghost use Rattle.cell.specs.Work.{ofCell};
+ghost use Rattle.cell.specs.Work.{ofCell, overQ, lowIn};
 ghost use Rattle.smoothing.specs.Corrections.{endsOf, CorrectionsIn};
-ghost use Rattle.smoothing.specs.Smoothing.{LowConcentrations, keptOf, Kept};
-
-// One cell of the third pass: low-order q in the place of the q before the step.
-pub fn low_at(work: &mut [u64], c: usize, volume: u64, low: u64)
-    requires { ⌜ (4 * c + 3 < length (now work)) × (c < maxCells) × (1 ≤ volume) ⌝ }
-    ensures { λ _. ⌜ now (work .exit) ≡ set (now (work .entry)) (4 * c + 0) (low / volume) ⌝ }
-{
-    work[4 * c + Q] = low / volume;
-}
-
-// Third pass: low-order q of each cell, from the low-order masses in next.
-pub fn low_concentrations(cells: usize, volumes: &[u64], next: &[u64], work: &mut [u64])
-    requires { ⌜ (cells ≤ maxCells) × (cells ≤ length (now volumes)) × (cells ≤ length (now next)) × (4 * cells ≤ length (now work)) ⌝ }
-    requires { ⌜ ((c : ℕ) → c < cells → 1 ≤ getD (now volumes) c 0) ⌝ }
-    ensures { λ _. ⌜ LowConcentrations cells (now (volumes .entry)) (now (next .entry)) (now (work .entry)) cells (now (work .exit)) ⌝ }
-{
-    let mut c = 0;
-    while c < cells {
-        low_at(work, c, volumes[c], next[c]);
-        c += 1;
-    }
-}
+ghost use Rattle.smoothing.specs.Smoothing.{Uncounted, counted, KeepAsks, keptAt, KeptTo};
 
 // A cell's low-order q.
 pub fn low_of(work: &[u64], c: u64) -> u64
     requires { ⌜ (4 * c + 3 < length (now work)) × (c < maxCells) ⌝ }
-    ensures { λ r. ⌜ r ≡ ofCell (now (work .entry)) c 0 ⌝ }
+    ensures { λ r. ⌜ r ≡ lowIn (now (work .entry)) c ⌝ }
 {
-    work[4 * (c as usize) + Q]
+    work[4 * (c as usize) + P] % OVER_Q
 }
 
-// What is kept of a face's correction. It runs as its own sign says, whichever way the water does.
-pub fn kept_code(work: &[u64], first: u64, second: u64, code: u64) -> u64
-    requires { ⌜ (code / 2 ≢ 0 → (4 * first + 3 < length (now work)) × (4 * second + 3 < length (now work)) × (first < maxCells) × (second < maxCells)) ⌝ }
-    ensures { λ r. ⌜ r ≡ keptOf (now (work .entry)) first second code ⌝ }
+// A correction counted where it enters, in P, and where it leaves, in N.
+pub fn count(work: &mut [u64], size: u64, receiver: u64, giver: u64)
+    requires { ⌜ (4 * receiver + 3 < length (now work)) × (receiver < maxCells) × (ofCell (now work) receiver 0 + overQ * size < 2 ^ 64) ⌝ }
+    requires { ⌜ (4 * giver + 3 < length (now work)) × (giver < maxCells) × (ofCell (now work) giver 3 + size < 2 ^ 64) ⌝ }
+    ensures { λ _. ⌜ now (work .exit) ≡ counted (now (work .entry)) receiver giver size ⌝ }
 {
-    if code / 2 == 0 {
-        return 0;
+    raise(work, 4 * (receiver as usize) + P, OVER_Q * size);
+    raise(work, 4 * (giver as usize) + N, size);
+}
+
+// One face of the fourth pass, its correction at the given entry. It runs as its own sign says, whichever way the water does.
+pub fn keep_at(work: &mut [u64], at: usize, first: u64, second: u64)
+    requires { ⌜ KeepAsks at first second (getD (now work) at 0) (now work) ⌝ }
+    ensures { λ _. ⌜ now (work .exit) ≡ keptAt (now (work .entry)) at first second (getD (now (work .entry)) at 0) ⌝ }
+{
+    let code = work[at];
+    let size = code / 2;
+    if size == 0 {
+        return;
     }
     let negative = code % 2 == 1;
     let receiver = end_to(negative, first, second);
@@ -53,22 +46,13 @@ pub fn kept_code(work: &[u64], first: u64, second: u64, code: u64) -> u64
     let from = low_of(work, giver);
     let to = low_of(work, receiver);
     if to < from {
-        return 0;
+        work[at] = 0;
+        return;
     }
-    code
+    count(work, size, receiver, giver);
 }
 
-// One face of the fourth pass, its correction at the given entry.
-pub fn keep_at(work: &mut [u64], at: usize, first: u64, second: u64)
-    requires { ⌜ (at < length (now work)) × (at * 8 < 2 ^ 64) ⌝ }
-    requires { ⌜ (getD (now work) at 0 / 2 ≢ 0 → (4 * first + 3 < length (now work)) × (4 * second + 3 < length (now work)) × (first < maxCells) × (second < maxCells)) ⌝ }
-    ensures { λ _. ⌜ now (work .exit) ≡ set (now (work .entry)) at (keptOf (now (work .entry)) first second (getD (now (work .entry)) at 0)) ⌝ }
-{
-    let code = kept_code(work, first, second, work[at]);
-    work[at] = code;
-}
-
-// Fourth pass: the corrections that are kept.
+// Fourth pass: the corrections that are kept, and the sums of those that enter and that leave each cell.
 pub fn keep_corrections(
     cells: usize,
     faces: usize,
@@ -77,7 +61,8 @@ pub fn keep_corrections(
     work: &mut [u64],
 )
     requires { ⌜ CorrectionsIn (endsOf cells faces (now firsts) (now seconds)) (now work) ⌝ }
-    ensures { λ _. ⌜ Kept (endsOf cells faces (now (firsts .entry)) (now (seconds .entry))) (now (work .entry)) faces (now (work .exit)) ⌝ }
+    requires { ⌜ Uncounted (endsOf cells faces (now firsts) (now seconds)) (now work) ⌝ }
+    ensures { λ _. ⌜ KeptTo (endsOf cells faces (now (firsts .entry)) (now (seconds .entry))) (now (work .entry)) faces (now (work .exit)) ⌝ }
 {
     let mut f = 0;
     while f < faces {

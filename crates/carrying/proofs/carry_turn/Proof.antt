@@ -10,8 +10,9 @@ use Rattle.model.specs.Mesh.{maxFaces}
 use Rattle.model.specs.Accepted.{Ready}
 use Rattle.model.specs.Step.{StepInput}
 use Rattle.face.proofs.Places.{face-bytes}
+use Rattle.face_carrying.proofs.FaceLaws.{rim-asks, rim-done}
 use Rattle.carrying.specs.Carrying.{Unseen, stepThrough}
-use Rattle.carrying.proofs.CarryLaws.{far, in-first, in-second, face-asks, rim-asks, rim-done, runs-back, rim-entered-fits, rim-gone-fits, rim-turn, inside-turn}
+use Rattle.carrying.proofs.CarryLaws.{far, in-first, in-second, face-asks, runs-back, rim-entered-fits, rim-gone-fits, rim-turn, inside-turn}
 use Rattle.carrying.proofs.carry_turn.Statement.{statement}
 use Rattle.carrying.proofs.carry_turn.Tie as tie
 

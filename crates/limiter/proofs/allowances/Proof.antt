@@ -47,7 +47,7 @@ loop-again c =
     let l = w .before .loop in
     let s = start w in (
       search needs,
-      filling-turn (s .args .work .now) (λ c. 0) _ _ (λ c. 0) (l .c) (l .work) _ (omega arith) (l .inv .1)
+      filling-turn (s .args .work .now) _ _ _ (λ c. 0) (l .c) (l .work) _ (omega arith) (l .inv .1)
           (c .before .before .allowance-at .ensures ∙ rw (l .inv .1 .kept (4 * l .c + 1) (omega arith), l .inv .1 .kept (4 * l .c + 2) (omega arith))),
     )
 

@@ -10,7 +10,7 @@ use Rattle.signed.specs.Sign.{withSign}
 use Rattle.model.specs.Accepted.{maxCarried}
 use Rattle.model.specs.Mesh.{rim, maxCells}
 use Rattle.model.proofs.Sizes.{portion-le}
-use Rattle.cell.specs.Work.{ofCell}
+use Rattle.cell.specs.Work.{ofCell, enteringIn}
 use Rattle.smoothing.specs.Corrections.{enters, leaves}
 use Rattle.limiter.specs.Limiter.{cutOf, limitedOf}
 use Rattle.smoothing.proofs.CorrectionLaws.{either-end}
@@ -59,7 +59,7 @@ amount-small : (c : tie.After-cut) → c .cut .result ≤ maxCarried
 amount-small c =
     let s = at-cut c in
     let r = enters (s .args .code) (s .args .first) (s .args .second) in
-    omega (arith, amount-is c, portion-le (s .args .code / 2) (ofCell (s .args .work .now) r 2) (ofCell (s .args .work .now) r 0), s .pre .size-most)
+    omega (arith, amount-is c, portion-le (s .args .code / 2) (ofCell (s .args .work .now) r 2) (enteringIn (s .args .work .now) r), s .pre .size-most)
 
 limited-is : (c : tie.After-cut) → let s = at-cut c in limitedOf (s .args .work .now) (s .args .code) (s .args .first) (s .args .second) ≡ withSign (eqb (s .args .code % 2) 1) (c .cut .result)
 unfolding limitedOf

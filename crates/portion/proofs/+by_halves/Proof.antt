@@ -9,7 +9,7 @@ use Rattle.portion.proofs.by_halves.Reads as by-halves
 use Rattle.portion.proofs.by_halves.Kinds as by-halves-kinds
 use Rattle.portion.proofs.+by_halves.Lts-by_halves as by-halves-lts
 use Rattle.portion.proofs.doubled.Reads as doubled-reads
-use Rattle.portion.proofs.raised.Reads as raised-reads
+use Rattle.portion.proofs.increased.Reads as increased-reads
 use Rattle.portion.proofs.+by_halves.{statement}
 use Rattle.portion.proofs.+by_halves.Tie.{close}
 
@@ -28,8 +28,8 @@ pub +by-halves-spec : {M : Type 1} → statement M
   by-halves.Post,
   doubled-reads.Asked,
   doubled-reads.Learnt,
-  raised-reads.Asked,
-  raised-reads.Learnt,
+  increased-reads.Asked,
+  increased-reads.Learnt,
 )
     (by-halves-at t)
     by-halves.Post
@@ -45,4 +45,4 @@ pub +by-halves-spec : {M : Type 1} → statement M
     let s = c .before .before .before .before in
     odd-asks _ _ _ _ _ (s .args .a) _ (s .fits .a .fits) (s .pre .1 .0) (c .if2 .left) (c .before .before .by-halves .ensures .0) (c .before .doubled .ensures))
     (λ c.
-    (odd-is _ _ _ _ _ (c .raised .ensures .0) (c .before .before .doubled .ensures .0) (c .before .before .before .by-halves .ensures .0) (c .before .if2 .left), c .raised .ensures .1))
+    (odd-is _ _ _ _ _ (c .increased .ensures .0) (c .before .before .doubled .ensures .0) (c .before .before .before .by-halves .ensures .0) (c .before .if2 .left), c .increased .ensures .1))

@@ -1,27 +1,20 @@
--- The way from the upwind centre is at most the reach, in 1/256; sign and size are then those of the definition.
+-- t·K is at most 256·K; sign and size are then those of the definition.
 use Prim.Native.Nat.{_≤_, _*_}
-use mathlib.Core.Bool.{Bool, true, false, cond}
-use Prim.Native.Nat.{ℕ, _-_}
 use native.Mathlib.Nat.{mul-le-mul-right}
 use native.Mathlib.Omega.{arith}
 use borrow.Author.Needs.{needs}
-use Rattle.model.specs.Mesh.{maxShare}
-use Rattle.face.proofs.Corrections.{correction-is}
+use Rattle.face.proofs.Corrections.{correction-is, share-le}
 use Rattle.face.proofs.correction.correction_code.Statement.{statement}
 use Rattle.face.proofs.correction.correction_code.Tie as tie
 
-share-le : (b : Bool) (s : ℕ) → s ≤ maxShare → cond b (256 - s) s ≤ 256
-share-le true s h = omega arith
-share-le false s h = omega arith
+tk-le : (c : tie.After-upwind-share) → c .upwind-share .result * c .before .args .reach ≤ 256 * c .before .args .reach
+tk-le c = let s = c .before in mul-le-mul-right (s .args .reach) (rw (c .upwind-share .ensures) (share-le (s .args .negative) (s .args .share) (s .pre .3)))
 
-way-le : (c : tie.After-upwind-share) → c .upwind-share .result * c .before .args .reach ≤ 256 * c .before .args .reach
-way-le c = let s = c .before in mul-le-mul-right (s .args .reach) (rw (c .upwind-share .ensures) (share-le (s .args .negative) (s .args .share) (s .pre .3)))
-
-mul-way : tie.Need-mul-way
-mul-way c = omega (arith, way-le c)
+mul-tk : tie.Need-mul-tk
+mul-tk c = omega (arith, tk-le c)
 
 correction-size-requires : tie.Need-correction-size-requires
-correction-size-requires c κs = let s = c .before in (s .pre .0, s .pre .1, s .pre .2, way-le c, s .pre .4, s .pre .5)
+correction-size-requires c κs = let s = c .before in (s .pre .0, s .pre .1, s .pre .2, tk-le c, s .pre .4, s .pre .5)
 
 returns : tie.Need-returns
 returns c =
@@ -35,4 +28,4 @@ returns c =
     )
 
 pub correction-code-spec : {M : Type 1} → statement M
-correction-code-spec = tie.close (tie.spec (search needs) mul-way correction-size-requires (search needs) (search needs) (search needs) returns)
+correction-code-spec = tie.close (tie.spec (search needs) mul-tk correction-size-requires (search needs) (search needs) (search needs) returns)
