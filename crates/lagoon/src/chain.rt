@@ -116,6 +116,9 @@ fn in_order(mesh: &[u8], field: &[u8], step: &[u8], bytes: &mut [u8]) -> Answer
 pub fn on_records(mesh: &[u8], field: &[u8], step: &[u8], bytes: &mut [u8]) -> Answer
     ensures { λ r. ⌜ HostComes (now (mesh .entry)) (now (field .entry)) (now (step .entry)) (now (bytes .entry)) r (now (bytes .exit)) ⌝ }
 {
+    if short::step(mesh, field, step, bytes) {
+        return Answer::Done;
+    }
     if straight::step(mesh, field, step, bytes) {
         return Answer::Done;
     }

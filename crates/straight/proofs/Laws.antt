@@ -34,11 +34,11 @@ use Rattle.reading.specs.declared.StepRead.the-variants as read
 use Rattle.putting.specs.Putting.{FieldWhole, Wrote}
 use Rattle.writing.specs.Writing.{mostOf}
 use Rattle.writing.proofs.WriteLaws.{field-whole}
-use Rattle.parts.proofs.Parts.{PartRead, read-part}
+use Rattle.parts.proofs.Parts.{PartRead, read-part, long-met}
 use Rattle.mesh_taking.specs.MeshTaking.{meshRecordFound, meshJudged, meshJudgedInRun}
 use Rattle.mesh_taking.proofs.MeshLaws.{MeshIsRead, limits, same}
 use Rattle.taking.specs.Taking.{fieldJudged, stepIn, stepJudged}
-use Rattle.taking.proofs.StepLaws.{long-met, own-fine, crossed, nexts-part, fluxes-part, outsides-part, releases-part, few, found-fine}
+use Rattle.taking.proofs.StepLaws.{own-fine, crossed, nexts-part, fluxes-part, outsides-part, releases-part, few, found-fine}
 use Rattle.straight.specs.Straight.{Put, Unrefused, RecordsPut}
 use Rattle.straight.specs.Inner.{StepHolds, StepPut, MeshHolds, MeshPut}
 use Rattle.straight.proofs.Writer.{write-is, record-within}

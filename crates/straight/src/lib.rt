@@ -17,7 +17,7 @@ ghost use Rattle.straight.specs.Inner.{StepPut, MeshPut};
 ghost use Rattle.straight.specs.Straight.{RecordsPut};
 
 // A step through what has been read, and the next field put into the bytes. Of the other lent tables the lengths alone matter.
-fn put_step(
+pub fn put_step(
     width: Width,
     cells: usize,
     faces: usize,

@@ -4,7 +4,6 @@ use mathlib.Core.Path.{_≡_, sym, ap, _∙_}
 use mathlib.Core.List.{List, [], _∷_}
 use native.Mathlib.Nat.{le-trans}
 use native.Mathlib.Omega.{arith}
-use borrow.Author.Tests.{le-leb}
 use lib.IntN.{ℤ, pos}
 use lib.ListN.{length, take, length-replicate}
 use Rattle.lists.specs.Table.{table, over}
@@ -17,7 +16,7 @@ use Rattle.model.specs.Causes.{accepted, Verdict, fine, _andThen_, each, long, 
 use Rattle.model.specs.Answers.{number, told}
 use Rattle.model.specs.Calls.{Crossing, crossingOf, massIn, corrected, stepAnswer, nextTable}
 use Rattle.model.specs.declared.Refusal.{Refusal}
-use Rattle.model.proofs.Verdicts.{AllFine, all-fine, fine-all, both-fine, past, out, refused-of, accepted-of, long-fine, need-met}
+use Rattle.model.proofs.Verdicts.{AllFine, all-fine, fine-all, both-fine, past, out, refused-of, accepted-of, long-fine}
 use Rattle.model.proofs.Accepted.{ready, passed, field-lent, call-lent}
 use Rattle.model.proofs.Sizes.{next-most, total-most}
 use Rattle.model.specs.Accepted.{Ready}
@@ -38,7 +37,7 @@ use Rattle.step_taken.specs.declared.StepTaken.{StepTaken}
 use Rattle.step_taken.specs.declared.StepTaken.the-variants as step-taken
 use Rattle.taking.specs.Taking.{blank, ownTables, printedOf, Stepping, stepIn, stepRecordFound, stepJudged, StepTaking}
 use Rattle.taking.specs.Inner.{SteppedIn}
-use Rattle.parts.proofs.Parts.{PartRead, part-of, read-part}
+use Rattle.parts.proofs.Parts.{PartRead, part-of, read-part, long-met}
 
 stepping-refused : (M : Mesh) (masses : List ℕ) {v : Verdict} (k : Call) (r : Refusal) → v ≡ told r → Stepping M masses v k (step-taken.Refused r) masses
 stepping-refused M masses k r e = record { answer = sym (out _ e); masses-after = rw e }
@@ -49,9 +48,6 @@ length-blank n x = length-replicate n x
 
 fits-blank : {A : Type 0} (n : ℕ) (x : A) {m : ℕ} → m ≤ n → m ≤ length (blank n x)
 fits-blank n x h = rw (length-blank n x) h
-
-pub long-met : (position wanted has : ℕ) → wanted ≤ has → long position wanted has ≡ fine
-long-met position wanted has h = need-met 2 position (le-leb wanted has h)
 
 -- of the tables of results and work only the lengths matter
 own-verdict : (M : Mesh) (masses : List ℕ) (fluxes : List ℤ) (outsides next : List ℕ) (moved : List ℤ) (work releases : List ℕ)
