@@ -8,11 +8,12 @@ use sections::read_column;
 use sections::read_marked;
 use sections::read_signed;
 ghost use mathlib.Core.Path.{_≡_};
-ghost use Prim.Native.Nat.{_*_, _^_, _≤_, _<_};
+ghost use Prim.Native.Nat.{ℕ, _+_, _*_, _^_, _≤_, _<_};
 ghost use lib.ListN.{length};
-ghost use Rattle.lists.specs.Table.{over};
+ghost use Rattle.lists.specs.Table.{table, over};
+ghost use Rattle.bits.specs.Field.{bitsAt};
 ghost use Rattle.sections.specs.Sections.{shapeBits, columnIn};
-ghost use Rattle.heads.specs.Layouts.{meshKind, fieldKind, kindNumber, meshBody, fieldBody, stepBody};
+ghost use Rattle.heads.specs.Layouts.{meshKind, fieldKind, kindNumber, massWidth, meshBody, fieldBody, stepBody};
 ghost use Rattle.bodies.specs.Bodies.{FacesRoom, FacesFilled, MeshRoom, MeshFilled, StepRoom, StepFilled};
 
 // The four fields of each of n faces from a bit on: they stand one after another, and are read as one number.
@@ -75,12 +76,30 @@ pub fn mesh(
     );
 }
 
+// The masses, each width by itself: of a width and a place that it knows the compiler makes whole words.
+fn read_masses(width: Width, cells: usize, body: &[u8], masses: &mut [u64])
+    requires { ⌜ (8 * length (now body) < 2 ^ 64) × (cells ≤ length (now masses)) ⌝ }
+    requires { ⌜ ((i : ℕ) → i < cells → 0 + i * massWidth width + massWidth width ≤ 8 * length (now body)) ⌝ }
+    ensures { λ _. ⌜ now (masses .exit)
+        ≡ over (table cells (λ i. bitsAt (now (body .entry)) (0 + i * massWidth width) (massWidth width))) (now (masses .entry)) ⌝ }
+{
+    match width {
+        Width::Narrow => {
+            let mass = Body::NARROW_MASS;
+            read_column(body, 0, mass, mass, cells, masses);
+        }
+        Width::Wide => {
+            let mass = Body::WIDE_MASS;
+            read_column(body, 0, mass, mass, cells, masses);
+        }
+    }
+}
+
 pub fn field(width: Width, cells: usize, body: &[u8], masses: &mut [u64])
     requires { ⌜ (8 * length (now body) < 2 ^ 64) × (shapeBits (fieldBody (fieldKind width) cells) ≤ 8 * length (now body)) × (cells ≤ length (now masses)) ⌝ }
     ensures { λ _. ⌜ now (masses .exit) ≡ over (columnIn (now (body .entry)) (fieldBody (fieldKind width) cells) 0 0) (now (masses .entry)) ⌝ }
 {
-    let mass = lengths::mass_width(width);
-    read_column(body, 0, mass, mass, cells, masses);
+    read_masses(width, cells, body, masses);
 }
 
 // The fluxes of all faces, then the outside values, then the releases, which have no bits in the kind without outfalls and read 0 there.

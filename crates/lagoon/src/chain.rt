@@ -1,4 +1,4 @@
-// The host's call, record by record: what the run does with them, and the next field written.
+// The host's call: straight through where nothing is refused, else record by record, as the run takes them, and the next field written.
 use checks::TotalAnswer;
 use heads::Width;
 use model::Answer;
@@ -72,8 +72,8 @@ fn on_mesh(
     Answer::Done
 }
 
-// The three records in their order.
-pub fn on_records(mesh: &[u8], field: &[u8], step: &[u8], bytes: &mut [u8]) -> Answer
+// The three records in their order, each judged before the next is read.
+fn in_order(mesh: &[u8], field: &[u8], step: &[u8], bytes: &mut [u8]) -> Answer
     ensures { λ r. ⌜ HostComes (now (mesh .entry)) (now (field .entry)) (now (step .entry)) (now (bytes .entry)) r (now (bytes .exit)) ⌝ }
 {
     let mut volumes = [0u64; RUN_CELLS];
@@ -110,4 +110,17 @@ pub fn on_records(mesh: &[u8], field: &[u8], step: &[u8], bytes: &mut [u8]) -> A
             )
         }
     }
+}
+
+// The three records.
+pub fn on_records(mesh: &[u8], field: &[u8], step: &[u8], bytes: &mut [u8]) -> Answer
+    ensures { λ r. ⌜ HostComes (now (mesh .entry)) (now (field .entry)) (now (step .entry)) (now (bytes .entry)) r (now (bytes .exit)) ⌝ }
+{
+    if short::step(mesh, field, step, bytes) {
+        return Answer::Done;
+    }
+    if straight::step(mesh, field, step, bytes) {
+        return Answer::Done;
+    }
+    in_order(mesh, field, step, bytes)
 }

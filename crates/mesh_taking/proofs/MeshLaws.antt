@@ -1,8 +1,9 @@
 -- What a mesh record comes to, from what the calls that `take_mesh` and `keep` make promise. What is read has tables as long as its counts,
 -- within the run's limits; so of the verdict on it only the values are left.
-use Prim.Native.Nat.{ℕ, _^_, _≤_, _<_}
+use Prim.Native.Nat.{ℕ, _*_, _^_, _≤_, _<_, min}
 use mathlib.Core.Path.{_≡_, refl, sym, ap, _∙_}
 use mathlib.Core.List.{List, [], _∷_}
+use native.Mathlib.Nat.{le-trans, le-refl}
 use native.Mathlib.Omega.{arith}
 use borrow.Author.Tests.{leb-true, le-leb}
 use lib.Dec.{leb}
@@ -11,26 +12,26 @@ use Rattle.lists.specs.Table.{over}
 use Rattle.lists.proofs.Tests.{both-true, true-both}
 use Rattle.lists.proofs.Tables.{length-table, getD-table}
 use Rattle.model.specs.Mesh.{Mesh, meshOf, runCells, runFaces, maxCells, maxFaces, ceiling, oldCeiling}
-use Rattle.model.specs.Causes.{accepted, refused, Verdict, fine, _andThen_, countsWithin, counts, meshTables, meshValues, meshVerdict}
+use Rattle.model.specs.Causes.{accepted, refused, Verdict, fine, _andThen_, each, long, countsWithin, counts, meshTables, meshValues, meshVerdict}
 use Rattle.model.specs.Ceilings.{MeshSmall}
 use Rattle.model.specs.Answers.{number}
 use Rattle.model.specs.declared.Refusal.{Refusal}
-use Rattle.model.proofs.Verdicts.{refused-at, both-fine, past, out, refused-of, accepted-of, need-fine, need-met}
+use Rattle.model.proofs.Verdicts.{AllFine, all-fine, fine-all, refused-at, both-fine, past, out, refused-of, accepted-of, need-fine, need-met, long-fine}
 use Rattle.model.proofs.Accepted.{mesh-lent}
 use Rattle.bits.proofs.Fields.{bits-lt}
 use Rattle.sections.specs.Sections.{place, entryIn}
-use Rattle.heads.specs.Layouts.{widthOf, valueOf, valueBits, meshShape}
-use Rattle.heads.specs.Heads.{kindIn, widthIn, cellsIn, facesIn, meshHeadVerdict}
+use Rattle.heads.specs.Layouts.{widthOf, valueOf, valueBits, meshShape, meshHeadBits, meshLength}
+use Rattle.heads.specs.Heads.{kindIn, widthIn, cellsIn, facesIn, hasHead, hasLength, hasMeshKind, meshHeadVerdict}
 use Rattle.heads.specs.declared.Width.{Width}
 use Rattle.heads.specs.declared.Width.the-variants.{Narrow}
-use Rattle.reading.specs.Reading.{volumesIn, firstsIn, secondsIn, sharesIn, reachesIn, countsIn, meshIn, meshRead}
+use Rattle.reading.specs.Reading.{volumesIn, firstsIn, secondsIn, sharesIn, reachesIn, countsIn, meshIn, meshBitGood, meshBodyVerdict, meshRead}
 use Rattle.reading.specs.Answers.{meshSaid, MeshReading}
 use Rattle.reading.specs.declared.MeshAnswer.{MeshAnswer}
 use Rattle.reading.specs.declared.MeshAnswer.the-variants as mesh-answer
 use Rattle.reading.specs.declared.MeshCounts.{MeshCounts}
 use Rattle.mesh_taking.specs.MeshTaking.{meshRecordFound, meshJudged, MeshKept, MeshTaking}
 use Rattle.mesh_taking.specs.Inner.{MeshCut, keptFound}
-use Rattle.parts.proofs.Parts.{PartRead, read-part}
+use Rattle.parts.proofs.Parts.{PartRead, read-part, long-met}
 
 -- a mesh of which v is found: refused, and accepted
 pub kept-refused : {v : Verdict} (w : Width) (M : Mesh) (volumes firsts seconds shares reaches : List ℕ) (a : MeshAnswer) (k i : ℕ) → v ≡ refused k i → meshSaid a ≡ refused k i
@@ -151,21 +152,103 @@ module _ {bs volumes firsts seconds shares reaches : List ℕ} {a : MeshAnswer} 
   mesh-unread {r = r} d v f s w k =
       kept-refused (widthIn bs) (meshIn bs) v f s w k a _ _ (refused-at [] (_ ∷ _ ∷ []) tt (refused-of (meshRecordFound bs) (countsIn bs) (number (r .cause)) (r .place) (sym (ap meshSaid d) ∙ read-said))) (ap meshSaid d)
 
-  pub mesh-read : {n : MeshCounts} → a ≡ mesh-answer.Read n → MeshIsRead bs n volumes′ firsts′ seconds′ shares′ reaches′
+-- the causes of a mesh record in their order: of its head, and past it
+abbrev headCauses : (mostCells mostFaces : ℕ) → List ℕ → List Verdict
+headCauses mostCells mostFaces bs =
+    hasHead bs meshHeadBits ∷ hasMeshKind bs ∷ countsWithin (min mostCells maxCells) (min mostFaces maxFaces) (cellsIn bs) (facesIn bs) ∷ []
+
+abbrev bodyCauses : List ℕ → (volumes firsts seconds shares reaches : ℕ) → List Verdict
+bodyCauses bs volumes firsts seconds shares reaches =
+    hasLength bs (meshLength (kindIn bs) (cellsIn bs) (facesIn bs))
+    ∷ long 0 (cellsIn bs) volumes
+    ∷ long 1 (facesIn bs) firsts
+    ∷ long 2 (facesIn bs) seconds
+    ∷ long 3 (facesIn bs) shares
+    ∷ long 4 (facesIn bs) reaches
+    ∷ each 12 (8 * length bs) (meshBitGood bs)
+    ∷ []
+
+-- a mesh that is read within limits and into tables that may be less than the run's
+module _ (mostCells mostFaces : ℕ) {bs volumes firsts seconds shares reaches : List ℕ} {a : MeshAnswer} {volumes′ firsts′ seconds′ shares′ reaches′ : List ℕ}
+    (s : MeshReading (meshRead mostCells mostFaces bs (length volumes) (length firsts) (length seconds) (length shares) (length reaches))
+    bs volumes firsts seconds shares reaches a volumes′ firsts′ seconds′ shares′ reaches′)
+    (cells : min mostCells maxCells ≤ runCells) (faces : min mostFaces maxFaces ≤ runFaces) {n : MeshCounts} (d : a ≡ mesh-answer.Read n) where
+  read-fine : ((meshHeadVerdict mostCells mostFaces bs andThen meshBodyVerdict bs (length volumes) (length firsts) (length seconds) (length shares)
+      (length reaches)) ≡ fine)
+      × (n ≡ countsIn bs)
+  unfolding meshRead
+  read-fine = accepted-of _ (countsIn bs) n (sym (ap meshSaid d) ∙ s .answer)
+
+  head-fine : AllFine (headCauses mostCells mostFaces bs)
+  unfolding meshHeadVerdict
+  head-fine = all-fine (headCauses mostCells mostFaces bs) (both-fine _ _ (read-fine .0) .0)
+
+  body-fine : AllFine (bodyCauses bs (length volumes) (length firsts) (length seconds) (length shares) (length reaches))
+  unfolding meshBodyVerdict
+  body-fine = all-fine (bodyCauses bs (length volumes) (length firsts) (length seconds) (length shares) (length reaches)) (both-fine _ _ (read-fine .0) .1)
+
+  within : (1 ≤ cellsIn bs) × (cellsIn bs ≤ runCells) × (facesIn bs ≤ runFaces)
+  unfolding countsWithin
+  within =
+      let k = both-fine _ _ (head-fine .1 .1 .0) in
+      let c = both-true (leb 1 (cellsIn bs)) (leb (cellsIn bs) (min mostCells maxCells)) (need-fine 1 0 _ (k .0)) in
+      (leb-true _ _ (c .0), le-trans (leb-true _ _ (c .1)) cells, le-trans (leb-true _ _ (need-fine 1 1 _ (k .1))) faces)
+
+  run-head : meshHeadVerdict runCells runFaces bs ≡ fine
+  unfolding meshHeadVerdict countsWithin
+  run-head =
+      let c = need-met 1 0 (true-both (le-leb 1 (cellsIn bs) (within .0)) (le-leb (cellsIn bs) runCells (within .1))) in
+      fine-all (headCauses runCells runFaces bs)
+      (head-fine .0, (head-fine .1 .0, (past _ c ∙ need-met 1 1 (le-leb (facesIn bs) runFaces (within .2)), tt)))
+
+  run-body : meshBodyVerdict bs runCells runFaces runFaces runFaces runFaces ≡ fine
+  unfolding meshBodyVerdict
+  run-body = fine-all (bodyCauses bs runCells runFaces runFaces runFaces runFaces) (
+    body-fine .0,
+    (
+      long-met 0 _ _ (within .1),
+      (
+        long-met 1 _ _ (within .2),
+        (
+          long-met 2 _ _ (within .2),
+          (
+            long-met 3 _ _ (within .2),
+            (
+              long-met 4 _ _
+                  (within .2),
+              (body-fine .1 .1 .1 .1 .1 .1 .0, tt),
+            ),
+          ),
+        ),
+      ),
+    ),
+  )
+
+  found : meshRecordFound bs ≡ fine
+  unfolding meshRecordFound
+  found = past _ run-head ∙ run-body
+
+  pub read-within : MeshIsRead bs n volumes′ firsts′ seconds′ shares′ reaches′
   unfolding volumesIn firstsIn secondsIn sharesIn reachesIn
-  mesh-read {n = n} d =
+  read-within =
       let o = sym (s .answer) ∙ ap meshSaid d in
-      let p = accepted-of (meshRecordFound bs) (countsIn bs) n (sym (ap meshSaid d) ∙ read-said) in
-      let k = limits bs (p .0) in
-      rw (p .1) (record {
-        passed = p .0;
+      let l = body-fine .1 in
+      rw (read-fine .1) (record {
+        passed = found;
         counts-are = refl;
-        volumes-part = read-part (cellsIn bs) _ volumes volumes′ o (omega (arith, lv, k .few-cells)) (s .volumes-read);
-        firsts-part = read-part (facesIn bs) _ firsts firsts′ o (omega (arith, lf, k .few-faces)) (s .firsts-read);
-        seconds-part = read-part (facesIn bs) _ seconds seconds′ o (omega (arith, ls, k .few-faces)) (s .seconds-read);
-        shares-part = read-part (facesIn bs) _ shares shares′ o (omega (arith, lw, k .few-faces)) (s .shares-read);
-        reaches-part = read-part (facesIn bs) _ reaches reaches′ o (omega (arith, lk, k .few-faces)) (s .reaches-read);
+        volumes-part = read-part (cellsIn bs) _ volumes volumes′ o (long-fine 0 _ _ (l .0)) (s .volumes-read);
+        firsts-part = read-part (facesIn bs) _ firsts firsts′ o (long-fine 1 _ _ (l .1 .0)) (s .firsts-read);
+        seconds-part = read-part (facesIn bs) _ seconds seconds′ o (long-fine 2 _ _ (l .1 .1 .0)) (s .seconds-read);
+        shares-part = read-part (facesIn bs) _ shares shares′ o (long-fine 3 _ _ (l .1 .1 .1 .0)) (s .shares-read);
+        reaches-part = read-part (facesIn bs) _ reaches reaches′ o (long-fine 4 _ _ (l .1 .1 .1 .1 .0)) (s .reaches-read);
       })
+
+-- within those of the run
+pub mesh-read : {bs volumes firsts seconds shares reaches : List ℕ} {a : MeshAnswer} {volumes′ firsts′ seconds′ shares′ reaches′ : List ℕ}
+    → MeshReading (meshRead runCells runFaces bs (length volumes) (length firsts) (length seconds) (length shares) (length reaches))
+    bs volumes firsts seconds shares reaches a volumes′ firsts′ seconds′ shares′ reaches′
+    → {n : MeshCounts} → a ≡ mesh-answer.Read n → MeshIsRead bs n volumes′ firsts′ seconds′ shares′ reaches′
+mesh-read s d = read-within runCells runFaces s (le-refl runCells) (le-refl runFaces) d
 
 module _ {bs : List ℕ} {n : MeshCounts} {volumes′ firsts′ seconds′ shares′ reaches′ : List ℕ} (m : MeshIsRead bs n volumes′ firsts′ seconds′ shares′ reaches′) where
   abbrev R : Mesh

@@ -3,11 +3,17 @@ use Prim.Native.Nat.{ℕ, _≤_}
 use mathlib.Core.Path.{_≡_, sym}
 use mathlib.Core.List.{List}
 use native.Mathlib.Omega.{arith}
+use borrow.Author.Tests.{le-leb}
 use lib.ListN.{length, take, drop}
 use lib.Seq.{take-at, length-take-le}
 use Rattle.lists.specs.Table.{table, over}
 use Rattle.lists.proofs.Tables.{length-table, over-table, length-over}
-use Rattle.model.specs.Causes.{Outcome, accepted, taken}
+use Rattle.model.specs.Causes.{Outcome, accepted, fine, taken, long}
+use Rattle.model.proofs.Verdicts.{need-met}
+
+-- a table that is long enough is not refused by 2
+pub long-met : (position wanted has : ℕ) → wanted ≤ has → long position wanted has ≡ fine
+long-met position wanted has h = need-met 2 position (le-leb wanted has h)
 
 -- the n entries that were read into ys
 pub record PartRead {A : Type 0} (n : ℕ) (xs ys : List A) : Type 0 where

@@ -31,42 +31,42 @@ returns c =
     (a .firsts .now) (a .seconds .now) (a .shares .now) (a .reaches .now)
 
 array-share-prefix-read-volumes : tie.Need-array-share-prefix-read-volumes
-array-share-prefix-read-volumes c = mesh-read (reading c .read-mesh .ensures) refl refl refl refl refl (c .before .answer .given .1) .volumes-part .fits
+array-share-prefix-read-volumes c = mesh-read (reading c .read-mesh .ensures) (c .before .answer .given .1) .volumes-part .fits
 
 slice-aggregate-keep : tie.Need-slice-aggregate-keep
-slice-aggregate-keep c = part-long (mesh-read (reading (c .before) .read-mesh .ensures) refl refl refl refl refl (c .before .before .answer .given .1) .volumes-part)
+slice-aggregate-keep c = part-long (mesh-read (reading (c .before) .read-mesh .ensures) (c .before .before .answer .given .1) .volumes-part)
 
 array-share-prefix-read-firsts : tie.Need-array-share-prefix-read-firsts
-array-share-prefix-read-firsts c = mesh-read (reading (c .before) .read-mesh .ensures) refl refl refl refl refl (c .before .before .answer .given .1) .firsts-part .fits
+array-share-prefix-read-firsts c = mesh-read (reading (c .before) .read-mesh .ensures) (c .before .before .answer .given .1) .firsts-part .fits
 
 slice-aggregate-keep-2 : tie.Need-slice-aggregate-keep-2
-slice-aggregate-keep-2 c = part-long (mesh-read (reading (c .before .before) .read-mesh .ensures) refl refl refl refl refl (c .before .before .before .answer .given .1) .firsts-part)
+slice-aggregate-keep-2 c = part-long (mesh-read (reading (c .before .before) .read-mesh .ensures) (c .before .before .before .answer .given .1) .firsts-part)
 
 array-share-prefix-read-seconds : tie.Need-array-share-prefix-read-seconds
-array-share-prefix-read-seconds c = mesh-read (reading (c .before .before) .read-mesh .ensures) refl refl refl refl refl (c .before .before .before .answer .given .1) .seconds-part .fits
+array-share-prefix-read-seconds c = mesh-read (reading (c .before .before) .read-mesh .ensures) (c .before .before .before .answer .given .1) .seconds-part .fits
 
 slice-aggregate-keep-3 : tie.Need-slice-aggregate-keep-3
 slice-aggregate-keep-3 c = part-long
-    (mesh-read (reading (c .before .before .before) .read-mesh .ensures) refl refl refl refl refl (c .before .before .before .before .answer .given .1) .seconds-part)
+    (mesh-read (reading (c .before .before .before) .read-mesh .ensures) (c .before .before .before .before .answer .given .1) .seconds-part)
 
 array-share-prefix-read-shares : tie.Need-array-share-prefix-read-shares
-array-share-prefix-read-shares c = mesh-read (reading (c .before .before .before) .read-mesh .ensures) refl refl refl refl refl
+array-share-prefix-read-shares c = mesh-read (reading (c .before .before .before) .read-mesh .ensures)
     (c .before .before .before .before .answer .given .1) .shares-part .fits
 
 slice-aggregate-keep-4 : tie.Need-slice-aggregate-keep-4
 slice-aggregate-keep-4 c = part-long
-    (mesh-read (reading (c .before .before .before .before) .read-mesh .ensures) refl refl refl refl refl (c .before .before .before .before .before .answer .given .1) .shares-part)
+    (mesh-read (reading (c .before .before .before .before) .read-mesh .ensures) (c .before .before .before .before .before .answer .given .1) .shares-part)
 
 array-share-prefix-read-reaches : tie.Need-array-share-prefix-read-reaches
-array-share-prefix-read-reaches c = mesh-read (reading (c .before .before .before .before) .read-mesh .ensures) refl refl refl refl refl
+array-share-prefix-read-reaches c = mesh-read (reading (c .before .before .before .before) .read-mesh .ensures)
     (c .before .before .before .before .before .answer .given .1) .reaches-part .fits
 
 slice-aggregate-keep-5 : tie.Need-slice-aggregate-keep-5
 slice-aggregate-keep-5 c = part-long
-    (mesh-read (reading (c .before .before .before .before .before) .read-mesh .ensures) refl refl refl refl refl (c .before .before .before .before .before .before .answer .given .1) .reaches-part)
+    (mesh-read (reading (c .before .before .before .before .before) .read-mesh .ensures) (c .before .before .before .before .before .before .answer .given .1) .reaches-part)
 
 keep-requires : tie.Need-keep-requires
-keep-requires c κs = let d = lent (c .before .before .before .before) in keep-asks (mesh-read (reading d .read-mesh .ensures) refl refl refl refl refl (d .before .answer .given .1))
+keep-requires c κs = let d = lent (c .before .before .before .before) in keep-asks (mesh-read (reading d .read-mesh .ensures) (d .before .answer .given .1))
 
 same-length : tie.Need-same-length
 same-length c = c .before .before .before .before .before .before .before .before .before .volumes .given
@@ -87,7 +87,7 @@ returns-2 : tie.Need-returns-2
 returns-2 c =
     let k = kept (c .before) in
     let d = told k in
-    mesh-done (mesh-read (reading d .read-mesh .ensures) refl refl refl refl refl (d .before .answer .given .1)) (k .keep .ensures)
+    mesh-done (mesh-read (reading d .read-mesh .ensures) (d .before .answer .given .1)) (k .keep .ensures)
 
 pub take-mesh-spec : {M : Type 1} → statement M
 take-mesh-spec =

@@ -10,16 +10,16 @@ abbrev stepped : tie.After-known-told2 → tie.After-step
 stepped c = c .before .before .before .before .before .before
 
 array-share-prefix-next : tie.Need-array-share-prefix-next
-array-share-prefix-next c = nexts-part (c .before .before .before .before .before .before .step .ensures) refl refl refl (c .before .answer2 .given .1) .fits
+array-share-prefix-next c = nexts-part (c .before .before .before .before .before .before .step .ensures) (c .before .answer2 .given .1) .fits
 
 slice-aggregate-copy : tie.Need-slice-aggregate-copy
-slice-aggregate-copy c = part-long (nexts-part (c .before .before .before .before .before .before .before .step .ensures) refl refl refl (c .before .before .answer2 .given .1))
+slice-aggregate-copy c = part-long (nexts-part (c .before .before .before .before .before .before .before .step .ensures) (c .before .before .answer2 .given .1))
 
 copy-requires : tie.Need-copy-requires
-copy-requires c κs = copy-asks (c .before .before .before .before .before .before .before .before .step .ensures) refl refl refl (c .before .before .before .answer2 .given .1)
+copy-requires c κs = copy-asks (c .before .before .before .before .before .before .before .before .step .ensures) (c .before .before .before .answer2 .given .1)
 
 sum-of-requires : tie.Need-sum-of-requires
-sum-of-requires c κs = sum-asks (stepped (c .before .before .before .before .before .before) .step .ensures) refl refl refl
+sum-of-requires c κs = sum-asks (stepped (c .before .before .before .before .before .before) .step .ensures)
     (c .before .before .before .before .before .before .before .answer2 .given .1) (c .before .before .before .copy .ensures)
 
 returns : tie.Need-returns

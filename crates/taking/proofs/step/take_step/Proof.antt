@@ -30,37 +30,37 @@ array-share-prefix-fluxes : tie.Need-array-share-prefix-fluxes
 array-share-prefix-fluxes c =
     let t = c .before in
     let s = begun (reading t) in
-    fluxes-part (s .args .width) (mesh s) (s .args .masses .now) (reading t .read-step .ensures) refl refl refl (t .enum-told .given .1) .fits
+    fluxes-part (s .args .width) (mesh s) (s .args .masses .now) (reading t .read-step .ensures) (t .enum-told .given .1) .fits
 
 slice-aggregate-stepped : tie.Need-slice-aggregate-stepped
 slice-aggregate-stepped c =
     let t = c .before .before in
     let s = begun (reading t) in
-    part-long (fluxes-part (s .args .width) (mesh s) (s .args .masses .now) (reading t .read-step .ensures) refl refl refl (t .enum-told .given .1))
+    part-long (fluxes-part (s .args .width) (mesh s) (s .args .masses .now) (reading t .read-step .ensures) (t .enum-told .given .1))
 
 array-share-prefix-outsides : tie.Need-array-share-prefix-outsides
 array-share-prefix-outsides c =
     let t = c .before .before in
     let s = begun (reading t) in
-    outsides-part (s .args .width) (mesh s) (s .args .masses .now) (reading t .read-step .ensures) refl refl refl (t .enum-told .given .1) .fits
+    outsides-part (s .args .width) (mesh s) (s .args .masses .now) (reading t .read-step .ensures) (t .enum-told .given .1) .fits
 
 slice-aggregate-stepped-2 : tie.Need-slice-aggregate-stepped-2
 slice-aggregate-stepped-2 c =
     let t = c .before .before .before in
     let s = begun (reading t) in
-    part-long (outsides-part (s .args .width) (mesh s) (s .args .masses .now) (reading t .read-step .ensures) refl refl refl (t .enum-told .given .1))
+    part-long (outsides-part (s .args .width) (mesh s) (s .args .masses .now) (reading t .read-step .ensures) (t .enum-told .given .1))
 
 array-share-prefix-releases : tie.Need-array-share-prefix-releases
 array-share-prefix-releases c =
     let t = c .before .before .before in
     let s = begun (reading t) in
-    releases-part (s .args .width) (mesh s) (s .args .masses .now) (reading t .read-step .ensures) refl refl refl (t .enum-told .given .1) .fits
+    releases-part (s .args .width) (mesh s) (s .args .masses .now) (reading t .read-step .ensures) (t .enum-told .given .1) .fits
 
 slice-aggregate-stepped-3 : tie.Need-slice-aggregate-stepped-3
 slice-aggregate-stepped-3 c =
     let t = c .before .before .before .before in
     let s = begun (reading t) in
-    part-long (releases-part (s .args .width) (mesh s) (s .args .masses .now) (reading t .read-step .ensures) refl refl refl (t .enum-told .given .1))
+    part-long (releases-part (s .args .width) (mesh s) (s .args .masses .now) (reading t .read-step .ensures) (t .enum-told .given .1))
 
 returns-2 : tie.Need-returns-2
 returns-2 c =
