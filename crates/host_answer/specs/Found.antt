@@ -1,0 +1,15 @@
+-- The numbers that a call from C finds, in entries that the host lends for them: after acceptance at their front, as many as there is room for.
+-- Entries past them stay, and all of them after a refusal, so that a host that does not ask lends none.
+use Prim.Native.Nat.{ℕ}
+use mathlib.Core.List.{List, [], _∷_}
+use Rattle.model.specs.Causes.{Outcome, accepted, refused}
+
+unfoldable pub filled : (numbers found : List ℕ) → List ℕ
+filled [] found = found
+filled (x ∷ xs) [] = []
+filled (x ∷ xs) (y ∷ found) = x ∷ filled xs found
+
+-- what the call finds, as numbers, in the entries lent
+abbrev pub foundBy : {A : Type 0} → (A → List ℕ) → Outcome A → List ℕ → List ℕ
+foundBy numbers (accepted x) found = filled (numbers x) found
+foundBy numbers (refused _ _) found = found
