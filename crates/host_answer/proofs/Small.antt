@@ -6,6 +6,7 @@ use mathlib.Core.Bool.{Bool, true, false}
 use mathlib.Core.List.{List, [], _∷_}
 use native.Mathlib.Omega.{arith}
 use Rattle.model.specs.Causes.{Outcome, accepted, refused, Verdict, fine, _andThen_, firstOf, inTurn, need, each}
+use Rattle.model.proofs.Verdicts.{both-fine}
 use Rattle.host_answer.specs.Number.{causeStep, refusalNumber, numberOf}
 
 -- the most causes that the papers number
@@ -49,13 +50,26 @@ abbrev pub AllSmall : List Verdict → Type 0
 AllSmall [] = Unit {0}
 AllSmall (v ∷ vs) = Small v × AllSmall vs
 
-small-first : (v : Verdict) (vs : List Verdict) → Small v → AllSmall vs → Small (firstOf v vs)
-small-first v [] s a = s
-small-first v (w ∷ ws) s a = small-first (v andThen w) ws (small-and s (a .0)) (a .1)
+small-first : (v : Verdict) (vs : List Verdict) → Small v → (v ≡ fine → AllSmall vs) → Small (firstOf v vs)
+small-first v [] s f = s
+small-first v (w ∷ ws) s f = small-first (v andThen w) ws (small-then v w s (λ e. f e .0)) (λ e. f (both-fine v w e .0) .1)
+
+-- those after the first where it is fine
+abbrev pub SmallAfter : List Verdict → Type 0
+SmallAfter [] = Unit {0}
+SmallAfter (v ∷ vs) = Small v × (v ≡ fine → AllSmall vs)
+
+pub small-after : (vs : List Verdict) → SmallAfter vs → Small (inTurn vs)
+small-after [] a = record { parts = tt }
+small-after (v ∷ vs) a = small-first v vs (a .0) (a .1)
 
 pub small-turn : (vs : List Verdict) → AllSmall vs → Small (inTurn vs)
 small-turn [] a = record { parts = tt }
-small-turn (v ∷ vs) a = small-first v vs (a .0) (a .1)
+small-turn (v ∷ vs) a = small-first v vs (a .0) (λ e. a .1)
+
+-- what a call gives after what it finds
+pub small-giving : {A : Type 0} {v : Verdict} (x : A) → Small v → Small (v andThen accepted x)
+small-giving x s = small-and s (small-fine x)
 
 -- its number fits
 pub small-number : {A : Type 0} (v : Outcome A) → Small v → numberOf v < 2 ^ 64

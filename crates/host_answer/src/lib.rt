@@ -1,11 +1,12 @@
 // What the calls from C share: the number that each answers, and the numbers that it finds.
+use model::Answer;
 use model::Refusal;
 ghost use mathlib.Core.Path.{_≡_};
 ghost use mathlib.Core.List.{[], _∷_};
 ghost use Prim.Native.Nat.{_<_, _^_};
 ghost use lib.ListN.{set};
-ghost use Rattle.model.specs.Answers.{number};
-ghost use Rattle.host_answer.specs.Number.{refusalNumber};
+ghost use Rattle.model.specs.Answers.{number, said};
+ghost use Rattle.host_answer.specs.Number.{refusalNumber, numberOf};
 ghost use Rattle.host_answer.specs.Found.{filled};
 
 // What one more in the cause adds to the number of a refusal.
@@ -18,6 +19,17 @@ pub fn number_of(refusal: Refusal) -> u64
 {
     let cause = refusal.cause;
     CAUSE_STEP * model::number(cause) + refusal.place
+}
+
+// The number of an answer that gives nothing but acceptance.
+pub fn answer_number(answer: Answer) -> u64
+    requires { ⌜ numberOf (said answer) < 2 ^ 64 ⌝ }
+    ensures { λ r. ⌜ r ≡ numberOf (said answer) ⌝ }
+{
+    match answer {
+        Answer::Done => 0,
+        Answer::Refused(refusal) => number_of(refusal),
+    }
 }
 
 // One number at its place, where there is room for it.
