@@ -1,0 +1,4 @@
+pub mod Fills
+pub mod Small
+pub mod Answers
+pub mod Tables

@@ -1,0 +1,13 @@
+use borrow.Author.Needs.{needs}
+use borrow.Author.Tests.{le-leb, lt-leb}
+use Rattle.host_write.proofs.width_of.Statement.{statement}
+use Rattle.host_write.proofs.width_of.Tie as tie
+
+returns : tie.Need-returns
+returns c = rw (le-leb _ _ (c .if1 .taken))
+
+returns-2 : tie.Need-returns-2
+returns-2 c = rw (lt-leb _ _ (c .if1 .left))
+
+pub width-of-spec : {M : Type 1} → statement M
+width-of-spec = tie.close (tie.spec returns returns-2)
