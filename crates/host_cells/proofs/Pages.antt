@@ -30,24 +30,28 @@ use Rattle.host_cells.specs.Cells.{Printing, PrintedFromC, pageFound, pa
 pub printing-refused : {v : Verdict} (n : ℕ) (text bytes : List ℕ) (r : Refusal) → v ≡ told r → Printing v n text bytes (page-answer.Refused r) bytes
 printing-refused n text bytes r e = record { answer = sym (out _ e); bytes-after = rw e }
 
-printing-past : {u v : Verdict} {n : ℕ} {text bytes : List ℕ} {r : PageAnswer} {bytes′ : List ℕ} → u ≡ fine → Printing v n text bytes r bytes′ → Printing (u andThen v) n text bytes r bytes′
+printing-past : {u v : Verdict} {n : ℕ} {text bytes : List ℕ} {r : PageAnswer} {bytes′ : List ℕ} → u ≡ fine → Printing v n text bytes r bytes′ → Printing
+    (u andThen v) n text bytes r bytes′
 printing-past {v = v} e p = rw (past v e) p
 
 -- on tables that have been taken
-module _ (mesh field : List ℕ) (page : ℕ) (bytes : List ℕ) {a : FieldTaken} {volumes masses : List ℕ} (t : CellsTaking mesh field a volumes masses) {n : FieldCounts} (d : a ≡ Taken n)
+module _ (mesh field : List ℕ) (page : ℕ) (bytes : List ℕ) {a : FieldTaken} {volumes masses : List ℕ} (t : CellsTaking mesh field a volumes masses) {n :
+    FieldCounts} (d : a ≡ Taken n)
     {r : PageAnswer} {bytes′ : List ℕ} where
   pub page-made : PageIs (take (n .cells) volumes) (take (n .cells) masses) (n .cells) page bytes r bytes′ → PageTaking mesh field page bytes r bytes′
   page-made q =
       let p = cells-as mesh field t d (λ m vs ms. PageIs vs ms m page bytes r bytes′) q in
       printing-past (tested-fine mesh field (t .answer) d) (record { answer = p .answer; bytes-after = p .bytes-after })
 
-  pub public-made : (marks : List ℕ) → PublicPageIs (take (n .cells) volumes) (take (n .cells) masses) marks (n .cells) page bytes r bytes′ → PublicTaking mesh field marks page bytes r bytes′
+  pub public-made : (marks : List ℕ) → PublicPageIs (take (n .cells) volumes) (take (n .cells) masses) marks (n .cells) page bytes r bytes′ → PublicTaking
+      mesh field marks page bytes r bytes′
   public-made marks q =
       let p = cells-as mesh field t d (λ m vs ms. PublicPageIs vs ms marks m page bytes r bytes′) q in
       printing-past (tested-fine mesh field (t .answer) d) (record { answer = p .answer; bytes-after = p .bytes-after })
 
 -- the answer as a number
-pub printed-from : {v : Verdict} {n : ℕ} {text bytes : List ℕ} {a : PageAnswer} {bytes′ : List ℕ} → Printing v n text bytes a bytes′ → {found : List ℕ} {r : ℕ} {found′ : List ℕ}
+pub printed-from : {v : Verdict} {n : ℕ} {text bytes : List ℕ} {a : PageAnswer} {bytes′ : List ℕ} → Printing v n text bytes a bytes′ → {found : List ℕ} {r
+    : ℕ} {found′ : List ℕ}
     → Answered alone (pageSaid a) found r found′ → PrintedFromC v n text bytes found r bytes′ found′
 printed-from p {found = found} a = record { answer = answered-as alone found (p .answer) a; bytes-after = p .bytes-after }
 
@@ -74,7 +78,8 @@ module _ (mesh field : List ℕ) (page : ℕ) (h : page < 2 ^ 32) where
   pub page-fits : (room : ℕ) → numberOf (pageFound mesh field page room andThen accepted (pageLength mesh field page)) < 2 ^ 64
   page-fits room = small-number _ (small-giving _ (small-and (field-tested-small mesh field) (with-small mesh field (small-fine tt) page room h)))
 
-  pub public-fits : (marks : List ℕ) (room : ℕ) → numberOf (publicFound mesh field marks page room andThen accepted (length (publicIn mesh field marks page))) < 2 ^ 64
+  pub public-fits : (marks : List ℕ) (room : ℕ) → numberOf (publicFound mesh field marks page room andThen accepted (length (publicIn mesh field marks
+      page))) < 2 ^ 64
   unfolding publicVerdict
   public-fits marks room = small-number _ (small-giving _ (small-and (field-tested-small mesh field)
       (small-and (with-small mesh field (small-need 2 19 _ (omega arith)) page room h) (small-each 27 _ _ (omega (arith, few mesh .0))))))

@@ -78,7 +78,8 @@ unfolding meshJudged meshRecordFound meshHeadVerdict countsWithin
 mesh-small mesh =
     small-and
     (small-and
-    (small-and (small-and (small-and (small-need 11 0 _ (omega arith)) (small-need 13 0 _ (omega arith))) (small-and (small-need 1 0 _ (omega arith)) (small-need 1 1 _ (omega arith))))
+    (small-and (small-and (small-and (small-need 11 0 _ (omega arith)) (small-need 13 0 _ (omega arith))) (small-and (small-need 1 0 _ (omega arith))
+    (small-need 1 1 _ (omega arith))))
     (mesh-body mesh))
     (small-and (small-and (small-and (small-and
     (small-need 2 0 _ (omega arith))
@@ -110,7 +111,8 @@ module _ (mesh step : List ℕ) where
   step-body : Small (stepBodyVerdict (cellsIn mesh) (facesIn mesh) (secondsIn mesh) step runFaces runFaces runCells)
   unfolding stepBodyVerdict
   step-body = small-then _ _
-      (small-and (small-and (small-and (small-need 11 0 _ (omega arith)) (small-need 2 6 _ (omega arith))) (small-need 2 7 _ (omega arith))) (small-need 2 14 _ (omega arith)))
+      (small-and (small-and (small-and (small-need 11 0 _ (omega arith)) (small-need 2 6 _ (omega arith))) (small-need 2 7 _ (omega arith)))
+      (small-need 2 14 _ (omega arith)))
       (λ e. small-each 12 (8 * length step) _ (omega (
         arith,
         step-bytes step (secondsIn mesh) (kindIn step) (cellsIn mesh) (facesIn mesh) (few-cells mesh) (few-faces mesh)

@@ -37,14 +37,16 @@ front-of {xs = xs} {ys = ys} e p = let q : PartRead _ xs ys = rw e at p in recor
 -- the mesh record, taken into tables as long as the run's limits
 module _ (mesh field : List ℕ) {volumes firsts seconds shares reaches : List ℕ} {a : MeshAnswer} {volumes′ firsts′ seconds′ shares′ reaches′ : List ℕ}
     (t : MeshTaking mesh volumes firsts seconds shares reaches a volumes′ firsts′ seconds′ shares′ reaches′)
-    (lv : length volumes ≡ runCells) (lf : length firsts ≡ runFaces) (ls : length seconds ≡ runFaces) (lw : length shares ≡ runFaces) (lk : length reaches ≡ runFaces) where
+    (lv : length volumes ≡ runCells) (lf : length firsts ≡ runFaces) (ls : length seconds ≡ runFaces) (lw : length shares ≡ runFaces)
+    (lk : length reaches ≡ runFaces) where
   mesh-said : meshSaid a ≡ (meshJudgedInRun mesh andThen accepted (countsIn mesh))
   mesh-said = let q = t .answer in rw (lv, lf, ls, lw, lk) at q
 
   abbrev judged : Verdict
   judged = fieldJudged (widthIn mesh) (cellsIn mesh) (volumesIn mesh) field runCells
 
-  pub mesh-refused : {r : Refusal} → a ≡ mesh-answer.Refused r → (masses : List ℕ) → FieldTaking mesh field (Refused r) volumes′ firsts′ seconds′ shares′ reaches′ masses
+  pub mesh-refused : {r : Refusal} → a ≡ mesh-answer.Refused r → (masses : List ℕ) → FieldTaking mesh field (Refused r) volumes′ firsts′ seconds′ shares′
+      reaches′ masses
   mesh-refused {r = r} d masses =
       let v : fieldTested mesh field ≡ refused (number (r .cause)) (r .place) =
       out judged (refused-of (meshJudgedInRun mesh) (countsIn mesh) (number (r .cause)) (r .place) (sym (ap meshSaid d) ∙ mesh-said)) in
@@ -61,7 +63,8 @@ module _ (mesh field : List ℕ) {volumes firsts seconds shares reaches : List �
     mesh-read : MeshIsRead mesh n volumes′ firsts′ seconds′ shares′ reaches′
     unfolding volumesIn firstsIn secondsIn sharesIn reachesIn
     mesh-read =
-        let v : meshJudged mesh (length volumes) (length firsts) (length seconds) (length shares) (length reaches) ≡ fine = rw (lv, lf, ls, lw, lk) (mesh-fine .0) in
+        let v : meshJudged mesh (length volumes) (length firsts) (length seconds) (length shares) (length reaches) ≡ fine = rw (lv, lf, ls, lw, lk)
+        (mesh-fine .0) in
         let k = limits mesh record-fine in
         rw (mesh-fine .1) (record {
           passed = record-fine;
@@ -80,7 +83,8 @@ module _ (mesh field : List ℕ) {volumes firsts seconds shares reaches : List �
     pub volumes-long : n .cells ≡ length (take (n .cells) volumes′)
     volumes-long = part-long (mesh-read .volumes-part)
 
-    module _ {masses masses′ : List ℕ} {b : TotalAnswer} (u : FieldKept (n .width) (n .cells) (take (n .cells) volumes′) field masses b masses′) (lm : length masses ≡ runCells) where
+    module _ {masses masses′ : List ℕ} {b : TotalAnswer} (u : FieldKept (n .width) (n .cells) (take (n .cells) volumes′) field masses b masses′)
+        (lm : length masses ≡ runCells) where
       kept : FieldKept (widthIn mesh) (cellsIn mesh) (volumesIn mesh) field masses b masses′
       kept =
           let x : FieldKept (n .width) (n .cells) (volumesIn mesh) field masses b masses′ = rw (mesh-read .volumes-part .part) at u in
@@ -112,7 +116,8 @@ module _ (mesh field : List ℕ) {volumes firsts seconds shares reaches : List �
         counts-are : _≡_ {A = FieldCounts} (record { cells = n .cells; faces = n .faces; width = n .width; total = total }) (takenIn mesh field)
         counts-are = rw (mesh-fine .1, field-fine .1)
 
-        pub field-taken : FieldTaking mesh field (Taken (record { cells = n .cells; faces = n .faces; width = n .width; total = total })) volumes′ firsts′ seconds′ shares′ reaches′ masses′
+        pub field-taken : FieldTaking mesh field (Taken (record { cells = n .cells; faces = n .faces; width = n .width; total = total })) volumes′ firsts′
+            seconds′ shares′ reaches′ masses′
         field-taken =
             let v : fieldTested mesh field ≡ fine = past judged (mesh-fine .0) ∙ field-fine .0 in
             let c : n .cells ≡ meshIn mesh .cells = ap (λ (k : MeshCounts). k .cells) (mesh-fine .1) in

@@ -8,7 +8,8 @@ use Rattle.host_cells.proofs.lagoon_page.Tie as tie
 printed-requires : tie.Need-printed-requires
 printed-requires c κs =
     let a = (c .before .before .before .before .before .before .before .before .before) .args in
-    rw (c .before .before .before .page-of .ensures .answer) (page-fits (a .mesh .now) (a .field .now) (a .page) (omega arith) (length (a .bytes .now)))
+    rw (c .before .before .before .page-of .ensures .answer) (page-fits (a .mesh .now) (a .field .now) (a .page) (omega arith) (length (a .bytes
+    .now)))
 
 returns : tie.Need-returns
 returns c = printed-from (c .before .before .before .before .before .before .page-of .ensures) (c .before .before .printed .ensures)

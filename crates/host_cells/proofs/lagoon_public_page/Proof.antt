@@ -11,7 +11,8 @@ start-from-bytes c = c .before .before .before .before .before .before .before .
 printed-requires : tie.Need-printed-requires
 printed-requires c κs =
     let a = (start-from-bytes (c .before .before)) .args in
-    rw (c .before .before .before .public-page-of .ensures .answer) (public-fits (a .mesh .now) (a .field .now) (a .page) (omega arith) (a .marks .now) (length (a .bytes .now)))
+    rw (c .before .before .before .public-page-of .ensures .answer) (public-fits (a .mesh .now) (a .field .now) (a .page) (omega arith) (a .marks
+    .now) (length (a .bytes .now)))
 
 returns : tie.Need-returns
 returns c = printed-from (c .before .before .before .before .before .before .public-page-of .ensures) (c .before .before .printed .ensures)

@@ -10,10 +10,14 @@ number-of-requires : tie.Need-number-of-requires
 number-of-requires c κs = refusal-of (ap pageSaid (c .before .answer2 .given .1)) ((c .before .before .before .before) .pre)
 
 returns : tie.Need-returns
-returns c = answered-found alone ((c .before .before .before .before .before .before .before .before) .args .found .now) (ap pageSaid (c .before .before .before .before .before .answer .given .1)) (c .before .before .fill1 .ensures)
+returns c =
+    answered-found alone ((c .before .before .before .before .before .before .before .before) .args .found .now) (ap pageSaid (c .before .before
+    .before .before .before .answer .given .1)) (c .before .before .fill1 .ensures)
 
 returns-2 : tie.Need-returns-2
-returns-2 c = answered-refused alone ((c .before .before .before .before .before) .args .found .now) (ap pageSaid (c .before .before .answer2 .given .1)) (c .number-of .ensures)
+returns-2 c =
+    answered-refused alone ((c .before .before .before .before .before) .args .found .now) (ap pageSaid (c .before .before .answer2 .given .1)) (c
+    .number-of .ensures)
 
 pub printed-spec : {M : Type 1} → statement M
 printed-spec =
