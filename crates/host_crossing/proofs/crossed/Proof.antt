@@ -32,86 +32,88 @@ take-field-from-reaches3 c = take-field-from-reaches2 (c .before .before .before
 array-share-prefix-volumes : tie.Need-array-share-prefix-volumes
 array-share-prefix-volumes c =
     let a = (start-from-masses2 (c .before .before .before)) .args in
-    lendable (a .mesh .now) (a .field .now) (c .before .before .before .before .before .before .before .before .before .take-field .ensures) (c
-    .before .a2 .given .1) .volumes-fit
+    let t = c .before .before .before .before .before .before .before .before .before .take-field .ensures in
+    lendable (a .mesh .now) (a .field .now) t (c .before .a2 .given .1) .volumes-fit
 
 slice-aggregate-take-step : tie.Need-slice-aggregate-take-step
 slice-aggregate-take-step c =
     let a = (start-from-masses2 (c .before .before .before .before)) .args in
-    lendable (a .mesh .now) (a .field .now) ((take-field-from-masses2 (c .before .before .before .before)) .take-field .ensures) (c .before .before
-    .a2 .given .1) .volumes-long
+    let t = (take-field-from-masses2 (c .before .before .before .before)) .take-field .ensures in
+    lendable (a .mesh .now) (a .field .now) t (c .before .before .a2 .given .1) .volumes-long
 
 array-share-prefix-firsts : tie.Need-array-share-prefix-firsts
 array-share-prefix-firsts c =
     let a = (start-from-masses2 (c .before .before .before .before)) .args in
-    lendable (a .mesh .now) (a .field .now) ((take-field-from-masses2 (c .before .before .before .before)) .take-field .ensures) (c .before .before
-    .a2 .given .1) .firsts-fit
+    let t = (take-field-from-masses2 (c .before .before .before .before)) .take-field .ensures in
+    lendable (a .mesh .now) (a .field .now) t (c .before .before .a2 .given .1) .firsts-fit
 
 slice-aggregate-take-step-2 : tie.Need-slice-aggregate-take-step-2
 slice-aggregate-take-step-2 c =
     let a = (start-from-masses2 (c .before .before .before .before .before)) .args in
-    lendable (a .mesh .now) (a .field .now) ((take-field-from-masses2 (c .before .before .before .before .before)) .take-field .ensures) (c .before
-    .before .before .a2 .given .1) .firsts-long
+    let t = (take-field-from-masses2 (c .before .before .before .before .before)) .take-field .ensures in
+    lendable (a .mesh .now) (a .field .now) t (c .before .before .before .a2 .given .1) .firsts-long
 
 array-share-prefix-seconds : tie.Need-array-share-prefix-seconds
 array-share-prefix-seconds c =
     let a = (start-from-masses2 (c .before .before .before .before .before)) .args in
-    lendable (a .mesh .now) (a .field .now) ((take-field-from-masses2 (c .before .before .before .before .before)) .take-field .ensures) (c .before
-    .before .before .a2 .given .1) .seconds-fit
+    let t = (take-field-from-masses2 (c .before .before .before .before .before)) .take-field .ensures in
+    lendable (a .mesh .now) (a .field .now) t (c .before .before .before .a2 .given .1) .seconds-fit
 
 slice-aggregate-take-step-3 : tie.Need-slice-aggregate-take-step-3
 slice-aggregate-take-step-3 c =
     let a = (start-from-masses2 (c .before .before .before .before .before .before)) .args in
-    lendable (a .mesh .now) (a .field .now) ((take-field-from-masses2 (c .before .before .before .before .before .before)) .take-field .ensures) (c
-    .before .before .before .before .a2 .given .1) .seconds-long
+    let t = (take-field-from-masses2 (c .before .before .before .before .before .before)) .take-field .ensures in
+    lendable (a .mesh .now) (a .field .now) t (c .before .before .before .before .a2 .given .1) .seconds-long
 
 array-share-prefix-shares : tie.Need-array-share-prefix-shares
 array-share-prefix-shares c =
     let a = (start-from-masses2 (c .before .before .before .before .before .before)) .args in
-    lendable (a .mesh .now) (a .field .now) ((take-field-from-masses2 (c .before .before .before .before .before .before)) .take-field .ensures) (c
-    .before .before .before .before .a2 .given .1) .shares-fit
+    let t = (take-field-from-masses2 (c .before .before .before .before .before .before)) .take-field .ensures in
+    lendable (a .mesh .now) (a .field .now) t (c .before .before .before .before .a2 .given .1) .shares-fit
 
 slice-aggregate-take-step-4 : tie.Need-slice-aggregate-take-step-4
 slice-aggregate-take-step-4 c =
     let a = (start-from-masses2 (c .before .before .before .before .before .before .before)) .args in
-    lendable (a .mesh .now) (a .field .now) ((take-field-from-masses2 (c .before .before .before .before .before .before .before)) .take-field
-    .ensures) (c .before .before .before .before .before .a2 .given .1) .shares-long
+    let t = (take-field-from-masses2 (c .before .before .before .before .before .before .before)) .take-field .ensures in
+    lendable (a .mesh .now) (a .field .now) t (c .before .before .before .before .before .a2 .given .1) .shares-long
 
 array-share-prefix-reaches : tie.Need-array-share-prefix-reaches
 array-share-prefix-reaches c =
     let a = (start-from-masses2 (c .before .before .before .before .before .before .before)) .args in
-    lendable (a .mesh .now) (a .field .now) ((take-field-from-masses2 (c .before .before .before .before .before .before .before)) .take-field
-    .ensures) (c .before .before .before .before .before .a2 .given .1) .reaches-fit
+    let t = (take-field-from-masses2 (c .before .before .before .before .before .before .before)) .take-field .ensures in
+    lendable (a .mesh .now) (a .field .now) t (c .before .before .before .before .before .a2 .given .1) .reaches-fit
 
 slice-aggregate-take-step-5 : tie.Need-slice-aggregate-take-step-5
 slice-aggregate-take-step-5 c =
     let a = (start-from-reaches3 c) .args in
-    lendable (a .mesh .now) (a .field .now) ((take-field-from-reaches3 c) .take-field .ensures) (c .before .before .before .before .before .before
-    .a2 .given .1) .reaches-long
+    let t = (take-field-from-reaches3 c) .take-field .ensures in
+    lendable (a .mesh .now) (a .field .now) t (c .before .before .before .before .before .before .a2 .given .1) .reaches-long
 
 array-borrow-prefix-masses : tie.Need-array-borrow-prefix-masses
 array-borrow-prefix-masses c =
     let a = (start-from-reaches3 c) .args in
-    lendable (a .mesh .now) (a .field .now) ((take-field-from-reaches3 c) .take-field .ensures) (c .before .before .before .before .before .before
-    .a2 .given .1) .masses-fit
+    let t = (take-field-from-reaches3 c) .take-field .ensures in
+    lendable (a .mesh .now) (a .field .now) t (c .before .before .before .before .before .before .a2 .given .1) .masses-fit
 
 slice-aggregate-take-step-6 : tie.Need-slice-aggregate-take-step-6
 slice-aggregate-take-step-6 c =
     let a = (start-from-reaches3 (c .before)) .args in
-    lendable (a .mesh .now) (a .field .now) ((take-field-from-reaches3 (c .before)) .take-field .ensures) (c .before .before .before .before .before
-    .before .before .a2 .given .1) .masses-long
+    let t = (take-field-from-reaches3 (c .before)) .take-field .ensures in
+    lendable (a .mesh .now) (a .field .now) t (c .before .before .before .before .before .before .before .a2 .given .1) .masses-long
 
 returns : tie.Need-returns
 returns c =
     let a = (start-from-masses2 (c .before .before .before)) .args in
-    step-untaken (a .mesh .now) (a .field .now) (a .step .now) (c .before .a .given .0 .0) (untaken (a .mesh .now) (a .field .now) (c .before .before
-    .before .before .before .before .before .before .before .take-field .ensures .answer) (c .before .a .given .1))
+    let t = c .before .before .before .before .before .before .before .before .before .take-field .ensures in
+    step-untaken (a .mesh .now) (a .field .now) (a .step .now) (c .before .a .given .0 .0)
+    (untaken (a .mesh .now) (a .field .now) (t .answer) (c .before .a .given .1))
 
 returns-2 : tie.Need-returns-2
 returns-2 c =
     let a = (start-from-reaches3 (c .before .before .before)) .args in
-    step-made (a .mesh .now) (a .field .now) (a .step .now) ((take-field-from-reaches3 (c .before .before .before)) .take-field .ensures) (c .before
-    .before .before .before .before .before .before .before .before .a2 .given .1) (c .before .take-step .ensures)
+    let t = (take-field-from-reaches3 (c .before .before .before)) .take-field .ensures in
+    step-made (a .mesh .now) (a .field .now) (a .step .now) t
+    (c .before .before .before .before .before .before .before .before .before .a2 .given .1) (c .before .take-step .ensures)
 
 pub crossed-spec : {M : Type 1} → statement M
 crossed-spec =

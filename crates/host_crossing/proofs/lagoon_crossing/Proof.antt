@@ -13,19 +13,20 @@ start-from-known-told2 c = c .before .before .before .before .before .before .be
 number-of-requires : tie.Need-number-of-requires
 number-of-requires c κs =
     let a = (c .before .before .before .before .before .before .before .before) .args in
-    refusal-of (sym (c .before .before .before .crossed .ensures) ∙ ap takenSaid (c .before .a .given .1)) (found-fits (a .mesh .now) (a .field .now)
-    (a .step .now))
+    let q = c .before .before .before .crossed .ensures in
+    refusal-of (sym q ∙ ap takenSaid (c .before .a .given .1)) (found-fits (a .mesh .now) (a .field .now) (a .step .now))
 
 returns : tie.Need-returns
 returns c =
-    answered-refused crossedIn ((c .before .before .before .before .before .before .before .before .before) .args .found .now) (sym (c .before
-    .before .before .before .crossed .ensures) ∙ ap takenSaid (c .before .before .a .given .1)) (c .number-of .ensures)
+    let q = c .before .before .before .before .crossed .ensures in
+    answered-refused crossedIn ((c .before .before .before .before .before .before .before .before .before) .args .found .now)
+    (sym q ∙ ap takenSaid (c .before .before .a .given .1)) (c .number-of .ensures)
 
 returns-2 : tie.Need-returns-2
 returns-2 c =
-    answered-found crossedIn ((start-from-known-told2 (c .before .before .before .before)) .args .found .now) (sym (c .before .before .before .before
-    .before .before .before .crossed .ensures) ∙ ap takenSaid (c .before .before .before .before .before .a2 .given .1)) (c .before .before .fill3
-    .ensures)
+    let q = c .before .before .before .before .before .before .before .crossed .ensures in
+    answered-found crossedIn ((start-from-known-told2 (c .before .before .before .before)) .args .found .now)
+    (sym q ∙ ap takenSaid (c .before .before .before .before .before .a2 .given .1)) (c .before .before .fill3 .ensures)
 
 pub lagoon-crossing-spec : {M : Type 1} → statement M
 lagoon-crossing-spec =

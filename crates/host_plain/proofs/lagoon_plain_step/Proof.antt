@@ -9,20 +9,20 @@ start-from-slice-known2 c = c .before .before .before .before .before .before .b
 number-of-requires : tie.Need-number-of-requires
 number-of-requires c κs =
     let a = (start-from-slice-known2 (c .before .before .before)) .args in
-    number-fits (a .mesh .now) (a .field .now) (a .step .now) (a .next .now) (c .before .before .before .before .before .on-records .ensures) (c
-    .before .a .given .1)
+    let h = c .before .before .before .before .before .on-records .ensures in
+    number-fits (a .mesh .now) (a .field .now) (a .step .now) (a .next .now) h (c .before .a .given .1)
 
 returns : tie.Need-returns
 returns c =
     let a = (start-from-slice-known2 (c .before .before .before .before)) .args in
-    refused-number (a .mesh .now) (a .field .now) (a .step .now) (a .next .now) (c .before .before .before .before .before .before .on-records
-    .ensures) (c .before .before .a .given .1) (c .number-of .ensures)
+    let h = c .before .before .before .before .before .before .on-records .ensures in
+    refused-number (a .mesh .now) (a .field .now) (a .step .now) (a .next .now) h (c .before .before .a .given .1) (c .number-of .ensures)
 
 returns-2 : tie.Need-returns-2
 returns-2 c =
     let a = (start-from-slice-known2 (c .before .before)) .args in
-    stepped-number (a .mesh .now) (a .field .now) (a .step .now) (a .next .now) (c .before .before .before .before .on-records .ensures) (c
-    .enum-told .given .1)
+    let h = c .before .before .before .before .on-records .ensures in
+    stepped-number (a .mesh .now) (a .field .now) (a .step .now) (a .next .now) h (c .enum-told .given .1)
 
 pub lagoon-plain-step-spec : {M : Type 1} → statement M
 lagoon-plain-step-spec =

@@ -40,38 +40,38 @@ read-step-from-slice-known2 c = read-step-from-releases2 (c .before .before .bef
 array-share-prefix-fluxes : tie.Need-array-share-prefix-fluxes
 array-share-prefix-fluxes c =
     let s = (start-from-At-match-keys2 (c .before)) in
-    fluxes-part (s .args .width) (mesh s) (s .args .masses .now) (c .before .before .before .before .before .read-step .ensures) refl refl refl (c
-    .enum-told .given .1) .fits
+    let r = c .before .before .before .before .before .read-step .ensures in
+    fluxes-part (s .args .width) (mesh s) (s .args .masses .now) r refl refl refl (c .enum-told .given .1) .fits
 
 slice-aggregate-written : tie.Need-slice-aggregate-written
 slice-aggregate-written c =
     let s = (start-from-At-match-keys2 (c .before .before)) in
-    part-long (fluxes-part (s .args .width) (mesh s) (s .args .masses .now) (c .before .before .before .before .before .before .read-step .ensures)
-    refl refl refl (c .before .enum-told .given .1))
+    let r = c .before .before .before .before .before .before .read-step .ensures in
+    part-long (fluxes-part (s .args .width) (mesh s) (s .args .masses .now) r refl refl refl (c .before .enum-told .given .1))
 
 array-share-prefix-outsides : tie.Need-array-share-prefix-outsides
 array-share-prefix-outsides c =
     let s = (start-from-At-match-keys2 (c .before .before)) in
-    outsides-part (s .args .width) (mesh s) (s .args .masses .now) (c .before .before .before .before .before .before .read-step .ensures) refl refl
-    refl (c .before .enum-told .given .1) .fits
+    let r = c .before .before .before .before .before .before .read-step .ensures in
+    outsides-part (s .args .width) (mesh s) (s .args .masses .now) r refl refl refl (c .before .enum-told .given .1) .fits
 
 slice-aggregate-written-2 : tie.Need-slice-aggregate-written-2
 slice-aggregate-written-2 c =
     let s = (start-from-At-match-keys2 (c .before .before .before)) in
-    part-long (outsides-part (s .args .width) (mesh s) (s .args .masses .now) (c .before .before .before .before .before .before .before .read-step
-    .ensures) refl refl refl (c .before .before .enum-told .given .1))
+    let r = c .before .before .before .before .before .before .before .read-step .ensures in
+    part-long (outsides-part (s .args .width) (mesh s) (s .args .masses .now) r refl refl refl (c .before .before .enum-told .given .1))
 
 array-share-prefix-releases : tie.Need-array-share-prefix-releases
 array-share-prefix-releases c =
     let s = (start-from-At-match-keys2 (c .before .before .before)) in
-    releases-part (s .args .width) (mesh s) (s .args .masses .now) (c .before .before .before .before .before .before .before .read-step .ensures)
-    refl refl refl (c .before .before .enum-told .given .1) .fits
+    let r = c .before .before .before .before .before .before .before .read-step .ensures in
+    releases-part (s .args .width) (mesh s) (s .args .masses .now) r refl refl refl (c .before .before .enum-told .given .1) .fits
 
 slice-aggregate-written-3 : tie.Need-slice-aggregate-written-3
 slice-aggregate-written-3 c =
     let s = (start-from-At-match-keys2 (c .before .before .before .before)) in
-    part-long (releases-part (s .args .width) (mesh s) (s .args .masses .now) (c .before .before .before .before .before .before .before .before
-    .read-step .ensures) refl refl refl (c .before .before .before .enum-told .given .1))
+    let r = c .before .before .before .before .before .before .before .before .read-step .ensures in
+    part-long (releases-part (s .args .width) (mesh s) (s .args .masses .now) r refl refl refl (c .before .before .before .enum-told .given .1))
 
 written-requires : tie.Need-written-requires
 written-requires c κs = (start-from-At-match-keys2 (c .before .before .before .before .before)) .pre
@@ -79,14 +79,15 @@ written-requires c κs = (start-from-At-match-keys2 (c .before .before .before .
 returns : tie.Need-returns
 returns c =
     let s = (start-from-At-match-keys1 (c .before .before)) in
-    on-unread (s .args .width) (mesh s) (s .args .masses .now) (s .args .step .now) (s .args .bytes .now) (c .before .before .before .before .before
-    .before .read-step .ensures) refl refl refl (c .before .a .given .1)
+    let r = c .before .before .before .before .before .before .read-step .ensures in
+    on-unread (s .args .width) (mesh s) (s .args .masses .now) (s .args .step .now) (s .args .bytes .now) r refl refl refl (c .before .a .given .1)
 
 returns-2 : tie.Need-returns-2
 returns-2 c =
     let s = (start-from-slice-known2 c) in
-    on-read (s .args .width) (mesh s) (s .args .masses .now) (s .args .step .now) (s .args .bytes .now) ((read-step-from-slice-known2 c) .read-step
-    .ensures) refl refl refl (c .before .before .before .before .before .before .before .enum-told .given .1) (c .before .before .written .ensures)
+    let r = (read-step-from-slice-known2 c) .read-step .ensures in
+    on-read (s .args .width) (mesh s) (s .args .masses .now) (s .args .step .now) (s .args .bytes .now) r refl refl refl
+    (c .before .before .before .before .before .before .before .enum-told .given .1) (c .before .before .written .ensures)
 
 pub on-field-spec : {M : Type 1} → statement M
 on-field-spec =

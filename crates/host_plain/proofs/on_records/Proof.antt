@@ -36,93 +36,94 @@ a2-from-shares3 c = c .before .before .before .before .before
 array-share-prefix-volumes : tie.Need-array-share-prefix-volumes
 array-share-prefix-volumes c =
     let a = (start-from-reaches2 (c .before .before .before .before)) .args in
-    lendable (a .mesh .now) (a .field .now) (c .before .before .before .before .before .before .before .before .before .take-field .ensures) (c
-    .before .a2 .given .1) .volumes-fit
+    let t = c .before .before .before .before .before .before .before .before .before .take-field .ensures in
+    lendable (a .mesh .now) (a .field .now) t (c .before .a2 .given .1) .volumes-fit
 
 slice-aggregate-on-field : tie.Need-slice-aggregate-on-field
 slice-aggregate-on-field c =
     let a = (start-from-reaches2 (c .before .before .before .before .before)) .args in
-    lendable (a .mesh .now) (a .field .now) ((take-field-from-reaches2 (c .before .before .before .before .before)) .take-field .ensures) (c .before
-    .before .a2 .given .1) .volumes-long
+    let t = (take-field-from-reaches2 (c .before .before .before .before .before)) .take-field .ensures in
+    lendable (a .mesh .now) (a .field .now) t (c .before .before .a2 .given .1) .volumes-long
 
 array-share-prefix-firsts : tie.Need-array-share-prefix-firsts
 array-share-prefix-firsts c =
     let a = (start-from-reaches2 (c .before .before .before .before .before)) .args in
-    lendable (a .mesh .now) (a .field .now) ((take-field-from-reaches2 (c .before .before .before .before .before)) .take-field .ensures) (c .before
-    .before .a2 .given .1) .firsts-fit
+    let t = (take-field-from-reaches2 (c .before .before .before .before .before)) .take-field .ensures in
+    lendable (a .mesh .now) (a .field .now) t (c .before .before .a2 .given .1) .firsts-fit
 
 slice-aggregate-on-field-2 : tie.Need-slice-aggregate-on-field-2
 slice-aggregate-on-field-2 c =
     let a = (start-from-reaches2 (c .before .before .before .before .before .before)) .args in
-    lendable (a .mesh .now) (a .field .now) ((take-field-from-reaches2 (c .before .before .before .before .before .before)) .take-field .ensures) (c
-    .before .before .before .a2 .given .1) .firsts-long
+    let t = (take-field-from-reaches2 (c .before .before .before .before .before .before)) .take-field .ensures in
+    lendable (a .mesh .now) (a .field .now) t (c .before .before .before .a2 .given .1) .firsts-long
 
 array-share-prefix-seconds : tie.Need-array-share-prefix-seconds
 array-share-prefix-seconds c =
     let a = (start-from-reaches2 (c .before .before .before .before .before .before)) .args in
-    lendable (a .mesh .now) (a .field .now) ((take-field-from-reaches2 (c .before .before .before .before .before .before)) .take-field .ensures) (c
-    .before .before .before .a2 .given .1) .seconds-fit
+    let t = (take-field-from-reaches2 (c .before .before .before .before .before .before)) .take-field .ensures in
+    lendable (a .mesh .now) (a .field .now) t (c .before .before .before .a2 .given .1) .seconds-fit
 
 slice-aggregate-on-field-3 : tie.Need-slice-aggregate-on-field-3
 slice-aggregate-on-field-3 c =
     let a = (start-from-reaches2 (c .before .before .before .before .before .before .before)) .args in
-    lendable (a .mesh .now) (a .field .now) ((take-field-from-reaches2 (c .before .before .before .before .before .before .before)) .take-field
-    .ensures) (c .before .before .before .before .a2 .given .1) .seconds-long
+    let t = (take-field-from-reaches2 (c .before .before .before .before .before .before .before)) .take-field .ensures in
+    lendable (a .mesh .now) (a .field .now) t (c .before .before .before .before .a2 .given .1) .seconds-long
 
 array-share-prefix-shares : tie.Need-array-share-prefix-shares
 array-share-prefix-shares c =
     let a = (start-from-reaches2 (c .before .before .before .before .before .before .before)) .args in
-    lendable (a .mesh .now) (a .field .now) ((take-field-from-reaches2 (c .before .before .before .before .before .before .before)) .take-field
-    .ensures) (c .before .before .before .before .a2 .given .1) .shares-fit
+    let t = (take-field-from-reaches2 (c .before .before .before .before .before .before .before)) .take-field .ensures in
+    lendable (a .mesh .now) (a .field .now) t (c .before .before .before .before .a2 .given .1) .shares-fit
 
 slice-aggregate-on-field-4 : tie.Need-slice-aggregate-on-field-4
 slice-aggregate-on-field-4 c =
     let a = (start-from-shares3 c) .args in
-    lendable (a .mesh .now) (a .field .now) ((take-field-from-shares3 c) .take-field .ensures) (c .before .before .before .before .before .a2 .given
-    .1) .shares-long
+    let t = (take-field-from-shares3 c) .take-field .ensures in
+    lendable (a .mesh .now) (a .field .now) t (c .before .before .before .before .before .a2 .given .1) .shares-long
 
 array-share-prefix-reaches : tie.Need-array-share-prefix-reaches
 array-share-prefix-reaches c =
     let a = (start-from-shares3 c) .args in
-    lendable (a .mesh .now) (a .field .now) ((take-field-from-shares3 c) .take-field .ensures) (c .before .before .before .before .before .a2 .given
-    .1) .reaches-fit
+    let t = (take-field-from-shares3 c) .take-field .ensures in
+    lendable (a .mesh .now) (a .field .now) t (c .before .before .before .before .before .a2 .given .1) .reaches-fit
 
 slice-aggregate-on-field-5 : tie.Need-slice-aggregate-on-field-5
 slice-aggregate-on-field-5 c =
     let a = (start-from-shares3 (c .before)) .args in
-    lendable (a .mesh .now) (a .field .now) ((take-field-from-shares3 (c .before)) .take-field .ensures) (c .before .before .before .before .before
-    .before .a2 .given .1) .reaches-long
+    let t = (take-field-from-shares3 (c .before)) .take-field .ensures in
+    lendable (a .mesh .now) (a .field .now) t (c .before .before .before .before .before .before .a2 .given .1) .reaches-long
 
 array-share-prefix-masses : tie.Need-array-share-prefix-masses
 array-share-prefix-masses c =
     let a = (start-from-shares3 (c .before)) .args in
-    lendable (a .mesh .now) (a .field .now) ((take-field-from-shares3 (c .before)) .take-field .ensures) (c .before .before .before .before .before
-    .before .a2 .given .1) .masses-fit
+    let t = (take-field-from-shares3 (c .before)) .take-field .ensures in
+    lendable (a .mesh .now) (a .field .now) t (c .before .before .before .before .before .before .a2 .given .1) .masses-fit
 
 slice-aggregate-on-field-6 : tie.Need-slice-aggregate-on-field-6
 slice-aggregate-on-field-6 c =
     let a = (start-from-shares3 (c .before .before)) .args in
-    lendable (a .mesh .now) (a .field .now) ((take-field-from-shares3 (c .before .before)) .take-field .ensures) (c .before .before .before .before
-    .before .before .before .a2 .given .1) .masses-long
+    let t = (take-field-from-shares3 (c .before .before)) .take-field .ensures in
+    lendable (a .mesh .now) (a .field .now) t (c .before .before .before .before .before .before .before .a2 .given .1) .masses-long
 
 on-field-requires : tie.Need-on-field-requires
 on-field-requires c κs =
     let a = (start-from-shares3 (c .before .before .before)) .args in
-    within-taken (a .mesh .now) (a .field .now) ((take-field-from-shares3 (c .before .before .before)) .take-field .ensures) (c .before .before
-    .before .before .before .before .before .before .a2 .given .1)
+    let t = (take-field-from-shares3 (c .before .before .before)) .take-field .ensures in
+    within-taken (a .mesh .now) (a .field .now) t (c .before .before .before .before .before .before .before .before .a2 .given .1)
 
 returns : tie.Need-returns
 returns c =
     let a = (start-from-reaches2 (c .before .before .before .before)) .args in
-    records-refused (a .mesh .now) (a .field .now) (a .step .now) (a .bytes .now) (untaken (a .mesh .now) (a .field .now) (c .before .before .before
-    .before .before .before .before .before .before .take-field .ensures .answer) (c .before .a .given .1))
+    let t = c .before .before .before .before .before .before .before .before .before .take-field .ensures in
+    records-refused (a .mesh .now) (a .field .now) (a .step .now) (a .bytes .now)
+    (untaken (a .mesh .now) (a .field .now) (t .answer) (c .before .a .given .1))
 
 returns-2 : tie.Need-returns-2
 returns-2 c =
     let a = (start-from-shares3 (c .before .before .before .before .before .before)) .args in
-    records-taken (a .mesh .now) (a .field .now) (a .step .now) (a .bytes .now) ((take-field-from-shares3 (c .before .before .before .before .before
-    .before)) .take-field .ensures) ((a2-from-shares3 (c .before .before .before .before .before .before)) .a2 .given .1) (c .before .before
-    .on-field .ensures)
+    let t = (take-field-from-shares3 (c .before .before .before .before .before .before)) .take-field .ensures in
+    records-taken (a .mesh .now) (a .field .now) (a .step .now) (a .bytes .now) t
+    ((a2-from-shares3 (c .before .before .before .before .before .before)) .a2 .given .1) (c .before .before .on-field .ensures)
 
 pub on-records-spec : {M : Type 1} → statement M
 on-records-spec =

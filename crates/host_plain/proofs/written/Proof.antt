@@ -44,46 +44,45 @@ array-share-prefix-next : tie.Need-array-share-prefix-next
 unfolding blank
 array-share-prefix-next c =
     let s = (start-from-work2 (c .before .before .before)) in
-    next-part plain plain-keeping (s .args .width) (mesh s) (s .pre) (s .args .masses .now) (call s) (lent (mesh s) (s .args .masses .now) (call s))
-    (s .args .bytes .now) (c .before .before .before .before .before .before .plain-step .ensures .answer) (c .before .before .before .before .before
-    .before .plain-step .ensures .next-masses) (c .before .a2 .given .1) .fits
+    let p = c .before .before .before .before .before .before .plain-step .ensures in
+    next-part plain plain-keeping (s .args .width) (mesh s) (s .pre) (s .args .masses .now) (call s)
+    (lent (mesh s) (s .args .masses .now) (call s)) (s .args .bytes .now) (p .answer) (p .next-masses) (c .before .a2 .given .1) .fits
 
 slice-aggregate-write-field : tie.Need-slice-aggregate-write-field
 unfolding blank
 slice-aggregate-write-field c =
     let s = (start-from-work2 (c .before .before .before .before)) in
-    part-long (next-part plain plain-keeping (s .args .width) (mesh s) (s .pre) (s .args .masses .now) (call s) (lent (mesh s) (s .args .masses .now)
-    (call s))
-    (s .args .bytes .now) (c .before .before .before .before .before .before .before .plain-step .ensures .answer) (c .before .before .before .before
-    .before .before .before .plain-step .ensures .next-masses) (c .before .before .a2 .given .1))
+    let p = c .before .before .before .before .before .before .before .plain-step .ensures in
+    part-long (next-part plain plain-keeping (s .args .width) (mesh s) (s .pre) (s .args .masses .now) (call s)
+    (lent (mesh s) (s .args .masses .now) (call s)) (s .args .bytes .now) (p .answer) (p .next-masses) (c .before .before .a2 .given .1))
 
 returns : tie.Need-returns
 unfolding blank
 returns c =
     let s = (start-from-work2 (c .before .before .before)) in
-    step-refused plain plain-keeping (s .args .width) (mesh s) (s .pre) (s .args .masses .now) (call s) (lent (mesh s) (s .args .masses .now) (call
-    s))
-    (s .args .bytes .now) (c .before .before .before .before .before .before .plain-step .ensures .answer) (c .before .before .before .before .before
-    .before .plain-step .ensures .next-masses) (c .before .a .given .1)
+    let p = c .before .before .before .before .before .before .plain-step .ensures in
+    step-refused plain plain-keeping (s .args .width) (mesh s) (s .pre) (s .args .masses .now) (call s)
+    (lent (mesh s) (s .args .masses .now) (call s)) (s .args .bytes .now) (p .answer) (p .next-masses) (c .before .a .given .1)
 
 returns-2 : tie.Need-returns-2
 unfolding blank
 returns-2 c =
     let s = (start-from-slice-known2 (c .before .before .before)) in
-    no-room plain plain-keeping (s .args .width) (mesh s) (s .pre) (s .args .masses .now) (call s) (lent (mesh s) (s .args .masses .now) (call s))
-    (s .args .bytes .now) ((plain-step-from-slice-known2 (c .before .before .before)) .plain-step .ensures .answer) ((plain-step-from-slice-known2 (c
-    .before .before .before)) .plain-step .ensures .next-masses) (c .before .before .before .before .before .before .before .before .before .a2
-    .given .1) (c .before .before .before .before .before .write-field .ensures) (c .before .b .given .1)
+    let p = (plain-step-from-slice-known2 (c .before .before .before)) .plain-step .ensures in
+    no-room plain plain-keeping (s .args .width) (mesh s) (s .pre) (s .args .masses .now) (call s)
+    (lent (mesh s) (s .args .masses .now) (call s)) (s .args .bytes .now) (p .answer) (p .next-masses)
+    (c .before .before .before .before .before .before .before .before .before .a2 .given .1)
+    (c .before .before .before .before .before .write-field .ensures) (c .before .b .given .1)
 
 returns-3 : tie.Need-returns-3
 unfolding blank
 returns-3 c =
     let s = (start-from-slice-known2 (c .before .before)) in
-    record-written plain plain-keeping (s .args .width) (mesh s) (s .pre) (s .args .masses .now) (call s) (lent (mesh s) (s .args .masses .now) (call
-    s))
-    (s .args .bytes .now) ((plain-step-from-slice-known2 (c .before .before)) .plain-step .ensures .answer) ((plain-step-from-slice-known2 (c .before
-    .before)) .plain-step .ensures .next-masses) (c .before .before .before .before .before .before .before .before .a2 .given .1) (c .before .before
-    .before .before .write-field .ensures) (c .enum-told .given .1)
+    let p = (plain-step-from-slice-known2 (c .before .before)) .plain-step .ensures in
+    record-written plain plain-keeping (s .args .width) (mesh s) (s .pre) (s .args .masses .now) (call s)
+    (lent (mesh s) (s .args .masses .now) (call s)) (s .args .bytes .now) (p .answer) (p .next-masses)
+    (c .before .before .before .before .before .before .before .before .a2 .given .1) (c .before .before .before .before .write-field .ensures)
+    (c .enum-told .given .1)
 
 pub written-spec : {M : Type 1} → statement M
 written-spec =

@@ -59,16 +59,16 @@ returns-2 : tie.Need-returns-2
 returns-2 c =
     let s = (start-from-slice-known12 (c .before .before .before)) in
     field-refused (s .args .mesh .now) (s .args .field .now) ((take-mesh-from-slice-known12 (c .before .before .before)) .take-mesh .ensures)
-    (s .pre .0 .0) (s .pre .1 .0) (s .pre .1 .1) (s .pre .1 .2) (s .pre .1 .3) (c .before .before .before .before .before .before .before .before
-    .before .a2 .given .1)
+    (s .pre .0 .0) (s .pre .1 .0) (s .pre .1 .1) (s .pre .1 .2) (s .pre .1 .3)
+    (c .before .before .before .before .before .before .before .before .before .a2 .given .1)
     (c .before .before .before .before .before .take-field .ensures) (s .pre .0 .1) (c .before .b .given .1)
 
 returns-3 : tie.Need-returns-3
 returns-3 c =
     let s = (start-from-slice-known12 (c .before .before .before)) in
     field-taken (s .args .mesh .now) (s .args .field .now) ((take-mesh-from-slice-known12 (c .before .before .before)) .take-mesh .ensures)
-    (s .pre .0 .0) (s .pre .1 .0) (s .pre .1 .1) (s .pre .1 .2) (s .pre .1 .3) (c .before .before .before .before .before .before .before .before
-    .before .a2 .given .1)
+    (s .pre .0 .0) (s .pre .1 .0) (s .pre .1 .1) (s .pre .1 .2) (s .pre .1 .3)
+    (c .before .before .before .before .before .before .before .before .before .a2 .given .1)
     (c .before .before .before .before .before .take-field .ensures) (s .pre .0 .1) (c .before .b2 .given .1)
 
 pub take-field-spec : {M : Type 1} → statement M
