@@ -1,13 +1,11 @@
 // The total and the pages of a field in records, for a host program in C.
 use host_answer::fill1;
 use host_answer::number_of;
+use host_field::page_answered;
 use host_taking::FieldTaken;
 use host_taking::take_cells;
 use model::RUN_CELLS;
 use page::PageAnswer;
-ghost use Prim.Native.Nat.{_<_, _^_};
-ghost use Rattle.page.specs.Answers.{pageSaid};
-ghost use Rattle.host_answer.specs.Number.{numberOf};
 ghost use Rattle.host_answer.specs.Found.{alone, Answered};
 ghost use Rattle.host_cells.specs.Cells.{totalFound, PageTaking, PagePromise, PublicTaking, PublicPromise};
 
@@ -25,20 +23,6 @@ pub extern "C" fn lagoon_total(mesh: &[u8], field: &[u8], found: &mut [u64]) -> 
             fill1(found, counts.total);
             0
         }
-    }
-}
-
-// A page's answer: found is its length.
-fn printed(answer: PageAnswer, found: &mut [u64]) -> u64
-    requires { ⌜ numberOf (pageSaid answer) < 2 ^ 64 ⌝ }
-    ensures { λ r. ⌜ Answered alone (pageSaid answer) (now (found .entry)) r (now (found .exit)) ⌝ }
-{
-    match answer {
-        PageAnswer::Printed(length) => {
-            fill1(found, length);
-            0
-        }
-        PageAnswer::Refused(refusal) => number_of(refusal),
     }
 }
 
@@ -100,7 +84,7 @@ pub extern "C" fn lagoon_page(
         (now (bytes .exit)) (now (found .exit)) ⌝ }
 {
     let answer = page_of(mesh, field, page as u64, bytes);
-    printed(answer, found)
+    page_answered(answer, found)
 }
 
 // A page of the binder for the public.
@@ -117,5 +101,5 @@ pub extern "C" fn lagoon_public_page(
         (now (bytes .exit)) (now (found .exit)) ⌝ }
 {
     let answer = public_page_of(mesh, field, page as u64, bytes, marks);
-    printed(answer, found)
+    page_answered(answer, found)
 }

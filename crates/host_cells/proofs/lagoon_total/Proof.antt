@@ -16,22 +16,25 @@ start-from-masses2 c = c .before .before .before .before .before .before .before
 number-of-requires : tie.Need-number-of-requires
 number-of-requires c κs =
     let a = (start-from-masses2 (c .before .before .before)) .args in
-    refusal-of (untaken (a .mesh .now) (a .field .now) (c .before .before .before .before .before .take-cells .ensures .answer) (c .before .a .given
-    .1)) (small-number _ (field-tested-small (a .mesh .now) (a .field .now)))
+    let t = c .before .before .before .before .before .take-cells .ensures in
+    refusal-of (untaken (a .mesh .now) (a .field .now) (t .answer) (c .before .a .given .1))
+    (small-number _ (field-tested-small (a .mesh .now) (a .field .now)))
 
 returns : tie.Need-returns
 returns c =
     let a = (start-from-masses2 (c .before .before .before .before)) .args in
-    answered-refused alone (a .found .now) (out _ (untaken (a .mesh .now) (a .field .now) (c .before .before .before .before .before .before
-    .take-cells .ensures .answer) (c .before .before .a .given .1))) (c .number-of .ensures)
+    let t = c .before .before .before .before .before .before .take-cells .ensures in
+    answered-refused alone (a .found .now) (out _ (untaken (a .mesh .now) (a .field .now) (t .answer) (c .before .before .a .given .1)))
+    (c .number-of .ensures)
 
 returns-2 : tie.Need-returns-2
 returns-2 c =
     let a = (start-from-masses2 (c .before .before .before .before .before .before .before)) .args in
-    let h = c .before .before .before .before .before .before .before .before .before .take-cells .ensures .answer in
+    let t = c .before .before .before .before .before .before .before .before .before .take-cells .ensures in
     answered-found alone (a .found .now)
-    (past _ (tested-fine (a .mesh .now) (a .field .now) h (c .before .before .before .before .before .a2 .given .1)) ∙ ap accepted (sym (total-is (a
-    .mesh .now) (a .field .now) h (c .before .before .before .before .before .a2 .given .1)))) (c .before .before .fill1 .ensures)
+    (past _ (tested-fine (a .mesh .now) (a .field .now) (t .answer) (c .before .before .before .before .before .a2 .given .1)) ∙ ap accepted
+    (sym (total-is (a .mesh .now) (a .field .now) (t .answer) (c .before .before .before .before .before .a2 .given .1))))
+    (c .before .before .fill1 .ensures)
 
 pub lagoon-total-spec : {M : Type 1} → statement M
 lagoon-total-spec =

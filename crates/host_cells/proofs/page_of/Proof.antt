@@ -23,37 +23,39 @@ take-cells-from-bytes c = take-cells-from-volumes2 (c .before .before .before .b
 array-share-prefix-volumes : tie.Need-array-share-prefix-volumes
 array-share-prefix-volumes c =
     let a = (start-from-masses2 (c .before .before .before)) .args in
-    volumes-fit (a .mesh .now) (a .field .now) (c .before .before .before .before .before .take-cells .ensures) (c .before .a2 .given .1)
+    let t = c .before .before .before .before .before .take-cells .ensures in
+    volumes-fit (a .mesh .now) (a .field .now) t (c .before .a2 .given .1)
 
 slice-aggregate-page : tie.Need-slice-aggregate-page
 slice-aggregate-page c =
     let a = (start-from-masses2 (c .before .before .before .before)) .args in
-    volumes-long (a .mesh .now) (a .field .now) (c .before .before .before .before .before .before .take-cells .ensures) (c .before .before .a2
-    .given .1)
+    let t = c .before .before .before .before .before .before .take-cells .ensures in
+    volumes-long (a .mesh .now) (a .field .now) t (c .before .before .a2 .given .1)
 
 array-share-prefix-masses : tie.Need-array-share-prefix-masses
 array-share-prefix-masses c =
     let a = (start-from-masses2 (c .before .before .before .before)) .args in
-    masses-fit (a .mesh .now) (a .field .now) (c .before .before .before .before .before .before .take-cells .ensures) (c .before .before .a2 .given
-    .1)
+    let t = c .before .before .before .before .before .before .take-cells .ensures in
+    masses-fit (a .mesh .now) (a .field .now) t (c .before .before .a2 .given .1)
 
 slice-aggregate-page-2 : tie.Need-slice-aggregate-page-2
 slice-aggregate-page-2 c =
     let a = (start-from-masses2 (c .before .before .before .before .before)) .args in
-    masses-long (a .mesh .now) (a .field .now) (c .before .before .before .before .before .before .before .take-cells .ensures) (c .before .before
-    .before .a2 .given .1)
+    let t = c .before .before .before .before .before .before .before .take-cells .ensures in
+    masses-long (a .mesh .now) (a .field .now) t (c .before .before .before .a2 .given .1)
 
 returns : tie.Need-returns
 returns c =
     let a = (start-from-masses2 (c .before .before .before)) .args in
-    printing-refused _ _ (a .bytes .now) _ (out _ (untaken (a .mesh .now) (a .field .now) (c .before .before .before .before .before .take-cells
-    .ensures .answer) (c .before .a .given .1)))
+    let t = c .before .before .before .before .before .take-cells .ensures in
+    printing-refused _ _ (a .bytes .now) _ (out _ (untaken (a .mesh .now) (a .field .now) (t .answer) (c .before .a .given .1)))
 
 returns-2 : tie.Need-returns-2
 returns-2 c =
     let a = (start-from-bytes (c .before)) .args in
-    page-made (a .mesh .now) (a .field .now) (a .page) (a .bytes .now) ((take-cells-from-bytes (c .before)) .take-cells .ensures) (c .before .before
-    .before .before .before .before .before .a2 .given .1) (c .before .before .page .ensures)
+    let t = (take-cells-from-bytes (c .before)) .take-cells .ensures in
+    page-made (a .mesh .now) (a .field .now) (a .page) (a .bytes .now) t (c .before .before .before .before .before .before .before .a2 .given .1)
+    (c .before .before .page .ensures)
 
 pub page-of-spec : {M : Type 1} → statement M
 page-of-spec =
