@@ -1,0 +1,22 @@
+-- Document 01, "Tables lent to a step", for a host in C, on a mesh, a field and a step record: what a step finds, and what comes in and goes out in it.
+-- The records stay as they are, and no next field is written, so there is no room to ask for.
+use Prim.Native.Nat.{ℕ}
+use mathlib.Core.List.{List, [], _∷_}
+use Rattle.model.specs.Causes.{Outcome, accepted, Verdict, _andThen_}
+use Rattle.heads.specs.Heads.{widthIn}
+use Rattle.reading.specs.Reading.{meshIn}
+use Rattle.step_taken.specs.declared.Printed.{Printed}
+use Rattle.taking.specs.Taking.{stepIn, stepJudged, printedOf}
+use Rattle.host_taking.specs.Taken.{fieldTested, fieldIn}
+
+module _ (mesh field step : List ℕ) where
+  -- the three records in this order, each as the run judges it
+  abbrev pub stepTested : Verdict
+  stepTested = fieldTested mesh field andThen stepJudged (widthIn mesh) (meshIn mesh) (fieldIn mesh field) step
+
+  abbrev pub stepFound : Outcome Printed
+  stepFound = stepTested andThen accepted (printedOf (meshIn mesh) (fieldIn mesh field) (stepIn (meshIn mesh) step))
+
+-- in-mass, out-mass and document 02's released mass
+abbrev pub crossedIn : Printed → List ℕ
+crossedIn p = p .entered ∷ p .gone ∷ p .released ∷ []

@@ -1,0 +1,96 @@
+-- `written`: each return has what the step or the writer found; the next masses are the counted part of the table that the step filled.
+use borrow.Author.Needs.{needs}
+use Rattle.model.specs.Mesh.{Mesh, meshOf}
+use Rattle.model.specs.Causes.{Call}
+use Rattle.model.specs.Calls.{judged}
+use Rattle.model.proofs.Claims.{judged-keeping}
+use Rattle.taking.specs.Taking.{blank}
+use Rattle.parts.proofs.Parts.{part-long}
+use Rattle.host_next.proofs.Next.{step-refused, next-part, no-room, written as record-written}
+use Rattle.host_judge.specs.Judge.{claimOn}
+use Rattle.host_judge.proofs.Judge.{lent}
+use Rattle.host_judge.proofs.written.Statement.{statement}
+use Rattle.host_judge.proofs.written.Tie as tie
+
+abbrev mesh : tie.Start → Mesh
+mesh s =
+    let a = s .args in
+    meshOf (a .cells) (a .faces) (a .volumes .now) (a .firsts .now) (a .seconds .now) (a .shares .now) (a .reaches .now)
+
+abbrev call : tie.Start → Call
+call s = claimOn (s .args .fluxes .now) (s .args .outsides .now) (s .args .releases .now) (s .args .claim .now)
+
+abbrev start-from-shared-slice-known8 : tie.After-shared-slice-known8 → tie.Start
+start-from-shared-slice-known8 c = c .before .before .before .before .before .before .before .before
+
+abbrev start-from-shared-slice-known7 : tie.After-shared-slice-known7 → tie.Start
+start-from-shared-slice-known7 c = c .before .before .before .before .before .before .before
+
+abbrev start-from-next3 : tie.After-next3 → tie.Start
+start-from-next3 c = start-from-shared-slice-known7 (c .before .before .before .before .before .before .before .before .before)
+
+abbrev judge-from-next3 : tie.After-next3 → tie.After-judge
+judge-from-next3 c = c .before .before .before .before .before
+
+array-share-prefix-next : tie.Need-array-share-prefix-next
+unfolding blank
+array-share-prefix-next c =
+    let s = (start-from-shared-slice-known8 (c .before .before .before .before .before .before .before)) in
+    let p = c .before .before .before .before .judge .ensures in
+    next-part judged judged-keeping (s .args .width) (mesh s) (s .pre) (s .args .masses .now) (call s)
+    (lent (mesh s) (s .args .masses .now) (call s)) (s .args .bytes .now) (p .answer) (p .next-masses) (c .before .a2 .given .1) .fits
+
+slice-aggregate-write-field : tie.Need-slice-aggregate-write-field
+unfolding blank
+slice-aggregate-write-field c =
+    let s = (start-from-next3 c) in
+    let p = c .before .before .before .before .before .judge .ensures in
+    part-long (next-part judged judged-keeping (s .args .width) (mesh s) (s .pre) (s .args .masses .now) (call s)
+    (lent (mesh s) (s .args .masses .now) (call s)) (s .args .bytes .now) (p .answer) (p .next-masses) (c .before .before .a2 .given .1))
+
+returns : tie.Need-returns
+unfolding blank
+returns c =
+    let s = (start-from-shared-slice-known8 (c .before .before .before .before .before .before .before)) in
+    let p = c .before .before .before .before .judge .ensures in
+    step-refused judged judged-keeping (s .args .width) (mesh s) (s .pre) (s .args .masses .now) (call s)
+    (lent (mesh s) (s .args .masses .now) (call s)) (s .args .bytes .now) (p .answer) (p .next-masses) (c .before .a .given .1)
+
+returns-2 : tie.Need-returns-2
+unfolding blank
+returns-2 c =
+    let s = (start-from-next3 (c .before .before .before .before .before .before .before)) in
+    let p = (judge-from-next3 (c .before .before .before .before .before .before .before)) .judge .ensures in
+    no-room judged judged-keeping (s .args .width) (mesh s) (s .pre) (s .args .masses .now) (call s)
+    (lent (mesh s) (s .args .masses .now) (call s)) (s .args .bytes .now) (p .answer) (p .next-masses)
+    (c .before .before .before .before .before .before .before .before .before .a2 .given .1)
+    (c .before .before .before .before .before .write-field .ensures) (c .before .b .given .1)
+
+returns-3 : tie.Need-returns-3
+unfolding blank
+returns-3 c =
+    let s = (start-from-next3 (c .before .before .before .before .before .before)) in
+    let p = (judge-from-next3 (c .before .before .before .before .before .before)) .judge .ensures in
+    record-written judged judged-keeping (s .args .width) (mesh s) (s .pre) (s .args .masses .now) (call s)
+    (lent (mesh s) (s .args .masses .now) (call s)) (s .args .bytes .now) (p .answer) (p .next-masses)
+    (c .before .before .before .before .before .before .before .before .a2 .given .1) (c .before .before .before .before .write-field .ensures)
+    (c .enum-told .given .1)
+
+pub written-spec : {M : Type 1} → statement M
+written-spec =
+    tie.close
+    (tie.spec
+    (search needs)
+    (search needs)
+    (search needs)
+    (search needs)
+    array-share-prefix-next
+    slice-aggregate-write-field
+    (search needs)
+    (search needs)
+    (search needs)
+    returns
+    (search needs)
+    returns-2
+    (search needs)
+    returns-3)

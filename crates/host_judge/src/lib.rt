@@ -1,0 +1,195 @@
+// Document 02's S-11 on records, for a host program in C: another model's step judged by what it claims to have moved.
+use heads::Width;
+use host_tables::answered;
+use host_taking::FieldTaken;
+use host_taking::take_field;
+use model::RUN_CELLS;
+use model::RUN_FACES;
+use reading::StepRead;
+use transport::StepAnswer;
+use writing::WriteAnswer;
+ghost use mathlib.Core.Path.{_≡_};
+ghost use Rattle.model.specs.Mesh.{meshOf, ceiling};
+ghost use Rattle.model.specs.Causes.{meshValues};
+ghost use Rattle.writing.specs.Writing.{mostOf};
+ghost use Rattle.host_judge.specs.Judge.{JudgedIn, JudgedOn, JudgedTaking, JudgedFromC};
+
+// A claim judged on tables, with the next masses written as a record.
+fn written(
+    width: Width,
+    cells: usize,
+    faces: usize,
+    volumes: &[u64],
+    firsts: &[u64],
+    seconds: &[u64],
+    shares: &[u64],
+    reaches: &[u64],
+    masses: &[u64],
+    fluxes: &[i64],
+    outsides: &[u64],
+    releases: &[u64],
+    claim: &[i64],
+    bytes: &mut [u8],
+) -> StepAnswer
+    requires { ⌜ meshValues (mostOf width) (meshOf cells faces (now volumes) (now firsts) (now seconds) (now shares) (now reaches))
+        ≡ meshValues ceiling (meshOf cells faces (now volumes) (now firsts) (now seconds) (now shares) (now reaches)) ⌝ }
+    ensures { λ r. ⌜ JudgedIn width
+        (meshOf cells faces (now (volumes .entry)) (now (firsts .entry)) (now (seconds .entry)) (now (shares .entry)) (now (reaches .entry)))
+        (now (masses .entry)) (now (fluxes .entry)) (now (outsides .entry)) (now (releases .entry)) (now (claim .entry))
+        (now (bytes .entry)) r (now (bytes .exit)) ⌝ }
+{
+    let mut next = [0u64; RUN_CELLS];
+    let a = judging::judge(
+        cells,
+        faces,
+        volumes,
+        firsts,
+        seconds,
+        shares,
+        reaches,
+        masses,
+        fluxes,
+        outsides,
+        &mut next,
+        claim,
+        releases,
+    );
+    match a {
+        StepAnswer::Refused(refusal) => StepAnswer::Refused(refusal),
+        StepAnswer::Stepped(crossed) => {
+            let b = writing::write_field(
+                width,
+                cells,
+                faces,
+                volumes,
+                firsts,
+                seconds,
+                shares,
+                reaches,
+                &next[..cells],
+                bytes,
+            );
+            match b {
+                WriteAnswer::Refused(refusal) => StepAnswer::Refused(refusal),
+                WriteAnswer::Written(_) => StepAnswer::Stepped(crossed),
+            }
+        }
+    }
+}
+
+// The step record, on a mesh and a field that have been taken.
+fn on_field(
+    width: Width,
+    cells: usize,
+    faces: usize,
+    volumes: &[u64],
+    firsts: &[u64],
+    seconds: &[u64],
+    shares: &[u64],
+    reaches: &[u64],
+    masses: &[u64],
+    step: &[u8],
+    claim: &[i64],
+    bytes: &mut [u8],
+) -> StepAnswer
+    requires { ⌜ meshValues (mostOf width) (meshOf cells faces (now volumes) (now firsts) (now seconds) (now shares) (now reaches))
+        ≡ meshValues ceiling (meshOf cells faces (now volumes) (now firsts) (now seconds) (now shares) (now reaches)) ⌝ }
+    ensures { λ r. ⌜ JudgedOn width
+        (meshOf cells faces (now (volumes .entry)) (now (firsts .entry)) (now (seconds .entry)) (now (shares .entry)) (now (reaches .entry)))
+        (now (masses .entry)) (now (step .entry)) (now (claim .entry)) (now (bytes .entry)) r (now (bytes .exit)) ⌝ }
+{
+    let mut fluxes = [0i64; RUN_FACES];
+    let mut outsides = [0u64; RUN_FACES];
+    let mut releases = [0u64; RUN_CELLS];
+    let a = reading::read_step(
+        width,
+        cells,
+        faces,
+        seconds,
+        step,
+        &mut fluxes,
+        &mut outsides,
+        &mut releases,
+    );
+    match a {
+        StepRead::Refused(refusal) => StepAnswer::Refused(refusal),
+        StepRead::Read(_) => written(
+            width,
+            cells,
+            faces,
+            volumes,
+            firsts,
+            seconds,
+            shares,
+            reaches,
+            masses,
+            &fluxes[..faces],
+            &outsides[..faces],
+            &releases[..cells],
+            claim,
+            bytes,
+        ),
+    }
+}
+
+// The three records in their order.
+fn on_records(mesh: &[u8], field: &[u8], step: &[u8], claim: &[i64], bytes: &mut [u8]) -> StepAnswer
+    ensures { λ r. ⌜ JudgedTaking (now (mesh .entry)) (now (field .entry)) (now (step .entry)) (now (claim .entry))
+        (now (bytes .entry)) r (now (bytes .exit)) ⌝ }
+{
+    let mut volumes = [0u64; RUN_CELLS];
+    let mut firsts = [0u64; RUN_FACES];
+    let mut seconds = [0u64; RUN_FACES];
+    let mut shares = [0u64; RUN_FACES];
+    let mut reaches = [0u64; RUN_FACES];
+    let mut masses = [0u64; RUN_CELLS];
+    let a = take_field(
+        mesh,
+        field,
+        &mut volumes,
+        &mut firsts,
+        &mut seconds,
+        &mut shares,
+        &mut reaches,
+        &mut masses,
+    );
+    match a {
+        FieldTaken::Refused(refusal) => StepAnswer::Refused(refusal),
+        FieldTaken::Taken(counts) => {
+            let cells = counts.cells;
+            let faces = counts.faces;
+            let width = counts.width;
+            on_field(
+                width,
+                cells,
+                faces,
+                &volumes[..cells],
+                &firsts[..faces],
+                &seconds[..faces],
+                &shares[..faces],
+                &reaches[..faces],
+                &masses[..cells],
+                step,
+                claim,
+                bytes,
+            )
+        }
+    }
+}
+
+// Another model's step on a mesh, a field and a step record; the next field record goes into `next`.
+#[no_mangle]
+pub extern "C" fn lagoon_judge(
+    mesh: &[u8],
+    field: &[u8],
+    step: &[u8],
+    claim: &[i64],
+    next: &mut [u8],
+    found: &mut [u64],
+) -> u64
+    ensures { λ r. ⌜ JudgedFromC (now (mesh .entry)) (now (field .entry)) (now (step .entry)) (now (claim .entry)) (now (next .entry)) (now (found .entry)) r
+        (now (next .exit)) (now (found .exit)) ⌝ }
+{
+    let answer = on_records(mesh, field, step, claim, next);
+    answered(answer, found)
+}
