@@ -1,13 +1,13 @@
 #!/usr/bin/env bash
-# The engine's run program, host's call and every call from a script against the reference on fixed cases; then each slip, put
-# into the reference, has to be seen by the same comparison; the engine in two numberings, beside unrounded steps, and with withheld
+# The engine's run program, host's call, every call from a script and every call from C against the reference on fixed cases; then each slip,
+# put into the reference, has to be seen by the same comparison; the engine in two numberings, beside unrounded steps, and with withheld
 # cells changed; last, the pages show what the engine gives.
 set -eu
 [ "${1:-}" != --help ] || { sed -n '2,4s/^# //p' "$0"; exit 0; }
 cd "$(dirname "$0")/.."
 reference/build.sh
 programs=(--run target/compare/run --script target/compare/calls
-  --call target/compare/call_sanitized --call target/compare/call_guarded)
+  --call target/compare/call_sanitized --call target/compare/call_guarded --library target/compare/calls_guarded)
 python3 reference/compare.py "${programs[@]}" --sessions 2000 --seed 1
 python3 reference/compare.py "${programs[@]}" --slips
 
