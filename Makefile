@@ -15,7 +15,7 @@ export TMPDIR := $(shell tools/scratch.sh)
 help:
 	@echo 'make run        the channel session of document 01: six lines (the first time it proves what it builds, some minutes)'
 	@echo 'make test       the gate: tests, proofs, must-fail edits, programs; its last line is "N passed, M failed"'
-	@echo 'make quick      the tests without the comparison and the proofs, some two minutes once the programs are proved'
+	@echo 'make quick      the tests without comparisons and proofs: under a minute once the programs are proved'
 	@echo 'make lib        the C library: target/lib/liblagoon.a and liblagoon.so; the header is include/lagoon.h'
 	@echo 'make install    headers, library, the command lagoon, manual pages, examples and papers to PREFIX=$(PREFIX) (DESTDIR= before it)'
 	@echo 'make uninstall  takes them away again'
@@ -30,24 +30,25 @@ help:
 run:
 	@mkdir -p target
 	@[ -e target/bin/run ] || echo 'proving the run program, some minutes the first time; target/run.log tells all' >&2
-	@bash -c 'set -o pipefail; rt check run 2>&1 | tee target/run.log | sed -un "/unchanged/d; s/^rt: \(.* proved .*\)/\1/p" >&2' \
-	    || { tail -n 40 target/run.log >&2; exit 1; }
+	@tools/prove.sh run target/run.log rt check run
 	@target/bin/run < tests/sessions/channel.in
 
 # the gate: tests, proofs, must-fail edits, programs
 test:
 	.ci/run
 
-# the tests without the long comparison; what they run is proved where it is not yet
+# for every day; what it runs is proved where it is not yet
 quick:
-	@for t in $(filter-out tests/compare.sh,$(sort $(wildcard tests/*.sh))); do echo "== $$t"; bash "$$t" || exit 1; done
+	@tools/quick.sh
 
 lib:
+	@[ -e target/lib/liblagoon.a ] || echo 'proving the library, some minutes the first time; target/lib/log tells all' >&2
 	@tools/lib.sh
+	@echo "target/lib/liblagoon.a, $$(stat -c %s target/lib/liblagoon.a) bytes, and target/lib/liblagoon.so; include/lagoon.h tells what is in them"
 
 install: lib
-	@[ -e target/bin/run ] || rt check run > target/run.log 2>&1 || { tail -n 40 target/run.log >&2; exit 1; }
-	@[ -e target/bin/calls ] || rt check calls > target/calls.log 2>&1 || { tail -n 40 target/calls.log >&2; exit 1; }
+	@[ -e target/bin/run ] || tools/prove.sh run target/run.log rt check run
+	@[ -e target/bin/calls ] || tools/prove.sh calls target/calls.log rt check calls
 	install -d $(TO)/include $(TO)/lib/pkgconfig $(TO)/bin $(MANUAL)/man1 $(MANUAL)/man3 $(PAPERS)/examples $(MODULES)/built
 	install -m 644 include/lagoon.h examples/lagoon_records.h $(TO)/include/
 	install -m 644 target/lib/liblagoon.a $(TO)/lib/

@@ -7,7 +7,7 @@ out=target/lib
 mkdir -p $out
 # rt proves a library anew each time that it writes the archive, so one that is newer than all crates is taken as it is
 if [ ! -e $out/liblagoon.a ] || [ -n "$(find crates crates.txt -newer $out/liblagoon.a -print -quit)" ]; then
-  rt staticlib lagoon > $out/log 2>&1 || { tail -n 40 $out/log >&2; exit 1; }
+  tools/prove.sh lagoon $out/log rt staticlib lagoon
   cp target/staticlib/liblagoon.a $out/
   rm -f $out/liblagoon.so*
 fi
