@@ -102,6 +102,16 @@ def test_the_channel():
           [(0, 0, 0), (0, 1, 0), (1, 0, 0), (1, 1, 0)]), "VTK")
 
 
+def test_names():
+    """On two lines where one has no room; of cells that lie close, numbers."""
+    for places, words in ((DRAWN, ["Inlet", "1", "2"]), (DRAWN.replace("name cell 0 Inlet", "name cell 0 Inlet of the western harbour"), ["Inlet of the", "western harbour", "1", "2"]),
+                          (DRAWN.replace("at cell 1 1.5 0.5", "at cell 1 0.52 0.5"), ["0", "1", "2"])):
+        status, out, said = command("map", "--steps", "0", data=places.encode())
+        equal((status, said), (0, ""), words)
+        texts = [text.text for text in xml.fromstring(out).iter(f"{SVG}text") if text.get("paint-order")]
+        equal(texts, words, "names")
+
+
 def test_the_bay():
     """The survey's coordinates come through to the map, with the figures of lagoon export."""
     with folder() as made:

@@ -101,12 +101,23 @@ def test_bands():
     equal(drawn(panels[TOTAL]), {}, "no line beside the band")
     mean = drawn(panels[TOTAL], "band", "polyline")["total"]
     near([mean[0], mean[-1]], [totals[0], totals[-1]], max(totals) / 500, "the line begins and ends at the first and last value")
-    stretches = [sum(rows, []) for rows in ([columns[column] for column in range(at, at + chart.MEAN_OVER)] for at in range(0, chart.PLOT, chart.MEAN_OVER))]
-    near(mean[1:-1], [sum(rows) / len(rows) for rows in stretches], max(totals) / 500, "and between them it is the mean of ten columns")
-    holds("band: least to greatest of the 4 steps of a pixel; line: their mean, over 10 pixels" in out, "the picture says what band and line are")
+    near(mean[1:-1], [sum(rows) / len(rows) for _, rows in sorted(columns.items())], max(totals) / 500, "and between them it is the mean of each column")
+    holds("band: least to greatest of the 4 steps of a pixel; line: their mean; both begin and end at the first and last value" in out, "the picture says what band and line are")
     equal(len(marks(panels[TOTAL])), 41, "a tick for each refused step, and one in the legend")
     equal(marks(panels[TOTAL])[0], "step 25 refused: cell 0: 300 enters, 299 leaves (cause 9)", "its cause")
     holds("40 refused" in out and len(out) < 200_000, f"{len(out)} bytes")
+
+
+def test_words_stay_in_the_picture():
+    """The budget of a long session and all that is said above a panel take as many lines as they need."""
+    start = TIDE.index("step times 10")
+    text = TIDE[:start].replace("unit mass g\n", "unit mass 1000 g, dried and weighed at the station\n") + TIDE[start:] * 40
+    _, out = picture("--cells", "3,4", data=text.encode())
+    words = [(float(text.get("x")), int(text.get("font-size")), text.text) for text in xml.fromstring(out).iter(f"{SVG}text") if text.get("text-anchor") == "start"]
+    for left, size, said in words:
+        holds(left + len(said) * size * 0.53 <= chart.WIDTH, f"{said} is cut off")
+    foot = " ".join(said for _, _, said in words).partition("total ")[2]
+    holds("weighed at the station)" in foot, foot)
 
 
 def test_profile_and_table():

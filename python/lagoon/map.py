@@ -29,7 +29,7 @@ MOST_STEPS = 12
 WIDTH, EDGE, GAP, COLUMNS = 960, 40, 24, 3
 BAR_WIDE, BAR_HIGH, SHADES = 320, 14, 64
 STOPS = ((247, 251, 255), (198, 219, 239), (107, 174, 214), (33, 113, 181), (8, 48, 107))       # pale to dark, also without colour
-MOST_NAMED, NAME_WIDE, NAME_SIZE = 40, 18, 10
+MOST_NAMED, NAME_WIDE, NAME_LEAST, NAME_SIZE, LETTER = 40, 18, 6, 10, 6        # cells; letters of a line; pixels
 DISC = 0.35                     # of the way to the nearest centre
 DIGITS = 12                     # of a coordinate that is written
 
@@ -162,12 +162,16 @@ class Map:
                 self.parts.append(svg.rule(*place(ends[0]), *place(ends[1]), svg.INK, 3 if second == RIM else 1))
 
     def names(self, place):
-        """Names of the cells, with a pale edge that keeps them legible on dark colours."""
+        """Names of the cells on two lines where they need them, or numbers where names have no room; with a pale edge that keeps them
+        legible on dark colours."""
+        room = min(int(self.places.radius / DISC * self.metre / LETTER), NAME_WIDE)
         for cell, centre in enumerate(self.places.centres):
             x, y = place(centre)
             name = self.labels.names["cell"].get(cell, str(cell))
-            self.parts.append(svg.text(x, y + 3, svg.cut(name, NAME_WIDE), anchor="middle", size=NAME_SIZE,
-                                       more=' stroke="#ffffff" stroke-width="2.5" stroke-opacity="0.8" paint-order="stroke"'))
+            lines = svg.wrapped(name, room, 2) if room >= NAME_LEAST else [str(cell)]
+            for line, words in enumerate(lines):
+                self.parts.append(svg.text(x, y + 3 + (NAME_SIZE + 1) * (line - (len(lines) - 1) / 2), words, anchor="middle", size=NAME_SIZE,
+                                           more=' stroke="#ffffff" stroke-width="2.5" stroke-opacity="0.8" paint-order="stroke"'))
 
 
 # ---------------------------------------------------------------- For other programs

@@ -253,20 +253,20 @@ class Picture:
         self.budget(self.figures, "")
         self.refused_by(self.figures, "")
         if self.plain:
-            self.drawing.top += 20
+            self.drawing.top += chart.FOOT_HIGH
             self.budget(self.plain, "plain upwind: ")
             if self.others:
                 self.refused_by(self.plain, "plain upwind: ")
 
     def say(self, words):
-        self.drawing.text(chart.LEFT, self.drawing.top, words)
+        self.drawing.foot(words)
 
     def budget(self, figures, whose):
         scale = quantities.masses(self.labels.units, max(figures.total[0], figures.total[-1], figures.all_in, figures.all_out))
         unit = self.labels.units.get("mass", "")
         self.say(whose + balance(figures, lambda mass: f"{mass:,}") + (f" (in {'units of ' * unit[:1].isdigit()}{unit})" if unit else ""))
         if self.labels.units.get("mass") and scale.factor != 1:
-            self.drawing.top += 20
+            self.drawing.top += chart.FOOT_HIGH
             self.say(f"in {scale.words}, rounded: {balance(figures, lambda mass: quantities.rounded(mass * scale.factor))}")
 
     def refused_by(self, figures, whose):
@@ -277,7 +277,7 @@ class Picture:
         if whose and not lines:
             lines.append("no step refused")
         for line in lines:
-            self.drawing.top += 20
+            self.drawing.top += chart.FOOT_HIGH
             self.say(whose + line)
 
 
