@@ -115,7 +115,7 @@ def test_words_stay_in_the_picture():
     _, out = picture("--cells", "3,4", data=text.encode())
     words = [(float(text.get("x")), int(text.get("font-size")), text.text) for text in xml.fromstring(out).iter(f"{SVG}text") if text.get("text-anchor") == "start"]
     for left, size, said in words:
-        holds(left + len(said) * size * 0.53 <= chart.WIDTH, f"{said} is cut off")
+        holds(left + len(said) * size / 2 <= chart.WIDTH, f"{said} is cut off")
     foot = " ".join(said for _, _, said in words).partition("total ")[2]
     holds("weighed at the station)" in foot, foot)
 

@@ -224,16 +224,16 @@ class Picture:
     def profiles(self):
         figures, plain = self.figures, self.plain
         lines = [line for (step, values), style in zip(sorted(figures.profiles.items()), styles())
-                 for line in twice(self.after(step), style, values, plain and plain.profiles[step])]
+                 for line in twice(f"after step {step:,}", style, values, plain and plain.profiles[step])]
         cells = len(figures.mesh.volumes)
         marks = [(int(mark), quantities.figure(mark)) for mark in quantities.ticks(0, cells - 1, 10, True) if mark < cells]
         stairs = [cell - 0.5 for cell in range(cells + 1)]
         self.drawing.panel(Panel("Concentration q over the cells", self.q_scale(lines), (marks, "cell, by its number: neighbours here need not be neighbours in the water"),
-                                 stairs, lines, False), (-0.5, cells - 0.5))
+                                 stairs, lines, False, self.times(sorted(figures.profiles))), (-0.5, cells - 0.5))
 
-    def after(self, step):
-        time = self.timeline.words(step)
-        return f"after step {step:,}" + (f", {time}" if time else "")
+    def times(self, steps):
+        """When steps end, where the text says it."""
+        return "; ".join(f"step {step:,}: {self.timeline.words(step)}" for step in steps if self.timeline.words(step))
 
     def rates(self):
         """The panel of what crosses the rim; of plain upwind what is other than by the corrected steps."""
