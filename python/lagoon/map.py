@@ -30,6 +30,7 @@ WIDTH, EDGE, GAP, COLUMNS = 960, 40, 24, 3
 BAR_WIDE, BAR_HIGH, SHADES = 320, 14, 64
 STOPS = ((247, 251, 255), (198, 219, 239), (107, 174, 214), (33, 113, 181), (8, 48, 107))       # pale to dark, also without colour
 MOST_NAMED, NAME_WIDE, NAME_LEAST, NAME_SIZE, LETTER = 40, 18, 6, 10, 6        # cells; letters of a line; pixels
+NAME_PART = 0.7                 # of the way to the nearest centre, for a name
 DISC = 0.35                     # of the way to the nearest centre
 DIGITS = 12                     # of a coordinate that is written
 
@@ -164,7 +165,7 @@ class Map:
     def names(self, place):
         """Names of the cells on two lines where they need them, or numbers where names have no room; with a pale edge that keeps them
         legible on dark colours."""
-        room = min(int(self.places.radius / DISC * self.metre / LETTER), NAME_WIDE)
+        room = min(int(NAME_PART * self.places.radius / DISC * self.metre / LETTER), NAME_WIDE)
         for cell, centre in enumerate(self.places.centres):
             x, y = place(centre)
             name = self.labels.names["cell"].get(cell, str(cell))
