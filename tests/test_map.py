@@ -4,9 +4,14 @@
     python3 tests/test_map.py
 """
 
+import ast
 import csv
 import io
 import json
+import re
+import shutil
+import subprocess
+import sys
 import xml.etree.ElementTree as xml
 
 from toolcase import CHANNEL, ROOT, RUN, breaks, command, equal, folder, holds, interrupted, known, refuses, run_all, session_of
@@ -100,6 +105,36 @@ def test_the_channel():
                      "properties": {"face": 0, "name": "the sea", "from": 0, "to": "rim"}}, "a face")
     equal((vtk["data"], sorted(vtk["shapes"][1])), ({"cell": [2, 0, 1], "volume": [100] * 3, "q_0": [0, 1000, 0], "q_1": [0, 1000, 499], "q_2": [187, 1000, 811]},
           [(0, 0, 0), (0, 1, 0), (1, 0, 0), (1, 1, 0)]), "VTK")
+
+
+VTK_READS = """import sys, vtk
+reader = vtk.vtkPolyDataReader()
+reader.SetFileName(sys.argv[1])
+reader.ReadAllScalarsOn()
+reader.Update()
+data = reader.GetOutput().GetCellData()
+columns = [data.GetArray(place) for place in range(data.GetNumberOfArrays())]
+print({column.GetName(): [int(column.GetTuple1(row)) for row in range(column.GetNumberOfTuples())] for column in columns})"""
+
+
+def test_stock_readers():
+    """GeoJSON by GDAL's ogrinfo and VTK by its own library read what was written, where they are installed."""
+    with folder() as made:
+        equal(command("map", "--steps", "0,1,last", "--geojson", f"{made}/g.geojson", "--vtk", f"{made}/v.vtk", data=DRAWN.encode())[0], 0, "files")
+        with open(f"{made}/v.vtk") as file:
+            own = vtk_of(file.read())["data"]
+        readers = [["ogrinfo", "-al", "-q", f"{made}/g.geojson"], *([python, "-c", VTK_READS, f"{made}/v.vtk"] for python in (sys.executable, "/usr/bin/python3"))]
+        found = [subprocess.run(reader, capture_output=True, check=False) for reader in readers if shutil.which(reader[0])]
+    opened = [done.stdout.decode() for done in found if done.returncode == 0 and done.stdout]
+    for told in opened:
+        if told.startswith("{"):
+            equal(ast.literal_eval(told), own, "cells by VTK's library")
+        else:
+            equal([re.findall(r"(?:q_2 \(Integer\) = )(\d+)", told), len(re.findall("POLYGON", told)), len(re.findall("POINT", told))], [["1000", "811", "187"], 2, 1], "cells by GDAL")
+    for done in found:
+        holds(done.returncode == 0 or b"No module named 'vtk'" in done.stderr, f"{done.args[0]}: {done.stderr.decode()}")
+    if not opened:
+        print("neither GDAL nor VTK is here: the files are read by Python's json and by the reader of this test alone")
 
 
 def test_names():
