@@ -124,13 +124,14 @@ def figures_of(history, cells, every, profiles):
 
 
 def most_changed(history):
-    """The cells whose q changed most over the steps, in their order."""
+    """The cells whose q changed most over the steps, in their order; of more than are drawn, none that did not change, unless none did."""
     least = greatest = history.session.masses
     for moment in history.moments():
         least, greatest = list(map(min, least, moment.masses)), list(map(max, greatest, moment.masses))
     volumes = history.mesh.volumes
     changes = [high // volume - low // volume for low, high, volume in zip(least, greatest, volumes)]
-    return sorted(sorted(range(len(volumes)), key=lambda cell: -changes[cell])[:MOST_CELLS])
+    cells = sorted(range(len(volumes)), key=lambda cell: -changes[cell])[:MOST_CELLS]
+    return sorted(cells if len(volumes) <= MOST_CELLS else [cell for cell in cells if changes[cell]] or cells)
 
 
 def chosen(text, session):
