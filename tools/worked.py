@@ -810,10 +810,11 @@ def check(path):
     missing = set(BLOCKS) - {found[2] for found in BLOCK.finditer(page)}
     if missing:
         raise SystemExit(f"worked.py: {path} lacks the blocks {', '.join(sorted(missing))}")
-    for number, (has, wanted) in enumerate(zip(page.splitlines(), filled(page).splitlines()), 1):
+    as_worked = filled(page)
+    for number, (has, wanted) in enumerate(zip(page.splitlines(), as_worked.splitlines()), 1):
         if has != wanted:
             raise SystemExit(f"{path}:{number}: '{has}' where '{wanted}' is worked out")
-    if page != filled(page):
+    if page != as_worked:
         raise SystemExit(f"{path}: a block has more or fewer lines than are worked out")
     fences = re.findall(r"^```.*?^```", page, re.DOTALL | re.MULTILINE)
     for line in "\n".join(fences).splitlines():
