@@ -29,8 +29,9 @@ help:
 # the channel session of document 01; what is being proved is told on standard error
 run:
 	@mkdir -p target
-	@[ -e target/bin/run ] || echo 'proving the run program, some minutes the first time; target/run.log tells all' >&2
-	@tools/prove.sh run target/run.log rt check run
+	@made=; [ -e target/bin/run ] || { made='target/bin/run is made: it reads a session from standard input'; \
+	    echo 'proving the run program, some minutes the first time; target/run.log tells all' >&2; }; \
+	    tools/prove.sh run target/run.log rt check run && { [ -z "$$made" ] || echo "$$made" >&2; }
 	@target/bin/run < tests/sessions/channel.in
 
 # the gate: tests, proofs, must-fail edits, programs

@@ -137,6 +137,15 @@ def test_stock_readers():
         print("neither GDAL nor VTK is here: the files are read by Python's json and by the reader of this test alone")
 
 
+def test_grid():
+    """The survey's grid stands in GeoJSON where it is named, and only then."""
+    _, shapes, _ = drawn("--crs", "EPSG:25832")
+    equal(shapes.pop("crs"), {"type": "name", "properties": {"name": "urn:ogc:def:crs:EPSG::25832"}}, "the grid")
+    equal(shapes, drawn()[1], "and nothing else is other")
+    for wrong in ("25832", "EPSG:x", "EPSG:123456789", 'EPSG:1"'):
+        refuses("a grid like EPSG:25832", "map", "--crs", wrong, data=DRAWN.encode(), status=2)
+
+
 def test_names():
     """On two lines where one has no room; of cells that lie close, numbers."""
     for places, words in ((DRAWN, ["Inlet", "1", "2"]), (DRAWN.replace("name cell 0 Inlet", "name cell 0 Inlet of the western harbour"), ["Inlet of the", "western harbour", "1", "2"]),

@@ -1,7 +1,9 @@
 """A map of the lagoon: q of every cell by colour after chosen steps, with names and a legend; and the same as GeoJSON and as legacy VTK."""
 
+import argparse
 import json
 import math
+import re
 
 from . import command, engine, quantities, svg
 from .command import Bad, shown
@@ -18,7 +20,8 @@ A cell is drawn by the ends of its faces, in their order around its centre, wher
 are black lines, those at the rim thick; where a face has no ends, a grey line joins the centres.
 
 --geojson writes cells as polygons, or points where they are discs, and faces as lines; --vtk polygons and vertices with their data, as
-POLYDATA in ASCII. Both have cell, volume and q after each of the steps (q_0, q_24, ..); coordinates are the survey's, in metres.
+POLYDATA in ASCII. Both have cell, volume and q after each of the steps (q_0, q_24, ..); coordinates are the survey's, in metres. Readers of
+GeoJSON take them for degrees unless --crs names the survey's grid, as EPSG:25832.
 
 examples:
   lagoon map session.txt -o map.svg
@@ -181,8 +184,15 @@ def rounded(point):
     return [float(f"{value:.{DIGITS}g}") for value in point]
 
 
-def geojson(session, fields):
-    """Cells as polygons or points, faces as lines; q after each step is a property."""
+def grid(text):
+    """The number of a grid, as EPSG:25832 names it."""
+    if not re.fullmatch(r"EPSG:[0-9]{4,6}", text):
+        raise argparse.ArgumentTypeError(f"a grid like EPSG:25832, not {shown(text)}")
+    return text.partition(":")[2]
+
+
+def geojson(session, fields, crs=None):
+    """Cells as polygons or points, faces as lines; q after each step is a property. The grid is named as GDAL and QGIS read it."""
     places, names, features = Places(session), session.labels.names, []
     for cell, (outline, centre) in enumerate(zip(places.outlines, places.centres)):
         shape = {"type": "Polygon", "coordinates": [[rounded(point) for point in outline + outline[:1]]]} if outline else {"type": "Point", "coordinates": rounded(centre)}
@@ -193,7 +203,8 @@ def geojson(session, fields):
         if places.ends(face):
             features.append({"type": "Feature", "geometry": {"type": "LineString", "coordinates": [rounded(end) for end in places.ends(face)]},
                              "properties": {"face": face, "name": names["face"].get(face, ""), "from": first, "to": "rim" if second == RIM else second}})
-    return '{"type": "FeatureCollection", "features": [\n' + ",\n".join(json.dumps(feature, ensure_ascii=False) for feature in features) + "\n]}\n"
+    named = f' "crs": {{"type": "name", "properties": {{"name": "urn:ogc:def:crs:EPSG::{crs}"}}}},' if crs else ""
+    return f'{{"type": "FeatureCollection",{named} "features": [\n' + ",\n".join(json.dumps(feature, ensure_ascii=False) for feature in features) + "\n]}\n"
 
 
 def vtk(session, fields):
@@ -255,6 +266,7 @@ def arguments(words):
     parser.add_argument("--steps", default="0,last", help=f"steps to draw, as 0,24,last, at most {MOST_STEPS} (default: 0,last)")
     parser.add_argument("--title", help="the words above the maps (default: the file's name)")
     parser.add_argument("--geojson", metavar="FILE", help="write cells and faces as GeoJSON too")
+    parser.add_argument("--crs", type=grid, metavar="EPSG:N", help="the grid of the survey's coordinates, for GeoJSON (default: none is named)")
     parser.add_argument("--vtk", metavar="FILE", help="write cells as legacy VTK too")
     engine.options(parser)
     return parser.parse_args(words)
@@ -268,7 +280,7 @@ def main(words):
     Places(session)
     fields = fields_of(session, options, wanted)
     title = options.title if options.title is not None else "Session" if options.file == "-" else options.file.rpartition("/")[2]
-    made = [(options.geojson, geojson), (options.vtk, vtk), (options.output, lambda *given: Map(*given, title).svg())]
+    made = [(options.geojson, lambda *given: geojson(*given, options.crs)), (options.vtk, vtk), (options.output, lambda *given: Map(*given, title).svg())]
     for path, data in [(path, make(session, fields).encode()) for path, make in made if path]:
         command.write_whole(path, data)
     return 0
