@@ -66,8 +66,8 @@ install: lib
 	install -m 644 examples/* $(PAPERS)/examples/
 	install -m 644 docs/man/*.1 $(MANUAL)/man1/
 	install -m 644 docs/man/*.3 $(MANUAL)/man3/
-	printf 'prefix=%s\nName: lagoon\nDescription: salt transport on a lagoon mesh, in whole numbers\nVersion: %s\nCflags: -I$${prefix}/include\nLibs: -L$${prefix}/lib -llagoon\n' \
-	    '$(PREFIX)' '$(VERSION)' > $(TO)/lib/pkgconfig/lagoon.pc
+	printf '%s\n' 'prefix=$(PREFIX)' 'Name: lagoon' 'Description: salt transport on a lagoon mesh, in whole numbers' 'Version: $(VERSION)' \
+	    'Cflags: -I$${prefix}/include' 'Libs: -L$${prefix}/lib -llagoon' > $(TO)/lib/pkgconfig/lagoon.pc
 	@[ -n '$(DESTDIR)' ] || echo 'ldconfig, once and as root, lets programs find $(SONAME) in $(PREFIX)/lib'
 
 uninstall:

@@ -129,8 +129,10 @@ def test_nothing_is_written_over():
             with open(ROOT / "target" / ("lib" if option == "--library" else "bin") / program, "rb") as original, open(copies[option], "wb") as copy:
                 copy.write(original.read())
             os.chmod(copies[option], 0o700)
-        for name, options in (("plot", ("--run", "--calls", "--library")), ("budget", ("--run", "--calls", "--library")), ("binder", ("--run", "--calls", "--library")),
-                              ("export", ("--run", "--library")), ("map", ("--run", "--library")), ("judge", ("--calls",)), ("charge", ("--calls",)), ("cut", ("--calls",))):
+        for name, options in (("plot", ("--run", "--calls", "--library")), ("budget", ("--run", "--calls", "--library")),
+                              ("binder", ("--run", "--calls", "--library")),
+                              ("export", ("--run", "--library")), ("map", ("--run", "--library")), ("judge", ("--calls",)), ("charge", ("--calls",)),
+                              ("cut", ("--calls",))):
             for option in options:
                 words = Folder(place).words(name, COMMANDS[name][0], None, None)
                 over = [copies[option] if word == os.path.join(place, "OUT") else word for word in words] + [option, copies[option]]

@@ -83,7 +83,8 @@ def test_tables():
         taken = table(lent)
         lent[0] = 7
         equal(taken.tolist(), [7, 6], f"{lent!r} is not copied")
-    for lent in ([5, 6], (5, 6), (ctypes.c_uint64 * 2)(5, 6), range(5, 7), array("H", [5, 6]), memoryview(array("Q", [5, 0, 6]))[::2], (x for x in (5, 6)), {5: 1, 6: 2}.keys(), bytes([5, 6])):
+    for lent in ([5, 6], (5, 6), (ctypes.c_uint64 * 2)(5, 6), range(5, 7), array("H", [5, 6]), memoryview(array("Q", [5, 0, 6]))[::2], (x for x in (5, 6)),
+                 {5: 1, 6: 2}.keys(), bytes([5, 6])):
         equal(table(lent).tolist(), [5, 6], repr(lent))
     equal(table(array("q", [-5]), "q").tolist(), [-5], "signed")
     raises(ValueError, "64 bits", lambda: table(array("q", [-5])))
@@ -218,7 +219,8 @@ def test_the_wheel():
         done = subprocess.run([sys.executable, "-c", tried], cwd=made, env={**os.environ, "PYTHONPATH": f"{made}/site"}, capture_output=True, text=True)
         equal(done.stdout, f"{(ROOT / 'VERSION').read_text().strip()} [100099, 81188, 18713]\n", done.stderr)
         if importlib.util.find_spec("pip"):
-            done = subprocess.run([sys.executable, "-m", "pip", "install", "--quiet", "--no-index", "--target", f"{made}/pip", str(ROOT)], capture_output=True, text=True)
+            done = subprocess.run([sys.executable, "-m", "pip", "install", "--quiet", "--no-index", "--target", f"{made}/pip", str(ROOT)], capture_output=True,
+                                  text=True)
             equal(done.returncode, 0, done.stderr)
             done = subprocess.run([f"{made}/pip/bin/lagoon", "run", str(ROOT / "examples" / "tide.txt")], cwd=made,
                                   env={**os.environ, "PYTHONPATH": f"{made}/pip"}, capture_output=True, text=True)
@@ -236,7 +238,8 @@ def test_make_install():
             done = subprocess.run([usr / "bin" / "lagoon", *words], cwd=made, env=shown, capture_output=True)
             equal((done.returncode, done.stderr), (status, b""), f"lagoon {words[0]}")
         subprocess.run(["gcc", examples / "host.c", f"-I{usr}/include", f"-L{usr}/lib", "-llagoon", f"-Wl,-rpath,{usr}/lib", "-o", f"{made}/host"], check=True)
-        equal(subprocess.run([f"{made}/host"], capture_output=True, check=True).stdout, (ROOT / "tests" / "host.out").read_bytes(), "a host by the shared object")
+        equal(subprocess.run([f"{made}/host"], capture_output=True, check=True).stdout, (ROOT / "tests" / "host.out").read_bytes(),
+              "a host by the shared object")
         for page in ("man1/lagoon.1", "man3/lagoon.3"):
             holds((usr / "share" / "man" / page).exists(), page)
         subprocess.run(["make", "-s", "uninstall", f"DESTDIR={made}", "PREFIX=/usr"], cwd=ROOT, check=True)

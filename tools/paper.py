@@ -123,7 +123,8 @@ def page(path):
         if follows.startswith(("<table", "<pre")):
             shown[at] = shown[at].replace("<p>", '<p class="lead">', 1)
     body = "\n".join(shown)
-    return f'<!DOCTYPE html>\n<html lang="en"><head><meta charset="utf-8"><title>{html.escape(title)}</title><style>{style}</style></head>\n<body>\n{body}\n</body></html>\n'
+    head = f'<meta charset="utf-8"><title>{html.escape(title)}</title><style>{style}</style>'
+    return f'<!DOCTYPE html>\n<html lang="en"><head>{head}</head>\n<body>\n{body}\n</body></html>\n'
 
 
 def printed(source, target):

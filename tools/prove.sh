@@ -1,6 +1,7 @@
 #!/usr/bin/env bash
-# prove.sh NAME LOG COMMAND..: runs a command that proves a crate and those under it; tells on standard error each that is proved anew, n of m, and the log's end where it fails.
-[ "${1:-}" != --help ] || { sed -n '2s/^# //p' "$0"; exit 0; }
+# prove.sh NAME LOG COMMAND..: runs a command that proves a crate and those under it. On standard error it tells each that is proved anew,
+# n of m, and the log's end where it fails.
+[ "${1:-}" != --help ] || { sed -n '2,3s/^# //p' "$0"; exit 0; }
 set -uo pipefail
 cd "$(dirname "$0")/.."
 name=$1 log=$2

@@ -741,7 +741,8 @@ def share():
     printed_by_calls(f"middle_stage: accepted {struct.unpack('<Q', struct.pack('<d', same(('ratio', ratio), lagoon.middle_stage(coordinates))[1]))[0]}")
     k = same(int(256 * ratio), lagoon.face_share(coordinates))
     printed_by_calls(f"face_share: accepted {k}")
-    return [*lines, f"a / (a + b) = {of_float(a)} / {of_float(a + b)} = {of_float(ratio)}", f"256 · {of_float(ratio)} = {of_float(256 * ratio)}: the share is {k}"]
+    return [*lines, f"a / (a + b) = {of_float(a)} / {of_float(a + b)} = {of_float(ratio)}",
+            f"256 · {of_float(ratio)} = {of_float(256 * ratio)}: the share is {k}"]
 
 
 def along(new, entries):

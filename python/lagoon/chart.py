@@ -243,7 +243,8 @@ class Drawing:
         self.head(panel, box, wide)
         for place, lines in enumerate(groups):
             row, column = divmod(place, SMALL_COLUMNS)
-            small = Box(LEFT + column * (wide + SMALL_GAP), self.top + SMALL_ABOVE + row * (SMALL_HIGH + SMALL_GAP + SMALL_ABOVE), wide, SMALL_HIGH, span, heights)
+            small = Box(LEFT + column * (wide + SMALL_GAP), self.top + SMALL_ABOVE + row * (SMALL_HIGH + SMALL_GAP + SMALL_ABOVE), wide, SMALL_HIGH, span,
+                        heights)
             self.small(panel, lines, small, column == 0, place + SMALL_COLUMNS >= len(groups))
         self.top += rows * (SMALL_HIGH + SMALL_GAP + SMALL_ABOVE)
         middle = self.top - rows * (SMALL_HIGH + SMALL_GAP + SMALL_ABOVE) / 2

@@ -45,14 +45,16 @@ class Places:
         self.mesh, self.at = session.mesh, session.labels.at
         for cell in range(len(self.mesh.volumes)):
             if cell not in self.at["cell"]:
-                raise Bad(f"{session.labels.of('cell', cell)} has no place: lines `at cell N X Y` say where cells lie (lagoon survey writes them from coordinates)")
+                raise Bad(f"{session.labels.of('cell', cell)} has no place: lines `at cell N X Y` say where cells lie "
+                          "(lagoon survey writes them from coordinates)")
         self.centres = [self.at["cell"][cell] for cell in range(len(self.mesh.volumes))]
         self.faces = [[] for _ in self.centres]                 # of each cell
         for face, (first, second, _, _) in enumerate(self.mesh.faces):
             for end in {first, second} - {RIM}:
                 self.faces[end].append(face)
         self.outlines = [self.outline(cell) for cell in range(len(self.centres))]
-        self.radius = DISC * min((math.dist(one, other) for place, one in enumerate(self.centres) for other in self.centres[:place] if one != other), default=1.0)
+        self.radius = DISC * min((math.dist(one, other) for place, one in enumerate(self.centres) for other in self.centres[:place] if one != other),
+                                 default=1.0)
 
     def outline(self, cell):
         """The ends of a cell's faces in their order around its centre, where they enclose it; else None."""
@@ -124,7 +126,8 @@ class Map:
         metres = quantities.ticks(0, 120 / self.metre, 2)[1]
         length, x = float(metres) * self.metre, start + BAR_WIDE + 60
         self.parts += [svg.rule(x, top + BAR_HIGH, x + length, top + BAR_HIGH, svg.INK, 2),
-                       svg.text(x, top + BAR_HIGH + 16, f"{quantities.figure(metres / 1000)} km" if metres >= 1000 else f"{quantities.figure(metres)} m", size=11)]
+                       svg.text(x, top + BAR_HIGH + 16, f"{quantities.figure(metres / 1000)} km" if metres >= 1000 else f"{quantities.figure(metres)} m",
+                                size=11)]
         self.top += 52
 
     def one(self, left, top, step, values):
@@ -195,7 +198,9 @@ def geojson(session, fields, crs=None):
     """Cells as polygons or points, faces as lines; q after each step is a property. The grid is named as GDAL and QGIS read it."""
     places, names, features = Places(session), session.labels.names, []
     for cell, (outline, centre) in enumerate(zip(places.outlines, places.centres)):
-        shape = {"type": "Polygon", "coordinates": [[rounded(point) for point in outline + outline[:1]]]} if outline else {"type": "Point", "coordinates": rounded(centre)}
+        shape = {"type": "Point", "coordinates": rounded(centre)}
+        if outline:
+            shape = {"type": "Polygon", "coordinates": [[rounded(point) for point in outline + outline[:1]]]}
         figures = {f"q_{step}": values[cell] for step, values in sorted(fields.items())}
         features.append({"type": "Feature", "geometry": shape,
                          "properties": {"cell": cell, "name": names["cell"].get(cell, ""), "volume": session.mesh.volumes[cell], **figures}})

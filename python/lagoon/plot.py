@@ -229,7 +229,8 @@ class Picture:
         cells = len(figures.mesh.volumes)
         marks = [(int(mark), quantities.figure(mark)) for mark in quantities.ticks(0, cells - 1, 10, True) if mark < cells]
         stairs = [cell - 0.5 for cell in range(cells + 1)]
-        self.drawing.panel(Panel("Concentration q over the cells", self.q_scale(lines), (marks, "cell, by its number: neighbours here need not be neighbours in the water"),
+        self.drawing.panel(Panel("Concentration q over the cells", self.q_scale(lines),
+                                 (marks, "cell, by its number: neighbours here need not be neighbours in the water"),
                                  stairs, lines, False, self.times(sorted(figures.profiles))), (-0.5, cells - 0.5))
 
     def times(self, steps):
