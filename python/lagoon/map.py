@@ -8,6 +8,7 @@ import re
 from . import command, engine, quantities, svg
 from .command import Bad, shown
 from .layout import RIM
+from .rows import listed_steps
 from .session import open_session
 from .timeline import Timeline
 
@@ -237,19 +238,6 @@ def vtk(session, fields):
 
 # ---------------------------------------------------------------- The command
 
-def chosen_steps(text):
-    """Steps from words like 0,24,last."""
-    found = []
-    for word in text.split(","):
-        word = word.strip()
-        if word != "last" and not (word.isascii() and word.isdigit() and len(word) <= 12):
-            raise Bad(f"--steps: {shown(word)} is neither a step nor 'last'")
-        found.append(word if word == "last" else int(word))
-    if len(found) > MOST_STEPS:
-        raise Bad(f"--steps: at most {MOST_STEPS} steps are drawn, not {len(found)}")
-    return found
-
-
 def fields_of(session, options, wanted):
     """q of all cells after each of the steps."""
     found, volumes = {}, session.mesh.volumes
@@ -280,7 +268,7 @@ def arguments(words):
 def main(words):
     options = arguments(words)
     command.keep_apart([options.output, options.geojson, options.vtk], [options.file, *engine.read_by(options)])
-    wanted = chosen_steps(options.steps)
+    wanted = listed_steps(options.steps, "--steps", MOST_STEPS)
     session = open_session(options.file)
     Places(session)
     fields = fields_of(session, options, wanted)

@@ -9,8 +9,8 @@ from collections import Counter
 
 from . import causes, chart, command, engine, quantities, svg
 from .chart import COLOURS, DASHES, Line, Panel, Refused
-from .command import Bad, count, shown
-from .rows import listed_cells
+from .command import Bad, count
+from .rows import listed_cells, listed_steps
 from .session import Session
 from .timeline import Timeline
 
@@ -139,19 +139,6 @@ def chosen(text, session):
     found = listed_cells(text, session)
     if len(found) > MOST_CELLS:
         raise Bad(f"--cells: at most {MOST_CELLS} cells are drawn, not {len(found):,}")
-    return found
-
-
-def chosen_steps(text):
-    """Steps from words like 0,24,last."""
-    found = []
-    for word in text.split(","):
-        word = word.strip()
-        if word != "last" and not (word.isascii() and word.isdigit() and len(word) <= 12):
-            raise Bad(f"--profile: {shown(word)} is neither a step nor 'last'")
-        found.append(word if word == "last" else int(word))
-    if len(found) > MOST_PROFILES:
-        raise Bad(f"--profile: at most {MOST_PROFILES} steps are drawn, not {len(found)}")
     return found
 
 
@@ -329,7 +316,7 @@ class Input:
 def run(options):
     given = Input(options.file)
     session = given.session()
-    profiles = chosen_steps(options.profile) if options.profile is not None else []
+    profiles = listed_steps(options.profile, "--profile", MOST_PROFILES) if options.profile is not None else []
     if options.cells is not None:
         cells = chosen(options.cells, session)
     else:
