@@ -18,7 +18,7 @@ from toolcase import CHANNEL, ROOT, command, equal, folder, holds, run_all
 
 import generate
 import lagoon as reference
-from package import proved, sessions, sessiontext, values
+from package import proved, sessions, sessiontext
 from package.layout import RIM
 from package.values import Field, Mesh, Refused, Step, table
 
