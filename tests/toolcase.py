@@ -126,9 +126,8 @@ def breaks(*arguments, data=b""):
         done = subprocess.run(["bash", "-c", f"{line} {ending}"], input=data, capture_output=True)
         said = done.stderr.decode()
         holds("Traceback" not in said and "Exception ignored" not in said and done.returncode in statuses, f"{line} {ending}: {done.returncode} {said}")
-    if "/dev/full" not in line:
-        full = subprocess.run(["bash", "-c", f"{line} > /dev/full"], input=data, capture_output=True)
-        holds(full.returncode == 1 and b"full" in full.stderr, f"{line} > /dev/full: {full.returncode} {full.stderr}")
+        if ending == "> /dev/full" and "/dev/full" not in line:
+            holds(done.returncode == 1 and "full" in said, f"{line} {ending}: {done.returncode} {said}")
 
 
 def interrupted(*arguments):

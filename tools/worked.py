@@ -6,6 +6,7 @@ import re
 import struct
 import sys
 from fractions import Fraction
+from functools import lru_cache
 from pathlib import Path
 
 HERE = Path(__file__).resolve().parent
@@ -797,12 +798,17 @@ BLOCKS = {"layouts": layouts, "bytes": the_bytes, "mesh-bits": lambda: fenced(me
 
 # ---------------------------------------------------------------- The page
 
+@lru_cache(maxsize=None)
+def lines_of(name):
+    return tuple(BLOCKS[name]())
+
+
 def filled(page):
     """The page with every block as it is worked out here."""
     def block(found):
         if found[2] not in BLOCKS:
             raise SystemExit(f"worked.py: no block is called {found[2]}")
-        return found[1] + "".join(line + "\n" for line in BLOCKS[found[2]]()) + found[3]
+        return found[1] + "".join(line + "\n" for line in lines_of(found[2])) + found[3]
     return BLOCK.sub(block, page)
 
 
@@ -841,7 +847,7 @@ def main():
         command.write_whole(str(options.write), filled(options.write.read_text()).encode())
     else:
         for name in [options.block] if options.block else BLOCKS:
-            print("\n".join([f"<!-- worked: {name} -->", *BLOCKS[name](), "<!-- end -->"]))
+            print("\n".join([f"<!-- worked: {name} -->", *lines_of(name), "<!-- end -->"]))
 
 
 if __name__ == "__main__":
