@@ -18,7 +18,7 @@ from toolcase import CHANNEL, ROOT, command, equal, folder, holds, run_all
 
 import generate
 import lagoon as reference
-from package import proved, sessions, sessiontext
+from package import proved, sessions, sessiontext, values
 from package.layout import RIM
 from package.values import Field, Mesh, Refused, Step, table
 
@@ -55,16 +55,24 @@ def test_examples():
     holds(len(found) == 3 and all(failed == "0" and int(some) > 10 for failed, some in found), tried)
 
 
-def test_page():
-    """docs/PYTHON.md, block by block, with the names of the blocks before."""
-    Path(ROOT, "target").mkdir(exist_ok=True)
-    out = in_process(f"import doctest, re\ntext = open({str(PAGE)!r}).read()\nnames, failed, tried = {{}}, 0, 0\n"
+def test_pages():
+    """docs/PYTHON.md and README's lines of Python print what stands below them."""
+    Path(ROOT, "target", "mine").mkdir(parents=True, exist_ok=True)
+    for page, least in ((PAGE, 40), (ROOT / "README.md", 5)):
+        failed, tried = worked(page)
+        holds(failed == 0 and tried > least, f"{page}: {failed} of {tried} fail")
+
+
+def worked(page):
+    """How many examples of a page fail, and how many there are: block by block, with the names of the blocks before."""
+    out = in_process(f"import doctest, re\ntext = open({str(page)!r}).read()\nnames, failed, tried = {{}}, 0, 0\n"
                      "for block in re.findall(r'(?<=```python\\n).*?(?=```)', text, re.S):\n"
                      "    test = doctest.DocTestParser().get_doctest(block, names, 'PYTHON.md', 'PYTHON.md', 0)\n"
                      "    runner = doctest.DocTestRunner()\n    result = runner.run(test, clear_globs=False)\n"
                      "    names = test.globs\n    failed, tried = failed + result.failed, tried + result.attempted\nprint(failed, tried)")
     failed, tried = map(int, out.split()[-2:])
-    holds(failed == 0 and tried > 40, out)
+    holds(failed == 0, out)
+    return failed, tried
 
 
 def test_every_name_is_told():
@@ -238,8 +246,7 @@ def test_make_install():
             done = subprocess.run([usr / "bin" / "lagoon", *words], cwd=made, env=shown, capture_output=True)
             equal((done.returncode, done.stderr), (status, b""), f"lagoon {words[0]}")
         subprocess.run(["gcc", examples / "host.c", f"-I{usr}/include", f"-L{usr}/lib", "-llagoon", f"-Wl,-rpath,{usr}/lib", "-o", f"{made}/host"], check=True)
-        equal(subprocess.run([f"{made}/host"], capture_output=True, check=True).stdout, (ROOT / "tests" / "host.out").read_bytes(),
-              "a host by the shared object")
+        equal(subprocess.run([f"{made}/host"], capture_output=True, check=True).stdout, (ROOT / "tests" / "host.out").read_bytes(), "a host by the shared object")
         for page in ("man1/lagoon.1", "man3/lagoon.3"):
             holds((usr / "share" / "man" / page).exists(), page)
         subprocess.run(["make", "-s", "uninstall", f"DESTDIR={made}", "PREFIX=/usr"], cwd=ROOT, check=True)

@@ -1,13 +1,11 @@
 #!/usr/bin/env python3
-"""README's "A session of your own": every command and line of Python is run as it stands, writes under target/, and leaves the tree as it was.
+"""README's "A session of your own": every command is run as it stands, writes under target/, and leaves the tree as it was.
 
     python3 tests/test_readme.py
 """
 
-import os
 import re
 import subprocess
-import sys
 
 from toolcase import ROOT, equal, holds, run_all
 
@@ -37,18 +35,6 @@ def test_the_commands():
         for path in re.findall(r"(?:-o|--field|--csv) (\S+)", line):
             holds(path.startswith("target/mine/") and (ROOT / path).exists(), f"{line}: {path}")
     equal(tree(), before, "git status after the commands")
-
-
-def test_the_lines_of_python():
-    """They print what stands below them, in the order of the page: the commands before have made target/mine."""
-    before = tree()
-    code = ("import doctest, re\nblocks = re.findall(r'(?<=```python\\n).*?(?=```)', open('README.md').read(), re.S)\n"
-            "test = doctest.DocTestParser().get_doctest(''.join(blocks), {}, 'README.md', 'README.md', 0)\n"
-            "print(doctest.DocTestRunner().run(test))")
-    done = subprocess.run([sys.executable, "-c", code], cwd=ROOT, env={**os.environ, "PYTHONPATH": "python"}, capture_output=True, text=True, check=False)
-    found = re.search(r"failed=0, attempted=(\d+)", done.stdout)
-    holds(found and int(found[1]) > 4, done.stdout + done.stderr)
-    equal(tree(), before, "git status after the lines")
 
 
 if __name__ == "__main__":
