@@ -10,8 +10,8 @@ use Rattle.lists.proofs.Tests.{Same, same, other, same?}
 use Rattle.heads.specs.Layouts.{waterKind, outfallKind, massWidth, massBits, releaseBits}
 use Rattle.heads.specs.declared.Width.{Width}
 use Rattle.heads.specs.declared.Width.the-variants.{Narrow, Wide}
-use Rattle.writing.proofs.releases.release_fits.Statement.{statement}
-use Rattle.writing.proofs.releases.release_fits.Tie as tie
+use Rattle.write_causes.proofs.releases.release_fits.Statement.{statement}
+use Rattle.write_causes.proofs.releases.release_fits.Tie as tie
 
 none-but-zero : (r : ℕ) {b : Bool} → Same r 0 b → b ≡ ltb r 1
 none-but-zero r (same q) = rw q

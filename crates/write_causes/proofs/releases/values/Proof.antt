@@ -7,9 +7,9 @@ use lib.ListN.{getD}
 use Rattle.model.specs.Causes.{fine, each}
 use Rattle.model.proofs.Verdicts.{scan-start, scan-pass, scan-hit, scan-end}
 use Rattle.heads.specs.Layouts.{kindNumber}
-use Rattle.writing.specs.Writing.{releaseFits}
-use Rattle.writing.proofs.releases.values.Statement.{statement}
-use Rattle.writing.proofs.releases.values.Tie as tie
+use Rattle.write_causes.specs.Verdicts.{releaseFits}
+use Rattle.write_causes.proofs.releases.values.Statement.{statement}
+use Rattle.write_causes.proofs.releases.values.Tie as tie
 
 abbrev Inv-loop : tie.InvT-loop
 Inv-loop width kind cells releases c₀ c = (c ≤ cells) × (each 18 c (λ k. releaseFits (kindNumber width kind) (getD releases k 0)) ≡ fine)

@@ -1,5 +1,6 @@
 // What a writing is refused for, before the first byte is touched.
-use crate::releases;
+mod releases;
+
 use heads::StepKind;
 use heads::Width;
 use heads::lengths;
@@ -10,7 +11,7 @@ ghost use mathlib.Core.Path.{_≡_};
 ghost use Rattle.model.specs.Mesh.{meshOf};
 ghost use Rattle.model.specs.Answers.{said};
 ghost use Rattle.heads.specs.Layouts.{kindNumber};
-ghost use Rattle.writing.specs.Writing.{mostOf, meshWriteVerdict, fieldWriteVerdict, stepWriteVerdict};
+ghost use Rattle.write_causes.specs.Verdicts.{mostOf, meshWriteVerdict, fieldWriteVerdict, stepWriteVerdict};
 
 // The position of the record's bytes among the tables of cause 2.
 const RECORD_BYTES: u64 = 11;

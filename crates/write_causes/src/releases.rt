@@ -11,7 +11,7 @@ ghost use lib.ListN.{length, getD};
 ghost use Rattle.model.specs.Causes.{each};
 ghost use Rattle.model.specs.Answers.{said};
 ghost use Rattle.heads.specs.Layouts.{kindNumber, massWidth};
-ghost use Rattle.writing.specs.Writing.{releaseFits};
+ghost use Rattle.write_causes.specs.Verdicts.{releaseFits};
 
 // The first release that a field of the kind with outfalls does not hold, narrow and wide.
 const NARROW_END: u64 = 1 << Body::NARROW_MASS;

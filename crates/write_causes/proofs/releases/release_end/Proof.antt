@@ -1,7 +1,7 @@
 -- 2^32 and 2^40, as numbers.
 use borrow.Author.Needs.{needs}
-use Rattle.writing.proofs.releases.release_end.Statement.{statement}
-use Rattle.writing.proofs.releases.release_end.Tie as tie
+use Rattle.write_causes.proofs.releases.release_end.Statement.{statement}
+use Rattle.write_causes.proofs.releases.release_end.Tie as tie
 
 returns : tie.Need-returns
 returns c = rw (c .enum-told .given .1)

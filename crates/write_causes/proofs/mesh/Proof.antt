@@ -4,10 +4,10 @@ use mathlib.Core.List.{[], _∷_}
 use borrow.Author.Needs.{needs}
 use Rattle.model.proofs.Verdicts.{refused-at, both-fine, both-are, refuses, passes}
 use Rattle.model.proofs.Accepted.{counted, mesh-long}
-use Rattle.writing.specs.Writing.{meshWriteVerdict}
-use Rattle.writing.proofs.WriteLaws.{bytes-said, values-said, past-first}
-use Rattle.writing.proofs.refusals.mesh.Statement.{statement}
-use Rattle.writing.proofs.refusals.mesh.Tie as tie
+use Rattle.write_causes.specs.Verdicts.{meshWriteVerdict}
+use Rattle.write_causes.proofs.Refusing.{bytes-said, values-said, past-first}
+use Rattle.write_causes.proofs.mesh.Statement.{statement}
+use Rattle.write_causes.proofs.mesh.Tie as tie
 
 returns : tie.Need-returns
 unfolding meshWriteVerdict

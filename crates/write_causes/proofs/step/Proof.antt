@@ -11,9 +11,9 @@ use Rattle.model.specs.Causes.{fine, _andThen_, long, bytesLong, counts, meshTa
 use Rattle.model.proofs.Verdicts.{refused-at, both-fine, past, both-are, refuses, passes}
 use Rattle.model.proofs.Accepted.{counted, mesh-long}
 use Rattle.heads.specs.Layouts.{kindNumber, stepLength}
-use Rattle.writing.proofs.WriteLaws.{bytes-said, values-said, water-long, step-groups}
-use Rattle.writing.proofs.refusals.step.Statement.{statement}
-use Rattle.writing.proofs.refusals.step.Tie as tie
+use Rattle.write_causes.proofs.Refusing.{bytes-said, values-said, water-long, step-groups}
+use Rattle.write_causes.proofs.step.Statement.{statement}
+use Rattle.write_causes.proofs.step.Tie as tie
 
 abbrev mesh : tie.Start → Mesh
 mesh s = meshOf (s .args .cells) (s .args .faces) (s .args .volumes .now) (s .args .firsts .now) (s .args .seconds .now) (s .args .shares .now) (s .args .reaches .now)

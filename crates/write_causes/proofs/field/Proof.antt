@@ -8,11 +8,10 @@ use Rattle.model.specs.Causes.{fine, _andThen_, bytesLong, counts, meshTables, 
 use Rattle.model.proofs.Verdicts.{refused-at, both-fine, past, out, both-are, refuses, passes}
 use Rattle.model.proofs.Accepted.{few, mesh-long, salt-asks-within}
 use Rattle.heads.specs.Layouts.{fieldKind, fieldLength}
-use Rattle.writing.specs.Writing.{mostOf, fieldWriteVerdict}
-use Rattle.writing.proofs.WidthLaws.{most-within}
-use Rattle.writing.proofs.WriteLaws.{bytes-said, values-said, past-first}
-use Rattle.writing.proofs.refusals.field.Statement.{statement}
-use Rattle.writing.proofs.refusals.field.Tie as tie
+use Rattle.write_causes.specs.Verdicts.{mostOf, fieldWriteVerdict}
+use Rattle.write_causes.proofs.Refusing.{most-within, bytes-said, values-said, past-first}
+use Rattle.write_causes.proofs.field.Statement.{statement}
+use Rattle.write_causes.proofs.field.Tie as tie
 
 abbrev mesh : tie.Start → Mesh
 mesh s = meshOf (s .args .cells) (s .args .faces) (s .args .volumes .now) (s .args .firsts .now) (s .args .seconds .now) (s .args .shares .now) (s .args .reaches .now)
