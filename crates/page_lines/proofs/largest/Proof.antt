@@ -6,9 +6,9 @@ use borrow.Author.Needs.{needs}
 use lib.ListN.{getD}
 use Rattle.lists.specs.Fold.{greatest}
 use Rattle.lists.proofs.Sums.{greatest-more}
-use Rattle.page.specs.Page.{largest}
-use Rattle.page.proofs.largest.Statement.{statement}
-use Rattle.page.proofs.largest.Tie as tie
+use Rattle.page_lines.specs.Lines.{largest}
+use Rattle.page_lines.proofs.largest.Statement.{statement}
+use Rattle.page_lines.proofs.largest.Tie as tie
 
 abbrev Inv-loop : tie.InvT-loop
 Inv-loop cells volumes most₀ c₀ most c = (c ≤ cells) × (most ≡ largest c volumes)

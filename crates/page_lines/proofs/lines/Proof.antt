@@ -6,10 +6,10 @@ use lib.ListN.{length}
 use Rattle.text.specs.Lines.{Puts, pieces}
 use Rattle.text.proofs.Lines.{puts-none}
 use Rattle.marks.specs.Marks.{isOpen}
-use Rattle.page.specs.Page.{lineOf, lineIf}
-use Rattle.page.proofs.Laws.{line-more}
-use Rattle.page.proofs.lines.Statement.{statement}
-use Rattle.page.proofs.lines.Tie as tie
+use Rattle.page_lines.specs.Lines.{lineOf, lineIf}
+use Rattle.page_lines.proofs.Laws.{line-more}
+use Rattle.page_lines.proofs.lines.Statement.{statement}
+use Rattle.page_lines.proofs.lines.Tie as tie
 
 abbrev Inv-loop : tie.InvT-loop
 Inv-loop lent₀ places first count volumes masses marks at₀ i₀ lent at i =

@@ -1,8 +1,8 @@
 use mathlib.Core.Path.{refl, sym, _∙_}
 use mathlib.Core.Bool.{true≢false}
 use borrow.Author.Needs.{needs}
-use Rattle.page.proofs.line_if.Statement.{statement}
-use Rattle.page.proofs.line_if.Tie as tie
+use Rattle.page_lines.proofs.line_if.Statement.{statement}
+use Rattle.page_lines.proofs.line_if.Tie as tie
 
 returns : tie.Need-returns
 returns c =

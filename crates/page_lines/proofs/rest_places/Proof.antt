@@ -1,9 +1,9 @@
 use native.Mathlib.Omega.{arith}
 use borrow.Author.Needs.{needs}
 use borrow.Author.Tests.{le-leb, lt-leb}
-use Rattle.page.specs.Page.{restPlaces}
-use Rattle.page.proofs.rest_places.Statement.{statement}
-use Rattle.page.proofs.rest_places.Tie as tie
+use Rattle.page_lines.specs.Lines.{restPlaces}
+use Rattle.page_lines.proofs.rest_places.Statement.{statement}
+use Rattle.page_lines.proofs.rest_places.Tie as tie
 
 returns : tie.Need-returns
 unfolding restPlaces

@@ -3,9 +3,9 @@ use native.Mathlib.Nat.{div-mul-le-self}
 use native.Mathlib.Omega.{arith}
 use borrow.Author.Needs.{needs}
 use Rattle.text.proofs.Lines.{both}
-use Rattle.page.specs.Page.{cellLine}
-use Rattle.page.proofs.cell_line.Statement.{statement}
-use Rattle.page.proofs.cell_line.Tie as tie
+use Rattle.page_lines.specs.Lines.{cellLine}
+use Rattle.page_lines.proofs.cell_line.Statement.{statement}
+use Rattle.page_lines.proofs.cell_line.Tie as tie
 
 mul-rest : tie.Need-mul-rest
 mul-rest c = omega (arith, div-mul-le-self (c .before .args .mass) (c .before .args .volume))

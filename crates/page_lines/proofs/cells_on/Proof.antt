@@ -1,7 +1,7 @@
 use borrow.Author.Needs.{needs}
-use Rattle.page.specs.Page.{cellsOn}
-use Rattle.page.proofs.cells_on.Statement.{statement}
-use Rattle.page.proofs.cells_on.Tie as tie
+use Rattle.page_lines.specs.Lines.{cellsOn}
+use Rattle.page_lines.proofs.cells_on.Statement.{statement}
+use Rattle.page_lines.proofs.cells_on.Tie as tie
 
 returns : tie.Need-returns
 unfolding cellsOn
