@@ -1,9 +1,9 @@
 // Document 02, S-12: a lagoon cut in two, each part in tables of its own.
 use model::Answer;
 use model::Refusal;
+use piece_faces::columns;
+use piece_faces::faces::spacings;
 use pieces::by_cell;
-use pieces::columns;
-use pieces::faces::spacings;
 ghost use mathlib.Core.Path.{_≡_};
 ghost use Rattle.cut.specs.Cut.{tablesOf, lagoonOf};
 ghost use Rattle.cutting.specs.Promise.{CutPromise};
@@ -103,7 +103,7 @@ pub fn cut(
     columns::seconds(cells, faces, 0, labels, firsts, seconds, seconds0);
     spacings(faces, 0, labels, firsts, seconds, shares, shares0);
     spacings(faces, 0, labels, firsts, seconds, reaches, reaches0);
-    pieces::faces::fluxes(faces, 0, labels, firsts, seconds, fluxes, fluxes0);
+    piece_faces::faces::fluxes(faces, 0, labels, firsts, seconds, fluxes, fluxes0);
     columns::outsides(
         cells,
         faces,
@@ -125,7 +125,7 @@ pub fn cut(
     columns::seconds(cells, faces, 1, labels, firsts, seconds, seconds1);
     spacings(faces, 1, labels, firsts, seconds, shares, shares1);
     spacings(faces, 1, labels, firsts, seconds, reaches, reaches1);
-    pieces::faces::fluxes(faces, 1, labels, firsts, seconds, fluxes, fluxes1);
+    piece_faces::faces::fluxes(faces, 1, labels, firsts, seconds, fluxes, fluxes1);
     columns::outsides(
         cells,
         faces,

@@ -5,7 +5,7 @@ use Rattle.model.specs.Causes.{fine, counts}
 use Rattle.model.proofs.Verdicts.{refuses, passes}
 use Rattle.cut.specs.Cut.{Tables, tablesOf, Lagoon, lagoonOf, partTables}
 use Rattle.cut.specs.Refusals.{cutTables, cutVerdict}
-use Rattle.pieces.proofs.Numbered.{faces-lent}
+use Rattle.piece_faces.proofs.Numbered.{faces-lent}
 use Rattle.cut_causes.proofs.Groups.{lengths-first}
 use Rattle.cutting.proofs.Promised.{Cuttable, cuttable, promise-done, promise-refused, counts-are, tables-are}
 use Rattle.cutting.proofs.cut.Statement.{statement}
