@@ -1,7 +1,7 @@
 // Document 02, S-12: one part of a lagoon, in tables of its own.
+use piece_faces::columns;
+use piece_faces::faces::spacings;
 use pieces::by_cell;
-use pieces::columns;
-use pieces::faces::spacings;
 ghost use Rattle.cut.specs.Cut.{tablesOf, lagoonOf};
 ghost use Rattle.cut_part.specs.Part.{Cuttable, PartFilled};
 
@@ -49,7 +49,7 @@ pub fn part(
     columns::seconds(cells, faces, part, labels, firsts, seconds, part_seconds);
     spacings(faces, part, labels, firsts, seconds, shares, part_shares);
     spacings(faces, part, labels, firsts, seconds, reaches, part_reaches);
-    pieces::faces::fluxes(faces, part, labels, firsts, seconds, fluxes, part_fluxes);
+    piece_faces::faces::fluxes(faces, part, labels, firsts, seconds, fluxes, part_fluxes);
     columns::outsides(
         cells,
         faces,

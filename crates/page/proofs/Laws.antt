@@ -1,9 +1,8 @@
 -- The cells of a page, what an accepted call has passed, and that every figure then fits its columns.
 use Prim.Native.Nat.{ℕ, suc, _+_, _-_, _*_, _^_, _≤_, _<_, min}
-use mathlib.Core.Path.{_≡_, refl, ap, _∙_}
-use mathlib.Core.List.{List, [], _∷_, append-nil}
+use mathlib.Core.Path.{_≡_, ap, _∙_}
+use mathlib.Core.List.{List, [], _∷_}
 use native.Mathlib.Nat.{le-div-iff-mul-le, lt-div-mul-add, suc-mul, mul-le-mul, mul-le-mul-right, le-trans}
-use native.Mathlib.Numerals.{add-one}
 use native.Mathlib.Omega.{arith}
 use borrow.Author.Tests.{ltb-true, lt-ltb, le-ltb}
 use lib.Dec.{leb, ltb}
@@ -21,9 +20,7 @@ use Rattle.model.proofs.Verdicts.{refused-at, both-fine, need-fine, long-fine, 
 use Rattle.model.proofs.Accepted.{field-passed, FieldPassed, few, salt-asks, field-fit, mass-small}
 use Rattle.checks.proofs.Laws.{sum-asks}
 use Rattle.text.specs.Digits.{mostDigits}
-use Rattle.text.specs.Lines.{Puts, pieces}
-use Rattle.text.proofs.Lines.{same-length, puts-more}
-use Rattle.page.specs.Page.{narrowPlaces, widePlaces, largest, restOf, restPlaces, massPlaces, lineBytes, pageCells, pages, cellsOn, pageBytes, qOf, lineOf, lineIf, pageMass}
+use Rattle.page.specs.Page.{narrowPlaces, widePlaces, largest, restOf, restPlaces, massPlaces, lineBytes, pageCells, pages, cellsOn, pageBytes, qOf, pageMass}
 use Rattle.page.specs.Fitting.{Fitting}
 use Rattle.page.specs.Answers.{verdictWith}
 
@@ -92,22 +89,6 @@ module _ (volumes masses : List ℕ) (cells page : ℕ) {count : ℕ} (e : count
 
   pub part-gives : sum count (massIn (take (length masses - page * pageCells) (drop (page * pageCells) masses))) ≡ pageMass volumes masses cells page
   part-gives = rw (part-is masses (page * pageCells), e) (mass-from volumes masses cells page)
-
--- THE LINES of visible cells: one cell more
-module _ (lent₀ : List ℕ) (volumes masses : List ℕ) (visible : ℕ → Bool) (places first : ℕ) where
-  pub line-more : (i : ℕ) {at r : ℕ} {lent lent′ : List ℕ} (b : Bool) → b ≡ visible (first + i) → length lent ≡ length lent₀
-      → Puts lent₀ 0 (pieces i (λ j. lineIf volumes masses visible places (first + j))) at lent
-      → (b ≡ true → Puts lent at (lineOf volumes masses places (first + i)) r lent′) × (b ≡ false → (r ≡ at) × (lent′ ≡ lent))
-      → (length lent′ ≡ length lent₀) × Puts lent₀ 0 (pieces (i + 1) (λ j. lineIf volumes masses visible places (first + j))) r lent′
-  unfolding lineIf pieces
-  line-more i {at} {r} {lent} {lent′} true o l p k =
-      let q : Puts lent at (lineIf volumes masses visible places (first + i)) r lent′ = rw (← o) (k .0 refl) in
-      (same-length lent (k .0 refl) ∙ l, puts-more lent₀ (λ j. lineIf volumes masses visible places (first + j)) i p q)
-  line-more i {at} {r} {lent} {lent′} false o l p k =
-      let s = k .1 refl in (
-        ap length (s .1) ∙ l,
-        rw (add-one i, ← o, append-nil (pieces i (λ j. lineIf volumes masses visible places (first + j))), s .0, s .1) p,
-      )
 
 -- WHAT AN ACCEPTED CALL HAS PASSED: the causes of a field, with those of the bytes among them
 all-in-turn : (a b c d e : Verdict) → (a andThen b andThen c) ≡ fine → d ≡ fine → e ≡ fine → inTurn (a ∷ b ∷ c ∷ d ∷ e ∷ []) ≡ fine

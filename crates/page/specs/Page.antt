@@ -1,77 +1,27 @@
--- Document 02, S-1: what a printed page holds. The definitions take the places of the rest, since S-10 makes the lines of larger cells wider.
-use Prim.Native.Nat.{ℕ, _+_, _-_, _*_, _/_, min}
-use mathlib.Core.Bool.{Bool, cond}
-use mathlib.Core.List.{List, [], _++_}
-use lib.Dec.{leb, ltb}
-use lib.ListN.{getD}
-use Rattle.lists.specs.Fold.{sum, greatest}
-use Rattle.model.specs.Mesh.{oldCeiling}
+-- Document 02, S-1: what a printed page holds. Its lines are defined in page_lines, and passed on here.
+use Prim.Native.Nat.{ℕ, _+_, _-_, _*_, _/_}
+use mathlib.Core.Bool.{cond}
+use mathlib.Core.List.{List, _++_}
+use lib.Dec.{ltb}
+use Rattle.lists.specs.Fold.{sum}
 use Rattle.model.specs.Calls.{massIn}
-use Rattle.text.specs.Lines.{column, pieces, space, newline}
+use Rattle.text.specs.Lines.{column, pieces, newline}
+pub use Rattle.page_lines.specs.Lines.{cellPlaces, qPlaces, narrowPlaces, widePlaces, largest, massPlaces, lineBytes, pageCells, qOf, restOf}
+unfoldable pub use Rattle.page_lines.specs.Lines.{restPlaces, cellLine, cellsOn, lineOf, lineIf}
 
--- A cell's line: the cell in 4 places, q in 7, the rest in 4 or 5, with a space between them and a newline at the end.
-abbrev pub cellPlaces : ℕ
-cellPlaces = 4
-
-abbrev pub qPlaces : ℕ
-qPlaces = 7
-
--- Document 02, S-10: the rest has 5 places where some V of the whole mesh is above 4,095.
-abbrev pub narrowPlaces : ℕ
-narrowPlaces = 4
-
-abbrev pub widePlaces : ℕ
-widePlaces = 5
-
-abbrev pub largest : ℕ → List ℕ → ℕ
-largest cells volumes = greatest cells 0 (λ c. getD volumes c 0)
-
-unfoldable pub restPlaces : ℕ → List ℕ → ℕ
-restPlaces cells volumes = cond (leb (largest cells volumes) oldCeiling) narrowPlaces widePlaces
-
--- The mass line is as long as a cell's, so the mass has 17 places where the rest has 4, and 18 where it has 5.
-abbrev pub massPlaces : ℕ → ℕ
-massPlaces places = cellPlaces + 1 + qPlaces + 1 + places
-
-abbrev pub lineBytes : ℕ → ℕ
-lineBytes places = massPlaces places + 1
-
-unfoldable pub cellLine : ℕ → (cell q rest : ℕ) → List ℕ
-cellLine places cell q rest = column cellPlaces cell space ++ (column qPlaces q space ++ column places rest newline)
-
+-- The line of the mass is as long as a cell's.
 unfoldable pub massLine : ℕ → ℕ → List ℕ
 massLine places mass = column (massPlaces places) mass newline
 
--- Sixty cells make a page; the last page has those that are left.
-abbrev pub pageCells : ℕ
-pageCells = 60
-
+-- Pages of sixty cells, of which the last may have fewer.
 unfoldable pub pages : ℕ → ℕ
 pages cells = (cells + (pageCells - 1)) / pageCells
-
--- Beyond the last page the difference is cut off at 0: there are no cells.
-unfoldable pub cellsOn : ℕ → ℕ → ℕ
-cellsOn cells page = min pageCells (cells - page * pageCells)
 
 -- How long a page is: a line for each cell and one for the mass. A page beyond the last needs no bytes.
 unfoldable pub pageBytes : ℕ → ℕ → ℕ → ℕ
 pageBytes places cells page = cond (ltb page (pages cells)) ((cellsOn cells page + 1) * lineBytes places) 0
 
 module _ (volumes masses : List ℕ) where
-  -- q is m / V rounded down, the rest m − qV, never cut off, since qV is at most m
-  abbrev pub qOf : ℕ → ℕ
-  qOf c = massIn masses c / getD volumes c 0
-
-  abbrev pub restOf : ℕ → ℕ
-  restOf c = massIn masses c - qOf c * getD volumes c 0
-
-  unfoldable pub lineOf : ℕ → ℕ → List ℕ
-  lineOf places c = cellLine places c (qOf c) (restOf c)
-
-  -- Document 02, S-14: of a cell that the reader may not see there is no line, not even a blank one
-  unfoldable pub lineIf : (visible : ℕ → Bool) → ℕ → ℕ → List ℕ
-  lineIf visible places c = cond (visible c) (lineOf places c) []
-
   -- the mass of a page's cells
   unfoldable pub pageMass : ℕ → ℕ → ℕ
   pageMass cells page = sum (cellsOn cells page) (λ i. massIn masses (page * pageCells + i))
@@ -79,4 +29,4 @@ module _ (volumes masses : List ℕ) where
   -- A page: the lines of its cells in their order, then the line of its mass.
   unfoldable pub pageText : ℕ → ℕ → ℕ → List ℕ
   pageText places cells page =
-      pieces (cellsOn cells page) (λ i. lineOf places (page * pageCells + i)) ++ massLine places (pageMass cells page)
+      pieces (cellsOn cells page) (λ i. lineOf volumes masses places (page * pageCells + i)) ++ massLine places (pageMass cells page)

@@ -1,7 +1,5 @@
-// Document 02, S-12: the tables of one part of a lagoon, each filled by a loop of its own from those of the whole.
+// Document 02, S-12: the tables of a part's cells, each filled by a loop of its own from those of the whole; and which faces a part has.
 pub mod cells;
-pub mod columns;
-pub mod faces;
 
 use model::RIM;
 ghost use mathlib.Core.Path.{_≡_};

@@ -2,12 +2,12 @@
 use marks::marks_good;
 use marks::marks_long;
 use model::Answer;
-use page::PAGE_CELLS;
 use page::PageAnswer;
-use page::cells_on;
 use page::judge;
-use page::lines;
-use page::rest_places;
+use page_lines::PAGE_CELLS;
+use page_lines::cells_on;
+use page_lines::lines;
+use page_lines::rest_places;
 ghost use mathlib.Core.Path.{_≡_};
 ghost use Rattle.model.specs.Answers.{said};
 ghost use Rattle.public_page.specs.Public.{publicVerdict, PublicPageIs};

@@ -23,13 +23,10 @@ use Rattle.heads.specs.declared.StepKind.the-variants.{Water, Outfalls}
 use Rattle.heads.specs.declared.Width.{Width}
 use Rattle.heads.specs.declared.Width.the-variants.{Narrow, Wide}
 use Rattle.heads.proofs.Layouts.{mesh-value, field-mass, step-value}
+use Rattle.write_causes.proofs.Refusing.{most-within}
 use Rattle.writing.specs.Writing.{mostOf, releaseFits, releasesFit}
 
--- the ceiling of a width is within that of the calls, and its fields hold it
-pub most-within : (w : Width) → mostOf w ≤ ceiling
-most-within Narrow = omega arith
-most-within Wide = omega arith
-
+-- the fields of a width hold its ceiling
 value-room : (w : Width) {v : ℕ} → v ≤ mostOf w → v < 2 ^ valueOf w
 value-room Narrow h = omega arith
 value-room Wide h = omega arith

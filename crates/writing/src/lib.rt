@@ -1,7 +1,4 @@
 // The records of documents 01 and 02, written. What is refused is refused before the first byte is touched.
-mod refusals;
-mod releases;
-
 use heads::StepKind;
 use heads::Width;
 use model::Answer;
@@ -32,7 +29,7 @@ pub fn write_mesh(
         (meshOf cells faces (now (volumes .entry)) (now (firsts .entry)) (now (seconds .entry)) (now (shares .entry)) (now (reaches .entry)))
         (now (bytes .entry)) r (now (bytes .exit)) ⌝ }
 {
-    let a = refusals::mesh(
+    let a = write_causes::mesh(
         width,
         cells,
         faces,
@@ -77,7 +74,7 @@ pub fn write_field(
         (meshOf cells faces (now (volumes .entry)) (now (firsts .entry)) (now (seconds .entry)) (now (shares .entry)) (now (reaches .entry)))
         (now (masses .entry)) (now (bytes .entry)) r (now (bytes .exit)) ⌝ }
 {
-    let a = refusals::field(
+    let a = write_causes::field(
         width,
         cells,
         faces,
@@ -116,7 +113,7 @@ pub fn write_step(
         (meshOf cells faces (now (volumes .entry)) (now (firsts .entry)) (now (seconds .entry)) (now (shares .entry)) (now (reaches .entry)))
         (kindNumber width kind) (now (fluxes .entry)) (now (outsides .entry)) (now (releases .entry)) (now (bytes .entry)) r (now (bytes .exit)) ⌝ }
 {
-    let a = refusals::step(
+    let a = write_causes::step(
         width,
         kind,
         cells,

@@ -1,6 +1,6 @@
 -- Each loop is lent what it asks for, and fills one table of the part.
 use Rattle.cut.specs.Cut.{Tables, tablesOf, Lagoon, lagoonOf, partTables}
-use Rattle.pieces.proofs.Numbered.{faces-lent}
+use Rattle.piece_faces.proofs.Numbered.{faces-lent}
 use Rattle.cut_part.proofs.Filled.{part-filled, tables-are}
 use Rattle.cut_part.proofs.part.Statement.{statement}
 use Rattle.cut_part.proofs.part.Tie as tie
