@@ -19,10 +19,10 @@ use Rattle.model.proofs.Accepted.{ready}
 use Rattle.lists.specs.Marked.{picked}
 use Rattle.cut.specs.Cut.{Tables, Lagoon, meshIn, stepOn, stepInput, partCells, isTurned, byCell, byFace, partOf}
 use Rattle.cut.specs.Refusals.{partGood, labelCauses, labelValues, allLong, cutLengths, cutTables, cutCauses, cutVerdict}
-use Rattle.cut.specs.Parts.{plainAnswer, plainCrossing, plainNext, plainMoved, LentAtCounts, PartSteps, S12}
+use Rattle.cut.specs.Parts.{plainAnswer, plainCrossing, plainNext, plainMoved, TablesLong, LentAtCounts, PartSteps, S12}
 use Rattle.cut.proofs.Part.{carried-part, updated-part}
 use Rattle.cut.proofs.Entries.{cell, face, raised-is, part-mesh, part-step}
-use Rattle.cut.proofs.Passes.{TablesLong, part-fine}
+use Rattle.cut.proofs.Passes.{part-fine}
 
 -- what cutting has found of the lengths
 module _ (L : Lagoon) (labels : List ℕ) (lent₀ lent₁ : Tables) (lengths-fine : cutTables L labels lent₀ lent₁ ≡ fine) where

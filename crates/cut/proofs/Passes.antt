@@ -19,22 +19,10 @@ use Rattle.model.specs.Accepted.{Ready}
 use Rattle.model.proofs.Verdicts.{all-fine, fine-all, need-met, each-fine, fine-each}
 use Rattle.model.proofs.Accepted.{Passed, passed, ready, ends-pass, flux-few}
 use Rattle.cut.specs.Cut.{Tables, Lagoon, meshIn, stepOn, stepInput, inPart, touches, partCells, isTurned, byCell, byFace, partOf}
-use Rattle.cut.specs.Parts.{LentAtCounts}
+use Rattle.cut.specs.Parts.{TablesLong, LentAtCounts}
 use Rattle.lists.proofs.Marked.{count-most, picked-long}
 use Rattle.cut.proofs.Part.{Side, inside, overRim, atFirst, atSecond, incoming-part, outgoing-part}
 use Rattle.cut.proofs.Entries.{cell, face, volume-is, mass-is, release-is, share-is, reach-is, flux-is, outside-is, face-ends, part-mesh}
-
--- a part's tables, lent at the whole's counts
-pub record TablesLong (L : Lagoon) (t : Tables) : Type 0 where
-  pub volumes-long : L .cells ≤ length (t .volumes)
-  pub firsts-long : L .faces ≤ length (t .firsts)
-  pub seconds-long : L .faces ≤ length (t .seconds)
-  pub shares-long : L .faces ≤ length (t .shares)
-  pub reaches-long : L .faces ≤ length (t .reaches)
-  pub masses-long : L .cells ≤ length (t .masses)
-  pub fluxes-long : L .faces ≤ length (t .fluxes)
-  pub outsides-long : L .faces ≤ length (t .outsides)
-  pub releases-long : L .cells ≤ length (t .releases)
 
 -- an outside value at a cut
 cut-outside : (inward : Bool) (q : ℕ) → q ≤ maxConcentration → leb (cond inward q 0) (cond inward maxConcentration 0) ≡ true

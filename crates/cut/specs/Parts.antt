@@ -24,6 +24,18 @@ module _ (L : Lagoon) (nexts : List ℕ) (moveds : List ℤ) (work : List ℕ) w
   abbrev pub plainMoved : List ℤ
   plainMoved = movedTable plain (meshIn L) (stepOn L nexts moveds work) (L .tables .masses)
 
+-- the tables of a lagoon or a part, lent at the whole's counts
+pub record TablesLong (L : Lagoon) (t : Tables) : Type 0 where
+  pub volumes-long : L .cells ≤ length (t .volumes)
+  pub firsts-long : L .faces ≤ length (t .firsts)
+  pub seconds-long : L .faces ≤ length (t .seconds)
+  pub shares-long : L .faces ≤ length (t .shares)
+  pub reaches-long : L .faces ≤ length (t .reaches)
+  pub masses-long : L .cells ≤ length (t .masses)
+  pub fluxes-long : L .faces ≤ length (t .fluxes)
+  pub outsides-long : L .faces ≤ length (t .outsides)
+  pub releases-long : L .cells ≤ length (t .releases)
+
 -- the tables that a part's step is to fill, each as long as the whole asks
 pub record LentAtCounts (L : Lagoon) (nexts : List ℕ) (moveds : List ℤ) (work : List ℕ) : Type 0 where
   pub nexts-long : L .cells ≤ length nexts

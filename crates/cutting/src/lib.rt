@@ -1,9 +1,7 @@
 // Document 02, S-12: a lagoon cut in two, each part in tables of its own.
+use cut_part::part;
 use model::Answer;
 use model::Refusal;
-use piece_faces::columns;
-use piece_faces::faces::spacings;
-use pieces::by_cell;
 ghost use mathlib.Core.Path.{_≡_};
 ghost use Rattle.cut.specs.Cut.{tablesOf, lagoonOf};
 ghost use Rattle.cutting.specs.Promise.{CutPromise};
@@ -96,54 +94,58 @@ pub fn cut(
     if let Answer::Refused(r) = a {
         return CutAnswer::Refused(r);
     }
-    let cells_0 = by_cell(cells, 0, labels, volumes, volumes0);
-    by_cell(cells, 0, labels, masses, masses0);
-    by_cell(cells, 0, labels, releases, releases0);
-    let faces_0 = columns::firsts(cells, faces, 0, labels, firsts, seconds, firsts0);
-    columns::seconds(cells, faces, 0, labels, firsts, seconds, seconds0);
-    spacings(faces, 0, labels, firsts, seconds, shares, shares0);
-    spacings(faces, 0, labels, firsts, seconds, reaches, reaches0);
-    piece_faces::faces::fluxes(faces, 0, labels, firsts, seconds, fluxes, fluxes0);
-    columns::outsides(
-        cells,
-        faces,
+    let part_0 = part(
         0,
-        labels,
-        volumes,
-        masses,
-        releases,
-        firsts,
-        seconds,
-        fluxes,
-        outsides,
-        outsides0,
-    );
-    let cells_1 = by_cell(cells, 1, labels, volumes, volumes1);
-    by_cell(cells, 1, labels, masses, masses1);
-    by_cell(cells, 1, labels, releases, releases1);
-    let faces_1 = columns::firsts(cells, faces, 1, labels, firsts, seconds, firsts1);
-    columns::seconds(cells, faces, 1, labels, firsts, seconds, seconds1);
-    spacings(faces, 1, labels, firsts, seconds, shares, shares1);
-    spacings(faces, 1, labels, firsts, seconds, reaches, reaches1);
-    piece_faces::faces::fluxes(faces, 1, labels, firsts, seconds, fluxes, fluxes1);
-    columns::outsides(
         cells,
         faces,
-        1,
-        labels,
         volumes,
-        masses,
-        releases,
         firsts,
         seconds,
+        shares,
+        reaches,
+        masses,
         fluxes,
         outsides,
+        releases,
+        labels,
+        volumes0,
+        firsts0,
+        seconds0,
+        shares0,
+        reaches0,
+        masses0,
+        fluxes0,
+        outsides0,
+        releases0,
+    );
+    let part_1 = part(
+        1,
+        cells,
+        faces,
+        volumes,
+        firsts,
+        seconds,
+        shares,
+        reaches,
+        masses,
+        fluxes,
+        outsides,
+        releases,
+        labels,
+        volumes1,
+        firsts1,
+        seconds1,
+        shares1,
+        reaches1,
+        masses1,
+        fluxes1,
         outsides1,
+        releases1,
     );
     CutAnswer::Cut(Counts {
-        cells_0,
-        faces_0,
-        cells_1,
-        faces_1,
+        cells_0: part_0.cells,
+        faces_0: part_0.faces,
+        cells_1: part_1.cells,
+        faces_1: part_1.faces,
     })
 }
