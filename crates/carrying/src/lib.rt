@@ -45,7 +45,8 @@ fn carry_turn(
     requires { ⌜ f < faces ⌝ }
     requires { ⌜ AtFace (stepThrough cells faces (now firsts) (now seconds) (now shares) (now reaches) (now fluxes) (now outsides))
         f («so_far» .entered) («so_far» .gone) (now next) (now moved) (now work) ⌝ }
-    ensures { λ r. ⌜ CarriedFrom (stepThrough cells faces (now (firsts .entry)) (now (seconds .entry)) (now (shares .entry)) (now (reaches .entry)) (now (fluxes .entry)) (now (outsides .entry)))
+    ensures { λ r. ⌜ CarriedFrom (stepThrough cells faces (now (firsts .entry)) (now (seconds .entry)) (now (shares .entry)) (now (reaches .entry))
+        (now (fluxes .entry)) (now (outsides .entry)))
         f («so_far» .entered) («so_far» .gone) (now (next .entry)) (now (moved .entry)) (now (work .entry))
         (f + 1) (r .entered) (r .gone) (now (next .exit)) (now (moved .exit)) (now (work .exit)) ⌝ }
 {
@@ -111,7 +112,8 @@ pub fn carry(
 ) -> Carried
     requires { ⌜ AtFace (stepThrough cells faces (now firsts) (now seconds) (now shares) (now reaches) (now fluxes) (now outsides))
         0 0 0 (now next) (now moved) (now work) ⌝ }
-    ensures { λ r. ⌜ CarriedFrom (stepThrough cells faces (now (firsts .entry)) (now (seconds .entry)) (now (shares .entry)) (now (reaches .entry)) (now (fluxes .entry)) (now (outsides .entry)))
+    ensures { λ r. ⌜ CarriedFrom (stepThrough cells faces (now (firsts .entry)) (now (seconds .entry)) (now (shares .entry)) (now (reaches .entry))
+        (now (fluxes .entry)) (now (outsides .entry)))
         0 0 0 (now (next .entry)) (now (moved .entry)) (now (work .entry))
         faces (r .entered) (r .gone) (now (next .exit)) (now (moved .exit)) (now (work .exit)) ⌝ }
 {

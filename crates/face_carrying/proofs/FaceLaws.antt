@@ -45,7 +45,8 @@ out-done f l a o n u next next′ moved moved′ work work′ few t m q = record
   worked = rw (q, across-out work l rim a o u refl);
 }
 
-pub wet-done : (f l k s r a b n v c : ℕ) (p : Bool) (u : ℕ) (next next′ : List ℕ) (moved moved′ : List ℤ) (work met both work′ : List ℕ) → k ≢ rim → u ≢ 0 → v ≡ cond p b a
+pub wet-done : (f l k s r a b n v c : ℕ) (p : Bool) (u : ℕ) (next next′ : List ℕ) (moved moved′ : List ℤ) (work met both work′ : List ℕ)
+    → k ≢ rim → u ≢ 0 → v ≡ cond p b a
     → Transferred next l k (withSign p (u * v)) next′ → moved′ ≡ set moved f (withSign p (u * v)) → met ≡ widenedBy work l b → both ≡ widenedBy met k a
     → decoded c ≡ correctionOf (withSign p u) a b s r → work′ ≡ set both (4 * n + f) c
     → FaceDone f l k s r a b n (u * cond p b a) (withSign p u) (withSign p (u * cond p b a)) next next′ moved moved′ work work′

@@ -102,7 +102,8 @@ pub fn carry_wet(
 )
     requires { ⌜ FaceAsks f first second size share reach a b cells (withSign negative (size * cond negative b a)) (now next) (now moved) (now work) ⌝ }
     requires { ⌜ (second ≢ rim) × (size ≢ 0) ⌝ }
-    ensures { λ _. ⌜ FaceDone f first second share reach a b cells (size * cond negative b a) (withSign negative size) (withSign negative (size * cond negative b a))
+    ensures { λ _. ⌜ FaceDone f first second share reach a b cells (size * cond negative b a)
+        (withSign negative size) (withSign negative (size * cond negative b a))
         (now (next .entry)) (now (next .exit)) (now (moved .entry)) (now (moved .exit)) (now (work .entry)) (now (work .exit)) ⌝ }
 {
     let amount = size * upwind(negative, a, b);
@@ -132,7 +133,8 @@ pub fn carry_inside(
 )
     requires { ⌜ FaceAsks f first second size share reach a b cells (withSign negative (size * cond negative b a)) (now next) (now moved) (now work) ⌝ }
     requires { ⌜ second ≢ rim ⌝ }
-    ensures { λ _. ⌜ FaceDone f first second share reach a b cells (size * cond negative b a) (withSign negative size) (withSign negative (size * cond negative b a))
+    ensures { λ _. ⌜ FaceDone f first second share reach a b cells (size * cond negative b a)
+        (withSign negative size) (withSign negative (size * cond negative b a))
         (now (next .entry)) (now (next .exit)) (now (moved .entry)) (now (moved .exit)) (now (work .entry)) (now (work .exit)) ⌝ }
 {
     if size == 0 {

@@ -12,7 +12,8 @@ use Rattle.carrying.proofs.carry.Tie as tie
 abbrev Inv-loop : tie.InvT-loop
 Inv-loop cells faces firsts seconds shares reaches fluxes outsides next₀ moved₀ work₀ so-far₀ f₀ next moved work so-far f =
     (f ≤ faces)
-    × CarriedFrom (stepThrough cells faces firsts seconds shares reaches fluxes outsides) 0 0 0 next₀ moved₀ work₀ f (so-far .entered) (so-far .gone) next moved work
+    × CarriedFrom (stepThrough cells faces firsts seconds shares reaches fluxes outsides) 0 0 0 next₀ moved₀ work₀
+    f (so-far .entered) (so-far .gone) next moved work
 
 abbrev μ-loop : tie.MeasureT-loop
 μ-loop cells faces firsts seconds shares reaches fluxes outsides next₀ moved₀ work₀ so-far₀ f₀ next moved work so-far f = faces - f
