@@ -1,12 +1,13 @@
 #!/usr/bin/env python3
-"""Compares the engine's programs with the reference: the run on sessions, the host's call on records, and calls on scripts.
+"""Compares the engine's programs with the reference: the run on sessions, the host's call on records, calls on scripts, and the calls from C.
 
-    compare.py --run RUN --call DRIVER --script CALLS --sessions 2000 --seed 1     fixed cases: equal, and every cause reached
-    compare.py --run RUN --call DRIVER --script CALLS --soak 600 --seed 17         fresh seeds from 17 on, for 600 seconds
-    compare.py --run RUN --call DRIVER --script CALLS --slips                      with each slip in the reference: must differ
+    compare.py --run RUN --call DRIVER --script CALLS --library ALL --sessions 2000 --seed 1    fixed cases: equal, and every cause reached
+    compare.py --run RUN --call DRIVER --script CALLS --library ALL --soak 600 --seed 17        fresh seeds from 17 on, for 600 seconds
+    compare.py --run RUN --call DRIVER --script CALLS --library ALL --slips                     with each slip in the reference: must differ
 
 RUN is the run program, DRIVER a build of call_driver.c with the engine's library (several may be given), CALLS the
-program calls; python3:PATH takes a Python program with run and host_step instead, for a script the one that script.py asks.
+program calls, ALL a build of calls_driver.c, which makes every call of the header: on the tables of the scripts and the records of the
+calls; python3:PATH takes a Python program with run and host_step instead, for a script the one that script.py asks.
 Exit status 0: as it should be. 1: a mismatch, which is kept as it is and made small; a cause that was never
 reached; or a slip that was not seen.
 """
@@ -23,8 +24,10 @@ HERE = Path(__file__).resolve().parent
 sys.path.insert(0, str(HERE))
 
 import engines
+import from_c
 import generate
 import generate_script
+import header
 import script
 import shrink
 from slips import ALL_SLIPS, ANSWER_SLIPS, CALL_SLIPS, RUN_SLIPS, SLIPS
@@ -36,6 +39,7 @@ ENOUGH = 20             # mismatches after which a comparison ends, so that one 
 LARGE = 1 << 20         # bytes; more than any case has
 SHRINK_SECONDS = 30
 SHOWN = 300             # characters of a line that differs
+EACH = 2                # calls on records that the library makes of a case
 
 # Causes that the run can meet, per record; 13 and a mesh's 1 with their places.
 LONG_PRODUCT = "a·G past 64 bits"               # cases with a proportional part whose product is 2^64 or more (document 02, S-10)
@@ -90,7 +94,15 @@ FAULTS = ["not a number", "too large", "no such call", "a minus where none may s
 SCRIPT_REACHABLE = [f"{name} {cause}" for name, causes in SCRIPT_CAUSES.items()
                     for cause in ["accepted", *causes.split()]] + FAULTS + [LONG_PRODUCT]
 
-Mismatch = namedtuple("Mismatch", "engine seed number kinds size")
+# Slips of calls that the library has not.
+NOT_FROM_C = ()
+
+# And those that each call of the library can meet.
+LIBRARY_CAUSES = {**{name: SCRIPT_CAUSES[called] for name, (called, _) in from_c.ON_TABLES.items()}, **from_c.RECORD_CAUSES}
+DECLARED = [call.name for call in header.declared()]
+LIBRARY_REACHABLE = [f"{name} {cause}" for name in DECLARED if name in LIBRARY_CAUSES for cause in ["accepted", *LIBRARY_CAUSES[name].split()]]
+
+Mismatch = namedtuple("Mismatch", "engine seed number kinds size records", defaults=[False])        # records: of a call on records from C
 
 
 # ---------------------------------------------------------------- Counting of causes
@@ -154,21 +166,27 @@ def causes_of_script(text):
     return found
 
 
+def library_cause(name, answer):
+    return f"{name} {script_cause(*divmod(answer, from_c.PLACE)) if answer else 'accepted'}"
+
+
 class Tally:
     """What a comparison has come to so far."""
 
     def __init__(self):
-        self.sessions = self.calls = self.scripts = 0
-        self.run_causes, self.call_causes, self.script_causes = Counter(), Counter(), Counter()
+        self.sessions = self.calls = self.scripts = self.made = 0
+        self.run_causes, self.call_causes, self.script_causes, self.library_causes = Counter(), Counter(), Counter(), Counter()
         self.mismatches = []
 
     def add(self, other):
         self.sessions += other.sessions
         self.calls += other.calls
         self.scripts += other.scripts
+        self.made += other.made
         self.run_causes += other.run_causes
         self.call_causes += other.call_causes
         self.script_causes += other.script_causes
+        self.library_causes += other.library_causes
         self.mismatches += other.mismatches
 
     def never_reached(self):
@@ -180,6 +198,8 @@ class Tally:
             missing += ["call: " + cause for cause in CALL_REACHABLE if self.call_causes[cause] == 0]
         if self.scripts:
             missing += ["script: " + cause for cause in SCRIPT_REACHABLE if self.script_causes[cause] == 0]
+        if self.made:
+            missing += ["library: " + cause for cause in LIBRARY_REACHABLE if self.library_causes[cause] == 0]
         return missing
 
     def show(self):
@@ -187,17 +207,24 @@ class Tally:
         for title, causes, wanted in (("run", self.run_causes, REACHABLE), ("call", self.call_causes, CALL_REACHABLE)):
             if causes:
                 show_causes(title, causes, ["accepted"] + wanted + sorted(set(causes) - set(wanted) - {"accepted"}))
-        if self.script_causes:
-            for name in SCRIPT_CAUSES:
-                met = {key.split(" ", 1)[1]: count for key, count in self.script_causes.items() if key.startswith(name + " ")}
-                wanted = ["accepted", *SCRIPT_CAUSES[name].split()]
-                show_causes(name, Counter(met), wanted + sorted(set(met) - set(wanted)))
+        if self.scripts:
+            show_calls(SCRIPT_CAUSES, self.script_causes)
             show_causes("no script", self.script_causes, FAULTS)
             show_causes("scripts", self.script_causes, [LONG_PRODUCT])
+        if self.made:
+            print("calls from C")
+            show_calls({name: LIBRARY_CAUSES[name] for name in DECLARED if name in LIBRARY_CAUSES}, self.library_causes)
 
 
 def show_causes(title, causes, names):
     print(f"{title}: " + ", ".join(f"{name}: {causes[name]}" for name in names))
+
+
+def show_calls(wanted, causes):
+    for name, words in wanted.items():
+        met = {key.split(" ", 1)[1]: count for key, count in causes.items() if key.startswith(name + " ")}
+        named = ["accepted", *words.split()]
+        show_causes(name, Counter(met), named + sorted(set(met) - set(named)))
 
 
 # ---------------------------------------------------------------- Comparison
@@ -220,13 +247,14 @@ class Once:
 class Programs:
     """The engine's programs, and what makes their cases; each asked once where many slips meet the same cases."""
 
-    def __init__(self, run, calls, script, once=False):
+    def __init__(self, run, calls, script, library=None, once=False):
         asked = Once if once else lambda program: program
         self.run_path, self.run = run, run and asked(engines.run_program(run))
         self.drivers = {path: asked(engines.driver(path)) for path in calls}
         self.script_path, self.script = script, script and asked(engines.script_program(script))
+        self.library_path, self.library = library, library and asked(engines.CallsDriver(library))
         self.make_session, self.make_call, self.make_script = map(asked, (generate.session, generate.call, generate_script.script))
-        self.paths = [path for path in [run, *calls, script] if path]
+        self.paths = [path for path in [run, *calls, script, library] if path]
 
 
 class Sides:
@@ -240,6 +268,7 @@ class Sides:
         self.count_long_products()
         self.programs = programs
         self.run, self.drivers, self.script = programs.run, programs.drivers, programs.script
+        self.library = programs.library and from_c.Beside(programs.library, self.reference)
 
     def count_long_products(self):
         """The reference's proportional parts are counted where their product has more than 64 bits."""
@@ -279,16 +308,36 @@ class Sides:
                 size = len(engines.stream(*case[1:]))
                 tally.mismatches.append(Mismatch(path, seed, number, case.kinds, size))
 
-    def play(self, tally, seed, number):
+    def play(self, tally, seed, number, by_script, by_library):
+        """A script through the program calls, and each of its calls that the library has through that."""
         case = self.programs.make_script(seed, number)
-        expected = self.with_products(tally.script_causes, lambda: self.expected_script(case.text))
-        tally.scripts += 1
-        tally.script_causes += causes_of_script(expected)
-        if self.script(case.text) != expected:
-            tally.mismatches.append(Mismatch(self.programs.script_path, seed, number, case.kinds, len(case.text)))
+        made = []
+        expected = self.with_products(tally.script_causes, lambda: self.expected_script(case.text, made if by_library else None))
+        if by_script:
+            tally.scripts += 1
+            tally.script_causes += causes_of_script(expected)
+            if self.script(case.text) != expected:
+                tally.mismatches.append(Mismatch(self.programs.script_path, seed, number, case.kinds, len(case.text)))
+        if not self.all_same(tally, made):
+            tally.mismatches.append(Mismatch(self.programs.library_path, seed, number, case.kinds, len(case.text)))
 
-    def expected_script(self, text):
-        return script.answer(text, self.reference)
+    def expected_script(self, text, made=None):
+        """What calls prints; where a list is given, the library's calls are made too and put there."""
+        beside = None if made is None else lambda *call: made.append(self.library.of_script(*call, len(made)))
+        return script.answer(text, self.reference, beside)
+
+    def all_same(self, tally, made):
+        """Whether the library's answers are the reference's; they are counted."""
+        made = [call for call in made if call]
+        tally.made += len(made)
+        tally.library_causes.update(library_cause(name, answer) for name, answer, _ in made)
+        return all(same for _, _, same in made)
+
+    def on_records(self, tally, seed, number):
+        """Calls on records through the library."""
+        case = self.programs.make_call(seed, number)
+        if not self.all_same(tally, self.library.of_records(case, seed, number, EACH)):
+            tally.mismatches.append(Mismatch(self.programs.library_path, seed, number, case.kinds, sum(map(len, case[1:4])), True))
 
     def block(self, seed, numbers, paths=None):
         """Compares so many cases through the programs at these paths, else through all."""
@@ -299,9 +348,13 @@ class Sides:
                 self.session(tally, seed, number)
             if drivers:
                 self.call(tally, seed, number, drivers)
-            if self.programs.script_path in paths:
-                self.play(tally, seed, number)
-        for path, driver in self.drivers.items():
+            by_script, by_library = (path and path in paths for path in (self.programs.script_path, self.programs.library_path))
+            if by_script or by_library:
+                self.play(tally, seed, number, by_script, by_library)
+            if by_library:
+                self.on_records(tally, seed, number)
+        ending = {**self.drivers, **({self.programs.library_path: self.programs.library} if self.library else {})}
+        for path, driver in ending.items():
             if driver.finish():
                 tally.mismatches.append(Mismatch(path, seed, numbers[-1], ("the end of the driver",), LARGE))
         return tally
@@ -312,6 +365,11 @@ class Sides:
     def script_differs(self, text):
         return self.script(text) != self.expected_script(text)
 
+    def from_c_differs(self, text):
+        made = []
+        self.expected_script(text, made)
+        return any(call and not call[2] for call in made)
+
     def call_differs(self, path, case):
         driver = self.drivers[path]
         answer = driver(*case)
@@ -320,9 +378,9 @@ class Sides:
 
 # Each process of a pool has its own sides, or for slips its own programs.
 
-def prepare(run, calls, script, slip):
+def prepare(slip, *paths):
     global sides
-    sides = Sides(Programs(run, calls, script), slip)
+    sides = Sides(Programs(*paths), slip)
 
 
 def prepare_slips(*paths):
@@ -378,14 +436,16 @@ def see_slip(task):
     return slip, [(path, first.get(path)) for path in paths]
 
 
-def see_slips(run, calls, script, seed, jobs):
+def see_slips(paths, seed, jobs):
     """True where every slip was seen through every program; those of a run show in sessions, those of the host's call in calls and
-    scripts, those of the answers in scripts."""
-    runs, scripts = [run] if run else [], [script] if script else []
-    shown = ((SLIPS, runs + calls + scripts), (CALL_SLIPS, calls + scripts), (RUN_SLIPS, runs), (ANSWER_SLIPS, scripts))
-    tasks = [(slip, paths, seed) for slips, paths in shown if paths for slip in slips]
+    scripts, those of the answers in scripts; and but for those of calls that the library has not, all but a run's in its calls."""
+    run, calls, script, library = paths
+    runs, scripts, libraries = ([path] if path else [] for path in (run, script, library))
+    shown = ((SLIPS, runs + calls + scripts + libraries), (CALL_SLIPS, calls + scripts + libraries), (RUN_SLIPS, runs),
+             (ANSWER_SLIPS, scripts + libraries))
+    tasks = [(slip, [path for path in among if path != library or slip not in NOT_FROM_C], seed) for slips, among in shown if among for slip in slips]
     all_seen = True
-    with Pool(jobs, prepare_slips, (run, calls, script)) as pool:
+    with Pool(jobs, prepare_slips, paths) as pool:
         for slip, seen in pool.imap(see_slip, tasks):
             words = [f"{Path(path).name} case {number}" if number is not None else f"{Path(path).name} NOT SEEN"
                      for path, number in seen]
@@ -414,11 +474,31 @@ def keep_mismatch(sides, mismatch, folder):
         if sides.script_differs(text):
             write_script(sides, base + "-small", shrink.script(text, sides.script_differs, SHRINK_SECONDS))
         return
+    if mismatch.engine == sides.programs.library_path:
+        keep_from_c(sides, mismatch, base)
+        return
     case = tuple(generate.call(seed, number)[1:])
     write_call(sides, base, mismatch.engine, case)
     differs = lambda *case: sides.call_differs(mismatch.engine, case)
     if differs(*case):
         write_call(sides, base + "-small", mismatch.engine, shrink.call(*case, differs, SHRINK_SECONDS))
+
+
+def keep_from_c(sides, mismatch, base):
+    """A call from C: the calls of a script that differ, as a script with the reference's answers; or the records of a case."""
+    if mismatch.records:
+        case = generate.call(mismatch.seed, mismatch.number)
+        made = sides.library.of_records(case, mismatch.seed, mismatch.number, EACH)
+        print("  " + ", ".join(f"{name} differs, which answers {answer}" for name, answer, same in made if not same))
+        for name in ("mesh", "field", "step"):
+            Path(f"{base}.{name}").write_bytes(getattr(case, name))
+        print(f"  {base}.mesh, .field and .step")
+        return
+    text = generate_script.script(mismatch.seed, mismatch.number).text
+    small = shrink.script(text, sides.from_c_differs, SHRINK_SECONDS) if sides.from_c_differs(text) else text
+    Path(f"{base}.script").write_bytes(small)
+    Path(f"{base}.expected").write_text(sides.expected_script(small))
+    print(f"  {len(small)} bytes: {base}.script, with .expected by the reference\n  {small[:SHOWN].decode('ascii', 'replace').strip()}")
 
 
 def write_session(sides, base, data):
@@ -465,6 +545,7 @@ def arguments():
     parser.add_argument("--run", help="the run program")
     parser.add_argument("--call", action="append", default=[], help="a call driver; may be given more than once")
     parser.add_argument("--script", metavar="CALLS", help="the program calls")
+    parser.add_argument("--library", metavar="ALL", help="a driver of all calls from C")
     parser.add_argument("--sessions", type=int, default=2000, help="sessions, and as many calls and scripts (2000)")
     parser.add_argument("--seed", type=int, default=1, help="the seed, in a soak the first one (1)")
     parser.add_argument("--jobs", type=int, default=cpu_count(), help="processes at a time (one per processor)")
@@ -474,21 +555,20 @@ def arguments():
     parser.add_argument("--slip", choices=ALL_SLIPS, help="make the reference wrong in one figure")
     parser.add_argument("--slips", action="store_true", help="each slip in turn has to be seen")
     options = parser.parse_args()
-    if not options.run and not options.call and not options.script:
-        parser.error("give --run, --call, --script or several of them")
+    if not options.run and not options.call and not options.script and not options.library:
+        parser.error("give --run, --call, --script, --library or several of them")
     return options
 
 
 def main():
     options = arguments()
-    start = time.monotonic()
+    start, paths = time.monotonic(), (options.run, options.call, options.script, options.library)
     if options.slips:
-        seen = see_slips(options.run, options.call, options.script, options.seed, options.jobs)
+        seen = see_slips(paths, options.seed, options.jobs)
         print(f"slips in {time.monotonic() - start:.0f} s: " + ("all seen" if seen else "NOT ALL SEEN"))
         return 0 if seen else 1
     tally = Tally()
-    paths = options.run, options.call, options.script
-    with Pool(options.jobs, prepare, (*paths, options.slip)) as pool:
+    with Pool(options.jobs, prepare, (options.slip, *paths)) as pool:
         if options.soak is None:
             compare(pool, tally, options.seed, options.sessions)
         else:
@@ -500,7 +580,8 @@ def main():
     missing = tally.never_reached() if options.soak is None else []
     if missing:
         print("NEVER REACHED: " + ", ".join(missing))
-    print(f"{tally.sessions} sessions, {tally.calls} calls and {tally.scripts} scripts in {time.monotonic() - start:.0f} s, no mismatch")
+    print(f"{tally.sessions} sessions, {tally.calls} calls, {tally.scripts} scripts and {tally.made} calls from C "
+          f"in {time.monotonic() - start:.0f} s, no mismatch")
     return 1 if missing else 0
 
 

@@ -100,32 +100,32 @@ def with_room(number, record, room):
     return number, (record or b"").ljust(room, bytes([PATTERN]))
 
 
-class Driver:
-    """call_driver as a process that answers one case after another."""
+class Process:
+    """A driver as a process that answers one case after another."""
 
     def __init__(self, path):
         self.path, self.process = path, None
 
-    def __call__(self, mesh, field, step, room):
-        """(number, bytes of the room), or a text where there is no answer."""
+    def exchange(self, case, length):
+        """The so many bytes that it answers to a case, or a text where there is no answer."""
         if self.process is None:
             self.errors = tempfile.TemporaryFile()
             self.process = subprocess.Popen([self.path], stdin=subprocess.PIPE, stdout=subprocess.PIPE,
                                             stderr=self.errors, bufsize=0)
         try:
-            self.process.stdin.write(stream(mesh, field, step, room))
+            self.process.stdin.write(case)
         except BrokenPipeError:
             return "(no answer)\n" + self.finish()
         answer = b""
-        while len(answer) < 8 + room:
+        while len(answer) < length:
             if not select.select([self.process.stdout], [], [], PATIENCE)[0]:
                 self.process.kill()
                 return f"(no answer within {PATIENCE} seconds)\n" + self.finish()
-            part = os.read(self.process.stdout.fileno(), 8 + room - len(answer))
+            part = os.read(self.process.stdout.fileno(), length - len(answer))
             if not part:
                 return "(no answer)\n" + self.finish()
             answer += part
-        return struct.unpack_from("<Q", answer)[0], answer[8:]
+        return answer
 
     def finish(self):
         """Ends the process and gives its complaint, if it has one."""
@@ -137,6 +137,22 @@ class Driver:
         said = complaint(process.returncode, self.errors.read())
         self.errors.close()
         return said + (f"({len(output)} bytes too many)\n" if output else "")
+
+
+class Driver(Process):
+    """call_driver."""
+
+    def __call__(self, mesh, field, step, room):
+        """(number, bytes of the room), or a text where there is no answer."""
+        answer = self.exchange(stream(mesh, field, step, room), 8 + room)
+        return answer if isinstance(answer, str) else (struct.unpack_from("<Q", answer)[0], answer[8:])
+
+
+class CallsDriver(Process):
+    """calls_driver: from a case as bytes, and the length of its answer, to the answer."""
+
+    def __call__(self, case, length):
+        return self.exchange(case, length)
 
 
 class PythonDriver:

@@ -471,12 +471,15 @@ def line(engine, name, arguments):
     return words + "\n"
 
 
-def answer(text, lagoon=right_lagoon):
-    """What calls prints of a script."""
+def answer(text, lagoon=right_lagoon, beside=None):
+    """What calls prints of a script; beside, where given, gets each call: name, arguments before and after it, and the line."""
     reader, engine, lines = Reader(text), Engine(lagoon), []
     try:
         while call := reader.call():
+            before = beside and [value if isinstance(value, int) else value[:] for value in call[1]]
             lines.append(line(engine, *call))
+            if beside:
+                beside(call[0], before, call[1], lines[-1])
     except Fault as fault:
         number = 1 + text.count(b"\n", 0, fault.at)
         lines.append(f"bad input: line {number}, byte {fault.at}: {fault.reason}\n")

@@ -7,4 +7,5 @@ cd "$(dirname "$0")/.."
 reference/build.sh
 echo "soak of $1 seconds from seed $2 on"
 exec python3 reference/compare.py --run target/compare/run --script target/compare/calls \
-  --call target/compare/call_sanitized --call target/compare/call_guarded --soak "$1" --seed "$2"
+  --call target/compare/call_sanitized --call target/compare/call_guarded --library target/compare/calls_guarded \
+  --soak "$1" --seed "$2"

@@ -1,6 +1,6 @@
 #!/usr/bin/env bash
-# The engine's run program, host's call and every call from a script against the reference on fixed cases; then each slip, put
-# into the reference, has to be seen by the same comparison; the engine in two numberings, beside unrounded steps, and with withheld
+# The engine's run program, host's call, every call from a script and every call from C against the reference on fixed cases; then each slip,
+# put into the reference, has to be seen by the same comparison; the engine in two numberings, beside unrounded steps, and with withheld
 # cells changed; last, the pages show what the engine gives.
 set -eu
 [ "${1:-}" != --help ] || { sed -n '2,4s/^# //p' "$0"; exit 0; }
@@ -8,7 +8,7 @@ cd "$(dirname "$0")/.."
 reference/build.sh
 programs=(--run target/compare/run --script target/compare/calls
   --call target/compare/call_sanitized --call target/compare/call_guarded)
-python3 reference/compare.py "${programs[@]}" --sessions 2000 --seed 1
+python3 reference/compare.py "${programs[@]}" --library target/compare/calls_guarded --sessions 2000 --seed 1
 python3 reference/compare.py "${programs[@]}" --slips
 
 # sessions, records and steps on tables in two numberings, with faces turned round; and numberings that are wrong in one figure
