@@ -39,7 +39,7 @@ ENOUGH = 20             # mismatches after which a comparison ends, so that one 
 LARGE = 1 << 20         # bytes; more than any case has
 SHRINK_SECONDS = 30
 SHOWN = 300             # characters of a line that differs
-EACH = 2                # calls on records that the library makes of a case
+EACH = 4                # calls on records that the library makes of a case
 
 # Causes that the run can meet, per record; 13 and a mesh's 1 with their places.
 LONG_PRODUCT = "a·G past 64 bits"               # cases with a proportional part whose product is 2^64 or more (document 02, S-10)
@@ -95,7 +95,7 @@ SCRIPT_REACHABLE = [f"{name} {cause}" for name, causes in SCRIPT_CAUSES.items()
                     for cause in ["accepted", *causes.split()]] + FAULTS + [LONG_PRODUCT]
 
 # Slips of calls that the library has not.
-NOT_FROM_C = ()
+NOT_FROM_C = ("bit",)
 
 # And those that each call of the library can meet.
 LIBRARY_CAUSES = {**{name: SCRIPT_CAUSES[called] for name, (called, _) in from_c.ON_TABLES.items()}, **from_c.RECORD_CAUSES}

@@ -4,14 +4,13 @@ does not export is asked of the program."""
 import ctypes
 from array import array
 
-from . import layout
 from .calls import Calls
 
 MESH = "cells faces volumes firsts seconds shares reaches"
 STEP = f"{MESH} masses fluxes outsides next moved work releases"
 OF_A_PART = "volumes firsts seconds shares reaches masses fluxes outsides releases".split()
 PARTS = " ".join(f"{column}{part}" for part in (0, 1) for column in OF_A_PART)
-FIELD = "mesh field"                                    # as records
+FIELD = "cells volumes masses"
 
 # Of each call its name in the library, its arguments in their order, the tables that it fills, and how many numbers it finds.
 EXPORTED = {
@@ -22,17 +21,17 @@ EXPORTED = {
     "read_step": ("lagoon_read_step", "width cells faces seconds bytes fluxes outsides releases", "fluxes outsides releases", 1),
     "add": ("lagoon_add", "faces seconds moved totals", "totals", 0),
     "charge": ("lagoon_charge", "total bands ends prices remainder", "", 2),
-    "face_share": ("lagoon_share", "x1 y1 x2 y2 x3 y3 x4 y4", "", 1),
-    "page": ("lagoon_page", f"{FIELD} page bytes", "bytes", 1),
-    "board": ("lagoon_board", FIELD, "", 25),
-    "public_page": ("lagoon_public_page", f"{FIELD} page bytes marks", "bytes", 1),
-    "public_board": ("lagoon_public_board", f"{FIELD} marks", "", 25),
+    "face_share": ("lagoon_share", "x1 y1 x2 y2 first_x first_y second_x second_y", "", 1),
+    "page": ("lagoon_table_page", f"{FIELD} page bytes", "bytes", 1),
+    "board": ("lagoon_table_board", FIELD, "", 25),
+    "public_page": ("lagoon_table_public_page", f"{FIELD} page bytes marks", "bytes", 1),
+    "public_board": ("lagoon_table_public_board", f"{FIELD} marks", "", 25),
 }
 COUNTS = {"width", "cells", "faces", "page", "total", "bands", "remainder"}
-FLOATS = set("x1 y1 x2 y2 x3 y3 x4 y4".split())
-BYTES = {"mesh", "field", "bytes"}
+SHORT = {"page": 0xffffffff}                            # a count of 32 bits, and the greatest: no page has it
+FLOATS = set("x1 y1 x2 y2 first_x first_y second_x second_y".split())
+BYTES = {"bytes"}
 SIGNED = {"fluxes", "moved", "claim", "fluxes0", "fluxes1"}
-ON_A_FIELD = {"page", "board", "public_page", "public_board"}
 SOMEWHERE = array("Q", [0])                             # an empty table lies somewhere too: no pointer is null
 
 
@@ -58,8 +57,6 @@ class Shared:
             self.calls = self.calls or Calls()
             return self.calls.ask(name, *arguments)
         _, words, filled, found = EXPORTED[name]
-        if name in ON_A_FIELD:
-            arguments = on_records(*arguments)
         given = [lent(word, value, word in filled.split()) for word, value in zip(words.split(), arguments)]
         numbers = array("Q", bytes(8 * found))
         parts = [part for value in given for part in passed(value)] + (list(passed(numbers)) if found else [])
@@ -82,6 +79,8 @@ def kinds_of(word):
     """The types of an argument: a number, or a place in memory and a length."""
     if word in FLOATS:
         return [ctypes.c_double]
+    if word in SHORT:
+        return [ctypes.c_uint32]
     return [ctypes.c_uint64] if word in COUNTS else [ctypes.c_void_p, ctypes.c_size_t]
 
 
@@ -97,7 +96,7 @@ def tabled(values, kind="Q"):
 def lent(word, value, filled):
     """An argument as the library takes it; a table that is filled is a copy, since whoever lends it may lend it again."""
     if word in COUNTS:
-        return value
+        return min(value, SHORT.get(word, value))
     if word in FLOATS:
         return ctypes.c_double.from_buffer_copy(value.to_bytes(8, "little")).value
     if word in BYTES:
@@ -111,9 +110,3 @@ def passed(value):
     if isinstance(value, (int, float)):
         return (value,)
     return ctypes.addressof(ctypes.c_char.from_buffer(value if len(value) else SOMEWHERE)), len(value)
-
-
-def on_records(cells, volumes, masses, *more):
-    """Mesh and field as records, in the place of their tables."""
-    mesh = layout.mesh_of(list(volumes), [], layout.WIDE)
-    return layout.mesh_record(mesh), layout.field_record(masses, layout.WIDE), *more
