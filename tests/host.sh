@@ -40,15 +40,15 @@ for header in lagoon.h lagoon_records.h; do
 done
 
 gcc -std=c11 $strict examples/host.c $lib -o $out/host
-$out/host | diff tests/host.out -
+$out/host | diff tests/examples/host.out -
 gcc -std=c11 $strict $guarded examples/host.c $lib -o $out/host_checked
-$out/host_checked | diff tests/host.out -
+$out/host_checked | diff tests/examples/host.out -
 if command -v valgrind >/dev/null; then
-  valgrind -q --error-exitcode=1 $out/host | diff tests/host.out -
+  valgrind -q --error-exitcode=1 $out/host | diff tests/examples/host.out -
 else
   echo "no valgrind here: the library's own accesses are watched by the guard pages of tests/compare.sh alone"
 fi
-python3 examples/host.py target/lib/liblagoon.so | diff tests/host_py.out -
+python3 examples/host.py target/lib/liblagoon.so | diff tests/examples/host_py.out -
 
 # a host in C prints the run's lines, and its last field starts the next session
 gcc -std=c11 $strict $guarded examples/session.c $lib -o $out/session
@@ -71,5 +71,5 @@ $out/stack > $out/taken
 taken=$(sort -n $out/taken | tail -n 1)
 kibibytes=$(sed -n 's/^#define LAGOON_STACK_BYTES (\([0-9]*\) \* 1024)$/\1/p' include/lagoon.h)
 [ "$taken" -lt $((kibibytes * 1024 - 32768)) ] || { echo "an accepted step takes $taken bytes of stack, the header names $kibibytes KiB"; exit 1; }
-(ulimit -s "$kibibytes"; $out/host) | diff tests/host.out -
+(ulimit -s "$kibibytes"; $out/host) | diff tests/examples/host.out -
 echo "host: examples as stored; an accepted step takes $(paste -sd ' ' $out/taken) bytes of stack: channel, longest records, large product"

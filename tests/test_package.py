@@ -236,7 +236,7 @@ def test_make_install():
             done = subprocess.run([usr / "bin" / "lagoon", *words], cwd=made, env=shown, capture_output=True)
             equal((done.returncode, done.stderr), (status, b""), f"lagoon {words[0]}")
         subprocess.run(["gcc", examples / "host.c", f"-I{usr}/include", f"-L{usr}/lib", "-llagoon", f"-Wl,-rpath,{usr}/lib", "-o", f"{made}/host"], check=True)
-        equal(subprocess.run([f"{made}/host"], capture_output=True, check=True).stdout, (ROOT / "tests" / "host.out").read_bytes(), "a host by the shared object")
+        equal(subprocess.run([f"{made}/host"], capture_output=True, check=True).stdout, (ROOT / "tests" / "examples" / "host.out").read_bytes(), "a host by the shared object")
         for page in ("man1/lagoon.1", "man3/lagoon.3"):
             holds((usr / "share" / "man" / page).exists(), page)
         subprocess.run(["make", "-s", "uninstall", f"DESTDIR={made}", "PREFIX=/usr"], cwd=ROOT, check=True)
