@@ -12,6 +12,8 @@ HERE = Path(__file__).resolve().parent
 sys.path.insert(0, str(HERE))
 
 import engines
+import from_c
+import header
 import lagoon
 import script
 import shrink
@@ -164,6 +166,23 @@ class Drivers(unittest.TestCase):
                     driver = engines.Driver(f"{folder}/driver")
                     same = driver(*case) == right and driver.finish() == ""
                     self.assertEqual(same, fault == 0, f"{watch}: fault {fault} is {'not ' * same}seen")
+
+    def test_faults_of_all_calls_seen(self):
+        """The same faults in a library of all calls, and a byte written before the room."""
+        given = {"mesh": b"\x10", "field": b"\x20", "step": b"\x30", "next": bytes([from_c.FILL] * 5)}
+        [(number, call)] = [(number, call) for number, call in enumerate(header.declared()) if call.name == "lagoon_step"]
+        right = from_c.told(call, 11 * from_c.PLACE, given)
+        with tempfile.TemporaryDirectory() as folder:
+            Path(folder, "made.h").write_text(header.driver())
+            Path(folder, "call.c").write_text(CALL_WITH_FAULT.replace("(void)field_len,", "if (FAULT == 5) next[-1] = 0;\n    (void)field_len,"))
+            Path(folder, "others.c").write_text("".join(f"unsigned long {call.name}(void) {{ return 0; }}\n" for call in header.declared()
+                                                        if call.name != "lagoon_step"))
+            for fault in range(6):
+                subprocess.run(["gcc", "-g", "-w", f"-DFAULT={fault}", f"-I{HERE.parent / 'include'}", "-I.", "call.c", "others.c",
+                                str(HERE / "calls_driver.c"), "-o", "driver"], cwd=folder, check=True)
+                driver = engines.CallsDriver(f"{folder}/driver")
+                same = driver(from_c.stream(number, call, given), len(right)) == right and driver.finish() == ""
+                self.assertEqual(same, fault == 0, f"fault {fault} is {'not ' * same}seen")
 
 
 if __name__ == "__main__":
