@@ -1,6 +1,6 @@
-/* A small host: the channel session of document 01, and a third step that releases brine into the second cell. It steps a field in a loop,
- * prints each field with its concentrations, its total and the budget, then shows how a refusal is read. Last it takes a step on a channel
- * through a bay too large for narrow records, in wide ones. */
+/* A small host on records: the channel session of document 01, and a third step that releases brine into the second cell. It steps a field in
+ * a loop, prints each field with its concentrations, its total and the budget, then shows how a refusal is read. Last it takes a step on a
+ * channel through a bay too large for narrow records, in wide ones. */
 #include <inttypes.h>
 #include <stdio.h>
 #include <string.h>
@@ -16,7 +16,15 @@ static const int32_t fluxes[FACES] = {-50, 50, 50, 50};
 static const uint32_t outsides[FACES] = {1000, 0, 0, 0};
 static const uint64_t releases[CELLS] = {0, 20000, 0};
 
-static void print_field(unsigned step, const uint8_t *mesh, const uint8_t *field)
+/* What the library adds up of a field. */
+static uint64_t total_of(const uint8_t *mesh, size_t mesh_length, const uint8_t *field, size_t field_length)
+{
+    uint64_t total = 0;
+    lagoon_total(mesh, mesh_length, field, field_length, &total, 1);
+    return total;
+}
+
+static void print_field(unsigned step, const uint8_t *mesh, size_t mesh_length, const uint8_t *field, size_t field_length)
 {
     printf("step %u: masses", step);
     for (size_t cell = 0; cell < CELLS; cell++)
@@ -24,7 +32,7 @@ static void print_field(unsigned step, const uint8_t *mesh, const uint8_t *field
     printf(", concentrations");
     for (size_t cell = 0; cell < CELLS; cell++)
         printf(" %" PRIu64, lagoon_mass(field, cell) / lagoon_volume(mesh, cell));
-    printf(", total %" PRIu64 "\n", lagoon_total(field, CELLS));
+    printf(", total %" PRIu64 "\n", total_of(mesh, mesh_length, field, field_length));
 }
 
 static void print_refusal(const char *why, uint64_t answer)
@@ -54,8 +62,8 @@ static int step_large_bay(void)
         return 1;
     }
     printf("a large bay, in records of kinds %d, %d and %d\n", mesh[0] >> 4, field[0] >> 4, water[0] >> 4);
-    print_field(0, mesh, field);
-    print_field(1, mesh, next);
+    print_field(0, mesh, mesh_length, field, field_length);
+    print_field(1, mesh, mesh_length, next, field_length);
     return 0;
 }
 
@@ -71,23 +79,23 @@ int main(void)
     lagoon_put_step(water, LAGOON_NARROW, FACES, faces, fluxes, outsides);
     lagoon_put_outfalls(outfall, LAGOON_NARROW, CELLS, releases, FACES, faces, fluxes, outsides);
 
-    first = lagoon_total(field, CELLS);
-    print_field(0, mesh, field);
+    first = total_of(mesh, sizeof mesh, field, sizeof field);
+    print_field(0, mesh, sizeof mesh, field, sizeof field);
     for (unsigned n = 1; n <= STEPS; n++) {
         const uint8_t *step = n == OUTFALL ? outfall : water;
         size_t length = n == OUTFALL ? sizeof outfall : sizeof water;
-        uint64_t in_mass, out_mass, released_mass;
+        uint64_t crossed[3];
         answer = lagoon_step(mesh, sizeof mesh, field, sizeof field, step, length, next, sizeof next);
         if (answer != 0) {
             print_refusal("refused", answer);
             return 1;
         }
-        lagoon_crossing(mesh, field, step, &in_mass, &out_mass, &released_mass);
-        entered += in_mass;
-        gone += out_mass;
-        released += released_mass;
+        lagoon_crossing(mesh, sizeof mesh, field, sizeof field, step, length, crossed, 3);
+        entered += crossed[0];
+        gone += crossed[1];
+        released += crossed[2];
         memcpy(field, next, sizeof field);
-        print_field(n, mesh, field);
+        print_field(n, mesh, sizeof mesh, field, sizeof field);
     }
     printf("budget: %" PRIu64 " + %" PRIu64 " + %" PRIu64 " - %" PRIu64 " = %" PRIu64 "\n", first, entered, released, gone,
            first + entered + released - gone);

@@ -1,6 +1,7 @@
-/* Records for lagoon_step: packed, taken apart, and a refusal in words.
+/* Records packed and taken apart in C, without tables: a face is a struct, and a value is read where it stands.
  *
- * This file is to be copied. It is no part of the proved library: the gate compares it with the run program on stored sessions. */
+ * This file is to be copied. It is no part of the proved library, whose lagoon_read_mesh, lagoon_write_mesh and so on are: the gate compares
+ * it with the run program on stored sessions. */
 #ifndef LAGOON_RECORDS_H
 #define LAGOON_RECORDS_H
 
@@ -11,9 +12,6 @@ enum {
     LAGOON_KIND_BITS = 4, LAGOON_CELLS_BITS = 12, LAGOON_FACES_BITS = 13, LAGOON_END_BITS = 12, LAGOON_SHARE_BITS = 8,
     LAGOON_SIGN_BITS = 1, LAGOON_OUTSIDE_BITS = 20, LAGOON_MESH_HEAD = 32, LAGOON_FIELD_HEAD = 16, LAGOON_STEP_HEAD = 32
 };
-
-/* Narrow records are of kinds 1 to 4, wide ones of kinds 5 to 8. */
-enum lagoon_width { LAGOON_NARROW, LAGOON_WIDE };
 
 /* Bits of a volume, a reach and the size of a flux. */
 static inline unsigned lagoon_value_bits(enum lagoon_width width)
@@ -231,14 +229,6 @@ static inline uint64_t lagoon_mass(const uint8_t *field, size_t cell)
     return lagoon_get(field, LAGOON_FIELD_HEAD + bits * cell, bits);
 }
 
-static inline uint64_t lagoon_total(const uint8_t *field, size_t cells)
-{
-    uint64_t total = 0;
-    for (size_t c = 0; c < cells; c++)
-        total += lagoon_mass(field, c);
-    return total;
-}
-
 /* The flux of a face in a step record. */
 static inline int32_t lagoon_flux(const uint8_t *step, size_t face)
 {
@@ -270,52 +260,6 @@ static inline uint64_t lagoon_release(const uint8_t *step, size_t releases, size
     if (!lagoon_is(step, width, LAGOON_OUTFALLS))
         return 0;
     return lagoon_get(step, releases + lagoon_mass_bits(width) * cell, lagoon_mass_bits(width));
-}
-
-/* In-mass, out-mass and released mass of a step that was accepted; field is the one before the step. */
-static inline void lagoon_crossing(const uint8_t *mesh, const uint8_t *field, const uint8_t *step, uint64_t *in_mass, uint64_t *out_mass,
-                                   uint64_t *released)
-{
-    size_t faces = lagoon_faces(mesh), outside = lagoon_outsides_at(mesh), releases = lagoon_releases_at(mesh);
-    *in_mass = *out_mass = *released = 0;
-    for (size_t c = 0; c < lagoon_cells(mesh); c++)
-        *released += lagoon_release(step, releases, c);
-    for (size_t f = 0; f < faces; f++) {
-        struct lagoon_face face = lagoon_face_of(mesh, f);
-        int32_t flux = lagoon_flux(step, f);
-        if (face.second != LAGOON_RIM)
-            continue;
-        if (flux < 0) {
-            *in_mass += (uint64_t)-flux * lagoon_get(step, outside, LAGOON_OUTSIDE_BITS);
-        } else {
-            uint64_t raised = lagoon_mass(field, face.first) + lagoon_release(step, releases, face.first);
-            *out_mass += (uint64_t)flux * (raised / lagoon_volume(mesh, face.first));
-        }
-        outside += LAGOON_OUTSIDE_BITS;
-    }
-}
-
-/* A cause in words. */
-static inline const char *lagoon_cause_text(uint32_t cause)
-{
-    switch (cause) {
-    case 0: return "accepted";
-    case LAGOON_LIMITS: return "no cell, or too many cells or faces";
-    case LAGOON_TABLE: return "too few bytes for the next field";
-    case LAGOON_VOLUME: return "volume outside its range";
-    case LAGOON_ENDS: return "ends of a face are not two cells, or a cell and the rim";
-    case LAGOON_SPACING: return "share or reach outside its range, or not 0 at the rim";
-    case LAGOON_CONCENTRATION: return "concentration above its ceiling";
-    case LAGOON_OUTSIDE: return "outside value above its ceiling, or not 0 elsewhere than at a rim inflow";
-    case LAGOON_FLUX: return "flux above the reach of its face, or above its ceiling at the rim";
-    case LAGOON_BALANCE: return "inflow and outflow of a cell differ";
-    case LAGOON_OUTFLOW: return "outflow of a cell above its volume";
-    case LAGOON_LENGTH: return "record of the wrong length";
-    case LAGOON_BIT: return "a zero bit is set, or a minus has size 0";
-    case LAGOON_HEAD: return "kind or count of a record other than expected";
-    case LAGOON_RELEASE: return "concentration above its ceiling with the release";
-    default: return "no cause of this library";
-    }
 }
 
 #endif

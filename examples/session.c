@@ -70,31 +70,24 @@ static int print_refused(char letter, uint64_t answer)
     return 0;
 }
 
-/* Whether cell a comes before cell b > a on the board: the higher concentration, of equal ones the larger rest by volume, compared
-   by products; the lower number, a, where these are equal too. */
-static int before(size_t a, size_t b)
+/* The eight cells with the highest concentration, in the board's order. */
+static void print_board(size_t mesh_length, size_t field_length)
 {
-    uint64_t m_a = lagoon_mass(field, a), v_a = lagoon_volume(mesh, a), m_b = lagoon_mass(field, b), v_b = lagoon_volume(mesh, b);
-    if (m_a / v_a != m_b / v_b)
-        return m_a / v_a > m_b / v_b;
-    return m_a % v_a * v_b >= m_b % v_b * v_a;
+    static uint64_t volumes[LAGOON_MAX_CELLS], faces[4][LAGOON_MAX_FACES], masses[LAGOON_MAX_CELLS];
+    uint64_t counts[3] = {0}, board[LAGOON_BOARD_NUMBERS] = {0};
+    lagoon_read_mesh(mesh, mesh_length, volumes, LAGOON_MAX_CELLS, faces[0], LAGOON_MAX_FACES, faces[1], LAGOON_MAX_FACES, faces[2],
+                     LAGOON_MAX_FACES, faces[3], LAGOON_MAX_FACES, counts, 3);
+    lagoon_read_field(counts[2], counts[0], field, field_length, masses, LAGOON_MAX_CELLS);
+    lagoon_table_board(counts[0], volumes, LAGOON_MAX_CELLS, masses, LAGOON_MAX_CELLS, board, LAGOON_BOARD_NUMBERS);
+    for (uint64_t line = 0; line < board[0]; line++)
+        printf("B %" PRIu64 " %" PRIu64 " %" PRIu64 "\n", board[1 + 3 * line], board[2 + 3 * line], board[3 + 3 * line]);
 }
 
-/* The eight cells with the highest concentration, in the board's order. */
-static void print_board(size_t cells)
+static uint64_t total(size_t mesh_length, size_t field_length)
 {
-    static uint8_t listed[LAGOON_MAX_CELLS];
-    for (int line = 0; line < 8; line++) {
-        size_t best = cells;
-        for (size_t c = 0; c < cells; c++)
-            if (!listed[c] && (best == cells || !before(best, c)))
-                best = c;
-        if (best == cells)
-            return;
-        listed[best] = 1;
-        printf("B %zu %" PRIu64 " %" PRIu64 "\n", best, lagoon_mass(field, best) / lagoon_volume(mesh, best),
-               lagoon_mass(field, best) % lagoon_volume(mesh, best));
-    }
+    uint64_t sum = 0;
+    lagoon_total(mesh, mesh_length, field, field_length, &sum, 1);
+    return sum;
 }
 
 /* What all accepted steps brought in, released and took out. */
@@ -108,7 +101,7 @@ static struct budget take_steps(size_t mesh_length, size_t cells, size_t faces, 
     struct budget all = {0, 0, 0};
     size_t field_length = lagoon_field_bytes(lagoon_width_of(mesh), cells), step_length = 0, got;
     for (uint64_t n = 1; (got = fread(step, 1, 4, stdin)) > 0; n++) {
-        uint64_t in_mass, out_mass, released, answer = read_step(got, cells, faces, rims, &step_length);
+        uint64_t crossed[3], answer = read_step(got, cells, faces, rims, &step_length);
         int ends = answer != 0;
         if (!ends)
             answer = lagoon_step(mesh, mesh_length, field, field_length, step, step_length, next, field_length);
@@ -118,12 +111,13 @@ static struct budget take_steps(size_t mesh_length, size_t cells, size_t faces, 
                 return all;
             continue;
         }
-        lagoon_crossing(mesh, field, step, &in_mass, &out_mass, &released);
-        all.entered += in_mass;
-        all.released += released;
-        all.gone += out_mass;
+        lagoon_crossing(mesh, mesh_length, field, field_length, step, step_length, crossed, 3);
+        all.entered += crossed[0];
+        all.gone += crossed[1];
+        all.released += crossed[2];
         memcpy(field, next, field_length);
-        printf("%" PRIu64 " %" PRIu64 " %" PRIu64 " %" PRIu64 " %" PRIu64 "\n", n, in_mass, out_mass, lagoon_total(field, cells), released);
+        printf("%" PRIu64 " %" PRIu64 " %" PRIu64 " %" PRIu64 " %" PRIu64 "\n", n, crossed[0], crossed[1], total(mesh_length, field_length),
+               crossed[2]);
     }
     return all;
 }
@@ -147,24 +141,23 @@ int main(int count, char **words)
         return print_refused('M', answer);
     cells = lagoon_cells(mesh);
     faces = lagoon_faces(mesh);
-    /* an empty field record is refused by 11, after the mesh has been judged; an empty step record after the field */
-    answer = lagoon_step(mesh, mesh_length, field, 0, step, 0, next, 0);
+    /* an empty field record is refused by 11, after the mesh has been judged */
+    answer = lagoon_total(mesh, mesh_length, field, 0, &first, 0);
     if (LAGOON_CAUSE(answer) != LAGOON_LENGTH)
         return print_refused('M', answer);
     answer = read_field(lagoon_width_of(mesh), cells);
     if (answer != 0)
         return print_refused('F', answer);
     field_length = lagoon_field_bytes(lagoon_width_of(mesh), cells);
-    answer = lagoon_step(mesh, mesh_length, field, field_length, step, 0, next, 0);
-    if (LAGOON_CAUSE(answer) != LAGOON_LENGTH)
+    answer = lagoon_total(mesh, mesh_length, field, field_length, &first, 1);
+    if (answer != 0)
         return print_refused('F', answer);
     for (size_t f = 0; f < faces; f++)
         rims += lagoon_face_of(mesh, f).second == LAGOON_RIM;
-    first = lagoon_total(field, cells);
     printf("0 0 0 %" PRIu64 " 0\n", first);
     all = take_steps(mesh_length, cells, faces, rims);
-    print_board(cells);
-    last = lagoon_total(field, cells);
+    print_board(mesh_length, field_length);
+    last = total(mesh_length, field_length);
     fprintf(stderr, "budget: first total %" PRIu64 " + in %" PRIu64 " + released %" PRIu64 " - out %" PRIu64, first, all.entered, all.released, all.gone);
     fprintf(stderr, " = %" PRIu64 ", last total %" PRIu64 "\n", first + all.entered + all.released - all.gone, last);
     if (fflush(stdout) != 0 || ferror(stdin)) {

@@ -1,11 +1,28 @@
-/* liblagoon: one step of salt transport on a lagoon mesh, in whole numbers.
+/* liblagoon: salt transport on a lagoon mesh, in whole numbers.
  *
- * A host hands over three records as bytes (the mesh, the field of masses, the water of one step) and gets the next field record.
- * This header is enough to make the records and to read the answer. The rule of the step is in docs/ARITHMETIC.md.
+ *   1  version, answers and causes
+ *   2  records: their layout and lengths
+ *   3  calls on records       lagoon_step, lagoon_plain_step, lagoon_check, lagoon_crossing
+ *   4  tables: their positions and lengths
+ *   5  calls on tables        lagoon_table_step, lagoon_table_plain_step, lagoon_table_judge
+ *   6  records and tables     lagoon_read_mesh, .. _field, .. _step, lagoon_write_mesh, .. _field, .. _step
+ *   7  pages and boards       lagoon_total, lagoon_page, lagoon_public_page, and on tables lagoon_table_total and so on, with the boards
+ *   8  period and charge      lagoon_add, lagoon_charge
+ *   9  fields kept by name    lagoon_keep, lagoon_drop, lagoon_give_back
+ *  10  shares                 lagoon_share
  *
- * Build the library with `make lib`, then link target/lib/liblagoon.a. It needs memset of the C library, nothing else, and runs on
- * x86-64 with the System V calling convention. examples/lagoon_records.h packs and unpacks records; examples/host.c is a small host,
- * examples/session.c a whole one, examples/host.py the same call from Python.
+ * This header is enough to make the calls and to read what they answer. The rule of a step is in docs/ARITHMETIC.md, what is proved of
+ * each call in docs/PROMISES.md. Each group has a program in examples/; examples/lagoon_records.h, to be copied, packs and takes apart
+ * records in C.
+ *
+ * Build the library with `make lib` and link target/lib/liblagoon.a, or liblagoon.so. It needs memset and memcpy of the C library, nothing
+ * else, has 400 KiB of code and figures at most, and runs on x86-64 with the System V calling convention.
+ *
+ * What all calls share. A table or a record is a pointer, then its length in entries, or bytes. No pointer is null, also where the length
+ * is 0, and so many entries behind it are the host's; tables of 64 bits lie at multiples of 8. What is not const is written, and overlaps
+ * nothing else that is lent. Each call takes any values and tests them itself; it allocates nothing, keeps no state, reads no clock and
+ * always returns. Several threads may make calls at once, each with tables of its own to be written; what is const may be shared, while
+ * nobody writes it.
  */
 #ifndef LAGOON_H
 #define LAGOON_H
@@ -17,11 +34,92 @@
 extern "C" {
 #endif
 
-#define LAGOON_VERSION "2.5.0"
+/* ---------------------------------------------------------------- 1  Version, answers and causes */
 
-/* Limits of the call. A larger mesh is refused with cause 1. */
-#define LAGOON_MAX_CELLS 1023
-#define LAGOON_MAX_FACES 2046
+#define LAGOON_VERSION "2.6.0"
+#define LAGOON_VERSION_NUMBER 2006000 /* 1,000,000 times the first number, 1,000 times the second, and the third */
+
+/* The LAGOON_VERSION_NUMBER that the library was built with. The first number changes where a figure that was given before changes. */
+uint64_t lagoon_version(void);
+
+/* A call answers 0 where it is accepted. Else the answer is 4,294,967,296 times the cause plus the place, and everything that was lent is
+ * as it was: a refusal changes nothing.
+ *
+ * What a call finds is put into its last argument, found: the numbers that are named at the call, in that order, as many as found has room
+ * for. Its entries past them, and all of them after a refusal, stay. A host that does not ask lends length 0. */
+#define LAGOON_CAUSE(answer) ((uint32_t)((answer) >> 32))
+#define LAGOON_PLACE(answer) ((uint32_t)((answer) & 0xffffffffu))
+
+/* Why something is refused, and what the place then is. */
+enum lagoon_cause {
+    LAGOON_LIMITS = 1,        /* no cell, or more cells or faces than the limits; place 0 for cells, 1 for faces */
+    LAGOON_TABLE = 2,         /* a lent table is too short, or too few bytes for a record or page; place: its position (enum lagoon_position) */
+    LAGOON_VOLUME = 3,        /* a volume outside 1 to 65,535; in a narrow record that is written, above 4,095; place: the cell */
+    LAGOON_ENDS = 4,          /* first no cell; second neither a cell nor LAGOON_RIM; or both equal; place: the face */
+    LAGOON_SPACING = 5,       /* share outside 1 to 255 or reach outside 1 to 65,535; at the rim either not 0; place: the face */
+    LAGOON_CONCENTRATION = 6, /* mass divided by volume above 1,000,000; place: the cell */
+    LAGOON_OUTSIDE = 7,       /* an outside value above 1,000,000, or not 0 elsewhere than at a rim inflow; place: the face */
+    LAGOON_FLUX = 8,          /* a flux larger than the reach, or than 65,535 at the rim; place: the face */
+    LAGOON_BALANCE = 9,       /* what enters a cell is not what leaves it, inflow and outflow; place: the cell */
+    LAGOON_OUTFLOW = 10,      /* more leaves a cell than its volume; place: the cell */
+    LAGOON_LENGTH = 11,       /* a record of the wrong length; place 0 */
+    LAGOON_BIT = 12,          /* a zero bit that is set, or a minus with size 0; place: the first such bit of its record, from 0 */
+    LAGOON_HEAD = 13,         /* a kind or count other than expected, or a count that a store cannot hold; place 0 for the kind, 1 for the count */
+    LAGOON_PAGE = 14,         /* a page number beyond the last; place: the page */
+    LAGOON_NAME = 15,         /* on keeping: a name of 0, above 65,535 or already kept; place: the name */
+    LAGOON_ROOM = 16,         /* on keeping: fewer entries left in the store than one for the name and one per cell; place: the name */
+    LAGOON_UNKEPT = 17,       /* on dropping or return: a name that is not kept; place: the name */
+    LAGOON_RELEASE = 18,      /* mass and release of a cell, divided by its volume, above 1,000,000; on writing, too large; place: the cell */
+    LAGOON_COORDINATE = 19,   /* a survey coordinate not finite or of size above 1,000,000; place 0 to 7: the argument of lagoon_share */
+    LAGOON_RATIO = 20,        /* both distances are 0, or their ratio below 1/256 or not below 1; place 0 */
+    LAGOON_MOVED = 21,        /* a claimed mass of size above 1,099,511,627,776, not 0 at a still face, or at the rim not its water's; place: the face */
+    LAGOON_BOUNDS = 22,       /* by a claim: a next mass below 0, or outside the bounds of its neighbourhood; place: the cell */
+    LAGOON_LABEL = 23,        /* a label other than 0 and 1; place: the cell */
+    LAGOON_PART = 24,         /* a part without cells; place: the label */
+    LAGOON_BANDS = 25,        /* no bands or more than 8, ends that do not rise to 2^40, a price or remainder too large; place 0, or the band */
+    LAGOON_PERIOD = 26,       /* in charging, a total above the last end; in adding, one past 2^40; place 0; or the face */
+    LAGOON_MARK = 27          /* a mark other than 0 and 1; place: the cell */
+};
+
+/* A cause in words. */
+static inline const char *lagoon_cause_text(uint32_t cause)
+{
+    switch (cause) {
+    case 0: return "accepted";
+    case LAGOON_LIMITS: return "no cell, or too many cells or faces";
+    case LAGOON_TABLE: return "a lent table is too short";
+    case LAGOON_VOLUME: return "volume outside its range";
+    case LAGOON_ENDS: return "ends of a face are not two cells, or a cell and the rim";
+    case LAGOON_SPACING: return "share or reach outside its range, or not 0 at the rim";
+    case LAGOON_CONCENTRATION: return "concentration above its ceiling";
+    case LAGOON_OUTSIDE: return "outside value above its ceiling, or not 0 elsewhere than at a rim inflow";
+    case LAGOON_FLUX: return "flux above the reach of its face, or above its ceiling at the rim";
+    case LAGOON_BALANCE: return "inflow and outflow of a cell differ";
+    case LAGOON_OUTFLOW: return "outflow of a cell above its volume";
+    case LAGOON_LENGTH: return "record of the wrong length";
+    case LAGOON_BIT: return "a zero bit is set, or a minus has size 0";
+    case LAGOON_HEAD: return "kind or count of a record other than expected, or a count that a store cannot hold";
+    case LAGOON_PAGE: return "page number beyond the last";
+    case LAGOON_NAME: return "name 0, above its range or already kept";
+    case LAGOON_ROOM: return "no room left in the store for the name and the cells";
+    case LAGOON_UNKEPT: return "name not kept";
+    case LAGOON_RELEASE: return "concentration above its ceiling with the release";
+    case LAGOON_COORDINATE: return "a survey coordinate not finite or too large";
+    case LAGOON_RATIO: return "no ratio of the distances that a share can be";
+    case LAGOON_MOVED: return "a claimed mass too large, at a still face, or other than the rim's water carries";
+    case LAGOON_BOUNDS: return "by a claim, a next mass outside the bounds of its neighbourhood";
+    case LAGOON_LABEL: return "a label other than 0 and 1";
+    case LAGOON_PART: return "a part without cells";
+    case LAGOON_BANDS: return "bands, a price or a remainder out of range";
+    case LAGOON_PERIOD: return "a period's total past its last end";
+    case LAGOON_MARK: return "a mark other than 0 and 1";
+    default: return "no cause of this library";
+    }
+}
+
+/* A thread that makes a call needs this much stack, in bytes; tests/host.sh measures what the largest of them take. The stack is touched
+ * page by page downwards, so a thread with less ends in its guard page and writes nothing beyond it. */
+#define LAGOON_STACK_BYTES (512 * 1024)
 
 /* Ceilings of the values, and of a volume, a reach and the size of a flux in narrow records (below). */
 #define LAGOON_RIM 4095                   /* in the place of a second cell: the face is at the rim */
@@ -31,6 +129,12 @@ extern "C" {
 #define LAGOON_MAX_CONCENTRATION 1000000  /* of a cell, and outside */
 #define LAGOON_MAX_RIM_FLUX 65535
 #define LAGOON_NARROW_MAX 4095
+
+/* ---------------------------------------------------------------- 2  Records */
+
+/* Limits of the calls on records. A larger mesh is refused with cause 1. */
+#define LAGOON_MAX_CELLS 1023
+#define LAGOON_MAX_FACES 2046
 
 /* Records: rows of bits, the most significant bit of each number first, filled with zero bits up to a whole byte. Widths in bits stand
  * in brackets, where there are two that of a narrow record first; cells and faces follow each other by number, from 0.
@@ -54,6 +158,9 @@ extern "C" {
 enum lagoon_kind { LAGOON_MESH = 1, LAGOON_FIELD = 2, LAGOON_STEP = 3, LAGOON_OUTFALLS = 4,
                    LAGOON_WIDE_MESH = 5, LAGOON_WIDE_FIELD = 6, LAGOON_WIDE_STEP = 7, LAGOON_WIDE_OUTFALLS = 8 };
 
+/* Narrow records are of kinds 1 to 4, wide ones of kinds 5 to 8. */
+enum lagoon_width { LAGOON_NARROW, LAGOON_WIDE };
+
 /* Lengths of records in bytes. They are expressions, no preprocessor constants: an array takes them, #if does not. The longest record within
  * the limits is a wide step with releases whose faces are all at the rim, 14,582 bytes. */
 #define LAGOON_MESH_BYTES(cells, faces) ((32 + 12 * (size_t)(cells) + 44 * (size_t)(faces) + 7) / 8)
@@ -65,60 +172,203 @@ enum lagoon_kind { LAGOON_MESH = 1, LAGOON_FIELD = 2, LAGOON_STEP = 3, LAGOON_OU
 #define LAGOON_WIDE_STEP_BYTES(faces, rim_faces) ((32 + 17 * (size_t)(faces) + 20 * (size_t)(rim_faces) + 7) / 8)
 #define LAGOON_WIDE_OUTFALLS_BYTES(cells, faces, rim_faces) (LAGOON_WIDE_STEP_BYTES(faces, rim_faces) + 5 * (size_t)(cells))
 
-/* Why a record or a step is refused, and what the place then is. */
-enum lagoon_cause {
-    LAGOON_LIMITS = 1,        /* no cell, or more cells or faces than the limits; place 0 for cells, 1 for faces */
-    LAGOON_TABLE = 2,         /* too few bytes for the next field; place 11 */
-    LAGOON_VOLUME = 3,        /* a volume outside 1 to 65,535; place: the cell */
-    LAGOON_ENDS = 4,          /* first no cell; second neither a cell nor LAGOON_RIM; or both equal; place: the face */
-    LAGOON_SPACING = 5,       /* share outside 1 to 255 or reach outside 1 to 65,535; at the rim either not 0; place: the face */
-    LAGOON_CONCENTRATION = 6, /* mass divided by volume above 1,000,000; place: the cell */
-    LAGOON_OUTSIDE = 7,       /* an outside value above 1,000,000, or not 0 elsewhere than at a rim inflow; place: the face */
-    LAGOON_FLUX = 8,          /* a flux larger than the reach, or than 65,535 at the rim; place: the face */
-    LAGOON_BALANCE = 9,       /* what enters a cell is not what leaves it; place: the cell */
-    LAGOON_OUTFLOW = 10,      /* more leaves a cell than its volume; place: the cell */
-    LAGOON_LENGTH = 11,       /* a record of the wrong length; place 0 */
-    LAGOON_BIT = 12,          /* a zero bit that is set, or a minus with size 0; place: the first such bit of its record, from 0 */
-    LAGOON_HEAD = 13,         /* a kind or count other than expected; place 0 for the kind, 1 for the count */
-    LAGOON_RELEASE = 18       /* mass and release of a cell, divided by its volume, above 1,000,000; place: the cell */
-};
+/* ---------------------------------------------------------------- 3  Calls on records */
 
-/* An answer taken apart. Both are 0 after an accepted step. */
-#define LAGOON_CAUSE(answer) ((uint32_t)((answer) >> 32))
-#define LAGOON_PLACE(answer) ((uint32_t)((answer) & 0xffffffffu))
+/* mesh, field and step are read only, each length that of the record, neither more nor less. The mesh record is tested first, then the field,
+ * then the step record with the water in it, then what the call asks for besides, last the room; the first that is refused gives the answer.
+ * Within a record the order is 11 for less than a head, 13, 1, 11, 12, then 18, then the lowest of 3 to 10. No alignment is asked. */
 
-/* A thread that makes the call needs this much stack, in bytes; tests/host.sh measures what it takes. The stack is touched page by page
- * downwards, so a thread with less ends in its guard page and writes nothing beyond it. */
-#define LAGOON_STACK_BYTES (320 * 1024)
-
-/* One step.
- *
- * Arguments: each record is a pointer to its first byte, then its length in bytes. No alignment is asked.
- *
- *   mesh, field, step   read only; each length is that of the record, neither more nor less
- *   next                room for the next field record, which is as long as the field: LAGOON_FIELD_BYTES(cells) bytes, on a wide mesh
- *                       LAGOON_WIDE_FIELD_BYTES(cells), or more; next_len is all of the room
- *
- * A pointer is not null, also where its length is 0, and that many bytes behind it are the host's. next overlaps none of the records:
- * after an accepted step copy it over the field, or let the two change places. Nobody else writes these bytes during the call.
- *
- * Answer: 0 where the step is accepted; next then begins with the next field record, and its bytes past the record are as they were.
- * Else the answer is 4,294,967,296 times the cause plus the place, and every byte of next is as it was.
- *
- * The mesh record is tested first, then the field, then the step record with the water in it, then the room. The first that is
- * refused gives the answer. Within a record the order is 11 for less than a head, 13, 1, 11, 12, then 18, then the lowest of 3 to 10.
- *
- * The call gives no in-mass, out-mass and released mass. They follow from the records: the in-mass is the sum, over rim faces with a flux
- * below 0, of its size times the outside value; the out-mass, over rim faces with a flux above 0, of the flux times the concentration
- * (mass and release divided by volume, rounded down) of the first cell before the step; the released mass is the sum of the releases.
- * The total after the step is the one before it + in-mass + released mass - out-mass. lagoon_crossing of examples/lagoon_records.h works
- * them out.
- *
- * The call allocates nothing, keeps no state and always returns. Several threads may call it at once, each with a next of its own; the
- * records are only read and may be shared.
- */
+/* One step. next: room for the next field record, which is as long as the field; bytes past the record stay. After an accepted step copy it
+ * over the field, or let the two change places. Refuses by 2, place 11, where next is too short. */
 uint64_t lagoon_step(const uint8_t *mesh, size_t mesh_len, const uint8_t *field, size_t field_len, const uint8_t *step, size_t step_len,
                      uint8_t *next, size_t next_len);
+
+/* The same by plain upwind, first order and without corrections. Refuses what lagoon_step refuses. */
+uint64_t lagoon_plain_step(const uint8_t *mesh, size_t mesh_len, const uint8_t *field, size_t field_len, const uint8_t *step, size_t step_len,
+                           uint8_t *next, size_t next_len);
+
+/* What lagoon_step would answer where there is room; nothing is written. */
+uint64_t lagoon_check(const uint8_t *mesh, size_t mesh_len, const uint8_t *field, size_t field_len, const uint8_t *step, size_t step_len);
+
+/* found: in-mass, out-mass and released mass of the step; field is the one before it. The total after the step is the one before it + in-mass
+ * + released mass - out-mass. Refuses what lagoon_check refuses. */
+uint64_t lagoon_crossing(const uint8_t *mesh, size_t mesh_len, const uint8_t *field, size_t field_len, const uint8_t *step, size_t step_len,
+                         uint64_t *found, size_t found_len);
+
+/* ---------------------------------------------------------------- 4  Tables */
+
+/* Limits of the calls on tables. */
+#define LAGOON_TABLE_MAX_CELLS 4095
+#define LAGOON_TABLE_MAX_FACES 8190
+
+/* The tables by the positions that cause 2 names, with the entries that each has at least. A table may be longer: entries past these are
+ * neither tested nor touched. */
+enum lagoon_position {
+    LAGOON_AT_VOLUMES = 0,  /* cells */
+    LAGOON_AT_FIRSTS = 1,   /* faces: the first cell */
+    LAGOON_AT_SECONDS = 2,  /* faces: the second cell, or LAGOON_RIM */
+    LAGOON_AT_SHARES = 3,   /* faces */
+    LAGOON_AT_REACHES = 4,  /* faces */
+    LAGOON_AT_MASSES = 5,   /* cells */
+    LAGOON_AT_FLUXES = 6,   /* faces, signed */
+    LAGOON_AT_OUTSIDES = 7, /* faces: the outside concentration at a rim inflow, else 0 */
+    LAGOON_AT_NEXT = 8,     /* cells: filled with the next masses */
+    LAGOON_AT_MOVED = 9,    /* faces, signed: moved, filled with the moved masses; or a claim, which is read */
+    LAGOON_AT_WORK = 10,    /* LAGOON_WORK_ENTRIES(cells, faces): zeros after acceptance */
+    LAGOON_AT_RECORD = 11,  /* bytes of a record */
+    LAGOON_AT_PAGE = 12,    /* bytes of a page */
+    LAGOON_AT_STORE = 13,   /* LAGOON_STORE_ENTRIES(cells, fields) */
+    LAGOON_AT_RELEASES = 14, /* cells: the mass released into each */
+    LAGOON_AT_LABELS = 15,  /* cells: 0 or 1 */
+    LAGOON_AT_TOTALS = 16,  /* faces: what moved outward over the rim in a period */
+    LAGOON_AT_ENDS = 17,    /* bands */
+    LAGOON_AT_PRICES = 18,  /* bands: cents per million mass units */
+    LAGOON_AT_MARKS = 19    /* cells: 0 open, 1 withheld */
+};
+
+#define LAGOON_WORK_ENTRIES(cells, faces) (4 * (size_t)(cells) + (size_t)(faces))
+
+/* ---------------------------------------------------------------- 5  Calls on tables */
+
+/* One step on tables. next: the next masses; moved: the mass that moved through each face; work: zeros. found: in-mass, out-mass and released
+ * mass. Refuses by 1; 2, places 0 to 10 and 14; 3, 4, 5; 6; 18; 7, 8; 9, 10, in this order. */
+uint64_t lagoon_table_step(uint64_t cells, uint64_t faces, const uint64_t *volumes, size_t volumes_len, const uint64_t *firsts,
+                           size_t firsts_len, const uint64_t *seconds, size_t seconds_len, const uint64_t *shares, size_t shares_len,
+                           const uint64_t *reaches, size_t reaches_len, const uint64_t *masses, size_t masses_len, const int64_t *fluxes,
+                           size_t fluxes_len, const uint64_t *outsides, size_t outsides_len, uint64_t *next, size_t next_len,
+                           int64_t *moved, size_t moved_len, uint64_t *work, size_t work_len, const uint64_t *releases,
+                           size_t releases_len, uint64_t *found, size_t found_len);
+
+/* The same by plain upwind. Refuses as lagoon_table_step. */
+uint64_t lagoon_table_plain_step(uint64_t cells, uint64_t faces, const uint64_t *volumes, size_t volumes_len, const uint64_t *firsts,
+                                 size_t firsts_len, const uint64_t *seconds, size_t seconds_len, const uint64_t *shares,
+                                 size_t shares_len, const uint64_t *reaches, size_t reaches_len, const uint64_t *masses,
+                                 size_t masses_len, const int64_t *fluxes, size_t fluxes_len, const uint64_t *outsides,
+                                 size_t outsides_len, uint64_t *next, size_t next_len, int64_t *moved, size_t moved_len, uint64_t *work,
+                                 size_t work_len, const uint64_t *releases, size_t releases_len, uint64_t *found, size_t found_len);
+
+/* Another model's step, by its claim. next: the masses that it leads to. found: in-mass, out-mass and released mass. Refuses by 1; 2, places
+ * 0 to 9 and 14; 3, 4, 5; 6; 18; 7, 8; 9, 10; 21; 22. */
+uint64_t lagoon_table_judge(uint64_t cells, uint64_t faces, const uint64_t *volumes, size_t volumes_len, const uint64_t *firsts,
+                            size_t firsts_len, const uint64_t *seconds, size_t seconds_len, const uint64_t *shares, size_t shares_len,
+                            const uint64_t *reaches, size_t reaches_len, const uint64_t *masses, size_t masses_len,
+                            const int64_t *fluxes, size_t fluxes_len, const uint64_t *outsides, size_t outsides_len, uint64_t *next,
+                            size_t next_len, const int64_t *claim, size_t claim_len, const uint64_t *releases, size_t releases_len,
+                            uint64_t *found, size_t found_len);
+
+/* ---------------------------------------------------------------- 6  Records and tables */
+
+/* A record read into tables, whose values are not judged, and tables written as a record. width is an enum lagoon_width, any number but 0
+ * for the wide records; a mesh's reader finds it and the others are told. The limits are those of tables. */
+
+/* found: cells, faces and width. Refuses by 11, 13, 1, 11; 2, places 0 to 4; 12. */
+uint64_t lagoon_read_mesh(const uint8_t *bytes, size_t bytes_len, uint64_t *volumes, size_t volumes_len, uint64_t *firsts,
+                          size_t firsts_len, uint64_t *seconds, size_t seconds_len, uint64_t *shares, size_t shares_len,
+                          uint64_t *reaches, size_t reaches_len, uint64_t *found, size_t found_len);
+
+/* Refuses by 11, 13, 1, 11; 2, place 5. */
+uint64_t lagoon_read_field(uint64_t width, uint64_t cells, const uint8_t *bytes, size_t bytes_len, uint64_t *masses, size_t masses_len);
+
+/* found: the kind, 3, 4, 7 or 8. Outsides away from the rim are filled with 0, and so are the releases of kinds 3 and 7. Refuses by 11, 13, 1;
+ * 2, place 2; 11; 2, places 6, 7 and 14; 12. */
+uint64_t lagoon_read_step(uint64_t width, uint64_t cells, uint64_t faces, const uint64_t *seconds, size_t seconds_len, const uint8_t *bytes,
+                          size_t bytes_len, int64_t *fluxes, size_t fluxes_len, uint64_t *outsides, size_t outsides_len,
+                          uint64_t *releases, size_t releases_len, uint64_t *found, size_t found_len);
+
+/* found: the length of the record; bytes past it stay. Refuses by 1; 2, places 0 to 4 and 11; 3, 4, 5, of narrow records above 4,095. */
+uint64_t lagoon_write_mesh(uint64_t width, uint64_t cells, uint64_t faces, const uint64_t *volumes, size_t volumes_len,
+                           const uint64_t *firsts, size_t firsts_len, const uint64_t *seconds, size_t seconds_len,
+                           const uint64_t *shares, size_t shares_len, const uint64_t *reaches, size_t reaches_len, uint8_t *bytes,
+                           size_t bytes_len, uint64_t *found, size_t found_len);
+
+/* The same of a field, on the mesh that it belongs to. Refuses by 1; 2, places 0 to 5 and 11; 3, 4, 5; 6. */
+uint64_t lagoon_write_field(uint64_t width, uint64_t cells, uint64_t faces, const uint64_t *volumes, size_t volumes_len,
+                            const uint64_t *firsts, size_t firsts_len, const uint64_t *seconds, size_t seconds_len,
+                            const uint64_t *shares, size_t shares_len, const uint64_t *reaches, size_t reaches_len,
+                            const uint64_t *masses, size_t masses_len, uint8_t *bytes, size_t bytes_len, uint64_t *found,
+                            size_t found_len);
+
+/* The same of a step. kind: 3, 4, 7 or 8, an enum lagoon_kind, which says the width too; another number is a step without releases, wide from 5
+ * on. Refuses by 1; 2, places 0 to 4, 6, 7, 11 and 14; 3, 4, 5; 18, a release that its bits do not hold, or any where the record has none;
+ * 7, 8. */
+uint64_t lagoon_write_step(uint64_t kind, uint64_t cells, uint64_t faces, const uint64_t *volumes, size_t volumes_len,
+                           const uint64_t *firsts, size_t firsts_len, const uint64_t *seconds, size_t seconds_len,
+                           const uint64_t *shares, size_t shares_len, const uint64_t *reaches, size_t reaches_len,
+                           const int64_t *fluxes, size_t fluxes_len, const uint64_t *outsides, size_t outsides_len,
+                           const uint64_t *releases, size_t releases_len, uint8_t *bytes, size_t bytes_len, uint64_t *found,
+                           size_t found_len);
+
+/* ---------------------------------------------------------------- 7  Pages and boards of a field */
+
+/* On records, refused by the causes of the mesh and of the field first; and on tables, by 1, 2, 3 and 6. Pages have sixty cells each and are
+ * counted from 0; a page has LAGOON_MOST_PAGE_BYTES at most. A line has 18 bytes, or 19 where some volume of the mesh is above 4,095. */
+#define LAGOON_PAGE_CELLS 60
+#define LAGOON_MOST_PAGE_BYTES (61 * 19)
+#define LAGOON_BOARD_NUMBERS 25 /* how many lines are used, then eight times cell, concentration and rest; lines not used are 0 */
+
+/* found: the sum of all masses. */
+uint64_t lagoon_total(const uint8_t *mesh, size_t mesh_len, const uint8_t *field, size_t field_len, uint64_t *found, size_t found_len);
+uint64_t lagoon_table_total(uint64_t cells, const uint64_t *volumes, size_t volumes_len, const uint64_t *masses, size_t masses_len,
+                            uint64_t *found, size_t found_len);
+
+/* found: LAGOON_BOARD_NUMBERS numbers: the eight highest concentrations, as the run prints them. */
+uint64_t lagoon_table_board(uint64_t cells, const uint64_t *volumes, size_t volumes_len, const uint64_t *masses, size_t masses_len,
+                            uint64_t *found, size_t found_len);
+
+/* A page for the binder. found: its length; bytes past it stay. Refuses by 2, place 12, where the bytes do not hold the page, and by 14. */
+uint64_t lagoon_page(const uint8_t *mesh, size_t mesh_len, const uint8_t *field, size_t field_len, uint32_t page, uint8_t *bytes,
+                     size_t bytes_len, uint64_t *found, size_t found_len);
+uint64_t lagoon_table_page(uint64_t cells, const uint64_t *volumes, size_t volumes_len, const uint64_t *masses, size_t masses_len,
+                           uint32_t page, uint8_t *bytes, size_t bytes_len, uint64_t *found, size_t found_len);
+
+/* The page that the public reads: without withheld cells, by a mark for each cell, and without its mass; room is lent for the whole page.
+ * Refuses by 2, places 12 and 19, 14 and 27. */
+uint64_t lagoon_public_page(const uint8_t *mesh, size_t mesh_len, const uint8_t *field, size_t field_len, uint32_t page, uint8_t *bytes,
+                            size_t bytes_len, const uint64_t *marks, size_t marks_len, uint64_t *found, size_t found_len);
+uint64_t lagoon_table_public_page(uint64_t cells, const uint64_t *volumes, size_t volumes_len, const uint64_t *masses, size_t masses_len,
+                                  uint32_t page, uint8_t *bytes, size_t bytes_len, const uint64_t *marks, size_t marks_len,
+                                  uint64_t *found, size_t found_len);
+
+/* The board among open cells only. Refuses by 2, place 19, and 27. */
+uint64_t lagoon_table_public_board(uint64_t cells, const uint64_t *volumes, size_t volumes_len, const uint64_t *masses, size_t masses_len,
+                                   const uint64_t *marks, size_t marks_len, uint64_t *found, size_t found_len);
+
+/* ---------------------------------------------------------------- 8  Period and charge */
+
+#define LAGOON_MAX_BANDS 8
+#define LAGOON_LAST_END ((uint64_t)1 << 40) /* of the last band, and the largest total */
+
+/* After an accepted step: each rim face's total gains its moved mass where that is above 0. Refuses by 1, place 1; 2, places 2, 9 and 16; 26. */
+uint64_t lagoon_add(uint64_t faces, const uint64_t *seconds, size_t seconds_len, const int64_t *moved, size_t moved_len, uint64_t *totals,
+                    size_t totals_len);
+
+/* A face's total charged by bands: ends, and prices in cents per million. remainder: what the last charge of that face left, below 1,000,000.
+ * found: whole cents, and the new remainder. Refuses by 25, place 0, for the number of bands; 2, places 17 and 18; 25; 26. */
+uint64_t lagoon_charge(uint64_t total, uint64_t bands, const uint64_t *ends, size_t ends_len, const uint64_t *prices, size_t prices_len,
+                       uint64_t remainder, uint64_t *found, size_t found_len);
+
+/* ---------------------------------------------------------------- 9  Fields kept by name */
+
+/* A store keeps fields of one mesh under names 1 to 65,535: an entry for how many there are, then of each its name and its masses. A table
+ * whose first entry is 0 is an empty store. Whoever lends it with another number of cells reads it wrongly. */
+#define LAGOON_STORE_ENTRIES(cells, fields) (1 + (size_t)(fields) * ((size_t)(cells) + 1))
+
+/* The field goes after all others. Refuses by 1; 2, places 0, 5 and 13; 3; 6; 13; 15; 16. */
+uint64_t lagoon_keep(uint64_t cells, const uint64_t *volumes, size_t volumes_len, const uint64_t *masses, size_t masses_len,
+                     uint64_t *store, size_t store_len, uint32_t name);
+
+/* Later fields move down, and the entries that become free are 0. Refuses by 1; 2, place 13; 13; 17. */
+uint64_t lagoon_drop(uint64_t cells, uint64_t *store, size_t store_len, uint32_t name);
+
+/* The kept masses, exactly. Refuses by 1; 2, places 0, 5 and 13; 3; 13; 17; then by 6 of what is kept. */
+uint64_t lagoon_give_back(uint64_t cells, const uint64_t *volumes, size_t volumes_len, uint64_t *masses, size_t masses_len,
+                          const uint64_t *store, size_t store_len, uint32_t name);
+
+/* ---------------------------------------------------------------- 10  Shares from survey points */
+
+/* The ends of a face, and the centres of its first and second cell. found: the share, 1 to 255. Refuses by 19 and 20. */
+uint64_t lagoon_share(double x1, double y1, double x2, double y2, double first_x, double first_y, double second_x, double second_y,
+                      uint64_t *found, size_t found_len);
 
 #ifdef __cplusplus
 }

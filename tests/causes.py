@@ -15,7 +15,7 @@ from pathlib import Path
 
 ROOT = Path(__file__).resolve().parent.parent
 SOURCE = "docs/CALLS.md"
-OF_A_RUN = {*range(1, 14), 18}          # causes that a run and the host's call can meet
+OF_A_RUN = {*range(1, 14), 18}          # causes that a run can meet
 LETTERS = {"V": "volume", "s": "share", "K": "reach", "U": "flux", "q": "concentration"}
 PLACES = ("cell", "face", "position", "kind", "count", "bit", "page", "name", "label", "band")
 IDLE = {"the", "and", "not", "its", "that", "than", "other", "only", "out", "one", "has", "with", "from", "what", "there", "too", "here", "more", "above",
@@ -116,12 +116,12 @@ def main():
     model = of_the_model(read("crates/model/specs/Answers.antt"))
     faults = [] if model == {number: case for number, (case, _, _) in table.rows.items()} else [f"{SOURCE} and the model number other cases"]
     header, tools = of_the_header(read("include/lagoon.h")), of_the_tools(read("python/lagoon/causes.py"))
-    texts = of_the_texts(read("include/lagoon.h") + read("examples/lagoon_records.h"), table)
+    texts = of_the_texts(read("include/lagoon.h"), table)
     faults += table.faults("README.md", of_readme(read("README.md")), OF_A_RUN)
     faults += table.faults("docs/ARITHMETIC.md", of_arithmetic(read("docs/ARITHMETIC.md")), every)
-    faults += table.faults("include/lagoon.h", header, OF_A_RUN | (every & set(header)))
+    faults += table.faults("include/lagoon.h", header, every)
     faults += table.faults("python/lagoon/causes.py", tools, (OF_A_RUN - {2}) | (every & set(tools)))
-    faults += table.faults("lagoon_cause_text", texts, set(header))
+    faults += table.faults("lagoon_cause_text", texts, every)
     for fault in faults:
         print(fault)
     print(f"{len(every)} causes, as {SOURCE} has them, in the model, two papers, the header, its texts and the tools")

@@ -49,10 +49,10 @@ other README.md 's/9 inflow and outflow differ, 10 outflow above the volume/9 ou
 other docs/ARITHMETIC.md '/^| 16 | a store/d'
 other docs/ARITHMETIC.md 's/^| 15 | a name 0, above 65,535/| 15 | a name 0, above 4,095/'
 other docs/ARITHMETIC.md 's/^\(| 22 | .*\) | cell |$/\1 | face |/'
-other include/lagoon.h 's/volume outside 1 to 65,535; place: the cell/volume outside 1 to 4,096; place: the cell/'
+other include/lagoon.h 's/a volume outside 1 to 65,535;/a volume outside 1 to 4,096;/'
+other include/lagoon.h '/^    LAGOON_PERIOD = 26/d'
 other python/lagoon/causes.py 's/"a wrong bit in a record"/"a record of the wrong kind"/'
-texts=$(grep -l 'case LAGOON_LENGTH: return' include/lagoon.h examples/lagoon_records.h)
-other "$texts" 's/"record of the wrong length"/"a flux larger than its reach"/'
+other include/lagoon.h 's/"record of the wrong length"/"a flux larger than its reach"/'
 
 python3 tests/edits.py
 mkdir -p "$made/bits/must-fail"

@@ -1,6 +1,7 @@
-/* The stack that an accepted step takes, in bytes: each call on a thread whose stack was filled with a pattern before it. Prints three numbers:
- * for the channel's records; for the longest records of all, wide, of as many cells and faces as the limits allow, every face at the rim, a
- * release for each cell; and for two large cells between which the limiter's product takes more than 64 bits. */
+/* The stack that accepted calls take, in bytes: each on a thread whose stack was filled with a pattern before it. A line for each: the step on
+ * the channel's records; on the longest records of all, wide, of as many cells and faces as the limits allow, every face at the rim, a
+ * release for each cell; and on two large cells between which the limiter's product takes more than 64 bits; then, on the longest records or
+ * the largest tables, the other calls that have arrays of their own. */
 #define _GNU_SOURCE 1
 #include <pthread.h>
 #include <stdio.h>
@@ -9,7 +10,7 @@
 
 #include "lagoon_records.h"
 
-enum { CELLS = LAGOON_MAX_CELLS, FACES = LAGOON_MAX_FACES, SIZE = 1 << 20, PATTERN = 0xa5 };
+enum { CELLS = LAGOON_MAX_CELLS, FACES = LAGOON_MAX_FACES, SIZE = 1 << 22, PATTERN = 0xa5 };
 
 static uint8_t mesh[LAGOON_WIDE_MESH_BYTES(CELLS, FACES)], step[LAGOON_WIDE_OUTFALLS_BYTES(CELLS, FACES, FACES)];
 static uint8_t field[LAGOON_WIDE_FIELD_BYTES(CELLS)], next[LAGOON_WIDE_FIELD_BYTES(CELLS)];
@@ -66,30 +67,90 @@ static void put_large_product(void)
     step_length = lagoon_put_step(step, LAGOON_WIDE, 2, faces, fluxes, outsides);
 }
 
+/* The largest tables, with the same water. */
+enum { MOST_CELLS = LAGOON_TABLE_MAX_CELLS, MOST_FACES = LAGOON_TABLE_MAX_FACES };
+
+static struct {
+    uint64_t volumes[MOST_CELLS], firsts[MOST_FACES], seconds[MOST_FACES], shares[MOST_FACES], reaches[MOST_FACES], masses[MOST_CELLS],
+        outsides[MOST_FACES], releases[MOST_CELLS];
+    int64_t fluxes[MOST_FACES];
+} whole;
+static uint64_t next_masses[MOST_CELLS], work[LAGOON_WORK_ENTRIES(MOST_CELLS, MOST_FACES)];
+static int64_t moved[MOST_FACES];
+static uint64_t nothing[1]; /* lent for numbers that nobody asks for */
+
+#define MESH(t) t.volumes, MOST_CELLS, t.firsts, MOST_FACES, t.seconds, MOST_FACES, t.shares, MOST_FACES, t.reaches, MOST_FACES
+#define WATER(t) t.masses, MOST_CELLS, t.fluxes, MOST_FACES, t.outsides, MOST_FACES
+#define RECORDS mesh, mesh_length, field, field_length, step, step_length
+
+static void fill_tables(void)
+{
+    for (size_t f = 0; f < MOST_FACES; f++) {
+        whole.firsts[f] = f / 2;
+        whole.seconds[f] = LAGOON_RIM;
+        whole.fluxes[f] = f % 2 ? LAGOON_MAX_RIM_FLUX : -LAGOON_MAX_RIM_FLUX;
+        whole.outsides[f] = f % 2 ? 0 : LAGOON_MAX_CONCENTRATION - f;
+    }
+    for (size_t c = 0; c < MOST_CELLS; c++) {
+        whole.volumes[c] = LAGOON_MAX_VOLUME;
+        whole.releases[c] = LAGOON_MAX_VOLUME - 1;
+        whole.masses[c] = (uint64_t)LAGOON_MAX_VOLUME * LAGOON_MAX_CONCENTRATION;
+    }
+}
+
+static uint64_t take_step(void)
+{
+    return lagoon_step(RECORDS, next, field_length);
+}
+
+static uint64_t take_plain_step(void)
+{
+    return lagoon_plain_step(RECORDS, next, field_length);
+}
+
+static uint64_t look_at_crossing(void)
+{
+    return lagoon_crossing(RECORDS, nothing, 0);
+}
+
+static uint64_t take_table_step(void)
+{
+    return lagoon_table_step(MOST_CELLS, MOST_FACES, MESH(whole), WATER(whole), next_masses, MOST_CELLS, moved, MOST_FACES, work,
+                             LAGOON_WORK_ENTRIES(MOST_CELLS, MOST_FACES), whole.releases, MOST_CELLS, nothing, 0);
+}
+
+static uint64_t judge_tables(void)
+{
+    return lagoon_table_judge(MOST_CELLS, MOST_FACES, MESH(whole), WATER(whole), next_masses, MOST_CELLS, moved, MOST_FACES, whole.releases,
+                              MOST_CELLS, nothing, 0);
+}
+
+static uint64_t (*called)(void);
+
 static void *call(void *unused)
 {
     uint8_t here;
     (void)unused;
     below = (size_t)(&here - low);
-    if (lagoon_step(mesh, mesh_length, field, field_length, step, step_length, next, field_length) != 0)
+    if (called() != 0)
         exit(1);
     return NULL;
 }
 
-static int print_taken(void)
+static void print_taken(const char *name, uint64_t (*taken)(void))
 {
     pthread_attr_t attributes;
     pthread_t thread;
     size_t untouched = 0;
 
+    called = taken;
     memset(low, PATTERN, SIZE);
     if (pthread_attr_init(&attributes) != 0 || pthread_attr_setstack(&attributes, low, SIZE) != 0
         || pthread_create(&thread, &attributes, call, NULL) != 0 || pthread_join(thread, NULL) != 0)
-        return 1;
+        exit(1);
     while (low[untouched] == PATTERN)
         untouched++;
-    printf("%zu\n", below - untouched);
-    return 0;
+    printf("%zu %s\n", below - untouched, name);
 }
 
 int main(void)
@@ -97,11 +158,15 @@ int main(void)
     if (posix_memalign((void **)&low, 4096, SIZE) != 0)
         return 1;
     put_channel();
-    if (print_taken() != 0)
-        return 1;
-    put_longest();
-    if (print_taken() != 0)
-        return 1;
+    print_taken("lagoon_step: the channel", take_step);
     put_large_product();
-    return print_taken();
+    print_taken("lagoon_step: a large product", take_step);
+    put_longest();
+    print_taken("lagoon_step: the longest records", take_step);
+    fill_tables();
+    print_taken("lagoon_table_step", take_table_step); /* and what it moves is judged below */
+    print_taken("lagoon_table_judge", judge_tables);
+    print_taken("lagoon_plain_step", take_plain_step);
+    print_taken("lagoon_crossing", look_at_crossing);
+    return 0;
 }

@@ -1,5 +1,5 @@
 #!/usr/bin/env python3
-"""README's "A session of your own": every command is run as it stands, writes under target/, and leaves the tree as it was.
+"""README's "A session of your own" and "From C": every command is run as it stands, writes under target/, and leaves the tree as it was.
 
     python3 tests/test_readme.py
 """
@@ -9,12 +9,12 @@ import subprocess
 
 from toolcase import ROOT, equal, holds, run_all
 
-MAKES = ("make lib", "rt check calls")          # what the tests have made before
+MAKES = ("make lib",)           # what the tests have made before
 
 
-def commands():
-    """The lines of the section's block, without what is said of them."""
-    section = (ROOT / "README.md").read_text().partition("## A session of your own")[2].partition("\n## ")[0]
+def commands(title="A session of your own"):
+    """The lines of a section's block, without what is said of them."""
+    section = (ROOT / "README.md").read_text().partition(f"## {title}")[2].partition("\n## ")[0]
     block = re.search(r"^```\n(.*?)^```", section, re.MULTILINE | re.DOTALL)[1]
     return [line.partition("#")[0].strip() for line in block.splitlines()]
 
@@ -35,6 +35,14 @@ def test_the_commands():
         for path in re.findall(r"(?:-o|--field|--csv) (\S+)", line):
             holds(path.startswith("target/mine/") and (ROOT / path).exists(), f"{line}: {path}")
     equal(tree(), before, "git status after the commands")
+
+
+def test_from_c():
+    (ROOT / "target" / "mine").mkdir(parents=True, exist_ok=True)
+    *_, compiled, host = commands("From C")
+    for line, printed in ((compiled, b""), (host, (ROOT / "tests" / "examples" / "host.out").read_bytes())):
+        done = subprocess.run(["bash", "-c", line], cwd=ROOT, stdin=subprocess.DEVNULL, capture_output=True, check=False)
+        equal((done.returncode, done.stdout, done.stderr), (0, printed, b""), line)
 
 
 if __name__ == "__main__":

@@ -1,0 +1,54 @@
+/* Calls on records besides the step (host.c): the channel's first step tried before it is taken, its plain step beside the corrected one, and
+ * the pages of the field that it leaves. */
+#include <inttypes.h>
+#include <stdio.h>
+
+#include "lagoon_records.h"
+
+enum { CELLS = 3 };
+
+static const uint8_t mesh[] = {0x10, 0x03, 0x00, 0x20, 0x06, 0x40, 0x64, 0x06, 0x40, 0x00, 0xff, 0xf0, 0x00, 0x00, 0x00, 0x00,
+                               0x01, 0x80, 0x06, 0x40, 0x01, 0x00, 0x28, 0x00, 0x64, 0x00, 0x2f, 0xff, 0x00, 0x00, 0x00};
+static const uint8_t field[] = {0x20, 0x03, 0x00, 0x01, 0x86, 0xa0, 0x00, 0x00, 0x00, 0x00, 0x00, 0x00, 0x00, 0x00};
+static const uint8_t step[] = {0x30, 0x02, 0x00, 0x00, 0x81, 0x90, 0x0c, 0x80, 0x64, 0x03, 0x20, 0x03, 0xe8, 0x00, 0x00, 0x00};
+
+static int refused(const char *what, uint64_t answer)
+{
+    if (answer != 0)
+        printf("%s: cause %" PRIu32 " (%s), place %" PRIu32 "\n", what, LAGOON_CAUSE(answer), lagoon_cause_text(LAGOON_CAUSE(answer)),
+               LAGOON_PLACE(answer));
+    return answer != 0;
+}
+
+static void print_masses(const char *what, const uint8_t *record)
+{
+    printf("%s: masses", what);
+    for (size_t cell = 0; cell < CELLS; cell++)
+        printf(" %" PRIu64, lagoon_mass(record, cell));
+    printf("\n");
+}
+
+/* The page for the binder of a field record, and for the public without its first cell. */
+static void print_pages(const uint8_t *record, size_t length)
+{
+    const uint64_t marks[CELLS] = {1, 0, 0};
+    uint8_t page[LAGOON_MOST_PAGE_BYTES];
+    uint64_t bytes = 0;
+    if (!refused("page", lagoon_page(mesh, sizeof mesh, record, length, 0, page, sizeof page, &bytes, 1)))
+        fwrite(page, 1, (size_t)bytes, stdout);
+    if (!refused("public page", lagoon_public_page(mesh, sizeof mesh, record, length, 0, page, sizeof page, marks, CELLS, &bytes, 1)))
+        fwrite(page, 1, (size_t)bytes, stdout);
+}
+
+int main(void)
+{
+    uint8_t next[sizeof field];
+    if (refused("the step", lagoon_check(mesh, sizeof mesh, field, sizeof field, step, sizeof step)))
+        return 1;
+    if (!refused("plain", lagoon_plain_step(mesh, sizeof mesh, field, sizeof field, step, sizeof step, next, sizeof next)))
+        print_masses("plain", next);
+    if (!refused("corrected", lagoon_step(mesh, sizeof mesh, field, sizeof field, step, sizeof step, next, sizeof next)))
+        print_masses("corrected", next);
+    print_pages(next, sizeof next);
+    return 0;
+}
