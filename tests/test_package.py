@@ -17,8 +17,9 @@ from pathlib import Path
 from toolcase import CHANNEL, ROOT, command, equal, folder, holds, run_all
 
 import generate
+import header
 import lagoon as reference
-from package import proved, sessions, sessiontext, values
+from package import proved, sessions, sessiontext, shared, values
 from package.layout import RIM
 from package.values import Field, Mesh, Refused, Step, table
 
@@ -203,6 +204,35 @@ def test_pictures():
         bay.save(f"{made}/again.txt")
         equal(Path(f"{made}/again.txt").read_bytes(), bay.data, "saved")
     raises(ValueError, "", lambda: sessions.Session.of(CHANNEL).run().map())
+
+
+# ---------------------------------------------------------------- The library
+
+def test_as_declared():
+    """What the package asks of the library has the names, the order and the kinds of the header."""
+    declared = {call.name: call.arguments for call in header.declared()}
+    kinds = {**{word: "n" for word in shared.COUNTS}, **{word: "u" for word in shared.SHORT}, **{word: "f" for word in shared.FLOATS},
+             **{word: "b" for word in shared.BYTES}, **{word: "s" for word in shared.SIGNED}}
+    for exported, words, filled, found in (call for call in shared.EXPORTED.values() if call[0] in declared):
+        wanted = [(word, kinds.get(word, "t").upper() if word in filled.split() else kinds.get(word, "t")) for word in words.split()]
+        filled_in = [pair for pair in declared[exported] if pair != ("work", "T")]      # zeros that nobody looks at
+        equal(filled_in, [pair for pair in wanted if pair[0] != "work"] + [("found", "T")] * bool(found), exported)
+
+
+def test_figures_of_the_library():
+    """Steps, claims, pages, boards, shares and charges with the library alone: there is no program to ask."""
+    told = in_process("import lagoon\nfrom lagoon import calls, engine\n"
+                      "def none(*words): raise AssertionError('a program is asked')\ncalls.Calls.__init__ = none\n"
+                      "mesh = lagoon.Mesh([100, 100, 100], [0, 0, 1, 2], [4095, 1, 2, 4095], [0, 128, 128, 0], [0, 100, 100, 0])\n"
+                      "field, flood = lagoon.Field(mesh, [100_000, 0, 0]), lagoon.Step(mesh, [-50, 50, 50, 50], outside={0: 1000})\n"
+                      "after, period = lagoon.step(field, flood), lagoon.Period(mesh)\nperiod.add(after)\n"
+                      "print(lagoon.plain_step(field, flood).masses.tolist(), lagoon.judged(field, flood, after.moved).masses.tolist())\n"
+                      "print(dict(period.totals), len(lagoon.pages(after)[0]))\n"
+                      "print(lagoon.page(after, 0, withheld=[0, 2]), lagoon.board(after)[0], lagoon.board(after, withheld=[0])[0].cell)\n"
+                      "print(lagoon.share((0, -2), (0, 2), (-30, 0), (10, 0)), lagoon.charged(2_500_000, [(1_000_000, 3), (1 << 40, 1)]).cents)\n"
+                      "print(lagoon.library().endswith('liblagoon.so'))\n")
+    equal(told, "[100000, 50000, 0] [100099, 49901, 0]\n{0: 0, 3: 0} 72\nb'   1     499    1\\n' Line(cell=0, q=1000, rest=99) 1\n192 4\nTrue\n",
+          "the library's figures")
 
 
 # ---------------------------------------------------------------- Installed

@@ -17,8 +17,7 @@ this page or another, is above 4,095, the rest has 5 places and the mass 18, and
 its line as q times its volume plus the rest; the masses of all pages add up to the total.
 
 The session is text or packed. The engine steps through it, by the C call of the library (`make lib`). With --field no step is made:
-the pages are those of the field record, on the mesh of the session. Pages and board are printed by the proved calls, by the program
-`calls` (`rt check calls`, or --calls).
+the pages are those of the field record, on the mesh of the session. Pages and board are printed by the proved calls of the library too.
 
 Where a step of the session is refused, or the session is cut, the pages are of the steps that were accepted; that is said on standard
 error, and the exit status is 1.
@@ -141,7 +140,7 @@ def arguments(words):
     parser.add_argument("--public", metavar="MARKS", help="print what the public may read, by this table of marks")
     parser.add_argument("-o", "--output", metavar="FILE", default="-", help="where the pages go (default: standard output)")
     parser.add_argument("--board", metavar="FILE", help="where the board goes, for the same readers, as lines of the run (default: nowhere)")
-    parser.add_argument("--calls", metavar="PROGRAM", help="the program that prints them (default: target/bin/calls, which `rt check calls` makes)")
+    parser.add_argument("--calls", metavar="PROGRAM", help="a program `calls` that prints them instead of the library")
     parser.add_argument("--form-feed", action="store_true", help="a form feed between pages, for a printer; it is no part of S-1's bytes")
     engine.options(parser)
     return parser.parse_args(words)

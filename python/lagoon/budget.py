@@ -15,9 +15,8 @@ here, face by face, as document 01 defines them, and releases cell by cell; the 
 difference, first total + in + released - out - last total, is a check: it is 0, and where it is not the exit status is 1.
 
 --plain sets the first-order answer beside it: plain upwind (document 02, S-8) from the same first field, step by step, with a column of
-its own in the report and columns of its own in --csv. The C call makes corrected steps only, so the plain ones are made by the program
-`calls` (`rt check calls`, or --calls). Its error is a promise: each accepted plain step
-adds less than 1 to how far m / V of a cell is from what the same steps give with no q rounded. --field is of the corrected steps, and so is what --run is held against.
+its own in the report and columns of its own in --csv. Its error is a promise: each accepted plain step adds less than 1 to how far m / V
+of a cell is from what the same steps give with no q rounded. --field is of the corrected steps, and so is what --run is held against.
 
 --field writes the field after the last step as a record, with --at N that after step N. The next month begins with it:
 

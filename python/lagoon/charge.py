@@ -11,8 +11,8 @@ from .session import open_session
 
 HELP = """\
 The session, text or packed, is the period. Every accepted step is made and added through the proved calls (`step` and `add`), and every
-total is charged by the proved call `charge`, all by the program `calls` (`rt check calls`, or --calls). A refused step is not added, and
-named. Mass that comes in over a face is not set against what leaves.
+total is charged by the proved call `charge`, all of the library (`make lib`). A refused step is not added, and named. Mass that comes in
+over a face is not set against what leaves.
 
 All tables are CSV with a heading:
 
@@ -240,7 +240,7 @@ def arguments(words):
     parser.add_argument("-o", "--output", metavar="FILE", help="write the remainders to hand on")
     parser.add_argument("--csv", metavar="FILE", help="write the bill as a table")
     parser.add_argument("--field", metavar="FILE", help="begin with this field record instead of the session's field")
-    parser.add_argument("--calls", metavar="PROGRAM", help="the program that makes the calls (default: target/bin/calls, which `rt check calls` makes)")
+    parser.add_argument("--calls", metavar="PROGRAM", help="a program `calls` to ask instead of the library")
     return parser.parse_args(words)
 
 

@@ -1,5 +1,5 @@
-"""The proved steps, called from Python, and a session stepped through them: the corrected step through the library's shared object, the
-plain one of document 02's S-8 through the program `calls`."""
+"""The proved steps, called from Python, and a session stepped through them: the corrected step and the plain one of document 02's S-8, both
+by the library's shared object."""
 
 import atexit
 import ctypes
@@ -29,7 +29,7 @@ def options(parser):
 def plain_options(parser):
     parser.add_argument("--plain", action="store_true", help="show plain upwind beside the corrected step")
     parser.add_argument("--calls", metavar="PROGRAM",
-                        help="the program that makes the plain steps (default: target/bin/calls, which `rt check calls` makes)")
+                        help="a program `calls` that makes the plain steps instead of the library")
 
 
 def read_by(options):
@@ -88,7 +88,7 @@ class Engine:
 
 
 class Plain:
-    """The plain step on a mesh, by the program `calls`: the C call makes corrected steps only."""
+    """The plain step on a mesh, on tables."""
 
     def __init__(self, mesh, program=None, calls=None):
         self.calls = calls or asker(program)
@@ -142,7 +142,7 @@ class Walk:
 
 
 class Tabled:
-    """A field carried on by steps on tables, through the program `calls`: what moves through each face is known then."""
+    """A field carried on by steps on tables: what moves through each face is known then."""
 
     def __init__(self, session, calls, masses=None):
         self.session, self.mesh, self.tables = session, session.mesh, OnTables(session.mesh, calls)

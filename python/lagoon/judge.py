@@ -23,7 +23,7 @@ A claim is accepted where no size is above 1,099,511,627,776, faces without wate
 (stage 1, on the field with its releases), no next mass is below 0, and every next q is within the bounds of its neighbourhood. The next
 masses are then the field for the next step. A refused claim, and a step that the engine itself would refuse, leave the field as it is;
 so does a step without a claim, unless --engine makes it. Verdict, place, in-mass, out-mass and masses are those of the proved call
-`judge`, by the program `calls` (`rt check calls`, or --calls); the words beside a refusal are worked out here, and have to agree.
+`judge` of the library (`make lib`); the words beside a refusal are worked out here, and have to agree.
 
 -o writes what was refused: step, cause, place, where, rule, found, allowed, by, words. The rule is size, still or rim (cause 21; found
 is the mass claimed), or below 0, below lo or above hi (cause 22; found is the next mass, allowed the least or the most of it); by is how
@@ -223,7 +223,7 @@ def arguments(words):
     parser.add_argument("claims", help="the masses that the other model has moved, CSV (- is standard input)")
     parser.add_argument("-o", "--output", metavar="FILE", help="write what was refused, and by how much (- is standard output; the report is then on standard error)")
     parser.add_argument("--engine", action="store_true", help="make the steps without a claim by the engine's corrected step")
-    parser.add_argument("--calls", metavar="PROGRAM", help="the program that judges (default: target/bin/calls, which `rt check calls` makes)")
+    parser.add_argument("--calls", metavar="PROGRAM", help="a program `calls` that judges instead of the library")
     return parser.parse_args(words)
 
 

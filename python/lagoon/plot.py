@@ -37,8 +37,8 @@ may show a tide falsely: with N near its period all points are of one phase. --c
 The engine is the C call of the library (`make lib`); with --run the run program has to print the same lines, else nothing is drawn.
 
 --plain draws the first-order answer beside it, as thin lines: plain upwind (document 02, S-8) from the same first field, step by step,
-and its budget below. The C call makes corrected steps only, so the plain ones are made by the program `calls` (`rt check calls`, or
---calls). How far m / V of a cell is from what the same steps give with no q rounded grows by less than 1 with each accepted one.
+and its budget below. How far m / V of a cell is from what the same steps give with no q rounded grows by less than 1 with each accepted
+one.
 
 examples:
   lagoon plot tests/sessions/channel.in -o channel.svg
