@@ -30,7 +30,7 @@ import generate_script
 import header
 import script
 import shrink
-from slips import ALL_SLIPS, ANSWER_SLIPS, CALL_SLIPS, RUN_SLIPS, SLIPS
+from slips import ALL_SLIPS, ANSWER_SLIPS, CALL_SLIPS, CUT_SLIPS, RUN_SLIPS, SLIPS
 
 BLOCK = 20              # sessions, and as many calls and scripts, that one process compares at a time
 WAVE = 400              # sessions of one seed in a soak
@@ -94,12 +94,10 @@ FAULTS = ["not a number", "too large", "no such call", "a minus where none may s
 SCRIPT_REACHABLE = [f"{name} {cause}" for name, causes in SCRIPT_CAUSES.items()
                     for cause in ["accepted", *causes.split()]] + FAULTS + [LONG_PRODUCT]
 
-# Slips of calls that the library has not.
-NOT_FROM_C = ("bit",)
-
 # And those that each call of the library can meet.
 LIBRARY_CAUSES = {**{name: SCRIPT_CAUSES[called] for name, (called, _) in from_c.ON_TABLES.items()}, **from_c.RECORD_CAUSES}
 DECLARED = [call.name for call in header.declared()]
+NOT_FROM_C = {"bit", *(() if "lagoon_table_cut" in DECLARED else CUT_SLIPS)}     # slips of calls that the library has not
 LIBRARY_REACHABLE = [f"{name} {cause}" for name in DECLARED if name in LIBRARY_CAUSES for cause in ["accepted", *LIBRARY_CAUSES[name].split()]]
 
 Mismatch = namedtuple("Mismatch", "engine seed number kinds size records", defaults=[False])        # records: of a call on records from C

@@ -7,8 +7,8 @@ set -eu
 cd "$(dirname "$0")/.."
 reference/build.sh
 programs=(--run target/compare/run --script target/compare/calls
-  --call target/compare/call_sanitized --call target/compare/call_guarded)
-python3 reference/compare.py "${programs[@]}" --library target/compare/calls_guarded --sessions 2000 --seed 1
+  --call target/compare/call_sanitized --call target/compare/call_guarded --library target/compare/calls_guarded)
+python3 reference/compare.py "${programs[@]}" --sessions 2000 --seed 1
 python3 reference/compare.py "${programs[@]}" --slips
 
 # sessions, records and steps on tables in two numberings, with faces turned round; and numberings that are wrong in one figure
