@@ -1,11 +1,11 @@
-/* Calls on records besides the step (host.c): the channel's first step tried before it is taken, its plain step beside the corrected one, and
- * the pages of the field that it leaves. */
+/* Calls on records besides the step (host.c): the channel's first step tried before it is taken, its plain step beside the corrected
+ * one, the pages of the field that it leaves, and a claim judged. */
 #include <inttypes.h>
 #include <stdio.h>
 
 #include "lagoon_records.h"
 
-enum { CELLS = 3 };
+enum { CELLS = 3, FACES = 4 };
 
 static const uint8_t mesh[] = {0x10, 0x03, 0x00, 0x20, 0x06, 0x40, 0x64, 0x06, 0x40, 0x00, 0xff, 0xf0, 0x00, 0x00, 0x00, 0x00,
                                0x01, 0x80, 0x06, 0x40, 0x01, 0x00, 0x28, 0x00, 0x64, 0x00, 0x2f, 0xff, 0x00, 0x00, 0x00};
@@ -26,6 +26,17 @@ static void print_masses(const char *what, const uint8_t *record)
     for (size_t cell = 0; cell < CELLS; cell++)
         printf(" %" PRIu64, lagoon_mass(record, cell));
     printf("\n");
+}
+
+static void judge(const char *what, int64_t over_the_sill)
+{
+    const int64_t claim[FACES] = {-50000, over_the_sill, 0, 0};
+    uint64_t crossed[3];
+    uint8_t next[sizeof field];
+    if (refused(what, lagoon_judge(mesh, sizeof mesh, field, sizeof field, step, sizeof step, claim, FACES, next, sizeof next, crossed, 3)))
+        return;
+    print_masses(what, next);
+    printf("  in %" PRIu64 ", out %" PRIu64 ", released %" PRIu64 "\n", crossed[0], crossed[1], crossed[2]);
 }
 
 /* The page for the binder of a field record, and for the public without its first cell. */
@@ -50,5 +61,7 @@ int main(void)
     if (!refused("corrected", lagoon_step(mesh, sizeof mesh, field, sizeof field, step, sizeof step, next, sizeof next)))
         print_masses("corrected", next);
     print_pages(next, sizeof next);
+    judge("a claim between them", 49950);
+    judge("a claim that leaves too much", 49900);
     return 0;
 }

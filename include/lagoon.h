@@ -2,7 +2,7 @@
  *
  *   1  version, answers and causes
  *   2  records: their layout and lengths
- *   3  calls on records       lagoon_step, lagoon_plain_step, lagoon_check, lagoon_crossing
+ *   3  calls on records       lagoon_step, lagoon_plain_step, lagoon_check, lagoon_crossing, lagoon_judge
  *   4  tables: their positions and lengths
  *   5  calls on tables        lagoon_table_step, lagoon_table_plain_step, lagoon_table_judge
  *   6  records and tables     lagoon_read_mesh, .. _field, .. _step, lagoon_write_mesh, .. _field, .. _step
@@ -119,7 +119,7 @@ static inline const char *lagoon_cause_text(uint32_t cause)
 
 /* A thread that makes a call needs this much stack, in bytes; tests/host.sh measures what the largest of them take. The stack is touched
  * page by page downwards, so a thread with less ends in its guard page and writes nothing beyond it. */
-#define LAGOON_STACK_BYTES (512 * 1024)
+#define LAGOON_STACK_BYTES (704 * 1024)
 
 /* Ceilings of the values, and of a volume, a reach and the size of a flux in narrow records (below). */
 #define LAGOON_RIM 4095                   /* in the place of a second cell: the face is at the rim */
@@ -194,6 +194,12 @@ uint64_t lagoon_check(const uint8_t *mesh, size_t mesh_len, const uint8_t *field
  * + released mass - out-mass. Refuses what lagoon_check refuses. */
 uint64_t lagoon_crossing(const uint8_t *mesh, size_t mesh_len, const uint8_t *field, size_t field_len, const uint8_t *step, size_t step_len,
                          uint64_t *found, size_t found_len);
+
+/* Another model's step, by the masses that it claims to have moved through the faces, an entry each. next: the field record that they lead
+ * to. found: in-mass, out-mass and released mass. Refuses by 11, 12 and 13 of the records, by 2, place 9, where the claim is too short, then
+ * as lagoon_step; then by 21 and 22, last by 2, place 11. */
+uint64_t lagoon_judge(const uint8_t *mesh, size_t mesh_len, const uint8_t *field, size_t field_len, const uint8_t *step, size_t step_len,
+                      const int64_t *claim, size_t claim_len, uint8_t *next, size_t next_len, uint64_t *found, size_t found_len);
 
 /* ---------------------------------------------------------------- 4  Tables */
 

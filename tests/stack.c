@@ -113,6 +113,11 @@ static uint64_t look_at_crossing(void)
     return lagoon_crossing(RECORDS, nothing, 0);
 }
 
+static uint64_t judge_records(void)
+{
+    return lagoon_judge(RECORDS, moved, FACES, next, field_length, nothing, 0);
+}
+
 static uint64_t take_table_step(void)
 {
     return lagoon_table_step(MOST_CELLS, MOST_FACES, MESH(whole), WATER(whole), next_masses, MOST_CELLS, moved, MOST_FACES, work,
@@ -168,5 +173,6 @@ int main(void)
     print_taken("lagoon_table_judge", judge_tables);
     print_taken("lagoon_plain_step", take_plain_step);
     print_taken("lagoon_crossing", look_at_crossing);
+    print_taken("lagoon_judge", judge_records);
     return 0;
 }
