@@ -119,7 +119,7 @@ static inline const char *lagoon_cause_text(uint32_t cause)
 
 /* A thread that makes a call needs this much stack, in bytes; tests/host.sh measures what the largest of them take. The stack is touched
  * page by page downwards, so a thread with less ends in its guard page and writes nothing beyond it. */
-#define LAGOON_STACK_BYTES (704 * 1024)
+#define LAGOON_STACK_BYTES (640 * 1024)
 
 /* Ceilings of the values, and of a volume, a reach and the size of a flux in narrow records (below). */
 #define LAGOON_RIM 4095                   /* in the place of a second cell: the face is at the rim */
