@@ -11,10 +11,12 @@ use Rattle.host_answer.proofs.Small.{Small, small-number}
 pub refusal-of : {A : Type 0} {o : Outcome A} {k i : ℕ} → o ≡ refused k i → numberOf o < 2 ^ 64 → refusalNumber k i < 2 ^ 64
 refusal-of e h = rw e at h
 
-pub answered-refused : {A : Type 0} (numbers : A → List ℕ) {o : Outcome A} {k i : ℕ} (found : List ℕ) {r : ℕ} → o ≡ refused k i → r ≡ refusalNumber k i → Answered numbers o found r found
+pub answered-refused : {A : Type 0} (numbers : A → List ℕ) {o : Outcome A} {k i : ℕ} (found : List ℕ) {r : ℕ} → o ≡ refused k i → r ≡ refusalNumber k i
+    → Answered numbers o found r found
 answered-refused numbers found e n = record { number = n ∙ sym (ap numberOf e); found-after = sym (ap (λ o. foundBy numbers o found) e) }
 
-pub answered-found : {A : Type 0} (numbers : A → List ℕ) {o : Outcome A} {x : A} (found : List ℕ) {found′ : List ℕ} → o ≡ accepted x → found′ ≡ filled (numbers x) found
+pub answered-found : {A : Type 0} (numbers : A → List ℕ) {o : Outcome A} {x : A} (found : List ℕ) {found′ : List ℕ} → o ≡ accepted x
+    → found′ ≡ filled (numbers x) found
     → Answered numbers o found 0 found′
 answered-found numbers found e n = record { number = sym (ap numberOf e); found-after = n ∙ sym (ap (λ o. foundBy numbers o found) e) }
 
@@ -23,5 +25,6 @@ pub fits-as : {A : Type 0} {o p : Outcome A} → o ≡ p → Small p → numberO
 fits-as {p = p} e s = rw e (small-number p s)
 
 -- what the call underneath says is what it comes to
-pub answered-as : {A : Type 0} (numbers : A → List ℕ) {o p : Outcome A} (found : List ℕ) {r : ℕ} {found′ : List ℕ} → o ≡ p → Answered numbers o found r found′ → Answered numbers p found r found′
+pub answered-as : {A : Type 0} (numbers : A → List ℕ) {o p : Outcome A} (found : List ℕ) {r : ℕ} {found′ : List ℕ} → o ≡ p
+    → Answered numbers o found r found′ → Answered numbers p found r found′
 answered-as numbers found e a = record { number = a .number ∙ ap numberOf e; found-after = a .found-after ∙ ap (λ o. foundBy numbers o found) e }

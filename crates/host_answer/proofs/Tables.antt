@@ -28,13 +28,21 @@ module _ (M : Mesh) where
 
   pub mesh-tables-small : Small (meshTables M)
   unfolding meshTables
-  mesh-tables-small = small-turn (meshLengths M)
-      (small-need 2 0 _ (omega arith), (small-need 2 1 _ (omega arith), (small-need 2 2 _ (omega arith), (small-need 2 3 _ (omega arith), (small-need 2 4 _ (omega arith), tt)))))
+  mesh-tables-small = small-turn (meshLengths M) (
+    small-need 2 0 _ (omega arith),
+    (
+      small-need 2 1 _ (omega arith),
+      (small-need 2 2 _ (omega arith), (small-need 2 3 _ (omega arith), (small-need 2 4 _ (omega arith), tt))),
+    ),
+  )
 
 module _ (M : Mesh) (few : Few M) where
   pub mesh-values-small : (most : ℕ) → Small (meshValues most M)
   unfolding meshValues
-  mesh-values-small most = small-turn (meshCauses most M) (small-each 3 _ _ (omega arith), (small-each 4 _ _ (omega arith), (small-each 5 _ _ (omega arith), tt)))
+  mesh-values-small most = small-turn (meshCauses most M) (
+    small-each 3 _ _ (omega arith),
+    (small-each 4 _ _ (omega arith), (small-each 5 _ _ (omega arith), tt)),
+  )
 
   module _ (masses : List ℕ) where
     pub field-table-small : Small (fieldTable M masses)
@@ -48,14 +56,29 @@ module _ (M : Mesh) (few : Few M) where
     module _ (k : Call) where
       pub step-tables-small : Small (stepTables M masses k)
       unfolding stepTables
-      step-tables-small = small-turn (stepLengths (M .cells) (M .faces) k)
-          (small-need 2 6 _ (omega arith), (small-need 2 7 _ (omega arith), (small-need 2 8 _ (omega arith), (small-need 2 9 _ (omega arith),
-          (small-need 2 10 _ (omega arith), (small-need 2 14 _ (omega arith), tt))))))
+      step-tables-small = small-turn (stepLengths (M .cells) (M .faces) k) (
+        small-need 2 6 _ (omega arith),
+        (
+          small-need 2 7 _ (omega arith),
+          (
+            small-need 2 8 _ (omega arith),
+            (
+              small-need 2 9 _ (omega arith),
+              (small-need 2 10 _ (omega arith), (small-need 2 14 _ (omega arith), tt)),
+            ),
+          ),
+        ),
+      )
 
       pub claim-tables-small : Small (claimTables M masses k)
       unfolding claimTables
-      claim-tables-small = small-turn (claimLengths (M .cells) (M .faces) k)
-          (small-need 2 6 _ (omega arith), (small-need 2 7 _ (omega arith), (small-need 2 8 _ (omega arith), (small-need 2 9 _ (omega arith), (small-need 2 14 _ (omega arith), tt)))))
+      claim-tables-small = small-turn (claimLengths (M .cells) (M .faces) k) (
+        small-need 2 6 _ (omega arith),
+        (
+          small-need 2 7 _ (omega arith),
+          (small-need 2 8 _ (omega arith), (small-need 2 9 _ (omega arith), (small-need 2 14 _ (omega arith), tt))),
+        ),
+      )
 
       pub raised-values-small : Small (raisedValues M masses k)
       unfolding raisedValues
@@ -75,25 +98,54 @@ module _ (M : Mesh) (masses : List ℕ) where
   -- of a call that is lent a field
   pub mesh-field-small : Small (meshFieldVerdict M masses)
   unfolding meshFieldVerdict
-  mesh-field-small = small-after (counts M ∷ meshTables M ∷ fieldTable M masses ∷ meshValues ceiling M ∷ fieldValues M masses ∷ []) (counts-small M, (λ e.
-      let few = few-of M e in
-      (mesh-tables-small M, (field-table-small M few masses, (mesh-values-small M few ceiling, (field-values-small M few masses, tt))))))
+  mesh-field-small = small-after (counts M ∷ meshTables M ∷ fieldTable M masses ∷ meshValues ceiling M ∷ fieldValues M masses ∷ []) (
+    counts-small M,
+    (λ e.
+        let few = few-of M e in
+        (mesh-tables-small M, (field-table-small M few masses, (mesh-values-small M few ceiling, (field-values-small M few masses, tt))))),
+  )
 
   module _ (k : Call) where
     -- of a step
     pub verdict-small : Small (verdict M masses k)
     unfolding verdict
-    verdict-small = small-after (stepCauses M masses k) (counts-small M, (λ e.
-        let few = few-of M e in
-        (mesh-tables-small M, (field-table-small M few masses, (step-tables-small M few masses k, (mesh-values-small M few ceiling,
-        (field-values-small M few masses, (raised-values-small M few masses k, (step-values-small M few masses k ceiling, tt)))))))))
+    verdict-small = small-after (stepCauses M masses k) (
+      counts-small M,
+      (λ e.
+          let few = few-of M e in (
+            mesh-tables-small M,
+            (
+              field-table-small M few masses,
+              (
+                step-tables-small M few masses k,
+                (
+                  mesh-values-small M few ceiling,
+                  (field-values-small M few masses, (raised-values-small M few masses k, (step-values-small M few masses k ceiling, tt))),
+                ),
+              ),
+            ),
+          )),
+    )
 
     unworked-small : Small (unworkedVerdict M masses k)
     unfolding unworkedVerdict
-    unworked-small = small-after (unworkedCauses M masses k) (counts-small M, (λ e.
-        let few = few-of M e in
-        (mesh-tables-small M, (field-table-small M few masses, (claim-tables-small M few masses k, (mesh-values-small M few ceiling,
-        (field-values-small M few masses, (raised-values-small M few masses k, (step-values-small M few masses k ceiling, tt)))))))))
+    unworked-small = small-after (unworkedCauses M masses k) (
+      counts-small M,
+      (λ e.
+          let few = few-of M e in (
+            mesh-tables-small M,
+            (
+              field-table-small M few masses,
+              (
+                claim-tables-small M few masses k,
+                (
+                  mesh-values-small M few ceiling,
+                  (field-values-small M few masses, (raised-values-small M few masses k, (step-values-small M few masses k ceiling, tt))),
+                ),
+              ),
+            ),
+          )),
+    )
 
     unworked-few : unworkedVerdict M masses k ≡ fine → Few M
     unfolding unworkedVerdict

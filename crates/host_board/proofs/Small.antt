@@ -13,8 +13,24 @@ pub public-small : (volumes masses marks : List ℕ) (cells : ℕ) → Small (pu
 unfolding publicVerdict
 public-small volumes masses marks cells =
     let M = cellsOnly cells volumes in
-    small-after (counts M ∷ meshTables M ∷ fieldTable M masses ∷ marksLong marks cells ∷ meshValues ceiling M ∷ fieldValues M masses ∷ marksGood marks cells ∷ [])
-    (counts-small M, (λ e.
-    let few = few-of M e in
-    (mesh-tables-small M, (field-table-small M few masses, (small-need 2 19 _ (omega arith), (mesh-values-small M few ceiling, (field-values-small M few masses,
-    (small-each 27 cells _ (omega (arith, few .0)), tt))))))))
+    small-after (counts M ∷ meshTables M ∷ fieldTable M masses ∷ marksLong marks cells ∷ meshValues ceiling M ∷ fieldValues M masses
+    ∷ marksGood marks cells ∷ []) (
+      counts-small M,
+      (λ e.
+          let few = few-of M e in (
+            mesh-tables-small M,
+            (
+              field-table-small M few masses,
+              (
+                small-need 2 19 _ (omega arith),
+                (
+                  mesh-values-small M few ceiling,
+                  (
+                    field-values-small M few masses,
+                    (small-each 27 cells _ (omega (arith, few .0)), tt),
+                  ),
+                ),
+              ),
+            ),
+          )),
+    )

@@ -63,7 +63,12 @@ pub fn answered(answer: BoardAnswer, found: &mut [u64]) -> u64
 
 // The growers' board of a field.
 #[no_mangle]
-pub extern "C" fn lagoon_table_board(cells: usize, volumes: &[u64], masses: &[u64], found: &mut [u64]) -> u64
+pub extern "C" fn lagoon_table_board(
+    cells: usize,
+    volumes: &[u64],
+    masses: &[u64],
+    found: &mut [u64],
+) -> u64
     ensures { λ r. ⌜ BoardFromC cells (now (volumes .entry)) (now (masses .entry)) (now (found .entry)) r (now (found .exit)) ⌝ }
 {
     let answer = board::board(cells, volumes, masses);

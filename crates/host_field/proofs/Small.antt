@@ -30,10 +30,29 @@ module _ (further : Verdict) (volumes masses : List ℕ) (cells page room : ℕ)
 
   pub page-small : Small further → page < causeStep → Small (verdictWith further volumes masses cells page room)
   unfolding verdictWith
-  page-small s h = small-after pageCauses (counts-small (cellsOnly cells volumes), (λ e.
-      let few = few-of (cellsOnly cells volumes) e in
-      (mesh-tables-small _, (field-table-small _ few masses, (small-need 2 12 _ (omega arith), (s, (mesh-values-small _ few ceiling, (field-values-small _ few masses,
-      (small-need 14 page _ (omega arith), tt)))))))))
+  page-small s h = small-after pageCauses (
+    counts-small (cellsOnly cells volumes),
+    (λ e.
+        let few = few-of (cellsOnly cells volumes) e in (
+          mesh-tables-small _,
+          (
+            field-table-small _ few masses,
+            (
+              small-need 2 12 _ (omega arith),
+              (
+                s,
+                (
+                  mesh-values-small _ few ceiling,
+                  (
+                    field-values-small _ few masses,
+                    (small-need 14 page _ (omega arith), tt),
+                  ),
+                ),
+              ),
+            ),
+          ),
+        )),
+  )
 
   cells-few : verdictWith further volumes masses cells page room ≡ fine → cells < causeStep
   unfolding verdictWith

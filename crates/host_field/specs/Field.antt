@@ -17,12 +17,16 @@ abbrev pub TotalFromC : (cells : ℕ) (volumes masses found : List ℕ) (r : ℕ
 TotalFromC cells volumes masses = Answered alone (meshFieldVerdict (cellsOnly cells volumes) masses andThen accepted (sum cells (massIn masses)))
 
 pub record PageFromC (volumes masses : List ℕ) (cells page : ℕ) (bytes found : List ℕ) (r : ℕ) (bytes′ found′ : List ℕ) : Type 0 where
-  pub answer : Answered alone (pageVerdict volumes masses cells page (length bytes) andThen accepted (pageBytes (restPlaces cells volumes) cells page)) found r found′
-  pub bytes-after : bytes′ ≡ taken (pageVerdict volumes masses cells page (length bytes)) (over (pageText volumes masses (restPlaces cells volumes) cells page) bytes) bytes
+  pub answer : Answered alone (pageVerdict volumes masses cells page (length bytes) andThen accepted (pageBytes (restPlaces cells volumes) cells page))
+      found r found′
+  pub bytes-after : bytes′ ≡ taken (pageVerdict volumes masses cells page (length bytes))
+      (over (pageText volumes masses (restPlaces cells volumes) cells page) bytes) bytes
 
 pub record PublicPageFromC (volumes masses marks : List ℕ) (cells page : ℕ) (bytes found : List ℕ) (r : ℕ) (bytes′ found′ : List ℕ) : Type 0 where
   pub answer : Answered alone
-      (publicVerdict volumes masses marks cells page (length bytes) andThen accepted (length (publicText volumes masses marks (restPlaces cells volumes) cells page)))
+      (publicVerdict volumes masses marks cells page (length bytes) andThen accepted
+      (length (publicText volumes masses marks (restPlaces cells volumes) cells page)))
       found r found′
   pub bytes-after : bytes′
-      ≡ taken (publicVerdict volumes masses marks cells page (length bytes)) (over (publicText volumes masses marks (restPlaces cells volumes) cells page) bytes) bytes
+      ≡ taken (publicVerdict volumes masses marks cells page (length bytes))
+      (over (publicText volumes masses marks (restPlaces cells volumes) cells page) bytes) bytes

@@ -40,7 +40,12 @@ pub fn page_answered(answer: PageAnswer, found: &mut [u64]) -> u64
 
 // The sum of a field's masses.
 #[no_mangle]
-pub extern "C" fn lagoon_table_total(cells: usize, volumes: &[u64], masses: &[u64], found: &mut [u64]) -> u64
+pub extern "C" fn lagoon_table_total(
+    cells: usize,
+    volumes: &[u64],
+    masses: &[u64],
+    found: &mut [u64],
+) -> u64
     ensures { λ r. ⌜ TotalFromC cells (now (volumes .entry)) (now (masses .entry)) (now (found .entry)) r (now (found .exit)) ⌝ }
 {
     let answer = checks::total(cells, volumes, masses);
@@ -57,7 +62,8 @@ pub extern "C" fn lagoon_table_page(
     bytes: &mut [u8],
     found: &mut [u64],
 ) -> u64
-    ensures { λ r. ⌜ PageFromC (now (volumes .entry)) (now (masses .entry)) cells page (now (bytes .entry)) (now (found .entry)) r (now (bytes .exit)) (now (found .exit)) ⌝ }
+    ensures { λ r. ⌜ PageFromC (now (volumes .entry)) (now (masses .entry)) cells page (now (bytes .entry)) (now (found .entry)) r (now (bytes .exit))
+        (now (found .exit)) ⌝ }
 {
     let answer = page::page(cells, volumes, masses, page as u64, bytes);
     page_answered(answer, found)

@@ -24,20 +24,31 @@ use Rattle.host_answer.proofs.Tables.{Few, few-of, counts-small, mesh-tables-sm
 pub add-small : (seconds : List ℕ) (moved : List ℤ) (totals : List ℕ) (faces : ℕ) → Small (addVerdict seconds moved totals faces)
 unfolding addVerdict
 add-small seconds moved totals faces = small-after
-    (lentCauses faces (length seconds) (length moved) (length totals) ++ (each 26 faces (gainGood seconds moved totals) ∷ []))
-    (small-need 1 1 _ (omega arith), (λ e.
-    let few : faces ≤ maxFaces = leb-true _ _ (need-fine 1 1 _ e) in
-    (small-need 2 2 _ (omega arith), (small-need 2 9 _ (omega arith), (small-need 2 16 _ (omega arith), (small-each 26 _ _ (omega (arith, few)), tt))))))
+    (lentCauses faces (length seconds) (length moved) (length totals) ++ (each 26 faces (gainGood seconds moved totals) ∷ [])) (
+      small-need 1 1 _ (omega arith),
+      (λ e.
+          let few : faces ≤ maxFaces = leb-true _ _ (need-fine 1 1 _ e) in
+          (small-need 2 2 _ (omega arith), (small-need 2 9 _ (omega arith), (small-need 2 16 _ (omega arith), (small-each 26 _ _ (omega (arith, few)), tt))))),
+    )
 
 pub charge-small : (ends prices : List ℕ) (total bands remainder : ℕ)
     → Small (chargeVerdict ends prices total bands remainder andThen accepted (billOf ends prices total bands remainder))
 unfolding chargeVerdict
 charge-small ends prices total bands remainder = small-giving _ (small-after
-    (billCauses bands (length ends) (length prices) remainder ++ (each 25 bands (bandGood ends prices bands) ∷ need 26 0 (leb total lastEnd) ∷ []))
-    (small-need 25 0 _ (omega arith), (λ e.
-    let few : bands ≤ maxBands = leb-true _ _ (both-true (leb 1 bands) (leb bands maxBands) (need-fine 25 0 _ e) .1) in
-    (small-need 2 17 _ (omega arith), (small-need 2 18 _ (omega arith), (small-need 25 0 _ (omega arith),
-    (small-each 25 _ _ (omega (arith, few)), (small-need 26 0 _ (omega arith), tt))))))))
+    (billCauses bands (length ends) (length prices) remainder ++ (each 25 bands (bandGood ends prices bands) ∷ need 26 0 (leb total lastEnd) ∷ [])) (
+      small-need 25 0 _ (omega arith),
+      (λ e.
+          let few : bands ≤ maxBands = leb-true _ _ (both-true (leb 1 bands) (leb bands maxBands) (need-fine 25 0 _ e) .1) in (
+            small-need 2 17 _ (omega arith),
+            (
+              small-need 2 18 _ (omega arith),
+              (
+                small-need 25 0 _ (omega arith),
+                (small-each 25 _ _ (omega (arith, few)), (small-need 26 0 _ (omega arith), tt)),
+              ),
+            ),
+          )),
+    ))
 
 module _ (cells : ℕ) (store : List ℕ) (name : ℕ) (short : name < causeStep) where
   store-small : Small (storeTable cells store)
@@ -67,9 +78,12 @@ module _ (cells : ℕ) (store : List ℕ) (name : ℕ) (short : name < causeStep
   module _ (volumes masses : List ℕ) where
     opened-small : Small (openedVerdict cells volumes masses store)
     unfolding openedVerdict
-    opened-small = small-after (openedCauses cells volumes masses store) (counts-small _, (λ e.
-        let few = few-of (lentMesh cells volumes masses store) e in
-        (mesh-tables-small _, (field-table-small _ few masses, (store-small, (mesh-values-small _ few ceiling, tt))))))
+    opened-small = small-after (openedCauses cells volumes masses store) (
+      counts-small _,
+      (λ e.
+          let few = few-of (lentMesh cells volumes masses store) e in
+          (mesh-tables-small _, (field-table-small _ few masses, (store-small, (mesh-values-small _ few ceiling, tt))))),
+    )
 
     opened-few : openedVerdict cells volumes masses store ≡ fine → Few (lentMesh cells volumes masses store)
     unfolding openedVerdict
@@ -77,10 +91,16 @@ module _ (cells : ℕ) (store : List ℕ) (name : ℕ) (short : name < causeStep
 
     pub keep-small : Small (keepVerdict cells volumes masses store name)
     unfolding keepVerdict
-    keep-small = small-after (keepCauses cells volumes masses store name) (opened-small, (λ e.
-        (field-values-small _ (opened-few e) masses, (count-small, (new-small, (room-small, tt))))))
+    keep-small = small-after (keepCauses cells volumes masses store name) (
+      opened-small,
+      (λ e.
+          (field-values-small _ (opened-few e) masses, (count-small, (new-small, (room-small, tt))))),
+    )
 
     pub return-small : Small (returnVerdict cells volumes masses store name)
     unfolding returnVerdict
-    return-small = small-after (returnCauses cells volumes masses store name) (opened-small, (λ e.
-        (count-small, (kept-small, (field-values-small _ (opened-few e) (heldUnder name (fieldsIn cells store)), tt)))))
+    return-small = small-after (returnCauses cells volumes masses store name) (
+      opened-small,
+      (λ e.
+          (count-small, (kept-small, (field-values-small _ (opened-few e) (heldUnder name (fieldsIn cells store)), tt)))),
+    )

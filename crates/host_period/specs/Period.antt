@@ -19,4 +19,5 @@ abbrev pub billed : Bill → List ℕ
 billed b = b .cents ∷ b .remainder ∷ []
 
 abbrev pub ChargeFromC : (ends prices : List ℕ) (total bands remainder : ℕ) (found : List ℕ) (r : ℕ) (found′ : List ℕ) → Type 0
-ChargeFromC ends prices total bands remainder = Answered billed (chargeVerdict ends prices total bands remainder andThen accepted (billOf ends prices total bands remainder))
+ChargeFromC ends prices total bands remainder = Answered billed (chargeVerdict ends prices total bands remainder andThen accepted
+    (billOf ends prices total bands remainder))

@@ -12,7 +12,12 @@ ghost use Rattle.host_period.specs.Kept.{KeepFromC, DropFromC, ReturnFro
 
 // Document 02's S-13: what a step moved outward over the rim, added to the totals of a period.
 #[no_mangle]
-pub extern "C" fn lagoon_add(faces: usize, seconds: &[u64], moved: &[i64], totals: &mut [u64]) -> u64
+pub extern "C" fn lagoon_add(
+    faces: usize,
+    seconds: &[u64],
+    moved: &[i64],
+    totals: &mut [u64],
+) -> u64
     ensures { λ r. ⌜ AddFromC (now (seconds .entry)) (now (moved .entry)) (now (totals .entry)) faces r (now (totals .exit)) ⌝ }
 {
     let answer = totals::add(faces, seconds, moved, totals);

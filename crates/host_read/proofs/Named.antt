@@ -14,7 +14,8 @@ pub step-named : {w v : Width} → w ≡ v → {cells faces : ℕ} {seconds bs :
     {fluxes′ : List ℤ} {outsides′ releases′ found : List ℕ} {r : ℕ} {found′ : List ℕ}
     → StepReading w (stepFinds w cells faces seconds bs fluxes outsides releases) cells faces seconds bs fluxes outsides releases a fluxes′ outsides′ releases′
     → Answered alone (stepSaid w a) found r found′
-    → StepFromC (stepFinds v cells faces seconds bs fluxes outsides releases) cells faces seconds bs fluxes outsides releases found r fluxes′ outsides′ releases′ found′
+    → StepFromC (stepFinds v cells faces seconds bs fluxes outsides releases) cells faces seconds bs fluxes outsides releases
+    found r fluxes′ outsides′ releases′ found′
 step-named e h a = rw (← e) (record {
   answer = answered-as alone _ (h .answer) a;
   fluxes-read = h .fluxes-read;

@@ -65,7 +65,8 @@ module _ (bs : List ℕ) where
         mesh-bytes (eqb-true _ _ (need-fine 11 0 _ (both-fine _ _ (both-fine _ _ (both-fine _ _ (both-fine _ _ (both-fine _ _ e .0) .0) .0) .0) .0))),
       )))
 
-  pub mesh-read-small : (mostCells mostFaces volumes firsts seconds shares reaches : ℕ) → Small (meshRead mostCells mostFaces bs volumes firsts seconds shares reaches)
+  pub mesh-read-small : (mostCells mostFaces volumes firsts seconds shares reaches : ℕ)
+      → Small (meshRead mostCells mostFaces bs volumes firsts seconds shares reaches)
   unfolding meshRead
   mesh-read-small mostCells mostFaces volumes firsts seconds shares reaches =
       small-giving _ (small-and (mesh-head-small mostCells mostFaces) (mesh-body-small volumes firsts seconds shares reaches))
@@ -74,7 +75,8 @@ module _ (bs : List ℕ) where
   pub field-read-small : (w : Width) (cells masses : ℕ) → Small (fieldRead w cells bs masses)
   unfolding fieldRead fieldHeadVerdict fieldBodyVerdict
   field-read-small w cells masses = small-and
-      (small-and (small-and (small-and (small-need 11 0 _ (omega arith)) (small-need 13 0 _ (omega arith))) (small-need 13 1 _ (omega arith))) (small-need 1 0 _ (omega arith)))
+      (small-and (small-and (small-and (small-need 11 0 _ (omega arith)) (small-need 13 0 _ (omega arith))) (small-need 13 1 _ (omega arith)))
+      (small-need 1 0 _ (omega arith)))
       (small-and (small-need 11 0 _ (omega arith)) (small-need 2 5 _ (omega arith)))
 
   -- a step: its counts have been tested before its length
@@ -93,7 +95,8 @@ module _ (bs : List ℕ) where
     step-head-small : Small (stepHeadVerdict w cells faces seconds bs)
     unfolding stepHeadVerdict
     step-head-small = small-and
-        (small-and (small-and (small-and (small-need 11 0 _ (omega arith)) (small-need 13 0 _ (omega arith))) (small-need 13 1 _ (omega arith))) (counts-within-small _ _ _ _))
+        (small-and (small-and (small-and (small-need 11 0 _ (omega arith)) (small-need 13 0 _ (omega arith))) (small-need 13 1 _ (omega arith)))
+        (counts-within-small _ _ _ _))
         (small-need 2 2 _ (omega arith))
 
     step-few : stepHeadVerdict w cells faces seconds bs ≡ fine → (cells ≤ maxCells) × (faces ≤ maxFaces)
@@ -102,10 +105,12 @@ module _ (bs : List ℕ) where
         let p = both-fine _ _ (both-fine _ _ (both-fine _ _ e .0) .1) in
         (leb-true _ _ (both-true (leb 1 cells) (leb cells maxCells) (need-fine 1 0 _ (p .0)) .1), leb-true _ _ (need-fine 1 1 _ (p .1)))
 
-    step-body-small : cells ≤ maxCells → faces ≤ maxFaces → (fluxes outsides releases : ℕ) → Small (stepBodyVerdict cells faces seconds bs fluxes outsides releases)
+    step-body-small : cells ≤ maxCells → faces ≤ maxFaces → (fluxes outsides releases : ℕ)
+        → Small (stepBodyVerdict cells faces seconds bs fluxes outsides releases)
     unfolding stepBodyVerdict
     step-body-small few l fluxes outsides releases = small-then _ _
-        (small-and (small-and (small-and (small-need 11 0 _ (omega arith)) (small-need 2 6 _ (omega arith))) (small-need 2 7 _ (omega arith))) (small-need 2 14 _ (omega arith)))
+        (small-and (small-and (small-and (small-need 11 0 _ (omega arith)) (small-need 2 6 _ (omega arith))) (small-need 2 7 _ (omega arith)))
+        (small-need 2 14 _ (omega arith)))
         (λ e. small-each 12 (8 * length bs) _ (omega (
           arith,
           step-bytes few l (eqb-true _ _ (need-fine 11 0 _ (both-fine _ _ (both-fine _ _ (both-fine _ _ e .0) .0) .0))),

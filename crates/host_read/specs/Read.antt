@@ -30,7 +30,8 @@ countsFound n = n .cells ∷ n .faces ∷ widthNumber (n .width) ∷ []
 
 -- what the reading of a mesh comes to within the limits of document 01, whatever tables it is lent
 abbrev pub meshFinds : (bs volumes firsts seconds shares reaches : List ℕ) → Outcome MeshCounts
-meshFinds bs volumes firsts seconds shares reaches = meshRead maxCells maxFaces bs (length volumes) (length firsts) (length seconds) (length shares) (length reaches)
+meshFinds bs volumes firsts seconds shares reaches = meshRead maxCells maxFaces bs (length volumes) (length firsts) (length seconds) (length shares)
+    (length reaches)
 
 pub record MeshFromC (o : Outcome MeshCounts) (bs volumes firsts seconds shares reaches found : List ℕ) (r : ℕ)
     (volumes′ firsts′ seconds′ shares′ reaches′ found′ : List ℕ) : Type 0 where

@@ -86,7 +86,12 @@ pub extern "C" fn lagoon_read_mesh(
 
 // The record of a field on so many cells, read into lent masses.
 #[no_mangle]
-pub extern "C" fn lagoon_read_field(width: u64, cells: usize, bytes: &[u8], masses: &mut [u64]) -> u64
+pub extern "C" fn lagoon_read_field(
+    width: u64,
+    cells: usize,
+    bytes: &[u8],
+    masses: &mut [u64],
+) -> u64
     ensures { λ r. ⌜ FieldFromC (widthNamed width) cells (now (bytes .entry)) (now (masses .entry)) r (now (masses .exit)) ⌝ }
 {
     let answer = reading::read_field(width_named(width), cells, bytes, masses);
@@ -121,7 +126,8 @@ pub extern "C" fn lagoon_read_step(
     found: &mut [u64],
 ) -> u64
     ensures { λ r. ⌜ StepFromC
-        (stepFinds (widthNamed width) cells faces (now (seconds .entry)) (now (bytes .entry)) (now (fluxes .entry)) (now (outsides .entry)) (now (releases .entry)))
+        (stepFinds (widthNamed width) cells faces (now (seconds .entry)) (now (bytes .entry)) (now (fluxes .entry)) (now (outsides .entry))
+        (now (releases .entry)))
         cells faces (now (seconds .entry)) (now (bytes .entry)) (now (fluxes .entry)) (now (outsides .entry)) (now (releases .entry)) (now (found .entry))
         r (now (fluxes .exit)) (now (outsides .exit)) (now (releases .exit)) (now (found .exit)) ⌝ }
 {

@@ -12,7 +12,8 @@ use Rattle.host_answer.specs.Found.{Answered}
 abbrev pub crossed : Crossing → List ℕ
 crossed x = x .entered ∷ x .gone ∷ x .released ∷ []
 
-pub record StepFromC (s : Scheme) (M : Mesh) (masses : List ℕ) (k : Call) (found : List ℕ) (r : ℕ) (next : List ℕ) (moved : List ℤ) (work found′ : List ℕ) : Type 0 where
+pub record StepFromC (s : Scheme) (M : Mesh) (masses : List ℕ) (k : Call) (found : List ℕ) (r : ℕ) (next : List ℕ) (moved : List ℤ)
+    (work found′ : List ℕ) : Type 0 where
   pub answer : Answered crossed (stepAnswer s M k masses) found r found′
   pub next-masses : next ≡ nextTable s M k masses
   pub moved-masses : moved ≡ movedTable s M k masses

@@ -23,9 +23,11 @@ module _ {a : WriteAnswer} {bytes bytes′ found : List ℕ} {r : ℕ} {found′
     pub mesh-named : MeshWriting w M bytes a bytes′ → Answered alone (writeSaid a) found r found′ → MeshFromC v M bytes found r bytes′ found′
     mesh-named h x = rw (← e) (wrote h x)
 
-    pub field-named : (masses : List ℕ) → FieldWriting w M masses bytes a bytes′ → Answered alone (writeSaid a) found r found′ → FieldFromC v M masses bytes found r bytes′ found′
+    pub field-named : (masses : List ℕ) → FieldWriting w M masses bytes a bytes′ → Answered alone (writeSaid a) found r found′
+        → FieldFromC v M masses bytes found r bytes′ found′
     field-named masses h x = rw (← e) (wrote h x)
 
-    pub step-named : {k j : StepKind} → k ≡ j → (fluxes : List ℤ) (outsides releases : List ℕ) → StepWriting w M (kindNumber w k) fluxes outsides releases bytes a bytes′
+    pub step-named : {k j : StepKind} → k ≡ j → (fluxes : List ℤ) (outsides releases : List ℕ)
+        → StepWriting w M (kindNumber w k) fluxes outsides releases bytes a bytes′
         → Answered alone (writeSaid a) found r found′ → StepFromC v M (kindNumber v j) fluxes outsides releases bytes found r bytes′ found′
     step-named d fluxes outsides releases h x = rw (← e, ← d) (wrote h x)

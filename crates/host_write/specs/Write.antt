@@ -31,7 +31,8 @@ module _ (w : Width) (M : Mesh) where
   MeshFromC bytes = WriteFromC (meshWriteVerdict w M (length bytes)) (meshLength (meshKind w) (M .cells) (M .faces)) (meshRecord (meshKind w) M) bytes
 
   abbrev pub FieldFromC : (masses bytes found : List ℕ) (r : ℕ) (bytes′ found′ : List ℕ) → Type 0
-  FieldFromC masses bytes = WriteFromC (fieldWriteVerdict w M masses (length bytes)) (fieldLength (fieldKind w) (M .cells)) (fieldRecord (fieldKind w) (M .cells) masses) bytes
+  FieldFromC masses bytes = WriteFromC (fieldWriteVerdict w M masses (length bytes)) (fieldLength (fieldKind w) (M .cells))
+      (fieldRecord (fieldKind w) (M .cells) masses) bytes
 
   abbrev pub StepFromC : (kind : ℕ) (fluxes : List ℤ) (outsides releases bytes found : List ℕ) (r : ℕ) (bytes′ found′ : List ℕ) → Type 0
   StepFromC kind fluxes outsides releases bytes = WriteFromC (stepWriteVerdict w M kind fluxes outsides releases (length bytes))

@@ -137,7 +137,8 @@ pub extern "C" fn lagoon_write_step(
 ) -> u64
     ensures { λ r. ⌜ StepFromC (widthOf kind)
         (meshOf cells faces (now (volumes .entry)) (now (firsts .entry)) (now (seconds .entry)) (now (shares .entry)) (now (reaches .entry)))
-        (kindNumber (widthOf kind) (kindNamed kind)) (now (fluxes .entry)) (now (outsides .entry)) (now (releases .entry)) (now (bytes .entry)) (now (found .entry))
+        (kindNumber (widthOf kind) (kindNamed kind)) (now (fluxes .entry)) (now (outsides .entry)) (now (releases .entry)) (now (bytes .entry))
+        (now (found .entry))
         r (now (bytes .exit)) (now (found .exit)) ⌝ }
 {
     let answer = writing::write_step(

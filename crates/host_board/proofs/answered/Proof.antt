@@ -16,12 +16,14 @@ number-of-requires c κs =
 returns : tie.Need-returns
 returns c =
     let a = c .before .before .before .before .before .args .answer in
-    answered-refused shownNumbers _ (board-refused (a .verdict) (record { used = a .used; entries = a .entries }) (ap said (c .before .before .verdict .given .1))) (c .number-of .ensures)
+    answered-refused shownNumbers _ (board-refused (a .verdict) (record { used = a .used; entries = a .entries })
+    (ap said (c .before .before .verdict .given .1))) (c .number-of .ensures)
 
 returns-2 : tie.Need-returns-2
 returns-2 c =
     let a = c .before .before .before .before .before .before .before .before .args .answer in
-    answered-found shownNumbers _ (board-shown (a .verdict) (record { used = a .used; entries = a .entries }) (ap said (c .before .before .before .before .before .enum-told .given .1))) (c .before .before .fill-board .ensures)
+    answered-found shownNumbers _ (board-shown (a .verdict) (record { used = a .used; entries = a .entries })
+    (ap said (c .before .before .before .before .before .enum-told .given .1))) (c .before .before .fill-board .ensures)
 
 pub answered-spec : {M : Type 1} → statement M
 answered-spec = tie.close (tie.spec (search needs) number-of-requires returns (search needs) (search needs) (search needs) returns-2)

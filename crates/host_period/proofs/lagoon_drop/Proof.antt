@@ -8,7 +8,8 @@ use Rattle.host_period.proofs.lagoon_drop.Statement.{statement}
 use Rattle.host_period.proofs.lagoon_drop.Tie as tie
 
 answer-number-requires : tie.Need-answer-number-requires
-answer-number-requires c κs = let s = c .before .before .before .before .before in fits-as (c .before .before .drop .ensures .answer) (drop-small _ _ _ (omega (arith, s .fits .name .fits)))
+answer-number-requires c κs = let s = c .before .before .before .before .before in fits-as (c .before .before .drop .ensures .answer)
+    (drop-small _ _ _ (omega (arith, s .fits .name .fits)))
 
 returns : tie.Need-returns
 returns c =

@@ -10,7 +10,8 @@ number-of-requires : tie.Need-number-of-requires
 number-of-requires c κs = refusal-of (ap meshSaid (c .before .answer2 .given .1)) (c .before .before .before .before .pre)
 
 returns : tie.Need-returns
-returns c = answered-found countsFound _ (ap meshSaid (c .before .before .before .before .before .before .answer .given .1)) (rw (c .before .before .before .width-number .ensures) at (c .before .before .fill3 .ensures))
+returns c = answered-found countsFound _ (ap meshSaid (c .before .before .before .before .before .before .answer .given .1))
+    (rw (c .before .before .before .width-number .ensures) at (c .before .before .fill3 .ensures))
 
 returns-2 : tie.Need-returns-2
 returns-2 c = answered-refused countsFound _ (ap meshSaid (c .before .before .answer2 .given .1)) (c .number-of .ensures)

@@ -7,13 +7,17 @@ use Rattle.host_read.proofs.step_answered.Statement.{statement}
 use Rattle.host_read.proofs.step_answered.Tie as tie
 
 number-of-requires : tie.Need-number-of-requires
-number-of-requires c κs = refusal-of (ap (stepSaid (c .before .before .before .before .args .width)) (c .before .answer2 .given .1)) (c .before .before .before .before .pre)
+number-of-requires c κs = refusal-of (ap (stepSaid (c .before .before .before .before .args .width)) (c .before .answer2 .given .1))
+    (c .before .before .before .before .pre)
 
 returns : tie.Need-returns
-returns c = answered-found alone _ (ap (stepSaid (c .before .before .before .before .before .before .before .before .before .args .width)) (c .before .before .before .before .before .before .answer .given .1)) (rw (c .before .before .before .kind-number .ensures) at (c .before .before .fill1 .ensures))
+returns c = answered-found alone _ (ap (stepSaid (c .before .before .before .before .before .before .before .before .before .args .width))
+    (c .before .before .before .before .before .before .answer .given .1)) (rw (c .before .before .before .kind-number .ensures) at
+    (c .before .before .fill1 .ensures))
 
 returns-2 : tie.Need-returns-2
-returns-2 c = answered-refused alone _ (ap (stepSaid (c .before .before .before .before .before .args .width)) (c .before .before .answer2 .given .1)) (c .number-of .ensures)
+returns-2 c = answered-refused alone _ (ap (stepSaid (c .before .before .before .before .before .args .width)) (c .before .before .answer2 .given .1))
+    (c .number-of .ensures)
 
 pub step-answered-spec : {M : Type 1} → statement M
 step-answered-spec =

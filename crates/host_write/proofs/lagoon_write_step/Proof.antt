@@ -12,7 +12,8 @@ answered-requires c κs = fits-as (c .before .before .before .write-step .ensure
 returns : tie.Need-returns
 returns c =
     let d = c .before .before .before .before .before .before in
-    step-named (d .before .before .before .width-of .ensures) _ (d .before .before .kind-named .ensures) _ _ _ (d .write-step .ensures) (c .before .before .answered .ensures)
+    step-named (d .before .before .before .width-of .ensures) _ (d .before .before .kind-named .ensures) _ _ _ (d .write-step .ensures)
+    (c .before .before .answered .ensures)
 
 pub lagoon-write-step-spec : {M : Type 1} → statement M
 lagoon-write-step-spec = tie.close (tie.spec (search needs) (search needs) (search needs) answered-requires (search needs) (search needs) returns)
