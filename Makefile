@@ -15,7 +15,7 @@ export TMPDIR := $(shell tools/scratch.sh)
 help:
 	@echo 'make run        the channel session of document 01: six lines (the first time it proves what it builds, some minutes)'
 	@echo 'make test       the gate: tests, proofs, must-fail edits, programs; its last line is "N passed, M failed"'
-	@echo 'make quick      the tests without the comparison and the proofs, some two minutes once the programs are proved'
+	@echo 'make quick      the tests without comparisons and proofs: under a minute once the programs are proved'
 	@echo 'make lib        the C library: target/lib/liblagoon.a and liblagoon.so; the header is include/lagoon.h'
 	@echo 'make install    headers, library, the command lagoon, manual pages, examples and papers to PREFIX=$(PREFIX) (DESTDIR= before it)'
 	@echo 'make uninstall  takes them away again'
@@ -29,25 +29,27 @@ help:
 # the channel session of document 01; what is being proved is told on standard error
 run:
 	@mkdir -p target
-	@[ -e target/bin/run ] || echo 'proving the run program, some minutes the first time; target/run.log tells all' >&2
-	@bash -c 'set -o pipefail; rt check run 2>&1 | tee target/run.log | sed -un "/unchanged/d; s/^rt: \(.* proved .*\)/\1/p" >&2' \
-	    || { tail -n 40 target/run.log >&2; exit 1; }
+	@made=; [ -e target/bin/run ] || { made='target/bin/run is made: it reads a session from standard input'; \
+	    echo 'proving the run program, some minutes the first time; target/run.log tells all' >&2; }; \
+	    tools/prove.sh run target/run.log rt check run && { [ -z "$$made" ] || echo "$$made" >&2; }
 	@target/bin/run < tests/sessions/channel.in
 
 # the gate: tests, proofs, must-fail edits, programs
 test:
 	.ci/run
 
-# the tests without the long comparison; what they run is proved where it is not yet
+# for every day; what it runs is proved where it is not yet
 quick:
-	@for t in $(filter-out tests/compare.sh,$(sort $(wildcard tests/*.sh))); do echo "== $$t"; bash "$$t" || exit 1; done
+	@tools/quick.sh
 
 lib:
+	@[ -e target/lib/liblagoon.a ] || echo 'proving the library, some minutes the first time; target/lib/log tells all' >&2
 	@tools/lib.sh
+	@echo "target/lib/liblagoon.a, $$(stat -c %s target/lib/liblagoon.a) bytes, and target/lib/liblagoon.so; include/lagoon.h tells what is in them"
 
 install: lib
-	@[ -e target/bin/run ] || rt check run > target/run.log 2>&1 || { tail -n 40 target/run.log >&2; exit 1; }
-	@[ -e target/bin/calls ] || rt check calls > target/calls.log 2>&1 || { tail -n 40 target/calls.log >&2; exit 1; }
+	@[ -e target/bin/run ] || tools/prove.sh run target/run.log rt check run
+	@[ -e target/bin/calls ] || tools/prove.sh calls target/calls.log rt check calls
 	install -d $(TO)/include $(TO)/lib/pkgconfig $(TO)/bin $(MANUAL)/man1 $(MANUAL)/man3 $(PAPERS)/examples $(MODULES)/built
 	install -m 644 include/lagoon.h examples/lagoon_records.h $(TO)/include/
 	install -m 644 target/lib/liblagoon.a $(TO)/lib/
@@ -64,8 +66,8 @@ install: lib
 	install -m 644 examples/* $(PAPERS)/examples/
 	install -m 644 docs/man/*.1 $(MANUAL)/man1/
 	install -m 644 docs/man/*.3 $(MANUAL)/man3/
-	printf 'prefix=%s\nName: lagoon\nDescription: salt transport on a lagoon mesh, in whole numbers\nVersion: %s\nCflags: -I$${prefix}/include\nLibs: -L$${prefix}/lib -llagoon\n' \
-	    '$(PREFIX)' '$(VERSION)' > $(TO)/lib/pkgconfig/lagoon.pc
+	printf '%s\n' 'prefix=$(PREFIX)' 'Name: lagoon' 'Description: salt transport on a lagoon mesh, in whole numbers' 'Version: $(VERSION)' \
+	    'Cflags: -I$${prefix}/include' 'Libs: -L$${prefix}/lib -llagoon' > $(TO)/lib/pkgconfig/lagoon.pc
 	@[ -n '$(DESTDIR)' ] || echo 'ldconfig, once and as root, lets programs find $(SONAME) in $(PREFIX)/lib'
 
 uninstall:

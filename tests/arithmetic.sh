@@ -4,35 +4,10 @@ set -eu
 cd "$(dirname "$0")/.."
 page=docs/ARITHMETIC.md
 python3 tools/worked.py --check "$page"
+python3 tests/test_worked.py
 
 made=$(mktemp -d)
 trap 'rm -r "$made"' EXIT
-found() { # SED-EXPRESSION: the page changed by it has to be refused
-  sed "$1" "$page" > "$made/page.md"
-  if cmp -s "$page" "$made/page.md"; then echo "$1 changes nothing"; exit 1; fi
-  if python3 tools/worked.py --check "$made/page.md" > "$made/said" 2>&1; then echo "$1 is not found"; exit 1; fi
-}
-found 's/= 81188/= 81189/'
-found 's/−6262, 12800 left over/−6263, 12800 left over/'
-found 's/s and K are 0/s and K are 77/'
-found '/worked: step-2/d'
-found 's/285 · 367 \/ 400 = 261/285 · 367 \/ 400 = 262/'
-found 's/99 > 91: 0/99 > 91: 211/'
-found 's/0 + 20000 = 20000/0 + 20000 = 20001/'
-found 's/50000 + 20300 − 50 = 170250/50000 − 50 = 149950/'
-found 's/0\.40625/0.40624/'
-found 's/1\/3, 4\/3/1\/3, 5\/3/'
-found 's/1001  −50050/1000  −50050/'
-found 's/16505206062 = 6991255705/16505206062 = 6991255706/'
-found 's/ 94169707219      5/ 94169707219      6/'
-found 's/per cell m (40)/per cell m (32)/'
-found 's/49900 = 100100/49900 = 100099/'
-found 's/is handed on/is lost/'
-found 's/B 2 187 13$/B 1 811 88/'
-found 's/^drop of 7     1 8/drop of 7     1 7/'
-found 's/the share is 150/the share is 151/'
-found 's/       49901       −49901/       49901        49901/'
-found 's/above 65,535 or kept already/above 65,536 or kept already/'
 
 # the pages to print: the form has a page of its own, links to headings lead to them, and the list of links is left out
 html() { # PAGE: as HTML

@@ -1,6 +1,7 @@
 #!/usr/bin/env bash
 # Every file, name and quoted line that README.md, the pages of docs/ and the landing notes cite is there and every link leads somewhere, the
-# crates stand under the same headings everywhere, laws are cited where it is said, the causes are told alike, and every must-fail edit is one that rt reads whole; and the tests do find what is wrong.
+# crates stand under the same headings everywhere, laws are cited where it is said, the causes are told alike, and every must-fail edit
+# is one that rt reads whole; and the tests do find what is wrong.
 set -eu
 cd "$(dirname "$0")/.."
 python3 tests/cites.py README.md docs/*.md docs/landings/*.md

@@ -34,7 +34,8 @@ def main(crates="crates.txt", readme="README.md", design="docs/DESIGN.md"):
     listed = grouped(open(crates, encoding="utf-8").read().split("\n")[1:], r"# (.*)", rf"({NAMES}):")
     shown = {readme: grouped(part(readme, "crates/", "include/"), r"  # (.*)", rf"  ({NAMES})(?:  | [^ ]|$)"),
              design: grouped(part(design, "## How the crates", "Three rules"), r"### (.*)", rf"\| ({NAMES}) \|")}
-    wrong = [f"{path}: its headings are not those of {crates}" for path, found in shown.items() if [words for words, _ in found] != [words for words, _ in listed]]
+    wrong = [f"{path}: its headings are not those of {crates}" for path, found in shown.items()
+             if [words for words, _ in found] != [words for words, _ in listed]]
     for path, found in shown.items():
         for (words, names), (_, there) in zip(listed, found):
             wrong += [f"{path}, {words}: {name} is {'not there' if name in names else 'there'}, unlike in {crates}" for name in sorted(names ^ there)]

@@ -121,7 +121,8 @@ def test_beside_the_reference():
             rows, after = files.rows("bill.csv"), files.rows("after.csv")
         for face, row in zip(rim, rows, strict=True):
             cents, part = lagoon.charge(totals[face], bands, ends, prices, before.get(face, 0))
-            equal([int(row[word]) for word in ("face", "total", "before", "cents", "remainder")], [face, totals[face], before.get(face, 0), cents, part], f"session {number}")
+            equal([int(row[word]) for word in ("face", "total", "before", "cents", "remainder")], [face, totals[face], before.get(face, 0), cents, part],
+                  f"session {number}")
             equal(sum(int(row[f"band {band} mass"]) for band in range(bands)), totals[face], f"session {number}, face {face}, masses of the bands")
             equal([int(row["remainder"]) for row in after if int(row["face"]) == face], [part], f"session {number}, face {face}, handed on")
             left += part
@@ -189,14 +190,16 @@ def test_bad_tables():
                 (good.replace("250000000,", "100000000,"), sea, "tariff.csv:3: a band that ends at 100,000,000 and begins at 100,000,000 (cause 25)"),
                 (good.replace(str(LAST), str(LAST - 1)), sea, "tariff.csv:4: the last band ends at 1,099,511,627,775, not at 1,099,511,627,776 (cause 25)"),
                 (good.replace(",42", ",1000001"), sea, "tariff.csv:3: a price of 1,000,001, above 1,000,000 (cause 25)"),
-                (good.replace(",42", ",-1"), sea, "tariff.csv:3: price should be a whole number from 0"), (good.replace("price", "cost"), sea, "one column 'price'"),
+                (good.replace(",42", ",-1"), sea, "tariff.csv:3: price should be a whole number from 0"),
+                (good.replace("price", "cost"), sea, "one column 'price'"),
                 (good, "port,face\nP,ocean\n", "ports.csv:2: 'ocean' is no face of the mesh (0 to 8) nor the name of one"),
                 (good, "port,face\nP,1\n", "ports.csv:2: face 1 is not at the rim"), (good, sea + "Q,sea\n", "ports.csv:3: face 0 (sea) has a port already"),
                 (good, "port,face\n,sea\n", "ports.csv:2: port should be a name, not ''")):
             status, out, said = files.charge(TIDE, tariff, ports)
             holds((status, out) == (1, "") and words in said and said.count("\n") == 1, f"{tariff} {ports}: '{words}' should be in '{said}'")
         for before, words in (("face,remainder\n0,1000000\n", "a remainder of 1,000,000, and it is below 1,000,000 (cause 25)"),
-                              ("face,remainder\n0,0.5\n", "before.csv:2: remainder should be a whole number"), ("face,remainder\n0,1\nsea,1\n", "before.csv:3: a second remainder of face 0 (sea)"),
+                              ("face,remainder\n0,0.5\n", "before.csv:2: remainder should be a whole number"),
+                              ("face,remainder\n0,1\nsea,1\n", "before.csv:3: a second remainder of face 0 (sea)"),
                               ("face,name,remainder\n0,river,1\n", "before.csv:2: face 0 is called 'river' here and 'sea' in the session")):
             status, out, said = files.charge(TIDE, good, sea, "--remainders", files.path("before.csv", before))
             holds((status, out) == (1, "") and words in said and said.count("\n") == 1, f"{before}: '{words}' should be in '{said}'")
@@ -210,8 +213,10 @@ def test_an_engine_that_differs():
         for answers, words in (((step.format(5, 0),), "in, out and released are (50000, 5, 0) by the engine, (50000, 0, 0) by faces and cells"),
                                ((step.format(5, 5), "add: accepted; totals 0 0 0 4"), "the totals of all faces are 4, the out-masses of the accepted steps 5"),
                                ((step.format(5, 5), "add: accepted; totals 0 1 0 4"), "the totals of all faces are 5, the out-masses of the accepted steps 5"),
-                               ((step.format(5, 5), "add: accepted; totals 0 0 0 5", "charge: accepted 4 0"), "cents and remainder are (4, 0) by the engine, (5, 0) by the bands"),
-                               ((step.format(5, 5), "add: accepted; totals 0 0 0 5", "charge: refused 26 0"), "the engine refuses the charge by cause 26, place 0")):
+                               ((step.format(5, 5), "add: accepted; totals 0 0 0 5", "charge: accepted 4 0"),
+                                "cents and remainder are (4, 0) by the engine, (5, 0) by the bands"),
+                               ((step.format(5, 5), "add: accepted; totals 0 0 0 5", "charge: refused 26 0"),
+                                "the engine refuses the charge by cause 26, place 0")):
             program = files.path("calls", "#!/bin/sh\n" + "".join(f"read script\necho '{answer}'\n" for answer in answers))
             (ROOT / program).chmod(0o700)
             status, out, said = files.charge(CHANNEL.replace("times 2", "times 1"), FLAT, "port,face\nP,3\n", "--calls", program)

@@ -157,12 +157,14 @@ def test_releases():
 
 def test_times():
     """The time of a row is kept in the text, where the first part of its steps begins; a unit comes from the heading."""
-    for head, rows, words in (("time", ["2026-06-01 00:00", "2026-06-01 01:00"], ["2026-06-01 00:00", "2026-06-01 01:00"]), ("Time h", ["0", "1"], ["0 h", "1 h"]),
+    for head, rows, words in (("time", ["2026-06-01 00:00", "2026-06-01 01:00"], ["2026-06-01 00:00", "2026-06-01 01:00"]),
+                              ("Time h", ["0", "1"], ["0 h", "1 h"]),
                               ("date", ["mon", ""], ["mon", ""]), ("step", ["0", "1"], ["", ""])):
         text, _ = made("--split", "2", table=f"{head},0,1,2,3\n" + "".join(f"{row},-1,1,1,1\n" for row in rows))
         times = session_of(text).labels.times
         equal([times.get(step, "") for step in (1, 2, 3, 4)], [words[0], "", words[1], ""], f"times of {head}")
-        equal([step.fluxes[1] for step in steps_of(text)], [step.fluxes[1] for step in steps_of(made("--packed", "--split", "2", table="0,1,2,3\n-1,1,1,1\n-1,1,1,1\n")[0])], head)
+        equal([step.fluxes[1] for step in steps_of(text)],
+              [step.fluxes[1] for step in steps_of(made("--packed", "--split", "2", table="0,1,2,3\n-1,1,1,1\n-1,1,1,1\n")[0])], head)
     for bad in ("time,0\n#,1\n", "time,0\n\x1b,1\n"):
         holds("should be a time" in made(table=bad, wanted=1)[1], bad)
     holds("two columns" in made(table="time,date,0\n1,1,1\n", wanted=1)[1], "two times")
@@ -269,7 +271,8 @@ def test_a_gyre_with_a_river():
 
 
 def test_bad_tables():
-    for table, words in (("", "the first line should be a heading"), ("0,1,2,3\n", "no row under the heading"), ("0,1,2\n1,2\n", "<stdin>:2: 2 columns where the heading has 3"),
+    for table, words in (("", "the first line should be a heading"), ("0,1,2,3\n", "no row under the heading"),
+                         ("0,1,2\n1,2\n", "<stdin>:2: 2 columns where the heading has 3"),
                          ("0,1,9\n1,1,1\n", "<stdin>:1: '9' is no face of the mesh (0 to 3)"), ("0,face 0\n1,1\n", "face 0 has two columns"),
                          ("0,ocean\n1,1\n", "'ocean' is no face"), ("0,outside 1\n1,1\n", "face 1 is not at the rim"),
                          ("0,1\n1,x\n", "<stdin>:2: column 2 should be a number, not 'x'"), ("0,1\n1,nan\n", "should be a number, not 'nan'"),

@@ -4,19 +4,14 @@
     python3 tests/test_fuzz.py
 """
 
-import io
 import os
 import random
-import signal
-import sys
-import traceback
 
-from toolcase import CHANNEL, ROOT, command, equal, folder, holds, refuses, run_all
+from toolcase import CHANNEL, ROOT, command, equal, folder, forked, holds, refuses, run_all
 
 from package import cli, layout, sessiontext
 
-SEED, DAMAGED, SECONDS = 38, 7, 60
-OWN_FAULT = 99                  # the status of a traceback
+SEED, DAMAGED = 38, 7
 STEPS = CHANNEL.replace("step times 2", "step") + CHANNEL[CHANNEL.index("step times 2"):].replace("step times 2", "step")
 PLACES = "".join(f"at cell {cell} {cell}.5 0.5\n" for cell in range(3))
 PACKED = sessiontext.pack(STEPS)[0]
@@ -57,39 +52,6 @@ def damaged(rnd, data):
         else:
             found[at:at] = rnd.choice((b"\n", b"-", b";", b",", b"\xff", b"\0", b"9" * 30, b"\xc3\xa4", b"nan", b'"'))
     return bytes(found)
-
-
-def child(words, out, said):
-    """The command in a process of its own, with its output and words in these files."""
-    os.dup2(os.open(os.devnull, os.O_RDONLY), 0)
-    os.dup2(out, 1)
-    os.dup2(said, 2)
-    sys.stdin, sys.stdout, sys.stderr = (io.TextIOWrapper(io.BufferedReader(io.FileIO(0))), *(io.TextIOWrapper(io.BufferedWriter(io.FileIO(number, "w"))) for number in (1, 2)))
-    sys.argv = ["lagoon", *words]
-    signal.alarm(SECONDS)
-    try:
-        status = cli.main()
-    except BaseException:
-        traceback.print_exc()
-        status = OWN_FAULT
-    sys.stderr.flush()
-    os._exit(status or 0)
-
-
-def tried(words, place):
-    """Status, output and words of a command."""
-    paths = [os.path.join(place, name) for name in ("stdout", "stderr")]
-    files = [os.open(path, os.O_RDWR | os.O_CREAT | os.O_TRUNC) for path in paths]
-    process = os.fork()
-    if process == 0:
-        child(words, *files)
-    _, ended = os.waitpid(process, 0)
-    found = []
-    for file in files:
-        os.lseek(file, 0, 0)
-        found.append(os.read(file, 1 << 20))
-        os.close(file)
-    return os.waitstatus_to_exitcode(ended), *found
 
 
 class Folder:
@@ -136,13 +98,13 @@ def test_every_command():
         for name, forms in COMMANDS.items():
             for form in forms:
                 words = at.words(name, form, None, None)
-                status, out, said = tried(words, place)
+                status, out, said = forked(words)
                 equal(status, 0, f"lagoon {name} {form} as it should be: {out[-300:]} {said}")
                 for bad in list(at.inputs):
                     cases = [(what, data, True) for what, data in FOREIGN.items()]
                     cases += [(f"damage {number}", damaged(rnd, INPUTS[bad]), False) for number in range(DAMAGED)]
                     for what, data, foreign in cases:
-                        found = tried(at.words(name, form, bad, data), place)
+                        found = forked(at.words(name, form, bad, data))
                         at.judge(name, form, f"{what} for {bad}", foreign, found)
                         tries, refused = tries + 1, refused + bool(found[0])
     holds(tries > 300 and refused > tries // 2, f"{refused} of {tries} refused")
@@ -157,7 +119,7 @@ def test_nothing_is_written_over():
                 words = at.words(name, form, None, None)
                 for word, content in at.inputs.items():
                     over = [os.path.join(place, word) if other == os.path.join(place, "OUT") else other for other in words]
-                    status, out, said = tried(over, place)
+                    status, out, said = forked(over)
                     holds(status == 1 and b"is read: it cannot be written too\n" in said, f"{over}: {status} {said}")
                     equal(at.read(word), content, f"{over}")
     with folder() as place:
@@ -167,12 +129,14 @@ def test_nothing_is_written_over():
             with open(ROOT / "target" / ("lib" if option == "--library" else "bin") / program, "rb") as original, open(copies[option], "wb") as copy:
                 copy.write(original.read())
             os.chmod(copies[option], 0o700)
-        for name, options in (("plot", ("--run", "--calls", "--library")), ("budget", ("--run", "--calls", "--library")), ("binder", ("--run", "--calls", "--library")),
-                              ("export", ("--run", "--library")), ("map", ("--run", "--library")), ("judge", ("--calls",)), ("charge", ("--calls",)), ("cut", ("--calls",))):
+        for name, options in (("plot", ("--run", "--calls", "--library")), ("budget", ("--run", "--calls", "--library")),
+                              ("binder", ("--run", "--calls", "--library")),
+                              ("export", ("--run", "--library")), ("map", ("--run", "--library")), ("judge", ("--calls",)), ("charge", ("--calls",)),
+                              ("cut", ("--calls",))):
             for option in options:
                 words = Folder(place).words(name, COMMANDS[name][0], None, None)
                 over = [copies[option] if word == os.path.join(place, "OUT") else word for word in words] + [option, copies[option]]
-                status, out, said = tried(over, place)
+                status, out, said = forked(over)
                 holds(status == 1 and b"is read" in said, f"{over}: {status} {said}")
     channel = ROOT / "examples" / "channel.txt"
     refuses("cannot hold two outputs", "plot", channel, "-o", "target/one", "--csv", "target/../target/one")

@@ -203,10 +203,14 @@ def test_bad_tables():
     for table, words in (("", "the heading should have one column 'step'"), ("step,0\n", "there is no row under the heading"),
                          ("step,ocean\n1,5\n", "claims.csv:1: 'ocean' is no face of the mesh (0 to 3) nor the name of one"),
                          ("step,0,face 0\n1,5,5\n", "claims.csv:1: two columns of face 0"), ("step,0\n1,5\n1,5\n", "claims.csv:3: step 1 after step 1"),
-                         ("step,0\n2,5\n1,5\n", "claims.csv:3: step 1 after step 2"), ("step,face,moved\n1,0,5\n1,face 0,5\n", "claims.csv:3: a second mass of face 0 in step 1"),
-                         ("step,face,moved\n1,,5\n", "claims.csv:2: '' is no face"), ("step,face,moved\n1,0,\n", "claims.csv:2: moved should be a whole number"),
-                         ("step,0\n0,5\n", "claims.csv:2: step should be a whole number from 1"), ("step,0\n1,0.5\n", "claims.csv:2: 0 should be a whole number"),
-                         ("step,0\n1,1e400\n", "not '1e400'"), ("step,0\n1,1_0\n", "not '1_0'"), ("step,0\n1,9223372036854775808\n", "not '9223372036854775808'"),
+                         ("step,0\n2,5\n1,5\n", "claims.csv:3: step 1 after step 2"),
+                         ("step,face,moved\n1,0,5\n1,face 0,5\n", "claims.csv:3: a second mass of face 0 in step 1"),
+                         ("step,face,moved\n1,,5\n", "claims.csv:2: '' is no face"),
+                         ("step,face,moved\n1,0,\n", "claims.csv:2: moved should be a whole number"),
+                         ("step,0\n0,5\n", "claims.csv:2: step should be a whole number from 1"),
+                         ("step,0\n1,0.5\n", "claims.csv:2: 0 should be a whole number"),
+                         ("step,0\n1,1e400\n", "not '1e400'"), ("step,0\n1,1_0\n", "not '1_0'"),
+                         ("step,0\n1,9223372036854775808\n", "not '9223372036854775808'"),
                          ("step,0\n3,5\n", "claims.csv: a claim for step 3, and the session has 2 steps")):
         status, out, said = judged(CHANNEL, table)
         holds((status, out) == (1, "") and words in said and said.count("\n") == 1, f"{table!r}: '{words}' should be in '{said}'")
@@ -227,7 +231,8 @@ def test_the_command():
     refuses("the mesh is refused: cell 0: volume 0", "judge", "-", CLAIMS, data=CHANNEL.replace("volume 100", "volume 0", 1).encode())
     with folder() as made:
         program = f"{made}/calls"
-        for said, words in (("refused 21 2", "finds face 0: -51,000 moves where"), ("accepted 50000 0 1; next 1 2 3", "in, out and released are (50000, 0, 1)")):
+        for said, words in (("refused 21 2", "finds face 0: -51,000 moves where"),
+                            ("accepted 50000 0 1; next 1 2 3", "in, out and released are (50000, 0, 1)")):
             with open(program, "w") as file:
                 file.write("#!/bin/sh\nread script\necho 'judge: accepted 50000 0 0; next 100000 50000 0'\nread script\n"
                            f"echo 'judge: accepted 50000 0 0; next 100099 81151 18750'\nread script\necho 'judge: {said}'\n")

@@ -4,9 +4,14 @@
     python3 tests/test_map.py
 """
 
+import ast
 import csv
 import io
 import json
+import re
+import shutil
+import subprocess
+import sys
 import xml.etree.ElementTree as xml
 
 from toolcase import CHANNEL, ROOT, RUN, breaks, command, equal, folder, holds, interrupted, known, refuses, run_all, session_of
@@ -83,7 +88,8 @@ def test_the_channel():
     for group, values in zip(groups, ([1000, 0, 0], [1000, 499, 0], [1000, 811, 187])):
         cells = [shape for shape in group if shape.get("class") == "cell"]
         equal([shape.tag for shape in cells], [f"{SVG}polygon", f"{SVG}polygon", f"{SVG}circle"], "outlines and discs")
-        equal([shape.find(f"{SVG}title").text for shape in cells], [f"{name}: q {q:,}" for name, q in zip(("cell 0 (Inlet)", "cell 1", "cell 2"), values)], "titles")
+        equal([shape.find(f"{SVG}title").text for shape in cells], [f"{name}: q {q:,}" for name, q in zip(("cell 0 (Inlet)", "cell 1", "cell 2"), values)],
+              "titles")
         equal([shape.get("fill") for shape in cells], [maps.shade(q / 1000) for q in values], "colours, up to 1,000 kg/m³")
         holds("Inlet" in [text.text for text in group.iter(f"{SVG}text")], "names")
     texts = [text.text for text in picture.iter(f"{SVG}text")]
@@ -98,8 +104,61 @@ def test_the_channel():
     lines = [feature for feature in shapes["features"] if "face" in feature["properties"]]
     equal(lines[0], {"type": "Feature", "geometry": {"type": "LineString", "coordinates": [[0, 0], [0, 1]]},
                      "properties": {"face": 0, "name": "the sea", "from": 0, "to": "rim"}}, "a face")
-    equal((vtk["data"], sorted(vtk["shapes"][1])), ({"cell": [2, 0, 1], "volume": [100] * 3, "q_0": [0, 1000, 0], "q_1": [0, 1000, 499], "q_2": [187, 1000, 811]},
+    equal((vtk["data"], sorted(vtk["shapes"][1])),
+          ({"cell": [2, 0, 1], "volume": [100] * 3, "q_0": [0, 1000, 0], "q_1": [0, 1000, 499], "q_2": [187, 1000, 811]},
           [(0, 0, 0), (0, 1, 0), (1, 0, 0), (1, 1, 0)]), "VTK")
+
+
+VTK_READS = """import sys, vtk
+reader = vtk.vtkPolyDataReader()
+reader.SetFileName(sys.argv[1])
+reader.ReadAllScalarsOn()
+reader.Update()
+data = reader.GetOutput().GetCellData()
+columns = [data.GetArray(place) for place in range(data.GetNumberOfArrays())]
+print({column.GetName(): [int(column.GetTuple1(row)) for row in range(column.GetNumberOfTuples())] for column in columns})"""
+
+
+def test_stock_readers():
+    """GeoJSON by GDAL's ogrinfo and VTK by its own library read what was written, where they are installed."""
+    with folder() as made:
+        equal(command("map", "--steps", "0,1,last", "--geojson", f"{made}/g.geojson", "--vtk", f"{made}/v.vtk", data=DRAWN.encode())[0], 0, "files")
+        with open(f"{made}/v.vtk") as file:
+            own = vtk_of(file.read())["data"]
+        readers = [["ogrinfo", "-al", "-q", f"{made}/g.geojson"],
+                   *([python, "-c", VTK_READS, f"{made}/v.vtk"] for python in (sys.executable, "/usr/bin/python3"))]
+        found = [subprocess.run(reader, capture_output=True, check=False) for reader in readers if shutil.which(reader[0])]
+    opened = [done.stdout.decode() for done in found if done.returncode == 0 and done.stdout]
+    for told in opened:
+        if told.startswith("{"):
+            equal(ast.literal_eval(told), own, "cells by VTK's library")
+        else:
+            equal([re.findall(r"(?:q_2 \(Integer\) = )(\d+)", told), len(re.findall("POLYGON", told)), len(re.findall("POINT", told))],
+                  [["1000", "811", "187"], 2, 1], "cells by GDAL")
+    for done in found:
+        holds(done.returncode == 0 or b"No module named 'vtk'" in done.stderr, f"{done.args[0]}: {done.stderr.decode()}")
+    if not opened:
+        print("neither GDAL nor VTK is here: the files are read by Python's json and by the reader of this test alone")
+
+
+def test_grid():
+    """The survey's grid stands in GeoJSON where it is named, and only then."""
+    _, shapes, _ = drawn("--crs", "EPSG:25832")
+    equal(shapes.pop("crs"), {"type": "name", "properties": {"name": "urn:ogc:def:crs:EPSG::25832"}}, "the grid")
+    equal(shapes, drawn()[1], "and nothing else is other")
+    for wrong in ("25832", "EPSG:x", "EPSG:123456789", 'EPSG:1"'):
+        refuses("a grid like EPSG:25832", "map", "--crs", wrong, data=DRAWN.encode(), status=2)
+
+
+def test_names():
+    """On two lines where one has no room; of cells that lie close, numbers."""
+    for places, words in ((DRAWN, ["Inlet", "1", "2"]),
+                          (DRAWN.replace("name cell 0 Inlet", "name cell 0 Inlet of the western harbour"), ["Inlet of the", "western harbour", "1", "2"]),
+                          (DRAWN.replace("at cell 1 1.5 0.5", "at cell 1 0.52 0.5"), ["0", "1", "2"])):
+        status, out, said = command("map", "--steps", "0", data=places.encode())
+        equal((status, said), (0, ""), words)
+        texts = [text.text for text in xml.fromstring(out).iter(f"{SVG}text") if text.get("paint-order")]
+        equal(texts, words, "names")
 
 
 def test_the_bay():
@@ -150,11 +209,15 @@ def test_bad_use():
     refuses("--steps: there is no step 3, the last is 2", "map", "--steps", "3", data=DRAWN.encode())
     refuses("'x' is neither a step nor 'last'", "map", "--steps", "x", data=DRAWN.encode())
     refuses("at most 12 steps", "map", "--steps", ",".join(["0"] * 13), data=DRAWN.encode())
-    equal(drawn(data=DRAWN.replace("at cell 1 1.5 0.5", "at cell 1 0.5 0.5").replace("at cell 2 2.5 0.5", "at cell 2 0.5 0.5").encode())[1]["type"], "FeatureCollection",
+    equal(drawn(data=DRAWN.replace("at cell 1 1.5 0.5", "at cell 1 0.5 0.5").replace("at cell 2 2.5 0.5", "at cell 2 0.5 0.5").encode())[1]["type"],
+          "FeatureCollection",
           "all centres in one place")
-    for bad, words in (("at cell 0 1", "the line ends where a coordinate should stand"), ("at cell 0 1 x", "a coordinate should be a number"), ("at cell 9 1 1", "the mesh has no cell 9"),
-                       ("at face 0 1 1 1", "the line ends"), ("at pond 0 1 1", "'cell' or 'face' should stand here"), ("at cell 0 1 1 1", "nothing more should stand"),
-                       ("at cell 0 1e10 1", "up to 1,000,000,000"), ("at cell 0 nan 1", "a coordinate should be a number"), ("at cell 0 1 " + "9" * 400, "a coordinate")):
+    for bad, words in (("at cell 0 1", "the line ends where a coordinate should stand"), ("at cell 0 1 x", "a coordinate should be a number"),
+                       ("at cell 9 1 1", "the mesh has no cell 9"),
+                       ("at face 0 1 1 1", "the line ends"), ("at pond 0 1 1", "'cell' or 'face' should stand here"),
+                       ("at cell 0 1 1 1", "nothing more should stand"),
+                       ("at cell 0 1e10 1", "up to 1,000,000,000"), ("at cell 0 nan 1", "a coordinate should be a number"),
+                       ("at cell 0 1 " + "9" * 400, "a coordinate")):
         refuses(words, "pack", data=(bad + "\n" + CHANNEL).encode())
     refuses("places stand before the steps", "pack", data=(CHANNEL + "at cell 0 1 1\n").encode())
     refuses("the time of a step stands before its faces", "pack", data=(CHANNEL + "time 3\n").encode())

@@ -56,16 +56,24 @@ def test_examples():
     holds(len(found) == 3 and all(failed == "0" and int(some) > 10 for failed, some in found), tried)
 
 
-def test_page():
-    """docs/PYTHON.md, block by block, with the names of the blocks before."""
-    Path(ROOT, "target").mkdir(exist_ok=True)
-    out = in_process(f"import doctest, re\ntext = open({str(PAGE)!r}).read()\nnames, failed, tried = {{}}, 0, 0\n"
+def test_pages():
+    """docs/PYTHON.md and README's lines of Python print what stands below them."""
+    Path(ROOT, "target", "mine").mkdir(parents=True, exist_ok=True)
+    for page, least in ((PAGE, 40), (ROOT / "README.md", 5)):
+        failed, tried = worked(page)
+        holds(failed == 0 and tried > least, f"{page}: {failed} of {tried} fail")
+
+
+def worked(page):
+    """How many examples of a page fail, and how many there are: block by block, with the names of the blocks before."""
+    out = in_process(f"import doctest, re\ntext = open({str(page)!r}).read()\nnames, failed, tried = {{}}, 0, 0\n"
                      "for block in re.findall(r'(?<=```python\\n).*?(?=```)', text, re.S):\n"
                      "    test = doctest.DocTestParser().get_doctest(block, names, 'PYTHON.md', 'PYTHON.md', 0)\n"
                      "    runner = doctest.DocTestRunner()\n    result = runner.run(test, clear_globs=False)\n"
                      "    names = test.globs\n    failed, tried = failed + result.failed, tried + result.attempted\nprint(failed, tried)")
     failed, tried = map(int, out.split()[-2:])
-    holds(failed == 0 and tried > 40, out)
+    holds(failed == 0, out)
+    return failed, tried
 
 
 def test_every_name_is_told():
@@ -84,7 +92,8 @@ def test_tables():
         taken = table(lent)
         lent[0] = 7
         equal(taken.tolist(), [7, 6], f"{lent!r} is not copied")
-    for lent in ([5, 6], (5, 6), (ctypes.c_uint64 * 2)(5, 6), range(5, 7), array("H", [5, 6]), memoryview(array("Q", [5, 0, 6]))[::2], (x for x in (5, 6)), {5: 1, 6: 2}.keys(), bytes([5, 6])):
+    for lent in ([5, 6], (5, 6), (ctypes.c_uint64 * 2)(5, 6), range(5, 7), array("H", [5, 6]), memoryview(array("Q", [5, 0, 6]))[::2], (x for x in (5, 6)),
+                 {5: 1, 6: 2}.keys(), bytes([5, 6])):
         equal(table(lent).tolist(), [5, 6], repr(lent))
     equal(table(array("q", [-5]), "q").tolist(), [-5], "signed")
     raises(ValueError, "64 bits", lambda: table(array("q", [-5])))
@@ -248,7 +257,8 @@ def test_the_wheel():
         done = subprocess.run([sys.executable, "-c", tried], cwd=made, env={**os.environ, "PYTHONPATH": f"{made}/site"}, capture_output=True, text=True)
         equal(done.stdout, f"{(ROOT / 'VERSION').read_text().strip()} [100099, 81188, 18713]\n", done.stderr)
         if importlib.util.find_spec("pip"):
-            done = subprocess.run([sys.executable, "-m", "pip", "install", "--quiet", "--no-index", "--target", f"{made}/pip", str(ROOT)], capture_output=True, text=True)
+            done = subprocess.run([sys.executable, "-m", "pip", "install", "--quiet", "--no-index", "--target", f"{made}/pip", str(ROOT)], capture_output=True,
+                                  text=True)
             equal(done.returncode, 0, done.stderr)
             done = subprocess.run([f"{made}/pip/bin/lagoon", "run", str(ROOT / "examples" / "tide.txt")], cwd=made,
                                   env={**os.environ, "PYTHONPATH": f"{made}/pip"}, capture_output=True, text=True)

@@ -79,7 +79,8 @@ def test_the_tide():
     total = drawn(panels[TOTAL])["total"]
     equal(total[24], total[25], "the total before and after the refused step")
     equal(marks(panels[TOTAL]), ["step 25 refused: cell 0: 300 enters, 299 leaves (cause 9)", "1 refused"], "crosses")
-    holds("kg/m³" in out and "in t, rounded: total 184.4 = first total 245.0 + in 211.6 − out 272.2" in out and "1 step refused by cause 9: a cell whose inflow and outflow differ" in out, "unit and cause")
+    holds("kg/m³" in out and "in t, rounded: total 184.4 = first total 245.0 + in 211.6 − out 272.2" in out
+          and "1 step refused by cause 9: a cell whose inflow and outflow differ" in out, "unit and cause")
     panels, _ = picture("--every", "20", data=TIDE.encode())
     equal([len(values) for values in drawn(panels[CONCENTRATION]).values()], [4] * 8, "points of every 20th step and the last")
 
@@ -101,12 +102,25 @@ def test_bands():
     equal(drawn(panels[TOTAL]), {}, "no line beside the band")
     mean = drawn(panels[TOTAL], "band", "polyline")["total"]
     near([mean[0], mean[-1]], [totals[0], totals[-1]], max(totals) / 500, "the line begins and ends at the first and last value")
-    stretches = [sum(rows, []) for rows in ([columns[column] for column in range(at, at + chart.MEAN_OVER)] for at in range(0, chart.PLOT, chart.MEAN_OVER))]
-    near(mean[1:-1], [sum(rows) / len(rows) for rows in stretches], max(totals) / 500, "and between them it is the mean of ten columns")
-    holds("band: least to greatest of the 4 steps of a pixel; line: their mean, over 10 pixels" in out, "the picture says what band and line are")
+    near(mean[1:-1], [sum(rows) / len(rows) for _, rows in sorted(columns.items())], max(totals) / 500, "and between them it is the mean of each column")
+    holds("band: least to greatest of the 4 steps of a pixel; line: their mean; both begin and end at the first and last value" in out,
+          "the picture says what band and line are")
     equal(len(marks(panels[TOTAL])), 41, "a tick for each refused step, and one in the legend")
     equal(marks(panels[TOTAL])[0], "step 25 refused: cell 0: 300 enters, 299 leaves (cause 9)", "its cause")
     holds("40 refused" in out and len(out) < 200_000, f"{len(out)} bytes")
+
+
+def test_words_stay_in_the_picture():
+    """The budget of a long session and all that is said above a panel take as many lines as they need."""
+    start = TIDE.index("step times 10")
+    text = TIDE[:start].replace("unit mass g\n", "unit mass 1000 g, dried and weighed at the station\n") + TIDE[start:] * 40
+    _, out = picture("--cells", "3,4", data=text.encode())
+    words = [(float(text.get("x")), int(text.get("font-size")), text.text) for text in xml.fromstring(out).iter(f"{SVG}text")
+             if text.get("text-anchor") == "start"]
+    for left, size, said in words:
+        holds(left + len(said) * size / 2 <= chart.WIDTH, f"{said} is cut off")
+    foot = " ".join(said for _, _, said in words).partition("total ")[2]
+    holds("weighed at the station)" in foot, foot)
 
 
 def test_profile_and_table():
@@ -185,13 +199,17 @@ def test_cells():
     equal(list(drawn(panels[CONCENTRATION])), ["7 East Channel, low", "4 Marsh", "cell 0", "cell 1"], "in the order asked for")
     panels, _ = picture("--cells", 'Marsh,"East Channel, low"', data=lagoon_of(30, [""] * 4, head).encode())
     equal(list(drawn(panels[CONCENTRATION])), ["4 Marsh", "7 East Channel, low"], "a name with a comma in it")
-    panels, out = picture(data=lagoon_of(30, [""] * 9, head).encode())
+    panels, out = picture(data=lagoon_of(30, [""] * 40, head).encode())
     small = drawn(panels[CONCENTRATION])
     equal(list(small), [plot.named(sessiontext.Labels(), cell) if cell not in (4, 7) else {4: "4 Marsh", 7: "7 East Channel, low"}[cell] for cell in range(16)],
           "the sea reaches the first cells")
-    near(small["cell 0"], [0, 500, 750, 875, 937, 968, 984, 992, 996, 998], 130, "cell 0 in its small panel")
+    near(small["cell 0"][:10], [0, 500, 750, 875, 937, 968, 984, 992, 996, 998], 130, "cell 0 in its small panel")
     holds("the 16 of 30 cells whose q changed most" in out, "and the picture says so")
-    equal(len({line.get("stroke-dasharray") for line in picture("--cells", "0-7", data=lagoon_of(30, [""] * 4).encode())[0][CONCENTRATION].iter(f"{SVG}polyline")}),
+    panels, out = picture(data=lagoon_of(30, [""]).encode())
+    equal(list(drawn(panels[CONCENTRATION])), ["cell 0"], "cells that did not change are left out")
+    holds("the 1 of 30 cells whose q changed most" in out, "and the picture says that too")
+    equal(len({line.get("stroke-dasharray")
+               for line in picture("--cells", "0-7", data=lagoon_of(30, [""] * 4).encode())[0][CONCENTRATION].iter(f"{SVG}polyline")}),
           8, "eight lines have eight dashes")
     refuses("at most 16 cells", "plot", "--cells", "0-16", data=lagoon_of(30, [""]).encode())
 
@@ -205,10 +223,13 @@ def axis(panel):
 def test_time():
     """Dates, hours and days under the panels; a step's stair stands between its beginning and its end."""
     days = [f"2026-02-{day:02}" for day in range(26, 29)] + ["2026-03-01", "2026-03-02"]
-    for steps, head, words in ((days, "", [*(word for day in ("26 Feb", "27 Feb", "28 Feb", "1 Mar", "2 Mar") for word in (day, "12:00")), "3 Mar", "26 Feb 2026 to 3 Mar 2026"]),
-                               (["2026-06-01T22:00", "2026-06-01T23:00", "2026-06-02T00:00Z"], "", ["22:00", "22:30", "23:00", "23:30", "2 Jun", "00:30", "01:00", "1 Jun 2026 to 2 Jun 2026"]),
+    for steps, head, words in ((days, "", [*(word for day in ("26 Feb", "27 Feb", "28 Feb", "1 Mar", "2 Mar") for word in (day, "12:00")), "3 Mar",
+                                           "26 Feb 2026 to 3 Mar 2026"]),
+                               (["2026-06-01T22:00", "2026-06-01T23:00", "2026-06-02T00:00Z"], "",
+                                ["22:00", "22:30", "23:00", "23:30", "2 Jun", "00:30", "01:00", "1 Jun 2026 to 2 Jun 2026"]),
                                (["0 h", "6 h", "12 h"], "", ["0", "2", "4", "6", "8", "10", "12", "14", "16", "18", "hours"]),
-                               ([""] * 4, "unit step 1 d\n", ["0", "0.5", "1", "1.5", "2", "2.5", "3", "3.5", "4", "days"]), (["7", "8", ""], "", ["7", "7.5", "8"]),
+                               ([""] * 4, "unit step 1 d\n", ["0", "0.5", "1", "1.5", "2", "2.5", "3", "3.5", "4", "days"]),
+                               (["7", "8", ""], "", ["7", "7.5", "8"]),
                                (["1990-01-01", "2030-01-01"], "", ["1990", "2000", "2010", "2020", "2030", "2040"]),
                                (["mon", "tue"], "", ["0", "1", "2", "step"]), (["2 h", "1 h"], "", ["0", "1", "2", "step"])):
         panels, out = picture("--csv", "/dev/null", data=lagoon_of(3, steps, head).encode())
@@ -250,15 +271,18 @@ def test_an_engine_that_differs():
 
 def test_no_picture():
     data, _ = sessiontext.pack(CHANNEL)
-    for arguments, given, words in (([], data[:20], "lagoon plot: the mesh is refused: the input ends in this mesh record, which needs 31 bytes and has 20 (cause 11)"),
+    for arguments, given, words in (([], data[:20],
+                                     "lagoon plot: the mesh is refused: the input ends in this mesh record, which needs 31 bytes and has 20 (cause 11)"),
                                     ([], data[:31] + b"\x10" + data[32:], "lagoon plot: the field is refused: kind 0001 in binary"),
                                     ([], b"mesh\ncell 0 volume x\n", "lagoon plot: <stdin>:2:15: a volume should be"),
                                     ([], CHANNEL.replace("cell 1 mass 0", "cell 1 mass 100000100").encode(), "the field is refused: cell 1: mass 100,000,100"),
                                     (["--cells", "3"], data, "lagoon plot: --cells: '3' is no cell of the mesh (0 to 2) nor the name of one"),
-                                    (["--cells", "0-99999999999"], data, "'0-99999999999' is no cell of the mesh"), (["--cells", "0-3"], data, "--cells: the mesh has cells 0 to 2, not '0-3'"),
+                                    (["--cells", "0-99999999999"], data, "'0-99999999999' is no cell of the mesh"),
+                                    (["--cells", "0-3"], data, "--cells: the mesh has cells 0 to 2, not '0-3'"),
                                     (["--cells", "9" * 5000], data, "--cells: '999"),
                                     (["--cells", ""], data, "--cells: '' is no cell"), (["--cells", "2-1"], data, "'2-1' is no range"),
-                                    (["--cells", "0,x"], data, "lagoon plot: --cells: 'x' is no cell"), (["--profile", "3"], data, "there is no step 3, the last is 2"),
+                                    (["--cells", "0,x"], data, "lagoon plot: --cells: 'x' is no cell"),
+                                    (["--profile", "3"], data, "there is no step 3, the last is 2"),
                                     (["--profile", "x"], data, "'x' is neither a step nor 'last'"), (["--profile", ""], data, "'' is neither a step"),
                                     (["--csv", "-"], data, "cannot both be standard output")):
         refuses(words, "plot", *arguments, data=given)

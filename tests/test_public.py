@@ -58,11 +58,13 @@ def test_the_channel():
 
 def test_the_example():
     status, out, said = command("binder", ROOT / "examples" / "tide.txt", "--public", CLOSED, "--board", "-")
-    equal((status, said), (1, "lagoon binder: note: 1 of 49 steps refused, the first of them step 25 (cause 9); the pages are of the steps that were accepted\n"),
+    equal((status, said), (1, "lagoon binder: note: 1 of 49 steps refused, the first of them step 25 (cause 9); "
+                              "the pages are of the steps that were accepted\n"),
           "the example, one step of which is refused")
     _, whole, _ = command("binder", ROOT / "examples" / "tide.txt", "--board", "-")
     lines = whole.decode().splitlines(keepends=True)
-    equal(out.decode(), "".join(line for line in lines if line.split()[0] not in "12" and line.split()[:2] not in (["B", "1"], ["B", "2"]) and len(line.split()) > 1),
+    equal(out.decode(), "".join(line for line in lines if line.split()[0] not in "12" and line.split()[:2] not in (["B", "1"], ["B", "2"])
+                                and len(line.split()) > 1),
           "the growers' lines but those of cells 1 and 2 and the mass")
     equal([line for line in lines if line[0] == "B"], [line + "\n" for line in lagoon.run(sessiontext.pack(TIDE)[0]).splitlines() if line[0] == "B"],
           "the growers' board is the run's")
@@ -103,7 +105,8 @@ def test_bad_use():
         marks = Path(made, "marks.csv")
         for table, words in (("cell,mark\n1,2\n", "marks.csv:2: mark should be a whole number from 0 to 1, not '2'"),
                              ("cell,mark\n1,\n", "marks.csv:2: mark should be"), ("cell,mark\n3,1\n", "marks.csv:2: '3' is no cell of the mesh (0 to 2)"),
-                             ("cell,mark\nSouth,1\n", "'South' is no cell"), ("cell,mark\n1,1\nNorth bed,0\n", "marks.csv:3: a second mark of cell 1 (North bed)"),
+                             ("cell,mark\nSouth,1\n", "'South' is no cell"),
+                             ("cell,mark\n1,1\nNorth bed,0\n", "marks.csv:3: a second mark of cell 1 (North bed)"),
                              ("cell,mark\n2,1\ncell 2,1\n", "a second mark of cell 2"), ("cell\n1\n", "one column 'mark'"),
                              ("cell,mark\n", "there is no row")):
             marks.write_text(table)

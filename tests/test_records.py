@@ -346,7 +346,8 @@ def test_check_in_words():
             ("share 128", "share 0", 6, "mesh: face 1: share 0 is outside 1 to 255 (cause 5)"),
             ("reach 100", "reach 0", 6, "mesh: face 1: reach 0 is outside 1 to 65,535 (cause 5)"),
             ("face 3 from 2 to rim", "face 3 from 2 to rim share 1 reach 0", 8, "mesh: face 3: share 1 and reach 0 at the rim"),
-            ("cell 1 mass 0", "cell 1 mass 100000100", 12, "field: cell 1: mass 100,000,100 in volume 100 is a concentration of 1,000,001, above 1,000,000 (cause 6)"),
+            ("cell 1 mass 0", "cell 1 mass 100000100", 12,
+             "field: cell 1: mass 100,000,100 in volume 100 is a concentration of 1,000,001, above 1,000,000 (cause 6)"),
             ("outside 1000", "outside 1000001", 16, "steps 1 to 2, face 0: outside value 1,000,001 is above 1,000,000 (cause 7)"),
             ("face 3 flux 50", "face 3 flux 50 outside 7", 19, "steps 1 to 2, face 3: outside value 7 where no water enters over the rim (flux 50) (cause 7)"),
             ("face 1 flux 50", "face 1 flux 101", 17, "steps 1 to 2, face 1: flux 101 is larger than the reach 100 (cause 8)"),
@@ -372,7 +373,8 @@ def test_check_after_steps():
     """What cause 18 refuses on a field that steps have changed, with its line or byte; without the library it is said what is not judged."""
     later = CHANNEL + "step times 3\ncell 0 release 99900000\n"
     for given, where in ((later.encode(), ":21"), (sessiontext.pack(later)[0], ": byte 105")):
-        equal(command("check", data=given)[:2], (1, (f"<stdin>{where}: steps 4 to 5, cell 0: mass 100,000,099 and release 99,900,000 in volume 100 are a concentration "
+        equal(command("check", data=given)[:2],
+              (1, (f"<stdin>{where}: steps 4 to 5, cell 0: mass 100,000,099 and release 99,900,000 in volume 100 are a concentration "
               "of 1,999,000, above 1,000,000 (cause 18)\n<stdin>: 3 cells, 4 faces (2 at the rim), 5 steps: the run refuses 2 of them\n").encode()),
               "releases after an accepted step")
     equal(command("check", "--library", "nowhere", data=later.encode())[:2],

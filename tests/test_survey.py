@@ -63,7 +63,8 @@ def test_figures():
     session = session_of(text.encode())
     equal((session.mesh.volumes, [tuple(face) for face in session.mesh.faces], session.masses),
           ([500, 200], [(0, 1, 192, 200), (1, 4095, 0, 0)], [35000000, 40200]), "mesh and field")
-    equal((session.labels.of("cell", 1), session.labels.of("face", 1), session.labels.units), ("cell 1 (b)", "face 1 (g)", {"volume": "2 m3", "mass": "1 g"}), "labels")
+    equal((session.labels.of("cell", 1), session.labels.of("face", 1), session.labels.units), ("cell 1 (b)", "face 1 (g)", {"volume": "2 m3", "mass": "1 g"}),
+          "labels")
     holds("--outside-factor 2" in said and "--factor 0.5 times the seconds" in said, said)
     for volume, unit in ((4095, 1), (4096, 2), (8191, 5), (20475, 5), (20476, 10)):
         text, _ = whole(TWO.replace("1000", str(volume)), ONE)
@@ -115,7 +116,8 @@ def test_points():
         text, _ = whole(TWO, POINTS.replace("0,-2,0,2,-30,0,10,0", face), "--volume-unit", "1")
         holds(words in text, f"{face}: '{words}' should be in '{text}'")
     for face, words in (("0,-2,0,2,-1,0,256,0", "cause 20"), ("0,-2,0,2,-1,0,0,5", "cause 20"), ("0,2,0,2,-1,0,1,0", "cause 20"),
-                        ("1000001,-2,0,2,-1,0,1,0", "x1 1000001.0 is not within 1,000,000 (cause 19)"), ("0,-2,0,2,-1,0,1,inf", "second y inf"), ("0,-2,0,,-1,0,1,0", "y2 nan")):
+                        ("1000001,-2,0,2,-1,0,1,0", "x1 1000001.0 is not within 1,000,000 (cause 19)"), ("0,-2,0,2,-1,0,1,inf", "second y inf"),
+                        ("0,-2,0,,-1,0,1,0", "y2 nan")):
         _, said = whole(TWO, POINTS.replace("0,-2,0,2,-30,0,10,0", face), wanted=1)
         holds(words in said and said.count("\n") == 1, f"'{words}' should be in '{said}'")
 
@@ -124,11 +126,16 @@ def test_bad_surveys():
     for cells, faces, words in (("", ONE, "should have one column 'cell'"), (TWO.replace("salt", "sand"), ONE, "should have one column 'salt'"),
                                 ("cell,volume,salt\n", ONE, "no row under the heading"), (TWO.replace("\nb", "\na"), ONE, ":3: a second cell called 'a'"),
                                 (TWO.replace("400", "x"), ONE, ":3: volume should be a number above 0, not 'x'"),
-                                (TWO.replace("400", "0"), ONE, "volume should be a number above 0"), (TWO.replace("400", "0.1"), ONE, "take a smaller unit of volume"),
-                                (TWO.replace("35000", "2000000"), ONE, "take a larger unit of salt"), (TWO, ONE.replace("a,b", "a,c"), ":2: to: 'c' is no cell"),
-                                (TWO, ONE.replace("a,b", "rim,b"), "is no cell (the rim stands second)"), (TWO, ONE.replace("a,b", "a,a"), "it joins cell 0 to itself"),
-                                (TWO, ONE.replace("30,40", "40,40"), "should be less than the distance"), (TWO, ONE.replace("10,30", ",30"), "area should be a number"),
-                                (TWO, ONE.replace("10,30", "nan,30"), "area should be a number"), (TWO.replace("\nb", "\n\x1b#"), ONE, r"should be a name, not '\x1b#'")):
+                                (TWO.replace("400", "0"), ONE, "volume should be a number above 0"),
+                                (TWO.replace("400", "0.1"), ONE, "take a smaller unit of volume"),
+                                (TWO.replace("35000", "2000000"), ONE, "take a larger unit of salt"),
+                                (TWO, ONE.replace("a,b", "a,c"), ":2: to: 'c' is no cell"),
+                                (TWO, ONE.replace("a,b", "rim,b"), "is no cell (the rim stands second)"),
+                                (TWO, ONE.replace("a,b", "a,a"), "it joins cell 0 to itself"),
+                                (TWO, ONE.replace("30,40", "40,40"), "should be less than the distance"),
+                                (TWO, ONE.replace("10,30", ",30"), "area should be a number"),
+                                (TWO, ONE.replace("10,30", "nan,30"), "area should be a number"),
+                                (TWO.replace("\nb", "\n\x1b#"), ONE, r"should be a name, not '\x1b#'")):
         _, said = whole(cells, faces, wanted=1)
         holds(words in said and said.count("\n") == 1, f"'{words}' should be in '{said}'")
     _, said = whole(TWO, ONE, "--volume-unit", "0.01", wanted=1)

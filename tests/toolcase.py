@@ -1,6 +1,7 @@
 """What the tests of the tools share."""
 
 import fcntl
+import importlib
 import io
 import os
 import signal
@@ -9,7 +10,9 @@ import subprocess
 import sys
 import tempfile
 import termios
+import threading
 import time
+import traceback
 from pathlib import Path
 
 HERE = Path(__file__).resolve().parent
@@ -18,7 +21,11 @@ RUN = ROOT / "target" / "bin" / "run"
 sys.path.insert(0, str(ROOT / "reference"))
 
 import engines
+from package import cli
 from package.session import Session
+
+PATIENCE = 60                   # seconds for one command
+OWN_FAULT = 99                  # the status of a traceback
 
 CHANNEL = (ROOT / "examples" / "channel.txt").read_text()
 TIDE = (ROOT / "examples" / "tide.txt").read_text()
@@ -40,12 +47,68 @@ def line_of(name, *arguments):
     return [sys.executable, *map(str, [*program, *arguments])]
 
 
-def command(*arguments, data=b"", **more):
+def command(*arguments, data=b""):
     """A tool's exit status, output and words; it never shows a traceback."""
-    done = subprocess.run(line_of(*arguments), input=data, capture_output=True, **more)
-    said = done.stderr.decode("utf-8", "replace")
+    if str(arguments[0]).endswith(".py"):
+        done = subprocess.run(line_of(*arguments), input=data, capture_output=True, check=False)
+        status, out, words = done.returncode, done.stdout, done.stderr
+    else:
+        status, out, words = forked(arguments, data)
+    said = words.decode("utf-8", "replace")
     holds("Traceback" not in said and "Exception ignored" not in said, f"{arguments}: {said}")
-    return done.returncode, done.stdout, said
+    return status, out, said
+
+
+def forked(words, data=b""):
+    """Status, output and words of a command of lagoon in a process that has read the package already: hundreds of tries in seconds."""
+    for module, _, _ in cli.COMMANDS.values():
+        importlib.import_module(f"package.{module}")
+    given, feed = os.pipe()
+    out, said = os.memfd_create("out"), os.memfd_create("said")
+    process = os.fork()
+    if process == 0:
+        os.close(feed)
+        child([str(word) for word in words], given, out, said)
+    os.close(given)
+    feeding = threading.Thread(target=fed, args=(feed, data))
+    feeding.start()
+    _, ended = os.waitpid(process, 0)
+    feeding.join()
+    return os.waitstatus_to_exitcode(ended), whole(out), whole(said)
+
+
+def child(words, given, out, said):
+    """The command, with these files for its input, output and words; it never comes back."""
+    for file, number in ((given, 0), (out, 1), (said, 2)):
+        os.dup2(file, number)
+    sys.stdin = io.TextIOWrapper(io.BufferedReader(io.FileIO(0)))
+    sys.stdout, sys.stderr = (io.TextIOWrapper(io.BufferedWriter(io.FileIO(number, "w"))) for number in (1, 2))
+    sys.argv = ["lagoon", *words]
+    signal.alarm(PATIENCE)
+    try:
+        status = cli.main()
+    except BaseException:
+        traceback.print_exc()
+        status = OWN_FAULT
+    sys.stderr.flush()
+    os._exit(status or 0)
+
+
+def fed(pipe, data):
+    """Writes the data for whoever reads it, as far as that one does."""
+    try:
+        while data:
+            data = data[os.write(pipe, data):]
+    except BrokenPipeError:
+        pass
+    os.close(pipe)
+
+
+def whole(file):
+    """What was written into a file in memory."""
+    with os.fdopen(file, "rb") as written:
+        written.seek(0)
+        return written.read()
 
 
 def refuses(words, *arguments, data=b"", status=1):
@@ -63,9 +126,8 @@ def breaks(*arguments, data=b""):
         done = subprocess.run(["bash", "-c", f"{line} {ending}"], input=data, capture_output=True)
         said = done.stderr.decode()
         holds("Traceback" not in said and "Exception ignored" not in said and done.returncode in statuses, f"{line} {ending}: {done.returncode} {said}")
-    if "/dev/full" not in line:
-        full = subprocess.run(["bash", "-c", f"{line} > /dev/full"], input=data, capture_output=True)
-        holds(full.returncode == 1 and b"full" in full.stderr, f"{line} > /dev/full: {full.returncode} {full.stderr}")
+        if ending == "> /dev/full" and "/dev/full" not in line:
+            holds(done.returncode == 1 and "full" in said, f"{line} {ending}: {done.returncode} {said}")
 
 
 def interrupted(*arguments):

@@ -6,4 +6,5 @@
 set -eu
 cd "$(dirname "$0")/.."
 reference/build.sh
-printf '%s\n' records run budget fluxes plot map export survey binder renumber judge cut charge public package mixing readme fuzz | xargs -P 2 -I NAME python3 tests/test_NAME.py
+printf '%s\n' records run budget fluxes plot map export survey binder renumber judge cut charge public package mixing readme fuzz |
+  xargs -P 2 -I NAME python3 tests/test_NAME.py

@@ -26,7 +26,7 @@ for crate in $(grep -l no_mangle crates/*/src/*.rt | cut -d/ -f2 | sort -u); do
   made=$out/objects/$crate
   all="$all $made/*"
   if [ ! -e "$made" ] || [ -n "$(find $(folders "$crate") crates.txt -newer "$made" -print -quit)" ]; then
-    rt staticlib "$crate" > $out/log 2>&1 || { tail -n 40 $out/log >&2; exit 1; }
+    tools/prove.sh "$crate" $out/log rt staticlib "$crate"
     rm -rf "$made" $out/liblagoon.a
     mkdir "$made"
     (cd "$made" && ar x "../../../staticlib/lib$crate.a" && for object in *; do mv "$object" "$crate-$object"; done)

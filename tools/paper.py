@@ -33,7 +33,7 @@ code { font-family: "DejaVu Sans Mono", monospace; font-size: 88%% }
 table { border-collapse: collapse; page-break-inside: avoid; font-size: 8.8pt } thead { display: table-header-group }
 table.long { page-break-inside: auto } tr { page-break-inside: avoid } code, a { overflow-wrap: anywhere }
 h3 { font-size: 10.5pt; page-break-after: avoid; margin-bottom: 1mm } a { color: inherit; text-decoration: none }
-a[href^="#"]::after { content: " p. " target-counter(attr(href url), page); font-size: 75%% }
+a[href^="#"]::after { content: " p.\\0000a0" target-counter(attr(href url), page); font-size: 75%% }
 td, th { border: 0.4pt solid #666; padding: 0.6mm 2mm; text-align: left; vertical-align: top }
 """
 
@@ -123,7 +123,8 @@ def page(path):
         if follows.startswith(("<table", "<pre")):
             shown[at] = shown[at].replace("<p>", '<p class="lead">', 1)
     body = "\n".join(shown)
-    return f'<!DOCTYPE html>\n<html lang="en"><head><meta charset="utf-8"><title>{html.escape(title)}</title><style>{style}</style></head>\n<body>\n{body}\n</body></html>\n'
+    head = f'<meta charset="utf-8"><title>{html.escape(title)}</title><style>{style}</style>'
+    return f'<!DOCTYPE html>\n<html lang="en"><head>{head}</head>\n<body>\n{body}\n</body></html>\n'
 
 
 def printed(source, target):

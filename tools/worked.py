@@ -6,6 +6,7 @@ import re
 import struct
 import sys
 from fractions import Fraction
+from functools import lru_cache
 from pathlib import Path
 
 HERE = Path(__file__).resolve().parent
@@ -741,7 +742,8 @@ def share():
     printed_by_calls(f"middle_stage: accepted {struct.unpack('<Q', struct.pack('<d', same(('ratio', ratio), lagoon.middle_stage(coordinates))[1]))[0]}")
     k = same(int(256 * ratio), lagoon.face_share(coordinates))
     printed_by_calls(f"face_share: accepted {k}")
-    return [*lines, f"a / (a + b) = {of_float(a)} / {of_float(a + b)} = {of_float(ratio)}", f"256 · {of_float(ratio)} = {of_float(256 * ratio)}: the share is {k}"]
+    return [*lines, f"a / (a + b) = {of_float(a)} / {of_float(a + b)} = {of_float(ratio)}",
+            f"256 · {of_float(ratio)} = {of_float(256 * ratio)}: the share is {k}"]
 
 
 def along(new, entries):
@@ -796,12 +798,17 @@ BLOCKS = {"layouts": layouts, "bytes": the_bytes, "mesh-bits": lambda: fenced(me
 
 # ---------------------------------------------------------------- The page
 
+@lru_cache(maxsize=None)
+def lines_of(name):
+    return tuple(BLOCKS[name]())
+
+
 def filled(page):
     """The page with every block as it is worked out here."""
     def block(found):
         if found[2] not in BLOCKS:
             raise SystemExit(f"worked.py: no block is called {found[2]}")
-        return found[1] + "".join(line + "\n" for line in BLOCKS[found[2]]()) + found[3]
+        return found[1] + "".join(line + "\n" for line in lines_of(found[2])) + found[3]
     return BLOCK.sub(block, page)
 
 
@@ -810,10 +817,11 @@ def check(path):
     missing = set(BLOCKS) - {found[2] for found in BLOCK.finditer(page)}
     if missing:
         raise SystemExit(f"worked.py: {path} lacks the blocks {', '.join(sorted(missing))}")
-    for number, (has, wanted) in enumerate(zip(page.splitlines(), filled(page).splitlines()), 1):
+    as_worked = filled(page)
+    for number, (has, wanted) in enumerate(zip(page.splitlines(), as_worked.splitlines()), 1):
         if has != wanted:
             raise SystemExit(f"{path}:{number}: '{has}' where '{wanted}' is worked out")
-    if page != filled(page):
+    if page != as_worked:
         raise SystemExit(f"{path}: a block has more or fewer lines than are worked out")
     fences = re.findall(r"^```.*?^```", page, re.DOTALL | re.MULTILINE)
     for line in "\n".join(fences).splitlines():
@@ -839,7 +847,7 @@ def main():
         command.write_whole(str(options.write), filled(options.write.read_text()).encode())
     else:
         for name in [options.block] if options.block else BLOCKS:
-            print("\n".join([f"<!-- worked: {name} -->", *BLOCKS[name](), "<!-- end -->"]))
+            print("\n".join([f"<!-- worked: {name} -->", *lines_of(name), "<!-- end -->"]))
 
 
 if __name__ == "__main__":

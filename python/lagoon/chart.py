@@ -7,13 +7,13 @@ from .quantities import figure, ticks
 
 MARKED = 40                     # up to so many points each has a dot
 MOST_POINTS = 1500              # more are drawn as a band
-MEAN_OVER, THIN = 10, 2          # pixels: the stretch over which a mean is taken, and the height up to which a band is thin
 MOST_CROSSES = 20               # more refusals are drawn as ticks
 COLOURS = ("#0072b2", "#d55e00", "#009e73", "#cc79a7", "#e69f00", "#56b4e9", "#000000", "#8a6d00")
 DASHES = ("", "9 3", "3 3", "9 3 2 3", "14 4", "5 2", "9 3 2 3 2 3", "1 3")
 WIDTH, LEFT, RIGHT, PANEL, GAP = 960, 115, 215, 210, 98
 PLOT = WIDTH - LEFT - RIGHT
-LINE_WIDE, NAME_WIDE, UNIT_WIDE, NOTE_SIZE = 74, 22, 34, 11       # in letters; the size of small letters
+LINE_WIDE, NAME_WIDE, UNIT_WIDE, NOTE_WIDE, FOOT_WIDE = 74, 22, 34, 152, 126       # in letters
+NOTE_SIZE, NOTE_HIGH, FOOT_HIGH = 11, 14, 20
 NAME_HIGH, SAMPLE = 17, 24      # of a name at a line's end: its height, and the length of its line
 SMALL_COLUMNS, SMALL_HIGH, SMALL_GAP, SMALL_ABOVE = 4, 84, 16, 20
 SMALL_NAME = 24
@@ -79,17 +79,6 @@ def columns(box, places, values):
     return [(column, *ends) for column, ends in sorted(found.items())]
 
 
-def means(rows, thin):
-    """Column and value of the line in a band: the mean of each column where the band is thin, else of each stretch of columns."""
-    stretches = {}
-    for row in rows:
-        stretches.setdefault(row[0] // MEAN_OVER, []).append(row)
-    for stretch in stretches.values():
-        parts = [[row] for row in stretch] if all(greatest - least <= thin for _, least, greatest, _, _ in stretch) else [stretch]
-        for part in parts:
-            yield (part[0][0] + part[-1][0]) / 2, sum(row[3] for row in part) / sum(row[4] for row in part)
-
-
 def names_apart(ends, top, bottom):
     """Heights of names as near to the line ends as they can be without one covering another, in the order of the ends."""
     order = sorted(range(len(ends)), key=lambda place: ends[place])
@@ -121,6 +110,12 @@ class Drawing:
     def rule(self, *arguments):
         self.parts.append(svg.rule(*arguments))
 
+    def foot(self, words):
+        """A sentence under the panels, on as many lines as it needs."""
+        for place, line in enumerate(svg.wrapped(words, FOOT_WIDE, 3)):
+            self.top += FOOT_HIGH * bool(place)
+            self.text(LEFT, self.top, line)
+
     def panel(self, panel, span):
         heights = heights_of(panel.lines, panel.scale.factor)
         box = Box(LEFT, self.top, PLOT, PANEL, span, heights)
@@ -141,12 +136,13 @@ class Drawing:
         notes = [panel.note] if panel.note else []
         if self.banded(panel):
             each = -(-len(panel.lines[0].values) // pixels)
-            notes.append(f"band: least to greatest of the {each} steps of a pixel; line: their mean, over {MEAN_OVER} pixels where the band is wide; ends are exact")
+            notes.append(f"band: least to greatest of the {each} steps of a pixel; line: their mean; both begin and end at the first and last value")
         if box.heights[0] > 0:
             notes.append("the axis does not begin at 0")
-        self.text(box.left, box.top - (26 if notes else 12), panel.title, size=14, weight="bold")
-        if notes:
-            self.text(box.left, box.top - 10, "; ".join(notes), size=NOTE_SIZE)
+        lines = svg.wrapped("; ".join(notes), NOTE_WIDE, 2) if notes else []
+        self.text(box.left, box.top - 12 - NOTE_HIGH * len(lines), panel.title, size=14, weight="bold")
+        for place, line in enumerate(lines):
+            self.text(box.left, box.top - 10 - NOTE_HIGH * (len(lines) - 1 - place), line, size=NOTE_SIZE)
 
     def upright(self, panel, box):
         power, words = divided(box.heights)
@@ -195,8 +191,7 @@ class Drawing:
         above = [place(box.left + row[0] + 0.5, row[2]) for row in rows]
         below = [place(box.left + row[0] + 0.5, row[1]) for row in reversed(rows)]
         self.parts.append(f'<polygon stroke="none" fill-opacity="0.3" points="{svg.joined([first, *above, last, *below])}"/>')
-        thin = float(THIN * (box.heights[-1] - box.heights[0]) / box.high / panel.scale.factor)
-        return [first, *(place(box.left + column + 0.5, mean) for column, mean in means(rows, thin)), last]
+        return [first, *(place(box.left + column + 0.5, total / number) for column, _, _, total, number in rows), last]
 
     def names(self, panel, box):
         """Each line's name at its end, with a piece of the line; then what thin lines are, and how many steps were refused."""
@@ -248,7 +243,8 @@ class Drawing:
         self.head(panel, box, wide)
         for place, lines in enumerate(groups):
             row, column = divmod(place, SMALL_COLUMNS)
-            small = Box(LEFT + column * (wide + SMALL_GAP), self.top + SMALL_ABOVE + row * (SMALL_HIGH + SMALL_GAP + SMALL_ABOVE), wide, SMALL_HIGH, span, heights)
+            small = Box(LEFT + column * (wide + SMALL_GAP), self.top + SMALL_ABOVE + row * (SMALL_HIGH + SMALL_GAP + SMALL_ABOVE), wide, SMALL_HIGH, span,
+                        heights)
             self.small(panel, lines, small, column == 0, place + SMALL_COLUMNS >= len(groups))
         self.top += rows * (SMALL_HIGH + SMALL_GAP + SMALL_ABOVE)
         middle = self.top - rows * (SMALL_HIGH + SMALL_GAP + SMALL_ABOVE) / 2

@@ -25,7 +25,8 @@ COMMANDS = {
 }
 
 HELP = """\
-`lagoon COMMAND --help` tells all about one of them.
+`lagoon COMMAND --help` tells all about one of them. The exit status is 0 where all was done; 1 where something cannot be read or written,
+does not close, or is refused (check, run, judge and binder look for that); 2 where the words of the command are not understood.
 
 examples:
   lagoon check examples/channel.txt

@@ -187,8 +187,9 @@ class Tabled:
 def agreeing(number, refusal, refused):
     """The words of a refusal, which have to be about the engine's cause and place."""
     if refusal is None or (refusal.cause, refusal.place) != refused:
-        raise Bad(f"{f'step {number}' if isinstance(number, int) else number}: the engine refuses it by cause {refused[0]}, place {refused[1]}, and causes.py finds "
-                  + (causes.told(refusal) if refusal else "nothing wrong with it"))
+        name = f"step {number}" if isinstance(number, int) else number
+        found = causes.told(refusal) if refusal else "nothing wrong with it"
+        raise Bad(f"{name}: the engine refuses it by cause {refused[0]}, place {refused[1]}, and causes.py finds {found}")
     return refusal
 
 

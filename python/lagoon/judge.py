@@ -135,9 +135,11 @@ def cell_fault(mesh, step, raised, claim):
         if mass < 0:
             return Fault(refused(f"a next mass of {mass:,}"), "below 0", mass, 0, -mass)
         if mass > most:
-            return Fault(refused(f"next q {mass // volume:,} above {hi:,}, the highest it meets: {mass - most:,} too much"), "above hi", mass, most, mass - most)
+            return Fault(refused(f"next q {mass // volume:,} above {hi:,}, the highest it meets: {mass - most:,} too much"), "above hi", mass, most,
+                         mass - most)
         if mass < least:
-            return Fault(refused(f"next q {mass // volume:,} below {lo:,}, the lowest it meets: {least - mass:,} too little"), "below lo", mass, least, least - mass)
+            return Fault(refused(f"next q {mass // volume:,} below {lo:,}, the lowest it meets: {least - mass:,} too little"), "below lo", mass, least,
+                         least - mass)
     return None
 
 
@@ -221,7 +223,8 @@ def arguments(words):
     parser = command.parser("lagoon judge", __doc__, HELP)
     parser.add_argument("file", help="the session, text or packed (- is standard input)")
     parser.add_argument("claims", help="the masses that the other model has moved, CSV (- is standard input)")
-    parser.add_argument("-o", "--output", metavar="FILE", help="write what was refused, and by how much (- is standard output; the report is then on standard error)")
+    parser.add_argument("-o", "--output", metavar="FILE",
+                        help="write what was refused, and by how much (- is standard output; the report is then on standard error)")
     parser.add_argument("--engine", action="store_true", help="make the steps without a claim by the engine's corrected step")
     parser.add_argument("--calls", metavar="PROGRAM", help="a program `calls` that judges instead of the library")
     return parser.parse_args(words)

@@ -1,11 +1,14 @@
 """A map of the lagoon: q of every cell by colour after chosen steps, with names and a legend; and the same as GeoJSON and as legacy VTK."""
 
+import argparse
 import json
 import math
+import re
 
 from . import command, engine, quantities, svg
 from .command import Bad, shown
 from .layout import RIM
+from .rows import listed_steps
 from .session import open_session
 from .timeline import Timeline
 
@@ -18,7 +21,8 @@ A cell is drawn by the ends of its faces, in their order around its centre, wher
 are black lines, those at the rim thick; where a face has no ends, a grey line joins the centres.
 
 --geojson writes cells as polygons, or points where they are discs, and faces as lines; --vtk polygons and vertices with their data, as
-POLYDATA in ASCII. Both have cell, volume and q after each of the steps (q_0, q_24, ..); coordinates are the survey's, in metres.
+POLYDATA in ASCII. Both have cell, volume and q after each of the steps (q_0, q_24, ..); coordinates are the survey's, in metres. Readers of
+GeoJSON take them for degrees unless --crs names the survey's grid, as EPSG:25832.
 
 examples:
   lagoon map session.txt -o map.svg
@@ -29,7 +33,8 @@ MOST_STEPS = 12
 WIDTH, EDGE, GAP, COLUMNS = 960, 40, 24, 3
 BAR_WIDE, BAR_HIGH, SHADES = 320, 14, 64
 STOPS = ((247, 251, 255), (198, 219, 239), (107, 174, 214), (33, 113, 181), (8, 48, 107))       # pale to dark, also without colour
-MOST_NAMED, NAME_WIDE, NAME_SIZE = 40, 18, 10
+MOST_NAMED, NAME_WIDE, NAME_LEAST, NAME_SIZE, LETTER = 40, 18, 6, 10, 6        # cells; letters of a line; pixels
+NAME_PART = 0.7                 # of the way to the nearest centre, for a name
 DISC = 0.35                     # of the way to the nearest centre
 DIGITS = 12                     # of a coordinate that is written
 
@@ -41,14 +46,16 @@ class Places:
         self.mesh, self.at = session.mesh, session.labels.at
         for cell in range(len(self.mesh.volumes)):
             if cell not in self.at["cell"]:
-                raise Bad(f"{session.labels.of('cell', cell)} has no place: lines `at cell N X Y` say where cells lie (lagoon survey writes them from coordinates)")
+                raise Bad(f"{session.labels.of('cell', cell)} has no place: lines `at cell N X Y` say where cells lie "
+                          "(lagoon survey writes them from coordinates)")
         self.centres = [self.at["cell"][cell] for cell in range(len(self.mesh.volumes))]
         self.faces = [[] for _ in self.centres]                 # of each cell
         for face, (first, second, _, _) in enumerate(self.mesh.faces):
             for end in {first, second} - {RIM}:
                 self.faces[end].append(face)
         self.outlines = [self.outline(cell) for cell in range(len(self.centres))]
-        self.radius = DISC * min((math.dist(one, other) for place, one in enumerate(self.centres) for other in self.centres[:place] if one != other), default=1.0)
+        self.radius = DISC * min((math.dist(one, other) for place, one in enumerate(self.centres) for other in self.centres[:place] if one != other),
+                                 default=1.0)
 
     def outline(self, cell):
         """The ends of a cell's faces in their order around its centre, where they enclose it; else None."""
@@ -120,7 +127,8 @@ class Map:
         metres = quantities.ticks(0, 120 / self.metre, 2)[1]
         length, x = float(metres) * self.metre, start + BAR_WIDE + 60
         self.parts += [svg.rule(x, top + BAR_HIGH, x + length, top + BAR_HIGH, svg.INK, 2),
-                       svg.text(x, top + BAR_HIGH + 16, f"{quantities.figure(metres / 1000)} km" if metres >= 1000 else f"{quantities.figure(metres)} m", size=11)]
+                       svg.text(x, top + BAR_HIGH + 16, f"{quantities.figure(metres / 1000)} km" if metres >= 1000 else f"{quantities.figure(metres)} m",
+                                size=11)]
         self.top += 52
 
     def one(self, left, top, step, values):
@@ -162,12 +170,16 @@ class Map:
                 self.parts.append(svg.rule(*place(ends[0]), *place(ends[1]), svg.INK, 3 if second == RIM else 1))
 
     def names(self, place):
-        """Names of the cells, with a pale edge that keeps them legible on dark colours."""
+        """Names of the cells on two lines where they need them, or numbers where names have no room; with a pale edge that keeps them
+        legible on dark colours."""
+        room = min(int(NAME_PART * self.places.radius / DISC * self.metre / LETTER), NAME_WIDE)
         for cell, centre in enumerate(self.places.centres):
             x, y = place(centre)
             name = self.labels.names["cell"].get(cell, str(cell))
-            self.parts.append(svg.text(x, y + 3, svg.cut(name, NAME_WIDE), anchor="middle", size=NAME_SIZE,
-                                       more=' stroke="#ffffff" stroke-width="2.5" stroke-opacity="0.8" paint-order="stroke"'))
+            lines = svg.wrapped(name, room, 2) if room >= NAME_LEAST else [str(cell)]
+            for line, words in enumerate(lines):
+                self.parts.append(svg.text(x, y + 3 + (NAME_SIZE + 1) * (line - (len(lines) - 1) / 2), words, anchor="middle", size=NAME_SIZE,
+                                           more=' stroke="#ffffff" stroke-width="2.5" stroke-opacity="0.8" paint-order="stroke"'))
 
 
 # ---------------------------------------------------------------- For other programs
@@ -176,11 +188,20 @@ def rounded(point):
     return [float(f"{value:.{DIGITS}g}") for value in point]
 
 
-def geojson(session, fields):
-    """Cells as polygons or points, faces as lines; q after each step is a property."""
+def grid(text):
+    """The number of a grid, as EPSG:25832 names it."""
+    if not re.fullmatch(r"EPSG:[0-9]{4,6}", text):
+        raise argparse.ArgumentTypeError(f"a grid like EPSG:25832, not {shown(text)}")
+    return text.partition(":")[2]
+
+
+def geojson(session, fields, crs=None):
+    """Cells as polygons or points, faces as lines; q after each step is a property. The grid is named as GDAL and QGIS read it."""
     places, names, features = Places(session), session.labels.names, []
     for cell, (outline, centre) in enumerate(zip(places.outlines, places.centres)):
-        shape = {"type": "Polygon", "coordinates": [[rounded(point) for point in outline + outline[:1]]]} if outline else {"type": "Point", "coordinates": rounded(centre)}
+        shape = {"type": "Point", "coordinates": rounded(centre)}
+        if outline:
+            shape = {"type": "Polygon", "coordinates": [[rounded(point) for point in outline + outline[:1]]]}
         figures = {f"q_{step}": values[cell] for step, values in sorted(fields.items())}
         features.append({"type": "Feature", "geometry": shape,
                          "properties": {"cell": cell, "name": names["cell"].get(cell, ""), "volume": session.mesh.volumes[cell], **figures}})
@@ -188,7 +209,8 @@ def geojson(session, fields):
         if places.ends(face):
             features.append({"type": "Feature", "geometry": {"type": "LineString", "coordinates": [rounded(end) for end in places.ends(face)]},
                              "properties": {"face": face, "name": names["face"].get(face, ""), "from": first, "to": "rim" if second == RIM else second}})
-    return '{"type": "FeatureCollection", "features": [\n' + ",\n".join(json.dumps(feature, ensure_ascii=False) for feature in features) + "\n]}\n"
+    named = f' "crs": {{"type": "name", "properties": {{"name": "urn:ogc:def:crs:EPSG::{crs}"}}}},' if crs else ""
+    return f'{{"type": "FeatureCollection",{named} "features": [\n' + ",\n".join(json.dumps(feature, ensure_ascii=False) for feature in features) + "\n]}\n"
 
 
 def vtk(session, fields):
@@ -216,19 +238,6 @@ def vtk(session, fields):
 
 # ---------------------------------------------------------------- The command
 
-def chosen_steps(text):
-    """Steps from words like 0,24,last."""
-    found = []
-    for word in text.split(","):
-        word = word.strip()
-        if word != "last" and not (word.isascii() and word.isdigit() and len(word) <= 12):
-            raise Bad(f"--steps: {shown(word)} is neither a step nor 'last'")
-        found.append(word if word == "last" else int(word))
-    if len(found) > MOST_STEPS:
-        raise Bad(f"--steps: at most {MOST_STEPS} steps are drawn, not {len(found)}")
-    return found
-
-
 def fields_of(session, options, wanted):
     """q of all cells after each of the steps."""
     found, volumes = {}, session.mesh.volumes
@@ -250,6 +259,7 @@ def arguments(words):
     parser.add_argument("--steps", default="0,last", help=f"steps to draw, as 0,24,last, at most {MOST_STEPS} (default: 0,last)")
     parser.add_argument("--title", help="the words above the maps (default: the file's name)")
     parser.add_argument("--geojson", metavar="FILE", help="write cells and faces as GeoJSON too")
+    parser.add_argument("--crs", type=grid, metavar="EPSG:N", help="the grid of the survey's coordinates, for GeoJSON (default: none is named)")
     parser.add_argument("--vtk", metavar="FILE", help="write cells as legacy VTK too")
     engine.options(parser)
     return parser.parse_args(words)
@@ -258,12 +268,12 @@ def arguments(words):
 def main(words):
     options = arguments(words)
     command.keep_apart([options.output, options.geojson, options.vtk], [options.file, *engine.read_by(options)])
-    wanted = chosen_steps(options.steps)
+    wanted = listed_steps(options.steps, "--steps", MOST_STEPS)
     session = open_session(options.file)
     Places(session)
     fields = fields_of(session, options, wanted)
     title = options.title if options.title is not None else "Session" if options.file == "-" else options.file.rpartition("/")[2]
-    made = [(options.geojson, geojson), (options.vtk, vtk), (options.output, lambda *given: Map(*given, title).svg())]
+    made = [(options.geojson, lambda *given: geojson(*given, options.crs)), (options.vtk, vtk), (options.output, lambda *given: Map(*given, title).svg())]
     for path, data in [(path, make(session, fields).encode()) for path, make in made if path]:
         command.write_whole(path, data)
     return 0

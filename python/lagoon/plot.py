@@ -9,8 +9,8 @@ from collections import Counter
 
 from . import causes, chart, command, engine, quantities, svg
 from .chart import COLOURS, DASHES, Line, Panel, Refused
-from .command import Bad, count, shown
-from .rows import listed_cells
+from .command import Bad, count
+from .rows import listed_cells, listed_steps
 from .session import Session
 from .timeline import Timeline
 
@@ -124,13 +124,14 @@ def figures_of(history, cells, every, profiles):
 
 
 def most_changed(history):
-    """The cells whose q changed most over the steps, in their order."""
+    """The cells whose q changed most over the steps, in their order; of more than are drawn, none that did not change, unless none did."""
     least = greatest = history.session.masses
     for moment in history.moments():
         least, greatest = list(map(min, least, moment.masses)), list(map(max, greatest, moment.masses))
     volumes = history.mesh.volumes
     changes = [high // volume - low // volume for low, high, volume in zip(least, greatest, volumes)]
-    return sorted(sorted(range(len(volumes)), key=lambda cell: -changes[cell])[:MOST_CELLS])
+    cells = sorted(range(len(volumes)), key=lambda cell: -changes[cell])[:MOST_CELLS]
+    return sorted(cells if len(volumes) <= MOST_CELLS else [cell for cell in cells if changes[cell]] or cells)
 
 
 def chosen(text, session):
@@ -138,19 +139,6 @@ def chosen(text, session):
     found = listed_cells(text, session)
     if len(found) > MOST_CELLS:
         raise Bad(f"--cells: at most {MOST_CELLS} cells are drawn, not {len(found):,}")
-    return found
-
-
-def chosen_steps(text):
-    """Steps from words like 0,24,last."""
-    found = []
-    for word in text.split(","):
-        word = word.strip()
-        if word != "last" and not (word.isascii() and word.isdigit() and len(word) <= 12):
-            raise Bad(f"--profile: {shown(word)} is neither a step nor 'last'")
-        found.append(word if word == "last" else int(word))
-    if len(found) > MOST_PROFILES:
-        raise Bad(f"--profile: at most {MOST_PROFILES} steps are drawn, not {len(found)}")
     return found
 
 
@@ -224,16 +212,17 @@ class Picture:
     def profiles(self):
         figures, plain = self.figures, self.plain
         lines = [line for (step, values), style in zip(sorted(figures.profiles.items()), styles())
-                 for line in twice(self.after(step), style, values, plain and plain.profiles[step])]
+                 for line in twice(f"after step {step:,}", style, values, plain and plain.profiles[step])]
         cells = len(figures.mesh.volumes)
         marks = [(int(mark), quantities.figure(mark)) for mark in quantities.ticks(0, cells - 1, 10, True) if mark < cells]
         stairs = [cell - 0.5 for cell in range(cells + 1)]
-        self.drawing.panel(Panel("Concentration q over the cells", self.q_scale(lines), (marks, "cell, by its number: neighbours here need not be neighbours in the water"),
-                                 stairs, lines, False), (-0.5, cells - 0.5))
+        self.drawing.panel(Panel("Concentration q over the cells", self.q_scale(lines),
+                                 (marks, "cell, by its number: neighbours here need not be neighbours in the water"),
+                                 stairs, lines, False, self.times(sorted(figures.profiles))), (-0.5, cells - 0.5))
 
-    def after(self, step):
-        time = self.timeline.words(step)
-        return f"after step {step:,}" + (f", {time}" if time else "")
+    def times(self, steps):
+        """When steps end, where the text says it."""
+        return "; ".join(f"step {step:,}: {self.timeline.words(step)}" for step in steps if self.timeline.words(step))
 
     def rates(self):
         """The panel of what crosses the rim; of plain upwind what is other than by the corrected steps."""
@@ -253,20 +242,20 @@ class Picture:
         self.budget(self.figures, "")
         self.refused_by(self.figures, "")
         if self.plain:
-            self.drawing.top += 20
+            self.drawing.top += chart.FOOT_HIGH
             self.budget(self.plain, "plain upwind: ")
             if self.others:
                 self.refused_by(self.plain, "plain upwind: ")
 
     def say(self, words):
-        self.drawing.text(chart.LEFT, self.drawing.top, words)
+        self.drawing.foot(words)
 
     def budget(self, figures, whose):
         scale = quantities.masses(self.labels.units, max(figures.total[0], figures.total[-1], figures.all_in, figures.all_out))
         unit = self.labels.units.get("mass", "")
         self.say(whose + balance(figures, lambda mass: f"{mass:,}") + (f" (in {'units of ' * unit[:1].isdigit()}{unit})" if unit else ""))
         if self.labels.units.get("mass") and scale.factor != 1:
-            self.drawing.top += 20
+            self.drawing.top += chart.FOOT_HIGH
             self.say(f"in {scale.words}, rounded: {balance(figures, lambda mass: quantities.rounded(mass * scale.factor))}")
 
     def refused_by(self, figures, whose):
@@ -277,7 +266,7 @@ class Picture:
         if whose and not lines:
             lines.append("no step refused")
         for line in lines:
-            self.drawing.top += 20
+            self.drawing.top += chart.FOOT_HIGH
             self.say(whose + line)
 
 
@@ -327,7 +316,7 @@ class Input:
 def run(options):
     given = Input(options.file)
     session = given.session()
-    profiles = chosen_steps(options.profile) if options.profile is not None else []
+    profiles = listed_steps(options.profile, "--profile", MOST_PROFILES) if options.profile is not None else []
     if options.cells is not None:
         cells = chosen(options.cells, session)
     else:

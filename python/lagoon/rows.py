@@ -150,6 +150,19 @@ class Cells(Called):
         super().__init__("cell", len(mesh.volumes), labels)
 
 
+def listed_steps(text, option, most):
+    """Steps from words like 0,24,last, as an option of a command gives them."""
+    found = []
+    for word in text.split(","):
+        word = word.strip()
+        if word != "last" and not (word.isascii() and word.isdigit() and len(word) <= 12):
+            raise Bad(f"{option}: {shown(word)} is neither a step nor 'last'")
+        found.append(word if word == "last" else int(word))
+    if len(found) > most:
+        raise Bad(f"{option}: at most {most} steps are drawn, not {len(found)}")
+    return found
+
+
 def listed_cells(text, session):
     """Cells from the words of an option, as 0,Marsh,30-33: a name, a number, or two numbers joined by a minus; each once."""
     cells, found = Cells(session.mesh, session.labels), []

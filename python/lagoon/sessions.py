@@ -7,9 +7,9 @@ from functools import cached_property
 from pathlib import Path
 from typing import Callable, Iterable, Iterator, NamedTuple, Optional, Union
 
-from . import budget, causes, engine, layout, plot, records, session, sessiontext
+from . import budget, causes, engine, export, layout, plot, records, session, sessiontext
 from . import map as map_command
-from .command import Bad
+from .command import Bad, Output
 from .timeline import Timeline
 from .values import Field, Mesh, Named, Refused, Step
 
@@ -127,16 +127,33 @@ class Run:
             yield Moment(mesh, held, timeline.words(held.number))
 
     def table(self, what: str = "q") -> dict:
-        """All cells over all steps that are kept: the steps, then q (or mass, or rest) under the name or number of each cell. It is what
-        `pandas.DataFrame` takes."""
-        mesh, columns, steps = self.session.mesh, None, []
+        """All cells over all steps that are kept: the steps, their times where the text has any, then q (or mass, or rest) under the name or
+        number of each cell. It is what `pandas.DataFrame` takes."""
+        mesh, columns, steps, times = self.session.mesh, None, [], []
         for moment in self:
             figures = moment.figures(what)
             columns = columns or {key: [] for key in figures}
             steps.append(moment.step)
+            times.append(moment.time)
             for column, value in zip(columns.values(), map(FIGURES[what], moment._inner.masses, mesh.volumes)):
                 column.append(value)
-        return {"step": steps, **columns}
+        return {"step": steps, **({"time": times} if any(times) else {}), **columns}
+
+    def to_csv(self, path: Union[str, "os.PathLike[str]"], long: bool = False) -> None:
+        """The same as a file, as `lagoon export` writes it: a column for each cell, or with `long` a row for each cell of each step.
+
+        >>> with tempfile.TemporaryDirectory() as made:
+        ...     Session.open("examples/channel.txt").run(every=2).to_csv(f"{made}/q.csv")
+        ...     print(open(f"{made}/q.csv").read(), end="")
+        step,time,cause,cell 0,cell 1,cell 2
+        0,,,1000,0,0
+        2,,,1000,811,187
+        """
+        table = export.Table(self.session.opened(), range(len(self.session.mesh.volumes)), long, False)
+        with Output(str(path)) as output:
+            output.write(table.head())
+            for moment in self:
+                output.write(table.rows(moment._inner))
 
     def last(self) -> Field:
         """The field after the last step."""
@@ -167,7 +184,6 @@ class Run:
         words = ["--title", title or self.session.name, "--every", str(self.every), *(["--cells", ",".join(numbers)] if numbers else []),
                  *(["--profile", ",".join(map(str, profile))] if profile else []), *(["--plain"] if self.plain else [])]
         return drawn(plot.main, self.session, words)
-
 
     def map(self, steps: Iterable = (0, "last"), title: str = "") -> Picture:
         """What `lagoon map` draws: the lagoon after these steps, where its text says where cells and faces lie."""

@@ -75,8 +75,8 @@ class Survey:
             return
         kept = self.at[thing].setdefault(number, coordinates)
         if thing == "cell" and math.dist(kept, coordinates) > SAME_PLACE:
-            self.notes.append(f"note: cell {shown(self.names[number])} lies at {kept[0]:g}, {kept[1]:g} and by another row at {coordinates[0]:g}, {coordinates[1]:g}: "
-                              "the first is kept for the map")
+            self.notes.append(f"note: cell {shown(self.names[number])} lies at {kept[0]:g}, {kept[1]:g} and by another row at "
+                              f"{coordinates[0]:g}, {coordinates[1]:g}: the first is kept for the map")
 
     def face(self, faces, line, row):
         """Name, first, second, share and area times distance."""

@@ -237,7 +237,8 @@ class Step:
         mesh, sizes = self.mesh, causes.MOST_AT_RIM
         inside = [0 if face.second == RIM else outside for face, outside in zip(mesh.inner.faces, self.outside)]
         return (causes.first_of(18, CELL, self.release, lambda release: "" if release <= most(WIDE.mass) else f"release {release:,} is too large")
-                or causes.first_of(7, FACE, self.outside, lambda value: "" if value <= most(layout.OUTSIDE_BITS) else f"outside value {value:,} is above {causes.TOP:,}")
+                or causes.first_of(7, FACE, self.outside,
+                                   lambda value: "" if value <= most(layout.OUTSIDE_BITS) else f"outside value {value:,} is above {causes.TOP:,}")
                 or causes.first_of(7, FACE, inside, lambda value: f"outside value {value:,} at a face that is not at the rim" if value else "")
                 or causes.first_of(8, FACE, self.flux, lambda flux: "" if abs(flux) <= sizes else f"flux {flux:,} is above {sizes:,}"))
 
