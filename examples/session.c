@@ -73,12 +73,8 @@ static int print_refused(char letter, uint64_t answer)
 /* The eight cells with the highest concentration, in the board's order. */
 static void print_board(size_t mesh_length, size_t field_length)
 {
-    static uint64_t volumes[LAGOON_MAX_CELLS], faces[4][LAGOON_MAX_FACES], masses[LAGOON_MAX_CELLS];
-    uint64_t counts[3] = {0}, board[LAGOON_BOARD_NUMBERS] = {0};
-    lagoon_read_mesh(mesh, mesh_length, volumes, LAGOON_MAX_CELLS, faces[0], LAGOON_MAX_FACES, faces[1], LAGOON_MAX_FACES, faces[2],
-                     LAGOON_MAX_FACES, faces[3], LAGOON_MAX_FACES, counts, 3);
-    lagoon_read_field(counts[2], counts[0], field, field_length, masses, LAGOON_MAX_CELLS);
-    lagoon_table_board(counts[0], volumes, LAGOON_MAX_CELLS, masses, LAGOON_MAX_CELLS, board, LAGOON_BOARD_NUMBERS);
+    uint64_t board[LAGOON_BOARD_NUMBERS] = {0};
+    lagoon_board(mesh, mesh_length, field, field_length, board, LAGOON_BOARD_NUMBERS);
     for (uint64_t line = 0; line < board[0]; line++)
         printf("B %" PRIu64 " %" PRIu64 " %" PRIu64 "\n", board[1 + 3 * line], board[2 + 3 * line], board[3 + 3 * line]);
 }

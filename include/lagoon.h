@@ -6,7 +6,7 @@
  *   4  tables: their positions and lengths
  *   5  calls on tables        lagoon_table_step, lagoon_table_plain_step, lagoon_table_judge
  *   6  records and tables     lagoon_read_mesh, .. _field, .. _step, lagoon_write_mesh, .. _field, .. _step
- *   7  pages and boards       lagoon_total, lagoon_page, lagoon_public_page, and on tables lagoon_table_total and so on, with the boards
+ *   7  pages and boards       lagoon_total, lagoon_board, lagoon_page, lagoon_public_page, lagoon_public_board, each on records and on tables
  *   8  period and charge      lagoon_add, lagoon_charge
  *   9  fields kept by name    lagoon_keep, lagoon_drop, lagoon_give_back
  *  10  shares                 lagoon_share
@@ -119,7 +119,7 @@ static inline const char *lagoon_cause_text(uint32_t cause)
 
 /* A thread that makes a call needs this much stack, in bytes; tests/host.sh measures what the largest of them take. The stack is touched
  * page by page downwards, so a thread with less ends in its guard page and writes nothing beyond it. */
-#define LAGOON_STACK_BYTES (704 * 1024)
+#define LAGOON_STACK_BYTES (640 * 1024)
 
 /* Ceilings of the values, and of a volume, a reach and the size of a flux in narrow records (below). */
 #define LAGOON_RIM 4095                   /* in the place of a second cell: the face is at the rim */
@@ -318,6 +318,7 @@ uint64_t lagoon_table_total(uint64_t cells, const uint64_t *volumes, size_t volu
                             uint64_t *found, size_t found_len);
 
 /* found: LAGOON_BOARD_NUMBERS numbers: the eight highest concentrations, as the run prints them. */
+uint64_t lagoon_board(const uint8_t *mesh, size_t mesh_len, const uint8_t *field, size_t field_len, uint64_t *found, size_t found_len);
 uint64_t lagoon_table_board(uint64_t cells, const uint64_t *volumes, size_t volumes_len, const uint64_t *masses, size_t masses_len,
                             uint64_t *found, size_t found_len);
 
@@ -336,6 +337,8 @@ uint64_t lagoon_table_public_page(uint64_t cells, const uint64_t *volumes, size_
                                   uint64_t *found, size_t found_len);
 
 /* The board among open cells only. Refuses by 2, place 19, and 27. */
+uint64_t lagoon_public_board(const uint8_t *mesh, size_t mesh_len, const uint8_t *field, size_t field_len, const uint64_t *marks,
+                             size_t marks_len, uint64_t *found, size_t found_len);
 uint64_t lagoon_table_public_board(uint64_t cells, const uint64_t *volumes, size_t volumes_len, const uint64_t *masses, size_t masses_len,
                                    const uint64_t *marks, size_t marks_len, uint64_t *found, size_t found_len);
 

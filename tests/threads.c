@@ -29,7 +29,7 @@ static void make_round(struct round *r)
     r->answers[1] = lagoon_plain_step(mesh, sizeof mesh, field, sizeof field, step, sizeof step, r->plain, sizeof r->plain);
     r->answers[2] = lagoon_check(mesh, sizeof mesh, field, sizeof field - 1, step, sizeof step); /* refused */
     r->answers[3] = lagoon_crossing(mesh, sizeof mesh, field, sizeof field, step, sizeof step, r->crossed, 3);
-    r->answers[4] = lagoon_table_board(CELLS, wide_volumes, CELLS, masses, CELLS, r->board, LAGOON_BOARD_NUMBERS);
+    r->answers[4] = lagoon_board(mesh, sizeof mesh, r->next, sizeof r->next, r->board, LAGOON_BOARD_NUMBERS);
     r->answers[5] = lagoon_table_public_page(CELLS, wide_volumes, CELLS, masses, CELLS, 0, r->page, sizeof r->page, marks, CELLS, r->length, 1);
     r->answers[6] = lagoon_add(FACES, seconds, FACES, moved, FACES, r->totals, FACES);
     r->answers[7] = lagoon_share(0, -2, 0, 2, -30, 0, 10, 0, r->share, 1);
