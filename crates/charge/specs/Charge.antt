@@ -25,7 +25,7 @@ beginOf ends zero = 0
 beginOf ends (suc i) = getD ends i 0
 
 module _ (ends prices : List ℕ) where
-  -- what of a total lies within band i
+  -- what of a total lies within band i; never cut off at 0, since by 25 a band ends above where it begins
   unfoldable pub inBand : (total i : ℕ) → ℕ
   inBand total i = min total (getD ends i 0) - min total (beginOf ends i)
 
