@@ -525,7 +525,7 @@ class Others(Figures):
     """Cuttings, charges, scripts."""
 
     def test_cut(self):
-        """Document 02, S-12: the figures of crates/cut/proofs/Figures.antt, and others."""
+        """Document 02, S-12: the figures of crates/cutting_parts/proofs/Figures.antt, and others."""
         masses, releases, labels = [100000, 0, 0], [5000, 0, 0], [0, 1, 1]
         counts, (near, far) = cut(CHANNEL, masses, FLOW, OUTSIDE, releases, labels)
         self.equal(counts, (1, 2, 2, 3), "the channel's counts")

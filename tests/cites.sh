@@ -16,26 +16,26 @@ found() { # PAGE SED-EXPRESSION: the page changed by it has to be refused
 cp docs/PROMISES.md "$made/page.md"
 python3 tests/cites.py --as docs/PROMISES.md "$made/page.md" > "$made/said"     # what stands there unchanged is right
 found docs/PROMISES.md 's/`refused-promise`/`refused-promises`/'
-found docs/PROMISES.md 's,`limiter/must-fail/plain_upwind.edit`,`transport/must-fail/plain.edit`,g'
+found docs/PROMISES.md 's,`step_limiter/must-fail/plain_upwind.edit`,`transport/must-fail/plain.edit`,g'
 found docs/PROMISES.md 's,\[`transport/specs/Promise.antt`\],`transport/specs/Promise.antt` †,'
 found docs/PROMISES.md 's/: `_andThen_` and `each`/: `_andThen_` and `eachOf`/'
 found docs/PROMISES.md 's/| \[Stage 1: upwind\]/| [Stage 1: upwinds]/'
 found docs/PROMISES.md 's/^### Stage 1: upwind/### Stage 1/'
 found docs/PROMISES.md 's,\[`judging/src/lib.rt`\],`judging/src/lib.rt`,'
-found docs/PROMISES.md '/^\[`zeros.src.lib.rt`\]:/d'
-found docs/PROMISES.md 's,: \.\./crates/zeros/src/lib.rt,: ../crates/zeros/src/lib.antt,'
+found docs/PROMISES.md '/^\[`record_zeros.src.lib.rt`\]:/d'
+found docs/PROMISES.md 's,: \.\./crates/record_zeros/src/lib.rt,: ../crates/record_zeros/src/lib.antt,'
 found docs/PROMISES.md 's/, \[Refused steps\]//'
 found docs/ACCURACY.md 's/(accuracy.svg)/(accurate.svg)/'
 found docs/CALLS.md 's/^total: accepted 200000/total: accepted 200001/'
 found docs/CALLS.md 's/^    masses: &\[u64\],/    masses: \&[u32],/'
-found docs/landings/S-04.md 's,`kept/specs/Store.antt`,`store/specs/Store.antt`,'
+found docs/landings/S-04.md 's,`store_kept/specs/Store.antt`,`store/specs/Store.antt`,'
 
 python3 tests/laws.py
-sed 's#`judging/proofs/Own.antt`, billed#`judging/proofs/Laws.antt`, billed#' docs/DESIGN.md > "$made/page.md"
+sed 's#`judging/proofs/Own.antt`, charge_billed#`judging/proofs/Laws.antt`, charge_billed#' docs/DESIGN.md > "$made/page.md"
 if python3 tests/laws.py "$made/page.md" > "$made/said" 2>&1; then echo "a file that cites no law is not found"; exit 1; fi
 
 python3 tests/families.py
-sed 's/^portion: /portions: /' crates.txt > "$made/crates.txt"
+sed 's/^step_portion: /step_portions: /' crates.txt > "$made/crates.txt"
 if python3 tests/families.py "$made/crates.txt" > "$made/said" 2>&1; then echo "a crate that README.md does not have is not found"; exit 1; fi
 
 python3 tests/causes.py
@@ -57,6 +57,6 @@ other include/lagoon.h 's/"record of the wrong length"/"a flux larger than its r
 
 python3 tests/edits.py
 mkdir -p "$made/bits/must-fail"
-cp -r crates/bits/src "$made/bits/src"
+cp -r crates/record_bits/src "$made/bits/src"
 printf 'file: src/lib.rt\nold: fn wide(x: u8) -> u64\n    ensures\nnew: fn wide(x: u8) -> u64\n    requires\n' > "$made/bits/must-fail/lines.edit"
 if python3 tests/edits.py "$made/bits/must-fail/lines.edit" > "$made/said" 2>&1; then echo "an edit of several lines is not found"; exit 1; fi

@@ -109,7 +109,7 @@ fn change(
         return season;
     }
     let next = text::mixed(season, i / PAIRS);
-    grid::vary(next, faces, seconds, fluxes, outsides);
+    bench_grid::vary(next, faces, seconds, fluxes, outsides);
     next
 }
 
@@ -180,8 +180,8 @@ fn run(large: bool, cells: usize, width: u64, height: u64, rounds: u64)
     let mut fluxes = [0i64; MAX_FACES];
     let mut outsides = [0u64; MAX_FACES];
     let releases = [0u64; MAX_CELLS];
-    grid::make_cells(large, cells, width, &mut volumes, &mut masses);
-    grid::make_faces(
+    bench_grid::make_cells(large, cells, width, &mut volumes, &mut masses);
+    bench_grid::make_faces(
         large,
         2 * cells,
         width,
@@ -222,7 +222,7 @@ fn main() {
     if height > SIDE {
         return;
     }
-    let cells = grid::times(width, height);
+    let cells = bench_grid::times(width, height);
     if cells > SIDE {
         return;
     }

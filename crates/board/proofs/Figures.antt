@@ -3,12 +3,12 @@ use Prim.Native.Nat.{ℕ}
 use mathlib.Core.Path.{_≡_, refl}
 use mathlib.Core.List.{[], _∷_}
 use Rattle.lists.specs.Table.{over}
-use Rattle.order.specs.Order.{rankedOf, fuller, asFull, comesBefore, insertInOrder, inOrder}
-use Rattle.board.specs.Board.{entryOf, unused, entryAt, rankedAt, before, listedOf, entriesOf, listed, boardEntries}
+use Rattle.board_order.specs.Order.{rankedOf, fuller, asFull, comesBefore, insertInOrder, inOrder}
+use Rattle.board.specs.Board.{entryOf, unused, entryAt, rankedAt, cellBefore, listedOf, entriesOf, listed, boardEntries}
 use Rattle.board.specs.declared.Entry.{Entry}
 
 everything : Unit {0}
-unfolding over entryOf rankedOf fuller asFull comesBefore insertInOrder inOrder entryAt rankedAt before listedOf entriesOf
+unfolding over entryOf rankedOf fuller asFull comesBefore insertInOrder inOrder entryAt rankedAt cellBefore listedOf entriesOf
 everything = tt
 
 abbrev entry : ℕ → ℕ → ℕ → Entry

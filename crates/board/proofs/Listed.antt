@@ -19,12 +19,12 @@ use Rattle.model.specs.declared.Answer.the-variants.{Done, Refused}
 use Rattle.model.specs.declared.Refusal.{Refusal}
 use Rattle.model.proofs.Verdicts.{passes}
 use Rattle.model.proofs.Accepted.{field-passed, salt-asks}
-use Rattle.order.specs.declared.Ranked.{Ranked}
-use Rattle.order.specs.Order.{rankedOf, unranked, comesBefore, insertInOrder}
-use Rattle.order.proofs.Insertion.{count-more, cells-none, cells-more, cells-passed}
-use Rattle.order.proofs.Order.{Strict, board-strict, first-count, first-below, first-ordered, first-distinct, left-out-after}
-use Rattle.marks.specs.Marks.{isOpen}
-use Rattle.board.specs.Board.{boardSize, entryOf, unused, shown, everyCell, entryAt, rankedAt, before, listedOf, rankedCells, entriesOf, listed, boardEntries, boardVerdict, Rankable, BoardAfter, BoardIs}
+use Rattle.board_order.specs.declared.Ranked.{Ranked}
+use Rattle.board_order.specs.Order.{rankedOf, unranked, comesBefore, insertInOrder}
+use Rattle.board_order.proofs.Insertion.{count-more, cells-none, cells-more, cells-passed}
+use Rattle.board_order.proofs.Order.{Strict, board-strict, first-count, first-below, first-ordered, first-distinct, left-out-after}
+use Rattle.public_marks.specs.Marks.{isOpen}
+use Rattle.board.specs.Board.{boardSize, entryOf, unused, shown, everyCell, entryAt, rankedAt, cellBefore, listedOf, rankedCells, entriesOf, listed, boardEntries, boardVerdict, Rankable, BoardAfter, BoardIs}
 use Rattle.board.specs.declared.Entry.{Entry}
 use Rattle.board.specs.declared.BoardAnswer.{BoardAnswer}
 
@@ -65,7 +65,7 @@ module _ (volumes masses : List ℕ) where
       pub ranked : ranks ≡ rankedCells volumes masses visible c
 
     pub none-ranked : (cells : ℕ) {used : ℕ} {ranks : List Ranked} → used ≡ 0 → ranks ≡ replicate boardSize unranked → RankedTo cells 0 used ranks
-    unfolding rankedCells listedOf before count sum
+    unfolding rankedCells listedOf cellBefore count sum
     none-ranked cells u e = record {
       within = omega arith;
       counted = omega arith;
@@ -76,7 +76,7 @@ module _ (volumes masses : List ℕ) where
         → e ≡ rankedOf c (getD volumes c 0) (getD masses c 0) → (b : Bool) → b ≡ visible c
         → (b ≡ true → (used′ ≡ min boardSize (used + 1)) × (ranks′ ≡ over (take boardSize (insertInOrder comesBefore e (take used ranks))) ranks))
         × (b ≡ false → (used′ ≡ used) × (ranks′ ≡ ranks)) → RankedTo cells (c + 1) used′ ranks′
-    unfolding rankedCells listedOf before rankedAt
+    unfolding rankedCells listedOf cellBefore rankedAt
     one-more {cells} {c} {used} {used′} {ranks} {ranks′} {e} r h i true v k =
         let t = k .0 refl in
         let more : count (c + 1) visible ≡ count c visible + 1 = rw (← v) at (count-more visible c) in
@@ -124,12 +124,12 @@ module _ (volumes masses : List ℕ) where
       -- eight cells, or all visible ones where there are fewer
       pub visible-count : length (listedOf volumes masses visible n) ≡ min boardSize (count n visible)
       unfolding listedOf
-      visible-count = first-count (before volumes masses) visible boardSize n
+      visible-count = first-count (cellBefore volumes masses) visible boardSize n
 
       -- each a visible cell
       pub listed-below : {c : ℕ} → List·Memᴰ c (listedOf volumes masses visible n) → (c < n) × (visible c ≡ true)
       unfolding listedOf
-      listed-below = first-below (before volumes masses) visible boardSize n
+      listed-below = first-below (cellBefore volumes masses) visible boardSize n
 
       -- what is shown of the ranked cells
       pub entries-shown : {u : ℕ} {es : List Ranked} → u ≡ min boardSize (count n visible) → es ≡ rankedCells volumes masses visible n
@@ -145,26 +145,26 @@ module _ (volumes masses : List ℕ) where
           ap (λ (s : List Entry). over s (replicate boardSize unused)) (sym w)
 
       module _ (some : (c : ℕ) → c < n → 1 ≤ getD volumes c 0) where
-        before-strict : Strict n (before volumes masses)
-        unfolding before rankedAt rankedOf
+        before-strict : Strict n (cellBefore volumes masses)
+        unfolding cellBefore rankedAt rankedOf
         before-strict = board-strict n (rankedAt volumes masses) (λ c. refl) some
 
         -- each comes before those listed after it
         pub listed-ordered : (i j : ℕ) → i < j → j < length (listedOf volumes masses visible n)
-            → before volumes masses (getD (listedOf volumes masses visible n) i 0) (getD (listedOf volumes masses visible n) j 0) ≡ true
+            → cellBefore volumes masses (getD (listedOf volumes masses visible n) i 0) (getD (listedOf volumes masses visible n) j 0) ≡ true
         unfolding listedOf
-        listed-ordered = first-ordered (before volumes masses) n before-strict visible boardSize
+        listed-ordered = first-ordered (cellBefore volumes masses) n before-strict visible boardSize
 
         pub listed-distinct : (i j : ℕ) → i < j → j < length (listedOf volumes masses visible n)
             → getD (listedOf volumes masses visible n) i 0 ≢ getD (listedOf volumes masses visible n) j 0
         unfolding listedOf
-        listed-distinct = first-distinct (before volumes masses) n before-strict visible boardSize
+        listed-distinct = first-distinct (cellBefore volumes masses) n before-strict visible boardSize
 
         -- no unlisted visible cell comes before a listed one: it comes after each
         pub unlisted-after : {c d : ℕ} → c < n → visible c ≡ true → (List·Memᴰ c (listedOf volumes masses visible n) → ⊥)
-            → List·Memᴰ d (listedOf volumes masses visible n) → before volumes masses d c ≡ true
+            → List·Memᴰ d (listedOf volumes masses visible n) → cellBefore volumes masses d c ≡ true
         unfolding listedOf
-        unlisted-after = left-out-after (before volumes masses) n before-strict visible boardSize
+        unlisted-after = left-out-after (cellBefore volumes masses) n before-strict visible boardSize
 
     -- what a board answers after a verdict, accepted and refused
     module _ (n : ℕ) (r : BoardAnswer) where
@@ -204,8 +204,8 @@ module _ (volumes masses : List ℕ) where
     call-lists = let f = passes (b .verdict-is) d in (rw f at (b .used-is), rw f at (b .entries-are))
 
     pub call-ordered : (i j : ℕ) → i < j → j < length (listed volumes masses n)
-        → before volumes masses (getD (listed volumes masses n) i 0) (getD (listed volumes masses n) j 0) ≡ true
+        → cellBefore volumes masses (getD (listed volumes masses n) i 0) (getD (listed volumes masses n) j 0) ≡ true
     call-ordered = listed-ordered everyCell n volumes-some
 
-    pub call-highest : {c d : ℕ} → c < n → (List·Memᴰ c (listed volumes masses n) → ⊥) → List·Memᴰ d (listed volumes masses n) → before volumes masses d c ≡ true
+    pub call-highest : {c d : ℕ} → c < n → (List·Memᴰ c (listed volumes masses n) → ⊥) → List·Memᴰ d (listed volumes masses n) → cellBefore volumes masses d c ≡ true
     call-highest h = unlisted-after everyCell n volumes-some h refl

@@ -8,8 +8,8 @@ use Rattle.lists.specs.Table.{over}
 use Rattle.lists.specs.Marked.{count}
 use Rattle.model.specs.Causes.{Verdict, taken, meshFieldVerdict, cellsOnly}
 use Rattle.model.specs.Answers.{said}
-use Rattle.order.specs.declared.Ranked.{Ranked}
-use Rattle.order.specs.Order.{maxRanked, rankedOf, unranked, comesBefore, inOrder}
+use Rattle.board_order.specs.declared.Ranked.{Ranked}
+use Rattle.board_order.specs.Order.{maxRanked, rankedOf, unranked, comesBefore, inOrder}
 use Rattle.board.specs.declared.Entry.{Entry}
 use Rattle.board.specs.declared.BoardAnswer.{BoardAnswer}
 
@@ -40,12 +40,12 @@ module _ (volumes masses : List ℕ) where
   rankedAt c = rankedOf c (getD volumes c 0) (getD masses c 0)
 
   -- cell a comes before cell b
-  unfoldable pub before : ℕ → ℕ → Bool
-  before a b = comesBefore (rankedAt a) (rankedAt b)
+  unfoldable pub cellBefore : ℕ → ℕ → Bool
+  cellBefore a b = comesBefore (rankedAt a) (rankedAt b)
 
   -- the first eight of the visible cells, or all of them where there are fewer
   unfoldable pub listedOf : (visible : ℕ → Bool) → ℕ → List ℕ
-  listedOf visible cells = take boardSize (inOrder visible before cells)
+  listedOf visible cells = take boardSize (inOrder visible cellBefore cells)
 
   -- as the order sees them, written over eight that are not used
   unfoldable pub rankedCells : (visible : ℕ → Bool) → ℕ → List Ranked

@@ -1,10 +1,10 @@
 // The board of document 01: the eight cells of highest concentration, by value.
+use board_order::Ranked;
+use board_order::comes_before;
+use board_order::ranked_of;
 use checks::check_cells;
-use marks::is_open;
 use model::Answer;
-use order::Ranked;
-use order::comes_before;
-use order::ranked_of;
+use public_marks::is_open;
 ghost use mathlib.Core.Path.{_≡_};
 ghost use mathlib.Core.Bool.{true, false, _||_};
 ghost use Prim.Native.Nat.{_+_, _≤_, min};
@@ -13,8 +13,8 @@ ghost use Rattle.lists.specs.Table.{table, over};
 ghost use Rattle.lists.specs.Marked.{count};
 ghost use Rattle.model.specs.Causes.{fine};
 ghost use Rattle.model.specs.Answers.{said};
-ghost use Rattle.order.specs.Order.{unranked, comesBefore, insertInOrder};
-ghost use Rattle.marks.specs.Marks.{isOpen};
+ghost use Rattle.board_order.specs.Order.{unranked, comesBefore, insertInOrder};
+ghost use Rattle.public_marks.specs.Marks.{isOpen};
 ghost use Rattle.board.specs.Board.{boardSize, shown, unused, rankedCells, Rankable, BoardAfter, BoardIs};
 
 // Most cells that the board lists.

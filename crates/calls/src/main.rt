@@ -1,13 +1,13 @@
 // Every exported call of the engine, made as a script on standard input asks, and a line printed for each. docs/CALLS.md describes the script.
-use arguments::BYTES_ROOM;
-use arguments::WORDS;
-use arguments::parts;
-use arguments::show;
-use numerals::Token;
-use script::faults;
-use script::input;
-use script::input::Fault;
-use script::input::Input;
+use calls_arguments::BYTES_ROOM;
+use calls_arguments::WORDS;
+use calls_arguments::parts;
+use calls_arguments::show;
+use calls_numerals::Token;
+use calls_script::faults;
+use calls_script::input;
+use calls_script::input::Fault;
+use calls_script::input::Input;
 
 // The number of each call.
 const COUNTS_WITHIN: u64 = 1;
@@ -126,52 +126,52 @@ fn later(call: u64) -> u64 {
 
 fn make_on_tables(call: u64, words: &[u64], ints: &[i64]) {
     match call {
-        COUNTS_WITHIN => table_calls::counts_within(words),
-        CHECK_MESH => table_calls::check_mesh(words),
-        CHECK_FIELD => table_calls::check_field(words),
-        CHECK_CELLS => table_calls::check_cells(words),
-        CHECK_STEP => table_calls::check_step(words, ints),
-        TOTAL => table_calls::total(words),
-        STEP => table_calls::step(words, ints),
-        PLAIN_STEP => table_calls::plain_step(words, ints),
-        JUDGE => table_calls::judge(words, ints),
-        CUT => cutting_calls::cut(words, ints),
-        _ => table_calls::board(words),
+        COUNTS_WITHIN => calls_tables::counts_within(words),
+        CHECK_MESH => calls_tables::check_mesh(words),
+        CHECK_FIELD => calls_tables::check_field(words),
+        CHECK_CELLS => calls_tables::check_cells(words),
+        CHECK_STEP => calls_tables::check_step(words, ints),
+        TOTAL => calls_tables::total(words),
+        STEP => calls_tables::step(words, ints),
+        PLAIN_STEP => calls_tables::plain_step(words, ints),
+        JUDGE => calls_tables::judge(words, ints),
+        CUT => calls_cutting::cut(words, ints),
+        _ => calls_tables::board(words),
     }
 }
 
 fn make_on_records(call: u64, words: &[u64], ints: &[i64], bytes: &[u8]) {
     match call {
-        MESH_LENGTH => record_calls::mesh_length(words, bytes),
-        FIELD_LENGTH => record_calls::field_length(words, bytes),
-        STEP_LENGTH => record_calls::step_length(words, bytes),
-        READ_MESH => record_calls::read_mesh(words, bytes),
-        READ_FIELD => record_calls::read_field(words, bytes),
-        READ_STEP => record_calls::read_step(words, ints, bytes),
-        WRITE_MESH => record_calls::write_mesh(words),
-        WRITE_FIELD => record_calls::write_field(words),
-        WRITE_STEP => record_calls::write_step(words, ints),
-        NUMBER_AT => record_calls::number_at(words, bytes),
+        MESH_LENGTH => calls_records::mesh_length(words, bytes),
+        FIELD_LENGTH => calls_records::field_length(words, bytes),
+        STEP_LENGTH => calls_records::step_length(words, bytes),
+        READ_MESH => calls_records::read_mesh(words, bytes),
+        READ_FIELD => calls_records::read_field(words, bytes),
+        READ_STEP => calls_records::read_step(words, ints, bytes),
+        WRITE_MESH => calls_records::write_mesh(words),
+        WRITE_FIELD => calls_records::write_field(words),
+        WRITE_STEP => calls_records::write_step(words, ints),
+        NUMBER_AT => calls_records::number_at(words, bytes),
         _ => make_on_tables(call, words, ints),
     }
 }
 
 fn make(call: u64, words: &[u64], ints: &[i64], bytes: &[u8]) {
     match call {
-        LAGOON_STEP => taking_calls::lagoon_step(words, bytes),
-        TAKE_MESH => taking_calls::take_mesh(words, bytes),
-        TAKE_FIELD => taking_calls::take_field(words, bytes),
-        TAKE_STEP => taking_calls::take_step(words, bytes),
-        PAGE => field_calls::page(words),
-        KEEP => field_calls::keep(words),
-        DROP => field_calls::drop(words),
-        GIVE_BACK => field_calls::give_back(words),
-        MIDDLE_STAGE => point_calls::middle_stage(words),
-        FACE_SHARE => point_calls::face_share(words),
-        ADD => period_calls::add(words, ints),
-        CHARGE => period_calls::charge(words),
-        PUBLIC_PAGE => field_calls::public_page(words),
-        PUBLIC_BOARD => field_calls::public_board(words),
+        LAGOON_STEP => calls_taking::lagoon_step(words, bytes),
+        TAKE_MESH => calls_taking::take_mesh(words, bytes),
+        TAKE_FIELD => calls_taking::take_field(words, bytes),
+        TAKE_STEP => calls_taking::take_step(words, bytes),
+        PAGE => calls_fields::page(words),
+        KEEP => calls_fields::keep(words),
+        DROP => calls_fields::drop(words),
+        GIVE_BACK => calls_fields::give_back(words),
+        MIDDLE_STAGE => calls_points::middle_stage(words),
+        FACE_SHARE => calls_points::face_share(words),
+        ADD => calls_periods::add(words, ints),
+        CHARGE => calls_periods::charge(words),
+        PUBLIC_PAGE => calls_fields::public_page(words),
+        PUBLIC_BOARD => calls_fields::public_board(words),
         _ => make_on_records(call, words, ints, bytes),
     }
     show::word(b"\n");

@@ -22,7 +22,7 @@ use Rattle.model.proofs.Accepted.{counted, mesh-lent, field-lent, call-lent, me
 use Rattle.model.proofs.Claims.{claim-lent}
 use Rattle.model.proofs.Sizes.{total-most}
 use Rattle.model.proofs.Accepted.{field-passed}
-use Rattle.passing.specs.Passing.{FacesPass}
+use Rattle.check_passing.specs.Passing.{FacesPass}
 use Rattle.checks.specs.Quick.{CellFine}
 
 -- cause 6 without a division

@@ -26,7 +26,7 @@ pub enum TotalAnswer {
 pub fn counts_within(most_cells: usize, most_faces: usize, cells: usize, faces: usize) -> Answer
     ensures { λ r. ⌜ said r ≡ countsWithin «most_cells» «most_faces» cells faces ⌝ }
 {
-    lent::counts_within(most_cells, most_faces, cells, faces)
+    check_lent::counts_within(most_cells, most_faces, cells, faces)
 }
 
 // Causes 1 to 5.
@@ -42,11 +42,11 @@ pub fn check_mesh(
     ensures { λ r. ⌜ said r ≡ meshVerdict
         (meshOf cells faces (now (volumes .entry)) (now (firsts .entry)) (now (seconds .entry)) (now (shares .entry)) (now (reaches .entry))) ⌝ }
 {
-    let a = lent::mesh_lent(cells, faces, volumes, firsts, seconds, shares, reaches);
+    let a = check_lent::mesh_lent(cells, faces, volumes, firsts, seconds, shares, reaches);
     if let Answer::Refused(r) = a {
         return Answer::Refused(r);
     }
-    shape::values(
+    check_mesh::values(
         cells,
         faces,
         volumes,
@@ -73,7 +73,7 @@ pub fn check_field(
         (meshOf cells faces (now (volumes .entry)) (now (firsts .entry)) (now (seconds .entry)) (now (shares .entry)) (now (reaches .entry)))
         (now (masses .entry)) ⌝ }
 {
-    let a = lent::field_lent(
+    let a = check_lent::field_lent(
         cells,
         faces,
         volumes,
@@ -86,7 +86,7 @@ pub fn check_field(
     if let Answer::Refused(r) = a {
         return Answer::Refused(r);
     }
-    let b = shape::values(
+    let b = check_mesh::values(
         cells,
         faces,
         volumes,
@@ -147,7 +147,7 @@ pub fn step_values(
         (now (masses .entry))
         (waterOf (now (fluxes .entry)) (now (outsides .entry)) (now (releases .entry))) ⌝ }
 {
-    let a = shape::values(
+    let a = check_mesh::values(
         cells,
         faces,
         volumes,
@@ -166,12 +166,12 @@ pub fn step_values(
     );
     let b = and_then(
         salt,
-        water::values(faces, seconds, reaches, fluxes, outsides, model::CEILING),
+        check_water::values(faces, seconds, reaches, fluxes, outsides, model::CEILING),
     );
     if let Answer::Refused(r) = b {
         return Answer::Refused(r);
     }
-    flows::values(cells, faces, volumes, firsts, seconds, fluxes)
+    check_flows::values(cells, faces, volumes, firsts, seconds, fluxes)
 }
 
 // Causes 1 to 10 and 18.
@@ -196,7 +196,7 @@ pub fn check_step(
         (now (masses .entry))
         (callOf (now (fluxes .entry)) (now (outsides .entry)) (now (next .entry)) (now (moved .entry)) (now (work .entry)) (now (releases .entry))) ⌝ }
 {
-    let a = lent::field_lent(
+    let a = check_lent::field_lent(
         cells,
         faces,
         volumes,
@@ -209,7 +209,7 @@ pub fn check_step(
     if let Answer::Refused(r) = a {
         return Answer::Refused(r);
     }
-    let b = lent::step_lent(cells, faces, fluxes, outsides, next, moved, work, releases);
+    let b = check_lent::step_lent(cells, faces, fluxes, outsides, next, moved, work, releases);
     if let Answer::Refused(r) = b {
         return Answer::Refused(r);
     }
@@ -264,7 +264,7 @@ pub fn check_claim(
         (now (masses .entry))
         (claimOf (now (fluxes .entry)) (now (outsides .entry)) (now (next .entry)) (now (claim .entry)) (now (releases .entry))) ⌝ }
 {
-    let a = lent::field_lent(
+    let a = check_lent::field_lent(
         cells,
         faces,
         volumes,
@@ -276,7 +276,7 @@ pub fn check_claim(
     );
     let b = and_then(
         a,
-        lent::claim_lent(cells, faces, fluxes, outsides, next, claim, releases),
+        check_lent::claim_lent(cells, faces, fluxes, outsides, next, claim, releases),
     );
     if let Answer::Refused(r) = b {
         return Answer::Refused(r);

@@ -67,7 +67,7 @@ pub fn pass(
     if !cells_fit(cells, volumes, masses, releases) {
         return false;
     }
-    passing::pass(
+    check_passing::pass(
         cells,
         faces,
         volumes,

@@ -9,11 +9,11 @@ use Rattle.model.specs.Answers.{told}
 use Rattle.model.specs.declared.Refusal.{Refusal}
 use Rattle.model.proofs.Verdicts.{all-fine, out, past}
 use Rattle.model.proofs.Accepted.{counted, mesh-fit, raised-fit, mass-small, water-fit, flux-small}
-use Rattle.cut.specs.Cut.{Tables, Lagoon, meshIn, waterIn, stepInput, partTables}
-use Rattle.cut.specs.Refusals.{Sizes, sizesOf, cutCauses, cutVerdict, cutAnswer}
-use Rattle.cut.specs.Parts.{TablesLong}
-use Rattle.cut.proofs.Parts.{tables-long, labels-long, lengths-fine}
-use Rattle.cut_part.specs.Part.{Cuttable}
+use Rattle.cutting_parts.specs.Cut.{Tables, Lagoon, meshIn, waterIn, stepInput, partTables}
+use Rattle.cutting_parts.specs.Refusals.{Sizes, sizesOf, cutCauses, cutVerdict, cutAnswer}
+use Rattle.cutting_parts.specs.Parts.{TablesLong}
+use Rattle.cutting_parts.proofs.Parts.{tables-long, labels-long, lengths-fine}
+use Rattle.cutting_tables.specs.Part.{Cuttable}
 use Rattle.cutting.specs.Promise.{cutSaid, CutPromise}
 use Rattle.cutting.specs.declared.CutAnswer.the-variants.{Cut, Refused}
 use Rattle.cutting.specs.declared.Counts.{Counts}

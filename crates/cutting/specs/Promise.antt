@@ -4,8 +4,8 @@ use mathlib.Core.Path.{_≡_}
 use mathlib.Core.List.{List}
 use Rattle.model.specs.Causes.{Outcome, accepted}
 use Rattle.model.specs.Answers.{told}
-use Rattle.cut.specs.Cut.{Tables, Lagoon}
-use Rattle.cut.specs.Refusals.{Sizes, cutAnswer, cutInto}
+use Rattle.cutting_parts.specs.Cut.{Tables, Lagoon}
+use Rattle.cutting_parts.specs.Refusals.{Sizes, cutAnswer, cutInto}
 use Rattle.cutting.specs.declared.CutAnswer.{CutAnswer}
 use Rattle.cutting.specs.declared.CutAnswer.the-variants.{Cut, Refused}
 

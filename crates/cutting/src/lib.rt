@@ -1,9 +1,9 @@
 // Document 02, S-12: a lagoon cut in two, each part in tables of its own.
-use cut_part::part;
+use cutting_tables::part;
 use model::Answer;
 use model::Refusal;
 ghost use mathlib.Core.Path.{_≡_};
-ghost use Rattle.cut.specs.Cut.{tablesOf, lagoonOf};
+ghost use Rattle.cutting_parts.specs.Cut.{tablesOf, lagoonOf};
 ghost use Rattle.cutting.specs.Promise.{CutPromise};
 
 // How many cells and faces each part has.
@@ -59,7 +59,7 @@ pub fn cut(
         r (tablesOf (now (volumes0 .exit)) (now (firsts0 .exit)) (now (seconds0 .exit)) (now (shares0 .exit)) (now (reaches0 .exit)) (now (masses0 .exit)) (now (fluxes0 .exit)) (now (outsides0 .exit)) (now (releases0 .exit)))
         (tablesOf (now (volumes1 .exit)) (now (firsts1 .exit)) (now (seconds1 .exit)) (now (shares1 .exit)) (now (reaches1 .exit)) (now (masses1 .exit)) (now (fluxes1 .exit)) (now (outsides1 .exit)) (now (releases1 .exit))) ⌝ }
 {
-    let a = cut_causes::verdict(
+    let a = cutting_causes::verdict(
         cells,
         faces,
         volumes,

@@ -4,7 +4,7 @@ use mathlib.Core.List.{List, [], _∷_}
 use native.Mathlib.Omega.{arith}
 use Rattle.model.specs.Mesh.{ceiling}
 use Rattle.model.specs.Causes.{cellsOnly, counts, meshTables, fieldTable, meshValues, fieldValues}
-use Rattle.marks.specs.Marks.{marksLong, marksGood}
+use Rattle.public_marks.specs.Marks.{marksLong, marksGood}
 use Rattle.public_board.specs.Public.{publicVerdict}
 use Rattle.host_answer.proofs.Small.{Small, small-need, small-each, small-after}
 use Rattle.host_answer.proofs.Tables.{few-of, counts-small, mesh-tables-small, mesh-values-small, field-table-small, field-values-small}

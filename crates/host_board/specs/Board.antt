@@ -6,7 +6,7 @@ use lib.ListN.{getD, set}
 use Rattle.lists.specs.Marked.{count}
 use Rattle.model.specs.Causes.{Outcome, accepted, _andThen_}
 use Rattle.model.specs.Answers.{said}
-use Rattle.marks.specs.Marks.{isOpen}
+use Rattle.public_marks.specs.Marks.{isOpen}
 use Rattle.board.specs.Board.{boardSize, unused, boardVerdict, boardEntries}
 use Rattle.board.specs.declared.Entry.{Entry}
 use Rattle.board.specs.declared.BoardAnswer.{BoardAnswer}

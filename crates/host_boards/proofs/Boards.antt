@@ -5,7 +5,7 @@ use mathlib.Core.List.{List}
 use lib.ListN.{take}
 use Rattle.model.specs.Causes.{accepted, Verdict, fine, _andThen_, cellsOnly}
 use Rattle.model.proofs.Verdicts.{past}
-use Rattle.reading.specs.Reading.{meshIn}
+use Rattle.record_reading.specs.Reading.{meshIn}
 use Rattle.board.specs.Board.{BoardIs}
 use Rattle.board.specs.declared.BoardAnswer.{BoardAnswer}
 use Rattle.public_board.specs.Public.{PublicBoardIs}

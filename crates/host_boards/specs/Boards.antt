@@ -4,8 +4,8 @@ use Prim.Native.Nat.{ℕ, min}
 use mathlib.Core.List.{List}
 use Rattle.lists.specs.Marked.{count}
 use Rattle.model.specs.Causes.{Outcome, accepted, Verdict, _andThen_}
-use Rattle.reading.specs.Reading.{meshIn}
-use Rattle.marks.specs.Marks.{isOpen}
+use Rattle.record_reading.specs.Reading.{meshIn}
+use Rattle.public_marks.specs.Marks.{isOpen}
 use Rattle.board.specs.Board.{boardSize, boardVerdict, boardEntries}
 use Rattle.public_board.specs.Public.{openEntries, publicVerdict}
 use Rattle.host_board.specs.Board.{Shown}

@@ -9,7 +9,7 @@ use Rattle.model.specs.Causes.{accepted, Verdict, fine, _andThen_, cellsOnly}
 use Rattle.model.specs.Answers.{told}
 use Rattle.model.specs.declared.Refusal.{Refusal}
 use Rattle.model.proofs.Verdicts.{past, out}
-use Rattle.reading.specs.Reading.{meshIn}
+use Rattle.record_reading.specs.Reading.{meshIn}
 use Rattle.page.specs.Answers.{pageSaid, verdictWith, PageIs}
 use Rattle.page.specs.declared.PageAnswer.{PageAnswer}
 use Rattle.page.specs.declared.PageAnswer.the-variants as page-answer

@@ -6,7 +6,7 @@ use mathlib.Core.List.{List}
 use lib.ListN.{length}
 use Rattle.lists.specs.Table.{over}
 use Rattle.model.specs.Causes.{Outcome, accepted, Verdict, _andThen_, taken}
-use Rattle.reading.specs.Reading.{meshIn}
+use Rattle.record_reading.specs.Reading.{meshIn}
 use Rattle.page.specs.Page.{restPlaces, pageBytes, pageText}
 use Rattle.page.specs.Answers.{pageSaid, pageVerdict}
 use Rattle.page.specs.declared.PageAnswer.{PageAnswer}

@@ -8,11 +8,11 @@ use Rattle.model.specs.Causes.{accepted, Verdict, fine, _andThen_}
 use Rattle.model.specs.Answers.{number, told}
 use Rattle.model.specs.declared.Refusal.{Refusal}
 use Rattle.model.proofs.Verdicts.{past, out, refused-of, accepted-of}
-use Rattle.reading.specs.Reading.{meshIn}
-use Rattle.step_taken.specs.declared.Printed.{Printed}
-use Rattle.step_taken.specs.declared.StepTaken.{StepTaken}
-use Rattle.step_taken.specs.declared.StepTaken.the-variants as step-taken
-use Rattle.step_taken.specs.Said.{takenSaid}
+use Rattle.record_reading.specs.Reading.{meshIn}
+use Rattle.model.specs.declared.Printed.{Printed}
+use Rattle.model.specs.declared.StepTaken.{StepTaken}
+use Rattle.model.specs.declared.StepTaken.the-variants as step-taken
+use Rattle.model.specs.StepTaken.{takenSaid}
 use Rattle.taking.specs.Taking.{stepIn, printedOf, StepTaking}
 use Rattle.host_answer.specs.Number.{numberOf}
 use Rattle.host_answer.proofs.Small.{small-and, small-giving, small-number}

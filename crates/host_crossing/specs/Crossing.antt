@@ -3,9 +3,9 @@
 use Prim.Native.Nat.{ℕ}
 use mathlib.Core.List.{List, [], _∷_}
 use Rattle.model.specs.Causes.{Outcome, accepted, Verdict, _andThen_}
-use Rattle.heads.specs.Heads.{widthIn}
-use Rattle.reading.specs.Reading.{meshIn}
-use Rattle.step_taken.specs.declared.Printed.{Printed}
+use Rattle.record_heads.specs.Heads.{widthIn}
+use Rattle.record_reading.specs.Reading.{meshIn}
+use Rattle.model.specs.declared.Printed.{Printed}
 use Rattle.taking.specs.Taking.{stepIn, stepJudged, printedOf}
 use Rattle.host_taking.specs.Taken.{fieldTested, fieldIn}
 

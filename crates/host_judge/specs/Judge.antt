@@ -10,9 +10,9 @@ use Rattle.model.specs.Causes.{Outcome, accepted, Verdict, _andThen_, Call}
 use Rattle.model.specs.Claims.{claimOf, claimVerdict}
 use Rattle.model.specs.Calls.{Crossing, crossingOf, judged}
 use Rattle.transport.specs.declared.StepAnswer.{StepAnswer}
-use Rattle.heads.specs.Heads.{widthIn}
-use Rattle.heads.specs.declared.Width.{Width}
-use Rattle.reading.specs.Reading.{meshIn, fluxesIn, outsidesIn, releasesIn}
+use Rattle.record_heads.specs.Heads.{widthIn}
+use Rattle.record_heads.specs.declared.Width.{Width}
+use Rattle.record_reading.specs.Reading.{meshIn, fluxesIn, outsidesIn, releasesIn}
 use Rattle.taking.specs.Taking.{blank, stepRecordFound}
 use Rattle.host_answer.specs.Found.{Answered}
 use Rattle.host_tables.specs.Steps.{crossed}

@@ -1,17 +1,17 @@
 // Document 02's S-11 on records, for a host program in C: another model's step judged by what it claims to have moved.
-use heads::Width;
 use host_tables::answered;
 use host_taking::FieldTaken;
 use host_taking::take_field;
 use model::RUN_CELLS;
 use model::RUN_FACES;
-use reading::StepRead;
+use record_heads::Width;
+use record_reading::StepRead;
+use record_writing::WriteAnswer;
 use transport::StepAnswer;
-use writing::WriteAnswer;
 ghost use mathlib.Core.Path.{_≡_};
 ghost use Rattle.model.specs.Mesh.{meshOf, ceiling};
 ghost use Rattle.model.specs.Causes.{meshValues};
-ghost use Rattle.writing.specs.Writing.{mostOf};
+ghost use Rattle.record_writing.specs.Writing.{mostOf};
 ghost use Rattle.host_judge.specs.Judge.{JudgedIn, JudgedOn, JudgedTaking, JudgedFromC};
 
 // A claim judged on tables, with the next masses written as a record.
@@ -57,7 +57,7 @@ fn written(
     match a {
         StepAnswer::Refused(refusal) => StepAnswer::Refused(refusal),
         StepAnswer::Stepped(crossed) => {
-            let b = writing::write_field(
+            let b = record_writing::write_field(
                 width,
                 cells,
                 faces,
@@ -101,7 +101,7 @@ fn on_field(
     let mut fluxes = [0i64; RUN_FACES];
     let mut outsides = [0u64; RUN_FACES];
     let mut releases = [0u64; RUN_CELLS];
-    let a = reading::read_step(
+    let a = record_reading::read_step(
         width,
         cells,
         faces,

@@ -22,16 +22,16 @@ use Rattle.transport.specs.Promise.{stepSaid}
 use Rattle.transport.specs.declared.Crossed.{Crossed}
 use Rattle.transport.specs.declared.StepAnswer.{StepAnswer}
 use Rattle.transport.specs.declared.StepAnswer.the-variants.{Stepped, Refused}
-use Rattle.heads.specs.Layouts.{fieldKind, fieldLength}
-use Rattle.heads.specs.Heads.{widthIn}
-use Rattle.heads.specs.declared.Width.{Width}
-use Rattle.heads.specs.declared.Width.the-variants.{Narrow, Wide}
-use Rattle.reading.specs.Reading.{meshIn}
-use Rattle.writing.specs.Writing.{mostOf, fieldWriteVerdict, FieldWriting, writeSaid}
-use Rattle.writing.specs.declared.WriteAnswer.{WriteAnswer}
-use Rattle.writing.specs.declared.WriteAnswer.the-variants as write
-use Rattle.parts.proofs.Parts.{PartRead, read-part}
-use Rattle.mesh_taking.proofs.MeshLaws.{mesh-small}
+use Rattle.record_heads.specs.Layouts.{fieldKind, fieldLength}
+use Rattle.record_heads.specs.Heads.{widthIn}
+use Rattle.record_heads.specs.declared.Width.{Width}
+use Rattle.record_heads.specs.declared.Width.the-variants.{Narrow, Wide}
+use Rattle.record_reading.specs.Reading.{meshIn}
+use Rattle.record_writing.specs.Writing.{mostOf, fieldWriteVerdict, FieldWriting, writeSaid}
+use Rattle.record_writing.specs.declared.WriteAnswer.{WriteAnswer}
+use Rattle.record_writing.specs.declared.WriteAnswer.the-variants as write
+use Rattle.model.proofs.Parts.{PartRead, read-part}
+use Rattle.taking_mesh.proofs.MeshLaws.{mesh-small}
 use Rattle.host_taking.specs.Taken.{FieldTaking}
 use Rattle.host_taking.specs.declared.FieldCounts.{FieldCounts}
 use Rattle.host_taking.specs.declared.FieldTaken.{FieldTaken}

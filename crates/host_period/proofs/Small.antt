@@ -11,11 +11,11 @@ use Rattle.lists.proofs.Tests.{both-true}
 use Rattle.model.specs.Mesh.{maxFaces, ceiling}
 use Rattle.model.specs.Causes.{accepted, fine, _andThen_, need, each, cellsOnly}
 use Rattle.model.proofs.Verdicts.{need-fine, all-fine}
-use Rattle.totals.specs.Totals.{lentCauses, gainGood, addVerdict}
+use Rattle.charge_totals.specs.Totals.{lentCauses, gainGood, addVerdict}
 use Rattle.charge.specs.Charge.{maxBands, lastEnd, bandGood}
 use Rattle.charge.specs.Answers.{billCauses, chargeVerdict, billOf}
-use Rattle.kept.specs.Store.{fieldsIn, heldUnder}
-use Rattle.kept.specs.Tests.{countGood, nameNew, roomLeft, nameKept}
+use Rattle.store_kept.specs.Store.{fieldsIn, heldUnder}
+use Rattle.store_kept.specs.Tests.{countGood, nameNew, roomLeft, nameKept}
 use Rattle.store.specs.Calls.{storeTable, dropCauses, dropVerdict, lentMesh, openedCauses, openedVerdict, keepCauses, keepVerdict, returnCauses, returnVerdict}
 use Rattle.host_answer.specs.Number.{causeStep}
 use Rattle.host_answer.proofs.Small.{Small, small-need, small-each, small-after, small-giving}

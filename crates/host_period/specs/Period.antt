@@ -4,7 +4,7 @@ use mathlib.Core.Path.{_≡_}
 use mathlib.Core.List.{List, [], _∷_}
 use lib.IntN.{ℤ}
 use Rattle.model.specs.Causes.{accepted, _andThen_, taken}
-use Rattle.totals.specs.Totals.{addVerdict, addedTotals}
+use Rattle.charge_totals.specs.Totals.{addVerdict, addedTotals}
 use Rattle.charge.specs.Answers.{Bill, chargeVerdict, billOf}
 use Rattle.host_answer.specs.Number.{numberOf}
 use Rattle.host_answer.specs.Found.{Answered}

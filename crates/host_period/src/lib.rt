@@ -20,7 +20,7 @@ pub extern "C" fn lagoon_add(
 ) -> u64
     ensures { λ r. ⌜ AddFromC (now (seconds .entry)) (now (moved .entry)) (now (totals .entry)) faces r (now (totals .exit)) ⌝ }
 {
-    let answer = totals::add(faces, seconds, moved, totals);
+    let answer = charge_totals::add(faces, seconds, moved, totals);
     answer_number(answer)
 }
 

@@ -8,9 +8,9 @@ use Rattle.model.specs.Mesh.{Mesh}
 use Rattle.model.specs.Causes.{Verdict, _andThen_, verdict}
 use Rattle.model.specs.Calls.{plain}
 use Rattle.transport.specs.declared.StepAnswer.{StepAnswer}
-use Rattle.heads.specs.Heads.{widthIn}
-use Rattle.heads.specs.declared.Width.{Width}
-use Rattle.reading.specs.Reading.{meshIn}
+use Rattle.record_heads.specs.Heads.{widthIn}
+use Rattle.record_heads.specs.declared.Width.{Width}
+use Rattle.record_reading.specs.Reading.{meshIn}
 use Rattle.taking.specs.Taking.{ownTables, stepIn, stepJudged}
 use Rattle.host_answer.specs.Number.{numberOf}
 use Rattle.host_taking.specs.Taken.{fieldTested, fieldIn}

@@ -1,18 +1,18 @@
 // The plain step on records, for a host program in C.
-use heads::Width;
 use host_answer::number_of;
 use host_taking::FieldTaken;
 use host_taking::take_field;
 use model::RUN_CELLS;
 use model::RUN_FACES;
 use model::RUN_WORK;
-use reading::StepRead;
+use record_heads::Width;
+use record_reading::StepRead;
+use record_writing::WriteAnswer;
 use transport::StepAnswer;
-use writing::WriteAnswer;
 ghost use mathlib.Core.Path.{_≡_};
 ghost use Rattle.model.specs.Mesh.{meshOf, ceiling};
 ghost use Rattle.model.specs.Causes.{meshValues};
-ghost use Rattle.writing.specs.Writing.{mostOf};
+ghost use Rattle.record_writing.specs.Writing.{mostOf};
 ghost use Rattle.host_plain.specs.Plain.{PlainIn, PlainOn, PlainTaking, PlainPromise};
 
 // A plain step on tables, with the next masses written as a record.
@@ -59,7 +59,7 @@ fn written(
     match a {
         StepAnswer::Refused(refusal) => StepAnswer::Refused(refusal),
         StepAnswer::Stepped(crossed) => {
-            let b = writing::write_field(
+            let b = record_writing::write_field(
                 width,
                 cells,
                 faces,
@@ -102,7 +102,7 @@ fn on_field(
     let mut fluxes = [0i64; RUN_FACES];
     let mut outsides = [0u64; RUN_FACES];
     let mut releases = [0u64; RUN_CELLS];
-    let a = reading::read_step(
+    let a = record_reading::read_step(
         width,
         cells,
         faces,

@@ -3,9 +3,9 @@ use Prim.Native.Nat.{ℕ}
 use mathlib.Core.Path.{_≡_}
 use mathlib.Core.List.{List}
 use lib.IntN.{ℤ}
-use Rattle.heads.specs.declared.Width.{Width}
-use Rattle.reading.specs.declared.StepRead.{StepRead}
-use Rattle.reading.specs.Answers.{stepSaid, StepReading}
+use Rattle.record_heads.specs.declared.Width.{Width}
+use Rattle.record_reading.specs.declared.StepRead.{StepRead}
+use Rattle.record_reading.specs.Answers.{stepReadSaid, StepReading}
 use Rattle.host_answer.specs.Found.{alone, Answered}
 use Rattle.host_answer.proofs.Answers.{answered-as}
 use Rattle.host_read.specs.Read.{stepFinds, StepFromC}
@@ -13,7 +13,7 @@ use Rattle.host_read.specs.Read.{stepFinds, StepFromC}
 pub step-named : {w v : Width} → w ≡ v → {cells faces : ℕ} {seconds bs : List ℕ} {fluxes : List ℤ} {outsides releases : List ℕ} {a : StepRead}
     {fluxes′ : List ℤ} {outsides′ releases′ found : List ℕ} {r : ℕ} {found′ : List ℕ}
     → StepReading w (stepFinds w cells faces seconds bs fluxes outsides releases) cells faces seconds bs fluxes outsides releases a fluxes′ outsides′ releases′
-    → Answered alone (stepSaid w a) found r found′
+    → Answered alone (stepReadSaid w a) found r found′
     → StepFromC (stepFinds v cells faces seconds bs fluxes outsides releases) cells faces seconds bs fluxes outsides releases
     found r fluxes′ outsides′ releases′ found′
 step-named e h a = rw (← e) (record {

@@ -1,14 +1,14 @@
 // The readers of records, for a host program in C.
-use heads::Width;
 use host_answer::answer_number;
 use host_answer::fill1;
 use host_answer::fill3;
 use host_answer::number_of;
-use reading::MeshAnswer;
-use reading::StepRead;
+use record_heads::Width;
+use record_reading::MeshAnswer;
+use record_reading::StepRead;
 ghost use mathlib.Core.Path.{_≡_};
 ghost use Prim.Native.Nat.{_<_, _^_};
-ghost use Rattle.reading.specs.Answers.{meshSaid, stepSaid};
+ghost use Rattle.record_reading.specs.Answers.{meshSaid, stepReadSaid};
 ghost use Rattle.host_answer.specs.Number.{numberOf};
 ghost use Rattle.host_answer.specs.Found.{alone, Answered};
 ghost use Rattle.host_read.specs.Read.{widthNumber, widthNamed, countsFound, meshFinds, MeshFromC, FieldFromC, stepFinds, StepFromC};
@@ -71,7 +71,7 @@ pub extern "C" fn lagoon_read_mesh(
         r
         (now (volumes .exit)) (now (firsts .exit)) (now (seconds .exit)) (now (shares .exit)) (now (reaches .exit)) (now (found .exit)) ⌝ }
 {
-    let answer = reading::read_mesh(
+    let answer = record_reading::read_mesh(
         model::MAX_CELLS,
         model::MAX_FACES,
         bytes,
@@ -94,18 +94,18 @@ pub extern "C" fn lagoon_read_field(
 ) -> u64
     ensures { λ r. ⌜ FieldFromC (widthNamed width) cells (now (bytes .entry)) (now (masses .entry)) r (now (masses .exit)) ⌝ }
 {
-    let answer = reading::read_field(width_named(width), cells, bytes, masses);
+    let answer = record_reading::read_field(width_named(width), cells, bytes, masses);
     answer_number(answer)
 }
 
 // The answer of a step's reader: found is the number of its kind.
 fn step_answered(width: Width, answer: StepRead, found: &mut [u64]) -> u64
-    requires { ⌜ numberOf (stepSaid width answer) < 2 ^ 64 ⌝ }
-    ensures { λ r. ⌜ Answered alone (stepSaid width answer) (now (found .entry)) r (now (found .exit)) ⌝ }
+    requires { ⌜ numberOf (stepReadSaid width answer) < 2 ^ 64 ⌝ }
+    ensures { λ r. ⌜ Answered alone (stepReadSaid width answer) (now (found .entry)) r (now (found .exit)) ⌝ }
 {
     match answer {
         StepRead::Read(kind) => {
-            fill1(found, heads::kind_number(width, kind));
+            fill1(found, record_heads::kind_number(width, kind));
             0
         }
         StepRead::Refused(refusal) => number_of(refusal),
@@ -132,7 +132,7 @@ pub extern "C" fn lagoon_read_step(
         r (now (fluxes .exit)) (now (outsides .exit)) (now (releases .exit)) (now (found .exit)) ⌝ }
 {
     let kinds = width_named(width);
-    let answer = reading::read_step(
+    let answer = record_reading::read_step(
         kinds,
         cells,
         faces,

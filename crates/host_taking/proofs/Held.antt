@@ -8,9 +8,9 @@ use Rattle.model.specs.Causes.{accepted, fine, _andThen_}
 use Rattle.model.specs.Answers.{number, told}
 use Rattle.model.specs.declared.Refusal.{Refusal}
 use Rattle.model.proofs.Verdicts.{refused-of, accepted-of}
-use Rattle.heads.specs.Heads.{widthIn}
-use Rattle.heads.specs.declared.Width.{Width}
-use Rattle.reading.specs.Reading.{meshIn}
+use Rattle.record_heads.specs.Heads.{widthIn}
+use Rattle.record_heads.specs.declared.Width.{Width}
+use Rattle.record_reading.specs.Reading.{meshIn}
 use Rattle.host_taking.specs.Taken.{fieldTested, fieldIn, takenIn, takenSaid, Front, Held, FieldTaking, CellsTaking}
 use Rattle.host_taking.specs.declared.FieldCounts.{FieldCounts}
 use Rattle.host_taking.specs.declared.FieldTaken.{FieldTaken}

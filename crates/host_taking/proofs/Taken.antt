@@ -13,15 +13,15 @@ use Rattle.model.proofs.Verdicts.{both-fine, past, out, refused-of, accepted-of
 use Rattle.checks.specs.Total.{totalSaid}
 use Rattle.checks.specs.declared.TotalAnswer.{TotalAnswer}
 use Rattle.checks.specs.declared.TotalAnswer.the-variants as total-answer
-use Rattle.heads.specs.Heads.{widthIn, cellsIn}
-use Rattle.reading.specs.Reading.{volumesIn, firstsIn, secondsIn, sharesIn, reachesIn, countsIn, meshIn, massesIn}
-use Rattle.reading.specs.Answers.{meshSaid}
-use Rattle.reading.specs.declared.MeshCounts.{MeshCounts}
-use Rattle.reading.specs.declared.MeshAnswer.{MeshAnswer}
-use Rattle.reading.specs.declared.MeshAnswer.the-variants as mesh-answer
-use Rattle.parts.proofs.Parts.{PartRead, read-part, part-long}
-use Rattle.mesh_taking.specs.MeshTaking.{meshRecordFound, meshJudged, meshJudgedInRun, MeshTaking}
-use Rattle.mesh_taking.proofs.MeshLaws.{MeshIsRead, limits}
+use Rattle.record_heads.specs.Heads.{widthIn, cellsIn}
+use Rattle.record_reading.specs.Reading.{volumesIn, firstsIn, secondsIn, sharesIn, reachesIn, countsIn, meshIn, massesIn}
+use Rattle.record_reading.specs.Answers.{meshSaid}
+use Rattle.record_reading.specs.declared.MeshCounts.{MeshCounts}
+use Rattle.record_reading.specs.declared.MeshAnswer.{MeshAnswer}
+use Rattle.record_reading.specs.declared.MeshAnswer.the-variants as mesh-answer
+use Rattle.model.proofs.Parts.{PartRead, read-part, part-long}
+use Rattle.taking_mesh.specs.MeshTaking.{meshRecordFound, meshJudged, meshJudgedInRun, MeshTaking}
+use Rattle.taking_mesh.proofs.MeshLaws.{MeshIsRead, limits}
 use Rattle.taking.specs.Taking.{fieldJudged, FieldTaking as FieldKept}
 use Rattle.host_taking.specs.Taken.{fieldTested, fieldIn, totalIn, takenIn, Front, FieldTaking}
 use Rattle.host_taking.specs.declared.FieldCounts.{FieldCounts}

@@ -8,9 +8,9 @@ use Rattle.model.specs.Mesh.{total, runCells}
 use Rattle.model.specs.Causes.{Outcome, accepted, Verdict, fine, _andThen_, cellsOnly}
 use Rattle.model.specs.Calls.{massIn}
 use Rattle.model.specs.Answers.{told}
-use Rattle.heads.specs.Heads.{widthIn}
-use Rattle.reading.specs.Reading.{meshIn, massesIn}
-use Rattle.mesh_taking.specs.MeshTaking.{meshJudgedInRun}
+use Rattle.record_heads.specs.Heads.{widthIn}
+use Rattle.record_reading.specs.Reading.{meshIn, massesIn}
+use Rattle.taking_mesh.specs.MeshTaking.{meshJudgedInRun}
 use Rattle.taking.specs.Taking.{fieldJudged}
 use Rattle.host_taking.specs.declared.FieldCounts.{FieldCounts}
 use Rattle.host_taking.specs.declared.FieldTaken.{FieldTaken}

@@ -1,9 +1,9 @@
 // A mesh record and a field record, taken into tables of the caller's own before a call on them.
 use checks::TotalAnswer;
-use heads::Width;
 use model::RUN_FACES;
 use model::Refusal;
-use reading::MeshAnswer;
+use record_heads::Width;
+use record_reading::MeshAnswer;
 ghost use mathlib.Core.Path.{_≡_};
 ghost use lib.ListN.{length};
 ghost use Rattle.model.specs.Mesh.{runCells, runFaces};
@@ -38,7 +38,7 @@ pub fn take_field(
     ensures { λ r. ⌜ FieldTaking (now (mesh .entry)) (now (field .entry)) r
         (now (volumes .exit)) (now (firsts .exit)) (now (seconds .exit)) (now (shares .exit)) (now (reaches .exit)) (now (masses .exit)) ⌝ }
 {
-    let a = mesh_taking::take_mesh(mesh, volumes, firsts, seconds, shares, reaches);
+    let a = taking_mesh::take_mesh(mesh, volumes, firsts, seconds, shares, reaches);
     match a {
         MeshAnswer::Refused(refusal) => FieldTaken::Refused(refusal),
         MeshAnswer::Read(counts) => {

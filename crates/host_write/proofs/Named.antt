@@ -5,11 +5,11 @@ use mathlib.Core.List.{List}
 use lib.IntN.{ℤ}
 use Rattle.model.specs.Mesh.{Mesh}
 use Rattle.model.specs.Causes.{Verdict}
-use Rattle.heads.specs.Layouts.{kindNumber}
-use Rattle.heads.specs.declared.Width.{Width}
-use Rattle.heads.specs.declared.StepKind.{StepKind}
-use Rattle.writing.specs.declared.WriteAnswer.{WriteAnswer}
-use Rattle.writing.specs.Writing.{writeSaid, Writing, MeshWriting, FieldWriting, StepWriting}
+use Rattle.record_heads.specs.Layouts.{kindNumber}
+use Rattle.record_heads.specs.declared.Width.{Width}
+use Rattle.record_heads.specs.declared.StepKind.{StepKind}
+use Rattle.record_writing.specs.declared.WriteAnswer.{WriteAnswer}
+use Rattle.record_writing.specs.Writing.{writeSaid, Writing, MeshWriting, FieldWriting, StepWriting}
 use Rattle.host_answer.specs.Found.{alone, Answered}
 use Rattle.host_answer.proofs.Answers.{answered-as}
 use Rattle.host_write.specs.Write.{WriteFromC, MeshFromC, FieldFromC, StepFromC}

@@ -1,15 +1,15 @@
 // The writers of records, for a host program in C.
-use heads::StepKind;
-use heads::Width;
 use host_answer::fill1;
 use host_answer::number_of;
 use host_read::width_named;
-use writing::WriteAnswer;
+use record_heads::StepKind;
+use record_heads::Width;
+use record_writing::WriteAnswer;
 ghost use mathlib.Core.Path.{_≡_};
 ghost use Prim.Native.Nat.{_<_, _^_};
 ghost use Rattle.model.specs.Mesh.{meshOf};
-ghost use Rattle.heads.specs.Layouts.{widthOf, kindNumber};
-ghost use Rattle.writing.specs.Writing.{writeSaid};
+ghost use Rattle.record_heads.specs.Layouts.{widthOf, kindNumber};
+ghost use Rattle.record_writing.specs.Writing.{writeSaid};
 ghost use Rattle.host_answer.specs.Number.{numberOf};
 ghost use Rattle.host_answer.specs.Found.{alone, Answered};
 ghost use Rattle.host_read.specs.Read.{widthNamed};
@@ -47,7 +47,7 @@ pub extern "C" fn lagoon_write_mesh(
         (meshOf cells faces (now (volumes .entry)) (now (firsts .entry)) (now (seconds .entry)) (now (shares .entry)) (now (reaches .entry)))
         (now (bytes .entry)) (now (found .entry)) r (now (bytes .exit)) (now (found .exit)) ⌝ }
 {
-    let answer = writing::write_mesh(
+    let answer = record_writing::write_mesh(
         width_named(width),
         cells,
         faces,
@@ -80,7 +80,7 @@ pub extern "C" fn lagoon_write_field(
         (meshOf cells faces (now (volumes .entry)) (now (firsts .entry)) (now (seconds .entry)) (now (shares .entry)) (now (reaches .entry)))
         (now (masses .entry)) (now (bytes .entry)) (now (found .entry)) r (now (bytes .exit)) (now (found .exit)) ⌝ }
 {
-    let answer = writing::write_field(
+    let answer = record_writing::write_field(
         width_named(width),
         cells,
         faces,
@@ -141,7 +141,7 @@ pub extern "C" fn lagoon_write_step(
         (now (found .entry))
         r (now (bytes .exit)) (now (found .exit)) ⌝ }
 {
-    let answer = writing::write_step(
+    let answer = record_writing::write_step(
         width_of(kind),
         kind_named(kind),
         cells,

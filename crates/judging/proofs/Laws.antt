@@ -27,9 +27,9 @@ use Rattle.model.proofs.Raised.{raised-at}
 use Rattle.model.proofs.Agree.{incoming-agree, outgoing-agree}
 use Rattle.model.proofs.Sizes.{mass-most, total-most}
 use Rattle.model.proofs.Claims.{claim-bounds}
-use Rattle.flows.specs.Flows.{inflow, outflow, FacesFit, LongEnough}
-use Rattle.carrying.specs.Carrying.{CarriedTo}
-use Rattle.claims.specs.Tests.{claimAt, holds, nextAt, Salted, Bordered, Affords, boundsVerdict}
+use Rattle.check_flows.specs.Flows.{inflow, outflow, FacesFit, LongEnough}
+use Rattle.step_carrying.specs.Carrying.{CarriedTo}
+use Rattle.judging_claims.specs.Tests.{claimAt, holds, nextAt, Salted, Bordered, Affords, boundsVerdict}
 use Rattle.transport.specs.Promise.{stepSaid}
 use Rattle.transport.specs.declared.Crossed as crossed
 use Rattle.transport.specs.declared.StepAnswer.{StepAnswer}

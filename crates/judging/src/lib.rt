@@ -1,10 +1,10 @@
 // Document 02's S-11: another model's step, told by the moved masses that it claims, is judged; where it is accepted, next masses are filled.
-use carrying::Carried;
-use carrying::carry;
 use model::Answer;
 use model::MAX_CELLS;
 use model::MAX_FACES;
-use raising::concentrations;
+use step_carrying::Carried;
+use step_carrying::carry;
+use step_raising::concentrations;
 use transport::Crossed;
 use transport::StepAnswer;
 ghost use mathlib.Core.Path.{_≡_};
@@ -14,7 +14,7 @@ ghost use Rattle.model.specs.Mesh.{meshOf};
 ghost use Rattle.model.specs.Claims.{claimOf};
 ghost use Rattle.model.specs.Step.{StepInput};
 ghost use Rattle.model.specs.Accepted.{Ready};
-ghost use Rattle.carrying.specs.Carrying.{inputFrom, CarriedTo};
+ghost use Rattle.step_carrying.specs.Carrying.{inputFrom, CarriedTo};
 ghost use Rattle.transport.specs.Promise.{stepSaid};
 ghost use Rattle.judging.specs.Promise.{JudgePromise, amountsAnswer};
 
@@ -100,11 +100,11 @@ fn judged_in(
         carried,
         work,
     );
-    let a = claims::claims_good(faces, seconds, fluxes, carried, claim);
+    let a = judging_claims::claims_good(faces, seconds, fluxes, carried, claim);
     if let Answer::Refused(r) = a {
         return StepAnswer::Refused(r);
     }
-    let b = claims::bounds::values(
+    let b = judging_claims::bounds::values(
         cells,
         faces,
         volumes,
@@ -224,7 +224,7 @@ pub fn judge(
     match answer {
         StepAnswer::Refused(refusal) => StepAnswer::Refused(refusal),
         StepAnswer::Stepped(crossed) => {
-            claims::next::values(
+            judging_claims::next::values(
                 cells,
                 faces,
                 volumes,

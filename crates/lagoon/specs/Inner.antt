@@ -9,10 +9,10 @@ use Rattle.model.specs.Step.{StepInput, next}
 use Rattle.model.specs.Causes.{Verdict, _andThen_, taken, inputOf, bytesLong}
 use Rattle.model.specs.Answers.{said}
 use Rattle.model.specs.declared.Answer.{Answer}
-use Rattle.heads.specs.Layouts.{fieldKind, fieldRecord, fieldLength}
-use Rattle.heads.specs.Heads.{widthIn}
-use Rattle.heads.specs.declared.Width.{Width}
-use Rattle.reading.specs.Reading.{massesIn}
+use Rattle.record_heads.specs.Layouts.{fieldKind, fieldRecord, fieldLength}
+use Rattle.record_heads.specs.Heads.{widthIn}
+use Rattle.record_heads.specs.declared.Width.{Width}
+use Rattle.record_reading.specs.Reading.{massesIn}
 use Rattle.taking.specs.Taking.{fieldJudged, stepIn, stepJudged}
 use Rattle.lagoon.specs.Host.{hostInput, hostVerdict}
 
@@ -27,12 +27,12 @@ module _ (M : Mesh) (field step : List ℕ) where
   stepOf = inputOf M (massesIn field (M .cells)) (stepIn M step)
 
 module _ (w : Width) (M : Mesh) (field step : List ℕ) where
-  abbrev pub fromField : ℕ → Verdict
-  fromField room = fieldJudged w (M .cells) (M .volumes) field runCells andThen stepJudged w M (massesIn field (M .cells)) step
+  abbrev pub judgedFromField : ℕ → Verdict
+  judgedFromField room = fieldJudged w (M .cells) (M .volumes) field runCells andThen stepJudged w M (massesIn field (M .cells)) step
       andThen bytesLong (fieldLength (fieldKind w) (M .cells)) room
 
   abbrev pub MeshComes : List ℕ → Answer → List ℕ → Type 0
-  MeshComes bytes = Comes (fromField (length bytes)) w (stepOf M field step) bytes
+  MeshComes bytes = Comes (judgedFromField (length bytes)) w (stepOf M field step) bytes
 
 -- all of it
 abbrev pub HostComes : List ℕ → List ℕ → List ℕ → List ℕ → Answer → List ℕ → Type 0

@@ -1,16 +1,16 @@
 // The host's call: straight through where nothing is refused, else record by record, as the run takes them, and the next field written.
 use checks::TotalAnswer;
-use heads::Width;
 use model::Answer;
 use model::RUN_CELLS;
 use model::RUN_FACES;
-use reading::MeshAnswer;
-use step_taken::StepTaken;
-use writing::WriteAnswer;
+use model::StepTaken;
+use record_heads::Width;
+use record_reading::MeshAnswer;
+use record_writing::WriteAnswer;
 ghost use mathlib.Core.Path.{_≡_};
 ghost use Rattle.model.specs.Mesh.{meshOf, ceiling};
 ghost use Rattle.model.specs.Causes.{meshValues};
-ghost use Rattle.writing.specs.Writing.{mostOf};
+ghost use Rattle.record_writing.specs.Writing.{mostOf};
 ghost use Rattle.lagoon.specs.Inner.{MeshComes, HostComes};
 
 // From the field record on, on a mesh that a writer of this width refuses no value of.
@@ -54,7 +54,7 @@ fn on_mesh(
     if let StepTaken::Refused(refusal) = b {
         return Answer::Refused(refusal);
     }
-    let c = writing::write_field(
+    let c = record_writing::write_field(
         width,
         cells,
         faces,
@@ -81,7 +81,7 @@ fn in_order(mesh: &[u8], field: &[u8], step: &[u8], bytes: &mut [u8]) -> Answer
     let mut seconds = [0u64; RUN_FACES];
     let mut shares = [0u64; RUN_FACES];
     let mut reaches = [0u64; RUN_FACES];
-    let a = mesh_taking::take_mesh(
+    let a = taking_mesh::take_mesh(
         mesh,
         &mut volumes,
         &mut firsts,
@@ -116,10 +116,10 @@ fn in_order(mesh: &[u8], field: &[u8], step: &[u8], bytes: &mut [u8]) -> Answer
 pub fn on_records(mesh: &[u8], field: &[u8], step: &[u8], bytes: &mut [u8]) -> Answer
     ensures { λ r. ⌜ HostComes (now (mesh .entry)) (now (field .entry)) (now (step .entry)) (now (bytes .entry)) r (now (bytes .exit)) ⌝ }
 {
-    if short::step(mesh, field, step, bytes) {
+    if lagoon_short::step(mesh, field, step, bytes) {
         return Answer::Done;
     }
-    if straight::step(mesh, field, step, bytes) {
+    if lagoon_straight::step(mesh, field, step, bytes) {
         return Answer::Done;
     }
     in_order(mesh, field, step, bytes)

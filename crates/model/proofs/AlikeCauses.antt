@@ -28,27 +28,27 @@ use Rattle.model.proofs.AlikeFaces.{rim-same, incoming-alike, outgoing-
 use Rattle.model.proofs.AlikeStages.{joined, in-mass-alike, out-mass-alike}
 
 -- an outcome with its place, or without it
-abbrev pub shown : {A : Type 0} → Bool → Outcome A → Outcome A
-shown true v = v
-shown false v = unplaced v
+abbrev pub withPlace : {A : Type 0} → Bool → Outcome A → Outcome A
+withPlace true v = v
+withPlace false v = unplaced v
 
 -- places are shown where each thing keeps its number
-abbrev pub Kept : Bool → (n : ℕ) → Renumbering n → Type 0
-Kept p n r = p ≡ true → (i : ℕ) → i < n → r .new i ≡ i
+abbrev pub NumbersKept : Bool → (n : ℕ) → Renumbering n → Type 0
+NumbersKept p n r = p ≡ true → (i : ℕ) → i < n → r .new i ≡ i
 
-shown-andThen : {A : Type 0} (p : Bool) (v : Verdict) (w : Outcome A) → shown p (v andThen w) ≡ (shown p v andThen shown p w)
+place-andThen : {A : Type 0} (p : Bool) (v : Verdict) (w : Outcome A) → withPlace p (v andThen w) ≡ (withPlace p v andThen withPlace p w)
 unfolding _andThen_
-shown-andThen true v w = refl
-shown-andThen false (accepted t) w = refl
-shown-andThen false (refused k i) w = refl
+place-andThen true v w = refl
+place-andThen false (accepted t) w = refl
+place-andThen false (refused k i) w = refl
 
 -- two tests in turn, the second after a first that found nothing
-pub in-turn : {A : Type 0} (p : Bool) (v v′ : Verdict) (w w′ : Outcome A) → shown p v′ ≡ shown p v → (v ≡ fine → shown p w′ ≡ shown p w)
-    → shown p (v′ andThen w′) ≡ shown p (v andThen w)
+pub in-turn : {A : Type 0} (p : Bool) (v v′ : Verdict) (w w′ : Outcome A) → withPlace p v′ ≡ withPlace p v → (v ≡ fine → withPlace p w′ ≡ withPlace p w)
+    → withPlace p (v′ andThen w′) ≡ withPlace p (v andThen w)
 unfolding _andThen_
-in-turn p v v′ w w′ e d = shown-andThen p v′ w′ ∙ rw e (go p v d) ∙ sym (shown-andThen p v w)
+in-turn p v v′ w w′ e d = place-andThen p v′ w′ ∙ rw e (go p v d) ∙ sym (place-andThen p v w)
   where
-    go : (b : Bool) (u : Verdict) → (u ≡ fine → shown p w′ ≡ shown p w) → (shown b u andThen shown p w′) ≡ (shown b u andThen shown p w)
+    go : (b : Bool) (u : Verdict) → (u ≡ fine → withPlace p w′ ≡ withPlace p w) → (withPlace b u andThen withPlace p w′) ≡ (withPlace b u andThen withPlace p w)
     go true (accepted t) h = h refl
     go false (accepted t) h = h refl
     go true (refused k i) h = refl
@@ -62,7 +62,7 @@ each-unplaced : (k n : ℕ) (good : ℕ → Bool) → unplaced (each k n good) �
 unfolding each sum bad need _andThen_
 each-unplaced k zero good = refl
 each-unplaced k (suc n) good =
-    shown-andThen false (each k n good) (need k n (good n)) ∙ rw (each-unplaced k n good) (go (good n) (eqb (sum n (bad good)) 0) (same? (sum n (bad good)) 0))
+    place-andThen false (each k n good) (need k n (good n)) ∙ rw (each-unplaced k n good) (go (good n) (eqb (sum n (bad good)) 0) (same? (sum n (bad good)) 0))
   where
     go : (b s : Bool) → Same (sum n (bad good)) 0 s → (need k 0 s andThen unplaced (need k n b)) ≡ need k 0 (eqb (sum n (bad good) + cond b 0 1) 0)
     go true true (same e) = rw (eq-eqb (sum n (bad good) + 0) 0 (omega arith))
@@ -70,12 +70,12 @@ each-unplaced k (suc n) good =
     go true false (other d) = rw (ne-eqb (sum n (bad good) + 0) 0 (omega arith))
     go false false (other d) = rw (ne-eqb (sum n (bad good) + 1) 0 (omega arith))
 
-pub each-alike : (p : Bool) (k n : ℕ) {n′ : ℕ} (r : Renumbering n) → Kept p n r → (good good′ : ℕ → Bool) → n′ ≡ n
-    → ((i : ℕ) → i < n → good′ (r .new i) ≡ good i) → shown p (each k n′ good′) ≡ shown p (each k n good)
+pub each-alike : (p : Bool) (k n : ℕ) {n′ : ℕ} (r : Renumbering n) → NumbersKept p n r → (good good′ : ℕ → Bool) → n′ ≡ n
+    → ((i : ℕ) → i < n → good′ (r .new i) ≡ good i) → withPlace p (each k n′ good′) ≡ withPlace p (each k n good)
 unfolding bad
-each-alike p k n r kept good good′ e h = ap (λ (m : ℕ). shown p (each k m good′)) e ∙ go p kept
+each-alike p k n r kept good good′ e h = ap (λ (m : ℕ). withPlace p (each k m good′)) e ∙ go p kept
   where
-    go : (b : Bool) → Kept b n r → shown b (each k n good′) ≡ shown b (each k n good)
+    go : (b : Bool) → NumbersKept b n r → withPlace b (each k n good′) ≡ withPlace b (each k n good)
     go true stays = each-cong k n good′ good (λ i l. ap good′ (sym (stays refl i l)) ∙ h i l)
     go false stays =
         each-unplaced k n good′
@@ -83,9 +83,9 @@ each-alike p k n r kept good good′ e h = ap (λ (m : ℕ). shown p (each k m g
         ∙ sym (each-unplaced k n good)
 
 -- cause 6
-pub field-values-alike : (p : Bool) (M M′ : Mesh) (cell : Renumbering (M .cells)) → Kept p (M .cells) cell → (field field′ : List ℕ) → M′ .cells ≡ M .cells
+pub field-values-alike : (p : Bool) (M M′ : Mesh) (cell : Renumbering (M .cells)) → NumbersKept p (M .cells) cell → (field field′ : List ℕ) → M′ .cells ≡ M .cells
     → ((c : ℕ) → c < M .cells → volume M′ (cell .new c) ≡ volume M c) → ((c : ℕ) → c < M .cells → getD field′ (cell .new c) 0 ≡ getD field c 0)
-    → shown p (fieldValues M′ field′) ≡ shown p (fieldValues M field)
+    → withPlace p (fieldValues M′ field′) ≡ withPlace p (fieldValues M field)
 unfolding fieldValues saltGood
 field-values-alike p M M′ cell kept field field′ e volumes masses =
     each-alike p 6 (M .cells) cell kept (saltGood M field) (saltGood M′ field′) e (λ c h. rw (masses c h, volumes c h))
@@ -113,7 +113,7 @@ module _ (M M′ : Mesh) (cell : Renumbering (M .cells)) (face : Renumbering (M 
   crossing-alike few fit = rw (in-mass-alike _ _ few fit cell face turns inputs-alike, out-mass-alike _ _ few fit cell face turns inputs-alike, released-alike)
 
 module _ (p : Bool) (M M′ : Mesh) (cell : Renumbering (M .cells)) (face : Renumbering (M .faces)) (turns : ℕ → Bool)
-    (cells-kept : Kept p (M .cells) cell) (faces-kept : Kept p (M .faces) face)
+    (cells-kept : NumbersKept p (M .cells) cell) (faces-kept : NumbersKept p (M .faces) face)
     (field field′ : List ℕ) (k k′ : Call) (a : AlikeCall M M′ field field′ k k′ cell face turns) where
   abbrev S : StepInput
   S = inputOf M field k
@@ -125,15 +125,15 @@ module _ (p : Bool) (M M′ : Mesh) (cell : Renumbering (M .cells)) (face : Renu
   m = a .mesh-alike
 
   by-cells : (i : ℕ) (good good′ : ℕ → Bool) → ((c : ℕ) → c < M .cells → good′ (cell .new c) ≡ good c)
-      → shown p (each i (M′ .cells) good′) ≡ shown p (each i (M .cells) good)
+      → withPlace p (each i (M′ .cells) good′) ≡ withPlace p (each i (M .cells) good)
   by-cells i good good′ = each-alike p i (M .cells) cell cells-kept good good′ (m .ends-alike .cells-same)
 
   by-faces : (i : ℕ) (good good′ : ℕ → Bool) → ((f : ℕ) → f < M .faces → good′ (face .new f) ≡ good f)
-      → shown p (each i (M′ .faces) good′) ≡ shown p (each i (M .faces) good)
+      → withPlace p (each i (M′ .faces) good′) ≡ withPlace p (each i (M .faces) good)
   by-faces i good good′ = each-alike p i (M .faces) face faces-kept good good′ (m .ends-alike .faces-same)
 
   -- cause 18
-  raised-values-alike : shown p (raisedValues M′ field′ k′) ≡ shown p (raisedValues M field k)
+  raised-values-alike : withPlace p (raisedValues M′ field′ k′) ≡ withPlace p (raisedValues M field k)
   unfolding raisedValues raisedGood
   raised-values-alike =
       by-cells 18 (raisedGood M field k) (raisedGood M′ field′ k′) (λ c h. rw (a .mass-same c h, a .release-same c h, m .volume-same c h))
@@ -162,7 +162,7 @@ module _ (p : Bool) (M M′ : Mesh) (cell : Renumbering (M .cells)) (face : Renu
     outflow-alike : (c : ℕ) → c < M .cells → outgoing M′ (flux S′) (cell .new c) ≡ outgoing M (flux S) c
     outflow-alike = outgoing-alike M M′ j cell face turns (m .ends-alike) (flux S) (flux S′) (a .flux-same)
 
-    step-values-alike : shown p (stepValues ceiling M′ field′ k′) ≡ shown p (stepValues ceiling M field k)
+    step-values-alike : withPlace p (stepValues ceiling M′ field′ k′) ≡ withPlace p (stepValues ceiling M field k)
     unfolding stepValues balanceGood outflowGood
     step-values-alike = in-turn p _ _ _ _ (in-turn p _ _ _ _ (in-turn p _ _ _ _
         (by-faces 7 (outsideGood M field k) (outsideGood M′ field′ k′) outside-alike)
@@ -177,10 +177,10 @@ module _ (p : Bool) (M M′ : Mesh) (cell : Renumbering (M .cells)) (face : Renu
   -- All causes, where cause 2 and causes 3 to 5 find the same: in tables of the same lengths, of a mesh that is accepted or has the same entries.
   module _ (mesh-lent : meshTables M′ ≡ meshTables M) (field-lent : fieldTable M′ field′ ≡ fieldTable M field)
       (call-lent : stepTables M′ field′ k′ ≡ stepTables M field k)
-      (values : shown p (meshValues ceiling M′) ≡ shown p (meshValues ceiling M)) where
-    pub verdict-alike : shown p (verdict M′ field′ k′) ≡ shown p (verdict M field k)
+      (values : withPlace p (meshValues ceiling M′) ≡ withPlace p (meshValues ceiling M)) where
+    pub verdict-alike : withPlace p (verdict M′ field′ k′) ≡ withPlace p (verdict M field k)
     unfolding verdict
-    verdict-alike = in-turn p _ _ _ _ (in-turn p _ _ _ _ (in-turn p _ _ _ _ (in-turn p _ _ _ _ (ap (shown p) lent-alike)
+    verdict-alike = in-turn p _ _ _ _ (in-turn p _ _ _ _ (in-turn p _ _ _ _ (in-turn p _ _ _ _ (ap (withPlace p) lent-alike)
         (λ e. values))
         (λ e. field-values-alike p M M′ cell cells-kept field field′ (m .ends-alike .cells-same) (m .volume-same) (a .mass-same)))
         (λ e. raised-values-alike))
@@ -193,7 +193,7 @@ module _ (p : Bool) (M M′ : Mesh) (cell : Renumbering (M .cells)) (face : Renu
         joins : (counts M andThen meshTables M andThen fieldTable M field andThen stepTables M field k) ≡ fine → meshValues ceiling M ≡ fine → Joined M
         joins lent fine-values = joined M (few M field (both-fine _ _ lent .0) .0) (mesh-fit M fine-values)
 
-    pub answer-alike : shown p (verdict M′ field′ k′ andThen accepted (crossingOf M′ field′ k′))
-        ≡ shown p (verdict M field k andThen accepted (crossingOf M field k))
+    pub answer-alike : withPlace p (verdict M′ field′ k′ andThen accepted (crossingOf M′ field′ k′))
+        ≡ withPlace p (verdict M field k andThen accepted (crossingOf M field k))
     answer-alike = in-turn p _ _ _ _ verdict-alike (λ e. let r = ready M field k e in
-        ap (λ (x : Crossing). shown p (accepted x)) (crossing-alike M M′ cell face turns field field′ k k′ a (r .counts-fit .few-cells) (r .fit)))
+        ap (λ (x : Crossing). withPlace p (accepted x)) (crossing-alike M M′ cell face turns field field′ k k′ a (r .counts-fit .few-cells) (r .fit)))

@@ -17,3 +17,4 @@ pub mod Uniform
 pub mod Sizes
 pub mod Claims
 pub mod Figures
+pub mod Parts

@@ -9,3 +9,4 @@ pub mod Calls
 pub mod Unreleased
 pub mod Ceilings
 pub mod OwnSteps
+pub mod StepTaken

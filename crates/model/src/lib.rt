@@ -75,6 +75,20 @@ pub enum Answer {
     Refused(Refusal),
 }
 
+// What is printed of an accepted step.
+pub struct Printed {
+    pub entered: u64,
+    pub gone: u64,
+    pub total: u64,
+    pub released: u64,
+}
+
+// What a step record comes to, by value: who takes it and who prints it know the answer, and need nothing of each other.
+pub enum StepTaken {
+    Stepped(Printed),
+    Refused(Refusal),
+}
+
 // The papers' number of a cause.
 pub fn number(cause: Cause) -> u64
     ensures { λ r. ⌜ r ≡ numberOf cause ⌝ }

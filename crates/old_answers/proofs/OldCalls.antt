@@ -7,17 +7,17 @@ use lib.IntN.{ℤ}
 use Rattle.model.specs.Mesh.{Mesh, total}
 use Rattle.model.specs.Causes.{accepted, Verdict, _andThen_, cellsOnly}
 use Rattle.model.specs.Calls.{massIn}
-use Rattle.sections.specs.Sections.{Section, columnIn}
-use Rattle.heads.specs.Layouts.{kindNumber, valueBits, massBits, releaseBits, meshRecord, fieldRecord, stepRecord, meshLength, fieldLength, stepLength}
-use Rattle.heads.specs.Heads.{kindIn, widthIn, meshHeadVerdict, stepHeadVerdict}
-use Rattle.heads.specs.declared.Width.the-variants.{Narrow}
-use Rattle.heads.specs.declared.StepKind.{StepKind}
-use Rattle.heads.specs.declared.StepKind.the-variants.{Water, Outfalls}
-use Rattle.reading.specs.Reading.{meshIn, massesIn, outsidesIn, releasesIn, meshBodyVerdict, stepBodyVerdict, meshRead, stepRead}
-use Rattle.writing.specs.Writing.{StepWriting, meshWriteVerdict, fieldWriteVerdict, stepWriteVerdict}
-use Rattle.writing.specs.declared.WriteAnswer.{WriteAnswer}
+use Rattle.record_sections.specs.Sections.{Section, columnIn}
+use Rattle.record_heads.specs.Layouts.{kindNumber, valueBits, massBits, releaseBits, meshRecord, fieldRecord, stepRecord, meshLength, fieldLength, stepLength}
+use Rattle.record_heads.specs.Heads.{kindIn, widthIn, meshHeadVerdict, stepHeadVerdict}
+use Rattle.record_heads.specs.declared.Width.the-variants.{Narrow}
+use Rattle.record_heads.specs.declared.StepKind.{StepKind}
+use Rattle.record_heads.specs.declared.StepKind.the-variants.{Water, Outfalls}
+use Rattle.record_reading.specs.Reading.{meshIn, massesIn, outsidesIn, releasesIn, meshBodyVerdict, stepBodyVerdict, meshRead, stepRead}
+use Rattle.record_writing.specs.Writing.{StepWriting, meshWriteVerdict, fieldWriteVerdict, stepWriteVerdict}
+use Rattle.record_writing.specs.declared.WriteAnswer.{WriteAnswer}
 use Rattle.lagoon.specs.Host.{numberOf}
-use Rattle.printed.proofs.Prints.{prints}
+use Rattle.run_printed.proofs.Prints.{prints}
 use Rattle.old_answers.specs.Before.{oldFieldJudged, oldStepWriting}
 use Rattle.old_answers.specs.OldCalls.{OldReading, OldWriting, OldTaking}
 use Rattle.old_answers.proofs.Outcomes.{same-after, taken-then, filled}

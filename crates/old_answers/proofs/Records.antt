@@ -17,14 +17,14 @@ use Rattle.model.specs.Mesh.{oldCeiling}
 use Rattle.model.specs.Causes.{accepted, Verdict, fine, _andThen_}
 use Rattle.model.specs.Ceilings.{MeshSmall}
 use Rattle.model.proofs.Verdicts.{both-fine, need-fine}
-use Rattle.bits.specs.Layout.{bytesFor}
-use Rattle.bits.proofs.Fields.{bits-lt}
-use Rattle.sections.specs.Sections.{Section, place, lengthOf}
-use Rattle.heads.specs.Layouts.{widthOf, valueOf, valueBits, massBits, releaseBits, stepHead, fluxSection, meshShape, fieldShape, stepShape, meshLength, fieldLength, stepLength}
-use Rattle.heads.specs.Heads.{kindIn, widthIn, cellsIn, facesIn, isMeshKind, meshHeadVerdict, fieldHeadVerdict, stepHeadVerdict, meshMeasured, fieldNeeds, stepNeeds}
-use Rattle.heads.specs.declared.Width.the-variants.{Narrow}
-use Rattle.reading.specs.Reading.{volumesIn, firstsIn, secondsIn, sharesIn, reachesIn, massesIn, fluxesIn, meshIn, minusIn, sizeIn, meshBitGood, stepBitGood, meshBodyVerdict, fieldBodyVerdict, stepBodyVerdict, fieldRead}
-use Rattle.mesh_taking.proofs.MeshLaws.{mesh-small}
+use Rattle.record_bits.specs.Layout.{bytesFor}
+use Rattle.record_bits.proofs.Fields.{bits-lt}
+use Rattle.record_sections.specs.Sections.{Section, place, lengthOf}
+use Rattle.record_heads.specs.Layouts.{widthOf, valueOf, valueBits, massBits, releaseBits, stepHead, fluxSection, meshShape, fieldShape, stepShape, meshLength, fieldLength, stepLength}
+use Rattle.record_heads.specs.Heads.{kindIn, widthIn, cellsIn, facesIn, isMeshKind, meshHeadVerdict, fieldHeadVerdict, stepHeadVerdict, meshMeasured, fieldNeeds, stepNeeds}
+use Rattle.record_heads.specs.declared.Width.the-variants.{Narrow}
+use Rattle.record_reading.specs.Reading.{volumesIn, firstsIn, secondsIn, sharesIn, reachesIn, massesIn, fluxesIn, meshIn, minusIn, sizeIn, meshBitGood, stepBitGood, meshBodyVerdict, fieldBodyVerdict, stepBodyVerdict, fieldRead}
+use Rattle.taking_mesh.proofs.MeshLaws.{mesh-small}
 use Rattle.old_answers.specs.Before.{oldFieldShape, oldStepShape, oldShapeIn, oldStepShapeIn, meshBy, fluxesBy, oldMeshIn, oldMassesIn}
 use Rattle.old_answers.specs.Before.{oldMeshHead, meshBodyBy, oldMeshRead, oldFieldHead, fieldBodyBy, oldFieldRead, oldStepHead, stepBodyBy, oldStepRead, oldFieldNeeds, oldStepNeeds}
 use Rattle.old_answers.proofs.Outcomes.{same-after}

@@ -13,21 +13,21 @@ use Rattle.model.specs.Step.{next}
 use Rattle.model.specs.Causes.{Outcome, accepted, refused, Verdict, fine, _andThen_, taken, Call, cellsOnly, inputOf}
 use Rattle.model.specs.Calls.{massIn}
 use Rattle.model.specs.Ceilings.{MeshSmall}
-use Rattle.bits.specs.Field.{bitAt, bitsAt}
-use Rattle.bits.specs.Layout.{bytesFor}
-use Rattle.sections.specs.Sections.{entryIn}
-use Rattle.heads.specs.Heads.{kindIn, widthIn, cellsIn, facesIn, bytesOf, meshNeeds}
-use Rattle.heads.specs.declared.Width.{Width}
-use Rattle.heads.specs.declared.Width.the-variants.{Narrow}
-use Rattle.heads.proofs.HeadLaws.{bytes-alone}
-use Rattle.reading.specs.Reading.{volumesIn, reachesIn, shapeIn, meshIn, countsIn, massesIn}
+use Rattle.record_bits.specs.Field.{bitAt, bitsAt}
+use Rattle.record_bits.specs.Layout.{bytesFor}
+use Rattle.record_sections.specs.Sections.{entryIn}
+use Rattle.record_heads.specs.Heads.{kindIn, widthIn, cellsIn, facesIn, bytesOf, meshNeeds}
+use Rattle.record_heads.specs.declared.Width.{Width}
+use Rattle.record_heads.specs.declared.Width.the-variants.{Narrow}
+use Rattle.record_heads.proofs.HeadLaws.{bytes-alone}
+use Rattle.record_reading.specs.Reading.{volumesIn, reachesIn, shapeIn, meshIn, countsIn, massesIn}
 use Rattle.board.specs.Board.{entryAt, listed}
 use Rattle.taking.specs.Taking.{stepIn, printedOf}
-use Rattle.step_taken.specs.declared.Printed.{Printed}
-use Rattle.lines.specs.Lines.{stepLine}
-use Rattle.intake.specs.Intake.{stillNeeded}
-use Rattle.session.specs.Session.{stepText, goesOnAfter}
-use Rattle.printed.specs.Run.{inTable, inTables, recordAt, following, boardLines, boardPrinted, stepSaid, fieldThen, stepsPrinted, fieldSaid, fromField, fieldPrinted, runMesh, meshSaidOf, fromMesh, printed}
+use Rattle.model.specs.declared.Printed.{Printed}
+use Rattle.run_lines.specs.Lines.{stepLine}
+use Rattle.run_intake.specs.Intake.{stillNeeded}
+use Rattle.run_session.specs.Session.{stepText, goesOnAfter}
+use Rattle.run_printed.specs.Run.{inTable, inTables, recordAt, following, boardLines, boardPrinted, stepComesTo, fieldThen, stepsPrinted, fieldSaid, fromField, fieldPrinted, runMesh, meshSaidOf, fromMesh, printed}
 use Rattle.old_answers.specs.Before.{oldMeshIn, oldStepIn, oldMeshNeeds, oldMeshJudged, oldFieldJudged, oldStepJudged}
 use Rattle.old_answers.specs.BeforeRun.{oldMeshAt, oldFieldAt, oldStepAt, oldBoardPrinted, oldStepSaid, oldFieldThen, oldStepsPrinted, oldFromField, oldFieldPrinted, oldFromMesh, oldPrinted}
 use Rattle.old_answers.proofs.Outcomes.{same-after, filled}
@@ -45,7 +45,7 @@ module _ (M : Mesh) (s : MeshSmall M) where
   board-same masses = ap (λ (v : Verdict). taken v (boardLines (map (entryAt (M .volumes) masses) (listed (M .volumes) masses (M .cells)))) [])
       (cells-verdict (M .cells) (M .volumes) (s .small-volumes) masses)
 
-  said-same : (masses bs : List ℕ) → stepSaid Narrow M masses bs ≡ oldStepSaid M masses bs
+  said-same : (masses bs : List ℕ) → stepComesTo Narrow M masses bs ≡ oldStepSaid M masses bs
   said-same masses bs = ap (λ (v : Verdict). v andThen accepted (printedOf M masses (stepIn M bs))) (step-judged M bs masses s)
       ∙ same-after (oldStepJudged M masses bs) (accepted (printedOf M masses (stepIn M bs))) (accepted (printedOf M masses (oldStepIn M bs)))
       (λ h. ap (λ (k : Call). accepted (printedOf M masses k)) (judged-step-in M bs masses h))
@@ -60,7 +60,7 @@ module _ (M : Mesh) (s : MeshSmall M) where
   steps-same (suc most) step masses (b ∷ bs) =
       let at : List ℕ = oldStepAt M (b ∷ bs) in
       let left : List ℕ = oldFieldThen M masses at in
-      ap (λ (x : List ℕ). stepText step (stepSaid Narrow M masses x) ++ cond (goesOnAfter (stepSaid Narrow M masses x))
+      ap (λ (x : List ℕ). stepText step (stepComesTo Narrow M masses x) ++ cond (goesOnAfter (stepComesTo Narrow M masses x))
       (stepsPrinted Narrow M most (step + 1) (fieldThen Narrow M masses x) (following x (b ∷ bs))) (boardPrinted M (fieldThen Narrow M masses x)))
       (record-same 4 _ _ (b ∷ bs) (step-needs (M .cells) (M .faces) (M .seconds) (take 4 (b ∷ bs))))
       ∙ ap (λ (o : Outcome Printed). stepText step o ++ cond (goesOnAfter o)

@@ -13,16 +13,16 @@ use Rattle.model.specs.Calls.{stepAnswer}
 use Rattle.model.specs.Ceilings.{MeshSmall, StepSmall}
 use Rattle.model.proofs.Verdicts.{both-fine}
 use Rattle.model.proofs.Ceilings.{old-meshes, old-steps}
-use Rattle.sections.specs.Sections.{Section}
-use Rattle.heads.specs.Layouts.{fieldKind, massBits, fieldRecord, fieldLength}
-use Rattle.heads.specs.Heads.{kindIn, widthIn, cellsIn}
-use Rattle.heads.specs.declared.Width.{Width}
-use Rattle.heads.specs.declared.Width.the-variants.{Narrow}
-use Rattle.reading.specs.Reading.{meshIn, massesIn, fluxesIn, outsidesIn, releasesIn}
-use Rattle.reading.specs.declared.MeshAnswer.{MeshAnswer}
-use Rattle.mesh_taking.specs.MeshTaking.{MeshKept, meshRecordFound, meshJudged}
+use Rattle.record_sections.specs.Sections.{Section}
+use Rattle.record_heads.specs.Layouts.{fieldKind, massBits, fieldRecord, fieldLength}
+use Rattle.record_heads.specs.Heads.{kindIn, widthIn, cellsIn}
+use Rattle.record_heads.specs.declared.Width.{Width}
+use Rattle.record_heads.specs.declared.Width.the-variants.{Narrow}
+use Rattle.record_reading.specs.Reading.{meshIn, massesIn, fluxesIn, outsidesIn, releasesIn}
+use Rattle.record_reading.specs.declared.MeshAnswer.{MeshAnswer}
+use Rattle.taking_mesh.specs.MeshTaking.{MeshKept, meshRecordFound, meshJudged}
 use Rattle.taking.specs.Taking.{fieldJudged, stepIn, stepRecordFound, stepJudged, printedOf, Stepping}
-use Rattle.step_taken.specs.declared.StepTaken.{StepTaken}
+use Rattle.model.specs.declared.StepTaken.{StepTaken}
 use Rattle.lagoon.specs.Host.{hostInput, hostVerdict, hostBytes}
 use Rattle.old_answers.specs.Before.{stepBy, oldMeshIn, oldMassesIn, oldStepIn, oldStepRead, oldMeshJudged, oldCellsVerdict, oldFieldJudged, oldStepJudged, oldHostVerdict, oldNextRecord, oldHostBytes}
 use Rattle.old_answers.proofs.Outcomes.{same-after, same-found, filled}

@@ -12,12 +12,12 @@ use Rattle.signed.specs.Sign.{withSign}
 use Rattle.model.specs.Mesh.{Mesh, meshOf, maxCells, maxFaces, runCells, runFaces, oldCeiling}
 use Rattle.model.specs.Step.{next}
 use Rattle.model.specs.Causes.{Outcome, accepted, Verdict, _andThen_, inTurn, taken, need, each, between, countsWithin, long, bytesLong, Call, waterOf, cellsOnly, inputOf, counts, meshTables, meshValues, fieldTable, fieldValues, outsideGood, fluxGood, causesWithin}
-use Rattle.sections.specs.Sections.{Section, per, perThat, once, shapeBits, lengthOf, width, valueIn, columnIn, recordOf}
-use Rattle.heads.specs.Layouts.{isRim, meshValue, fieldValue, stepValue}
-use Rattle.heads.specs.Heads.{kindIn, cellsIn, facesIn, stepFacesIn, hasLength}
-use Rattle.zeros.specs.Zeros.{zeroBitGood, minusZero}
-use Rattle.writing.specs.Writing.{Writing}
-use Rattle.writing.specs.declared.WriteAnswer.{WriteAnswer}
+use Rattle.record_sections.specs.Sections.{Section, per, perThat, once, shapeBits, lengthOf, width, valueIn, columnIn, recordOf}
+use Rattle.record_heads.specs.Layouts.{isRim, meshValue, fieldValue, stepValue}
+use Rattle.record_heads.specs.Heads.{kindIn, cellsIn, facesIn, stepFacesIn, hasLength}
+use Rattle.record_zeros.specs.Zeros.{zeroBitGood, minusZero}
+use Rattle.record_writing.specs.Writing.{Writing}
+use Rattle.record_writing.specs.declared.WriteAnswer.{WriteAnswer}
 use Rattle.taking.specs.Taking.{ownTables}
 
 -- Document 01, "Record layouts", the table in its figures: a mesh, a field, a step. S-6: kind 4 ends with a release for each cell.

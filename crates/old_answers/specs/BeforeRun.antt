@@ -8,10 +8,10 @@ use Rattle.model.specs.Causes.{Outcome, accepted, refused, Verdict, _andThen_, 
 use Rattle.model.specs.Calls.{massIn}
 use Rattle.board.specs.Board.{entryAt, listed}
 use Rattle.taking.specs.Taking.{printedOf, massesAfter}
-use Rattle.step_taken.specs.declared.Printed.{Printed}
-use Rattle.lines.specs.Lines.{letterM, letterF, refusalLine, stepLine}
-use Rattle.session.specs.Session.{stepText, goesOnAfter}
-use Rattle.printed.specs.Run.{inTable, inTables, recordAt, following, boardLines}
+use Rattle.model.specs.declared.Printed.{Printed}
+use Rattle.run_lines.specs.Lines.{letterM, letterF, refusalLine, stepLine}
+use Rattle.run_session.specs.Session.{stepText, goesOnAfter}
+use Rattle.run_printed.specs.Run.{inTable, inTables, recordAt, following, boardLines}
 use Rattle.old_answers.specs.Before.{oldMeshIn, oldMassesIn, oldStepIn, oldMeshNeeds, oldFieldNeeds, oldStepNeeds, oldMeshJudged, oldCellsVerdict, oldFieldJudged, oldStepJudged}
 
 -- a record at the front of the input: its head of 4 or 2 bytes, and what that asks for

@@ -15,22 +15,22 @@ use Rattle.model.specs.Ceilings.{MeshSmall}
 use Rattle.model.specs.declared.Answer.{Answer}
 use Rattle.checks.specs.Total.{totalSaid}
 use Rattle.checks.specs.declared.TotalAnswer.{TotalAnswer}
-use Rattle.sections.specs.Sections.{lengthOf, columnIn}
-use Rattle.heads.specs.Layouts.{kindNumber}
-use Rattle.heads.specs.Heads.{kindIn, meshMeasured, fieldNeeds, stepNeeds}
-use Rattle.heads.specs.declared.Width.the-variants.{Narrow}
-use Rattle.heads.specs.declared.StepKind.{StepKind}
-use Rattle.reading.specs.Reading.{meshRead, fieldRead, stepRead}
-use Rattle.reading.specs.Answers.{stepSaid, MeshReading, FieldReading, StepReading}
-use Rattle.reading.specs.declared.MeshAnswer.{MeshAnswer}
-use Rattle.reading.specs.declared.StepRead.{StepRead}
-use Rattle.writing.specs.Writing.{MeshWriting, FieldWriting, StepWriting}
-use Rattle.writing.specs.declared.WriteAnswer.{WriteAnswer}
-use Rattle.mesh_taking.specs.MeshTaking.{MeshKept, MeshTaking}
+use Rattle.record_sections.specs.Sections.{lengthOf, columnIn}
+use Rattle.record_heads.specs.Layouts.{kindNumber}
+use Rattle.record_heads.specs.Heads.{kindIn, meshMeasured, fieldNeeds, stepNeeds}
+use Rattle.record_heads.specs.declared.Width.the-variants.{Narrow}
+use Rattle.record_heads.specs.declared.StepKind.{StepKind}
+use Rattle.record_reading.specs.Reading.{meshRead, fieldRead, stepRead}
+use Rattle.record_reading.specs.Answers.{stepReadSaid, MeshReading, FieldReading, StepReading}
+use Rattle.record_reading.specs.declared.MeshAnswer.{MeshAnswer}
+use Rattle.record_reading.specs.declared.StepRead.{StepRead}
+use Rattle.record_writing.specs.Writing.{MeshWriting, FieldWriting, StepWriting}
+use Rattle.record_writing.specs.declared.WriteAnswer.{WriteAnswer}
+use Rattle.taking_mesh.specs.MeshTaking.{MeshKept, MeshTaking}
 use Rattle.taking.specs.Taking.{FieldTaking, Stepping, StepTaking}
-use Rattle.step_taken.specs.declared.StepTaken.{StepTaken}
+use Rattle.model.specs.declared.StepTaken.{StepTaken}
 use Rattle.lagoon.specs.Host.{HostPromise, numberOf}
-use Rattle.printed.specs.Program.{Prints}
+use Rattle.run_printed.specs.Program.{Prints}
 use Rattle.old_answers.specs.Before.{fluxesBy, oldShapeIn, oldMeshIn, oldMassesIn, oldStepShapeIn, oldStepIn, oldMeshHead, oldMeshRead, oldFieldRead, oldStepRead, oldFieldNeeds, oldStepNeeds}
 use Rattle.old_answers.specs.Before.{oldMeshWriting, oldFieldWriting, oldStepWriting, oldMeshJudged, oldFieldJudged, oldStepJudged, oldHostVerdict, oldHostBytes}
 use Rattle.old_answers.specs.BeforeRun.{oldPrinted}
@@ -58,7 +58,7 @@ pub record OldReading : Type 0 where
       r fluxes′ outsides′ releases′
       → let v = oldStepRead cells faces seconds bs (length fluxes) (length outsides) (length releases) in
       let S = oldStepShapeIn bs cells faces seconds in
-      (stepSaid Narrow r ≡ (v andThen accepted (kindIn bs))) × Filled v (fluxesBy S bs faces) fluxes fluxes′ × Filled v (columnIn bs S 2 0) outsides outsides′
+      (stepReadSaid Narrow r ≡ (v andThen accepted (kindIn bs))) × Filled v (fluxesBy S bs faces) fluxes fluxes′ × Filled v (columnIn bs S 2 0) outsides outsides′
       × Filled v (columnIn bs S 3 0) releases releases′
 
 -- write_mesh, write_field and write_step, told the narrow width

@@ -86,7 +86,7 @@ pub fn judge(
     ensures { λ r. ⌜ said r ≡ verdictWith (said further) (now (volumes .entry)) (now (masses .entry)) cells page room ⌝ }
 {
     let none = &volumes[..0];
-    let tables = lent::field_lent(cells, 0, volumes, none, none, none, none, masses);
+    let tables = check_lent::field_lent(cells, 0, volumes, none, none, none, none, masses);
     if let Answer::Refused(r) = tables {
         return Answer::Refused(r);
     }

@@ -1,6 +1,6 @@
 // Document 02's S-1: the lines of a page's cells, sixty cells to a page. S-14: those of open cells alone.
-use bits::least;
-use marks::is_open;
+use lists::least;
+use public_marks::is_open;
 use text::NEWLINE;
 use text::SPACE;
 use text::column;
@@ -10,7 +10,7 @@ ghost use Prim.Native.Nat.{ℕ, _+_, _*_, _≤_, _<_, _/_, _-_, max};
 ghost use lib.ListN.{length, getD};
 ghost use Rattle.text.specs.Digits.{mostDigits};
 ghost use Rattle.text.specs.Lines.{Puts, pieces};
-ghost use Rattle.marks.specs.Marks.{isOpen};
+ghost use Rattle.public_marks.specs.Marks.{isOpen};
 ghost use Rattle.page_lines.specs.Lines.{pageCells, largest as largestOf, restPlaces, massPlaces, cellLine, lineIf, cellsOn};
 
 // Cells of a full page.

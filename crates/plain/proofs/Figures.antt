@@ -11,12 +11,12 @@ use Rattle.model.specs.Step.{raised, releasedMass, inMass, outMass, rounded, be
 use Rattle.model.specs.Causes.{Call, callOf, _andThen_, need, each, countsWithin, counts, meshTables, volumeGood, endsGood, spacingGood, meshValues, fieldTable, saltGood, fieldValues, raisedGood, raisedValues, stepTables, outsideGood, fluxGood, balanceGood, outflowGood, stepValues, verdict}
 use Rattle.model.specs.Calls.{nextTable, stepOnTables, afterAll}
 use Rattle.model.proofs.Figures.{channel, channelCall}
-use Rattle.plain.specs.Unrounded.{product, times, Fractions, wholeMasses, finer, unroundedStep}
+use Rattle.plain.specs.Unrounded.{product, eachTimes, Fractions, wholeMasses, finer, unroundedStep}
 use Rattle.plain.specs.Error.{acceptedOf, unroundedAfter, PlainCall, plainComes}
 
 -- a name for all that a figure computes through
 computed : Unit {0}
-unfolding afterAll acceptedOf unroundedAfter unroundedStep finer times product stepOnTables nextTable inMass outMass releasedMass over verdict
+unfolding afterAll acceptedOf unroundedAfter unroundedStep finer eachTimes product stepOnTables nextTable inMass outMass releasedMass over verdict
     counts countsWithin meshTables fieldTable stepTables meshValues fieldValues saltGood raised raisedGood raisedValues stepValues volumeGood
     endsGood spacingGood outsideGood fluxGood balanceGood outflowGood need each _andThen_ table sum entering leaving incoming outgoing updated
     rounded beyond upwind carried low

@@ -8,7 +8,7 @@ use native.Mathlib.Omega.{arith}
 use lib.ListN.{getD}
 use lib.Dec.{eqb}
 use Rattle.lists.proofs.Tests.{Same, same, other, same?}
-use Rattle.plain.specs.Unrounded.{product, times}
+use Rattle.plain.specs.Unrounded.{product, eachTimes}
 
 pub product-some : (n : ℕ) (f : ℕ → ℕ) → ((i : ℕ) → i < n → 1 ≤ f i) → 1 ≤ product n f
 unfolding product
@@ -24,8 +24,8 @@ product-each (suc n) f i h = go (eqb i n) (same? i n) (product-each n f i)
     go true (same e) ih = rw e (dvd-mul-left (f n) (product n f))
     go false (other d) ih = dvd-mul-right-of-dvd (f i) (ih (omega arith)) (f n)
 
-pub getD-times : (D : ℕ) (xs : List ℕ) (i : ℕ) → getD (times D xs) i 0 ≡ getD xs i 0 * D
-unfolding times
+pub getD-times : (D : ℕ) (xs : List ℕ) (i : ℕ) → getD (eachTimes D xs) i 0 ≡ getD xs i 0 * D
+unfolding eachTimes
 getD-times D [] i = omega arith
 getD-times D (x ∷ xs) zero = refl
 getD-times D (x ∷ xs) (suc i) = getD-times D xs i

@@ -13,9 +13,9 @@ pub record Fraction : Type 0 where
   pub top : ℕ
   pub bottom : ℕ
 
-infix 60 _over_
-abbrev pub _over_ : ℕ → ℕ → Fraction
-a over b = record { top = a; bottom = b }
+infix 60 _per_
+abbrev pub _per_ : ℕ → ℕ → Fraction
+a per b = record { top = a; bottom = b }
 
 -- a/b − c/d < n and c/d − a/b < n, both times b·d
 abbrev pub DifferBelow : ℕ → Fraction → Fraction → Type 0
@@ -38,8 +38,8 @@ module _ (M : Mesh) {K : Type 0} (tables : K → Call) (comes : K → List ℕ �
   -- m/V of the field after all calls, and the same of the unrounded masses
   abbrev pub ErrorBelow : List ℕ → List K → Type 0
   ErrorBelow field ks = 1 ≤ acceptedOf field ks → (c : ℕ) → c < M .cells
-      → DifferBelow (acceptedOf field ks) (massIn (afterAll comes field ks) c over volume M c)
-      (massIn (unroundedAfter (wholeMasses field) field ks .tops) c over (unroundedAfter (wholeMasses field) field ks .parts * volume M c))
+      → DifferBelow (acceptedOf field ks) (massIn (afterAll comes field ks) c per volume M c)
+      (massIn (unroundedAfter (wholeMasses field) field ks .tops) c per (unroundedAfter (wholeMasses field) field ks .parts * volume M c))
 
 -- A plain call on tables as one of a list: what stands in the table of masses past the field, and all other tables of a step, of any values and
 -- of any length.

@@ -14,11 +14,11 @@ use Rattle.model.specs.Causes.{fine, long, cellsOnly, counts, meshTables, meshV
 use Rattle.model.proofs.Verdicts.{both-fine, need-met}
 use Rattle.model.proofs.Accepted.{field-fit, field-accepted}
 use Rattle.model.proofs.Agree.{mesh-values-agree, field-values-agree, verdict-agree}
-use Rattle.heads.specs.Heads.{widthIn, cellsIn, facesIn}
-use Rattle.reading.specs.Reading.{volumesIn, firstsIn, secondsIn, sharesIn, reachesIn, meshIn, massesIn, outsidesIn, releasesIn}
-use Rattle.mesh_taking.specs.MeshTaking.{meshJudged}
+use Rattle.record_heads.specs.Heads.{widthIn, cellsIn, facesIn}
+use Rattle.record_reading.specs.Reading.{volumesIn, firstsIn, secondsIn, sharesIn, reachesIn, meshIn, massesIn, outsidesIn, releasesIn}
+use Rattle.taking_mesh.specs.MeshTaking.{meshJudged}
 use Rattle.taking.specs.Taking.{fieldJudged, stepIn, stepRecordFound, stepJudged}
-use Rattle.mesh_taking.proofs.MeshLaws.{limits, values-left}
+use Rattle.taking_mesh.proofs.MeshLaws.{limits, values-left}
 use Rattle.lagoon.specs.Host.{meshTested, fieldTested, stepTested}
 use Rattle.promises.proofs.Counted.{outsides-same, releases-same, found-same}
 

@@ -12,15 +12,15 @@ use Rattle.model.specs.Step.{raised, releasedMass, inMass, outMass, next, moved
 use Rattle.model.specs.Causes.{fine, _andThen_, Call, meshVerdict, fieldVerdict, need, each, countsWithin, counts, meshTables, volumeGood, endsGood, spacingGood, meshValues, fieldTable, saltGood, fieldValues, raisedGood, raisedValues, meshFieldVerdict, stepTables, outsideGood, fluxGood, balanceGood, outflowGood, stepValues, verdict, callOf}
 use Rattle.model.specs.Calls.{lentMasses, crossingOf, corrected, stepAnswer, nextTable, movedTable, workTable, afterAll, totalIn}
 use Rattle.model.proofs.Figures.{channel}
-use Rattle.bits.specs.Field.{bitAt, bitsAt}
-use Rattle.bits.specs.Layout.{spelled, bitsOf, widthOf, bytesFor, octet, packed, rows}
-use Rattle.sections.specs.Sections.{those, row, fieldsOf, recordOf}
-use Rattle.heads.specs.Layouts.{valueBits, massBits, releaseBits, meshRecord, fieldRecord, meshLength, fieldLength, stepLength}
-use Rattle.heads.specs.Heads.{widthIn, meshHeadVerdict, fieldHeadVerdict, stepHeadVerdict}
-use Rattle.heads.specs.declared.Width.the-variants.{Narrow, Wide}
-use Rattle.zeros.specs.Zeros.{zeroBitGood, minusZero}
-use Rattle.reading.specs.Reading.{meshIn, volumesIn, firstsIn, secondsIn, sharesIn, reachesIn, massesIn, fluxesIn, outsidesIn, releasesIn, meshBitGood, stepBitGood, meshBodyVerdict, fieldBodyVerdict, stepBodyVerdict, fieldRead}
-use Rattle.mesh_taking.specs.MeshTaking.{meshRecordFound, meshJudged}
+use Rattle.record_bits.specs.Field.{bitAt, bitsAt}
+use Rattle.record_bits.specs.Layout.{spelled, bitsOf, widthOf, bytesFor, octet, packed, rows}
+use Rattle.record_sections.specs.Sections.{those, row, fieldsOf, recordOf}
+use Rattle.record_heads.specs.Layouts.{valueBits, massBits, releaseBits, meshRecord, fieldRecord, meshLength, fieldLength, stepLength}
+use Rattle.record_heads.specs.Heads.{widthIn, meshHeadVerdict, fieldHeadVerdict, stepHeadVerdict}
+use Rattle.record_heads.specs.declared.Width.the-variants.{Narrow, Wide}
+use Rattle.record_zeros.specs.Zeros.{zeroBitGood, minusZero}
+use Rattle.record_reading.specs.Reading.{meshIn, volumesIn, firstsIn, secondsIn, sharesIn, reachesIn, massesIn, fluxesIn, outsidesIn, releasesIn, meshBitGood, stepBitGood, meshBodyVerdict, fieldBodyVerdict, stepBodyVerdict, fieldRead}
+use Rattle.taking_mesh.specs.MeshTaking.{meshRecordFound, meshJudged}
 use Rattle.taking.specs.Taking.{fieldJudged, blank, stepRecordFound, stepJudged}
 use Rattle.lagoon.specs.Host.{hostInput, hostVerdict, hostBytes, HostPromise}
 use Rattle.transport.specs.Promise.{StepPromise}

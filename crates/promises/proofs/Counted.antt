@@ -14,12 +14,12 @@ use Rattle.model.specs.Alike.{AgreeCall}
 use Rattle.model.specs.Causes.{_andThen_, Call}
 use Rattle.model.specs.Calls.{massIn}
 use Rattle.model.proofs.Verdicts.{need-met, each-cong}
-use Rattle.bits.specs.Field.{bitsAt}
-use Rattle.sections.specs.Sections.{those, entryIn}
-use Rattle.heads.specs.Layouts.{outsideBits, rimFaces, isRim, stepLength}
-use Rattle.heads.specs.Heads.{stepHeadVerdict}
-use Rattle.heads.specs.declared.Width.{Width}
-use Rattle.reading.specs.Reading.{outsidesIn, outsidePlace, stepShapeIn, releasesIn, stepBitGood, stepBodyVerdict}
+use Rattle.record_bits.specs.Field.{bitsAt}
+use Rattle.record_sections.specs.Sections.{those, entryIn}
+use Rattle.record_heads.specs.Layouts.{outsideBits, rimFaces, isRim, stepLength}
+use Rattle.record_heads.specs.Heads.{stepHeadVerdict}
+use Rattle.record_heads.specs.declared.Width.{Width}
+use Rattle.record_reading.specs.Reading.{outsidesIn, outsidePlace, stepShapeIn, releasesIn, stepBitGood, stepBodyVerdict}
 use Rattle.promises.specs.Held.{cut, cutField}
 
 -- a step record on seconds that agree below the faces

@@ -10,16 +10,16 @@ use Rattle.model.specs.Ceilings.{MeshSmall}
 use Rattle.model.specs.Causes.{fine, counts, meshValues, meshVerdict, fieldValues, fieldVerdict}
 use Rattle.model.proofs.Verdicts.{both-fine}
 use Rattle.model.proofs.Ceilings.{old-meshes, small-of}
-use Rattle.heads.specs.Layouts.{meshKind, fieldKind, meshRecord, fieldRecord}
-use Rattle.heads.specs.Heads.{widthIn}
-use Rattle.heads.specs.declared.Width.{Width}
-use Rattle.heads.specs.declared.Width.the-variants.{Narrow, Wide}
-use Rattle.reading.specs.Reading.{meshIn}
-use Rattle.reading.specs.declared.MeshCounts.{MeshCounts}
-use Rattle.writing.specs.Writing.{mostOf}
-use Rattle.writing.proofs.Accepting.{mesh-passed}
-use Rattle.writing.proofs.RoundTrip.{cells-read-back, faces-read-back, mesh-read-back, volumes-read-back, firsts-read-back, seconds-read-back, shares-read-back, reaches-read-back, field-read-back, masses-read-back}
-use Rattle.mesh_taking.proofs.MeshLaws.{mesh-small}
+use Rattle.record_heads.specs.Layouts.{meshKind, fieldKind, meshRecord, fieldRecord}
+use Rattle.record_heads.specs.Heads.{widthIn}
+use Rattle.record_heads.specs.declared.Width.{Width}
+use Rattle.record_heads.specs.declared.Width.the-variants.{Narrow, Wide}
+use Rattle.record_reading.specs.Reading.{meshIn}
+use Rattle.record_reading.specs.declared.MeshCounts.{MeshCounts}
+use Rattle.record_writing.specs.Writing.{mostOf}
+use Rattle.record_writing.proofs.Accepting.{mesh-passed}
+use Rattle.record_writing.proofs.RoundTrip.{cells-read-back, faces-read-back, mesh-read-back, volumes-read-back, firsts-read-back, seconds-read-back, shares-read-back, reaches-read-back, field-read-back, masses-read-back}
+use Rattle.taking_mesh.proofs.MeshLaws.{mesh-small}
 use Rattle.promises.specs.Held.{cut, HoldsMesh, HoldsField}
 
 -- V and K within the old ceilings, cut to the counts or not, and of a mesh that a record holds

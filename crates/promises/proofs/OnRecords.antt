@@ -19,12 +19,12 @@ use Rattle.model.proofs.Accepted.{ready, passed, counted, mesh-fit}
 use Rattle.model.proofs.Next.{moved-keeps}
 use Rattle.model.proofs.Lists.{Fair, amounts-fair, raised-total}
 use Rattle.model.proofs.Agree.{in-agree, out-agree, inputs-agree, fair-agree}
-use Rattle.heads.specs.Layouts.{fieldKind, fieldRecord, fieldLength}
-use Rattle.heads.specs.declared.Width.{Width}
-use Rattle.writing.specs.Writing.{mostOf}
-use Rattle.reading.specs.Reading.{meshIn, massesIn}
-use Rattle.writing.proofs.Back.{field-record-length}
-use Rattle.writing.proofs.RoundTrip.{masses-read-back}
+use Rattle.record_heads.specs.Layouts.{fieldKind, fieldRecord, fieldLength}
+use Rattle.record_heads.specs.declared.Width.{Width}
+use Rattle.record_writing.specs.Writing.{mostOf}
+use Rattle.record_reading.specs.Reading.{meshIn, massesIn}
+use Rattle.record_writing.proofs.Back.{field-record-length}
+use Rattle.record_writing.proofs.RoundTrip.{masses-read-back}
 use Rattle.taking.specs.Taking.{ownTables, stepJudged}
 use Rattle.lagoon.specs.Host.{causeStep, hostVerdict, hostBytes, HostPromise}
 use Rattle.lagoon.proofs.Small.{taken-apart}

@@ -16,8 +16,8 @@ use Rattle.model.proofs.Accepted.{ready, counted, mesh-fit}
 use Rattle.model.proofs.Next.{moved-keeps}
 use Rattle.model.proofs.Lists.{Fair, amounts-fair, raised-total, lent-same}
 use Rattle.model.proofs.Agree.{field-agrees, fair-agree}
-use Rattle.step_taken.specs.declared.Printed.{Printed}
-use Rattle.step_taken.specs.Said.{takenSaid}
+use Rattle.model.specs.declared.Printed.{Printed}
+use Rattle.model.specs.StepTaken.{takenSaid}
 use Rattle.taking.specs.Taking.{stepIn, printedOf, stepJudged, StepTaking}
 use Rattle.promises.specs.Steps.{RunMade, runLeft, waterIn}
 use Rattle.promises.proofs.Held.{within, passes}

@@ -16,17 +16,17 @@ use Rattle.model.specs.Step.{next}
 use Rattle.model.specs.Causes.{Outcome, accepted, refused, Verdict, fine, inputOf, cellsOnly, meshVerdict, fieldVerdict}
 use Rattle.model.specs.Calls.{massIn, lentMasses, fieldAfter}
 use Rattle.model.proofs.Verdicts.{accepted-of, refused-of}
-use Rattle.heads.specs.Heads.{widthIn, cellsIn, facesIn}
-use Rattle.heads.specs.declared.Width.{Width}
-use Rattle.reading.specs.Reading.{volumesIn, firstsIn, secondsIn, sharesIn, reachesIn, massesIn, countsIn}
-use Rattle.reading.specs.declared.MeshCounts.{MeshCounts}
-use Rattle.mesh_taking.specs.MeshTaking.{meshJudged}
-use Rattle.step_taken.specs.declared.Printed.{Printed}
-use Rattle.step_taken.specs.declared.StepTaken.{StepTaken}
-use Rattle.step_taken.specs.Said.{takenSaid}
+use Rattle.record_heads.specs.Heads.{widthIn, cellsIn, facesIn}
+use Rattle.record_heads.specs.declared.Width.{Width}
+use Rattle.record_reading.specs.Reading.{volumesIn, firstsIn, secondsIn, sharesIn, reachesIn, massesIn, countsIn}
+use Rattle.record_reading.specs.declared.MeshCounts.{MeshCounts}
+use Rattle.taking_mesh.specs.MeshTaking.{meshJudged}
+use Rattle.model.specs.declared.Printed.{Printed}
+use Rattle.model.specs.declared.StepTaken.{StepTaken}
+use Rattle.model.specs.StepTaken.{takenSaid}
 use Rattle.taking.specs.Taking.{fieldJudged, stepIn, printedOf, stepJudged, StepTaking}
 use Rattle.lagoon.specs.Host.{meshTested}
-use Rattle.printed.specs.Program.{StepsPrint, no-byte, step-ends, step-goes-on, FieldPrints, field-refused, field-accepted, mesh-refused, mesh-accepted}
+use Rattle.run_printed.specs.Program.{StepsPrint, no-byte, step-ends, step-goes-on, FieldPrints, field-refused, field-accepted, mesh-refused, mesh-accepted}
 use Rattle.promises.specs.Steps.{runLeft, StepsMade}
 use Rattle.promises.specs.Run.{runSteps, FieldDemanded, RunMakesList}
 use Rattle.promises.proofs.AsTheRun.{lent-fine, lent-field-fine, masses-long, field-as-the-run}

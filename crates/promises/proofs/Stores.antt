@@ -21,10 +21,10 @@ use Rattle.model.specs.Calls.{massIn, Left, lentMasses, Deed, stepped, givenBac
 use Rattle.model.proofs.Verdicts.{both-fine, refused-of}
 use Rattle.model.proofs.Accepted.{field-fit, field-accepted}
 use Rattle.model.proofs.Lists.{Owes, ledger-law}
-use Rattle.kept.specs.Store.{fieldsIn, heldUnder}
+use Rattle.store_kept.specs.Store.{fieldsIn, heldUnder}
 use Rattle.store.specs.Calls.{keepStore, dropStore, returnVerdict, returnMasses}
 use Rattle.store.specs.Lists.{keeping, dropping}
-use Rattle.entries.proofs.Written.{over-front}
+use Rattle.store_entries.proofs.Written.{over-front}
 use Rattle.store.proofs.Effects.{keep-effect, drop-effect, held-length, held-salt, may-drop, keep-then-drop as dropped-again}
 use Rattle.store.proofs.Back.{Holding, after-one, holding, return-fine, return-gives}
 use Rattle.promises.specs.Steps.{StepCall, cameTo, StepOwed}

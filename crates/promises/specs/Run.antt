@@ -6,9 +6,9 @@ use lib.ListN.{drop}
 use Rattle.model.specs.Mesh.{Mesh}
 use Rattle.model.specs.Causes.{fine, meshVerdict, fieldVerdict}
 use Rattle.model.specs.Calls.{Claim}
-use Rattle.heads.specs.declared.Width.{Width}
-use Rattle.step_taken.specs.declared.StepTaken.{StepTaken}
-use Rattle.printed.specs.Program.{StepsPrint, no-byte, step-ends, step-goes-on, FieldPrints, field-refused, field-accepted, Prints, mesh-refused, mesh-accepted}
+use Rattle.record_heads.specs.declared.Width.{Width}
+use Rattle.model.specs.declared.StepTaken.{StepTaken}
+use Rattle.run_printed.specs.Program.{StepsPrint, no-byte, step-ends, step-goes-on, FieldPrints, field-refused, field-accepted, Prints, mesh-refused, mesh-accepted}
 use Rattle.promises.specs.Steps.{StepCall, byTakeStep, StepsMade, cameTo, StepOwed}
 
 -- a step of the run, which steps the first masses of a table in place

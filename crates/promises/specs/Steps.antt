@@ -12,12 +12,12 @@ use Rattle.model.specs.Calls.{Bounded, Left, crossingOf, corrected, plain, lent
 use Rattle.transport.specs.Promise.{stepSaid, leftBy, StepPromise}
 use Rattle.judging.specs.Promise.{JudgePromise}
 use Rattle.plain.specs.Made.{Made}
-use Rattle.heads.specs.Layouts.{fieldKind, fieldLength}
-use Rattle.heads.specs.declared.Width.{Width}
-use Rattle.reading.specs.Reading.{massesIn, fluxesIn, outsidesIn, releasesIn}
-use Rattle.step_taken.specs.declared.Printed.{Printed}
-use Rattle.step_taken.specs.declared.StepTaken.{StepTaken}
-use Rattle.step_taken.specs.Said.{takenSaid}
+use Rattle.record_heads.specs.Layouts.{fieldKind, fieldLength}
+use Rattle.record_heads.specs.declared.Width.{Width}
+use Rattle.record_reading.specs.Reading.{massesIn, fluxesIn, outsidesIn, releasesIn}
+use Rattle.model.specs.declared.Printed.{Printed}
+use Rattle.model.specs.declared.StepTaken.{StepTaken}
+use Rattle.model.specs.StepTaken.{takenSaid}
 use Rattle.taking.specs.Taking.{StepTaking}
 use Rattle.lagoon.specs.Host.{causeStep, HostPromise}
 use Rattle.promises.specs.Held.{HoldsMesh, HoldsField}

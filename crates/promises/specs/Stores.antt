@@ -11,7 +11,7 @@ use Rattle.model.specs.Causes.{Outcome, accepted, fine, taken, _andThen_, meshV
 use Rattle.model.specs.Answers.{said}
 use Rattle.model.specs.declared.Answer.{Answer}
 use Rattle.model.specs.Calls.{massIn, lentMasses, Deed, givenBack, storeOnly, stepping, lastField, EachCall, Ledger}
-use Rattle.kept.specs.Store.{count, used, fieldsIn, heldUnder, without}
+use Rattle.store_kept.specs.Store.{count, used, fieldsIn, heldUnder, without}
 use Rattle.store.specs.Calls.{KeepPromise, DropPromise, ReturnPromise}
 use Rattle.promises.specs.Steps.{StepCall, cameTo, StepContract, StepOwed}
 

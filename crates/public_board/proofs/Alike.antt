@@ -4,11 +4,11 @@ use mathlib.Core.Path.{_≡_, refl, sym, ap, _∙_}
 use mathlib.Core.Bool.{true}
 use mathlib.Core.List.{List, [], _∷_, map}
 use lib.ListN.{take}
-use Rattle.order.specs.Order.{rankedOf, comesBefore, inOrder}
-use Rattle.order.proofs.Insertion.{take-map, ranked-alike}
-use Rattle.marks.specs.Marks.{isOpen, SameInOpen}
-use Rattle.marks.proofs.Judged.{same-tests}
-use Rattle.board.specs.Board.{boardSize, shown, entryOf, entryAt, rankedAt, before, listedOf, entriesOf}
+use Rattle.board_order.specs.Order.{rankedOf, comesBefore, inOrder}
+use Rattle.board_order.proofs.Insertion.{take-map, ranked-alike}
+use Rattle.public_marks.specs.Marks.{isOpen, SameInOpen}
+use Rattle.public_marks.proofs.Judged.{same-tests}
+use Rattle.board.specs.Board.{boardSize, shown, entryOf, entryAt, rankedAt, cellBefore, listedOf, entriesOf}
 use Rattle.board.specs.declared.Entry.{Entry}
 use Rattle.public_board.specs.Public.{openEntries, publicVerdict}
 use Rattle.public_board.specs.Alike.{NothingTold}
@@ -21,20 +21,20 @@ module _ (volumes masses : List ℕ) where
   entries-ranked (c ∷ l) = ap (λ (t : List Entry). entryAt volumes masses c ∷ t) (entries-ranked l)
 
   first-ranked : (marks : List ℕ) (cells : ℕ) → map (entryAt volumes masses) (listedOf volumes masses (isOpen marks) cells)
-      ≡ map shown (take boardSize (map (rankedAt volumes masses) (inOrder (isOpen marks) (before volumes masses) cells)))
+      ≡ map shown (take boardSize (map (rankedAt volumes masses) (inOrder (isOpen marks) (cellBefore volumes masses) cells)))
   unfolding listedOf
   first-ranked marks cells =
-      entries-ranked (take boardSize (inOrder (isOpen marks) (before volumes masses) cells))
-      ∙ ap (map shown) (sym (take-map (rankedAt volumes masses) boardSize (inOrder (isOpen marks) (before volumes masses) cells)))
+      entries-ranked (take boardSize (inOrder (isOpen marks) (cellBefore volumes masses) cells))
+      ∙ ap (map shown) (sym (take-map (rankedAt volumes masses) boardSize (inOrder (isOpen marks) (cellBefore volumes masses) cells)))
 
 module _ (volumes marks : List ℕ) (cells : ℕ) (masses masses′ : List ℕ) (s : SameInOpen volumes marks cells masses masses′) where
   same-ranked : (c : ℕ) → c < cells → isOpen marks c ≡ true → rankedAt volumes masses c ≡ rankedAt volumes masses′ c
   unfolding rankedAt
   same-ranked c h o = rw (s .agree c h o)
 
-  same-order : map (rankedAt volumes masses) (inOrder (isOpen marks) (before volumes masses) cells)
-      ≡ map (rankedAt volumes masses′) (inOrder (isOpen marks) (before volumes masses′) cells)
-  unfolding before
+  same-order : map (rankedAt volumes masses) (inOrder (isOpen marks) (cellBefore volumes masses) cells)
+      ≡ map (rankedAt volumes masses′) (inOrder (isOpen marks) (cellBefore volumes masses′) cells)
+  unfolding cellBefore
   same-order = ranked-alike comesBefore (rankedAt volumes masses) (isOpen marks) (rankedAt volumes masses′) cells same-ranked
 
   same-entries : openEntries volumes masses marks cells ≡ openEntries volumes masses′ marks cells

@@ -3,14 +3,14 @@ use Prim.Native.Nat.{ℕ}
 use mathlib.Core.Path.{_≡_, refl}
 use mathlib.Core.List.{[], _∷_}
 use Rattle.lists.specs.Table.{over}
-use Rattle.order.specs.Order.{rankedOf, fuller, asFull, comesBefore, insertInOrder, inOrder}
-use Rattle.marks.specs.Marks.{isOpen}
-use Rattle.board.specs.Board.{entryOf, unused, entryAt, rankedAt, before, listedOf, entriesOf, boardEntries}
+use Rattle.board_order.specs.Order.{rankedOf, fuller, asFull, comesBefore, insertInOrder, inOrder}
+use Rattle.public_marks.specs.Marks.{isOpen}
+use Rattle.board.specs.Board.{entryOf, unused, entryAt, rankedAt, cellBefore, listedOf, entriesOf, boardEntries}
 use Rattle.board.specs.declared.Entry.{Entry}
 use Rattle.public_board.specs.Public.{openListed, openEntries}
 
 everything : Unit {0}
-unfolding over entryOf rankedOf fuller asFull comesBefore insertInOrder inOrder isOpen entryAt rankedAt before listedOf entriesOf
+unfolding over entryOf rankedOf fuller asFull comesBefore insertInOrder inOrder isOpen entryAt rankedAt cellBefore listedOf entriesOf
 everything = tt
 
 abbrev entry : ℕ → ℕ → ℕ → Entry

@@ -9,8 +9,8 @@ use Rattle.model.specs.Mesh.{ceiling}
 use Rattle.model.specs.Causes.{Verdict, refused, fine, _andThen_, cellsOnly, counts, meshTables, fieldTable, meshValues, fieldValues, meshFieldVerdict}
 use Rattle.model.specs.declared.Answer.the-variants.{Done}
 use Rattle.model.proofs.Verdicts.{past, passes, refused-at, all-fine, fine-all, andThen-assoc}
-use Rattle.marks.specs.Marks.{isOpen, marksLong, marksGood}
-use Rattle.board.specs.Board.{boardSize, before, Rankable}
+use Rattle.public_marks.specs.Marks.{isOpen, marksLong, marksGood}
+use Rattle.board.specs.Board.{boardSize, cellBefore, Rankable}
 use Rattle.board.specs.declared.BoardAnswer.{BoardAnswer}
 use Rattle.board.proofs.Listed.{rank-asks, listed-ordered, unlisted-after}
 use Rattle.public_board.specs.Public.{openListed, openEntries, publicVerdict, PublicBoardIs}
@@ -48,9 +48,9 @@ module _ (volumes masses marks : List ℕ) (cells : ℕ) where
     call-lists = let f = passes (b .verdict-is) d in (rw f at (b .used-is), rw f at (b .entries-are))
 
     pub call-ordered : (i j : ℕ) → i < j → j < length (openListed volumes masses marks cells)
-        → before volumes masses (getD (openListed volumes masses marks cells) i 0) (getD (openListed volumes masses marks cells) j 0) ≡ true
+        → cellBefore volumes masses (getD (openListed volumes masses marks cells) i 0) (getD (openListed volumes masses marks cells) j 0) ≡ true
     call-ordered = listed-ordered volumes masses (isOpen marks) cells volumes-some
 
     pub call-highest : {c d : ℕ} → c < cells → isOpen marks c ≡ true → (List·Memᴰ c (openListed volumes masses marks cells) → ⊥)
-        → List·Memᴰ d (openListed volumes masses marks cells) → before volumes masses d c ≡ true
+        → List·Memᴰ d (openListed volumes masses marks cells) → cellBefore volumes masses d c ≡ true
     call-highest = unlisted-after volumes masses (isOpen marks) cells volumes-some

@@ -3,7 +3,7 @@ use Prim.Native.Nat.{ℕ}
 use mathlib.Core.Path.{_≡_}
 use mathlib.Core.List.{List}
 use Rattle.model.specs.Answers.{said}
-use Rattle.marks.specs.Marks.{SameInOpen}
+use Rattle.public_marks.specs.Marks.{SameInOpen}
 use Rattle.board.specs.declared.BoardAnswer.{BoardAnswer}
 use Rattle.public_board.specs.Public.{PublicBoardIs}
 

@@ -3,7 +3,7 @@ use Prim.Native.Nat.{ℕ}
 use mathlib.Core.List.{List}
 use Rattle.model.specs.Mesh.{ceiling}
 use Rattle.model.specs.Causes.{Verdict, _andThen_, cellsOnly, counts, meshTables, fieldTable, meshValues, fieldValues}
-use Rattle.marks.specs.Marks.{isOpen, marksLong, marksGood}
+use Rattle.public_marks.specs.Marks.{isOpen, marksLong, marksGood}
 use Rattle.board.specs.Board.{listedOf, entriesOf, BoardAfter}
 use Rattle.board.specs.declared.Entry.{Entry}
 use Rattle.board.specs.declared.BoardAnswer.{BoardAnswer}

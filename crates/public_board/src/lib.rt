@@ -2,10 +2,10 @@
 use board::BoardAnswer;
 use board::board_after;
 use checks::check_cells;
-use marks::marks_good;
-use marks::marks_long;
 use model::Answer;
 use model::needs::and_then;
+use public_marks::marks_good;
+use public_marks::marks_long;
 ghost use mathlib.Core.Path.{_≡_};
 ghost use Rattle.model.specs.Answers.{said};
 ghost use Rattle.public_board.specs.Public.{publicVerdict, PublicBoardIs};
@@ -15,7 +15,7 @@ fn judge(cells: usize, volumes: &[u64], masses: &[u64], marks: &[u64]) -> Answer
     ensures { λ r. ⌜ said r ≡ publicVerdict (now (volumes .entry)) (now (masses .entry)) (now (marks .entry)) cells ⌝ }
 {
     let none = &volumes[..0];
-    let tables = lent::field_lent(cells, 0, volumes, none, none, none, none, masses);
+    let tables = check_lent::field_lent(cells, 0, volumes, none, none, none, none, masses);
     if let Answer::Refused(r) = tables {
         return Answer::Refused(r);
     }

@@ -6,8 +6,8 @@ use mathlib.Core.List.{List, []}
 use native.Mathlib.Omega.{arith}
 use lib.ListN.{length}
 use Rattle.text.specs.Lines.{pieces}
-use Rattle.marks.specs.Marks.{isOpen, SameInOpen}
-use Rattle.marks.proofs.Judged.{same-tests}
+use Rattle.public_marks.specs.Marks.{isOpen, SameInOpen}
+use Rattle.public_marks.proofs.Judged.{same-tests}
 use Rattle.page.specs.Page.{restPlaces, pageCells, cellsOn, lineOf, lineIf}
 use Rattle.page.specs.Answers.{verdictWith}
 use Rattle.page.proofs.Laws.{cell-there}

@@ -6,7 +6,7 @@ use lib.ListN.{replicate}
 use Rattle.lists.specs.Fold.{greatest}
 use Rattle.model.specs.Causes.{fine, refused, _andThen_, need, each, countsWithin, counts, meshTables, volumeGood, meshValues, fieldTable, saltGood, fieldValues}
 use Rattle.text.specs.Lines.{pieces}
-use Rattle.marks.specs.Marks.{isOpen, markGood}
+use Rattle.public_marks.specs.Marks.{isOpen, markGood}
 use Rattle.page.specs.Page.{narrowPlaces, widePlaces, restPlaces, cellLine, massLine, pages, cellsOn, pageBytes, lineOf, lineIf, pageMass, pageText}
 use Rattle.page.specs.Answers.{verdictWith}
 use Rattle.public_page.specs.Public.{publicText, publicVerdict}

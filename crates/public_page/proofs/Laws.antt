@@ -14,7 +14,7 @@ use Rattle.model.proofs.Verdicts.{both-fine}
 use Rattle.text.specs.Digits.{mostDigits}
 use Rattle.text.specs.Lines.{Puts, pieces}
 use Rattle.text.proofs.Lines.{puts-all}
-use Rattle.marks.specs.Marks.{isOpen, marksLong, marksGood}
+use Rattle.public_marks.specs.Marks.{isOpen, marksLong, marksGood}
 use Rattle.page.specs.Page.{restPlaces, lineBytes, pageCells, cellsOn, lineOf, lineIf}
 use Rattle.page.specs.Answers.{verdictWith}
 use Rattle.page.specs.declared.PageAnswer.the-variants.{Printed, Refused}

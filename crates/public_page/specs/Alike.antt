@@ -2,7 +2,7 @@
 use Prim.Native.Nat.{ℕ}
 use mathlib.Core.Path.{_≡_}
 use mathlib.Core.List.{List}
-use Rattle.marks.specs.Marks.{SameInOpen}
+use Rattle.public_marks.specs.Marks.{SameInOpen}
 use Rattle.page.specs.Answers.{pageSaid}
 use Rattle.page.specs.declared.PageAnswer.{PageAnswer}
 use Rattle.public_page.specs.Public.{PublicPageIs}

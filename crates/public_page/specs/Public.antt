@@ -6,7 +6,7 @@ use lib.ListN.{length}
 use Rattle.lists.specs.Table.{over}
 use Rattle.model.specs.Causes.{Verdict, accepted, _andThen_, taken}
 use Rattle.text.specs.Lines.{pieces}
-use Rattle.marks.specs.Marks.{isOpen, marksLong, marksGood}
+use Rattle.public_marks.specs.Marks.{isOpen, marksLong, marksGood}
 use Rattle.page.specs.Page.{restPlaces, pageCells, cellsOn, lineIf}
 use Rattle.page.specs.Answers.{pageSaid, verdictWith}
 use Rattle.page.specs.declared.PageAnswer.{PageAnswer}

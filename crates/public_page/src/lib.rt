@@ -1,6 +1,4 @@
 // Document 02's S-14: a page of the binder for the public, without the lines of withheld cells and without the mass.
-use marks::marks_good;
-use marks::marks_long;
 use model::Answer;
 use page::PageAnswer;
 use page::judge;
@@ -8,6 +6,8 @@ use page_lines::PAGE_CELLS;
 use page_lines::cells_on;
 use page_lines::lines;
 use page_lines::rest_places;
+use public_marks::marks_good;
+use public_marks::marks_long;
 ghost use mathlib.Core.Path.{_≡_};
 ghost use Rattle.model.specs.Answers.{said};
 ghost use Rattle.public_page.specs.Public.{publicVerdict, PublicPageIs};

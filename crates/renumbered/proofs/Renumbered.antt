@@ -18,7 +18,7 @@ use Rattle.model.specs.Step.{mass}
 use Rattle.model.specs.Causes.{fine, taken, Call, release, inputOf, meshTables, meshVerdict, fieldTable, stepTables}
 use Rattle.model.specs.Calls.{massIn, Scheme, corrected, plain, nextTable, movedTable}
 use Rattle.model.specs.Alike.{Facing, straight, turned, AlikeMesh}
-use Rattle.renumbered.specs.Renumbered.{amountIn, isTurned, byCell, amountByFace, newFirst, newSecond, newShare, renumberedMesh, renumberedField, renumberedCall, SameRoom, Carries, S9}
+use Rattle.renumbered.specs.Renumbered.{amountIn, isTurned, byCell, amountByFace, newFirst, newSecond, newShare, renumberedMesh, renumberedField, renumberedCall, SameRoom, CarriedAlong, S9}
 use Rattle.renumbered.proofs.Schemes.{Numberless, corrected-numberless, plain-numberless}
 use Rattle.renumbered.proofs.TwoSteps.{lent, Meshes, Calls, mesh-passes, calls-lent, answer-same, moves-same, masses-same, taken-same}
 
@@ -123,7 +123,7 @@ module _ (M : Mesh) (mesh-fine : meshVerdict M ≡ fine) (cell : Renumbering (M 
         (λ f l. moves-same both s blind e f l ∙ ap (turn (t f)) (sym (moved-at s M field k e f l)))
         (omega (arith, room .moveds-same, calls-lent both s blind e .1 .moveds-long))
 
-    carries : Carries M cell face turns s field k nexts moveds work
+    carries : CarriedAlong M cell face turns s field k nexts moveds work
     carries = record { answer = answer-same both s blind; next-masses = next-masses; moved-masses = moved-masses }
       where
         next-masses : nextTable s M′ k′ field′ ≡ taken (s .finds M field k) (byCell M cell face turns (massIn (nextTable s M k field)) nexts) nexts

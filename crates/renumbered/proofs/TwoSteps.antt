@@ -17,7 +17,7 @@ use Rattle.model.proofs.Verdicts.{both-fine}
 use Rattle.model.proofs.Accepted.{counted, mesh-lent, mesh-fit, field-lent, call-lent, passed}
 use Rattle.model.proofs.AlikeFaces.{updated-alike}
 use Rattle.model.proofs.AlikeStages.{joined}
-use Rattle.model.proofs.AlikeCauses.{shown, Kept, in-turn, raised-alike, crossing-alike, verdict-alike}
+use Rattle.model.proofs.AlikeCauses.{withPlace, NumbersKept, in-turn, raised-alike, crossing-alike, verdict-alike}
 use Rattle.renumbered.proofs.Schemes.{Numberless}
 use Rattle.renumbered.proofs.NewMesh.{new-values}
 
@@ -48,7 +48,7 @@ unfolding verdict _andThen_
 led M field k i j e = rw e
 
 -- a place changes nothing of what is taken
-taken-shown : {A : Type 0} (p : Bool) (v : Verdict) (x y : A) → taken (shown p v) x y ≡ taken v x y
+taken-shown : {A : Type 0} (p : Bool) (v : Verdict) (x y : A) → taken (withPlace p v) x y ≡ taken v x y
 taken-shown true v x y = refl
 taken-shown false (accepted t) x y = refl
 taken-shown false (refused i j) x y = refl
@@ -56,8 +56,8 @@ taken-shown false (refused i j) x y = refl
 -- an accepted mesh and one that is alike, in tables of the same lengths; places are shown (p) where every number is kept
 pub record Meshes (p : Bool) (M M′ : Mesh) (cell : Renumbering (M .cells)) (face : Renumbering (M .faces)) (turns : ℕ → Bool) : Type 0 where
   pub mesh-fine : meshVerdict M ≡ fine
-  pub cells-kept : Kept p (M .cells) cell
-  pub faces-kept : Kept p (M .faces) face
+  pub cells-kept : NumbersKept p (M .cells) cell
+  pub faces-kept : NumbersKept p (M .faces) face
   pub alike : AlikeMesh M M′ cell face turns
   pub tables-same : meshTables M′ ≡ meshTables M
 
@@ -86,7 +86,7 @@ module _ {p : Bool} {M M′ : Mesh} {cell : Renumbering (M .cells)} {face : Renu
   abbrev m : Meshes p M M′ cell face turns
   m = both .meshes
 
-  pub verdict-same : shown p (verdict M′ field′ k′) ≡ shown p (verdict M field k)
+  pub verdict-same : withPlace p (verdict M′ field′ k′) ≡ withPlace p (verdict M field k)
   verdict-same = go (counts M andThen meshTables M andThen fieldTable M field andThen stepTables M field k) refl
     where
       lead-same : (counts M′ andThen meshTables M′ andThen fieldTable M′ field′ andThen stepTables M′ field′ k′)
@@ -94,15 +94,15 @@ module _ {p : Bool} {M M′ : Mesh} {cell : Renumbering (M .cells)} {face : Renu
       lead-same = rw (m .tables-same, both .field-same, both .call-same, counts-same m)
 
       go : (v : Verdict) → (counts M andThen meshTables M andThen fieldTable M field andThen stepTables M field k) ≡ v
-          → shown p (verdict M′ field′ k′) ≡ shown p (verdict M field k)
+          → withPlace p (verdict M′ field′ k′) ≡ withPlace p (verdict M field k)
       go (accepted t) e =
           let q = both-fine _ _ e in
           verdict-alike p M M′ cell face turns (m .cells-kept) (m .faces-kept) field field′ k k′
           (both .long-alike (field-lent M field (both-fine _ _ (q .0) .1)) (call-lent M field k (q .1)))
-          (m .tables-same) (both .field-same) (both .call-same) (ap (shown p) (fine-new m ∙ sym (fine-values M (m .mesh-fine))))
-      go (refused i j) e = ap (shown p) (led M′ field′ k′ i j (lead-same ∙ e) ∙ sym (led M field k i j e))
+          (m .tables-same) (both .field-same) (both .call-same) (ap (withPlace p) (fine-new m ∙ sym (fine-values M (m .mesh-fine))))
+      go (refused i j) e = ap (withPlace p) (led M′ field′ k′ i j (lead-same ∙ e) ∙ sym (led M field k i j e))
 
-  found-same : shown p (s .finds M′ field′ k′) ≡ shown p (s .finds M field k)
+  found-same : withPlace p (s .finds M′ field′ k′) ≡ withPlace p (s .finds M field k)
   found-same = rw (blind .finds-same M′ field′ k′, blind .finds-same M field k) verdict-same
 
   -- an accepted call has all its tables
@@ -124,9 +124,9 @@ module _ {p : Bool} {M M′ : Mesh} {cell : Renumbering (M .cells)} {face : Renu
         (s .moves M field k) (s .moves M′ field′ k′) moves-same (mass (inputOf M field k)) (mass (inputOf M′ field′ k′))
         (raised-alike M M′ cell face turns field field′ k k′ calls-alike)
 
-  pub answer-same : shown p (stepAnswer s M′ k′ field′) ≡ shown p (stepAnswer s M k field)
+  pub answer-same : withPlace p (stepAnswer s M′ k′ field′) ≡ withPlace p (stepAnswer s M k field)
   unfolding stepAnswer
-  answer-same = in-turn p _ _ _ _ found-same (λ e. ap (λ (x : Crossing). shown p (accepted x))
+  answer-same = in-turn p _ _ _ _ found-same (λ e. ap (λ (x : Crossing). withPlace p (accepted x))
       (crossing-alike M M′ cell face turns field field′ k k′ (calls-alike e) (few M (m .mesh-fine)) (fit M (m .mesh-fine))))
 
   -- what stands in a table afterwards

@@ -68,7 +68,7 @@ module _ (M : Mesh) (cell : Renumbering (M .cells)) (face : Renumbering (M .face
     k′ = renumberedCall k nexts moveds work
 
     -- What the second office's step gives: the first's answer, where a refusal may have another place, and its masses and moved masses, carried along.
-    pub record Carries : Type 0 where
+    pub record CarriedAlong : Type 0 where
       pub answer : unplaced (stepAnswer s renumberedMesh k′ field′) ≡ unplaced (stepAnswer s M k field)
       pub next-masses : nextTable s renumberedMesh k′ field′ ≡ taken (s .finds M field k) (byCell (massIn (nextTable s M k field)) nexts) nexts
       pub moved-masses : movedTable s renumberedMesh k′ field′
@@ -77,7 +77,7 @@ module _ (M : Mesh) (cell : Renumbering (M .cells)) (face : Renumbering (M .face
   pub record Renumbers (s : Scheme) : Type 0 where
     pub mesh-accepted : meshVerdict renumberedMesh ≡ fine
     pub carries : (field : List ℕ) (k : Call) (nexts : List ℕ) (moveds : List ℤ) (work : List ℕ) → SameRoom k nexts moveds work
-        → Carries s field k nexts moveds work
+        → CarriedAlong s field k nexts moveds work
 
 -- S-9 of a scheme s: for every accepted mesh, every renumbering of its cells and faces, whichever interior faces are turned, every field and call.
 -- U may be any whole number here; a call of the code can only be lent a negated U that fits its entry.

@@ -22,24 +22,24 @@ use Rattle.model.proofs.Accepted.{counted, mesh-fit}
 use Rattle.model.proofs.Ceilings.{old-meshes}
 use Rattle.model.proofs.AlikeFaces.{rim-same}
 use Rattle.model.proofs.AlikeStages.{joined}
-use Rattle.bits.specs.Field.{bitsAt}
-use Rattle.bits.proofs.Fields.{bits-lt}
-use Rattle.sections.specs.Sections.{Fits, place, entryIn}
-use Rattle.sections.proofs.Columns.{sign-fits}
-use Rattle.heads.specs.Layouts.{meshKind, fieldKind, widthOf, kindBits, valueBits, massBits, outsideBits, releaseBits, isRim, massOf, outsideOf, fieldShape, fieldValue, stepShape, stepValue}
-use Rattle.heads.specs.Heads.{kindIn, widthIn, cellsIn, facesIn, meshHeadVerdict}
-use Rattle.heads.specs.declared.Width.{Width}
-use Rattle.heads.specs.declared.Width.the-variants.{Narrow, Wide}
-use Rattle.heads.proofs.HeadLaws.{step-head-says}
-use Rattle.reading.specs.Reading.{meshIn, massesIn, fluxesIn, outsidesIn, releasesIn, minusIn, sizeIn, outsidePlace, meshRead, fieldRead, stepRead}
-use Rattle.writing.proofs.WidthLaws.{mesh-fits, field-fits}
-use Rattle.writing.specs.Writing.{mostOf}
-use Rattle.reading.proofs.ReadLaws.{mesh-kind-is}
-use Rattle.writing.proofs.Accepting.{field-passed, field-reads, step-reads}
-use Rattle.writing.proofs.Back.{mesh-kind-back, field-kind-back, field-cells-back, field-record-length, masses-back, step-kind-back, step-faces-back, step-record-length, step-bits-good, fluxes-back, outsides-back, releases-back}
-use Rattle.writing.proofs.RoundTrip.{width-is, cells-read-back, faces-read-back, mesh-read-back, volumes-read-back, firsts-read-back, seconds-read-back, shares-read-back, reaches-read-back}
-use Rattle.mesh_taking.specs.MeshTaking.{meshRecordFound, meshJudged}
-use Rattle.mesh_taking.proofs.MeshLaws.{limits, mesh-cut, mesh-small}
+use Rattle.record_bits.specs.Field.{bitsAt}
+use Rattle.record_bits.proofs.Fields.{bits-lt}
+use Rattle.record_sections.specs.Sections.{Fits, place, entryIn}
+use Rattle.record_sections.proofs.Columns.{sign-fits}
+use Rattle.record_heads.specs.Layouts.{meshKind, fieldKind, widthOf, kindBits, valueBits, massBits, outsideBits, releaseBits, isRim, massOf, outsideOf, fieldShape, fieldValue, stepShape, stepValue}
+use Rattle.record_heads.specs.Heads.{kindIn, widthIn, cellsIn, facesIn, meshHeadVerdict}
+use Rattle.record_heads.specs.declared.Width.{Width}
+use Rattle.record_heads.specs.declared.Width.the-variants.{Narrow, Wide}
+use Rattle.record_heads.proofs.HeadLaws.{step-head-says}
+use Rattle.record_reading.specs.Reading.{meshIn, massesIn, fluxesIn, outsidesIn, releasesIn, minusIn, sizeIn, outsidePlace, meshRead, fieldRead, stepRead}
+use Rattle.record_writing.proofs.WidthLaws.{mesh-fits, field-fits}
+use Rattle.record_writing.specs.Writing.{mostOf}
+use Rattle.record_reading.proofs.ReadLaws.{mesh-kind-is}
+use Rattle.record_writing.proofs.Accepting.{field-passed, field-reads, step-reads}
+use Rattle.record_writing.proofs.Back.{mesh-kind-back, field-kind-back, field-cells-back, field-record-length, masses-back, step-kind-back, step-faces-back, step-record-length, step-bits-good, fluxes-back, outsides-back, releases-back}
+use Rattle.record_writing.proofs.RoundTrip.{width-is, cells-read-back, faces-read-back, mesh-read-back, volumes-read-back, firsts-read-back, seconds-read-back, shares-read-back, reaches-read-back}
+use Rattle.taking_mesh.specs.MeshTaking.{meshRecordFound, meshJudged}
+use Rattle.taking_mesh.proofs.MeshLaws.{limits, mesh-cut, mesh-small}
 use Rattle.taking.specs.Taking.{stepIn, stepRecordFound}
 use Rattle.renumbered.specs.Renumbered.{amountIn, isTurned, newSecond}
 use Rattle.renumbered.proofs.TwoSteps.{fine-counts, fine-values}

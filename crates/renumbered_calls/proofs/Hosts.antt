@@ -21,15 +21,15 @@ use Rattle.model.proofs.Accepted.{ready, hi-most, volumes-within}
 use Rattle.model.specs.Accepted.{Ready}
 use Rattle.model.proofs.Next.{next-bounds}
 use Rattle.model.proofs.AlikeCauses.{in-turn}
-use Rattle.heads.specs.Layouts.{fieldKind, widthOf, massWidth, massBits, fieldRecord, fieldLength}
-use Rattle.heads.specs.Heads.{widthIn, cellsIn, facesIn}
-use Rattle.heads.specs.declared.Width.{Width}
-use Rattle.heads.specs.declared.Width.the-variants.{Narrow, Wide}
-use Rattle.heads.proofs.Layouts.{field-mass}
-use Rattle.reading.specs.Reading.{meshIn, massesIn}
-use Rattle.writing.proofs.WidthLaws.{field-fits}
-use Rattle.writing.proofs.Back.{field-record-length, masses-back}
-use Rattle.mesh_taking.proofs.MeshLaws.{mesh-small}
+use Rattle.record_heads.specs.Layouts.{fieldKind, widthOf, massWidth, massBits, fieldRecord, fieldLength}
+use Rattle.record_heads.specs.Heads.{widthIn, cellsIn, facesIn}
+use Rattle.record_heads.specs.declared.Width.{Width}
+use Rattle.record_heads.specs.declared.Width.the-variants.{Narrow, Wide}
+use Rattle.record_heads.proofs.Layouts.{field-mass}
+use Rattle.record_reading.specs.Reading.{meshIn, massesIn}
+use Rattle.record_writing.proofs.WidthLaws.{field-fits}
+use Rattle.record_writing.proofs.Back.{field-record-length, masses-back}
+use Rattle.taking_mesh.proofs.MeshLaws.{mesh-small}
 use Rattle.taking.specs.Taking.{stepIn}
 use Rattle.lagoon.specs.Host.{causeStep, numberOf, hostVerdict, hostBytes}
 use Rattle.lagoon.proofs.Small.{Parts, taken-apart}

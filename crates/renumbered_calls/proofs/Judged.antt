@@ -17,10 +17,10 @@ use Rattle.model.specs.Calls.{massIn, corrected}
 use Rattle.model.specs.Alike.{unplaced}
 use Rattle.model.proofs.Verdicts.{both-fine, need-met}
 use Rattle.model.proofs.AlikeCauses.{in-turn, field-values-alike}
-use Rattle.heads.specs.Heads.{widthIn, cellsIn, facesIn}
-use Rattle.reading.specs.Reading.{meshIn, massesIn}
-use Rattle.mesh_taking.specs.MeshTaking.{meshRecordFound, meshJudged}
-use Rattle.mesh_taking.proofs.MeshLaws.{limits, values-left}
+use Rattle.record_heads.specs.Heads.{widthIn, cellsIn, facesIn}
+use Rattle.record_reading.specs.Reading.{meshIn, massesIn}
+use Rattle.taking_mesh.specs.MeshTaking.{meshRecordFound, meshJudged}
+use Rattle.taking_mesh.proofs.MeshLaws.{limits, values-left}
 use Rattle.taking.specs.Taking.{fieldJudged, stepIn, stepJudged}
 use Rattle.renumbered.specs.Renumbered.{isTurned, renumberedField}
 use Rattle.renumbered.proofs.Schemes.{corrected-numberless}

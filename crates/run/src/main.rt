@@ -1,15 +1,15 @@
 // The run program of document 01: a mesh, a field and steps from standard input, a line for each, and the board, in the order of
-// `printed` in printed/specs/Run.antt. After a failed read or write it prints nothing more, so that no part of a session looks whole.
+// `printed` in run_printed/specs/Run.antt. After a failed read or write it prints nothing more, so that no part of a session looks whole.
 mod board_lines;
 
 use checks::TotalAnswer;
-use heads::Width;
-use intake::RECORD;
 use model::RUN_CELLS;
 use model::RUN_FACES;
-use reading::MeshAnswer;
-use session::Next;
-use step_taken::StepTaken;
+use model::StepTaken;
+use record_heads::Width;
+use record_reading::MeshAnswer;
+use run_intake::RECORD;
+use run_session::Next;
 ghost use Prim.Native.Nat.{_≤_};
 ghost use lib.ListN.{length};
 
@@ -27,9 +27,9 @@ fn step_once(
     reaches: &[u64],
     masses: &mut [u64],
 ) -> Next
-    requires { do ⌜ (← ⟦intake::RECORD⟧) ≤ length (now buffer) ⌝ }
+    requires { do ⌜ (← ⟦run_intake::RECORD⟧) ≤ length (now buffer) ⌝ }
 {
-    let read = intake::step(width, cells, faces, seconds, buffer);
+    let read = run_intake::step(width, cells, faces, seconds, buffer);
     if read.failed {
         return Next::Nothing;
     }
@@ -51,11 +51,11 @@ fn step_once(
     );
     let StepTaken::Stepped(printed) = taken else {
         if let StepTaken::Refused(refusal) = taken {
-            return session::print_refused(step, refusal);
+            return run_session::print_refused(step, refusal);
         }
         return Next::Nothing;
     };
-    session::print_stepped(step, printed)
+    run_session::print_stepped(step, printed)
 }
 
 // The steps, one after another. A proved loop has to end and nothing says that the input does, so the step number stops it: at a
@@ -72,7 +72,7 @@ fn steps(
     reaches: &[u64],
     masses: &mut [u64],
 ) -> Next
-    requires { do ⌜ (← ⟦intake::RECORD⟧) ≤ length (now buffer) ⌝ }
+    requires { do ⌜ (← ⟦run_intake::RECORD⟧) ≤ length (now buffer) ⌝ }
 {
     let mut step: u64 = 0;
     while step < u64::MAX {
@@ -109,10 +109,10 @@ fn run_on(
     shares: &[u64],
     reaches: &[u64],
 )
-    requires { do ⌜ (← ⟦intake::RECORD⟧) ≤ length (now buffer) ⌝ }
+    requires { do ⌜ (← ⟦run_intake::RECORD⟧) ≤ length (now buffer) ⌝ }
 {
     let mut masses = [0u64; RUN_CELLS];
-    let read = intake::field(width, cells, buffer);
+    let read = run_intake::field(width, cells, buffer);
     if read.failed {
         return;
     }
@@ -120,11 +120,11 @@ fn run_on(
     let answer = taking::take_field(width, cells, &buffer[..got], volumes, &mut masses);
     let TotalAnswer::Total(total) = answer else {
         if let TotalAnswer::Refused(refusal) = answer {
-            session::print(session::refused_field_line(refusal));
+            run_session::print(run_session::refused_field_line(refusal));
         }
         return;
     };
-    if !session::print(session::start_line(total)) {
+    if !run_session::print(run_session::start_line(total)) {
         return;
     }
     let next = steps(
@@ -145,19 +145,19 @@ fn run_on(
 }
 
 fn main() {
-    session::greet();
+    run_session::greet();
     let mut buffer = [0u8; RECORD];
     let mut volumes = [0u64; RUN_CELLS];
     let mut firsts = [0u64; RUN_FACES];
     let mut seconds = [0u64; RUN_FACES];
     let mut shares = [0u64; RUN_FACES];
     let mut reaches = [0u64; RUN_FACES];
-    let read = intake::mesh(&mut buffer);
+    let read = run_intake::mesh(&mut buffer);
     if read.failed {
         return;
     }
     let got = read.count;
-    let answer = mesh_taking::take_mesh(
+    let answer = taking_mesh::take_mesh(
         &buffer[..got],
         &mut volumes,
         &mut firsts,
@@ -167,7 +167,7 @@ fn main() {
     );
     let MeshAnswer::Read(counts) = answer else {
         if let MeshAnswer::Refused(refusal) = answer {
-            session::print(session::refused_mesh_line(refusal));
+            run_session::print(run_session::refused_mesh_line(refusal));
         }
         return;
     };

@@ -76,11 +76,3 @@ pub fn add_at(xs: &mut [i64], i: usize, negative: bool, size: u64)
     let w = add(u, v);
     xs[i] = w;
 }
-
-// The same of a table of sizes alone.
-pub fn raise(xs: &mut [u64], at: usize, amount: u64)
-    requires { ⌜ (at < length (now xs)) × (getD (now xs) at 0 + amount < 2 ^ 64) ⌝ }
-    ensures { λ _. ⌜ now (xs .exit) ≡ set (now (xs .entry)) at (getD (now (xs .entry)) at 0 + amount) ⌝ }
-{
-    xs[at] = xs[at] + amount;
-}

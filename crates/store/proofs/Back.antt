@@ -11,11 +11,11 @@ use Rattle.lists.specs.Table.{over}
 use Rattle.lists.proofs.Tests.{true-both}
 use Rattle.model.specs.Causes.{Verdict, accepted, refused, fine, _andThen_, saltFit, saltGood, fieldTable, fieldValues}
 use Rattle.model.proofs.Verdicts.{all-fine, need-met, each-cong}
-use Rattle.kept.specs.Store.{keptField, count, fieldsIn, used, isKept, heldUnder}
-use Rattle.kept.specs.Tests.{nameKept}
+use Rattle.store_kept.specs.Store.{keptField, count, fieldsIn, used, isKept, heldUnder}
+use Rattle.store_kept.specs.Tests.{nameKept}
 use Rattle.store.specs.Calls.{storeTable, dropVerdict, dropStore, lentMesh, openedCauses, openedVerdict, keepCauses, keepVerdict, keepStore, returnVerdict, returnMasses}
 use Rattle.store.specs.Lists.{StoreCall, keeping, dropping, returning, elsewhere, storeAfter, storeAfterAll, Spares, Spared, ComesBack}
-use Rattle.kept.proofs.Judged.{counted-good}
+use Rattle.store_kept.proofs.Judged.{counted-good}
 use Rattle.store.proofs.Named.{kept-append, new-kept, new-held, other-gone}
 use Rattle.store.proofs.Effects.{opened-fine, keep-fits, keep-new, keep-effect, kept-length, kept-counted, drop-effect, dropped-length, dropped-counted}
 

@@ -13,13 +13,13 @@ use Rattle.lists.proofs.Tests.{both-true, true-both}
 use Rattle.model.specs.Causes.{fine, _andThen_, counts, cellsOnly, fieldValues}
 use Rattle.model.proofs.Verdicts.{all-fine, need-fine, need-met}
 use Rattle.model.proofs.Accepted.{field-lent}
-use Rattle.kept.specs.Store.{Kept, keptField, count, fieldsIn, used, storeOf, isKept, heldUnder, without}
-use Rattle.kept.specs.Tests.{nameFits, nameNew, roomLeft, nameKept}
+use Rattle.store_kept.specs.Store.{Kept, keptField, count, fieldsIn, used, storeOf, isKept, heldUnder, without}
+use Rattle.store_kept.specs.Tests.{nameFits, nameNew, roomLeft, nameKept}
 use Rattle.store.specs.Calls.{storeTable, dropCauses, dropVerdict, dropStore, lentMesh, openedCauses, openedVerdict, keepCauses, keepVerdict, keepStore, returnCauses, returnVerdict}
-use Rattle.kept.proofs.Laid.{Sized, sized-append, sized-parts, store-length, in-length, in-sized, store-read, store-split}
-use Rattle.kept.proofs.Named.{Found, found}
-use Rattle.kept.proofs.Judged.{count-counted, counted-good}
-use Rattle.entries.proofs.Written.{over-length, over-over}
+use Rattle.store_kept.proofs.Laid.{Sized, sized-append, sized-parts, store-length, in-length, in-sized, store-read, store-split}
+use Rattle.store_kept.proofs.Named.{Found, found}
+use Rattle.store_kept.proofs.Judged.{count-counted, counted-good}
+use Rattle.store_entries.proofs.Written.{over-length, over-over}
 use Rattle.store.proofs.Named.{new-kept, new-without}
 
 -- a list of fields written over a store that has the room, with anything after it

@@ -9,8 +9,8 @@ use Rattle.model.specs.Mesh.{maxCells, maxVolume, volume}
 use Rattle.model.specs.Causes.{Verdict, refused, fine, _andThen_, each, saltFit, cellsOnly, counts, saltGood, fieldValues}
 use Rattle.model.proofs.Verdicts.{both-fine, andThen-assoc, long-fine}
 use Rattle.model.proofs.Accepted.{counted, salt-asks}
-use Rattle.kept.specs.Store.{fieldsIn, heldUnder}
-use Rattle.kept.specs.Tests.{countGood, nameNew, roomLeft, nameKept}
+use Rattle.store_kept.specs.Store.{fieldsIn, heldUnder}
+use Rattle.store_kept.specs.Tests.{countGood, nameNew, roomLeft, nameKept}
 use Rattle.store.specs.Calls.{storeTable, dropVerdict, dropStore, openedVerdict, keepVerdict, keepStore, returnVerdict, returnMasses}
 
 module _ (cells : ℕ) (store : List ℕ) (name : ℕ) where

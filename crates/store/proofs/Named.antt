@@ -7,7 +7,7 @@ use mathlib.Core.List.{List, [], _∷_, _++_}
 use borrow.Author.Tests.{eq-eqb, ne-eqb}
 use lib.Dec.{eqb}
 use Rattle.lists.proofs.Tests.{Same, same, same?}
-use Rattle.kept.specs.Store.{Kept, isKept, heldUnder, without}
+use Rattle.store_kept.specs.Store.{Kept, isKept, heldUnder, without}
 
 module _ (name : ℕ) where
   -- a field after others: a name among them is meant before it, and its own name is meant where they lack it

@@ -8,8 +8,8 @@ use Rattle.model.specs.Mesh.{Mesh, ceiling}
 use Rattle.model.specs.Causes.{Verdict, inTurn, taken, long, cellsOnly, counts, meshTables, meshValues, fieldTable, fieldValues}
 use Rattle.model.specs.Answers.{said}
 use Rattle.model.specs.declared.Answer.{Answer}
-use Rattle.kept.specs.Store.{keptField, fieldsIn, storeOf, heldUnder, without}
-use Rattle.kept.specs.Tests.{countGood, nameNew, roomLeft, nameKept}
+use Rattle.store_kept.specs.Store.{keptField, fieldsIn, storeOf, heldUnder, without}
+use Rattle.store_kept.specs.Tests.{countGood, nameNew, roomLeft, nameKept}
 
 module _ (cells : ℕ) (store : List ℕ) where
   -- Cause 2, position 13: the table has an entry for the count.

@@ -14,12 +14,12 @@ fn opened(cells: usize, volumes: &[u64], masses: &[u64], store: &[u64]) -> Answe
     ensures { λ r. ⌜ said r ≡ openedVerdict cells (now (volumes .entry)) (now (masses .entry)) (now (store .entry)) ⌝ }
 {
     let none = &volumes[..0];
-    let lent = lent::field_lent(cells, 0, volumes, none, none, none, none, masses);
+    let lent = check_lent::field_lent(cells, 0, volumes, none, none, none, none, masses);
     let a = and_then(lent, long(STORE, 1, store.len()));
     if let Answer::Refused(r) = a {
         return Answer::Refused(r);
     }
-    shape::values(cells, 0, volumes, none, none, none, none, model::CEILING)
+    check_mesh::values(cells, 0, volumes, none, none, none, none, model::CEILING)
 }
 
 // Whether a field may be kept: 1, 2, 3, 6 of its masses, and 13, 15 and 16 of the store.
@@ -32,7 +32,7 @@ fn may_keep(cells: usize, volumes: &[u64], masses: &[u64], store: &[u64], name: 
     }
     and_then(
         checks::field::values(cells, volumes, masses),
-        kept::is_new(cells, store, name),
+        store_kept::is_new(cells, store, name),
     )
 }
 
@@ -44,7 +44,7 @@ pub fn keep(cells: usize, volumes: &[u64], masses: &[u64], store: &mut [u64], na
     if let Answer::Refused(r) = a {
         return Answer::Refused(r);
     }
-    entries::put_field(cells, masses, store, name);
+    store_entries::put_field(cells, masses, store, name);
     Answer::Done
 }
 
@@ -53,17 +53,17 @@ pub fn drop(cells: usize, store: &mut [u64], name: u64) -> Answer
     ensures { λ r. ⌜ DropPromise cells (now (store .entry)) name r (now (store .exit)) ⌝ }
 {
     let a = and_then(
-        lent::counts_within(model::MAX_CELLS, model::MAX_FACES, cells, 0),
+        check_lent::counts_within(model::MAX_CELLS, model::MAX_FACES, cells, 0),
         long(STORE, 1, store.len()),
     );
     if let Answer::Refused(r) = a {
         return Answer::Refused(r);
     }
-    let b = kept::is_kept(cells, store, name);
+    let b = store_kept::is_kept(cells, store, name);
     if let Answer::Refused(r) = b {
         return Answer::Refused(r);
     }
-    entries::take_field(cells, store, name);
+    store_entries::take_field(cells, store, name);
     Answer::Done
 }
 
@@ -81,17 +81,17 @@ pub fn give_back(
     if let Answer::Refused(r) = a {
         return Answer::Refused(r);
     }
-    let b = kept::is_kept(cells, store, name);
+    let b = store_kept::is_kept(cells, store, name);
     if let Answer::Refused(r) = b {
         return Answer::Refused(r);
     }
-    let at = kept::masses_of(cells, store, name);
+    let at = store_kept::masses_of(cells, store, name);
     let end = at + cells;
     let kept = &store[at..end];
     let d = checks::field::values(cells, volumes, kept);
     if let Answer::Refused(r) = d {
         return Answer::Refused(r);
     }
-    parts::copy(kept, masses);
+    lists::copy(kept, masses);
     Answer::Done
 }

@@ -19,11 +19,11 @@ use Rattle.model.proofs.Verdicts.{both-fine, past, out, refused-of, accepted-of
 use Rattle.checks.specs.Total.{totalSaid}
 use Rattle.checks.specs.declared.TotalAnswer.{TotalAnswer}
 use Rattle.checks.specs.declared.TotalAnswer.the-variants as total-answer
-use Rattle.reading.specs.Reading.{massesIn, fieldBodyVerdict, fieldRead}
-use Rattle.heads.specs.declared.Width.{Width}
-use Rattle.reading.specs.Answers.{FieldReading}
+use Rattle.record_reading.specs.Reading.{massesIn, fieldBodyVerdict, fieldRead}
+use Rattle.record_heads.specs.declared.Width.{Width}
+use Rattle.record_reading.specs.Answers.{FieldReading}
 use Rattle.taking.specs.Taking.{fieldJudged, FieldTaking}
-use Rattle.parts.proofs.Parts.{PartRead, read-part}
+use Rattle.model.proofs.Parts.{PartRead, read-part}
 
 module _ (w : Width) (volumes masses : List ℕ) {cells : ℕ} {bs own own′ : List ℕ} {a : Answer} (s : FieldReading (fieldRead w cells bs (length own)) cells bs own a own′) (run : length own ≡ runCells)
     (l b : Answer) (lent : said l ≡ long 5 cells (length masses)) (both : said b ≡ (said a andThen said l)) where

@@ -15,14 +15,14 @@ use Rattle.model.specs.Calls.{Crossing, crossingOf, stepAnswer, nextTable}
 use Rattle.model.specs.Unreleased.{verdict01}
 use Rattle.model.proofs.Verdicts.{both-fine}
 use Rattle.model.proofs.Unreleased.{unreleased}
-use Rattle.bits.specs.Field.{bitsAt}
-use Rattle.sections.specs.Sections.{place, entryIn}
-use Rattle.heads.specs.Layouts.{waterKind, releaseBits, stepShape}
-use Rattle.heads.specs.Heads.{kindIn}
-use Rattle.heads.specs.declared.Width.{Width}
-use Rattle.heads.specs.declared.Width.the-variants.{Narrow, Wide}
-use Rattle.reading.specs.Reading.{stepShapeIn, releasesIn}
-use Rattle.step_taken.specs.declared.Printed.{Printed}
+use Rattle.record_bits.specs.Field.{bitsAt}
+use Rattle.record_sections.specs.Sections.{place, entryIn}
+use Rattle.record_heads.specs.Layouts.{waterKind, releaseBits, stepShape}
+use Rattle.record_heads.specs.Heads.{kindIn}
+use Rattle.record_heads.specs.declared.Width.{Width}
+use Rattle.record_heads.specs.declared.Width.the-variants.{Narrow, Wide}
+use Rattle.record_reading.specs.Reading.{stepShapeIn, releasesIn}
+use Rattle.model.specs.declared.Printed.{Printed}
 use Rattle.taking.specs.Taking.{stepIn, printedOf, stepRecordFound, stepJudged}
 use Rattle.taking.specs.KindThree.{KindThree, step01, judged01, printed01, TakenAsBefore}
 

@@ -24,20 +24,20 @@ use Rattle.transport.specs.Promise.{stepSaid, StepPromise}
 use Rattle.transport.specs.declared.StepAnswer.{StepAnswer}
 use Rattle.transport.specs.declared.StepAnswer.the-variants as step-answer
 use Rattle.transport.specs.declared.Crossed.{Crossed}
-use Rattle.heads.specs.Layouts.{kindNumber, stepLength}
-use Rattle.heads.specs.Heads.{kindIn, hasLength, stepHeadVerdict}
-use Rattle.heads.specs.declared.Width.{Width}
-use Rattle.heads.specs.declared.StepKind.{StepKind}
-use Rattle.reading.specs.Reading.{fluxesIn, outsidesIn, releasesIn, stepBitGood, stepBodyVerdict, stepRead}
-use Rattle.reading.specs.Answers.{stepSaid as readSaid, StepReading}
-use Rattle.reading.specs.declared.StepRead.{StepRead}
-use Rattle.reading.specs.declared.StepRead.the-variants as read
-use Rattle.step_taken.specs.declared.Printed.{Printed}
-use Rattle.step_taken.specs.declared.StepTaken.{StepTaken}
-use Rattle.step_taken.specs.declared.StepTaken.the-variants as step-taken
+use Rattle.record_heads.specs.Layouts.{kindNumber, stepLength}
+use Rattle.record_heads.specs.Heads.{kindIn, hasLength, stepHeadVerdict}
+use Rattle.record_heads.specs.declared.Width.{Width}
+use Rattle.record_heads.specs.declared.StepKind.{StepKind}
+use Rattle.record_reading.specs.Reading.{fluxesIn, outsidesIn, releasesIn, stepBitGood, stepBodyVerdict, stepRead}
+use Rattle.record_reading.specs.Answers.{stepReadSaid as readSaid, StepReading}
+use Rattle.record_reading.specs.declared.StepRead.{StepRead}
+use Rattle.record_reading.specs.declared.StepRead.the-variants as read
+use Rattle.model.specs.declared.Printed.{Printed}
+use Rattle.model.specs.declared.StepTaken.{StepTaken}
+use Rattle.model.specs.declared.StepTaken.the-variants as step-taken
 use Rattle.taking.specs.Taking.{blank, ownTables, printedOf, Stepping, stepIn, stepRecordFound, stepJudged, StepTaking}
 use Rattle.taking.specs.Inner.{SteppedIn}
-use Rattle.parts.proofs.Parts.{PartRead, part-of, read-part, long-met}
+use Rattle.model.proofs.Parts.{PartRead, part-of, read-part, long-met}
 
 stepping-refused : (M : Mesh) (masses : List ℕ) {v : Verdict} (k : Call) (r : Refusal) → v ≡ told r → Stepping M masses v k (step-taken.Refused r) masses
 stepping-refused M masses k r e = record { answer = sym (out _ e); masses-after = rw e }

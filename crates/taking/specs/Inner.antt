@@ -4,7 +4,7 @@ use mathlib.Core.List.{List}
 use lib.IntN.{ℤ}
 use Rattle.model.specs.Mesh.{Mesh}
 use Rattle.model.specs.Causes.{verdict}
-use Rattle.step_taken.specs.declared.StepTaken.{StepTaken}
+use Rattle.model.specs.declared.StepTaken.{StepTaken}
 use Rattle.taking.specs.Taking.{ownTables, Stepping}
 
 -- a step through water that has been read

@@ -7,12 +7,12 @@ use Rattle.model.specs.Mesh.{Mesh, total}
 use Rattle.model.specs.Step.{StepInput, next, inMass, outMass}
 use Rattle.model.specs.Causes.{accepted, Verdict, _andThen_, taken}
 use Rattle.model.specs.Unreleased.{unraised, verdict01, AsBefore}
-use Rattle.heads.specs.Layouts.{waterKind}
-use Rattle.heads.specs.Heads.{kindIn}
-use Rattle.heads.specs.declared.Width.{Width}
-use Rattle.step_taken.specs.declared.Printed.{Printed}
-use Rattle.step_taken.specs.declared.StepTaken.{StepTaken}
-use Rattle.step_taken.specs.Said.{takenSaid}
+use Rattle.record_heads.specs.Layouts.{waterKind}
+use Rattle.record_heads.specs.Heads.{kindIn}
+use Rattle.record_heads.specs.declared.Width.{Width}
+use Rattle.model.specs.declared.Printed.{Printed}
+use Rattle.model.specs.declared.StepTaken.{StepTaken}
+use Rattle.model.specs.StepTaken.{takenSaid}
 use Rattle.taking.specs.Taking.{stepIn, stepRecordFound, StepTaking}
 
 abbrev pub KindThree : Type 0

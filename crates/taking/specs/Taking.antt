@@ -12,12 +12,12 @@ use Rattle.model.specs.Causes.{accepted, Verdict, _andThen_, taken, long, Call,
 use Rattle.model.specs.Calls.{massIn}
 use Rattle.checks.specs.Total.{totalSaid}
 use Rattle.checks.specs.declared.TotalAnswer.{TotalAnswer}
-use Rattle.heads.specs.Heads.{stepHeadVerdict}
-use Rattle.heads.specs.declared.Width.{Width}
-use Rattle.reading.specs.Reading.{massesIn, fluxesIn, outsidesIn, releasesIn, fieldRead, stepBodyVerdict}
-use Rattle.step_taken.specs.declared.Printed.{Printed}
-use Rattle.step_taken.specs.declared.StepTaken.{StepTaken}
-use Rattle.step_taken.specs.Said.{takenSaid}
+use Rattle.record_heads.specs.Heads.{stepHeadVerdict}
+use Rattle.record_heads.specs.declared.Width.{Width}
+use Rattle.record_reading.specs.Reading.{massesIn, fluxesIn, outsidesIn, releasesIn, fieldRead, stepBodyVerdict}
+use Rattle.model.specs.declared.Printed.{Printed}
+use Rattle.model.specs.declared.StepTaken.{StepTaken}
+use Rattle.model.specs.StepTaken.{takenSaid}
 
 -- A FIELD on so many cells of these volumes. It is read into a table of the call's own, of 1,023 entries; the lent one, of so many, has to
 -- hold it. Then come the causes that the total of a field has.

@@ -1,8 +1,8 @@
 // A field record.
 use checks::TotalAnswer;
-use heads::Width;
 use model::Answer;
 use model::RUN_CELLS;
+use record_heads::Width;
 ghost use Rattle.taking.specs.Taking.{FieldTaking};
 
 // Document 01's position of the table of masses.
@@ -19,7 +19,7 @@ pub fn take_field(
     ensures { λ r. ⌜ FieldTaking width cells (now (volumes .entry)) (now (bytes .entry)) (now (masses .entry)) r (now (masses .exit)) ⌝ }
 {
     let mut read = [0u64; RUN_CELLS];
-    let answer = reading::read_field(width, cells, bytes, &mut read);
+    let answer = record_reading::read_field(width, cells, bytes, &mut read);
     let lent = model::needs::long(MASSES, cells, masses.len());
     let found = model::needs::and_then(answer, lent);
     if let Answer::Refused(refusal) = found {
@@ -30,6 +30,6 @@ pub fn take_field(
     let TotalAnswer::Total(_) = judged else {
         return judged;
     };
-    parts::copy(counted, masses);
+    lists::copy(counted, masses);
     judged
 }

@@ -1,11 +1,11 @@
 // A step record.
-use heads::Width;
+use model::Printed;
 use model::RUN_CELLS;
 use model::RUN_FACES;
 use model::RUN_WORK;
-use reading::StepRead;
-use step_taken::Printed;
-use step_taken::StepTaken;
+use model::StepTaken;
+use record_heads::Width;
+use record_reading::StepRead;
 use transport::StepAnswer;
 ghost use Rattle.model.specs.Mesh.{meshOf};
 ghost use Rattle.taking.specs.Taking.{StepTaking};
@@ -50,7 +50,7 @@ fn stepped(
     match answer {
         StepAnswer::Refused(refusal) => StepTaken::Refused(refusal),
         StepAnswer::Stepped(crossing) => {
-            parts::copy(&next[..cells], masses);
+            lists::copy(&next[..cells], masses);
             StepTaken::Stepped(Printed {
                 entered: crossing.entered,
                 gone: crossing.gone,
@@ -80,7 +80,7 @@ pub fn take_step(
     let mut fluxes = [0i64; RUN_FACES];
     let mut outsides = [0u64; RUN_FACES];
     let mut releases = [0u64; RUN_CELLS];
-    let read = reading::read_step(
+    let read = record_reading::read_step(
         width,
         cells,
         faces,

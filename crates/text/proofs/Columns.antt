@@ -12,7 +12,7 @@ use lib.Seq.{take-at, drop-at}
 use Rattle.lists.proofs.Tests.{Same, same, other, same?, Fits, fits, exceeds, fits?}
 use Rattle.text.specs.Digits.{digits, mostDigits, nought}
 use Rattle.text.specs.Lines.{word, column, pieces, space}
-use Rattle.text.specs.Reading.{digitOf, spelled, numberIn, lineAt}
+use Rattle.text.specs.Reading.{digitOf, readDigits, numberIn, lineAt}
 use Rattle.text.proofs.Digits.{digits-fit}
 
 -- so many spaces of many, and none in front of a word
@@ -26,25 +26,25 @@ unfolding column
 word-is n after = let q : 0 - length (digits mostDigits n) ≡ 0 = omega arith in rw q
 
 -- READING BACK
-spelled-append : (before : ℕ) (xs ys : List ℕ) → spelled before (xs ++ ys) ≡ spelled (spelled before xs) ys
-unfolding spelled
+spelled-append : (before : ℕ) (xs ys : List ℕ) → readDigits before (xs ++ ys) ≡ readDigits (readDigits before xs) ys
+unfolding readDigits
 spelled-append before [] ys = refl
 spelled-append before (x ∷ xs) ys = spelled-append (10 * before + digitOf x) xs ys
 
-spelled-blanks : (n : ℕ) → spelled 0 (replicate n space) ≡ 0
-unfolding spelled
+spelled-blanks : (n : ℕ) → readDigits 0 (replicate n space) ≡ 0
+unfolding readDigits
 spelled-blanks zero = refl
 spelled-blanks (suc n) = spelled-blanks n
 
 digit-back : (d : ℕ) → digitOf (nought + d) ≡ d
 digit-back d = rw (ne-eqb (nought + d) space (λ e. omega arith)) (omega arith)
 
-spelled-digits : (most n : ℕ) → n < 10 ^ most → spelled 0 (digits most n) ≡ n
-unfolding digits spelled
+spelled-digits : (most n : ℕ) → n < 10 ^ most → readDigits 0 (digits most n) ≡ n
+unfolding digits readDigits
 spelled-digits zero n u = omega (arith, pow-zero 10)
 spelled-digits (suc most) n u = go (leb 10 n) (fits? 10 n) (spelled-digits most (n / 10))
   where
-    go : (b : Bool) → Fits 10 n b → (n / 10 < 10 ^ most → spelled 0 (digits most (n / 10)) ≡ n / 10) → spelled 0 (digits (suc most) n) ≡ n
+    go : (b : Bool) → Fits 10 n b → (n / 10 < 10 ^ most → readDigits 0 (digits most (n / 10)) ≡ n / 10) → readDigits 0 (digits (suc most) n) ≡ n
     go true (fits h) ih =
         let up : n / 10 < 10 ^ most = div-lt-iff-lt-mul {k = 10} {x = n} {y = 10 ^ most} (omega arith) .1 (rw (pow-suc 10 most) at u) in
         rw (le-ltb n 10 h, spelled-append 0 (digits most (n / 10)) ((nought + n % 10) ∷ []), ih up, digit-back (n % 10)) (omega (arith, div-add-mod' n 10))
@@ -64,12 +64,12 @@ module _ (width n after : ℕ) (w : 0 < width) (most : width ≤ mostDigits) (u 
   unfolding figures
   figures-length = simp (length-append, length-replicate) (omega (arith, digits-fit mostDigits width n w u))
 
-  figures-back : spelled 0 figures ≡ n
+  figures-back : readDigits 0 figures ≡ n
   unfolding figures
   figures-back =
       let v : n < 10 ^ mostDigits = omega (arith, pow-le-pow-right {n = 10} (omega arith) {i = width} {j = mostDigits} most) in
       spelled-append 0 (replicate (width - length (digits mostDigits n)) space) (digits mostDigits n)
-      ∙ ap (λ (k : ℕ). spelled k (digits mostDigits n)) (spelled-blanks (width - length (digits mostDigits n))) ∙ spelled-digits mostDigits n v
+      ∙ ap (λ (k : ℕ). readDigits k (digits mostDigits n)) (spelled-blanks (width - length (digits mostDigits n))) ∙ spelled-digits mostDigits n v
 
   -- it fills its columns
   pub column-length : length (column width n after) ≡ width + 1

@@ -12,13 +12,13 @@ abbrev pub digitOf : ℕ → ℕ
 digitOf b = cond (eqb b space) 0 (b - nought)
 
 -- The number that bytes spell, after so much of it.
-unfoldable pub spelled : ℕ → List ℕ → ℕ
-spelled before [] = before
-spelled before (b ∷ bs) = spelled (10 * before + digitOf b) bs
+unfoldable pub readDigits : ℕ → List ℕ → ℕ
+readDigits before [] = before
+readDigits before (b ∷ bs) = readDigits (10 * before + digitOf b) bs
 
 -- The number in the columns from a place on.
 unfoldable pub numberIn : List ℕ → ℕ → ℕ → ℕ
-numberIn bytes at width = spelled 0 (take width (drop at bytes))
+numberIn bytes at width = readDigits 0 (take width (drop at bytes))
 
 -- Line i, from 0, of lines of one length.
 unfoldable pub lineAt : ℕ → ℕ → List ℕ → List ℕ

@@ -1,5 +1,5 @@
 // Numbers and letters as text, put one after another into bytes that are lent.
-use bits::least;
+use lists::least;
 ghost use mathlib.Core.Path.{_≡_};
 ghost use Prim.Native.Nat.{_+_, _-_, _≤_};
 ghost use lib.ListN.{length};

@@ -15,8 +15,8 @@ use Rattle.model.specs.Step.{StepInput, flux, low, correction, lowConcentration
 use Rattle.model.specs.Accepted.{Ready}
 use Rattle.model.proofs.Low.{low-bounds}
 use Rattle.model.proofs.Accepted.{hi-most}
-use Rattle.cell.specs.Work.{overQ}
-use Rattle.carrying.proofs.CarryLaws.{correction-within}
+use Rattle.step_cell.specs.Work.{overQ}
+use Rattle.step_carrying.proofs.CarryLaws.{correction-within}
 
 -- amounts x that are each at most b times the flux u
 module _ (b : ℕ) where

@@ -1,3 +1,4 @@
+-- Refused, the ranking is empty and its entries unused; else the entries shown are those of the ranking.
 use mathlib.Core.Path.{refl, ap, _∙_}
 use native.Mathlib.Omega.{arith}
 use borrow.Author.Needs.{needs}

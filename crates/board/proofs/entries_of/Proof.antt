@@ -6,7 +6,7 @@ use borrow.Author.Needs.{needs}
 use lib.ListN.{length, getD, replicate, length-set}
 use Rattle.lists.specs.Table.{table, over}
 use Rattle.lists.proofs.Tables.{over-start, over-step}
-use Rattle.order.specs.Order.{unranked}
+use Rattle.board_order.specs.Order.{unranked}
 use Rattle.board.specs.Board.{boardSize, shown, unused}
 use Rattle.board.proofs.Places.{place-left, place-in, place-bytes, place-next}
 use Rattle.board.proofs.entries_of.Statement.{statement}

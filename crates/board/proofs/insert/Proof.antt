@@ -7,10 +7,10 @@ use native.Mathlib.Nat.{le-refl}
 use native.Mathlib.Omega.{arith}
 use borrow.Author.Needs.{needs}
 use lib.ListN.{length, take, length-map}
-use Rattle.order.specs.Order.{unranked, comesBefore, insertInOrder}
+use Rattle.board_order.specs.Order.{unranked, comesBefore, insertInOrder}
 use Rattle.board.specs.Board.{boardSize}
 use Rattle.board.proofs.Places.{place-left, place-in, place-bytes, place-next}
-use Rattle.order.proofs.Insertion.{Carrying, at-start, carried-on, passed, at-end, room-left, no-room}
+use Rattle.board_order.proofs.Insertion.{Carrying, at-start, carried-on, passed, at-end, room-left, no-room}
 use Rattle.board.proofs.insert.Statement.{statement}
 use Rattle.board.proofs.insert.Tie as tie
 

@@ -3,7 +3,7 @@ use Prim.Native.Nat.{_-_}
 use native.Mathlib.Omega.{arith}
 use borrow.Author.Needs.{needs}
 use Rattle.lists.proofs.Turns.{turn-less, turn-in, turn-next, turn-bytes}
-use Rattle.marks.specs.Marks.{isOpen}
+use Rattle.public_marks.specs.Marks.{isOpen}
 use Rattle.board.proofs.Listed.{RankedTo, none-ranked, one-more, all-ranked}
 use Rattle.board.proofs.rank.Statement.{statement}
 use Rattle.board.proofs.rank.Tie as tie

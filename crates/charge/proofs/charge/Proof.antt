@@ -1,3 +1,4 @@
+-- Refused, nothing is charged; else bands are in order, so that each part of the sum fits and cents and remainder are its quotient and rest.
 use mathlib.Core.Path.{ap, sym, _∙_}
 use native.Mathlib.Omega.{arith}
 use borrow.Author.Needs.{needs}

@@ -3,9 +3,9 @@ use mathlib.Core.Path.{_≡_, _∙_}
 use borrow.Author.Needs.{needs}
 use Rattle.model.specs.Causes.{fine, counts}
 use Rattle.model.proofs.Verdicts.{refuses, passes}
-use Rattle.cut.specs.Cut.{Tables, tablesOf, Lagoon, lagoonOf}
-use Rattle.cut.specs.Refusals.{cutTables, cutVerdict}
-use Rattle.cut_causes.proofs.Groups.{lengths-first}
+use Rattle.cutting_parts.specs.Cut.{Tables, tablesOf, Lagoon, lagoonOf}
+use Rattle.cutting_parts.specs.Refusals.{cutTables, cutVerdict}
+use Rattle.cutting_causes.proofs.Groups.{lengths-first}
 use Rattle.cutting.proofs.Promised.{cuttable, room-0, room-1, promise-done, promise-refused, counts-are}
 use Rattle.cutting.proofs.cut.Statement.{statement}
 use Rattle.cutting.proofs.cut.Tie as tie

@@ -5,7 +5,7 @@ use Rattle.model.specs.Causes.{Call}
 use Rattle.model.specs.Calls.{judged}
 use Rattle.model.proofs.Claims.{judged-keeping}
 use Rattle.taking.specs.Taking.{blank}
-use Rattle.parts.proofs.Parts.{part-long}
+use Rattle.model.proofs.Parts.{part-long}
 use Rattle.host_next.proofs.Next.{step-refused, next-part, no-room, written as record-written}
 use Rattle.host_judge.specs.Judge.{claimOn}
 use Rattle.host_judge.proofs.Judge.{lent}

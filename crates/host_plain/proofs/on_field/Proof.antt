@@ -2,7 +2,7 @@
 use mathlib.Core.Path.{refl}
 use borrow.Author.Needs.{needs}
 use Rattle.model.specs.Mesh.{Mesh, meshOf}
-use Rattle.parts.proofs.Parts.{part-long}
+use Rattle.model.proofs.Parts.{part-long}
 use Rattle.taking.proofs.StepLaws.{fluxes-part, outsides-part, releases-part}
 use Rattle.host_plain.proofs.Plain.{on-unread, on-read}
 use Rattle.host_plain.proofs.on_field.Statement.{statement}

@@ -5,7 +5,7 @@ use Rattle.model.specs.Causes.{Call}
 use Rattle.model.specs.Calls.{plain}
 use Rattle.model.proofs.Lists.{plain-keeping}
 use Rattle.taking.specs.Taking.{ownTables, blank}
-use Rattle.parts.proofs.Parts.{part-long}
+use Rattle.model.proofs.Parts.{part-long}
 use Rattle.host_next.proofs.Next.{step-refused, next-part, no-room, written as record-written}
 use Rattle.host_plain.proofs.Plain.{lent}
 use Rattle.host_plain.proofs.written.Statement.{statement}

@@ -1,6 +1,6 @@
 use mathlib.Core.Path.{ap}
 use borrow.Author.Needs.{needs}
-use Rattle.writing.specs.Writing.{writeSaid}
+use Rattle.record_writing.specs.Writing.{writeSaid}
 use Rattle.host_answer.specs.Found.{alone}
 use Rattle.host_answer.proofs.Answers.{refusal-of, answered-refused, answered-found}
 use Rattle.host_write.proofs.answered.Statement.{statement}

@@ -3,8 +3,8 @@ use native.Mathlib.Omega.{arith}
 use borrow.Author.Needs.{needs}
 use Rattle.model.specs.Step.{StepInput}
 use Rattle.model.specs.Causes.{waterOf}
-use Rattle.carrying.specs.Carrying.{inputFrom, Unseen, CarriedTo}
-use Rattle.carrying.proofs.CarryLaws.{carried-to-start}
+use Rattle.step_carrying.specs.Carrying.{inputFrom, Unseen, CarriedTo}
+use Rattle.step_carrying.proofs.CarryLaws.{carried-to-start}
 use Rattle.transport.proofs.Advances.{raised-small}
 use Rattle.judging.proofs.first_passes.Statement.{statement}
 use Rattle.judging.proofs.first_passes.Tie as tie

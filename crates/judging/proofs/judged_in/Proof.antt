@@ -7,7 +7,7 @@ use Rattle.model.specs.Step.{StepInput}
 use Rattle.model.specs.Causes.{fine, each}
 use Rattle.model.specs.Claims.{claimGood}
 use Rattle.model.proofs.Verdicts.{refuses, passes}
-use Rattle.carrying.specs.Carrying.{inputFrom}
+use Rattle.step_carrying.specs.Carrying.{inputFrom}
 use Rattle.judging.proofs.Laws.{salted, released-asks, long-enough, faces-fit, bordered, claims-are, refused-21, refused-22, both-passed}
 use Rattle.judging.proofs.judged_in.Statement.{statement}
 use Rattle.judging.proofs.judged_in.Tie as tie

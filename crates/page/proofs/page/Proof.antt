@@ -1,3 +1,4 @@
+-- Refused, nothing is written; else what is judged is what putting the lines asks for.
 use borrow.Author.Needs.{needs}
 use Rattle.model.proofs.Verdicts.{refuses, passes}
 use Rattle.page.proofs.Laws.{page-passed, put-asks}

@@ -1,3 +1,4 @@
+-- Whole lines and the mass line; a page has at most sixty of them, so the length is small.
 use mathlib.Core.Path.{sym}
 use native.Mathlib.Omega.{arith}
 use borrow.Author.Needs.{needs}

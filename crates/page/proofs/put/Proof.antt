@@ -3,7 +3,7 @@ use mathlib.Core.Path.{_∙_}
 use native.Mathlib.Omega.{arith}
 use borrow.Author.Needs.{needs}
 use Rattle.text.proofs.Lines.{both}
-use Rattle.marks.specs.Marks.{isOpen}
+use Rattle.public_marks.specs.Marks.{isOpen}
 use Rattle.page.specs.Page.{lineIf, massLine, pageText}
 use Rattle.page.proofs.Laws.{cells-end, part-asks, part-gives}
 use Rattle.page.proofs.put.Statement.{statement}

@@ -5,7 +5,7 @@ use native.Mathlib.Omega.{arith}
 use lib.ListN.{length}
 use Rattle.text.specs.Lines.{Puts, pieces}
 use Rattle.text.proofs.Lines.{puts-none}
-use Rattle.marks.specs.Marks.{isOpen}
+use Rattle.public_marks.specs.Marks.{isOpen}
 use Rattle.page_lines.specs.Lines.{lineOf, lineIf}
 use Rattle.page_lines.proofs.Laws.{line-more}
 use Rattle.page_lines.proofs.lines.Statement.{statement}

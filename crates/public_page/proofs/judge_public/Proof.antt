@@ -4,7 +4,7 @@ use borrow.Author.Needs.{needs}
 use Rattle.model.specs.Causes.{Verdict}
 use Rattle.model.specs.Answers.{said}
 use Rattle.model.proofs.Verdicts.{out, past, refuses, passes}
-use Rattle.marks.specs.Marks.{marksLong}
+use Rattle.public_marks.specs.Marks.{marksLong}
 use Rattle.page.specs.Answers.{verdictWith}
 use Rattle.public_page.specs.Public.{publicVerdict}
 use Rattle.public_page.proofs.judge_public.Statement.{statement}

@@ -1,3 +1,4 @@
+-- Refused, nothing is written; else what is judged is what putting the lines asks for, and the lines are those of the open cells.
 use native.Mathlib.Omega.{arith}
 use borrow.Author.Needs.{needs}
 use Rattle.model.proofs.Verdicts.{refuses, passes}

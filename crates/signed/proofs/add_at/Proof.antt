@@ -1,3 +1,4 @@
+-- The entry and the amount have sizes whose sum fits, so the sum of the words is that of the numbers.
 use borrow.Author.Needs.{needs}
 use lib.IntN.{pos}
 use lib.ListN.{getD}

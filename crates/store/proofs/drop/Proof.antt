@@ -3,7 +3,7 @@ use mathlib.Core.Path.{sym, _∙_}
 use Rattle.model.proofs.Verdicts.{both-are, past, out, refuses, passes}
 use Rattle.model.specs.Causes.{counts}
 use Rattle.store.specs.Calls.{storeTable, dropStore}
-use Rattle.kept.proofs.Judged.{kept-asks}
+use Rattle.store_kept.proofs.Judged.{kept-asks}
 use Rattle.store.proofs.Judged.{drop-groups, drop-opened, drop-stays}
 use borrow.Author.Needs.{needs}
 use Rattle.store.proofs.drop.Statement.{statement}

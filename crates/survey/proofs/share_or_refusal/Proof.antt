@@ -1,3 +1,4 @@
+-- Below 1/256 and from 1 on it is 20; between them the share is the largest k whose 256th part is not above the ratio.
 use mathlib.Core.Path.{sym, _∙_}
 use native.Mathlib.Omega.{arith}
 use borrow.Author.Needs.{needs}

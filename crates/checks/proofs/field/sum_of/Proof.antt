@@ -1,3 +1,4 @@
+-- After c cells the sum is that of the first c masses; that it fits is asked for, not tested.
 use Prim.Native.Nat.{_≤_, _-_}
 use mathlib.Core.Path.{_≡_, sym}
 use native.Mathlib.Omega.{arith}

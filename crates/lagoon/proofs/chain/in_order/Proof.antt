@@ -1,7 +1,7 @@
 -- `in_order`: the counted parts of the tables are the mesh that the record holds.
 use mathlib.Core.Path.{refl}
 use borrow.Author.Needs.{needs}
-use Rattle.parts.proofs.Parts.{part-long}
+use Rattle.model.proofs.Parts.{part-long}
 use Rattle.lagoon.proofs.Stages.{mesh-refused, mesh-read, mesh-within, host-done}
 use Rattle.lagoon.proofs.chain.in_order.Statement.{statement}
 use Rattle.lagoon.proofs.chain.in_order.Tie as tie

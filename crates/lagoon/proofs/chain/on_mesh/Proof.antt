@@ -2,7 +2,7 @@
 use mathlib.Core.Path.{refl}
 use borrow.Author.Needs.{needs}
 use Rattle.model.specs.Mesh.{Mesh, meshOf}
-use Rattle.parts.proofs.Parts.{part-long}
+use Rattle.model.proofs.Parts.{part-long}
 use Rattle.lagoon.proofs.Stages.{field-refused, masses-part, step-refused, no-room, written}
 use Rattle.lagoon.proofs.chain.on_mesh.Statement.{statement}
 use Rattle.lagoon.proofs.chain.on_mesh.Tie as tie

@@ -1,7 +1,7 @@
 -- `take_field`: the counted part of the call's own table is what was read, so its total is that of the field in the record.
 use mathlib.Core.Path.{refl}
 use borrow.Author.Needs.{needs}
-use Rattle.parts.proofs.Parts.{part-long}
+use Rattle.model.proofs.Parts.{part-long}
 use Rattle.taking.proofs.FieldLaws.{field-unread, masses-part, copy-asks, salt-refused, field-taken}
 use Rattle.taking.proofs.field.take_field.Statement.{statement}
 use Rattle.taking.proofs.field.take_field.Tie as tie

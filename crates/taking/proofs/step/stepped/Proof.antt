@@ -1,7 +1,7 @@
 -- `stepped`: the counted part of the next masses is what `step` left there; copied, it is the field whose total is printed.
 use mathlib.Core.Path.{refl}
 use borrow.Author.Needs.{needs}
-use Rattle.parts.proofs.Parts.{part-long}
+use Rattle.model.proofs.Parts.{part-long}
 use Rattle.taking.proofs.StepLaws.{step-refused, nexts-part, copy-asks, sum-asks, step-done}
 use Rattle.taking.proofs.step.stepped.Statement.{statement}
 use Rattle.taking.proofs.step.stepped.Tie as tie

@@ -2,7 +2,7 @@
 use mathlib.Core.Path.{refl}
 use borrow.Author.Needs.{needs}
 use Rattle.model.specs.Mesh.{Mesh, meshOf}
-use Rattle.parts.proofs.Parts.{part-long}
+use Rattle.model.proofs.Parts.{part-long}
 use Rattle.taking.proofs.StepLaws.{step-unread, fluxes-part, outsides-part, releases-part, step-took}
 use Rattle.taking.proofs.step.take_step.Statement.{statement}
 use Rattle.taking.proofs.step.take_step.Tie as tie

@@ -1,0 +1,2 @@
+-- Definitions that the contracts of bench_grid cite.
+pub mod Bounds

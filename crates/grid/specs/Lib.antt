@@ -1,2 +1,0 @@
--- Definitions that the contracts of grid cite.
-pub mod Bounds

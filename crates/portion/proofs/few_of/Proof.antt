@@ -1,7 +1,0 @@
-use borrow.Author.Needs.{needs}
-use Rattle.portion.proofs.Laws.{part-fits}
-use Rattle.portion.proofs.few_of.Statement.{statement}
-use Rattle.portion.proofs.few_of.Tie as tie
-
-pub few-of-spec : {M : Type 1} → statement M
-few-of-spec = tie.close (tie.spec (search needs) (search needs) (search needs) (λ c. part-fits (c .before .args .g)))

@@ -1,9 +1,0 @@
-use borrow.Author.Needs.{needs}
-use Rattle.reading.proofs.verdicts.then_long.Statement.{statement}
-use Rattle.reading.proofs.verdicts.then_long.Tie as tie
-
-returns : tie.Need-returns
-returns c = rw (c .and-then .ensures, c .before .long .ensures)
-
-pub then-long-spec : {M : Type 1} → statement M
-then-long-spec = tie.close (tie.spec (search needs) (search needs) returns)

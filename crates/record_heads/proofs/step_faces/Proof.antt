@@ -1,0 +1,15 @@
+use mathlib.Core.Path.{_∙_}
+use native.Mathlib.Omega.{arith}
+use borrow.Author.Needs.{needs}
+use Rattle.record_bits.specs.Layout.{bytesFor}
+use Rattle.record_heads.specs.Layouts.{kindBits, facesBits}
+use Rattle.record_heads.proofs.HeadLaws.{held}
+use Rattle.record_heads.proofs.step_faces.Statement.{statement}
+use Rattle.record_heads.proofs.step_faces.Tie as tie
+
+returns : tie.Need-returns
+unfolding bytesFor
+returns c = c .field-after .ensures ∙ held (c .before .before .args .bytes .now) kindBits facesBits (omega arith) (omega arith) (omega (arith, c .before .before .pre))
+
+pub step-faces-spec : {M : Type 1} → statement M
+step-faces-spec = tie.close (tie.spec (search needs) returns)

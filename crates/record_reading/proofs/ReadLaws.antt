@@ -1,0 +1,155 @@
+-- What a record that passed its tests says, and what a reading comes to where it is refused, at its head or after it, and where it is accepted.
+use Prim.Native.Nat.{ℕ, _≤_}
+use mathlib.Core.Path.{_≡_, sym}
+use mathlib.Core.List.{List}
+use mathlib.Core.Bool.{Bool, true, false, _||_}
+use lib.Dec.{eqb}
+use lib.IntN.{ℤ}
+use Rattle.lists.proofs.Tests.{Same, same, same?}
+use lib.ListN.{length}
+use borrow.Author.Tests.{leb-true, eqb-true}
+use Rattle.lists.specs.Table.{over}
+use Rattle.model.specs.Causes.{Outcome, accepted, Verdict, fine, _andThen_, long}
+use Rattle.model.specs.Answers.{told}
+use Rattle.model.specs.declared.Answer.the-variants as call
+use Rattle.model.specs.declared.Refusal.{Refusal}
+use Rattle.model.proofs.Verdicts.{both-fine, need-fine}
+use Rattle.record_bits.specs.Layout.{bytesFor}
+use Rattle.record_heads.specs.Layouts.{meshKind, widthOf, kindNumber, meshBits, fieldBits, stepBits, meshLength, fieldLength, stepLength}
+use Rattle.record_heads.specs.Heads.{kindIn, isMeshKind, cellsIn, facesIn, hasLength, meshHeadVerdict, stepHeadVerdict}
+use Rattle.record_heads.specs.declared.Width.{Width}
+use Rattle.record_heads.specs.declared.Width.the-variants.{Narrow, Wide}
+use Rattle.record_heads.specs.declared.StepKind.{StepKind}
+use Rattle.record_heads.proofs.HeadLaws.{MeshHeadSays, mesh-head-says, StepHeadSays, step-head-says}
+use Rattle.record_reading.specs.Reading.{shapeIn, countsIn, volumesIn, firstsIn, secondsIn, sharesIn, reachesIn, massesIn, fluxesIn, outsidesIn, stepShapeIn, releasesIn, meshBodyVerdict, fieldBodyVerdict, stepBodyVerdict, meshRead, stepRead}
+use Rattle.record_reading.specs.Answers.{MeshReading, FieldReading, StepReading}
+use Rattle.record_bodies.specs.Bodies.{MeshFilled, StepFilled}
+use Rattle.record_reading.specs.declared.MeshCounts.{MeshCounts}
+use Rattle.record_reading.specs.declared.MeshAnswer.the-variants as mesh
+use Rattle.record_reading.specs.declared.StepRead.the-variants as step
+
+-- the kind of a mesh is that of its width
+pub mesh-kind-is : (k : ℕ) → isMeshKind k ≡ true → meshKind (widthOf k) ≡ k
+mesh-kind-is k e = go (eqb k 1) (same? k 1) e
+  where
+    go : (b : Bool) → Same k 1 b → (b || eqb k 5) ≡ true → meshKind (widthOf k) ≡ k
+    go true (same q) d = rw q
+    go false o d = let q = eqb-true k 5 d in rw q
+
+-- what a record that passed its length and its tables says
+pub record MeshTablesSay (bs : List ℕ) (volumes firsts seconds shares reaches : ℕ) : Type 0 where
+  pub same-length : length bs ≡ bytesFor (meshBits (kindIn bs) (cellsIn bs) (facesIn bs))
+  pub volumes-long : cellsIn bs ≤ volumes
+  pub firsts-long : facesIn bs ≤ firsts
+  pub seconds-long : facesIn bs ≤ seconds
+  pub shares-long : facesIn bs ≤ shares
+  pub reaches-long : facesIn bs ≤ reaches
+
+pub mesh-tables-say : (bs : List ℕ) (volumes firsts seconds shares reaches : ℕ)
+    → (hasLength bs (meshLength (kindIn bs) (cellsIn bs) (facesIn bs)) andThen long 0 (cellsIn bs) volumes andThen long 1 (facesIn bs) firsts
+    andThen long 2 (facesIn bs) seconds andThen long 3 (facesIn bs) shares andThen long 4 (facesIn bs) reaches) ≡ fine
+    → MeshTablesSay bs volumes firsts seconds shares reaches
+unfolding meshLength
+mesh-tables-say bs volumes firsts seconds shares reaches e =
+    let a = both-fine _ _ e in
+    let b = both-fine _ _ (a .0) in
+    let c = both-fine _ _ (b .0) in
+    let d = both-fine _ _ (c .0) in
+    let g = both-fine _ _ (d .0) in
+    record {
+      same-length = eqb-true _ _ (need-fine 11 0 _ (g .0));
+      volumes-long = leb-true _ _ (need-fine 2 0 _ (g .1));
+      firsts-long = leb-true _ _ (need-fine 2 1 _ (d .1));
+      seconds-long = leb-true _ _ (need-fine 2 2 _ (c .1));
+      shares-long = leb-true _ _ (need-fine 2 3 _ (b .1));
+      reaches-long = leb-true _ _ (need-fine 2 4 _ (a .1));
+    }
+
+pub record FieldTablesSay (cells : ℕ) (bs : List ℕ) (masses : ℕ) : Type 0 where
+  pub same-length : length bs ≡ bytesFor (fieldBits (kindIn bs) cells)
+  pub masses-long : cells ≤ masses
+
+pub field-tables-say : (cells : ℕ) (bs : List ℕ) (masses : ℕ) → fieldBodyVerdict cells bs masses ≡ fine → FieldTablesSay cells bs masses
+unfolding fieldBodyVerdict fieldLength
+field-tables-say cells bs masses e =
+    let a = both-fine _ _ e in
+    record { same-length = eqb-true _ _ (need-fine 11 0 _ (a .0)); masses-long = leb-true _ _ (need-fine 2 5 _ (a .1)) }
+
+pub record StepTablesSay (kind cells faces : ℕ) (seconds bs : List ℕ) (fluxes outsides releases : ℕ) : Type 0 where
+  pub same-length : length bs ≡ bytesFor (stepBits kind cells faces seconds)
+  pub fluxes-long : faces ≤ fluxes
+  pub outsides-long : faces ≤ outsides
+  pub releases-long : cells ≤ releases
+
+pub step-tables-say : (kind cells faces : ℕ) (seconds bs : List ℕ) (fluxes outsides releases : ℕ)
+    → (hasLength bs (stepLength kind cells faces seconds) andThen long 6 faces fluxes andThen long 7 faces outsides andThen long 14 cells releases) ≡ fine
+    → StepTablesSay kind cells faces seconds bs fluxes outsides releases
+unfolding stepLength
+step-tables-say kind cells faces seconds bs fluxes outsides releases e =
+    let a = both-fine _ _ e in
+    let b = both-fine _ _ (a .0) in
+    let c = both-fine _ _ (b .0) in
+    record {
+      same-length = eqb-true _ _ (need-fine 11 0 _ (c .0));
+      fluxes-long = leb-true _ _ (need-fine 2 6 _ (c .1));
+      outsides-long = leb-true _ _ (need-fine 2 7 _ (b .1));
+      releases-long = leb-true _ _ (need-fine 2 14 _ (a .1));
+    }
+
+-- what a mesh reading that is accepted has passed
+pub record ReadSays (mostCells mostFaces : ℕ) (bs : List ℕ) (n : MeshCounts) (v f s g k : ℕ) : Type 0 where
+  pub counts-are : n ≡ countsIn bs
+  pub head : MeshHeadSays mostCells mostFaces bs
+  pub body-fine : meshBodyVerdict bs v f s g k ≡ fine
+
+pub read-says : (mostCells mostFaces : ℕ) (bs : List ℕ) (v f s g k : ℕ) {n : MeshCounts} → meshRead mostCells mostFaces bs v f s g k ≡ accepted n → ReadSays mostCells mostFaces bs n v f s g k
+unfolding meshRead _andThen_
+read-says mostCells mostFaces bs v f s g k e =
+    let a = both-fine (meshHeadVerdict mostCells mostFaces bs andThen meshBodyVerdict bs v f s g k) (accepted (countsIn bs)) e in
+    let b = both-fine (meshHeadVerdict mostCells mostFaces bs) (meshBodyVerdict bs v f s g k) (a .0) in
+    record { counts-are = cc; head = mesh-head-says mostCells mostFaces bs (b .0); body-fine = b .1 }
+
+-- what a step reading that is accepted has passed
+pub record StepReadSays (w : Width) (cells faces : ℕ) (seconds bs : List ℕ) (n u x y : ℕ) : Type 0 where
+  pub kind-is : n ≡ kindIn bs
+  pub head : StepHeadSays w cells faces seconds bs
+  pub body-fine : stepBodyVerdict cells faces seconds bs u x y ≡ fine
+
+pub step-read-says : (w : Width) (cells faces : ℕ) (seconds bs : List ℕ) (u x y : ℕ) {n : ℕ} → stepRead w cells faces seconds bs u x y ≡ accepted n → StepReadSays w cells faces seconds bs n u x y
+unfolding stepRead _andThen_
+step-read-says w cells faces seconds bs u x y e =
+    let a = both-fine (stepHeadVerdict w cells faces seconds bs andThen stepBodyVerdict cells faces seconds bs u x y) (accepted (kindIn bs)) e in
+    let b = both-fine (stepHeadVerdict w cells faces seconds bs) (stepBodyVerdict cells faces seconds bs u x y) (a .0) in
+    record { kind-is = cc; head = step-head-says w cells faces seconds bs (b .0); body-fine = b .1 }
+
+-- the answer and the tables
+module _ {bs v f s w k : List ℕ} {o : Outcome MeshCounts} where
+  pub mesh-refused : {r : Refusal} → o ≡ told r → MeshReading o bs v f s w k (mesh.Refused r) v f s w k
+  mesh-refused e = record { answer = sym e; volumes-read = rw e; firsts-read = rw e; seconds-read = rw e; shares-read = rw e; reaches-read = rw e }
+
+  pub mesh-accepted : {n : MeshCounts} {v′ f′ s′ w′ k′ : List ℕ} → o ≡ accepted n → MeshFilled bs (shapeIn bs) 1 v f s w k v′ f′ s′ w′ k′ → MeshReading o bs v f s w k (mesh.Read n) v′ f′ s′ w′ k′
+  unfolding volumesIn firstsIn secondsIn sharesIn reachesIn
+  mesh-accepted e d = record {
+    answer = sym e;
+    volumes-read = rw e (d .volumes-full);
+    firsts-read = rw e (d .firsts-full);
+    seconds-read = rw e (d .seconds-full);
+    shares-read = rw e (d .shares-full);
+    reaches-read = rw e (d .reaches-full);
+  }
+
+module _ {cells : ℕ} {bs m : List ℕ} {o : Verdict} where
+  pub field-refused : {r : Refusal} → o ≡ told r → FieldReading o cells bs m (call.Refused r) m
+  field-refused e = record { answer = sym e; masses-read = rw e }
+
+  pub field-accepted : {m′ : List ℕ} → o ≡ fine → m′ ≡ over (massesIn bs cells) m → FieldReading o cells bs m call.Done m′
+  field-accepted e d = record { answer = sym e; masses-read = rw e d }
+
+module _ {w : Width} {cells faces : ℕ} {seconds bs : List ℕ} {u : List ℤ} {x y : List ℕ} {o : Outcome ℕ} where
+  pub step-refused : {r : Refusal} → o ≡ told r → StepReading w o cells faces seconds bs u x y (step.Refused r) u x y
+  step-refused e = record { answer = sym e; fluxes-read = rw e; outsides-read = rw e; releases-read = rw e }
+
+  pub step-accepted : {k : StepKind} {u′ : List ℤ} {x′ y′ : List ℕ} → o ≡ accepted (kindNumber w k) → StepFilled faces bs (stepShapeIn bs cells faces seconds) 1 u x y u′ x′ y′
+      → StepReading w o cells faces seconds bs u x y (step.Read k) u′ x′ y′
+  unfolding fluxesIn outsidesIn releasesIn
+  step-accepted e d = record { answer = sym e; fluxes-read = rw e (d .fluxes-full); outsides-read = rw e (d .outsides-full); releases-read = rw e (d .releases-full) }

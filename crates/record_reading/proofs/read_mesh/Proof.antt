@@ -1,0 +1,87 @@
+-- The tests answer with the counts; then the body's tables hold the record's columns (`mesh-filled`).
+use Prim.Native.Nat.{_≤_}
+use mathlib.Core.Path.{_≡_, sym, ap, _∙_}
+use borrow.Author.Needs.{needs}
+use lib.ListN.{length}
+use Rattle.model.specs.Causes.{accepted}
+use Rattle.record_heads.specs.Heads.{kindIn, cellsIn, facesIn}
+use Rattle.record_sections.proofs.Bodies.{bodyOf}
+use Rattle.record_reading.specs.declared.MeshCounts.{MeshCounts}
+use Rattle.record_reading.specs.Reading.{meshRead}
+use Rattle.record_reading.specs.Answers.{meshSaid}
+use Rattle.record_bodies.specs.Bodies.{MeshRoom}
+use Rattle.record_reading.proofs.ReadLaws.{mesh-kind-is, ReadSays, read-says, mesh-refused, mesh-accepted}
+use Rattle.record_reading.proofs.BodyLaws.{meshHeadBytes, mesh-room, mesh-filled}
+use Rattle.record_reading.proofs.read_mesh.Statement.{statement}
+use Rattle.record_reading.proofs.read_mesh.Tie as tie
+
+abbrev comes : tie.Start → MeshCounts → Type 0
+comes s n = meshRead (s .args .most-cells) (s .args .most-faces) (s .args .bytes .now)
+    (length (s .args .volumes .now)) (length (s .args .firsts .now)) (length (s .args .seconds .now)) (length (s .args .shares .now)) (length (s .args .reaches .now)) ≡ accepted n
+
+says : (s : tie.Start) {n : MeshCounts} → comes s n → ReadSays (s .args .most-cells) (s .args .most-faces) (s .args .bytes .now) n
+    (length (s .args .volumes .now)) (length (s .args .firsts .now)) (length (s .args .seconds .now)) (length (s .args .shares .now)) (length (s .args .reaches .now))
+says s e = read-says _ _ _ _ _ _ _ _ e
+
+room : (s : tie.Start) {n : MeshCounts} → comes s n → let bs = s .args .bytes .now in (meshHeadBytes ≤ length bs) × MeshRoom (kindIn bs) (cellsIn bs) (facesIn bs) (bodyOf meshHeadBytes bs)
+    (length (s .args .volumes .now)) (length (s .args .firsts .now)) (length (s .args .seconds .now)) (length (s .args .shares .now)) (length (s .args .reaches .now))
+room s e = let k = says s e in mesh-room (s .args .bytes .now) (k .head .few-cells) (k .head .few-faces) (k .body-fine)
+
+returns : tie.Need-returns
+returns c =
+    let p1 = c .before .before in
+    let e = c .enum-told .given .1 in rw e (mesh-refused (sym (p1 .mesh .ensures) ∙ ap meshSaid e))
+
+sub-mesh : tie.Need-sub-mesh
+sub-mesh c =
+    let p1 = c .before in
+    let p2 = p1 .before .before in
+    let s = p2 .before .before .before .before .before .before .before in
+    room s (sym (p2 .mesh .ensures) ∙ ap meshSaid (p1 .a .given .1)) .0
+
+part-mesh-start : tie.Need-part-mesh-start
+part-mesh-start c =
+    let p1 = c .before in
+    let p2 = p1 .before .before in
+    let s = p2 .before .before .before .before .before .before .before in
+    room s (sym (p2 .mesh .ensures) ∙ ap meshSaid (p1 .a .given .1)) .0
+
+mesh-requires-2 : tie.Need-mesh-requires-2
+mesh-requires-2 c κs =
+    let p1 = c .before .before .before .before .before .before .before in
+    let p2 = p1 .before .before in
+    let s = p2 .before .before .before .before .before .before .before in
+    let e = sym (p2 .mesh .ensures) ∙ ap meshSaid (p1 .a .given .1) in
+    rw (says s e .counts-are, mesh-kind-is (kindIn (s .args .bytes .now)) (says s e .head .kind)) (room s e .1)
+
+returns-2 : tie.Need-returns-2
+returns-2 c =
+    let p1 = c .before .before .before .before .before .before .before .before .before in
+    let p2 = p1 .before in
+    let p3 = p2 .before .before .before .before .before .before .before .before in
+    let p4 = p3 .before .before in
+    let s = p4 .before .before .before .before .before .before .before in
+    let e = sym (p4 .mesh .ensures) ∙ ap meshSaid (p3 .a .given .1) in
+    mesh-accepted e (mesh-filled (s .args .bytes .now) (rw (says s e .counts-are, mesh-kind-is (kindIn (s .args .bytes .now)) (says s e .head .kind)) at (p2 .mesh2 .ensures)))
+
+-- the tables that were filled keep their lengths
+same-length : tie.Need-same-length
+same-length c = c .before .before .before .before .before .before .before .before .before .before .mesh2 .kept .1 .1 .1 .1 .0
+
+same-length-2 : tie.Need-same-length-2
+same-length-2 c = c .before .before .before .before .before .before .before .before .before .before .mesh2 .kept .1 .1 .1 .1 .1 .0
+
+same-length-3 : tie.Need-same-length-3
+same-length-3 c = c .before .before .before .before .before .before .before .before .before .before .mesh2 .kept .1 .1 .1 .1 .1 .1 .0
+
+same-length-4 : tie.Need-same-length-4
+same-length-4 c = c .before .before .before .before .before .before .before .before .before .before .mesh2 .kept .1 .1 .1 .1 .1 .1 .1 .0
+
+same-length-5 : tie.Need-same-length-5
+same-length-5 c = c .before .before .before .before .before .before .before .before .before .before .mesh2 .kept .1 .1 .1 .1 .1 .1 .1 .1 .0
+
+pub read-mesh-spec : {M : Type 1} → statement M
+read-mesh-spec =
+    tie.close
+    (tie.spec (search needs) (search needs) (search needs) returns sub-mesh part-mesh-start (search needs) mesh-requires-2
+    same-length same-length-2 same-length-3 same-length-4 same-length-5 returns-2)

@@ -1,0 +1,47 @@
+-- Document 01, "What form each place needs", of answers: what the answer of a reading says, and what each reading leaves.
+use Prim.Native.Nat.{ℕ}
+use mathlib.Core.Path.{_≡_}
+use mathlib.Core.List.{List}
+use lib.IntN.{ℤ}
+use Rattle.lists.specs.Table.{over}
+use Rattle.model.specs.Causes.{Outcome, accepted, Verdict, taken}
+use Rattle.model.specs.Answers.{told, said}
+use Rattle.model.specs.declared.Answer.{Answer}
+use Rattle.record_heads.specs.declared.Width.{Width}
+use Rattle.record_heads.specs.Layouts.{kindNumber}
+use Rattle.record_reading.specs.declared.MeshCounts.{MeshCounts}
+use Rattle.record_reading.specs.declared.MeshAnswer.{MeshAnswer}
+use Rattle.record_reading.specs.declared.MeshAnswer.the-variants as mesh
+use Rattle.record_reading.specs.declared.StepRead.{StepRead}
+use Rattle.record_reading.specs.declared.StepRead.the-variants as step
+use Rattle.record_reading.specs.Reading.{volumesIn, firstsIn, secondsIn, sharesIn, reachesIn, massesIn, fluxesIn, outsidesIn, releasesIn}
+
+abbrev pub meshSaid : MeshAnswer → Outcome MeshCounts
+meshSaid (mesh.Read n) = accepted n
+meshSaid (mesh.Refused r) = told r
+
+-- document 02, S-6: a step's answer says the number of its kind
+abbrev pub stepReadSaid : Width → StepRead → Outcome ℕ
+stepReadSaid w (step.Read kind) = accepted (kindNumber w kind)
+stepReadSaid w (step.Refused r) = told r
+
+-- Document 01, "Causes", of reading. A reading that comes to o: its answer, and each table afterwards. The counted entries are filled and
+-- no others; a refused reading fills nothing.
+pub record MeshReading (o : Outcome MeshCounts) (bs volumes firsts seconds shares reaches : List ℕ) (r : MeshAnswer) (volumes′ firsts′ seconds′ shares′ reaches′ : List ℕ) : Type 0 where
+  pub answer : meshSaid r ≡ o
+  pub volumes-read : volumes′ ≡ taken o (over (volumesIn bs) volumes) volumes
+  pub firsts-read : firsts′ ≡ taken o (over (firstsIn bs) firsts) firsts
+  pub seconds-read : seconds′ ≡ taken o (over (secondsIn bs) seconds) seconds
+  pub shares-read : shares′ ≡ taken o (over (sharesIn bs) shares) shares
+  pub reaches-read : reaches′ ≡ taken o (over (reachesIn bs) reaches) reaches
+
+pub record FieldReading (o : Verdict) (cells : ℕ) (bs masses : List ℕ) (r : Answer) (masses′ : List ℕ) : Type 0 where
+  pub answer : said r ≡ o
+  pub masses-read : masses′ ≡ taken o (over (massesIn bs cells) masses) masses
+
+pub record StepReading (w : Width) (o : Outcome ℕ) (cells faces : ℕ) (seconds bs : List ℕ) (fluxes : List ℤ) (outsides releases : List ℕ)
+    (r : StepRead) (fluxes′ : List ℤ) (outsides′ releases′ : List ℕ) : Type 0 where
+  pub answer : stepReadSaid w r ≡ o
+  pub fluxes-read : fluxes′ ≡ taken o (over (fluxesIn bs faces) fluxes) fluxes
+  pub outsides-read : outsides′ ≡ taken o (over (outsidesIn bs faces seconds) outsides) outsides
+  pub releases-read : releases′ ≡ taken o (over (releasesIn bs cells faces seconds) releases) releases

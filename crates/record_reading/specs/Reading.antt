@@ -1,0 +1,117 @@
+-- Document 01, "Causes", of reading: what reading a record gives, and what it refuses. Document 02, S-6: releases, and the kind of a step.
+use Prim.Native.Nat.{ℕ, _*_}
+use mathlib.Core.Bool.{Bool, not, _&&_}
+use mathlib.Core.List.{List, [], _∷_}
+use lib.ListN.{length}
+use lib.Dec.{eqb}
+use lib.IntN.{ℤ}
+use Rattle.lists.specs.Table.{table}
+use Rattle.signed.specs.Sign.{withSign}
+use Rattle.model.specs.Mesh.{Mesh, meshOf}
+use Rattle.model.specs.Causes.{Outcome, accepted, Verdict, _andThen_, each, long}
+use Rattle.record_sections.specs.Sections.{Section, place, valueIn, columnIn}
+use Rattle.record_heads.specs.Layouts.{valueBits, meshZeroBits, stepZeroBits, meshHeadBits, stepHeadBits, Column, volumeColumn, firstColumn, secondColumn, shareColumn, reachColumn, massColumn, signColumn, sizeColumn, outsideColumn, releaseColumn, meshShape, fieldShape, stepHead, fluxSection, outsideSection, stepShape, meshBits, stepBits, meshLength, fieldLength, stepLength}
+use Rattle.record_heads.specs.Heads.{kindIn, widthIn, cellsIn, facesIn, hasLength, meshHeadVerdict, fieldHeadVerdict, stepHeadVerdict}
+use Rattle.record_zeros.specs.Zeros.{zeroBitGood, minusZero}
+use Rattle.record_heads.specs.declared.Width.{Width}
+use Rattle.record_reading.specs.declared.MeshCounts.{MeshCounts}
+
+-- A step up to its releases: what stands there rests on the width of the kind, and not on the cells.
+abbrev pub waterShape : (kind faces : ℕ) → List ℕ → List Section
+waterShape kind faces seconds = stepHead ∷ fluxSection kind faces ∷ outsideSection faces seconds ∷ []
+
+-- the entries of a column
+abbrev pub columnOf : List ℕ → List Section → Column → List ℕ
+columnOf bs S c = columnIn bs S (c .0) (c .1)
+
+-- Values: reading does not judge them. Each is the number that the bits at its place spell; places count from the record's first bit.
+module _ (bs : List ℕ) where
+  abbrev pub shapeIn : List Section
+  shapeIn = meshShape (kindIn bs) (cellsIn bs) (facesIn bs)
+
+  -- a mesh: section 1 has a row for each cell, section 2 one for each face
+  unfoldable pub volumesIn : List ℕ
+  volumesIn = columnOf bs shapeIn volumeColumn
+
+  unfoldable pub firstsIn : List ℕ
+  firstsIn = columnOf bs shapeIn firstColumn
+
+  unfoldable pub secondsIn : List ℕ
+  secondsIn = columnOf bs shapeIn secondColumn
+
+  unfoldable pub sharesIn : List ℕ
+  sharesIn = columnOf bs shapeIn shareColumn
+
+  unfoldable pub reachesIn : List ℕ
+  reachesIn = columnOf bs shapeIn reachColumn
+
+  abbrev pub countsIn : MeshCounts
+  countsIn = record { cells = cellsIn bs; faces = facesIn bs; width = widthIn bs }
+
+  abbrev pub meshIn : Mesh
+  meshIn = meshOf (cellsIn bs) (facesIn bs) volumesIn firstsIn secondsIn sharesIn reachesIn
+
+  -- a field
+  unfoldable pub massesIn : ℕ → List ℕ
+  massesIn cells = columnOf bs (fieldShape (kindIn bs) cells) massColumn
+
+  -- a step: the sign and the size of each face's U stand before the outside values, and do not rest on the seconds
+  abbrev pub minusIn : ℕ → ℕ → Bool
+  minusIn faces f = eqb (valueIn bs (stepHead ∷ fluxSection (kindIn bs) faces ∷ []) (signColumn .0) (signColumn .1) f) 1
+
+  abbrev pub sizeIn : ℕ → ℕ → ℕ
+  sizeIn faces f = valueIn bs (stepHead ∷ fluxSection (kindIn bs) faces ∷ []) (sizeColumn .0) (sizeColumn .1) f
+
+  unfoldable pub fluxesIn : ℕ → List ℤ
+  fluxesIn faces = table faces (λ f. withSign (minusIn faces f) (sizeIn faces f))
+
+  -- outside values away from the rim read 0: there is no row
+  abbrev pub outsidePlace : ℕ → List ℕ → ℕ → ℕ
+  outsidePlace faces seconds f = place (waterShape (kindIn bs) faces seconds) (outsideColumn .0) (outsideColumn .1) f
+
+  unfoldable pub outsidesIn : ℕ → List ℕ → List ℕ
+  outsidesIn faces seconds = columnOf bs (waterShape (kindIn bs) faces seconds) outsideColumn
+
+  -- S-6: the shape of the kind that the head says; in kind 3 the releases read 0, for they have no bits
+  abbrev pub stepShapeIn : (cells faces : ℕ) → List ℕ → List Section
+  stepShapeIn cells faces seconds = stepShape (kindIn bs) cells faces seconds
+
+  unfoldable pub releasesIn : (cells faces : ℕ) → List ℕ → List ℕ
+  releasesIn cells faces seconds = columnOf bs (stepShapeIn cells faces seconds) releaseColumn
+
+-- Cause 12, by the bit at i: the zero bits, and in a step the minus with size 0.
+unfoldable pub meshBitGood : List ℕ → ℕ → Bool
+meshBitGood bs i = zeroBitGood bs meshZeroBits meshHeadBits (meshBits (kindIn bs) (cellsIn bs) (facesIn bs)) i
+
+unfoldable pub stepBitGood : List ℕ → (cells faces : ℕ) → List ℕ → ℕ → Bool
+stepBitGood bs cells faces seconds i = zeroBitGood bs stepZeroBits stepHeadBits (stepBits (kindIn bs) cells faces seconds) i && not (minusZero bs (valueBits (kindIn bs)) faces i)
+
+-- The order of reading past the head: length 11, then 2, then 12: what a record whose head is fine is refused for, read into tables of so
+-- many entries.
+unfoldable pub meshBodyVerdict : List ℕ → ℕ → ℕ → ℕ → ℕ → ℕ → Verdict
+meshBodyVerdict bs volumes firsts seconds shares reaches = hasLength bs (meshLength (kindIn bs) (cellsIn bs) (facesIn bs))
+    andThen long 0 (cellsIn bs) volumes andThen long 1 (facesIn bs) firsts andThen long 2 (facesIn bs) seconds
+    andThen long 3 (facesIn bs) shares andThen long 4 (facesIn bs) reaches
+    andThen each 12 (8 * length bs) (meshBitGood bs)
+
+unfoldable pub fieldBodyVerdict : ℕ → List ℕ → ℕ → Verdict
+fieldBodyVerdict cells bs masses = hasLength bs (fieldLength (kindIn bs) cells) andThen long 5 cells masses
+
+-- the releases are table 14, in kind 3 too
+unfoldable pub stepBodyVerdict : (cells faces : ℕ) → List ℕ → List ℕ → (fluxes outsides releases : ℕ) → Verdict
+stepBodyVerdict cells faces seconds bs fluxes outsides releases = hasLength bs (stepLength (kindIn bs) cells faces seconds)
+    andThen long 6 faces fluxes andThen long 7 faces outsides andThen long 14 cells releases
+    andThen each 12 (8 * length bs) (stepBitGood bs cells faces seconds)
+
+-- What each reading comes to. Document 02, S-10: the reading of a mesh answers its width too, and those of a field and of a step are told it.
+unfoldable pub meshRead : ℕ → ℕ → List ℕ → ℕ → ℕ → ℕ → ℕ → ℕ → Outcome MeshCounts
+meshRead mostCells mostFaces bs volumes firsts seconds shares reaches =
+    meshHeadVerdict mostCells mostFaces bs andThen meshBodyVerdict bs volumes firsts seconds shares reaches andThen accepted (countsIn bs)
+
+unfoldable pub fieldRead : Width → ℕ → List ℕ → ℕ → Verdict
+fieldRead w cells bs masses = fieldHeadVerdict w cells bs andThen fieldBodyVerdict cells bs masses
+
+-- the reading of a step answers its kind
+unfoldable pub stepRead : Width → (cells faces : ℕ) → List ℕ → List ℕ → (fluxes outsides releases : ℕ) → Outcome ℕ
+stepRead w cells faces seconds bs fluxes outsides releases =
+    stepHeadVerdict w cells faces seconds bs andThen stepBodyVerdict cells faces seconds bs fluxes outsides releases andThen accepted (kindIn bs)

@@ -1,0 +1,273 @@
+-- What a mesh record comes to, from what the calls that `take_mesh` and `keep` make promise. What is read has tables as long as its counts,
+-- within the run's limits; so of the verdict on it only the values are left.
+use Prim.Native.Nat.{ℕ, _*_, _^_, _≤_, _<_, min}
+use mathlib.Core.Path.{_≡_, refl, sym, ap, _∙_}
+use mathlib.Core.List.{List, [], _∷_}
+use native.Mathlib.Nat.{le-trans, le-refl}
+use native.Mathlib.Omega.{arith}
+use borrow.Author.Tests.{leb-true, le-leb}
+use lib.Dec.{leb}
+use lib.ListN.{length, take}
+use Rattle.lists.specs.Table.{over}
+use Rattle.lists.proofs.Tests.{both-true, true-both}
+use Rattle.lists.proofs.Tables.{length-table, getD-table}
+use Rattle.model.specs.Mesh.{Mesh, meshOf, runCells, runFaces, maxCells, maxFaces, ceiling, oldCeiling}
+use Rattle.model.specs.Causes.{accepted, refused, Verdict, fine, _andThen_, each, long, countsWithin, counts, meshTables, meshValues, meshVerdict}
+use Rattle.model.specs.Ceilings.{MeshSmall}
+use Rattle.model.specs.Answers.{number}
+use Rattle.model.specs.declared.Refusal.{Refusal}
+use Rattle.model.proofs.Verdicts.{AllFine, all-fine, fine-all, refused-at, both-fine, past, out, refused-of, accepted-of, need-fine, need-met, long-fine}
+use Rattle.model.proofs.Accepted.{mesh-lent}
+use Rattle.record_bits.proofs.Fields.{bits-lt}
+use Rattle.record_sections.specs.Sections.{place, entryIn}
+use Rattle.record_heads.specs.Layouts.{widthOf, valueOf, valueBits, meshShape, meshHeadBits, meshLength}
+use Rattle.record_heads.specs.Heads.{kindIn, widthIn, cellsIn, facesIn, hasHead, hasLength, hasMeshKind, meshHeadVerdict}
+use Rattle.record_heads.specs.declared.Width.{Width}
+use Rattle.record_heads.specs.declared.Width.the-variants.{Narrow}
+use Rattle.record_reading.specs.Reading.{volumesIn, firstsIn, secondsIn, sharesIn, reachesIn, countsIn, meshIn, meshBitGood, meshBodyVerdict, meshRead}
+use Rattle.record_reading.specs.Answers.{meshSaid, MeshReading}
+use Rattle.record_reading.specs.declared.MeshAnswer.{MeshAnswer}
+use Rattle.record_reading.specs.declared.MeshAnswer.the-variants as mesh-answer
+use Rattle.record_reading.specs.declared.MeshCounts.{MeshCounts}
+use Rattle.taking_mesh.specs.MeshTaking.{meshRecordFound, meshJudged, MeshKept, MeshTaking}
+use Rattle.taking_mesh.specs.Inner.{MeshCut, keptFound}
+use Rattle.model.proofs.Parts.{PartRead, read-part, long-met}
+
+-- a mesh of which v is found: refused, and accepted
+pub kept-refused : {v : Verdict} (w : Width) (M : Mesh) (volumes firsts seconds shares reaches : List ℕ) (a : MeshAnswer) (k i : ℕ) → v ≡ refused k i → meshSaid a ≡ refused k i
+    → MeshKept v w M volumes firsts seconds shares reaches a volumes firsts seconds shares reaches
+kept-refused w M volumes firsts seconds shares reaches a k i e s =
+    record { answer = s ∙ sym (out _ e); volumes-after = rw e; firsts-after = rw e; seconds-after = rw e; shares-after = rw e; reaches-after = rw e }
+
+pub kept-accepted : {v : Verdict} (w : Width) (M : Mesh) (volumes firsts seconds shares reaches volumes′ firsts′ seconds′ shares′ reaches′ : List ℕ) → v ≡ fine
+    → volumes′ ≡ over (M .volumes) volumes → firsts′ ≡ over (M .firsts) firsts → seconds′ ≡ over (M .seconds) seconds → shares′ ≡ over (M .shares) shares → reaches′ ≡ over (M .reaches) reaches
+    → MeshKept v w M volumes firsts seconds shares reaches (mesh-answer.Read (record { cells = M .cells; faces = M .faces; width = w })) volumes′ firsts′ seconds′ shares′ reaches′
+kept-accepted w M volumes firsts seconds shares reaches volumes′ firsts′ seconds′ shares′ reaches′ e a b c d f =
+    record { answer = sym (past _ e); volumes-after = rw e a; firsts-after = rw e b; seconds-after = rw e c; shares-after = rw e d; reaches-after = rw e f }
+
+-- the lent tables hold a mesh of which nothing is found
+pub record Room (M : Mesh) (volumes firsts seconds shares reaches : List ℕ) : Type 0 where
+  pub volumes-room : length (M .volumes) ≤ length volumes
+  pub firsts-room : length (M .firsts) ≤ length firsts
+  pub seconds-room : length (M .seconds) ≤ length seconds
+  pub shares-room : length (M .shares) ≤ length shares
+  pub reaches-room : length (M .reaches) ≤ length reaches
+
+pub room : (M : Mesh) (volumes firsts seconds shares reaches : List ℕ) → MeshCut M → keptFound (meshOf (M .cells) (M .faces) volumes firsts seconds shares reaches) M ≡ fine
+    → Room M volumes firsts seconds shares reaches
+room M volumes firsts seconds shares reaches c e =
+    let l = mesh-lent (meshOf (M .cells) (M .faces) volumes firsts seconds shares reaches) (both-fine _ _ e .0) in record {
+      volumes-room = omega (arith, c .volumes-cut, l .volumes-long);
+      firsts-room = omega (arith, c .firsts-cut, l .firsts-long);
+      seconds-room = omega (arith, c .seconds-cut, l .seconds-long);
+      shares-room = omega (arith, c .shares-cut, l .shares-long);
+      reaches-room = omega (arith, c .reaches-cut, l .reaches-long);
+    }
+
+-- a record that reading accepts
+pub record Limits (bs : List ℕ) : Type 0 where
+  pub some-cells : 1 ≤ cellsIn bs
+  pub few-cells : cellsIn bs ≤ runCells
+  pub few-faces : facesIn bs ≤ runFaces
+
+pub mesh-cut : (bs : List ℕ) → MeshCut (meshIn bs)
+unfolding volumesIn firstsIn secondsIn sharesIn reachesIn
+mesh-cut bs = record { volumes-cut = length-table _ _; firsts-cut = length-table _ _; seconds-cut = length-table _ _; shares-cut = length-table _ _; reaches-cut = length-table _ _ }
+
+-- V and K of 12 bits are within the old ceilings
+value-narrow : (kind : ℕ) → widthOf kind ≡ Narrow → valueBits kind ≡ valueOf Narrow
+unfolding valueBits
+value-narrow kind e = ap valueOf e
+
+pub mesh-small : (bs : List ℕ) → widthIn bs ≡ Narrow → MeshSmall (meshIn bs)
+unfolding volumesIn reachesIn
+mesh-small bs e = record {
+  small-volumes = λ c h. rw (getD-table (cellsIn bs) (entryIn bs (meshShape (kindIn bs) (cellsIn bs) (facesIn bs)) 1 0) 0 c h)
+      (narrow (bits-lt bs (place (meshShape (kindIn bs) (cellsIn bs) (facesIn bs)) 1 0 c) (valueBits (kindIn bs))));
+  small-reaches = λ f l. rw (getD-table (facesIn bs) (entryIn bs (meshShape (kindIn bs) (cellsIn bs) (facesIn bs)) 2 3) 0 f l)
+      (narrow (bits-lt bs (place (meshShape (kindIn bs) (cellsIn bs) (facesIn bs)) 2 3 f) (valueBits (kindIn bs))));
+}
+  where
+    narrow : {v : ℕ} → v < 2 ^ valueBits (kindIn bs) → v ≤ oldCeiling
+    narrow {v} l = let k : v < 2 ^ valueOf Narrow = rw (value-narrow (kindIn bs) e) at l in omega arith
+
+module _ (bs : List ℕ) (e : meshRecordFound bs ≡ fine) where
+  pub limits : Limits bs
+  unfolding meshRecordFound meshHeadVerdict countsWithin
+  limits =
+      let n = both-fine _ _ (both-fine _ _ (both-fine _ _ e .0) .1) in
+      let c = both-true (leb 1 (cellsIn bs)) (leb (cellsIn bs) runCells) (need-fine 1 0 _ (n .0)) in
+      record { some-cells = leb-true _ _ (c .0); few-cells = leb-true _ _ (c .1); few-faces = leb-true _ _ (need-fine 1 1 _ (n .1)) }
+
+  counts-pass : countsWithin maxCells maxFaces (cellsIn bs) (facesIn bs) ≡ fine
+  unfolding countsWithin _andThen_
+  counts-pass =
+      let m = limits in
+      rw (
+        need-met 1 0 (true-both (le-leb 1 (cellsIn bs) (m .some-cells)) (le-leb (cellsIn bs) maxCells (omega (arith, m .few-cells)))),
+        need-met 1 1 (le-leb (facesIn bs) maxFaces (omega (arith, m .few-faces))),
+      )
+
+  tables-pass : meshTables (meshIn bs) ≡ fine
+  unfolding meshTables _andThen_
+  tables-pass = let c = mesh-cut bs in rw (
+    need-met 2 0 (le-leb (cellsIn bs) (length (volumesIn bs)) (omega (arith, c .volumes-cut))),
+    need-met 2 1 (le-leb (facesIn bs) (length (firstsIn bs)) (omega (arith, c .firsts-cut))),
+    need-met 2 2 (le-leb (facesIn bs) (length (secondsIn bs)) (omega (arith, c .seconds-cut))),
+    need-met 2 3 (le-leb (facesIn bs) (length (sharesIn bs)) (omega (arith, c .shares-cut))),
+    need-met 2 4 (le-leb (facesIn bs) (length (reachesIn bs)) (omega (arith, c .reaches-cut))),
+  )
+
+  pub values-left : meshVerdict (meshIn bs) ≡ meshValues ceiling (meshIn bs)
+  unfolding meshVerdict counts _andThen_
+  values-left = rw (counts-pass, tables-pass)
+
+  found-is : (volumes firsts seconds shares reaches : List ℕ)
+      → keptFound (meshOf (cellsIn bs) (facesIn bs) volumes firsts seconds shares reaches) (meshIn bs) ≡ meshJudged bs (length volumes) (length firsts) (length seconds)
+      (length shares) (length reaches)
+  unfolding meshJudged meshTables _andThen_
+  found-is volumes firsts seconds shares reaches = rw (values-left, e)
+
+-- the tables read into, and the mesh of their parts
+pub record MeshIsRead (bs : List ℕ) (n : MeshCounts) (volumes′ firsts′ seconds′ shares′ reaches′ : List ℕ) : Type 0 where
+  pub passed : meshRecordFound bs ≡ fine
+  pub counts-are : n ≡ countsIn bs
+  pub volumes-part : PartRead (n .cells) (volumesIn bs) volumes′
+  pub firsts-part : PartRead (n .faces) (firstsIn bs) firsts′
+  pub seconds-part : PartRead (n .faces) (secondsIn bs) seconds′
+  pub shares-part : PartRead (n .faces) (sharesIn bs) shares′
+  pub reaches-part : PartRead (n .faces) (reachesIn bs) reaches′
+
+-- the tables read into are as long as the run's limits
+module _ {bs volumes firsts seconds shares reaches : List ℕ} {a : MeshAnswer} {volumes′ firsts′ seconds′ shares′ reaches′ : List ℕ}
+    (s : MeshReading (meshRead runCells runFaces bs (length volumes) (length firsts) (length seconds) (length shares) (length reaches))
+    bs volumes firsts seconds shares reaches a volumes′ firsts′ seconds′ shares′ reaches′)
+    (lv : length volumes ≡ runCells) (lf : length firsts ≡ runFaces) (ls : length seconds ≡ runFaces) (lw : length shares ≡ runFaces) (lk : length reaches ≡ runFaces) where
+  read-said : meshSaid a ≡ (meshRecordFound bs andThen accepted (countsIn bs))
+  unfolding meshRead meshRecordFound
+  read-said = rw (lv, lf, ls, lw, lk) at (s .answer)
+
+  pub mesh-unread : {r : Refusal} → a ≡ mesh-answer.Refused r → (v f s w k : List ℕ) → MeshTaking bs v f s w k a v f s w k
+  unfolding meshJudged
+  mesh-unread {r = r} d v f s w k =
+      kept-refused (widthIn bs) (meshIn bs) v f s w k a _ _ (refused-at [] (_ ∷ _ ∷ []) tt (refused-of (meshRecordFound bs) (countsIn bs) (number (r .cause)) (r .place) (sym (ap meshSaid d) ∙ read-said))) (ap meshSaid d)
+
+-- the causes of a mesh record in their order: of its head, and past it
+abbrev headCauses : (mostCells mostFaces : ℕ) → List ℕ → List Verdict
+headCauses mostCells mostFaces bs =
+    hasHead bs meshHeadBits ∷ hasMeshKind bs ∷ countsWithin (min mostCells maxCells) (min mostFaces maxFaces) (cellsIn bs) (facesIn bs) ∷ []
+
+abbrev bodyCauses : List ℕ → (volumes firsts seconds shares reaches : ℕ) → List Verdict
+bodyCauses bs volumes firsts seconds shares reaches =
+    hasLength bs (meshLength (kindIn bs) (cellsIn bs) (facesIn bs))
+    ∷ long 0 (cellsIn bs) volumes
+    ∷ long 1 (facesIn bs) firsts
+    ∷ long 2 (facesIn bs) seconds
+    ∷ long 3 (facesIn bs) shares
+    ∷ long 4 (facesIn bs) reaches
+    ∷ each 12 (8 * length bs) (meshBitGood bs)
+    ∷ []
+
+-- a mesh that is read within limits and into tables that may be less than the run's
+module _ (mostCells mostFaces : ℕ) {bs volumes firsts seconds shares reaches : List ℕ} {a : MeshAnswer} {volumes′ firsts′ seconds′ shares′ reaches′ : List ℕ}
+    (s : MeshReading (meshRead mostCells mostFaces bs (length volumes) (length firsts) (length seconds) (length shares) (length reaches))
+    bs volumes firsts seconds shares reaches a volumes′ firsts′ seconds′ shares′ reaches′)
+    (cells : min mostCells maxCells ≤ runCells) (faces : min mostFaces maxFaces ≤ runFaces) {n : MeshCounts} (d : a ≡ mesh-answer.Read n) where
+  read-fine : ((meshHeadVerdict mostCells mostFaces bs andThen meshBodyVerdict bs (length volumes) (length firsts) (length seconds) (length shares)
+      (length reaches)) ≡ fine)
+      × (n ≡ countsIn bs)
+  unfolding meshRead
+  read-fine = accepted-of _ (countsIn bs) n (sym (ap meshSaid d) ∙ s .answer)
+
+  head-fine : AllFine (headCauses mostCells mostFaces bs)
+  unfolding meshHeadVerdict
+  head-fine = all-fine (headCauses mostCells mostFaces bs) (both-fine _ _ (read-fine .0) .0)
+
+  body-fine : AllFine (bodyCauses bs (length volumes) (length firsts) (length seconds) (length shares) (length reaches))
+  unfolding meshBodyVerdict
+  body-fine = all-fine (bodyCauses bs (length volumes) (length firsts) (length seconds) (length shares) (length reaches)) (both-fine _ _ (read-fine .0) .1)
+
+  within : (1 ≤ cellsIn bs) × (cellsIn bs ≤ runCells) × (facesIn bs ≤ runFaces)
+  unfolding countsWithin
+  within =
+      let k = both-fine _ _ (head-fine .1 .1 .0) in
+      let c = both-true (leb 1 (cellsIn bs)) (leb (cellsIn bs) (min mostCells maxCells)) (need-fine 1 0 _ (k .0)) in
+      (leb-true _ _ (c .0), le-trans (leb-true _ _ (c .1)) cells, le-trans (leb-true _ _ (need-fine 1 1 _ (k .1))) faces)
+
+  run-head : meshHeadVerdict runCells runFaces bs ≡ fine
+  unfolding meshHeadVerdict countsWithin
+  run-head =
+      let c = need-met 1 0 (true-both (le-leb 1 (cellsIn bs) (within .0)) (le-leb (cellsIn bs) runCells (within .1))) in
+      fine-all (headCauses runCells runFaces bs)
+      (head-fine .0, (head-fine .1 .0, (past _ c ∙ need-met 1 1 (le-leb (facesIn bs) runFaces (within .2)), tt)))
+
+  run-body : meshBodyVerdict bs runCells runFaces runFaces runFaces runFaces ≡ fine
+  unfolding meshBodyVerdict
+  run-body = fine-all (bodyCauses bs runCells runFaces runFaces runFaces runFaces) (
+    body-fine .0,
+    (
+      long-met 0 _ _ (within .1),
+      (
+        long-met 1 _ _ (within .2),
+        (
+          long-met 2 _ _ (within .2),
+          (
+            long-met 3 _ _ (within .2),
+            (
+              long-met 4 _ _
+                  (within .2),
+              (body-fine .1 .1 .1 .1 .1 .1 .0, tt),
+            ),
+          ),
+        ),
+      ),
+    ),
+  )
+
+  found : meshRecordFound bs ≡ fine
+  unfolding meshRecordFound
+  found = past _ run-head ∙ run-body
+
+  pub read-within : MeshIsRead bs n volumes′ firsts′ seconds′ shares′ reaches′
+  unfolding volumesIn firstsIn secondsIn sharesIn reachesIn
+  read-within =
+      let o = sym (s .answer) ∙ ap meshSaid d in
+      let l = body-fine .1 in
+      rw (read-fine .1) (record {
+        passed = found;
+        counts-are = refl;
+        volumes-part = read-part (cellsIn bs) _ volumes volumes′ o (long-fine 0 _ _ (l .0)) (s .volumes-read);
+        firsts-part = read-part (facesIn bs) _ firsts firsts′ o (long-fine 1 _ _ (l .1 .0)) (s .firsts-read);
+        seconds-part = read-part (facesIn bs) _ seconds seconds′ o (long-fine 2 _ _ (l .1 .1 .0)) (s .seconds-read);
+        shares-part = read-part (facesIn bs) _ shares shares′ o (long-fine 3 _ _ (l .1 .1 .1 .0)) (s .shares-read);
+        reaches-part = read-part (facesIn bs) _ reaches reaches′ o (long-fine 4 _ _ (l .1 .1 .1 .1 .0)) (s .reaches-read);
+      })
+
+-- within those of the run
+pub mesh-read : {bs volumes firsts seconds shares reaches : List ℕ} {a : MeshAnswer} {volumes′ firsts′ seconds′ shares′ reaches′ : List ℕ}
+    → MeshReading (meshRead runCells runFaces bs (length volumes) (length firsts) (length seconds) (length shares) (length reaches))
+    bs volumes firsts seconds shares reaches a volumes′ firsts′ seconds′ shares′ reaches′
+    → {n : MeshCounts} → a ≡ mesh-answer.Read n → MeshIsRead bs n volumes′ firsts′ seconds′ shares′ reaches′
+mesh-read s d = read-within runCells runFaces s (le-refl runCells) (le-refl runFaces) d
+
+module _ {bs : List ℕ} {n : MeshCounts} {volumes′ firsts′ seconds′ shares′ reaches′ : List ℕ} (m : MeshIsRead bs n volumes′ firsts′ seconds′ shares′ reaches′) where
+  abbrev R : Mesh
+  R = meshOf (n .cells) (n .faces) (take (n .cells) volumes′) (take (n .faces) firsts′) (take (n .faces) seconds′) (take (n .faces) shares′) (take (n .faces) reaches′)
+
+  pub same : R ≡ meshIn bs
+  same =
+      let q : R ≡ meshOf (n .cells) (n .faces) (volumesIn bs) (firstsIn bs) (secondsIn bs) (sharesIn bs) (reachesIn bs) = rw
+      (m .volumes-part .part, m .firsts-part .part, m .seconds-part .part, m .shares-part .part, m .reaches-part .part) in
+      q ∙ rw (m .counts-are)
+
+  pub keep-asks : MeshCut R
+  keep-asks = rw same (mesh-cut bs)
+
+  pub mesh-done : {volumes firsts seconds shares reaches : List ℕ} {r : MeshAnswer} {v f s w k : List ℕ}
+      → MeshKept (keptFound (meshOf (n .cells) (n .faces) volumes firsts seconds shares reaches) R) (n .width) R volumes firsts seconds shares reaches r v f s w k
+      → MeshTaking bs volumes firsts seconds shares reaches r v f s w k
+  mesh-done {volumes = volumes} {firsts = firsts} {seconds = seconds} {shares = shares} {reaches = reaches} {r = r} {v = v} {f = f} {s = s} {w = w} {k = k} t =
+      let x : MeshKept (keptFound (meshOf (n .cells) (n .faces) volumes firsts seconds shares reaches) (meshIn bs)) (n .width) (meshIn bs) volumes firsts seconds shares reaches r v f s w k = rw same at t in
+      let y : MeshKept (keptFound (meshOf (cellsIn bs) (facesIn bs) volumes firsts seconds shares reaches) (meshIn bs)) (widthIn bs) (meshIn bs) volumes firsts seconds shares reaches
+      r v f s w k = rw (m .counts-are) at x in
+      rw (found-is bs (m .passed) volumes firsts seconds shares reaches) at y

@@ -1,0 +1,44 @@
+-- Document 01, "The board and the run": what a mesh record comes to. It is read, then judged by the causes of its values. A refusal
+-- leaves every lent table as it was. Document 02, S-10: the answer says the width, which is that of the records after it.
+use Prim.Native.Nat.{ℕ}
+use mathlib.Core.Path.{_≡_}
+use mathlib.Core.List.{List}
+use lib.ListN.{length}
+use Rattle.lists.specs.Table.{over}
+use Rattle.model.specs.Mesh.{Mesh, runCells, runFaces, ceiling}
+use Rattle.model.specs.Causes.{accepted, Verdict, _andThen_, taken, long, meshValues}
+use Rattle.record_heads.specs.Heads.{widthIn, cellsIn, facesIn, meshHeadVerdict}
+use Rattle.record_heads.specs.declared.Width.{Width}
+use Rattle.record_reading.specs.Reading.{meshIn, meshBodyVerdict}
+use Rattle.record_reading.specs.Answers.{meshSaid}
+use Rattle.record_reading.specs.declared.MeshAnswer.{MeshAnswer}
+
+-- "The board and the run", limits: 1,023 cells and 2,046 faces; of a larger mesh cause 1 is found. It is read into tables of the
+-- call's own, as long as these limits.
+unfoldable pub meshRecordFound : List ℕ → Verdict
+meshRecordFound bs = meshHeadVerdict runCells runFaces bs andThen meshBodyVerdict bs runCells runFaces runFaces runFaces runFaces
+
+-- "Causes", 2: the lent tables, of so many entries, have to hold it. Then 3 to 5.
+unfoldable pub meshJudged : List ℕ → ℕ → ℕ → ℕ → ℕ → ℕ → Verdict
+meshJudged bs volumes firsts seconds shares reaches = meshRecordFound bs
+    andThen (long 0 (cellsIn bs) volumes andThen long 1 (facesIn bs) firsts andThen long 2 (facesIn bs) seconds andThen long 3 (facesIn bs) shares
+    andThen long 4 (facesIn bs) reaches)
+    andThen meshValues ceiling (meshIn bs)
+
+-- The run and the host lend tables as long as the limits.
+abbrev pub meshJudgedInRun : List ℕ → Verdict
+meshJudgedInRun bs = meshJudged bs runCells runFaces runFaces runFaces runFaces
+
+-- A mesh of which v is found, in a record of this width: the answer, and each lent table. The counted entries are filled where it is accepted; no other entry is, and
+-- after a refusal none.
+pub record MeshKept (v : Verdict) (w : Width) (M : Mesh) (volumes firsts seconds shares reaches : List ℕ) (r : MeshAnswer) (volumes′ firsts′ seconds′ shares′ reaches′ : List ℕ) : Type 0 where
+  pub answer : meshSaid r ≡ (v andThen accepted (record { cells = M .cells; faces = M .faces; width = w }))
+  pub volumes-after : volumes′ ≡ taken v (over (M .volumes) volumes) volumes
+  pub firsts-after : firsts′ ≡ taken v (over (M .firsts) firsts) firsts
+  pub seconds-after : seconds′ ≡ taken v (over (M .seconds) seconds) seconds
+  pub shares-after : shares′ ≡ taken v (over (M .shares) shares) shares
+  pub reaches-after : reaches′ ≡ taken v (over (M .reaches) reaches) reaches
+
+abbrev pub MeshTaking : List ℕ → List ℕ → List ℕ → List ℕ → List ℕ → List ℕ → MeshAnswer → List ℕ → List ℕ → List ℕ → List ℕ → List ℕ → Type 0
+MeshTaking bs volumes firsts seconds shares reaches =
+    MeshKept (meshJudged bs (length volumes) (length firsts) (length seconds) (length shares) (length reaches)) (widthIn bs) (meshIn bs) volumes firsts seconds shares reaches
