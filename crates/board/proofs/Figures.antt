@@ -24,7 +24,8 @@ unfolding everything
 nine-cells = refl
 
 -- S-2: equal q on equal volumes, rests 3, 9 and 5 of V 10
-pub larger-rest : boardEntries (10 ∷ 10 ∷ 10 ∷ []) (43 ∷ 49 ∷ 45 ∷ []) 3 ≡ entry 1 4 9 ∷ entry 2 4 5 ∷ entry 0 4 3 ∷ unused ∷ unused ∷ unused ∷ unused ∷ unused ∷ []
+pub larger-rest : boardEntries (10 ∷ 10 ∷ 10 ∷ []) (43 ∷ 49 ∷ 45 ∷ []) 3 ≡ entry 1 4 9 ∷ entry 2 4 5 ∷ entry 0 4 3 ∷ unused ∷ unused ∷ unused ∷ unused ∷ unused
+    ∷ []
 unfolding everything
 larger-rest = refl
 

@@ -83,7 +83,8 @@ module _ (volumes masses : List ℕ) where
         record {
           within = omega arith;
           counted = omega (arith, t .0, r .counted, more);
-          ranked = cells-more comesBefore (rankedAt volumes masses) visible boardSize c (replicate boardSize unranked) ranks ranks′ (sym v) (r .counted) (r .ranked)
+          ranked = cells-more comesBefore (rankedAt volumes masses) visible boardSize c (replicate boardSize unranked) ranks ranks′ (sym v) (r .counted)
+              (r .ranked)
               (t .1 ∙ ap (λ (x : Ranked). over (take boardSize (insertInOrder comesBefore x (take used ranks))) ranks) i);
         }
     one-more {cells} {c} {used} {used′} {ranks} {ranks′} r h i false v k =
@@ -168,7 +169,8 @@ module _ (volumes masses : List ℕ) where
 
     -- what a board answers after a verdict, accepted and refused
     module _ (n : ℕ) (r : BoardAnswer) where
-      pub accepted-board : {v : Answer} → v ≡ Done → r .verdict ≡ v → r .used ≡ min boardSize (count n visible) → r .entries ≡ entriesOf volumes masses visible n
+      pub accepted-board : {v : Answer} → v ≡ Done → r .verdict ≡ v → r .used ≡ min boardSize (count n visible) → r .entries
+          ≡ entriesOf volumes masses visible n
           → BoardAfter (said v) volumes masses visible n r
       accepted-board d v u e = rw d (record { verdict-is = ap said v ∙ ap said d; used-is = u; entries-are = e })
 
@@ -207,5 +209,6 @@ module _ (volumes masses : List ℕ) where
         → cellBefore volumes masses (getD (listed volumes masses n) i 0) (getD (listed volumes masses n) j 0) ≡ true
     call-ordered = listed-ordered everyCell n volumes-some
 
-    pub call-highest : {c d : ℕ} → c < n → (List·Memᴰ c (listed volumes masses n) → ⊥) → List·Memᴰ d (listed volumes masses n) → cellBefore volumes masses d c ≡ true
+    pub call-highest : {c d : ℕ} → c < n → (List·Memᴰ c (listed volumes masses n) → ⊥) → List·Memᴰ d (listed volumes masses n) → cellBefore volumes masses d c
+        ≡ true
     call-highest h = unlisted-after everyCell n volumes-some h refl

@@ -27,7 +27,12 @@ by-rest a b e n =
 pub by-cell : (a b : Ranked) → a .q ≡ b .q → a .rest * b .volume ≡ b .rest * a .volume → ltb (a .cell) (b .cell) ≡ comesBefore a b
 unfolding comesBefore fuller asFull
 by-cell a b e d =
-    rw (le-ltb (b .q) (a .q) (omega arith), eq-eqb (a .q) (b .q) e, le-ltb (b .rest * a .volume) (a .rest * b .volume) (omega arith), eq-eqb (a .rest * b .volume) (b .rest * a .volume) d)
+    rw (
+      le-ltb (b .q) (a .q) (omega arith),
+      eq-eqb (a .q) (b .q) e,
+      le-ltb (b .rest * a .volume) (a .rest * b .volume) (omega arith),
+      eq-eqb (a .rest * b .volume) (b .rest * a .volume) d,
+    )
 
 -- a comes before b: by q, by rest / V, by the number of its cell
 pub data First (a b : Ranked) : Type 0 where
@@ -37,9 +42,11 @@ pub data First (a b : Ranked) : Type 0 where
 
 pub first-of : (a b : Ranked) → comesBefore a b ≡ true → First a b
 unfolding comesBefore fuller asFull
-first-of a b h = go (ltb (b .q) (a .q)) (eqb (a .q) (b .q)) (ltb (b .rest * a .volume) (a .rest * b .volume)) (eqb (a .rest * b .volume) (b .rest * a .volume)) refl refl refl refl h
+first-of a b h = go (ltb (b .q) (a .q)) (eqb (a .q) (b .q)) (ltb (b .rest * a .volume) (a .rest * b .volume)) (eqb (a .rest * b .volume) (b .rest * a .volume))
+    refl refl refl refl h
   where
-    go : (s t u v : Bool) → ltb (b .q) (a .q) ≡ s → eqb (a .q) (b .q) ≡ t → ltb (b .rest * a .volume) (a .rest * b .volume) ≡ u → eqb (a .rest * b .volume) (b .rest * a .volume) ≡ v
+    go : (s t u v : Bool) → ltb (b .q) (a .q) ≡ s → eqb (a .q) (b .q) ≡ t → ltb (b .rest * a .volume) (a .rest * b .volume) ≡ u
+        → eqb (a .rest * b .volume) (b .rest * a .volume) ≡ v
         → (s || (t && (u || (v && ltb (a .cell) (b .cell))))) ≡ true → First a b
     go true t u v d e i j h = higher (ltb-true (b .q) (a .q) d)
     go false true true v d e i j h = larger (eqb-true (a .q) (b .q) e) (ltb-true (b .rest * a .volume) (a .rest * b .volume) i)

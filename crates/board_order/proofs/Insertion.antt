@@ -27,7 +27,8 @@ module _ {A : Type 0} (order : A → A → Bool) where
   length-insert x [] = refl
   length-insert x (y ∷ ys) = go (order x y) (length-insert x ys)
     where
-      go : (b : Bool) → length (insertInOrder order x ys) ≡ suc (length ys) → length (cond b (x ∷ y ∷ ys) (y ∷ insertInOrder order x ys)) ≡ suc (suc (length ys))
+      go : (b : Bool) → length (insertInOrder order x ys) ≡ suc (length ys) → length (cond b (x ∷ y ∷ ys) (y ∷ insertInOrder order x ys))
+          ≡ suc (suc (length ys))
       go true ih = refl
       go false ih = ap suc ih
 
@@ -39,7 +40,8 @@ module _ {A : Type 0} (order : A → A → Bool) where
   take-insert (suc m) x (y ∷ ys) = go (order x y) (take-insert m x ys)
     where
       go : (b : Bool) → take m (insertInOrder order x (take m ys)) ≡ take m (insertInOrder order x ys)
-          → take (suc m) (cond b (x ∷ y ∷ take m ys) (y ∷ insertInOrder order x (take m ys))) ≡ take (suc m) (cond b (x ∷ y ∷ ys) (y ∷ insertInOrder order x ys))
+          → take (suc m) (cond b (x ∷ y ∷ take m ys) (y ∷ insertInOrder order x (take m ys)))
+          ≡ take (suc m) (cond b (x ∷ y ∷ ys) (y ∷ insertInOrder order x ys))
       go true ih = ap (λ t. x ∷ t) (take-cons m y ys)
       go false ih = ap (λ t. y ∷ t) ih
 
@@ -49,7 +51,8 @@ module _ {A : Type 0} (order : A → A → Bool) where
   map-insert f x (y ∷ ys) = go (order (f x) (f y)) (map-insert f x ys)
     where
       go : (b : Bool) → map f (insertInOrder (λ a b. order (f a) (f b)) x ys) ≡ insertInOrder order (f x) (map f ys)
-          → map f (cond b (x ∷ y ∷ ys) (y ∷ insertInOrder (λ a b. order (f a) (f b)) x ys)) ≡ cond b (f x ∷ f y ∷ map f ys) (f y ∷ insertInOrder order (f x) (map f ys))
+          → map f (cond b (x ∷ y ∷ ys) (y ∷ insertInOrder (λ a b. order (f a) (f b)) x ys))
+          ≡ cond b (f x ∷ f y ∷ map f ys) (f y ∷ insertInOrder order (f x) (map f ys))
       go true ih = refl
       go false ih = ap (λ t. f y ∷ t) ih
 
@@ -127,7 +130,8 @@ module _ {A : Type 0} (m u : ℕ) (t es es₀ : List A) (x : A) (n : length es �
       let lu : length (take u es) ≡ u = length-take-le u es (omega arith) in
       let lt : length t ≡ u + 1 = rw e (length-append (take u es) (x ∷ []) ∙ omega arith) in
       let w : take m t ≡ t = take-all m t (omega arith) in
-      let d : drop (suc u) es ≡ drop (u + 1) es₀ = ap (λ (j : ℕ). drop j es) (sym (add-one u)) ∙ sym (drop-drop 1 u es) ∙ ap (drop 1) same ∙ drop-drop 1 u es₀ in
+      let d : drop (suc u) es ≡ drop (u + 1) es₀ = ap (λ (j : ℕ). drop j es) (sym (add-one u)) ∙ sym (drop-drop 1 u es) ∙ ap (drop 1) same ∙ drop-drop 1 u es₀
+      in
       rw (set-split es u x (omega arith), d, w, lt, e) (sym (append-snoc (take u es) x (drop (u + 1) es₀)))
 
   pub no-room : u ≤ m → m ≤ u → es ≡ over (take m t) es₀
@@ -144,7 +148,8 @@ unfolding over
 over-over xs ys zs l =
     let j : ℕ = length xs - length ys in
     let q : length ys + j ≡ length xs = omega arith in
-    let d : drop (length ys + j) (ys ++ drop (length ys) zs) ≡ drop (length ys + j) zs = drop-append-add ys (drop (length ys) zs) j ∙ drop-drop j (length ys) zs in
+    let d : drop (length ys + j) (ys ++ drop (length ys) zs) ≡ drop (length ys + j) zs = drop-append-add ys (drop (length ys) zs) j ∙ drop-drop j (length ys) zs
+    in
     ap (λ s. xs ++ s) (rw q at d)
 
 pub length-inOrder : (visible : ℕ → Bool) (order : ℕ → ℕ → Bool) (n : ℕ) → length (inOrder visible order n) ≡ count n visible
@@ -211,7 +216,8 @@ module _ {A : Type 0} (order : A → A → Bool) (f : ℕ → A) (visible : ℕ 
       of-g a b = order (g a) (g b)
 
       go : (b : Bool) → visible n ≡ b → map f (inOrder visible by n) ≡ map g (inOrder visible of-g n)
-          → map f (cond b (insertInOrder by n (inOrder visible by n)) (inOrder visible by n)) ≡ map g (cond b (insertInOrder of-g n (inOrder visible of-g n)) (inOrder visible of-g n))
+          → map f (cond b (insertInOrder by n (inOrder visible by n)) (inOrder visible by n))
+          ≡ map g (cond b (insertInOrder of-g n (inOrder visible of-g n)) (inOrder visible of-g n))
       go true v ih =
           map-insert order f n (inOrder visible by n) ∙ rw (ih, h n (omega arith) v) refl ∙ sym (map-insert order g n (inOrder visible of-g n))
       go false v ih = ih

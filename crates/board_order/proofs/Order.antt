@@ -49,7 +49,8 @@ module _ (order : ℕ → ℕ → Bool) where
   mem-insert c [] h = List·Memᴰ·cases-cons h
   mem-insert {d} c (x ∷ l) h = go (order c x) (mem-insert c l) h
     where
-      go : (b : Bool) → (List·Memᴰ d (insertInOrder order c l) → (d ≡ c) ⊎ List·Memᴰ d l) → List·Memᴰ d (cond b (c ∷ x ∷ l) (x ∷ insertInOrder order c l)) → (d ≡ c) ⊎ List·Memᴰ d (x ∷ l)
+      go : (b : Bool) → (List·Memᴰ d (insertInOrder order c l) → (d ≡ c) ⊎ List·Memᴰ d l) → List·Memᴰ d (cond b (c ∷ x ∷ l) (x ∷ insertInOrder order c l))
+          → (d ≡ c) ⊎ List·Memᴰ d (x ∷ l)
       go true ih h = List·Memᴰ·cases-cons h
       go false ih h = ⊎-elim (λ e. inr (List·Memᴰ·head e)) (λ t. ⊎-elim (λ e. inl e) (λ t. inr (List·Memᴰ·tail t)) (ih t)) (List·Memᴰ·cases-cons h)
 
@@ -58,7 +59,8 @@ module _ (order : ℕ → ℕ → Bool) where
   insert-mem c [] h = ⊎-elim (λ e. List·Memᴰ·head e) (λ t. List·Memᴰ·tail t) h
   insert-mem {d} c (x ∷ l) h = go (order c x) (insert-mem c l) h
     where
-      go : (b : Bool) → ((d ≡ c) ⊎ List·Memᴰ d l → List·Memᴰ d (insertInOrder order c l)) → (d ≡ c) ⊎ List·Memᴰ d (x ∷ l) → List·Memᴰ d (cond b (c ∷ x ∷ l) (x ∷ insertInOrder order c l))
+      go : (b : Bool) → ((d ≡ c) ⊎ List·Memᴰ d l → List·Memᴰ d (insertInOrder order c l)) → (d ≡ c) ⊎ List·Memᴰ d (x ∷ l)
+          → List·Memᴰ d (cond b (c ∷ x ∷ l) (x ∷ insertInOrder order c l))
       go true ih (inl e) = List·Memᴰ·head e
       go true ih (inr t) = List·Memᴰ·tail t
       go false ih (inl e) = List·Memᴰ·tail (ih (inl e))
@@ -114,7 +116,8 @@ module _ (order : ℕ → ℕ → Bool) where
   sorted-split : (m : ℕ) (l : List ℕ) → Sorted l → {a c : ℕ} → List·Memᴰ a (take m l) → List·Memᴰ c (drop m l) → order a c ≡ true
   sorted-split zero l s h k = absurd (List·Memᴰ·not-nil h)
   sorted-split (suc m) [] s h k = absurd (List·Memᴰ·not-nil h)
-  sorted-split (suc m) (x ∷ l) s {a} {c} h k = ⊎-elim (λ (e : a ≡ x). rw e (s .0 c (drop-mem m l k))) (λ t. sorted-split m l (s .1) t k) (List·Memᴰ·cases-cons h)
+  sorted-split (suc m) (x ∷ l) s {a} {c} h k = ⊎-elim (λ (e : a ≡ x). rw e (s .0 c (drop-mem m l k))) (λ t. sorted-split m l (s .1) t k)
+      (List·Memᴰ·cases-cons h)
 
   -- The first m of the visible cells below n, or all of them where there are fewer.
   module _ (visible : ℕ → Bool) (m n : ℕ) where
@@ -125,7 +128,8 @@ module _ (order : ℕ → ℕ → Bool) where
     first-below h = inOrder-below visible n (take-mem m (inOrder visible order n) h)
 
   module _ (n : ℕ) (strict : Strict n order) where
-    sorted-insert : (c : ℕ) (l : List ℕ) → c < n → ((d : ℕ) → List·Memᴰ d l → d < n) → ((d : ℕ) → List·Memᴰ d l → c ≢ d) → Sorted l → Sorted (insertInOrder order c l)
+    sorted-insert : (c : ℕ) (l : List ℕ) → c < n → ((d : ℕ) → List·Memᴰ d l → d < n) → ((d : ℕ) → List·Memᴰ d l → c ≢ d) → Sorted l
+        → Sorted (insertInOrder order c l)
     unfolding insertInOrder
     sorted-insert c [] k m n s = ((λ d h. absurd (List·Memᴰ·not-nil h)), tt)
     sorted-insert c (x ∷ l) k m n s = go (order c x) refl (sorted-insert c l k (λ d h. m d (List·Memᴰ·tail h)) (λ d h. n d (List·Memᴰ·tail h)) (s .1))
@@ -148,7 +152,8 @@ module _ (order : ℕ → ℕ → Bool) where
         where
           go : (b : Bool) → Sorted (inOrder visible order k) → Sorted (cond b (insertInOrder order k (inOrder visible order k)) (inOrder visible order k))
           go true ih =
-              sorted-insert k (inOrder visible order k) h (λ d t. omega (arith, inOrder-below visible k t .0)) (λ d t e. omega (arith, inOrder-below visible k t .0)) ih
+              sorted-insert k (inOrder visible order k) h (λ d t. omega (arith, inOrder-below visible k t .0))
+              (λ d t e. omega (arith, inOrder-below visible k t .0)) ih
           go false ih = ih
 
       inOrder-sorted : Sorted (inOrder visible order n)
@@ -171,8 +176,10 @@ module _ (order : ℕ → ℕ → Bool) where
         pub left-out-after : {c d : ℕ} → c < n → visible c ≡ true → (List·Memᴰ c (take m (inOrder visible order n)) → ⊥)
             → List·Memᴰ d (take m (inOrder visible order n)) → order d c ≡ true
         left-out-after {c} h v out k =
-            let all : List·Memᴰ c (take m (inOrder visible order n) ++ drop m (inOrder visible order n)) = rw (take-append-drop m (inOrder visible order n)) (inOrder-all visible n h v) in
-            ⊎-elim (λ t. absurd (out t)) (λ t. sorted-split m (inOrder visible order n) inOrder-sorted k t) (List·Memᴰ·append-cases (take m (inOrder visible order n)) all)
+            let all : List·Memᴰ c (take m (inOrder visible order n) ++ drop m (inOrder visible order n)) =
+            rw (take-append-drop m (inOrder visible order n)) (inOrder-all visible n h v) in
+            ⊎-elim (λ t. absurd (out t)) (λ t. sorted-split m (inOrder visible order n) inOrder-sorted k t)
+            (List·Memᴰ·append-cases (take m (inOrder visible order n)) all)
 
 not-first : (a b : Ranked) → (First a b → ⊥) → comesBefore a b ≡ false
 not-first a b n = go (comesBefore a b) refl

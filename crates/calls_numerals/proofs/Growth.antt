@@ -11,5 +11,6 @@ module _ (minus : Bool) (size digit : ℕ) where
   pub larger : 2 ^ 64 ≤ size * 10 + digit → TooLarge ≡ sized (ltb (size * 10 + digit) (2 ^ 64)) minus (size * 10 + digit)
   larger h = rw (le-ltb _ _ h)
 
-  pub fitting : size * 10 + digit < 2 ^ 64 → Digits (record { minus = minus; size = size * 10 + digit }) ≡ sized (ltb (size * 10 + digit) (2 ^ 64)) minus (size * 10 + digit)
+  pub fitting : size * 10 + digit < 2 ^ 64 → Digits (record { minus = minus; size = size * 10 + digit })
+      ≡ sized (ltb (size * 10 + digit) (2 ^ 64)) minus (size * 10 + digit)
   fitting h = rw (lt-ltb _ _ h)

@@ -59,7 +59,8 @@ threeBands total remainder = billOf (1000000 ∷ 2000000 ∷ 1099511627776 ∷ [
 
 abbrev eightBands : ℕ → ℕ → Bill
 eightBands total remainder =
-    billOf (10 ∷ 20 ∷ 30 ∷ 40 ∷ 50 ∷ 60 ∷ 70 ∷ 1099511627776 ∷ []) (100000 ∷ 200000 ∷ 300000 ∷ 400000 ∷ 500000 ∷ 600000 ∷ 700000 ∷ 800000 ∷ []) total 8 remainder
+    billOf (10 ∷ 20 ∷ 30 ∷ 40 ∷ 50 ∷ 60 ∷ 70 ∷ 1099511627776 ∷ []) (100000 ∷ 200000 ∷ 300000 ∷ 400000 ∷ 500000 ∷ 600000 ∷ 700000 ∷ 800000 ∷ []) total 8
+    remainder
 
 pub record Ends : Type 0 where
   pub at-first : threeBands 1000000 0 ≡ bill 3 0

@@ -23,10 +23,12 @@ too-low {begin} {end} b c h = rw (le-ltb begin end h)
 pub too-dear : {begin end price : ℕ} (c : Bool) → begin < end → maxPrice < price → false ≡ (ltb begin end && leb price maxPrice && c)
 too-dear {begin} {end} {price} c h p = rw (lt-ltb begin end h, lt-leb price maxPrice p)
 
-pub last-band : {begin end price : ℕ} {last : Bool} (c : Bool) → begin < end → price ≤ maxPrice → last ≡ true → c ≡ (ltb begin end && leb price maxPrice && (not last || c))
+pub last-band : {begin end price : ℕ} {last : Bool} (c : Bool) → begin < end → price ≤ maxPrice → last ≡ true → c
+    ≡ (ltb begin end && leb price maxPrice && (not last || c))
 last-band {begin} {end} {price} c h p t = rw (lt-ltb begin end h, le-leb price maxPrice p, t)
 
-pub other-band : {begin end price : ℕ} {last : Bool} (c : Bool) → begin < end → price ≤ maxPrice → last ≡ false → true ≡ (ltb begin end && leb price maxPrice && (not last || c))
+pub other-band : {begin end price : ℕ} {last : Bool} (c : Bool) → begin < end → price ≤ maxPrice → last ≡ false → true
+    ≡ (ltb begin end && leb price maxPrice && (not last || c))
 other-band {begin} {end} {price} c h p t = rw (lt-ltb begin end h, le-leb price maxPrice p, t)
 
 -- the next band begins where this one ends
@@ -35,7 +37,8 @@ begin-next ends i = rw (add-one i)
 
 module _ (ends prices : List ℕ) (bands : ℕ) where
   pub band-is : (i : ℕ) {begin : ℕ} {b : Bool} → begin ≡ beginOf ends i
-      → b ≡ (ltb begin (getD ends i 0) && leb (getD prices i 0) maxPrice && (not (eqb (i + 1) bands) || eqb (getD ends i 0) lastEnd)) → b ≡ bandGood ends prices bands i
+      → b ≡ (ltb begin (getD ends i 0) && leb (getD prices i 0) maxPrice && (not (eqb (i + 1) bands) || eqb (getD ends i 0) lastEnd)) → b
+      ≡ bandGood ends prices bands i
   unfolding bandGood
   band-is i e q = q ∙ rw e
 

@@ -17,11 +17,13 @@ divided s r cents left c l = rw (c, l) (omega arith, omega arith)
 
 -- one charge
 one : (m : Made) (remainder : ℕ) (a : ChargeAnswer) → ChargeIs (m .ends) (m .prices) (m .total) (m .bands) remainder a
-    → (centsOf (chargeSaid a) * priceUnits + handedOn (chargeSaid a) remainder ≡ taken (chargeSaid a) (chargeSum (m .ends) (m .prices) (m .bands) (m .total)) 0 + remainder)
+    → (centsOf (chargeSaid a) * priceUnits + handedOn (chargeSaid a) remainder
+    ≡ taken (chargeSaid a) (chargeSum (m .ends) (m .prices) (m .bands) (m .total)) 0 + remainder)
     × (remainder < priceUnits → handedOn (chargeSaid a) remainder < priceUnits)
 unfolding billOf
 one m remainder (Charged c) e =
-    let b = accepted-of (chargeVerdict (m .ends) (m .prices) (m .total) (m .bands) remainder) (billOf (m .ends) (m .prices) (m .total) (m .bands) remainder) _ e .1 in
+    let b = accepted-of (chargeVerdict (m .ends) (m .prices) (m .total) (m .bands) remainder) (billOf (m .ends) (m .prices) (m .total) (m .bands) remainder) _ e
+    .1 in
     let d = divided (chargeSum (m .ends) (m .prices) (m .bands) (m .total)) remainder _ _ (ap (λ (x : Bill). x .cents) b) (ap (λ (x : Bill). x .remainder) b) in
     (d .0, λ h. d .1)
 one m remainder (Refused r) e = (omega arith, λ h. h)

@@ -43,11 +43,13 @@ module _ (s : Scheme) (keeping : Keeping s) (M : Mesh) (masses : List ℕ) (k : 
   pub out-is : sum (M .faces) (λ f. cond (atRim M f) (forward (getD moved f (pos 0))) 0) ≡ b .gone
   unfolding outward
   out-is =
-      sum-cong (M .faces) (λ f. cond (atRim M f) (forward (getD moved f (pos 0))) 0) (λ f. cond (atRim M f) (forward (s .moves M masses k f)) 0) (λ f h. rw (moved-at (told .0) f h))
+      sum-cong (M .faces) (λ f. cond (atRim M f) (forward (getD moved f (pos 0))) 0) (λ f. cond (atRim M f) (forward (s .moves M masses k f)) 0)
+      (λ f h. rw (moved-at (told .0) f h))
       ∙ outward-is (inputOf M masses k) (s .moves M masses k) (keeping .keeps M masses k (told .0)) ∙ sym gone-is
 
 -- moved as a step leaves it
-left-at : (s : Scheme) (M : Mesh) (masses : List ℕ) (k : Call) (a : StepAnswer) (next : List ℕ) (moved : List ℤ) (work : List ℕ) → StepPromise s M masses k a next moved work
+left-at : (s : Scheme) (M : Mesh) (masses : List ℕ) (k : Call) (a : StepAnswer) (next : List ℕ) (moved : List ℤ) (work : List ℕ)
+    → StepPromise s M masses k a next moved work
     → s .finds M masses k ≡ fine → (f : ℕ) → f < M .faces → getD moved f (pos 0) ≡ s .moves M masses k f
 unfolding movedTable
 left-at s M masses k a next moved work p e f h = rw (p .moved-masses, e) (getD-over (M .faces) (s .moves M masses k) (k .moveds) (pos 0) f h)
@@ -64,18 +66,23 @@ one-out s keeping M masses k (Stepped b) next moved e at = out-is s keeping M ma
 one-out s keeping M masses k (Refused r) next moved e at = nothing-out M
 
 by-step : (s : Scheme) → Keeping s → (M : Mesh) (m : Made) → StepPromise s M (m .masses) (m .tables) (m .answer) (m .next) (m .moved) (m .work)
-    → sum (M .faces) (λ f. cond (atRim M f) (taken (stepSaid (m .answer)) (forward (getD (m .moved) f (pos 0))) 0) 0) ≡ goneBy (leftBy (stepSaid (m .answer)) (m .next))
-by-step s keeping M m p = one-out s keeping M (m .masses) (m .tables) (m .answer) (m .next) (m .moved) (p .answer) (left-at s M (m .masses) (m .tables) (m .answer) (m .next) (m .moved) (m .work) p)
+    → sum (M .faces) (λ f. cond (atRim M f) (taken (stepSaid (m .answer)) (forward (getD (m .moved) f (pos 0))) 0) 0)
+    ≡ goneBy (leftBy (stepSaid (m .answer)) (m .next))
+by-step s keeping M m p = one-out s keeping M (m .masses) (m .tables) (m .answer) (m .next) (m .moved) (p .answer)
+    (left-at s M (m .masses) (m .tables) (m .answer) (m .next) (m .moved) (m .work) p)
 
 by-way : (M : Mesh) (m : Made) (way : Way) → Promised M m way
-    → sum (M .faces) (λ f. cond (atRim M f) (taken (stepSaid (m .answer)) (forward (getD (m .moved) f (pos 0))) 0) 0) ≡ goneBy (leftBy (stepSaid (m .answer)) (m .next))
+    → sum (M .faces) (λ f. cond (atRim M f) (taken (stepSaid (m .answer)) (forward (getD (m .moved) f (pos 0))) 0) 0)
+    ≡ goneBy (leftBy (stepSaid (m .answer)) (m .next))
 by-way M m correcting p = by-step corrected corrected-keeping M m p
 by-way M m plainly p = by-step plain plain-keeping M m p
 by-way M m asClaimed p =
-    one-out judged judged-keeping M (m .masses) (m .tables) (m .answer) (m .next) (m .moved) (p .0 .answer) (λ e f h. ap (λ (xs : List ℤ). getD xs f (pos 0)) (p .1))
+    one-out judged judged-keeping M (m .masses) (m .tables) (m .answer) (m .next) (m .moved) (p .0 .answer)
+    (λ e f h. ap (λ (xs : List ℤ). getD xs f (pos 0)) (p .1))
 
 -- an entry after it
-one-entry : (M : Mesh) (m : Made) (totals : List ℕ) (a : StepAnswer) → taken (stepSaid a) (AddPromise (M .seconds) (m .moved) totals (M .faces) Done (m .added)) (Unit {0})
+one-entry : (M : Mesh) (m : Made) (totals : List ℕ) (a : StepAnswer)
+    → taken (stepSaid a) (AddPromise (M .seconds) (m .moved) totals (M .faces) Done (m .added)) (Unit {0})
     → (f : ℕ) → f < M .faces
     → getD (taken (stepSaid a) (m .added) totals) f 0 ≡ getD totals f 0 + cond (atRim M f) (taken (stepSaid a) (forward (getD (m .moved) f (pos 0))) 0) 0
 unfolding addedTotals gainAt gainOf

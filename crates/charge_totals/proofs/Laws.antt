@@ -61,7 +61,8 @@ gain-small entry gain e n = leb-true (entry + gain) maxTotal (rw (ne-eqb gain 0 
 pub lent-long : {lent : Verdict} {faces seconds moved totals : ℕ} → lent ≡ inTurn (lentCauses faces seconds moved totals) → lent ≡ fine
     → (faces ≤ seconds) × (faces ≤ moved) × (faces ≤ totals)
 lent-long {faces = faces} {seconds = seconds} {moved = moved} {totals = totals} is e =
-    let a = all-fine (lentCauses faces seconds moved totals) (sym is ∙ e) in (long-fine _ _ _ (a .1 .0), long-fine _ _ _ (a .1 .1 .0), long-fine _ _ _ (a .1 .1 .1 .0))
+    let a = all-fine (lentCauses faces seconds moved totals) (sym is ∙ e) in
+    (long-fine _ _ _ (a .1 .0), long-fine _ _ _ (a .1 .1 .0), long-fine _ _ _ (a .1 .1 .1 .0))
 
 module _ (seconds : List ℕ) (moved : List ℤ) (totals : List ℕ) (faces : ℕ) where
   -- A TURN: the entry to be raised is still as it was lent, so that what it gains fits
@@ -69,7 +70,8 @@ module _ (seconds : List ℕ) (moved : List ℤ) (totals : List ℕ) (faces : �
       → now ≡ over (table f (λ k. getD totals k 0 + gainAt seconds moved k)) totals
       → {gain : ℕ} → gain ≡ gainAt seconds moved f → gainFit (getD now f 0) gain ≡ true
   unfolding gainGood
-  turn-fits e f h now q g = rw (g, q, getD-past f (λ k. getD totals k 0 + gainAt seconds moved k) totals 0 f (le-refl f)) (each-fine 26 faces (gainGood seconds moved totals) e f h)
+  turn-fits e f h now q g = rw (g, q, getD-past f (λ k. getD totals k 0 + gainAt seconds moved k) totals 0 f (le-refl f))
+      (each-fine 26 faces (gainGood seconds moved totals) e f h)
 
   pub turn-raised : (f : ℕ) (now : List ℕ) → now ≡ over (table f (λ k. getD totals k 0 + gainAt seconds moved k)) totals
       → {gain v : ℕ} → gain ≡ gainAt seconds moved f → v ≡ getD now f 0 + gain → v ≡ getD totals f 0 + gainAt seconds moved f

@@ -39,7 +39,8 @@ rim-fine cells first share reach inward amount outside few h s k u o =
     )
 
 pub inside-fine : (cells first second share reach : ℕ) (inward : Bool) (amount outside : ℕ) → second ≢ rim → first < cells → second < cells → first ≢ second
-    → between 1 maxShare share ≡ true → between 1 ceiling reach ≡ true → amount ≤ reach → outside ≡ 0 → FaceFine cells first second share reach inward amount outside
+    → between 1 maxShare share ≡ true → between 1 ceiling reach ≡ true → amount ≤ reach → outside ≡ 0 → FaceFine cells first second share reach
+    inward amount outside
 inside-fine cells first second share reach inward amount outside i h k d s r u o = (
   rw (lt-ltb first cells h, lt-ltb second cells k, ne-eqb first second d),
   rw (ne-eqb second rim i, s, r),
@@ -51,7 +52,8 @@ inside-fine cells first second share reach inward amount outside i h k d s r u o
 pub amount-most : (second share reach amount : ℕ) → spacingFit ceiling second share reach ≡ true → fluxFit ceiling second reach amount ≡ true → amount ≤ ceiling
 amount-most second share reach amount = go (eqb second rim)
   where
-    go : (b : Bool) → cond b (eqb share 0 && eqb reach 0) (between 1 maxShare share && between 1 ceiling reach) ≡ true → leb amount (cond b ceiling reach) ≡ true → amount ≤ ceiling
+    go : (b : Bool) → cond b (eqb share 0 && eqb reach 0) (between 1 maxShare share && between 1 ceiling reach) ≡ true → leb amount (cond b ceiling reach)
+        ≡ true → amount ≤ ceiling
     go true s u = leb-true amount ceiling u
     go false s u =
         let r = both-true (leb 1 reach) (leb reach ceiling) (both-true (between 1 maxShare share) (between 1 ceiling reach) s .1) in
@@ -79,7 +81,8 @@ either-end true l k n h m = h
 either-end false l k n h m = m
 
 -- what the raises ask for
-pub plus-asks : (xs : List ℕ) (n i s : ℕ) → length xs ≡ n → i < n → getD xs i 0 + (half + 1) * ceiling < 2 ^ 64 → s ≤ ceiling → (i < length xs) × (getD xs i 0 + s < 2 ^ 64)
+pub plus-asks : (xs : List ℕ) (n i s : ℕ) → length xs ≡ n → i < n → getD xs i 0 + (half + 1) * ceiling < 2 ^ 64 → s ≤ ceiling → (i < length xs)
+    × (getD xs i 0 + s < 2 ^ 64)
 plus-asks xs n i s e h r u = (omega arith, omega arith)
 
 cond-most : (b : Bool) (n : ℕ) → cond b n 0 ≤ n
@@ -107,9 +110,14 @@ module _ (firsts seconds : List ℕ) (fluxes : List ℤ) where
   x f = getD fluxes f (pos 0)
 
   -- the sums of the first n faces are small
-  below-small : (n : ℕ) → n ≤ maxFaces → ((f : ℕ) → f < n → size (x f) ≤ ceiling) → (c : ℕ) → countedBelow n firsts seconds fluxes c + (half + 1) * ceiling < 2 ^ 64
+  below-small : (n : ℕ) → n ≤ maxFaces → ((f : ℕ) → f < n → size (x f) ≤ ceiling) → (c : ℕ)
+      → countedBelow n firsts seconds fluxes c + (half + 1) * ceiling < 2 ^ 64
   unfolding countedBelow incoming outgoing
-  below-small n few small c = omega (arith, incoming-most (facesOnly n firsts seconds) x maxRimFlux few small c, outgoing-most (facesOnly n firsts seconds) x maxRimFlux few small c)
+  below-small n few small c = omega (
+    arith,
+    incoming-most (facesOnly n firsts seconds) x maxRimFlux few small c,
+    outgoing-most (facesOnly n firsts seconds) x maxRimFlux few small c,
+  )
 
   below-none : (c : ℕ) → countedBelow 0 firsts seconds fluxes c ≡ 0
   unfolding countedBelow
@@ -122,13 +130,15 @@ module _ (firsts seconds : List ℕ) (fluxes : List ℤ) where
   pub room-left : (cells f : ℕ) (shares reaches outsides sums : List ℕ) → f ≤ maxFaces → FacesFine cells f firsts seconds shares reaches fluxes outsides
       → sums ≡ table (maxCells + 1) (countedBelow f firsts seconds fluxes) → (c : ℕ) → c ≤ rim → getD sums c 0 + (half + 1) * ceiling < 2 ^ 64
   room-left cells f shares reaches outsides sums few h e c l =
-      let was : getD sums c 0 ≡ countedBelow f firsts seconds fluxes c = rw e (getD-table (maxCells + 1) (countedBelow f firsts seconds fluxes) 0 c (omega arith)) in
+      let was : getD sums c 0 ≡ countedBelow f firsts seconds fluxes c =
+      rw e (getD-table (maxCells + 1) (countedBelow f firsts seconds fluxes) 0 c (omega arith)) in
       omega (arith, was, below-small f few (λ g d. amount-most (getD seconds g 0) (getD shares g 0) (getD reaches g 0) (size (x g)) (h g d .1) (h g d .3)) c)
 
   -- one more face
   pub one-more : (f : ℕ) (b : Bool) (s c : ℕ) → b ≡ isNegative (x f) → s ≡ size (x f)
       → countedBelow (f + 1) firsts seconds fluxes c
-      ≡ countedBelow f firsts seconds fluxes c + cond (eqb (cond b (getD firsts f 0) (getD seconds f 0)) c) s 0 + half * cond (eqb (cond b (getD seconds f 0) (getD firsts f 0)) c) s 0
+      ≡ countedBelow f firsts seconds fluxes c + cond (eqb (cond b (getD firsts f 0) (getD seconds f 0)) c) s 0 + half * cond
+      (eqb (cond b (getD seconds f 0) (getD firsts f 0)) c) s 0
   unfolding countedBelow entering leaving
   one-more f b s c n z = rw (
     n,
@@ -140,7 +150,8 @@ module _ (firsts seconds : List ℕ) (fluxes : List ℤ) where
   )
       (omega (arith, sum-more f (entering (facesOnly f firsts seconds) x c), sum-more f (leaving (facesOnly f firsts seconds) x c)))
 
-  pub counted-turn : (f : ℕ) (b : Bool) (s : ℕ) (xs ys : List ℕ) → b ≡ isNegative (x f) → s ≡ size (x f) → getD firsts f 0 < maxCells + 1 → getD seconds f 0 < maxCells + 1
+  pub counted-turn : (f : ℕ) (b : Bool) (s : ℕ) (xs ys : List ℕ) → b ≡ isNegative (x f) → s ≡ size (x f) → getD firsts f 0 < maxCells + 1
+      → getD seconds f 0 < maxCells + 1
       → xs ≡ table (maxCells + 1) (countedBelow f firsts seconds fluxes) → ys ≡ counted xs b (getD firsts f 0) (getD seconds f 0) s
       → ys ≡ table (maxCells + 1) (countedBelow (f + 1) firsts seconds fluxes)
   unfolding counted
@@ -159,17 +170,23 @@ module _ (firsts seconds : List ℕ) (fluxes : List ℤ) where
   sum-says : (faces : ℕ) (v c : ℕ) → faces ≤ maxFaces → ((f : ℕ) → f < faces → size (x f) ≤ ceiling) → SumFits v (countedBelow faces firsts seconds fluxes c)
       → (inflow faces firsts seconds fluxes c ≡ outflow faces firsts seconds fluxes c) × (outflow faces firsts seconds fluxes c ≤ v)
   unfolding countedBelow incoming outgoing
-  sum-says faces v c few small h =
-      (omega (arith, incoming-most (facesOnly faces firsts seconds) x maxRimFlux few small c, h .0), omega (arith, incoming-most (facesOnly faces firsts seconds) x maxRimFlux few small c, h .1))
+  sum-says faces v c few small h = (
+    omega (arith, incoming-most (facesOnly faces firsts seconds) x maxRimFlux few small c, h .0),
+    omega (arith, incoming-most (facesOnly faces firsts seconds) x maxRimFlux few small c, h .1),
+  )
 
-  pub faces-pass : (cells faces : ℕ) (volumes shares reaches outsides sums : List ℕ) → cells ≤ maxCells → faces ≤ maxFaces → FacesFine cells faces firsts seconds shares reaches fluxes outsides
+  pub faces-pass : (cells faces : ℕ) (volumes shares reaches outsides sums : List ℕ) → cells ≤ maxCells → faces ≤ maxFaces
+      → FacesFine cells faces firsts seconds shares reaches fluxes outsides
       → sums ≡ table (maxCells + 1) (countedBelow faces firsts seconds fluxes) → ((c : ℕ) → c < cells → SumFits (getD volumes c 0) (getD sums c 0))
       → FacesPass cells faces volumes firsts seconds shares reaches fluxes outsides
   faces-pass cells faces volumes shares reaches outsides sums few-cells few h e d =
-      let small : (f : ℕ) → f < faces → size (x f) ≤ ceiling = λ f l. amount-most (getD seconds f 0) (getD shares f 0) (getD reaches f 0) (size (x f)) (h f l .1) (h f l .3) in
-      let says : (c : ℕ) → c < cells → (inflow faces firsts seconds fluxes c ≡ outflow faces firsts seconds fluxes c) × (outflow faces firsts seconds fluxes c ≤ getD volumes c 0) =
+      let small : (f : ℕ) → f < faces → size (x f) ≤ ceiling =
+      λ f l. amount-most (getD seconds f 0) (getD shares f 0) (getD reaches f 0) (size (x f)) (h f l .1) (h f l .3) in
+      let says : (c : ℕ) → c < cells → (inflow faces firsts seconds fluxes c ≡ outflow faces firsts seconds fluxes c)
+      × (outflow faces firsts seconds fluxes c ≤ getD volumes c 0) =
       λ c l.
-      let was : getD sums c 0 ≡ countedBelow faces firsts seconds fluxes c = rw e (getD-table (maxCells + 1) (countedBelow faces firsts seconds fluxes) 0 c (omega arith)) in
+      let was : getD sums c 0 ≡ countedBelow faces firsts seconds fluxes c =
+      rw e (getD-table (maxCells + 1) (countedBelow faces firsts seconds fluxes) 0 c (omega arith)) in
       sum-says faces (getD volumes c 0) c few small (rw was at (d c l)) in (
         fine-each 4 faces _ (λ f l. h f l .0),
         fine-each 5 faces _ (λ f l. h f l .1),

@@ -62,7 +62,8 @@ sum-asks M field e =
       ),
     )
 
-regroup : (m f u p q r s : Verdict) → (m andThen f andThen u andThen (p andThen q andThen r andThen s)) ≡ (m andThen (f andThen u andThen (p andThen q)) andThen (r andThen s))
+regroup : (m f u p q r s : Verdict) → (m andThen f andThen u andThen (p andThen q andThen r andThen s))
+    ≡ (m andThen (f andThen u andThen (p andThen q)) andThen (r andThen s))
 regroup m f u p q r s = simp andThen-assoc
 
 after-lengths : (t m f u s : Verdict) → (t andThen m andThen f andThen u andThen s) ≡ (t andThen (m andThen f andThen u andThen s))
@@ -85,14 +86,17 @@ module _ (M : Mesh) (field : List ℕ) (k : Call) where
 
   -- causes of values as they are tested: those that rest on nothing together
   pub in-groups : valuesVerdict M field k ≡ (meshValues ceiling M
-      andThen (fieldValues M field andThen raisedValues M field k andThen (each 7 (M .faces) (outsideGood M field k) andThen each 8 (M .faces) (fluxGood ceiling M field k)))
+      andThen (fieldValues M field andThen raisedValues M field k
+      andThen (each 7 (M .faces) (outsideGood M field k) andThen each 8 (M .faces) (fluxGood ceiling M field k)))
       andThen (each 9 (M .cells) (balanceGood M field k) andThen each 10 (M .cells) (outflowGood M field k)))
   unfolding valuesVerdict stepValues
   in-groups = regroup (meshValues ceiling M) (fieldValues M field) (raisedValues M field k)
-      (each 7 (M .faces) (outsideGood M field k)) (each 8 (M .faces) (fluxGood ceiling M field k)) (each 9 (M .cells) (balanceGood M field k)) (each 10 (M .cells) (outflowGood M field k))
+      (each 7 (M .faces) (outsideGood M field k)) (each 8 (M .faces) (fluxGood ceiling M field k)) (each 9 (M .cells) (balanceGood M field k))
+      (each 10 (M .cells) (outflowGood M field k))
 
   -- what the tests of values ask for
-  pub step-lent : (counts M andThen meshTables M andThen fieldTable M field) ≡ fine → stepTables M field k ≡ fine → StepLent M field (waterOf (k .fluxes) (k .outsides) (k .releases))
+  pub step-lent : (counts M andThen meshTables M andThen fieldTable M field) ≡ fine → stepTables M field k ≡ fine
+      → StepLent M field (waterOf (k .fluxes) (k .outsides) (k .releases))
   step-lent e d =
       let f = both-fine _ _ e in
       let m = both-fine _ _ (f .0) in
@@ -106,7 +110,8 @@ module _ (M : Mesh) (field : List ℕ) (k : Call) where
         releases-long = l .releases-long;
       }
 
-  pub claim-asks : (counts M andThen meshTables M andThen fieldTable M field) ≡ fine → claimTables M field k ≡ fine → StepLent M field (waterOf (k .fluxes) (k .outsides) (k .releases))
+  pub claim-asks : (counts M andThen meshTables M andThen fieldTable M field) ≡ fine → claimTables M field k ≡ fine
+      → StepLent M field (waterOf (k .fluxes) (k .outsides) (k .releases))
   claim-asks e d =
       let f = both-fine _ _ e in
       let m = both-fine _ _ (f .0) in
@@ -121,7 +126,8 @@ module _ (M : Mesh) (field : List ℕ) (k : Call) where
       }
 
   module _ (l : StepLent M field k) where
-    pub shape-asks : (M .cells ≤ length (M .volumes)) × (M .faces ≤ length (M .firsts)) × (M .faces ≤ length (M .seconds)) × (M .faces ≤ length (M .shares)) × (M .faces ≤ length (M .reaches))
+    pub shape-asks : (M .cells ≤ length (M .volumes)) × (M .faces ≤ length (M .firsts)) × (M .faces ≤ length (M .seconds)) × (M .faces ≤ length (M .shares))
+        × (M .faces ≤ length (M .reaches))
     shape-asks = let m = l .lent in (m .volumes-long, m .firsts-long, m .seconds-long, m .shares-long, m .reaches-long)
 
     pub water-asks : (M .faces ≤ length (M .seconds)) × (M .faces ≤ length (M .reaches)) × (M .faces ≤ length (k .fluxes)) × (M .faces ≤ length (k .outsides))
@@ -138,8 +144,10 @@ module _ (M : Mesh) (field : List ℕ) (k : Call) where
           × ((c : ℕ) → c < M .cells → (1 ≤ volume M c) × (volume M c ≤ maxVolume))
       raised-asks = ((l .lent .volumes-long, l .masses-long, l .releases-long), λ c h. (fit .volume-some c h, fit .volume-most c h))
 
-      pub flows-ask : (fieldValues M field andThen raisedValues M field k andThen (each 7 (M .faces) (outsideGood M field k) andThen each 8 (M .faces) (fluxGood ceiling M field k))) ≡ fine
-          → ((M .cells ≤ maxCells) × (M .faces ≤ maxFaces) × (M .cells ≤ length (M .volumes)) × (M .faces ≤ length (M .firsts)) × (M .faces ≤ length (M .seconds)) × (M .faces ≤ length (k .fluxes)))
+      pub flows-ask : (fieldValues M field andThen raisedValues M field k
+          andThen (each 7 (M .faces) (outsideGood M field k) andThen each 8 (M .faces) (fluxGood ceiling M field k))) ≡ fine
+          → ((M .cells ≤ maxCells) × (M .faces ≤ maxFaces) × (M .cells ≤ length (M .volumes)) × (M .faces ≤ length (M .firsts))
+          × (M .faces ≤ length (M .seconds)) × (M .faces ≤ length (k .fluxes)))
           × ((f : ℕ) → f < M .faces → (first M f ≤ rim) × (second M f ≤ rim) × (size (flux (inputOf M field k) f) ≤ maxClaim))
       flows-ask v =
           let w = both-fine _ _ (both-fine _ _ v .1) in
@@ -181,4 +189,5 @@ module _ (M : Mesh) (field : List ℕ) (k : Call) (h : (c : ℕ) → c < M .cell
 
   pub all-pass : valuesVerdict M field k ≡ fine
   unfolding valuesVerdict
-  all-pass = fine-all (meshValues ceiling M ∷ fieldValues M field ∷ raisedValues M field k ∷ stepValues ceiling M field k ∷ []) (mesh-passes, (salt-passes, (raised-passes, (water-passes, tt))))
+  all-pass = fine-all (meshValues ceiling M ∷ fieldValues M field ∷ raisedValues M field k ∷ stepValues ceiling M field k ∷ [])
+      (mesh-passes, (salt-passes, (raised-passes, (water-passes, tt))))

@@ -46,7 +46,11 @@ module _ (L : Lagoon) (labels : List ℕ) (lent₀ lent₁ : Tables) (cut-fine :
           masses-long = whole .masses-long;
           releases-long = whole .releases-long;
           some-volume = fit .volume-some;
-          small = λ c h. omega (arith, mass-small _ _ (fit .volume-some c h) (fit .volume-most c h) (raised-fit (meshIn L) (L .tables .masses) (waterIn L) (e .1 .1 .1 .1 .1 .0) c h));
+          small = λ c h. omega (
+            arith,
+            mass-small _ _ (fit .volume-some c h) (fit .volume-most c h)
+                (raised-fit (meshIn L) (L .tables .masses) (waterIn L) (e .1 .1 .1 .1 .1 .0) c h),
+          );
         };
         sizes = λ f h. omega (arith, flux-small (stepInput L) fit (water-fit (meshIn L) (L .tables .masses) (waterIn L) (water .0) (water .1 .0)) f h);
       }
@@ -78,5 +82,6 @@ promise-refused L labels lent₀ lent₁ r e = record {
 }
 
 pub counts-are : {a b c d e f g h : ℕ} → a ≡ e → b ≡ f → c ≡ g → d ≡ h
-    → _≡_ {A = Outcome Sizes} (accepted (record { cells₀ = a; faces₀ = b; cells₁ = c; faces₁ = d })) (accepted (record { cells₀ = e; faces₀ = f; cells₁ = g; faces₁ = h }))
+    → _≡_ {A = Outcome Sizes} (accepted (record { cells₀ = a; faces₀ = b; cells₁ = c; faces₁ = d }))
+    (accepted (record { cells₀ = e; faces₀ = f; cells₁ = g; faces₁ = h }))
 counts-are p q r s = rw (p, q, r, s)

@@ -15,7 +15,9 @@ first-of : (position wanted a b c : ℕ) → three position wanted a b c ≡ fin
 first-of position wanted a b c e = long-fine _ _ _ (both-fine _ _ (both-fine _ _ e .0) .0)
 
 pub step-lent : (cells faces : ℕ) (volumes firsts seconds shares reaches masses : List ℕ) (fluxes : List ℤ) (outsides releases labels : List ℕ)
-    (v0 v1 f0 f1 s0 s1 h0 h1 k0 k1 m0 m1 u0 u1 o0 o1 r0 r1 : ℕ) → lengthsFound cells faces (length volumes) v0 v1 (length firsts) f0 f1 (length seconds) s0 s1 (length shares) h0 h1 (length reaches) k0 k1 (length masses) m0 m1 (length fluxes) u0 u1 (length outsides) o0 o1 (length releases) r0 r1 (length labels) ≡ fine
+    (v0 v1 f0 f1 s0 s1 h0 h1 k0 k1 m0 m1 u0 u1 o0 o1 r0 r1 : ℕ)
+    → lengthsFound cells faces (length volumes) v0 v1 (length firsts) f0 f1 (length seconds) s0 s1 (length shares) h0 h1 (length reaches) k0 k1
+    (length masses) m0 m1 (length fluxes) u0 u1 (length outsides) o0 o1 (length releases) r0 r1 (length labels) ≡ fine
     → StepLent (meshOf cells faces volumes firsts seconds shares reaches) masses (waterOf fluxes outsides releases) × (cells ≤ length labels)
 unfolding counts
 step-lent cells faces volumes firsts seconds shares reaches masses fluxes outsides releases labels v0 v1 f0 f1 s0 s1 h0 h1 k0 k1 m0 m1 u0 u1 o0 o1 r0 r1 e =

@@ -20,7 +20,8 @@ use Rattle.model.specs.Mesh.{rim}
 use Rattle.cutting_pieces.specs.Pieces.{hasLabel, touchingAt, numberAt, secondAt, outsideAt, newFirstAt, newSecondAt, newOutsideAt, FacesLent, EndsIn, JoinedFaces}
 
 -- entries that are the same of all marked things
-pub picked-cong : {A : Type 0} (d : A) (n : ℕ) (marked : ℕ → Bool) (x y : ℕ → A) → ((i : ℕ) → i < n → marked i ≡ true → x i ≡ y i) → picked n marked x ≡ picked n marked y
+pub picked-cong : {A : Type 0} (d : A) (n : ℕ) (marked : ℕ → Bool) (x y : ℕ → A) → ((i : ℕ) → i < n → marked i ≡ true → x i ≡ y i) → picked n marked x
+    ≡ picked n marked y
 unfolding picked
 picked-cong d n marked x y h = table-cong d (count n marked) _ _ (λ i l. let a = old-marked marked n i l in h (old n marked i) (a .0) (a .1))
 
@@ -35,7 +36,11 @@ module _ (cells faces : ℕ) (labels : List ℕ) (p : ℕ) (firsts seconds : Lis
 
   -- a table with an entry for every cell and one at the rim's mark
   pub ends-in : (xs : List ℕ) → rim < length xs → EndsIn faces xs firsts seconds
-  ends-in xs h = record { first-there = λ f l. omega (arith, j .first-in f l, j .few); second-there = λ f l. at-second f l (eqb (getD seconds f 0) rim) (same? (getD seconds f 0) rim) }
+  ends-in xs h = record {
+    first-there = λ f l. omega (arith, j .first-in f l, j .few);
+    second-there =
+        λ f l. at-second f l (eqb (getD seconds f 0) rim) (same? (getD seconds f 0) rim);
+  }
     where
       at-second : (f : ℕ) → f < faces → (b : Bool) → Same (getD seconds f 0) rim b → getD seconds f 0 < length xs
       at-second f l true (same e) = omega arith
@@ -52,12 +57,14 @@ module _ (cells faces : ℕ) (labels : List ℕ) (p : ℕ) (firsts seconds : Lis
     numbers-long = rw written (omega (arith, length-set front rim rim, front-long))
 
     number-of : (c : ℕ) → c < cells → getD numbers c 0 ≡ count c (hasLabel labels p)
-    number-of c h = rw written (getD-set-other front rim c rim 0 (λ e. absurd (omega (arith, j .few))) ∙ getD-over cells (λ c. count c (hasLabel labels p)) ys 0 c h)
+    number-of c h = rw written (getD-set-other front rim c rim 0 (λ e. absurd (omega (arith, j .few)))
+        ∙ getD-over cells (λ c. count c (hasLabel labels p)) ys 0 c h)
 
     number-of-rim : getD numbers rim 0 ≡ rim
     number-of-rim = rw written (getD-set-same front rim rim 0 (omega (arith, front-long)))
 
-    first-same : (f : ℕ) → f < faces → touchingAt labels p firsts seconds f ≡ true → numberAt labels p firsts seconds numbers f ≡ newFirstAt labels p firsts seconds f
+    first-same : (f : ℕ) → f < faces → touchingAt labels p firsts seconds f ≡ true → numberAt labels p firsts seconds numbers f
+        ≡ newFirstAt labels p firsts seconds f
     first-same f l t = go (hasLabel labels p (getD firsts f 0)) (eqb (getD seconds f 0) rim) (same? (getD seconds f 0) rim) t
       where
         go : (a r : Bool) → Same (getD seconds f 0) rim r → (a || (not r && hasLabel labels p (getD seconds f 0))) ≡ true
@@ -66,8 +73,10 @@ module _ (cells faces : ℕ) (labels : List ℕ) (p : ℕ) (firsts seconds : Lis
         go false true s t = absurd (true≢false (sym t))
         go false false (other d) t = number-of (getD seconds f 0) (j .second-in f l d)
 
-    second-same : (f : ℕ) → f < faces → touchingAt labels p firsts seconds f ≡ true → secondAt labels p firsts seconds numbers f ≡ newSecondAt labels p firsts seconds f
-    second-same f l t = go (eqb (getD seconds f 0) rim) (same? (getD seconds f 0) rim) (hasLabel labels p (getD firsts f 0)) (hasLabel labels p (getD seconds f 0)) t
+    second-same : (f : ℕ) → f < faces → touchingAt labels p firsts seconds f ≡ true → secondAt labels p firsts seconds numbers f
+        ≡ newSecondAt labels p firsts seconds f
+    second-same f l t = go (eqb (getD seconds f 0) rim) (same? (getD seconds f 0) rim) (hasLabel labels p (getD firsts f 0))
+        (hasLabel labels p (getD seconds f 0)) t
       where
         go : (r : Bool) → Same (getD seconds f 0) rim r → (a b : Bool) → (a || (not r && b)) ≡ true
             → cond (not r && not (a && (not r && b))) rim (getD numbers (getD seconds f 0) 0)
@@ -96,20 +105,25 @@ module _ (cells faces : ℕ) (labels : List ℕ) (p : ℕ) (firsts seconds : Lis
     q-of c h = rw (written, raised-at cells masses releases c h) (getD-over cells (λ c. (getD masses c 0 + getD releases c 0) / getD volumes c 0) ys 0 c h)
 
     outside-same : (amounts : List ℤ) (values : List ℕ) (f : ℕ) → f < faces
-        → outsideAt labels p firsts seconds q amounts values f ≡ newOutsideAt labels p firsts seconds (rounded volumes (raised cells masses releases)) amounts values f
-    outside-same amounts values f l = go (eqb (getD seconds f 0) rim) (same? (getD seconds f 0) rim) (hasLabel labels p (getD firsts f 0)) (hasLabel labels p (getD seconds f 0))
+        → outsideAt labels p firsts seconds q amounts values f
+        ≡ newOutsideAt labels p firsts seconds (rounded volumes (raised cells masses releases)) amounts values f
+    outside-same amounts values f l = go (eqb (getD seconds f 0) rim) (same? (getD seconds f 0) rim) (hasLabel labels p (getD firsts f 0))
+        (hasLabel labels p (getD seconds f 0))
       where
         u : Bool → Bool
         u a = isNegative (turn (not a) (getD amounts f (pos 0)))
 
         go : (r : Bool) → Same (getD seconds f 0) rim r → (a b : Bool)
             → cond (not r && not (a && (not r && b))) (cond (u a) (getD q (cond (not a) (getD firsts f 0) (getD seconds f 0)) 0) 0) (getD values f 0)
-            ≡ cond (not r && not (a && (not r && b))) (cond (u a) (rounded volumes (raised cells masses releases) (cond (not a) (getD firsts f 0) (getD seconds f 0))) 0) (getD values f 0)
+            ≡ cond (not r && not (a && (not r && b))) (cond (u a)
+            (rounded volumes (raised cells masses releases) (cond (not a) (getD firsts f 0) (getD seconds f 0))) 0) (getD values f 0)
         go true s a b = refl
         go false (other d) true true = refl
         go false (other d) true false = rw (q-of (getD seconds f 0) (j .second-in f l d))
         go false (other d) false b = rw (q-of (getD firsts f 0) (j .first-in f l))
 
-    pub outsides-are : (amounts : List ℤ) (values : List ℕ) → picked faces (touchingAt labels p firsts seconds) (outsideAt labels p firsts seconds q amounts values)
-        ≡ picked faces (touchingAt labels p firsts seconds) (newOutsideAt labels p firsts seconds (rounded volumes (raised cells masses releases)) amounts values)
+    pub outsides-are : (amounts : List ℤ) (values : List ℕ) → picked faces (touchingAt labels p firsts seconds)
+        (outsideAt labels p firsts seconds q amounts values)
+        ≡ picked faces (touchingAt labels p firsts seconds) (newOutsideAt labels p firsts seconds (rounded volumes (raised cells masses releases)) amounts
+        values)
     outsides-are amounts values = picked-cong 0 faces _ _ _ (λ f l t. outside-same amounts values f l)

@@ -151,7 +151,8 @@ module _ (L : Lagoon) (labels : List ℕ) (p : ℕ) (lent : Tables) where
       few = few;
       joined = record { few = few-part; first-in = λ f l. face-ends f l .1; second-in = λ f l. face-ends f l .2 };
       cell-in = λ c h. old-marked (inPart L labels p) (L .cells) c h .0;
-      cell-one = λ c d h l e. sym (old-marked (inPart L labels p) (L .cells) c h .2) ∙ ap (newCell L labels p) e ∙ old-marked (inPart L labels p) (L .cells) d l .2;
+      cell-one = λ c d h l e. sym (old-marked (inPart L labels p) (L .cells) c h .2) ∙ ap (newCell L labels p) e
+          ∙ old-marked (inPart L labels p) (L .cells) d l .2;
       face-in = λ f l. old-marked (touches L labels p) (L .faces) f l .0;
       face-place = λ f l. old-marked (touches L labels p) (L .faces) f l .2;
       first-kept = λ F c l h e. new-face F l (at-first F c l h e);

@@ -47,8 +47,10 @@ abbrev work : List ℕ
 work = replicate 16 0
 
 everything : Unit {0}
-unfolding cutVerdict cutTables labelValues labelGood partGood count old picked stepAnswer nextTable movedTable over table sum entering leaving incoming outgoing updated
-    raised rounded beyond upwind carried inMass outMass releasedMass _andThen_ need each countsWithin counts meshTables volumeGood endsGood spacingGood meshValues fieldTable saltGood
+unfolding cutVerdict cutTables labelValues labelGood partGood count old picked stepAnswer nextTable movedTable over table sum entering leaving
+    incoming outgoing updated
+    raised rounded beyond upwind carried inMass outMass releasedMass _andThen_ need each countsWithin counts meshTables volumeGood endsGood spacingGood
+    meshValues fieldTable saltGood
     fieldValues raisedGood raisedValues stepTables outsideGood fluxGood balanceGood outflowGood stepValues verdict
 everything = tt
 
@@ -56,11 +58,13 @@ pub record CutFigures : Type 0 where
   pub is-cut : cutVerdict lagoon labels lent lent ≡ fine
   -- one cell with two rim faces, the second a cut through which water leaves
   pub counts-0 : (part 0 .cells ≡ 1) × (part 0 .faces ≡ 2)
-  pub part-0 : partTables lagoon labels 0 lent ≡ tablesOf (100 ∷ 7 ∷ 7 ∷ []) (0 ∷ 0 ∷ 7 ∷ 7 ∷ []) (rim ∷ rim ∷ 7 ∷ 7 ∷ []) (0 ∷ 0 ∷ 7 ∷ 7 ∷ []) (0 ∷ 0 ∷ 7 ∷ 7 ∷ [])
+  pub part-0 : partTables lagoon labels 0 lent ≡ tablesOf (100 ∷ 7 ∷ 7 ∷ []) (0 ∷ 0 ∷ 7 ∷ 7 ∷ []) (rim ∷ rim ∷ 7 ∷ 7 ∷ []) (0 ∷ 0 ∷ 7 ∷ 7 ∷ [])
+      (0 ∷ 0 ∷ 7 ∷ 7 ∷ [])
       (100000 ∷ 7 ∷ 7 ∷ []) (negsuc 49 ∷ pos 50 ∷ pos 7 ∷ pos 7 ∷ []) (1000 ∷ 0 ∷ 7 ∷ 7 ∷ []) (5000 ∷ 7 ∷ 7 ∷ [])
   -- two cells; the cut face is turned, and the raised 1050 of cell 0 enters through it
   pub counts-1 : (part 1 .cells ≡ 2) × (part 1 .faces ≡ 3)
-  pub part-1 : partTables lagoon labels 1 lent ≡ tablesOf (100 ∷ 100 ∷ 7 ∷ []) (0 ∷ 0 ∷ 1 ∷ 7 ∷ []) (rim ∷ 1 ∷ rim ∷ 7 ∷ []) (0 ∷ 128 ∷ 0 ∷ 7 ∷ []) (0 ∷ 100 ∷ 0 ∷ 7 ∷ [])
+  pub part-1 : partTables lagoon labels 1 lent ≡ tablesOf (100 ∷ 100 ∷ 7 ∷ []) (0 ∷ 0 ∷ 1 ∷ 7 ∷ []) (rim ∷ 1 ∷ rim ∷ 7 ∷ []) (0 ∷ 128 ∷ 0 ∷ 7 ∷ [])
+      (0 ∷ 100 ∷ 0 ∷ 7 ∷ [])
       (0 ∷ 0 ∷ 7 ∷ []) (negsuc 49 ∷ pos 50 ∷ pos 50 ∷ pos 7 ∷ []) (1050 ∷ 0 ∷ 0 ∷ 7 ∷ []) (0 ∷ 0 ∷ 7 ∷ [])
   -- the plain step of the whole, and of each part
   pub whole-next : plainNext lagoon nexts moveds work ≡ 102500 ∷ 52500 ∷ 0 ∷ []

@@ -103,7 +103,8 @@ pub record PartStep (S P : StepInput) (cell face place : ℕ → ℕ) (cuts turn
   pub flux-same : (f : ℕ) → f < P .mesh .faces → flux P f ≡ turn (turns (face f)) (flux S (face f))
   -- at a cut face what is across the cut, where water enters
   pub outside-same : (f : ℕ) → f < P .mesh .faces → outside P f
-      ≡ cond (cuts (face f)) (cond (isNegative (turn (turns (face f)) (flux S (face f)))) (concentration S (cond (turns (face f)) (first (S .mesh) (face f)) (second (S .mesh) (face f)))) 0)
+      ≡ cond (cuts (face f)) (cond (isNegative (turn (turns (face f)) (flux S (face f))))
+      (concentration S (cond (turns (face f)) (first (S .mesh) (face f)) (second (S .mesh) (face f)))) 0)
       (outside S (face f))
 
 again : (b : Bool) (x y : ℕ) → cond b (cond b x 0) y ≡ cond b x y
@@ -131,8 +132,16 @@ module _ {S P : StepInput} {cell face place : ℕ → ℕ} {cuts turns : ℕ →
           → turn t u *ℤ pos (cond (isNegative (turn t u)) (cond (atRim N f)
           (cond k (cond (isNegative (turn t u)) (concentration S (cond t (first M (face f)) (second M (face f)))) 0) (outside S (face f)))
           (concentration P (second N f))) (concentration P (first N f)))
-          ≡ turn t (u *ℤ pos (cond (isNegative u) (cond (atRim M (face f)) (outside S (face f)) (concentration S (second M (face f)))) (concentration S (first M (face f)))))
-      go false false (inside a e d b) = rw (ne-eqb (second N f) rim d, ne-eqb (second M (face f)) rim e, at-first, p .q-same (second N f) (p .meshes .joined .second-in f l d), a, b)
+          ≡ turn t (u *ℤ pos (cond (isNegative u) (cond (atRim M (face f)) (outside S (face f)) (concentration S (second M (face f))))
+          (concentration S (first M (face f)))))
+      go false false (inside a e d b) = rw (
+        ne-eqb (second N f) rim d,
+        ne-eqb (second M (face f)) rim e,
+        at-first,
+        p .q-same (second N f) (p .meshes .joined .second-in f l d),
+        a,
+        b,
+      )
       go false false (overRim a e d) = rw (eq-eqb (second N f) rim d, eq-eqb (second M (face f)) rim e, at-first, a)
       go true false (atFirst a e d q) = rw (eq-eqb (second N f) rim d, ne-eqb (second M (face f)) rim e, at-first, a)
           (rw (again (isNegative u) (concentration S (second M (face f))) (concentration S (cell (first N f)))))

@@ -139,6 +139,8 @@ plain-fine L nexts moveds work x e = both-fine _ _ e .0
 pub s12 : S12
 s12 L labels lent₀ lent₁ cut-fine nexts moveds work x e =
     let whole-fine = plain-fine L nexts moveds work x e in (
-      part-steps L labels 0 lent₀ nexts moveds work whole-fine (part-some L labels lent₀ lent₁ cut-fine 0 (omega arith)) (tables-long L labels lent₀ lent₁ (lengths-fine L labels lent₀ lent₁ cut-fine) lent₀ (λ P e. e .1)),
-      part-steps L labels 1 lent₁ nexts moveds work whole-fine (part-some L labels lent₀ lent₁ cut-fine 1 (omega arith)) (tables-long L labels lent₀ lent₁ (lengths-fine L labels lent₀ lent₁ cut-fine) lent₁ (λ P e. e .2)),
+      part-steps L labels 0 lent₀ nexts moveds work whole-fine (part-some L labels lent₀ lent₁ cut-fine 0 (omega arith))
+          (tables-long L labels lent₀ lent₁ (lengths-fine L labels lent₀ lent₁ cut-fine) lent₀ (λ P e. e .1)),
+      part-steps L labels 1 lent₁ nexts moveds work whole-fine (part-some L labels lent₀ lent₁ cut-fine 1 (omega arith))
+          (tables-long L labels lent₀ lent₁ (lengths-fine L labels lent₀ lent₁ cut-fine) lent₁ (λ P e. e .2)),
     )

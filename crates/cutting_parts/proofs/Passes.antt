@@ -79,11 +79,15 @@ module _ (L : Lagoon) (labels : List ℕ) (p : ℕ) (lent : Tables) (nexts : Lis
       (need-met 1 1 (le-leb (N .faces) maxFaces (omega (arith, fewer-faces, whole .counts-fit .few-faces))))
 
   -- cause 2
-  cells-long : {A : Type 0} (position : ℕ) (entry : ℕ → A) (ys : List A) → L .cells ≤ length ys → long position (N .cells) (length (byCell L labels p entry ys)) ≡ fine
-  cells-long position entry ys h = need-met 2 position (le-leb (N .cells) (length (byCell L labels p entry ys)) (omega (arith, fewer-cells, picked-long (L .cells) (inPart L labels p) entry ys h)))
+  cells-long : {A : Type 0} (position : ℕ) (entry : ℕ → A) (ys : List A) → L .cells ≤ length ys → long position (N .cells) (length (byCell L labels p entry ys))
+      ≡ fine
+  cells-long position entry ys h = need-met 2 position (le-leb (N .cells) (length (byCell L labels p entry ys))
+      (omega (arith, fewer-cells, picked-long (L .cells) (inPart L labels p) entry ys h)))
 
-  faces-long : {A : Type 0} (position : ℕ) (entry : ℕ → A) (ys : List A) → L .faces ≤ length ys → long position (N .faces) (length (byFace L labels p entry ys)) ≡ fine
-  faces-long position entry ys h = need-met 2 position (le-leb (N .faces) (length (byFace L labels p entry ys)) (omega (arith, fewer-faces, picked-long (L .faces) (touches L labels p) entry ys h)))
+  faces-long : {A : Type 0} (position : ℕ) (entry : ℕ → A) (ys : List A) → L .faces ≤ length ys → long position (N .faces) (length (byFace L labels p entry ys))
+      ≡ fine
+  faces-long position entry ys h = need-met 2 position (le-leb (N .faces) (length (byFace L labels p entry ys))
+      (omega (arith, fewer-faces, picked-long (L .faces) (touches L labels p) entry ys h)))
 
   mesh-tables-pass : meshTables N ≡ fine
   unfolding meshTables
@@ -156,9 +160,11 @@ module _ (L : Lagoon) (labels : List ℕ) (p : ℕ) (lent : Tables) (nexts : Lis
         (each-fine 5 (M .faces) (spacingGood ceiling M) (all-fine (meshCauses ceiling M) (past .mesh-values-fine) .1 .1 .0) F (face-in f l)))
 
     -- causes 7 and 8
-    outside-fits : (c t : Bool) → Side M N (cell L labels p lent) f F c t → outsideFit (second M F) (isNegative (flux (stepInput L) F)) (outside (stepInput L) F) ≡ true
+    outside-fits : (c t : Bool) → Side M N (cell L labels p lent) f F c t
+        → outsideFit (second M F) (isNegative (flux (stepInput L) F)) (outside (stepInput L) F) ≡ true
         → outsideFit (second N f) (isNegative (turn t (flux (stepInput L) F)))
-        (cond c (cond (isNegative (turn t (flux (stepInput L) F))) (concentration (stepInput L) (cond t (first M F) (second M F))) 0) (outside (stepInput L) F)) ≡ true
+        (cond c (cond (isNegative (turn t (flux (stepInput L) F))) (concentration (stepInput L) (cond t (first M F) (second M F))) 0) (outside (stepInput L) F))
+        ≡ true
     outside-fits false false (inside a e d b) g = rw (ne-eqb (second N f) rim d) (rw (ne-eqb (second M F) rim e) at g)
     outside-fits false false (overRim a e d) g = rw (eq-eqb (second N f) rim d) (rw (eq-eqb (second M F) rim e) at g)
     outside-fits true false (atFirst a e d n) g = rw (eq-eqb (second N f) rim d)
@@ -187,8 +193,10 @@ module _ (L : Lagoon) (labels : List ℕ) (p : ℕ) (lent : Tables) (nexts : Lis
 
   mesh-values-pass : meshValues ceiling N ≡ fine
   unfolding meshValues
-  mesh-values-pass = fine-all (meshCauses ceiling N)
-      (fine-each 3 (N .cells) (volumeGood ceiling N) volumes-pass, (fine-each 4 (N .faces) (endsGood N) ends-good, (fine-each 5 (N .faces) (spacingGood ceiling N) spacing-good, tt)))
+  mesh-values-pass = fine-all (meshCauses ceiling N) (
+    fine-each 3 (N .cells) (volumeGood ceiling N) volumes-pass,
+    (fine-each 4 (N .faces) (endsGood N) ends-good, (fine-each 5 (N .faces) (spacingGood ceiling N) spacing-good, tt)),
+  )
 
   -- causes 6 and 18
   field-values-pass : fieldValues N field′ ≡ fine
@@ -198,15 +206,18 @@ module _ (L : Lagoon) (labels : List ℕ) (p : ℕ) (lent : Tables) (nexts : Lis
 
   raised-values-pass : raisedValues N field′ k′ ≡ fine
   unfolding raisedValues raisedGood
-  raised-values-pass = fine-each 18 (N .cells) (raisedGood N field′ k′) (λ c h. rw (volume-is L labels p lent c h, mass-is L labels p lent c h, release-is L labels p lent c h)
+  raised-values-pass = fine-each 18 (N .cells) (raisedGood N field′ k′)
+      (λ c h. rw (volume-is L labels p lent c h, mass-is L labels p lent c h, release-is L labels p lent c h)
       (each-fine 18 (M .cells) (raisedGood M field k) (past .raised-values-fine) (cell L labels p lent c) (cell-in c h)))
 
   -- causes 9 and 10
   in-same : (c : ℕ) → c < N .cells → incoming N (flux (stepInput part)) c ≡ incoming M (flux (stepInput L)) (cell L labels p lent c)
-  in-same = incoming-part (part-mesh L labels p lent (whole .counts-fit .few-cells) (whole .fit)) (flux (stepInput L)) (flux (stepInput part)) (flux-is L labels p lent)
+  in-same = incoming-part (part-mesh L labels p lent (whole .counts-fit .few-cells) (whole .fit)) (flux (stepInput L)) (flux (stepInput part))
+      (flux-is L labels p lent)
 
   out-same : (c : ℕ) → c < N .cells → outgoing N (flux (stepInput part)) c ≡ outgoing M (flux (stepInput L)) (cell L labels p lent c)
-  out-same = outgoing-part (part-mesh L labels p lent (whole .counts-fit .few-cells) (whole .fit)) (flux (stepInput L)) (flux (stepInput part)) (flux-is L labels p lent)
+  out-same = outgoing-part (part-mesh L labels p lent (whole .counts-fit .few-cells) (whole .fit)) (flux (stepInput L)) (flux (stepInput part))
+      (flux-is L labels p lent)
 
   balance-good : (c : ℕ) → c < N .cells → balanceGood N field′ k′ c ≡ true
   unfolding balanceGood
@@ -214,7 +225,8 @@ module _ (L : Lagoon) (labels : List ℕ) (p : ℕ) (lent : Tables) (nexts : Lis
 
   outflow-good : (c : ℕ) → c < N .cells → outflowGood N field′ k′ c ≡ true
   unfolding outflowGood
-  outflow-good c h = le-leb (outgoing N (flux (stepInput part)) c) (volume N c) (rw (out-same c h, volume-is L labels p lent c h) (whole .sound .courant (cell L labels p lent c) (cell-in c h)))
+  outflow-good c h = le-leb (outgoing N (flux (stepInput part)) c) (volume N c)
+      (rw (out-same c h, volume-is L labels p lent c h) (whole .sound .courant (cell L labels p lent c) (cell-in c h)))
 
   step-values-pass : stepValues ceiling N field′ k′ ≡ fine
   unfolding stepValues
@@ -228,5 +240,16 @@ module _ (L : Lagoon) (labels : List ℕ) (p : ℕ) (lent : Tables) (nexts : Lis
 
   pub part-fine : verdict N field′ k′ ≡ fine
   unfolding verdict
-  part-fine = fine-all (stepCauses N field′ k′)
-      (counts-pass, (mesh-tables-pass, (field-table-pass, (step-tables-pass, (mesh-values-pass, (field-values-pass, (raised-values-pass, (step-values-pass, tt))))))))
+  part-fine = fine-all (stepCauses N field′ k′) (
+    counts-pass,
+    (
+      mesh-tables-pass,
+      (
+        field-table-pass,
+        (
+          step-tables-pass,
+          (mesh-values-pass, (field-values-pass, (raised-values-pass, (step-values-pass, tt)))),
+        ),
+      ),
+    ),
+  )

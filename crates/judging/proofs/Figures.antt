@@ -15,7 +15,8 @@ use Rattle.model.proofs.Figures.{channel}
 -- a name for all that a figure computes through
 everything : Unit {0}
 unfolding nextTable over claimVerdict unworkedVerdict claimTables amountsVerdict claimGood boundsGood counts countsWithin meshTables fieldTable
-    meshValues fieldValues saltGood raised raisedGood raisedValues stepValues volumeGood endsGood spacingGood outsideGood fluxGood balanceGood outflowGood need each
+    meshValues fieldValues saltGood raised raisedGood raisedValues stepValues volumeGood endsGood spacingGood outsideGood fluxGood balanceGood outflowGood need
+    each
     _andThen_ table sum least greatest entering leaving incoming outgoing updated rounded beyond upwind carried adjacent lo hi
 everything = tt
 

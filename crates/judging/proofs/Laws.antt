@@ -105,7 +105,8 @@ module _ (M : Mesh) (masses : List ℕ) (fluxes : List ℤ) (outsides releases :
       affords e c h = rw (into-is c, out-is c, holds-is c h) (claim-bounds S x e c h .0)
 
       pub next-is : (next : List ℕ)
-          → over (table (M .cells) (nextAt masses releases (inflow (M .faces) (M .firsts) (M .seconds) claim) (outflow (M .faces) (M .firsts) (M .seconds) claim))) next
+          → over (table (M .cells) (nextAt masses releases (inflow (M .faces) (M .firsts) (M .seconds) claim)
+          (outflow (M .faces) (M .firsts) (M .seconds) claim))) next
           ≡ over (table (M .cells) (updated M (mass S) x)) next
       unfolding updated
       next-is next = ap (λ (t : List ℕ). over t next) (table-cong 0 (M .cells) _ _ (λ c h. rw (into-is c, out-is c, holds-is c h)))
@@ -119,17 +120,20 @@ module _ (M : Mesh) (masses : List ℕ) (fluxes : List ℤ) (outsides releases :
         unfolding claimGood
         claims-are = each-cong 21 (M .faces) _ _ (λ f l. rw (s .moved-at f l))
 
-        pub bounds-are : boundsVerdict (M .cells) (M .faces) (M .volumes) (M .firsts) (M .seconds) masses claim releases work ≡ each 22 (M .cells) (boundsGood S x)
+        pub bounds-are : boundsVerdict (M .cells) (M .faces) (M .volumes) (M .firsts) (M .seconds) masses claim releases work
+            ≡ each 22 (M .cells) (boundsGood S x)
         unfolding boundsGood lo hi
         bounds-are = each-cong 22 (M .cells) _ _ (λ c h. rw (s .lo-at c h, s .hi-at c h, into-is c, out-is c, holds-is c h))
 
         -- the answers
-        pub refused-21 : {i j : ℕ} → each 21 (M .faces) (claimAt (M .seconds) fluxes said-masses claim) ≡ refused i j → refused i j ≡ amountsAnswer S claim releases
+        pub refused-21 : {i j : ℕ} → each 21 (M .faces) (claimAt (M .seconds) fluxes said-masses claim) ≡ refused i j → refused i j
+            ≡ amountsAnswer S claim releases
         unfolding amountsVerdict
         refused-21 e = sym (out _ (out _ (sym claims-are ∙ e)))
 
         pub refused-22 : {i j : ℕ} → each 21 (M .faces) (claimAt (M .seconds) fluxes said-masses claim) ≡ fine
-            → boundsVerdict (M .cells) (M .faces) (M .volumes) (M .firsts) (M .seconds) masses claim releases work ≡ refused i j → refused i j ≡ amountsAnswer S claim releases
+            → boundsVerdict (M .cells) (M .faces) (M .volumes) (M .firsts) (M .seconds) masses claim releases work ≡ refused i j → refused i j
+            ≡ amountsAnswer S claim releases
         unfolding amountsVerdict
         refused-22 e d = sym (out _ (past _ (sym claims-are ∙ e) ∙ sym bounds-are ∙ d))
 
@@ -152,7 +156,8 @@ module _ (M : Mesh) (masses : List ℕ) (k : Call) where
     pub refused-last : {r : Refusal} → a ≡ Refused r → JudgePromise M masses k (Refused r) (k .nexts)
     unfolding stepAnswer nextTable claimVerdict
     refused-last {r} g =
-        let e : amountsVerdict (inputOf M masses k) (claimed k) ≡ told r = refused-of (amountsVerdict (inputOf M masses k) (claimed k)) _ _ _ (sym (ap stepSaid g) ∙ says) in
+        let e : amountsVerdict (inputOf M masses k) (claimed k) ≡ told r =
+        refused-of (amountsVerdict (inputOf M masses k) (claimed k)) _ _ _ (sym (ap stepSaid g) ∙ says) in
         let v : claimVerdict M masses k ≡ told r = past _ u ∙ e in
         record { answer = sym (out _ v); next-masses = rw v }
 
@@ -164,7 +169,8 @@ module _ (M : Mesh) (masses : List ℕ) (k : Call) where
       unfolding amountsVerdict
       first-fine = both-fine _ _ amounts-fine .0
 
-      pub accepted-last : (next : List ℕ) → next ≡ over (table (M .cells) (updated M (mass (inputOf M masses k)) (claimed k))) (k .nexts) → JudgePromise M masses k (Stepped b) next
+      pub accepted-last : (next : List ℕ) → next ≡ over (table (M .cells) (updated M (mass (inputOf M masses k)) (claimed k))) (k .nexts)
+          → JudgePromise M masses k (Stepped b) next
       unfolding stepAnswer nextTable claimVerdict
       accepted-last next q =
           let v : claimVerdict M masses k ≡ fine = past _ u ∙ amounts-fine in

@@ -41,8 +41,10 @@ pub claim-by-parts : (second : ℕ) (u y x : ℤ) → claimParts second (size u)
 claim-by-parts second u y x = rw (zero-size u, zero-size x, amounts-agree x y)
 
 -- the gathered sums
-module _ (cells faces : ℕ) (firsts seconds : List ℕ) (claim : List ℤ) (few : cells ≤ maxCells) (few-faces : faces ≤ maxFaces) (fit : FacesFit faces firsts seconds claim)
-    (xs ys : List ℕ) (e : xs ≡ table (maxCells + 1) (inflow faces firsts seconds claim)) (d : ys ≡ table (maxCells + 1) (outflow faces firsts seconds claim)) where
+module _ (cells faces : ℕ) (firsts seconds : List ℕ) (claim : List ℤ) (few : cells ≤ maxCells) (few-faces : faces ≤ maxFaces)
+    (fit : FacesFit faces firsts seconds claim)
+    (xs ys : List ℕ) (e : xs ≡ table (maxCells + 1) (inflow faces firsts seconds claim))
+    (d : ys ≡ table (maxCells + 1) (outflow faces firsts seconds claim)) where
   abbrev into : ℕ → ℕ
   into = inflow faces firsts seconds claim
 
@@ -59,11 +61,17 @@ module _ (cells faces : ℕ) (firsts seconds : List ℕ) (claim : List ℤ) (few
   summed = record {
     enters-long = omega (arith, ap length e ∙ length-table _ _);
     leaves-long = omega (arith, ap length d ∙ length-table _ _);
-    enters-small = λ c h. omega (arith, enters-is c h, incoming-most (facesOnly faces firsts seconds) (λ f. getD claim f (pos 0)) maxClaim few-faces (λ f l. fit f l .2) c);
+    enters-small = λ c h. omega (
+      arith,
+      enters-is c h,
+      incoming-most (facesOnly faces firsts seconds) (λ f. getD claim f (pos 0)) maxClaim few-faces
+          (λ f l. fit f l .2) c,
+    );
   }
 
   pub bounds-read : (volumes masses releases work : List ℕ)
-      → each 22 cells (boundsAt volumes masses releases work (entry xs) (entry ys)) ≡ boundsVerdict cells faces volumes firsts seconds masses claim releases work
+      → each 22 cells (boundsAt volumes masses releases work (entry xs) (entry ys))
+      ≡ boundsVerdict cells faces volumes firsts seconds masses claim releases work
   bounds-read volumes masses releases work = each-cong 22 cells _ _ (λ c h. rw (enters-is c h, leaves-is c h))
 
   pub affords-read : (masses releases : List ℕ) → Affords cells masses releases into out-of → Affords cells masses releases (entry xs) (entry ys)

@@ -18,14 +18,16 @@ use Rattle.lagoon.specs.KindThree.{hostVerdict01, nextRecord01, HostAsBe
 module _ (w : Width) (mesh field step : List ℕ) (e : kindIn step ≡ waterKind w) where
   verdict-same : (room : ℕ) → hostVerdict mesh field step room ≡ hostVerdict01 mesh field step room
   unfolding hostVerdict
-  verdict-same room = ap (λ (v : Verdict). meshTested mesh field step andThen fieldTested mesh field step andThen v andThen bytesLong (fieldLength (fieldKind (widthIn mesh)) (meshIn mesh .cells)) room)
+  verdict-same room = ap (λ (v : Verdict). meshTested mesh field step andThen fieldTested mesh field step andThen v
+      andThen bytesLong (fieldLength (fieldKind (widthIn mesh)) (meshIn mesh .cells)) room)
       (judged-same w (widthIn mesh) (meshIn mesh) (massesIn field (meshIn mesh .cells)) step e)
 
   step-fine : (room : ℕ) → hostVerdict mesh field step room ≡ fine → stepJudged (widthIn mesh) (meshIn mesh) (massesIn field (meshIn mesh .cells)) step ≡ fine
   unfolding hostVerdict
   step-fine room q = both-fine _ _ (both-fine _ _ q .0) .1
 
-  bytes-same : (bytes : List ℕ) (v : Verdict) → hostVerdict mesh field step (length bytes) ≡ v → hostBytes mesh field step bytes ≡ taken v (over (nextRecord01 mesh field step) bytes) bytes
+  bytes-same : (bytes : List ℕ) (v : Verdict) → hostVerdict mesh field step (length bytes) ≡ v → hostBytes mesh field step bytes
+      ≡ taken v (over (nextRecord01 mesh field step) bytes) bytes
   unfolding hostBytes
   bytes-same bytes (accepted t) q = rw q (ap (λ (xs : List ℕ). over (fieldRecord (fieldKind (widthIn mesh)) (meshIn mesh .cells) xs) bytes)
       (next-same w (widthIn mesh) (meshIn mesh) (massesIn field (meshIn mesh .cells)) step e (step-fine (length bytes) q)))

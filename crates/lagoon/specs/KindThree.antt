@@ -17,10 +17,12 @@ module _ (mesh field step : List ℕ) where
   -- what document 01 has the call find, and the bytes that it leaves
   abbrev pub hostVerdict01 : ℕ → Verdict
   hostVerdict01 room = meshTested mesh field step andThen fieldTested mesh field step
-      andThen judged01 (widthIn mesh) (meshIn mesh) (massesIn field (meshIn mesh .cells)) step andThen bytesLong (fieldLength (fieldKind (widthIn mesh)) (meshIn mesh .cells)) room
+      andThen judged01 (widthIn mesh) (meshIn mesh) (massesIn field (meshIn mesh .cells)) step
+      andThen bytesLong (fieldLength (fieldKind (widthIn mesh)) (meshIn mesh .cells)) room
 
   abbrev pub nextRecord01 : List ℕ
-  nextRecord01 = fieldRecord (fieldKind (widthIn mesh)) (meshIn mesh .cells) (table (meshIn mesh .cells) (next (step01 (meshIn mesh) (massesIn field (meshIn mesh .cells)) step)))
+  nextRecord01 = fieldRecord (fieldKind (widthIn mesh)) (meshIn mesh .cells)
+      (table (meshIn mesh .cells) (next (step01 (meshIn mesh) (massesIn field (meshIn mesh .cells)) step)))
 
   abbrev pub hostBytes01 : List ℕ → List ℕ
   hostBytes01 bytes = taken (hostVerdict01 (length bytes)) (over nextRecord01 bytes) bytes

@@ -34,11 +34,13 @@ module _ (m n : ℕ) (g f : ℕ → ℕ) (to from : ℕ → ℕ) (to-in : (j : �
       go true (same e) = rw e (sum-cong m (λ j. cond (eqb (to j) i) 0 0) (λ j. 0) (λ j l. cond-same (eqb (to j) i) 0) ∙ sum-zeros m)
       go false (other d) =
           let p = rest i h d in
-          sum-cong m (λ j. cond (eqb (to j) i) (f i) 0) (λ j. cond (eqb (from i) j) (f i) 0) (λ j l. ap (λ (b : Bool). cond b (f i) 0) (once (p .1) j l)) ∙ sum-pick m (from i) (f i) (p .0)
+          sum-cong m (λ j. cond (eqb (to j) i) (f i) 0) (λ j. cond (eqb (from i) j) (f i) 0) (λ j l. ap (λ (b : Bool). cond b (f i) 0) (once (p .1) j l))
+          ∙ sum-pick m (from i) (f i) (p .0)
 
   pub sum-along : sum m g ≡ sum n f
   sum-along =
-      sum-cong m g (λ j. sum n (λ i. cond (eqb (to j) i) (f i) 0)) (λ j l. same-at j l ∙ sym (sum-cong n _ _ (λ i h. at-j j i) ∙ sum-pick n (to j) (f (to j)) (to-in j l)))
+      sum-cong m g (λ j. sum n (λ i. cond (eqb (to j) i) (f i) 0))
+      (λ j l. same-at j l ∙ sym (sum-cong n _ _ (λ i h. at-j j i) ∙ sum-pick n (to j) (f (to j)) (to-in j l)))
       ∙ sum-swap m n (λ j i. cond (eqb (to j) i) (f i) 0)
       ∙ sum-cong n (λ i. sum m (λ j. cond (eqb (to j) i) (f i) 0)) f met
     where
@@ -63,14 +65,17 @@ module _ (n : ℕ) (r : Renumbering n) (g f : ℕ → ℕ) (same-at : (i : ℕ) 
 
   pub least-renumbered : (t s : ℕ) → t ≡ s → least n t g ≡ least n s f
   least-renumbered t s e =
-      let a = least-ge n s f (least n t g) (omega (arith, least-start n t g)) (λ i h. omega (arith, least-each n t g (r .new i) (r .new-in i h), same-at i h)) in
+      let a = least-ge n s f (least n t g) (omega (arith, least-start n t g)) (λ i h. omega (arith, least-each n t g (r .new i) (r .new-in i h), same-at i h))
+      in
       let b = least-ge n t g (least n s f) (omega (arith, least-start n s f)) (λ i h. omega (arith, least-each n s f (r .old i) (r .old-in i h), at-old i h)) in
       omega arith
 
   pub greatest-renumbered : (t s : ℕ) → t ≡ s → greatest n t g ≡ greatest n s f
   greatest-renumbered t s e =
-      let a = greatest-le n s f (greatest n t g) (omega (arith, greatest-start n t g)) (λ i h. omega (arith, greatest-each n t g (r .new i) (r .new-in i h), same-at i h)) in
-      let b = greatest-le n t g (greatest n s f) (omega (arith, greatest-start n s f)) (λ i h. omega (arith, greatest-each n s f (r .old i) (r .old-in i h), at-old i h)) in
+      let a = greatest-le n s f (greatest n t g) (omega (arith, greatest-start n t g))
+      (λ i h. omega (arith, greatest-each n t g (r .new i) (r .new-in i h), same-at i h)) in
+      let b = greatest-le n t g (greatest n s f) (omega (arith, greatest-start n s f))
+      (λ i h. omega (arith, greatest-each n s f (r .old i) (r .old-in i h), at-old i h)) in
       omega arith
 
 -- what is told apart is told apart by the new numbers

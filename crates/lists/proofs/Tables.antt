@@ -85,13 +85,15 @@ set-suc f n [] l = absurd (not-suc-le-zero l)
 set-suc f zero (y ∷ ys) l = refl
 set-suc f (suc n) (y ∷ ys) l = ap (λ t. f zero ∷ t) (set-suc (λ k. f (suc k)) n ys (le-of-suc-le-suc l))
 
-pub over-step {ℓ} : {A : Type ℓ} (f : ℕ → A) (ys : List A) (n : ℕ) {s : List A} {v : A} → n < length ys → s ≡ over (table n f) ys → v ≡ f n → set s n v ≡ over (table (n + 1) f) ys
+pub over-step {ℓ} : {A : Type ℓ} (f : ℕ → A) (ys : List A) (n : ℕ) {s : List A} {v : A} → n < length ys → s ≡ over (table n f) ys → v ≡ f n → set s n v
+    ≡ over (table (n + 1) f) ys
 over-step f ys n l e q = rw (e, q, over-table n f ys, over-table (n + 1) f ys, add-one n) (set-suc f n ys l)
 
 pub over-all {ℓ} : {A : Type ℓ} (n : ℕ) (f : ℕ → A) (ys : List A) → length ys ≤ n → over (table n f) ys ≡ table n f
 over-all n f ys l = rw (over-table n f ys, drop-of-length-le ys l) (append-nil (table n f))
 
-pub over-done {ℓ} : {A : Type ℓ} (f : ℕ → A) (ys : List A) (n : ℕ) {s : List A} → n ≤ length ys → length ys ≤ n → s ≡ over (table n f) ys → s ≡ table (length ys) f
+pub over-done {ℓ} : {A : Type ℓ} (f : ℕ → A) (ys : List A) (n : ℕ) {s : List A} → n ≤ length ys → length ys ≤ n → s ≡ over (table n f) ys → s
+    ≡ table (length ys) f
 over-done f ys n l m e = let q : n ≡ length ys = omega arith in e ∙ over-all n f ys m ∙ ap (λ (k : ℕ). table k f) q
 
 -- a part of n entries, lent and given back as a table of k entries

@@ -63,8 +63,11 @@ call-lent M field k e =
 ends-say : (n l k : ℕ) → (ltb l n && (ltb k n || eqb k rim) && not (eqb l k)) ≡ true → (l < n) × (k ≢ rim → k < n) × (l ≢ k)
 ends-say n l k e =
     let a = both-true (ltb l n && (ltb k n || eqb k rim)) (not (eqb l k)) e in
-    let b = both-true (ltb l n) (ltb k n || eqb k rim) (a .0) in
-    (leb-true (suc l) n (b .0), (λ d. leb-true (suc k) n (either-true (ltb k n) (eqb k rim) (b .1) (ne-eqb k rim d))), eqb-false l k (not-true (eqb l k) (a .1)))
+    let b = both-true (ltb l n) (ltb k n || eqb k rim) (a .0) in (
+      leb-true (suc l) n (b .0),
+      (λ d. leb-true (suc k) n (either-true (ltb k n) (eqb k rim) (b .1) (ne-eqb k rim d))),
+      eqb-false l k (not-true (eqb l k) (a .1)),
+    )
 
 -- and back
 pub ends-pass : (n l k : ℕ) → l < n → (k ≢ rim → k < n) → l ≢ k → (ltb l n && (ltb k n || eqb k rim) && not (eqb l k)) ≡ true
@@ -81,7 +84,8 @@ ends-pass n l k h g d = rw (le-leb (suc l) n h, ne-eqb l k d, second-passes (eqb
 spacing-says : (most k s r : ℕ) → spacingFit most k s r ≡ true → (s ≤ maxShare) × (r ≤ most) × (k ≢ rim → 1 ≤ r)
 spacing-says most k s r e = go (eqb k rim) (same? k rim) e
   where
-    go : (b : Bool) → Same k rim b → cond b (eqb s 0 && eqb r 0) (between 1 maxShare s && between 1 most r) ≡ true → (s ≤ maxShare) × (r ≤ most) × (k ≢ rim → 1 ≤ r)
+    go : (b : Bool) → Same k rim b → cond b (eqb s 0 && eqb r 0) (between 1 maxShare s && between 1 most r) ≡ true → (s ≤ maxShare) × (r ≤ most)
+        × (k ≢ rim → 1 ≤ r)
     go true (same d) e = let p = both-true (eqb s 0) (eqb r 0) e in (omega (arith, eqb-true s 0 (p .0)), omega (arith, eqb-true r 0 (p .1)), λ n. absurd (n d))
     go false o e =
         let p = both-true (between 1 maxShare s) (between 1 most r) e in
@@ -102,7 +106,8 @@ module _ (most : ℕ) (M : Mesh) (e : meshValues most M ≡ fine) where
 
   pub spaced-within : (f : ℕ) → f < M .faces → (share M f ≤ maxShare) × (reach M f ≤ most) × (second M f ≢ rim → 1 ≤ reach M f)
   unfolding meshValues spacingGood
-  spaced-within f h = spacing-says most (second M f) (share M f) (reach M f) (each-fine 5 (M .faces) (spacingGood most M) (all-fine (meshCauses most M) e .1 .1 .0) f h)
+  spaced-within f h = spacing-says most (second M f) (share M f) (reach M f)
+      (each-fine 5 (M .faces) (spacingGood most M) (all-fine (meshCauses most M) e .1 .1 .0) f h)
 
   -- by a ceiling that is no larger than that of the calls
   pub fit-within : most ≤ ceiling → MeshFit M
@@ -125,10 +130,12 @@ pub field-fit : (M : Mesh) (field : List ℕ) → fieldValues M field ≡ fine �
 unfolding fieldValues saltGood
 field-fit M field e c h = leb-true _ _ (each-fine 6 (M .cells) (saltGood M field) e c h)
 
-pub field-accepted : (M : Mesh) (field : List ℕ) → M .cells ≤ length field → ((c : ℕ) → c < M .cells → getD field c 0 / volume M c ≤ maxConcentration) → fieldVerdict M field ≡ fine
+pub field-accepted : (M : Mesh) (field : List ℕ) → M .cells ≤ length field → ((c : ℕ) → c < M .cells → getD field c 0 / volume M c ≤ maxConcentration)
+    → fieldVerdict M field ≡ fine
 unfolding fieldVerdict fieldTable fieldValues saltGood _andThen_
 field-accepted M field long fresh =
-    rw (need-met 2 5 (le-leb (M .cells) (length field) long)) (fine-each 6 (M .cells) (saltGood M field) (λ c h. le-leb (getD field c 0 / volume M c) maxConcentration (fresh c h)))
+    rw (need-met 2 5 (le-leb (M .cells) (length field) long))
+    (fine-each 6 (M .cells) (saltGood M field) (λ c h. le-leb (getD field c 0 / volume M c) maxConcentration (fresh c h)))
 
 -- past cause 18
 pub raised-fit : (M : Mesh) (field : List ℕ) (k : Call) → raisedValues M field k ≡ fine → (c : ℕ) → c < M .cells
@@ -144,7 +151,8 @@ outside-says o false e = omega (arith, leb-true o 0 e)
 module _ (M : Mesh) (field : List ℕ) (k : Call) where
   pub outside-within : each 7 (M .faces) (outsideGood M field k) ≡ fine → (f : ℕ) → f < M .faces → outside (inputOf M field k) f ≤ maxConcentration
   unfolding outsideGood
-  outside-within e f h = outside-says (outside (inputOf M field k) f) (atRim M f && isNegative (flux (inputOf M field k) f)) (each-fine 7 (M .faces) (outsideGood M field k) e f h)
+  outside-within e f h = outside-says (outside (inputOf M field k) f) (atRim M f && isNegative (flux (inputOf M field k) f))
+      (each-fine 7 (M .faces) (outsideGood M field k) e f h)
 
   pub flux-within : (most : ℕ) → each 8 (M .faces) (fluxGood most M field k) ≡ fine → (f : ℕ) → f < M .faces
       → size (flux (inputOf M field k) f) ≤ cond (atRim M f) most (reach M f)
@@ -155,7 +163,8 @@ module _ (M : Mesh) (field : List ℕ) (k : Call) where
   water-fit e d = record { outside-most = outside-within e; flux-most = flux-within ceiling d }
 
   -- past causes 9 and 10
-  pub level : each 9 (M .cells) (balanceGood M field k) ≡ fine → (c : ℕ) → c < M .cells → incoming M (flux (inputOf M field k)) c ≡ outgoing M (flux (inputOf M field k)) c
+  pub level : each 9 (M .cells) (balanceGood M field k) ≡ fine → (c : ℕ) → c < M .cells → incoming M (flux (inputOf M field k)) c
+      ≡ outgoing M (flux (inputOf M field k)) c
   unfolding balanceGood
   level e c h = eqb-true _ _ (each-fine 9 (M .cells) (balanceGood M field k) e c h)
 
@@ -165,7 +174,8 @@ module _ (M : Mesh) (field : List ℕ) (k : Call) where
 
 -- the lengths that the tests of values ask for
 pub mesh-long : (M : Mesh) → (counts M andThen meshTables M) ≡ fine
-    → (M .cells ≤ length (M .volumes)) × (M .faces ≤ length (M .firsts)) × (M .faces ≤ length (M .seconds)) × (M .faces ≤ length (M .shares)) × (M .faces ≤ length (M .reaches))
+    → (M .cells ≤ length (M .volumes)) × (M .faces ≤ length (M .firsts)) × (M .faces ≤ length (M .seconds)) × (M .faces ≤ length (M .shares))
+    × (M .faces ≤ length (M .reaches))
 mesh-long M e =
     let l = mesh-lent M (both-fine _ _ e .1) in
     (l .volumes-long, l .firsts-long, l .seconds-long, l .shares-long, l .reaches-long)
@@ -184,7 +194,8 @@ field-passed {M} {field} e =
     record { lent-fine = b .0; mesh-fine = b .1; field-fine = a .1 }
 
 -- what cause 6 asks for
-pub salt-asks-within : (most : ℕ) → most ≤ ceiling → (M : Mesh) (field : List ℕ) → (counts M andThen meshTables M andThen fieldTable M field) ≡ fine → meshValues most M ≡ fine
+pub salt-asks-within : (most : ℕ) → most ≤ ceiling → (M : Mesh) (field : List ℕ) → (counts M andThen meshTables M andThen fieldTable M field) ≡ fine
+    → meshValues most M ≡ fine
     → ((M .cells ≤ length (M .volumes)) × (M .cells ≤ length field)) × ((c : ℕ) → c < M .cells → (1 ≤ volume M c) × (volume M c ≤ maxVolume))
 salt-asks-within most l M field e d =
     let p = both-fine _ _ e in
@@ -287,7 +298,8 @@ module _ (S : StepInput) (r : Ready S) where
   open StepInput S using (mesh as M)
 
   pub adjacent-most : (c f : ℕ) → c < M .cells → f < M .faces → adjacent S c f ≤ maxConcentration
-  adjacent-most c f h l = met-any (λ q. q ≤ maxConcentration) S c f (r .salt-most c h) (r .salt-most (first M f) (r .fit .first-in f l)) (λ d e. r .water .outside-most f l)
+  adjacent-most c f h l = met-any (λ q. q ≤ maxConcentration) S c f (r .salt-most c h) (r .salt-most (first M f) (r .fit .first-in f l))
+      (λ d e. r .water .outside-most f l)
       (λ d. r .salt-most (second M f) (r .fit .second-in f l d))
 
   pub hi-most : (c : ℕ) → c < M .cells → hi S c ≤ maxConcentration

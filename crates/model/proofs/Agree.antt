@@ -46,7 +46,14 @@ meshes-alike M M′ m = record {
 
 agree-alike : (S S′ : StepInput) → Agree S S′ → Alike S S′ (unmoved (S .mesh .cells)) (unmoved (S .mesh .faces)) (λ f. false)
 agree-alike S S′ g =
-    record { mesh-alike = meshes-alike (S .mesh) (S′ .mesh) (g .mesh-agrees); mass-same = g .masses; q-same = g .q-agrees; flux-same = g .fluxes; outside-same = g .outsides }
+    record {
+      mesh-alike = meshes-alike (S .mesh) (S′ .mesh) (g .mesh-agrees);
+      mass-same = g .masses;
+      q-same = g .q-agrees;
+      flux-same = g .fluxes;
+      outside-same =
+          g .outsides;
+    }
 
 -- the stages
 module _ (S S′ : StepInput) (few : S .mesh .cells ≤ rim) (fit : MeshFit (S .mesh)) (g : Agree S S′) where
@@ -166,12 +173,15 @@ module _ (M M′ : Mesh) (field field′ : List ℕ) (k k′ : Call) (a : AgreeC
   crossing-agree = crossing-alike M M′ _ _ _ field field′ k k′ calls-alike
 
   -- where cause 2 finds the same too, as in tables that are all long enough
-  module _ (mesh-lent : meshTables M′ ≡ meshTables M) (field-lent : fieldTable M′ field′ ≡ fieldTable M field) (call-lent : stepTables M′ field′ k′ ≡ stepTables M field k) where
+  module _ (mesh-lent : meshTables M′ ≡ meshTables M) (field-lent : fieldTable M′ field′ ≡ fieldTable M field)
+      (call-lent : stepTables M′ field′ k′ ≡ stepTables M field k) where
     pub verdict-agree : verdict M′ field′ k′ ≡ verdict M field k
-    verdict-agree = verdict-alike true M M′ _ _ _ (λ q c h. refl) (λ q f l. refl) field field′ k k′ calls-alike mesh-lent field-lent call-lent (mesh-values-agree M M′ m)
+    verdict-agree = verdict-alike true M M′ _ _ _ (λ q c h. refl) (λ q f l. refl) field field′ k k′ calls-alike mesh-lent field-lent call-lent
+        (mesh-values-agree M M′ m)
 
     -- what an accepted call makes of the stages is the same; a refused one makes nothing of them
-    after-agree : {A : Type 0} (x x′ y y′ : A) → (verdict M field k ≡ fine → x′ ≡ x) → y′ ≡ y → taken (verdict M′ field′ k′) x′ y′ ≡ taken (verdict M field k) x y
+    after-agree : {A : Type 0} (x x′ y y′ : A) → (verdict M field k ≡ fine → x′ ≡ x) → y′ ≡ y → taken (verdict M′ field′ k′) x′ y′
+        ≡ taken (verdict M field k) x y
     after-agree x x′ y y′ d q = rw (verdict-agree, q) (go (verdict M field k) refl)
       where
         go : (v : Verdict) → verdict M field k ≡ v → taken v x′ y ≡ taken v x y
@@ -180,7 +190,8 @@ module _ (M M′ : Mesh) (field field′ : List ℕ) (k k′ : Call) (a : AgreeC
 
     pub answer-agree : stepAnswer corrected M′ k′ field′ ≡ stepAnswer corrected M k field
     unfolding stepAnswer
-    answer-agree = answer-alike true M M′ _ _ _ (λ q c h. refl) (λ q f l. refl) field field′ k k′ calls-alike mesh-lent field-lent call-lent (mesh-values-agree M M′ m)
+    answer-agree = answer-alike true M M′ _ _ _ (λ q c h. refl) (λ q f l. refl) field field′ k k′ calls-alike mesh-lent field-lent call-lent
+        (mesh-values-agree M M′ m)
 
     pub next-table-agree : k′ .nexts ≡ k .nexts → nextTable corrected M′ k′ field′ ≡ nextTable corrected M k field
     unfolding nextTable next
@@ -188,7 +199,8 @@ module _ (M M′ : Mesh) (field field′ : List ℕ) (k k′ : Call) (a : AgreeC
       where
         nexts : verdict M field k ≡ fine → table (M′ .cells) (next S′) ≡ table (M .cells) (next S)
         nexts v = let r = ready M field k v in
-            ap (λ (n : ℕ). table n (next S′)) (m .cells-same) ∙ table-cong 0 (M .cells) (next S′) (next S) (next-agree S S′ (r .counts-fit .few-cells) (r .fit) g)
+            ap (λ (n : ℕ). table n (next S′)) (m .cells-same)
+            ∙ table-cong 0 (M .cells) (next S′) (next S) (next-agree S S′ (r .counts-fit .few-cells) (r .fit) g)
 
     pub moved-table-agree : k′ .moveds ≡ k .moveds → movedTable corrected M′ k′ field′ ≡ movedTable corrected M k field
     unfolding movedTable
@@ -196,7 +208,8 @@ module _ (M M′ : Mesh) (field field′ : List ℕ) (k k′ : Call) (a : AgreeC
       where
         moveds : verdict M field k ≡ fine → table (M′ .faces) (moved S′) ≡ table (M .faces) (moved S)
         moveds v = let r = ready M field k v in
-            ap (λ (n : ℕ). table n (moved S′)) (m .faces-same) ∙ table-cong (pos 0) (M .faces) (moved S′) (moved S) (moved-agree S S′ (r .counts-fit .few-cells) (r .fit) g)
+            ap (λ (n : ℕ). table n (moved S′)) (m .faces-same)
+            ∙ table-cong (pos 0) (M .faces) (moved S′) (moved S) (moved-agree S S′ (r .counts-fit .few-cells) (r .fit) g)
 
   -- what an accepted call owes of the one, it owes of the other
   module _ (few : M .cells ≤ rim) (fit : MeshFit M) where
@@ -205,7 +218,12 @@ module _ (M M′ : Mesh) (field field′ : List ℕ) (k k′ : Call) (a : AgreeC
 
     pub fair-agree : (l : Left) → Fair M′ (Bounded S′ (l .field)) field′ l → Fair M (Bounded S (l .field)) field l
     fair-agree l f = record {
-      budget = omega (arith, f .budget, total-agree M M′ m (massIn field) (massIn field′) (a .masses), total-agree M M′ m (massIn (l .field)) (massIn (l .field)) (λ c h. refl));
+      budget = omega (
+        arith,
+        f .budget,
+        total-agree M M′ m (massIn field) (massIn field′) (a .masses),
+        total-agree M M′ m (massIn (l .field)) (massIn (l .field)) (λ c h. refl),
+      );
       holds = bounded-agree (l .field) (f .holds);
       field-accepted = sym (field-verdict-agree M M′ m (l .field)) ∙ f .field-accepted;
     }

@@ -83,7 +83,8 @@ each-alike p k n r kept good good′ e h = ap (λ (m : ℕ). withPlace p (each k
         ∙ sym (each-unplaced k n good)
 
 -- cause 6
-pub field-values-alike : (p : Bool) (M M′ : Mesh) (cell : Renumbering (M .cells)) → NumbersKept p (M .cells) cell → (field field′ : List ℕ) → M′ .cells ≡ M .cells
+pub field-values-alike : (p : Bool) (M M′ : Mesh) (cell : Renumbering (M .cells)) → NumbersKept p (M .cells) cell → (field field′ : List ℕ) → M′ .cells
+    ≡ M .cells
     → ((c : ℕ) → c < M .cells → volume M′ (cell .new c) ≡ volume M c) → ((c : ℕ) → c < M .cells → getD field′ (cell .new c) 0 ≡ getD field c 0)
     → withPlace p (fieldValues M′ field′) ≡ withPlace p (fieldValues M field)
 unfolding fieldValues saltGood

@@ -36,14 +36,16 @@ keep-turned n new q q′ g t z l k s hl hk = rw (turn-negative t z (new l) (new 
     either false = refl
 
     go : (b : Bool)
-        → cond (smooths (q′ (cond b (new k) (new l))) (q′ (cond b (new l) (new k)))) (pos 0) (turn t z) ≡ turn t (cond (smooths (q (cond b k l)) (q (cond b l k))) (pos 0) z)
+        → cond (smooths (q′ (cond b (new k) (new l))) (q′ (cond b (new l) (new k)))) (pos 0) (turn t z)
+        ≡ turn t (cond (smooths (q (cond b k l)) (q (cond b l k))) (pos 0) z)
     go true = rw (g k hk, g l hl) (either (smooths (q k) (q l)))
     go false = rw (g l hl, g k hk) (either (smooths (q l) (q k)))
 
 -- a correction z from l to k, limited
 abbrev limit : (ℕ → ℕ) → (ℕ → ℕ) → (ℕ → ℕ) → (ℕ → ℕ) → ℤ → ℕ → ℕ → ℤ
 limit G P L N z l k = withSign (isNegative z)
-    (min (portion (size z) (G (cond (isNegative z) l k)) (P (cond (isNegative z) l k))) (portion (size z) (L (cond (isNegative z) k l)) (N (cond (isNegative z) k l))))
+    (min (portion (size z) (G (cond (isNegative z) l k)) (P (cond (isNegative z) l k)))
+    (portion (size z) (L (cond (isNegative z) k l)) (N (cond (isNegative z) k l))))
 
 limit-nothing : (G P L N : ℕ → ℕ) (z : ℤ) (l k : ℕ) → isZero z ≡ true → limit G P L N z l k ≡ pos 0
 limit-nothing G P L N z l k e = let n = size-zero z (isZero-size z e) in rw (n, portion-zero (G k) (P k), portion-zero (L l) (N l))
@@ -57,12 +59,14 @@ limit-turned n new G P L N G′ P′ L′ N′ g p e o t z l k s hl hk =
     (turn-withSign t z _ s ∙ ap (λ (w : ℕ). turn t (withSign (isNegative z) w)) (go (isNegative z)))
   where
     go : (b : Bool)
-        → min (portion (size z) (G′ (cond b (new l) (new k))) (P′ (cond b (new l) (new k)))) (portion (size z) (L′ (cond b (new k) (new l))) (N′ (cond b (new k) (new l))))
+        → min (portion (size z) (G′ (cond b (new l) (new k))) (P′ (cond b (new l) (new k))))
+        (portion (size z) (L′ (cond b (new k) (new l))) (N′ (cond b (new k) (new l))))
         ≡ min (portion (size z) (G (cond b l k)) (P (cond b l k))) (portion (size z) (L (cond b k l)) (N (cond b k l)))
     go true = rw (g l hl, p l hl, e k hk, o k hk)
     go false = rw (g k hk, p k hk, e l hl, o l hl)
 
-module _ (M M′ : Mesh) (j : Joined M) (cell : Renumbering (M .cells)) (face : Renumbering (M .faces)) (turns : ℕ → Bool) (a : AlikeEnds M M′ cell face turns) where
+module _ (M M′ : Mesh) (j : Joined M) (cell : Renumbering (M .cells)) (face : Renumbering (M .faces)) (turns : ℕ → Bool)
+    (a : AlikeEnds M M′ cell face turns) where
   -- no cell is the rim
   not-rim : (c : ℕ) → c < M .cells → eqb rim c ≡ false
   not-rim c h = ne-eqb rim c (λ e. absurd (omega (arith, j .few)))
@@ -83,10 +87,12 @@ module _ (M M′ : Mesh) (j : Joined M) (cell : Renumbering (M .cells)) (face : 
       go false (straight p q) = rw p (renumbered-eqb (M .cells) cell (first M f) c (j .first-in f l) h)
       go true (turned d p q) = rw p (renumbered-eqb (M .cells) cell (second M f) c (j .second-in f l d) h)
 
-  pub second-is : (f c : ℕ) → f < M .faces → c < M .cells → eqb (second M′ (face .new f)) (cell .new c) ≡ cond (turns f) (eqb (first M f) c) (eqb (second M f) c)
+  pub second-is : (f c : ℕ) → f < M .faces → c < M .cells → eqb (second M′ (face .new f)) (cell .new c)
+      ≡ cond (turns f) (eqb (first M f) c) (eqb (second M f) c)
   second-is f c l h = go (turns f) (a .facing f l)
     where
-      go : (t : Bool) → Facing M M′ (cell .new) f (face .new f) t → eqb (second M′ (face .new f)) (cell .new c) ≡ cond t (eqb (first M f) c) (eqb (second M f) c)
+      go : (t : Bool) → Facing M M′ (cell .new) f (face .new f) t → eqb (second M′ (face .new f)) (cell .new c)
+          ≡ cond t (eqb (first M f) c) (eqb (second M f) c)
       go false (straight p q) = rw q (second-tests (second M f) (j .second-in f l) c h)
       go true (turned d p q) = rw q (renumbered-eqb (M .cells) cell (first M f) c (j .first-in f l) h)
 
@@ -107,7 +113,8 @@ module _ (M M′ : Mesh) (j : Joined M) (cell : Renumbering (M .cells)) (face : 
 
   -- both ends of an interior face
   ends-alike : (f : ℕ) → second M f ≢ rim → (t : Bool) → Facing M M′ (cell .new) f (face .new f) t
-      → (first M′ (face .new f) ≡ cond t (cell .new (second M f)) (cell .new (first M f))) × (second M′ (face .new f) ≡ cond t (cell .new (first M f)) (cell .new (second M f)))
+      → (first M′ (face .new f) ≡ cond t (cell .new (second M f)) (cell .new (first M f)))
+      × (second M′ (face .new f) ≡ cond t (cell .new (first M f)) (cell .new (second M f)))
   ends-alike f d false (straight p q) = (p, q ∙ rw (ne-eqb (second M f) rim d))
   ends-alike f d true (turned _ p q) = (p, q)
 
@@ -125,7 +132,8 @@ module _ (M M′ : Mesh) (j : Joined M) (cell : Renumbering (M .cells)) (face : 
         (sum-renumbered (M .faces) face (leaving M′ x′ (cell .new c)) (leaving M x c)
         (λ f l. rw (first-is f c l h, second-is f c l h, along f l) (turn-passes (turns f) (eqb (first M f) c) (eqb (second M f) c) (x f))))
 
-    pub updated-alike : (m m′ : ℕ → ℕ) → ((c : ℕ) → c < M .cells → m′ (cell .new c) ≡ m c) → (c : ℕ) → c < M .cells → updated M′ m′ x′ (cell .new c) ≡ updated M m x c
+    pub updated-alike : (m m′ : ℕ → ℕ) → ((c : ℕ) → c < M .cells → m′ (cell .new c) ≡ m c) → (c : ℕ) → c < M .cells → updated M′ m′ x′ (cell .new c)
+        ≡ updated M m x c
     unfolding updated
     updated-alike m m′ e c h = rw (e c h, incoming-alike c h, outgoing-alike c h)
 
@@ -145,15 +153,18 @@ module _ (M M′ : Mesh) (j : Joined M) (cell : Renumbering (M .cells)) (face : 
             rw (p .0, p .1) (keep-turned (M .cells) (cell .new) q q′ e (turns f) (x f) (first M f) (second M f) z (j .first-in f l) (j .second-in f l d))
 
     -- The limiter, for a correction that is 0 at the rim.
-    pub limited-alike : (gain gain′ loss loss′ : ℕ → ℕ) → ((c : ℕ) → c < M .cells → gain′ (cell .new c) ≡ gain c) → ((c : ℕ) → c < M .cells → loss′ (cell .new c) ≡ loss c)
-        → (f : ℕ) → f < M .faces → (isZero (x f) ≡ false → second M f ≢ rim) → limitedBy M′ gain′ loss′ x′ (face .new f) ≡ turn (turns f) (limitedBy M gain loss x f)
+    pub limited-alike : (gain gain′ loss loss′ : ℕ → ℕ) → ((c : ℕ) → c < M .cells → gain′ (cell .new c) ≡ gain c)
+        → ((c : ℕ) → c < M .cells → loss′ (cell .new c) ≡ loss c)
+        → (f : ℕ) → f < M .faces → (isZero (x f) ≡ false → second M f ≢ rim) → limitedBy M′ gain′ loss′ x′ (face .new f)
+        ≡ turn (turns f) (limitedBy M gain loss x f)
     unfolding limitedBy receiver giver
     limited-alike gain gain′ loss loss′ g e f l within = rw (along f l) (go (isZero (x f)) refl)
       where
         go : (b : Bool) → isZero (x f) ≡ b
             → limit gain′ (incoming M′ x′) loss′ (outgoing M′ x′) (turn (turns f) (x f)) (first M′ (face .new f)) (second M′ (face .new f))
             ≡ turn (turns f) (limit gain (incoming M x) loss (outgoing M x) (x f) (first M f) (second M f))
-        go true z = limit-nothing gain′ (incoming M′ x′) loss′ (outgoing M′ x′) (turn (turns f) (x f)) (first M′ (face .new f)) (second M′ (face .new f)) (isZero-turn (turns f) (x f) ∙ z)
+        go true z = limit-nothing gain′ (incoming M′ x′) loss′ (outgoing M′ x′) (turn (turns f) (x f)) (first M′ (face .new f)) (second M′ (face .new f))
+            (isZero-turn (turns f) (x f) ∙ z)
             ∙ sym (ap (turn (turns f)) (limit-nothing gain (incoming M x) loss (outgoing M x) (x f) (first M f) (second M f) z) ∙ turn-zero (turns f))
         go false z =
             let d = within z in

@@ -28,19 +28,30 @@ joined M few fit = record { few = few; first-in = fit .first-in; second-in = fit
 -- the correction at a face, n near and b beyond, of share w and reach K
 correct : ℤ → ℕ → ℕ → ℕ → ℕ → ℤ
 correct z n b w K =
-    quotZ (z *ℤ (pos (cond (isNegative z) n b) -ℤ pos (cond (isNegative z) b n)) *ℤ (pos (cond (isNegative z) (256 - w) w * K) -ℤ pos (128 * size z))) (pos (256 * K))
+    quotZ (z *ℤ (pos (cond (isNegative z) n b) -ℤ pos (cond (isNegative z) b n)) *ℤ (pos (cond (isNegative z) (256 - w) w * K) -ℤ pos (128 * size z)))
+    (pos (256 * K))
 
-correct-turned : (t : Bool) (z : ℤ) (n b w K : ℕ) → w ≤ maxShare → isZero z ≡ false → correct (turn t z) (cond t b n) (cond t n b) (cond t (256 - w) w) K ≡ turn t (correct z n b w K)
+correct-turned : (t : Bool) (z : ℤ) (n b w K : ℕ) → w ≤ maxShare → isZero z ≡ false → correct (turn t z) (cond t b n) (cond t n b) (cond t (256 - w) w) K
+    ≡ turn t (correct z n b w K)
 unfolding correct
 correct-turned t z n b w K h e =
-    rw (turn-negative t z n b e, turn-negative t z b n e, heavy t, turn-negative t z (256 - w) w e, size-turn t z, turn-mul t z (pos (cond (isNegative z) n b) -ℤ pos (cond (isNegative z) b n)))
-    (rw (turn-mul t (z *ℤ (pos (cond (isNegative z) n b) -ℤ pos (cond (isNegative z) b n))) (pos (cond (isNegative z) (256 - w) w * K) -ℤ pos (128 * size z))) (turn-quot t _ (256 * K)))
+    rw (
+      turn-negative t z n b e,
+      turn-negative t z b n e,
+      heavy t,
+      turn-negative t z (256 - w) w e,
+      size-turn t z,
+      turn-mul t z (pos (cond (isNegative z) n b) -ℤ pos (cond (isNegative z) b n)),
+    )
+    (rw (turn-mul t (z *ℤ (pos (cond (isNegative z) n b) -ℤ pos (cond (isNegative z) b n))) (pos (cond (isNegative z) (256 - w) w * K) -ℤ pos (128 * size z)))
+    (turn-quot t _ (256 * K)))
   where
     heavy : (t : Bool) → 256 - cond t (256 - w) w ≡ cond t w (256 - w)
     heavy true = omega arith
     heavy false = refl
 
-module _ (S S′ : StepInput) (few : S .mesh .cells ≤ rim) (fit : MeshFit (S .mesh)) (cell : Renumbering (S .mesh .cells)) (face : Renumbering (S .mesh .faces)) (turns : ℕ → Bool)
+module _ (S S′ : StepInput) (few : S .mesh .cells ≤ rim) (fit : MeshFit (S .mesh)) (cell : Renumbering (S .mesh .cells)) (face : Renumbering (S .mesh .faces))
+    (turns : ℕ → Bool)
     (a : Alike S S′ cell face turns) where
   open StepInput S using (mesh as M)
   open StepInput S′ using (mesh as M′)
@@ -64,7 +75,8 @@ module _ (S S′ : StepInput) (few : S .mesh .cells ≤ rim) (fit : MeshFit (S .
       go false (straight p q) = rw p (a .q-same (first M f) (fit .first-in f l))
       go true (turned d p q) = rw (p, ne-eqb (second M f) rim d) (a .q-same (second M f) (fit .second-in f l d))
 
-  far-alike : (f : ℕ) → f < M .faces → second M f ≢ rim → concentration S′ (second M′ (face .new f)) ≡ cond (turns f) (concentration S (first M f)) (concentration S (second M f))
+  far-alike : (f : ℕ) → f < M .faces → second M f ≢ rim → concentration S′ (second M′ (face .new f))
+      ≡ cond (turns f) (concentration S (first M f)) (concentration S (second M f))
   far-alike f l d = go (turns f) (ends .facing f l)
     where
       go : (t : Bool) → Facing M M′ (cell .new) f (face .new f) t
@@ -77,7 +89,8 @@ module _ (S S′ : StepInput) (few : S .mesh .cells ≤ rim) (fit : MeshFit (S .
   beyond-alike f l = rw (at-rim f l, a .outside-same f l) (go (turns f) (ends .facing f l) (atRim M f) (same? (second M f) rim))
     where
       go : (t : Bool) → Facing M M′ (cell .new) f (face .new f) t → (r : Bool) → Same (second M f) rim r
-          → cond r (outside S f) (concentration S′ (second M′ (face .new f))) ≡ cond t (concentration S (first M f)) (cond r (outside S f) (concentration S (second M f)))
+          → cond r (outside S f) (concentration S′ (second M′ (face .new f)))
+          ≡ cond t (concentration S (first M f)) (cond r (outside S f) (concentration S (second M f)))
       go false g true s = refl
       go false (straight p q) false (other d) = rw (q, ne-eqb (second M f) rim d) (a .q-same (second M f) (fit .second-in f l d))
       go true (turned d p q) true (same e) = absurd (d e)
@@ -95,11 +108,20 @@ module _ (S S′ : StepInput) (few : S .mesh .cells ≤ rim) (fit : MeshFit (S .
   pub correction-alike : (f : ℕ) → f < M .faces → correction S′ (face .new f) ≡ turn (turns f) (correction S f)
   unfolding correction upwind downwind upwindShare correct
   correction-alike f l =
-      rw (at-rim f l, a .flux-same f l, near-alike f l, beyond-alike f l, a .mesh-alike .share-same f l, a .mesh-alike .reach-same f l, isZero-turn (turns f) (flux S f))
+      rw (
+        at-rim f l,
+        a .flux-same f l,
+        near-alike f l,
+        beyond-alike f l,
+        a .mesh-alike .share-same f l,
+        a .mesh-alike .reach-same f l,
+        isZero-turn (turns f) (flux S f),
+      )
       (go (atRim M f) (isZero (flux S f)) refl)
     where
       go : (r b : Bool) → isZero (flux S f) ≡ b
-          → cond (r || b) (pos 0) (correct (turn (turns f) (flux S f)) (cond (turns f) (beyond S f) (concentration S (first M f))) (cond (turns f) (concentration S (first M f)) (beyond S f))
+          → cond (r || b) (pos 0) (correct (turn (turns f) (flux S f)) (cond (turns f) (beyond S f) (concentration S (first M f)))
+          (cond (turns f) (concentration S (first M f)) (beyond S f))
           (cond (turns f) (256 - share M f) (share M f)) (reach M f))
           ≡ turn (turns f) (cond (r || b) (pos 0) (correct (flux S f) (concentration S (first M f)) (beyond S f) (share M f) (reach M f)))
       go true b e = sym (turn-zero (turns f))
@@ -123,7 +145,8 @@ module _ (S S′ : StepInput) (few : S .mesh .cells ≤ rim) (fit : MeshFit (S .
 
   kept-within : (f : ℕ) → isZero (kept S f) ≡ false → second M f ≢ rim
   unfolding kept
-  kept-within f = kept-either (λ z. isZero z ≡ false → second M f ≢ rim) M (lowConcentration S) (correction S) f (corrected-within f) (λ e. absurd (true≢false e))
+  kept-within f = kept-either (λ z. isZero z ≡ false → second M f ≢ rim) M (lowConcentration S) (correction S) f (corrected-within f)
+      (λ e. absurd (true≢false e))
 
   -- stage 3
   adjacent-alike : (c f : ℕ) → c < M .cells → f < M .faces → adjacent S′ (cell .new c) (face .new f) ≡ adjacent S c f
@@ -138,10 +161,12 @@ module _ (S S′ : StepInput) (few : S .mesh .cells ≤ rim) (fit : MeshFit (S .
         a .outside-same f l,
         a .q-same c h,
       )
-      (go (concentration S c) (concentration S (first M f)) (concentration S (second M f)) (outside S f) _ _ (turns f) (ends .facing f l) (near-alike f l) (far-alike f l)
+      (go (concentration S c) (concentration S (first M f)) (concentration S (second M f)) (outside S f) _ _ (turns f) (ends .facing f l) (near-alike f l)
+      (far-alike f l)
       (isZero (flux S f)) (atRim M f) (same? (second M f) rim) (eqb (first M f) c) (same? (first M f) c) (eqb (second M f) c) (same? (second M f) c))
     where
-      go : (q n k o n′ k′ : ℕ) (t : Bool) → Facing M M′ (cell .new) f (face .new f) t → n′ ≡ cond t (cond (atRim M f) o k) n → (second M f ≢ rim → k′ ≡ cond t n k)
+      go : (q n k o n′ k′ : ℕ) (t : Bool) → Facing M M′ (cell .new) f (face .new f) t → n′ ≡ cond t (cond (atRim M f) o k) n
+          → (second M f ≢ rim → k′ ≡ cond t n k)
           → (z r : Bool) → Same (second M f) rim r → (s : Bool) → Same (first M f) c s → (u : Bool) → Same (second M f) c u
           → cond z q (cond (cond t u s) (cond r (cond (isNegative (turn t (flux S f))) o q) k′) (cond (cond t s u) n′ q))
           ≡ cond z q (cond s (cond r (cond (isNegative (flux S f)) o q) k) (cond u n q))
@@ -192,7 +217,8 @@ module _ (S S′ : StepInput) (few : S .mesh .cells ≤ rim) (fit : MeshFit (S .
   flux-at-rim : (f : ℕ) → f < M .faces → (g : ℤ → ℕ) → cond (atRim M f) (g (turn (turns f) (flux S f))) 0 ≡ cond (atRim M f) (g (flux S f)) 0
   flux-at-rim f l g = go (turns f) (ends .facing f l) (atRim M f) (same? (second M f) rim)
     where
-      go : (t : Bool) → Facing M M′ (cell .new) f (face .new f) t → (r : Bool) → Same (second M f) rim r → cond r (g (turn t (flux S f))) 0 ≡ cond r (g (flux S f)) 0
+      go : (t : Bool) → Facing M M′ (cell .new) f (face .new f) t → (r : Bool) → Same (second M f) rim r → cond r (g (turn t (flux S f))) 0
+          ≡ cond r (g (flux S f)) 0
       go t x false s = refl
       go false x true s = refl
       go true (turned d _ _) true (same e) = absurd (d e)
@@ -208,7 +234,8 @@ module _ (S S′ : StepInput) (few : S .mesh .cells ≤ rim) (fit : MeshFit (S .
       ∙ sum-renumbered (M .faces) face _ _ (λ f l. rw (at-rim f l, a .flux-same f l) (at-rim-first f l))
     where
       at-rim-first : (f : ℕ) → f < M .faces
-          → cond (atRim M f) (forward (turn (turns f) (flux S f)) * concentration S′ (first M′ (face .new f))) 0 ≡ cond (atRim M f) (forward (flux S f) * concentration S (first M f)) 0
+          → cond (atRim M f) (forward (turn (turns f) (flux S f)) * concentration S′ (first M′ (face .new f))) 0
+          ≡ cond (atRim M f) (forward (flux S f) * concentration S (first M f)) 0
       at-rim-first f l = go (turns f) (ends .facing f l) (atRim M f) (same? (second M f) rim)
         where
           go : (t : Bool) → Facing M M′ (cell .new) f (face .new f) t → (r : Bool) → Same (second M f) rim r

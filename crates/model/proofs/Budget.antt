@@ -51,7 +51,8 @@ module _ (M : Mesh) (j : Joined M) (x : ℕ → ℤ) where
     sum-swap (M .cells) (M .faces) (leaving M x),
     sum-add (M .faces) (λ f. sum (M .cells) (λ c. entering M x c f)) (λ f. cond (atRim M f) (forward (x f)) 0),
     sum-add (M .faces) (λ f. sum (M .cells) (λ c. leaving M x c f)) (λ f. cond (atRim M f) (backward (x f)) 0),
-    sum-cong (M .faces) (λ f. sum (M .cells) (λ c. entering M x c f) + cond (atRim M f) (forward (x f)) 0) (λ f. sum (M .cells) (λ c. leaving M x c f) + cond (atRim M f) (backward (x f)) 0) at-face,
+    sum-cong (M .faces) (λ f. sum (M .cells) (λ c. entering M x c f) + cond (atRim M f) (forward (x f)) 0)
+        (λ f. sum (M .cells) (λ c. leaving M x c f) + cond (atRim M f) (backward (x f)) 0) at-face,
   )
 
   pub budget : (m : ℕ → ℕ) → ((c : ℕ) → c < M .cells → outgoing M x c ≤ m c + incoming M x c)

@@ -41,7 +41,8 @@ pub old-meshes : OldMeshes
 unfolding meshValues volumeGood spacingGood
 old-meshes M s = rw (
   each-agree 3 (M .cells) (volumeGood oldCeiling M) (volumeGood ceiling M) refl (λ c h. volume-both (volume M c) (s .small-volumes c h)),
-  each-agree 5 (M .faces) (spacingGood oldCeiling M) (spacingGood ceiling M) refl (λ f l. spacing-both (second M f) (share M f) (reach M f) (s .small-reaches f l)),
+  each-agree 5 (M .faces) (spacingGood oldCeiling M) (spacingGood ceiling M) refl
+      (λ f l. spacing-both (second M f) (share M f) (reach M f) (s .small-reaches f l)),
 )
 
 module _ (M : Mesh) (k : Call) (field : List ℕ) (s : StepSmall M k) where

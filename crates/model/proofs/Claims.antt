@@ -89,7 +89,8 @@ module _ (S : StepInput) (x : ℕ → ℤ) where
       → amountsVerdict S x ≡ fine
   unfolding amountsVerdict claimGood boundsGood updated
   keeps-fine k small still =
-      let faces = fine-each 21 (M .faces) (claimGood S x) (λ f l. claim-fits (atRim M f) (flux S f) (carried S f) (x f) (small f l) (still f l) (k .at-rim f l)) in
+      let faces = fine-each 21 (M .faces) (claimGood S x) (λ f l. claim-fits (atRim M f) (flux S f) (carried S f) (x f) (small f l) (still f l) (k .at-rim f l))
+      in
       let cells = fine-each 22 (M .cells) (boundsGood S x)
       (λ c h. true-both (le-leb _ _ (k .affords c h)) (true-both (le-leb _ _ (k .bounds c h .0)) (le-leb _ _ (k .bounds c h .1)))) in
       fine-all (amountCauses S x) (faces, (cells, tt))
@@ -148,7 +149,8 @@ module _ (M : Mesh) (field : List ℕ) (k : Call) where
   pub claim-ready : ClaimPassed M field k → Ready (inputOf M field k)
   claim-ready p =
       let l = claim-lent (p .claim-tables-fine) in
-      ready-by M field k (p .counts-fine) (p .mesh-tables-fine) (l .fluxes-long) (l .outsides-long) (p .mesh-values-fine) (p .raised-values-fine) (p .step-values-fine)
+      ready-by M field k (p .counts-fine) (p .mesh-tables-fine) (l .fluxes-long) (l .outsides-long) (p .mesh-values-fine) (p .raised-values-fine)
+      (p .step-values-fine)
 
 -- so an accepted claim is a step of a list like the engine's own
 pub judged-keeping : Keeping judged
@@ -230,7 +232,8 @@ module _ (M : Mesh) (field : List ℕ) (k : Call) (mesh-long : MeshLent M) (mass
   lent-step : stepTables M field worked ≡ fine
   unfolding stepTables
   lent-step =
-      let later : AllFine (long 9 (M .faces) (length (k .moveds)) ∷ long 10 (workLength M) (length (worked .work)) ∷ long 14 (M .cells) (length (k .releases)) ∷ [])
+      let later : AllFine (long 9 (M .faces) (length (k .moveds)) ∷ long 10 (workLength M) (length (worked .work)) ∷ long 14 (M .cells) (length (k .releases))
+      ∷ [])
       = (lent-fine 9 _ _ (l .moveds-long), (lent-fine 10 _ _ work-long, (lent-fine 14 _ _ (l .releases-long), tt))) in
       fine-all (stepLengths (M .cells) (M .faces) worked)
       (lent-fine 6 _ _ (l .fluxes-long), (lent-fine 7 _ _ (l .outsides-long), (lent-fine 8 _ _ (l .nexts-long), later)))
@@ -267,13 +270,21 @@ module _ (y : StepInput → ℕ → ℤ) (own : Own y) where
     with-work = worked M′ field′ k′ (h .mesh-lent) (h .masses-long) (h .claim-lent)
 
     agreed : AgreeCall M M′ field field′ k with-work
-    agreed = let a = h .same-step in record { mesh-agrees = a .mesh-agrees; masses = a .masses; fluxes = a .fluxes; outsides = a .outsides; releases = a .releases }
+    agreed = let a = h .same-step in record {
+      mesh-agrees = a .mesh-agrees;
+      masses = a .masses;
+      fluxes = a .fluxes;
+      outsides = a .outsides;
+      releases =
+          a .releases;
+    }
 
     step-fine : verdict M′ field′ with-work ≡ fine
     step-fine =
         let p = passed M field k e in
         verdict-agree M M′ field field′ k with-work agreed
-        (lent-mesh M′ field′ k′ (h .mesh-lent) (h .masses-long) (h .claim-lent) ∙ sym (p .mesh-tables-fine)) (lent-field M′ field′ k′ (h .mesh-lent) (h .masses-long) (h .claim-lent) ∙ sym (p .field-table-fine))
+        (lent-mesh M′ field′ k′ (h .mesh-lent) (h .masses-long) (h .claim-lent) ∙ sym (p .mesh-tables-fine))
+        (lent-field M′ field′ k′ (h .mesh-lent) (h .masses-long) (h .claim-lent) ∙ sym (p .field-table-fine))
         (lent-step M′ field′ k′ (h .mesh-lent) (h .masses-long) (h .claim-lent) ∙ sym (p .step-tables-fine)) ∙ e
 
     claim-passes : ClaimPassed M′ field′ k′
@@ -290,7 +301,8 @@ module _ (y : StepInput → ℕ → ℤ) (own : Own y) where
     claims-own f l =
         let r = ready M field k e in
         let n : f < M .faces = omega (arith, faces-same) in
-        h .as-moved f n ∙ left-there f n ∙ sym (own .own-agrees S S′ (r .counts-fit .few-cells) (r .fit) (inputs-agree M M′ field field′ k k′ (h .same-step)) f n)
+        h .as-moved f n ∙ left-there f n ∙ sym (own .own-agrees S S′ (r .counts-fit .few-cells) (r .fit) (inputs-agree M M′ field field′ k k′ (h .same-step)) f
+        n)
 
     amounts-fine : amountsVerdict S′ (claimed k′) ≡ fine
     amounts-fine =
@@ -314,7 +326,8 @@ module _ (y : StepInput → ℕ → ℤ) (own : Own y) where
     nexts-same c l =
         let r = ready M field k e in
         let a = inputs-agree M M′ field field′ k k′ (h .same-step) in
-        let ends : (f : ℕ) → f < M .faces → (first M′ f ≡ first M f) × (second M′ f ≡ second M f) = λ f n. (a .mesh-agrees .firsts f n, a .mesh-agrees .seconds f n) in
+        let ends : (f : ℕ) → f < M .faces → (first M′ f ≡ first M f) × (second M′ f ≡ second M f) =
+        λ f n. (a .mesh-agrees .firsts f n, a .mesh-agrees .seconds f n) in
         let amounts : (f : ℕ) → f < M .faces → claimed k′ f ≡ y S f = λ f n. h .as-moved f n ∙ left-there f n in
         rw (claim-accepted, e) (
         getD-over (M′ .cells) (updated M′ (mass S′) (claimed k′)) (k′ .nexts) 0 c (omega (arith, a .mesh-agrees .cells-same))

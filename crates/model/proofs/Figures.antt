@@ -22,7 +22,8 @@ use Rattle.model.proofs.Uniform.{uniform, no-faces}
 -- a name for all that a figure computes through: to unfold it is to unfold what its `unfolding` line names
 everything : Unit {0}
 unfolding afterAll totalIn totalOut totalReleased stepOnTables nextTable inMass outMass over verdict counts countsWithin meshTables fieldTable stepTables
-    meshValues fieldValues saltGood raised raisedGood raisedValues releasedMass stepValues volumeGood endsGood spacingGood outsideGood fluxGood balanceGood outflowGood need each
+    meshValues fieldValues saltGood raised raisedGood raisedValues releasedMass stepValues volumeGood endsGood spacingGood outsideGood fluxGood balanceGood
+    outflowGood need each
     _andThen_ table sum least greatest entering leaving incoming outgoing updated next moved rounded beyond upwind downwind carried
     low upwindShare correction smooths keptBy lowConcentration kept adjacent lo hi maxGain maxLoss receiver giver limitedBy limited portion
     fieldVerdict
@@ -64,7 +65,14 @@ abbrev pub pair : Mesh
 pair = record { cells = 2; faces = 2; volumes = 10 ∷ 10 ∷ []; firsts = 0 ∷ 0 ∷ []; seconds = 1 ∷ 1 ∷ []; shares = 128 ∷ 128 ∷ []; reaches = 10 ∷ 10 ∷ [] }
 
 abbrev pub exchangeCall : Call
-exchangeCall = record { fluxes = pos 10 ∷ negsuc 9 ∷ []; outsides = 0 ∷ 0 ∷ []; nexts = 0 ∷ 0 ∷ []; moveds = pos 0 ∷ pos 0 ∷ []; work = replicate 10 0; releases = 0 ∷ 0 ∷ [] }
+exchangeCall = record {
+  fluxes = pos 10 ∷ negsuc 9 ∷ [];
+  outsides = 0 ∷ 0 ∷ [];
+  nexts = 0 ∷ 0 ∷ [];
+  moveds = pos 0 ∷ pos 0 ∷ [];
+  work = replicate 10 0;
+  releases = 0 ∷ 0 ∷ [];
+}
 
 -- one cell of volume v, no faces
 abbrev pub lake : ℕ → Mesh
@@ -78,7 +86,15 @@ abbrev pub strait : Mesh
 strait = record { cells = 1; faces = 2; volumes = 100 ∷ []; firsts = 0 ∷ 0 ∷ []; seconds = rim ∷ rim ∷ []; shares = 0 ∷ 0 ∷ []; reaches = 0 ∷ 0 ∷ [] }
 
 abbrev pub through : ℕ → Call
-through u = record { fluxes = pos (suc u) ∷ negsuc u ∷ []; outsides = 0 ∷ 0 ∷ []; nexts = 0 ∷ []; moveds = pos 0 ∷ pos 0 ∷ []; work = replicate 6 0; releases = 0 ∷ [] }
+through u = record {
+  fluxes = pos (suc u) ∷ negsuc u ∷ [];
+  outsides = 0 ∷ 0 ∷ [];
+  nexts = 0 ∷ [];
+  moveds = pos 0 ∷ pos 0 ∷ [];
+  work = replicate 6 0;
+  releases =
+      0 ∷ [];
+}
 
 -- The lines marked P, in document 01's order. Each step is accepted; 4 and 5 are corrections of one face, and no steps.
 pub record Figures : Type 0 where
@@ -201,7 +217,16 @@ figures = record {
 
 -- Document 02, S-5. Two cells of V 100 in a row, with line 5's face between them; U through them, and 1000 outside.
 abbrev pub sluice : Mesh
-sluice = record { cells = 2; faces = 3; volumes = 100 ∷ 100 ∷ []; firsts = 0 ∷ 0 ∷ 1 ∷ []; seconds = rim ∷ 1 ∷ rim ∷ []; shares = 0 ∷ 1 ∷ 0 ∷ []; reaches = 0 ∷ 100 ∷ 0 ∷ [] }
+sluice = record {
+  cells = 2;
+  faces = 3;
+  volumes = 100 ∷ 100 ∷ [];
+  firsts = 0 ∷ 0 ∷ 1 ∷ [];
+  seconds = rim ∷ 1 ∷ rim ∷ [];
+  shares = 0 ∷ 1 ∷ 0 ∷ [];
+  reaches = 0
+      ∷ 100 ∷ 0 ∷ [];
+}
 
 abbrev pub sluiceCall : ℕ → Call
 sluiceCall u = record {
@@ -311,7 +336,15 @@ kept-figures = record {
 
 -- Document 02, S-6. The strait with U 10 through it from fresh water, and a release.
 abbrev pub outfallCall : ℕ → Call
-outfallCall r = record { fluxes = pos 10 ∷ negsuc 9 ∷ []; outsides = 0 ∷ 0 ∷ []; nexts = 0 ∷ []; moveds = pos 0 ∷ pos 0 ∷ []; work = replicate 6 0; releases = r ∷ [] }
+outfallCall r = record {
+  fluxes = pos 10 ∷ negsuc 9 ∷ [];
+  outsides = 0 ∷ 0 ∷ [];
+  nexts = 0 ∷ [];
+  moveds = pos 0 ∷ pos 0 ∷ [];
+  work = replicate 6 0;
+  releases = r
+      ∷ [];
+}
 
 -- too much released, and an outside value where water leaves
 abbrev pub badOutfall : Call
@@ -416,7 +449,15 @@ session-after = refl
 
 -- all V 7, all m 30, outside 4, on the channel
 all-30 : table 3 (next (roundedInput
-    (record { cells = 3; faces = 4; volumes = 7 ∷ 7 ∷ 7 ∷ []; firsts = 0 ∷ 0 ∷ 1 ∷ 2 ∷ []; seconds = rim ∷ 1 ∷ 2 ∷ rim ∷ []; shares = 0 ∷ 128 ∷ 128 ∷ 0 ∷ []; reaches = 0 ∷ 7 ∷ 7 ∷ 0 ∷ [] })
+    (record {
+      cells = 3;
+      faces = 4;
+      volumes = 7 ∷ 7 ∷ 7 ∷ [];
+      firsts = 0 ∷ 0 ∷ 1 ∷ 2 ∷ [];
+      seconds = rim ∷ 1 ∷ 2 ∷ rim ∷ [];
+      shares = 0 ∷ 128 ∷ 128 ∷ 0 ∷ [];
+      reaches = 0 ∷ 7 ∷ 7 ∷ 0 ∷ [];
+    })
     (30 ∷ 30 ∷ 30 ∷ []) (negsuc 4 ∷ pos 5 ∷ pos 5 ∷ pos 5 ∷ []) (4 ∷ 0 ∷ 0 ∷ 0 ∷ [])))
     ≡ 30 ∷ 30 ∷ 30 ∷ []
 unfolding everything
@@ -427,10 +468,26 @@ abbrev pub largeStrait : ℕ → Mesh
 largeStrait v = record { cells = 1; faces = 2; volumes = v ∷ []; firsts = 0 ∷ 0 ∷ []; seconds = rim ∷ rim ∷ []; shares = 0 ∷ 0 ∷ []; reaches = 0 ∷ 0 ∷ [] }
 
 abbrev pub largePair : ℕ → Mesh
-largePair k = record { cells = 2; faces = 2; volumes = 65535 ∷ 65535 ∷ []; firsts = 0 ∷ 0 ∷ []; seconds = 1 ∷ 1 ∷ []; shares = 255 ∷ 128 ∷ []; reaches = 65535 ∷ k ∷ [] }
+largePair k = record {
+  cells = 2;
+  faces = 2;
+  volumes = 65535 ∷ 65535 ∷ [];
+  firsts = 0 ∷ 0 ∷ [];
+  seconds = 1 ∷ 1 ∷ [];
+  shares = 255 ∷ 128 ∷ [];
+  reaches = 65535
+      ∷ k ∷ [];
+}
 
 abbrev pub largeCall : Call
-largeCall = record { fluxes = pos 30000 ∷ negsuc 29999 ∷ []; outsides = 0 ∷ 0 ∷ []; nexts = 0 ∷ 0 ∷ []; moveds = pos 0 ∷ pos 0 ∷ []; work = replicate 10 0; releases = 0 ∷ 0 ∷ [] }
+largeCall = record {
+  fluxes = pos 30000 ∷ negsuc 29999 ∷ [];
+  outsides = 0 ∷ 0 ∷ [];
+  nexts = 0 ∷ 0 ∷ [];
+  moveds = pos 0 ∷ pos 0 ∷ [];
+  work = replicate 10 0;
+  releases = 0 ∷ 0 ∷ [];
+}
 
 abbrev pub largeMasses : List ℕ
 largeMasses = 39321000000 ∷ 6553500000 ∷ []

@@ -46,7 +46,8 @@ brought : (z : ℤ) (w k l c : ℕ) (G P : ℕ → ℕ) → w ≤ portion (size 
 brought z w k l c G P h = go z h (eqb k c) (same? k c) (eqb l c) (same? l c)
   where
     go : (z : ℤ) → w ≤ portion (size z) (G (cond (isNegative z) l k)) (P (cond (isNegative z) l k)) → (s : Bool) → Same k c s → (t : Bool) → Same l c t
-        → cond s (forward (withSign (isNegative z) w)) 0 + cond t (backward (withSign (isNegative z) w)) 0 ≤ portion (cond s (forward z) 0 + cond t (backward z) 0) (G c) (P c)
+        → cond s (forward (withSign (isNegative z) w)) 0 + cond t (backward (withSign (isNegative z) w)) 0
+        ≤ portion (cond s (forward z) 0 + cond t (backward z) 0) (G c) (P c)
     go (pos n) h true (same e) true tt = simp (add-zero, ← e) h
     go (pos n) h true (same e) false tt = simp (add-zero, ← e) h
     go (pos n) h false ss true tt = omega arith

@@ -88,7 +88,8 @@ module _ (M : Mesh) {K : Type 0} (does : K → List ℕ → Outcome Deed) (C : K
 
 -- The same of lists of steps alone.
 module _ (M : Mesh) {K : Type 0} (comes : K → List ℕ → Outcome Left) (C : K → List ℕ → Type 0) (P : K → List ℕ → Outcome Left → Type 0)
-    (owes : (k : K) (field : List ℕ) → C k field → fieldVerdict M field ≡ fine → (o : Outcome Left) → comes k field ≡ o → Owes M (P k field o) field (stepping o)) where
+    (owes : (k : K) (field : List ℕ) → C k field → fieldVerdict M field ≡ fine → (o : Outcome Left) → comes k field ≡ o
+    → Owes M (P k field o) field (stepping o)) where
   step-closes : (k : K) (field : List ℕ) → C k field → fieldVerdict M field ≡ fine → (o : Outcome Left) → comes k field ≡ o
       → total M (massIn (fieldAfter o field)) + goneBy o ≡ total M (massIn field) + enteredBy o + releasedBy o
   step-closes k field c g (accepted l) e = owes k field c g (accepted l) e .budget
@@ -190,4 +191,5 @@ module _ (s : Scheme) (keeping : Keeping s) (M : Mesh) (k : Call) (field : List 
 -- the table of masses lent to a call holds the field
 pub lent-same : (M : Mesh) (past field : List ℕ) (c : ℕ) → c < M .cells → massIn (lentMasses M past field) c ≡ massIn field c
 lent-same M past field c h =
-    List·getD-append (table (M .cells) (massIn field)) past 0 c (omega (arith, length-table (M .cells) (massIn field))) ∙ getD-table (M .cells) (massIn field) 0 c h
+    List·getD-append (table (M .cells) (massIn field)) past 0 c (omega (arith, length-table (M .cells) (massIn field)))
+    ∙ getD-table (M .cells) (massIn field) 0 c h

@@ -25,7 +25,8 @@ upwind-backward (negsuc n) u v = backward-scale (negsuc n) u
 
 -- what leaves a cell leaves at its own concentration
 leaves : (z : ℤ) (k l c o : ℕ) (q : ℕ → ℕ) → c ≢ rim
-    → cond (eqb l c) (forward z * q l) 0 + cond (eqb k c) (backward z * cond (eqb k rim) o (q k)) 0 ≡ (cond (eqb l c) (forward z) 0 + cond (eqb k c) (backward z) 0) * q c
+    → cond (eqb l c) (forward z * q l) 0 + cond (eqb k c) (backward z * cond (eqb k rim) o (q k)) 0
+    ≡ (cond (eqb l c) (forward z) 0 + cond (eqb k c) (backward z) 0) * q c
 leaves z k l c o q n = go (eqb l c) (same? l c) (eqb k c) (same? k c) (eqb k rim) (same? k rim)
   where
     go : (s : Bool) → Same l c s → (t : Bool) → Same k c t → (r : Bool) → Same k rim r
@@ -100,7 +101,8 @@ module _ (S : StepInput) (ok : Sound S) where
 
   pub outgoing-carried : (c : ℕ) → c < M .cells → outgoing M (carried S) c ≡ outgoing M (flux S) c * concentration S c
   unfolding outgoing
-  outgoing-carried c h = sum-cong (M .faces) (leaving M (carried S) c) (λ f. leaving M (flux S) c f * concentration S c) (λ f l. leaving-carried S c f (not-rim c h))
+  outgoing-carried c h = sum-cong (M .faces) (leaving M (carried S) c) (λ f. leaving M (flux S) c f * concentration S c)
+      (λ f l. leaving-carried S c f (not-rim c h))
       ∙ sum-scale (M .faces) (concentration S c) (leaving M (flux S) c)
 
   incoming-lo : (c : ℕ) → c < M .cells → incoming M (flux S) c * lo S c ≤ incoming M (carried S) c
@@ -109,7 +111,8 @@ module _ (S : StepInput) (ok : Sound S) where
     arith,
     sum-scale (M .faces) (lo S c) (entering M (flux S) c),
     sum-mono (M .faces) (λ f. entering M (flux S) c f * lo S c) (entering M (carried S) c)
-        (λ f l. rw (entering-carried S c f (not-rim c h)) (mul-le-mul-left (entering M (flux S) c f) (least-each (M .faces) (concentration S c) (adjacent S c) f l))),
+        (λ f l. rw (entering-carried S c f (not-rim c h)) (mul-le-mul-left (entering M (flux S) c f)
+        (least-each (M .faces) (concentration S c) (adjacent S c) f l))),
   )
 
   incoming-hi : (c : ℕ) → c < M .cells → incoming M (carried S) c ≤ incoming M (flux S) c * hi S c
@@ -118,7 +121,8 @@ module _ (S : StepInput) (ok : Sound S) where
     arith,
     sum-scale (M .faces) (hi S c) (entering M (flux S) c),
     sum-mono (M .faces) (entering M (carried S) c) (λ f. entering M (flux S) c f * hi S c)
-        (λ f l. rw (entering-carried S c f (not-rim c h)) (mul-le-mul-left (entering M (flux S) c f) (greatest-each (M .faces) (concentration S c) (adjacent S c) f l))),
+        (λ f l. rw (entering-carried S c f (not-rim c h)) (mul-le-mul-left (entering M (flux S) c f)
+        (greatest-each (M .faces) (concentration S c) (adjacent S c) f l))),
   )
 
   -- a cell has the salt that the water takes from it

@@ -22,8 +22,10 @@ between {v} {l} {h} m some b = (le-div-iff-mul-le some .1 (omega arith), omega (
 
 -- what two amounts move through a face, their sum moves
 both : (s t : Bool) (x y : ℤ)
-    → (cond s (forward (x +ℤ y)) 0 + cond t (backward (x +ℤ y)) 0) + (cond t (forward x) 0 + cond s (backward x) 0) + (cond t (forward y) 0 + cond s (backward y) 0)
-    ≡ (cond t (forward (x +ℤ y)) 0 + cond s (backward (x +ℤ y)) 0) + (cond s (forward x) 0 + cond t (backward x) 0) + (cond s (forward y) 0 + cond t (backward y) 0)
+    → (cond s (forward (x +ℤ y)) 0 + cond t (backward (x +ℤ y)) 0) + (cond t (forward x) 0 + cond s (backward x) 0) +
+    (cond t (forward y) 0 + cond s (backward y) 0)
+    ≡ (cond t (forward (x +ℤ y)) 0 + cond s (backward (x +ℤ y)) 0) + (cond s (forward x) 0 + cond t (backward x) 0) +
+    (cond s (forward y) 0 + cond t (backward y) 0)
 both true true x y = omega (arith, moves x y)
 both true false x y = omega (arith, moves x y)
 both false true x y = omega (arith, moves x y)
@@ -32,11 +34,13 @@ both false false x y = omega arith
 module _ (S : StepInput) where
   open StepInput S using (mesh as M)
 
-  through : (c f : ℕ) → entering M (moved S) c f + leaving M (carried S) c f + leaving M (limited S) c f ≡ leaving M (moved S) c f + entering M (carried S) c f + entering M (limited S) c f
+  through : (c f : ℕ) → entering M (moved S) c f + leaving M (carried S) c f + leaving M (limited S) c f
+      ≡ leaving M (moved S) c f + entering M (carried S) c f + entering M (limited S) c f
   unfolding entering leaving moved
   through c f = both (eqb (second M f) c) (eqb (first M f) c) (carried S f) (limited S f)
 
-  pub exchange : (c : ℕ) → incoming M (moved S) c + outgoing M (carried S) c + outgoing M (limited S) c ≡ outgoing M (moved S) c + incoming M (carried S) c + incoming M (limited S) c
+  pub exchange : (c : ℕ) → incoming M (moved S) c + outgoing M (carried S) c + outgoing M (limited S) c ≡ outgoing M (moved S) c + incoming M (carried S) c +
+      incoming M (limited S) c
   unfolding incoming outgoing
   exchange c = omega (
     arith,

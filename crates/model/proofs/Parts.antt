@@ -23,7 +23,8 @@ pub record PartRead {A : Type 0} (n : ℕ) (xs ys : List A) : Type 0 where
 pub part-of : {A : Type 0} (n : ℕ) (f : ℕ → A) (ys : List A) → take n (over (table n f) ys) ≡ table n f
 part-of n f ys = rw (over-table n f ys) (take-at (table n f) (drop n ys) n (length-table n f))
 
-pub read-part : {A B : Type 0} {b : B} {v : Outcome B} (n : ℕ) (f : ℕ → A) (ys ys′ : List A) → v ≡ accepted b → n ≤ length ys → ys′ ≡ taken v (over (table n f) ys) ys → PartRead n (table n f) ys′
+pub read-part : {A B : Type 0} {b : B} {v : Outcome B} (n : ℕ) (f : ℕ → A) (ys ys′ : List A) → v ≡ accepted b → n ≤ length ys → ys′
+    ≡ taken v (over (table n f) ys) ys → PartRead n (table n f) ys′
 read-part n f ys ys′ e l q =
     let z : ys′ ≡ over (table n f) ys = rw e at q in
     record { fits = rw z (omega (arith, length-over n f ys l)); part = rw z (part-of n f ys) }

@@ -37,14 +37,16 @@ module _ (M : Mesh) (x : ℕ → ℤ) (B : ℕ) (few : M .faces ≤ maxFaces) (s
   unfolding incoming entering
   incoming-most = le-trans
       (sum-bound (M .faces) (B + B) (entering M x c)
-      (λ f l. either (eqb (second M f) c) (eqb (first M f) c) (forward (x f)) (backward (x f)) B (le-trans (forward-le (x f)) (small f l)) (le-trans (backward-le (x f)) (small f l))))
+      (λ f l. either (eqb (second M f) c) (eqb (first M f) c) (forward (x f)) (backward (x f)) B (le-trans (forward-le (x f)) (small f l))
+      (le-trans (backward-le (x f)) (small f l))))
       (mul-le-mul-right (B + B) few)
 
   pub outgoing-most : outgoing M x c ≤ maxFaces * (B + B)
   unfolding outgoing leaving
   outgoing-most = le-trans
       (sum-bound (M .faces) (B + B) (leaving M x c)
-      (λ f l. either (eqb (first M f) c) (eqb (second M f) c) (forward (x f)) (backward (x f)) B (le-trans (forward-le (x f)) (small f l)) (le-trans (backward-le (x f)) (small f l))))
+      (λ f l. either (eqb (first M f) c) (eqb (second M f) c) (forward (x f)) (backward (x f)) B (le-trans (forward-le (x f)) (small f l))
+      (le-trans (backward-le (x f)) (small f l))))
       (mul-le-mul-right (B + B) few)
 
 pub portion-le : (a g p : ℕ) → portion a g p ≤ a
@@ -107,9 +109,11 @@ module _ (S : StepInput) (r : Ready S) where
       go true s z = omega arith
       go false s true = omega arith
       go false (other d) false = le-trans
-          (quot-size (flux S f) (pos (downwind S f) -ℤ pos (upwind S f)) (pos (upwindShare S f * reach M f) -ℤ pos (128 * size (flux S f))) (reach M f) maxConcentration
+          (quot-size (flux S f) (pos (downwind S f) -ℤ pos (upwind S f)) (pos (upwindShare S f * reach M f) -ℤ pos (128 * size (flux S f))) (reach M f)
+          maxConcentration
           (size-diff (downwind S f) (upwind S f) maxConcentration (downwind-most f h) (upwind-most f h))
-          (size-diff (upwindShare S f * reach M f) (128 * size (flux S f)) (256 * reach M f) (mul-le-mul-right (reach M f) (share-le f h)) (omega (arith, flux-reach S r f h d))))
+          (size-diff (upwindShare S f * reach M f) (128 * size (flux S f)) (256 * reach M f) (mul-le-mul-right (reach M f) (share-le f h))
+          (omega (arith, flux-reach S r f h d))))
           (mul-le-mul-right maxConcentration (flux-few S r f h))
 
   pub kept-size : (f : ℕ) → f < M .faces → size (kept S f) ≤ maxCarried
@@ -163,7 +167,8 @@ module _ (S : StepInput) (r : Ready S) where
 
   pub inMass-most : inMass S ≤ maxFaces * maxCarried
   unfolding inMass
-  inMass-most = le-trans (sum-bound (M .faces) maxCarried (λ f. cond (atRim M f) (backward (flux S f) * outside S f) 0) entered-most) (mul-le-mul-right maxCarried (r .counts-fit .few-faces))
+  inMass-most = le-trans (sum-bound (M .faces) maxCarried (λ f. cond (atRim M f) (backward (flux S f) * outside S f) 0) entered-most)
+      (mul-le-mul-right maxCarried (r .counts-fit .few-faces))
 
   pub outMass-most : outMass S ≤ maxFaces * maxCarried
   unfolding outMass

@@ -34,14 +34,16 @@ no-difference : (u w : ℤ) (k : ℕ) (K : ℕ) → quotZ (u *ℤ (pos k -ℤ po
 no-difference u w k K = size-zero _ (size-quot (u *ℤ (pos k -ℤ pos k) *ℤ w) K ∙ ap (λ (n : ℕ). n / K) none ∙ zero-div K)
   where
     none : size (u *ℤ (pos k -ℤ pos k) *ℤ w) ≡ 0
-    none = size-mul (u *ℤ (pos k -ℤ pos k)) w ∙ ap (λ (n : ℕ). n * size w) (size-mul u (pos k -ℤ pos k) ∙ ap (λ (z : ℤ). size u * size z) (diff-self k) ∙ mul-zero (size u)) ∙ zero-mul (size w)
+    none = size-mul (u *ℤ (pos k -ℤ pos k)) w ∙ ap (λ (n : ℕ). n * size w)
+        (size-mul u (pos k -ℤ pos k) ∙ ap (λ (z : ℤ). size u * size z) (diff-self k) ∙ mul-zero (size u)) ∙ zero-mul (size w)
 
 module _ (S : StepInput) (ok : Sound S) (q₀ : ℕ) (alike : (c : ℕ) → c < S .mesh .cells → concentration S c ≡ q₀)
     (outside-alike : (f : ℕ) → f < S .mesh .faces → second (S .mesh) f ≡ rim → isNegative (flux S f) ≡ true → outside S f ≡ q₀) where
   open StepInput S using (mesh as M)
 
   met-alike : (c f : ℕ) → c < M .cells → f < M .faces → adjacent S c f ≡ q₀
-  met-alike c f h l = met-any (λ q. q ≡ q₀) S c f (alike c h) (alike (first M f) (ok .joined .first-in f l)) (outside-alike f l) (λ d. alike (second M f) (ok .joined .second-in f l d))
+  met-alike c f h l = met-any (λ q. q ≡ q₀) S c f (alike c h) (alike (first M f) (ok .joined .first-in f l)) (outside-alike f l)
+      (λ d. alike (second M f) (ok .joined .second-in f l d))
 
   incoming-alike : (c : ℕ) → c < M .cells → incoming M (carried S) c ≡ incoming M (flux S) c * q₀
   unfolding incoming
@@ -50,7 +52,14 @@ module _ (S : StepInput) (ok : Sound S) (q₀ : ℕ) (alike : (c : ℕ) → c < 
       ∙ sum-scale (M .faces) q₀ (entering M (flux S) c)
 
   low-same : (c : ℕ) → c < M .cells → low S c ≡ mass S c
-  low-same c h = omega (arith, low-is S ok c h, incoming-alike c h, outgoing-carried S ok c h, ap (λ (q : ℕ). outgoing M (flux S) c * q) (alike c h), ap (λ (u : ℕ). u * q₀) (ok .level c h))
+  low-same c h = omega (
+    arith,
+    low-is S ok c h,
+    incoming-alike c h,
+    outgoing-carried S ok c h,
+    ap (λ (q : ℕ). outgoing M (flux S) c * q) (alike c h),
+    ap (λ (u : ℕ). u * q₀) (ok .level c h),
+  )
 
   correction-none : (f : ℕ) → f < M .faces → correction S f ≡ pos 0
   unfolding correction upwind downwind beyond
@@ -64,8 +73,10 @@ module _ (S : StepInput) (ok : Sound S) (q₀ : ℕ) (alike : (c : ℕ) → c < 
           ≡ pos 0
       go true s z n = refl
       go false s true n = refl
-      go false (other d) false true = rw (alike (second M f) (ok .joined .second-in f l d), alike (first M f) (ok .joined .first-in f l)) (no-difference (flux S f) _ q₀ (256 * reach M f))
-      go false (other d) false false = rw (alike (second M f) (ok .joined .second-in f l d), alike (first M f) (ok .joined .first-in f l)) (no-difference (flux S f) _ q₀ (256 * reach M f))
+      go false (other d) false true = rw (alike (second M f) (ok .joined .second-in f l d), alike (first M f) (ok .joined .first-in f l))
+          (no-difference (flux S f) _ q₀ (256 * reach M f))
+      go false (other d) false false = rw (alike (second M f) (ok .joined .second-in f l d), alike (first M f) (ok .joined .first-in f l))
+          (no-difference (flux S f) _ q₀ (256 * reach M f))
 
   limited-none : (f : ℕ) → f < M .faces → limited S f ≡ pos 0
   unfolding limited kept

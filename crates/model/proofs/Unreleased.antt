@@ -43,7 +43,8 @@ module _ (M : Mesh) (field : List ℕ) (k : Call) (long : M .cells ≤ length (k
   raised-idle : fieldValues M field ≡ fine → raisedValues M field k ≡ fine
   unfolding fieldValues saltGood raisedValues raisedGood
   raised-idle e = fine-each 18 (M .cells) (raisedGood M field k)
-      (λ c h. ap (λ (m : ℕ). leb (m / volume M c) maxConcentration) (rw (none c h) (add-zero (getD field c 0))) ∙ each-fine 6 (M .cells) (saltGood M field) e c h)
+      (λ c h. ap (λ (m : ℕ). leb (m / volume M c) maxConcentration) (rw (none c h) (add-zero (getD field c 0)))
+      ∙ each-fine 6 (M .cells) (saltGood M field) e c h)
 
   verdict-same : verdict M field k ≡ verdict01 M field k
   unfolding verdict

@@ -62,7 +62,8 @@ out-first : (v : Verdict) {k i : ℕ} (ws : List Verdict) → v ≡ refused k i 
 out-first v [] e = e
 out-first v (w ∷ ws) e = out-first (v andThen w) ws (out w e)
 
-out-later : (u : Verdict) (us : List Verdict) {v : Verdict} {k i : ℕ} (ws : List Verdict) → u ≡ fine → AllFine us → v ≡ refused k i → firstOf u (us ++ (v ∷ ws)) ≡ refused k i
+out-later : (u : Verdict) (us : List Verdict) {v : Verdict} {k i : ℕ} (ws : List Verdict) → u ≡ fine → AllFine us → v ≡ refused k i → firstOf u (us ++ (v ∷ ws))
+    ≡ refused k i
 out-later u [] {v = v} ws e a q = out-first (u andThen v) ws (past v e ∙ q)
 out-later u (w ∷ us) ws e a q = out-later (u andThen w) us ws (past w e ∙ a .0) (a .1) q
 

@@ -64,7 +64,8 @@ module _ (M : Mesh) (field : List ℕ) (k : Call) where
 
   -- all causes of a step, of a call that is lent no work
   abbrev pub unworkedCauses : List Verdict
-  unworkedCauses = counts M ∷ meshTables M ∷ fieldTable M field ∷ claimTables ∷ meshValues ceiling M ∷ fieldValues M field ∷ raisedValues M field k ∷ stepValues ceiling M field k ∷ []
+  unworkedCauses = counts M ∷ meshTables M ∷ fieldTable M field ∷ claimTables ∷ meshValues ceiling M ∷ fieldValues M field ∷ raisedValues M field k
+      ∷ stepValues ceiling M field k ∷ []
 
   unfoldable pub unworkedVerdict : Verdict
   unworkedVerdict = inTurn unworkedCauses

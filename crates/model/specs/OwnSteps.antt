@@ -29,7 +29,8 @@ module _ (s : Scheme) (M M′ : Mesh) (field field′ : List ℕ) (k k′ : Call
 
 -- of every accepted step of a scheme
 abbrev pub OwnAccepted : Scheme → Type 0
-OwnAccepted s = (M M′ : Mesh) (field field′ : List ℕ) (k k′ : Call) → s .finds M field k ≡ fine → HandedIn s M M′ field field′ k k′ → Confirmed s M M′ field field′ k k′
+OwnAccepted s = (M M′ : Mesh) (field field′ : List ℕ) (k k′ : Call) → s .finds M field k ≡ fine → HandedIn s M M′ field field′ k k′
+    → Confirmed s M M′ field field′ k k′
 
 pub record OwnSteps : Type 0 where
   pub corrected-accepted : OwnAccepted corrected

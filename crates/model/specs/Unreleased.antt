@@ -17,10 +17,12 @@ module _ (M : Mesh) (field : List ℕ) (k : Call) where
   -- and the causes that it has; those of water read fluxes and outside values, and no masses
   abbrev pub verdict01 : Verdict
   verdict01 = inTurn
-      (counts M ∷ meshTables M ∷ fieldTable M field ∷ inTurn (lengths01 (M .cells) (M .faces) k) ∷ meshValues ceiling M ∷ fieldValues M field ∷ stepValues ceiling M field k ∷ [])
+      (counts M ∷ meshTables M ∷ fieldTable M field ∷ inTurn (lengths01 (M .cells) (M .faces) k)
+      ∷ meshValues ceiling M ∷ fieldValues M field ∷ stepValues ceiling M field k ∷ [])
 
   pub record AsBefore : Type 0 where
-    pub same-answer : stepAnswer corrected M k field ≡ (verdict01 andThen accepted (record { entered = inMass unraised; gone = outMass unraised; released = 0 }))
+    pub same-answer : stepAnswer corrected M k field ≡ (verdict01
+        andThen accepted (record { entered = inMass unraised; gone = outMass unraised; released = 0 }))
     pub same-next : nextTable corrected M k field ≡ taken verdict01 (over (table (M .cells) (next unraised)) (k .nexts)) (k .nexts)
     pub same-moved : movedTable corrected M k field ≡ taken verdict01 (over (table (M .faces) (moved unraised)) (k .moveds)) (k .moveds)
     pub same-work : workTable corrected M k field ≡ taken verdict01 (over (table (workLength M) (λ i. 0)) (k .work)) (k .work)

@@ -32,10 +32,12 @@ old-reading = record {
   field-length = field-needs;
   step-length = step-needs;
   mesh-read = λ mostCells mostFaces {bs} {volumes} {firsts} {seconds} {shares} {reaches} k c.
-      let u : Verdict = meshHeadVerdict mostCells mostFaces bs andThen meshBodyVerdict bs (length volumes) (length firsts) (length seconds) (length shares) (length reaches) in
+      let u : Verdict = meshHeadVerdict mostCells mostFaces bs
+      andThen meshBodyVerdict bs (length volumes) (length firsts) (length seconds) (length shares) (length reaches) in
       let one = read-kind-one bs mostCells mostFaces (length volumes) (length firsts) (length seconds) (length shares) (length reaches) in
       kept-same {u = u} {w = widthIn bs} {M = meshIn bs}
-      (mesh-found bs k mostCells mostFaces (length volumes) (length firsts) (length seconds) (length shares) (length reaches)) (λ h. mesh-narrow bs (one h)) (λ h. mesh-in bs (one h))
+      (mesh-found bs k mostCells mostFaces (length volumes) (length firsts) (length seconds) (length shares) (length reaches)) (λ h. mesh-narrow bs (one h))
+      (λ h. mesh-in bs (one h))
       (record {
         answer = c .answer;
         volumes-after = c .volumes-read ∙ taken-then u _ _ _;
@@ -48,7 +50,8 @@ old-reading = record {
       let e = old-field-read cells bs (length masses) in
       (c .answer ∙ e, filled masses e (old-masses cells bs (length masses)) (c .masses-read));
   step-read = λ cells faces seconds {bs} {fluxes} {outsides} {releases} c.
-      let u : Verdict = stepHeadVerdict Narrow cells faces seconds bs andThen stepBodyVerdict cells faces seconds bs (length fluxes) (length outsides) (length releases) in
+      let u : Verdict = stepHeadVerdict Narrow cells faces seconds bs
+      andThen stepBodyVerdict cells faces seconds bs (length fluxes) (length outsides) (length releases) in
       let e = step-found cells faces seconds bs (length fluxes) (length outsides) (length releases) in
       let shape = read-shape cells faces seconds bs (length fluxes) (length outsides) (length releases) in (
         c .answer ∙ ap (λ (v : Verdict). v andThen accepted (kindIn bs)) e,
@@ -59,7 +62,8 @@ old-reading = record {
 }
 
 step-written : (M : Mesh) (k : StepKind) (fluxes : List ℤ) (outsides releases bytes : List ℕ) (r : WriteAnswer) (bytes′ : List ℕ)
-    → StepWriting Narrow M (kindNumber Narrow k) fluxes outsides releases bytes r bytes′ → oldStepWriting M (kindNumber Narrow k) fluxes outsides releases bytes r bytes′
+    → StepWriting Narrow M (kindNumber Narrow k) fluxes outsides releases bytes r bytes′
+    → oldStepWriting M (kindNumber Narrow k) fluxes outsides releases bytes r bytes′
 unfolding stepWriteVerdict stepLength stepRecord valueBits massBits releaseBits
 step-written M Water fluxes outsides releases bytes r bytes′ c = c
 step-written M Outfalls fluxes outsides releases bytes r bytes′ c = c
@@ -72,15 +76,20 @@ pub old-taking : OldTaking
 old-taking = record {
   mesh-taken = λ bs {volumes} {firsts} {seconds} {shares} {reaches} k c.
       let one = judged-kind-one bs (length volumes) (length firsts) (length seconds) (length shares) (length reaches) in
-      kept-same (mesh-judged bs (length volumes) (length firsts) (length seconds) (length shares) (length reaches) k) (λ h. mesh-narrow bs (one h)) (λ h. mesh-in bs (one h)) c;
+      kept-same (mesh-judged bs (length volumes) (length firsts) (length seconds) (length shares) (length reaches) k) (λ h. mesh-narrow bs (one h))
+      (λ h. mesh-in bs (one h)) c;
   field-taken = λ cells volumes {bs} {masses} s c.
       let e = field-judged cells volumes s bs (length masses) in
       let held = judged-masses cells volumes bs (length masses) in (
         c .answer ∙ ap (λ (v : Verdict). v andThen accepted (total (cellsOnly cells volumes) (massIn (massesIn bs cells)))) e
-            ∙ same-after (oldFieldJudged cells volumes bs (length masses)) _ _ (λ h. ap (λ (m : List ℕ). accepted (total (cellsOnly cells volumes) (massIn m))) (held h)),
+            ∙ same-after (oldFieldJudged cells volumes bs (length masses)) _ _
+            (λ h. ap (λ (m : List ℕ). accepted (total (cellsOnly cells volumes) (massIn m))) (held h)),
         filled masses e held (c .masses-after),
       );
   step-taken = λ M masses bs s c. stepping-same (step-judged M bs masses s) (judged-step-in M bs masses) c;
-  host = λ mesh field step {bytes} k c. (c .number ∙ ap numberOf (host-verdict mesh field step k (length bytes)), host-bytes mesh field step k bytes (c .next-field));
+  host = λ mesh field step {bytes} k c. (
+    c .number ∙ ap numberOf (host-verdict mesh field step k (length bytes)),
+    host-bytes mesh field step k bytes (c .next-field),
+  );
   run = λ {input} k p. prints p ∙ run-same input k;
 }

@@ -29,6 +29,7 @@ same-found (refused i j) (accepted _) x y e = let z : _≡_ {A = ℕ} 0 1 = cc i
 same-found (refused i j) (refused k l) x y e = cc
 
 -- a table after u, by a v that is the same and by values that are the same where it passes
-pub filled : {B : Type 0} {u v : Verdict} {new old t′ : List B} (t : List B) → u ≡ v → (v ≡ fine → new ≡ old) → t′ ≡ taken u (over new t) t → t′ ≡ taken v (over old t) t
+pub filled : {B : Type 0} {u v : Verdict} {new old t′ : List B} (t : List B) → u ≡ v → (v ≡ fine → new ≡ old) → t′ ≡ taken u (over new t) t → t′
+    ≡ taken v (over old t) t
 filled {u = u} {v = v} {new = new} {old = old} t e h q =
     q ∙ ap (λ (x : Verdict). taken x (over new t) t) e ∙ same-taken v (over new t) (over old t) t (λ f. ap (λ l. over l t) (h f))

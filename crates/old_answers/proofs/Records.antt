@@ -64,7 +64,8 @@ module _ (bs : List ℕ) where
     unfolding meshLength
     mesh-length = ap lengthOf mesh-shape
 
-    pub mesh-body : (volumes firsts seconds shares reaches : ℕ) → meshBodyVerdict bs volumes firsts seconds shares reaches ≡ meshBodyBy (oldShapeIn bs) bs volumes firsts seconds shares reaches
+    pub mesh-body : (volumes firsts seconds shares reaches : ℕ) → meshBodyVerdict bs volumes firsts seconds shares reaches
+        ≡ meshBodyBy (oldShapeIn bs) bs volumes firsts seconds shares reaches
     unfolding meshBodyVerdict meshBodyBy meshLength meshBitGood
     mesh-body volumes firsts seconds shares reaches = ap (λ (S : List Section). meshBodyBy S bs volumes firsts seconds shares reaches) mesh-shape
 
@@ -72,20 +73,24 @@ module _ (bs : List ℕ) where
     old-small = mesh-small bs mesh-narrow
 
 pub mesh-found : (bs : List ℕ) → kindIn bs ≢ 5 → (mostCells mostFaces volumes firsts seconds shares reaches : ℕ)
-    → (meshHeadVerdict mostCells mostFaces bs andThen meshBodyVerdict bs volumes firsts seconds shares reaches) ≡ oldMeshRead mostCells mostFaces bs volumes firsts seconds shares reaches
+    → (meshHeadVerdict mostCells mostFaces bs andThen meshBodyVerdict bs volumes firsts seconds shares reaches)
+    ≡ oldMeshRead mostCells mostFaces bs volumes firsts seconds shares reaches
 mesh-found bs k mostCells mostFaces volumes firsts seconds shares reaches =
     ap (λ (v : Verdict). v andThen meshBodyVerdict bs volumes firsts seconds shares reaches) (mesh-head bs k mostCells mostFaces)
     ∙ same-after (oldMeshHead mostCells mostFaces bs) _ _ (λ h. mesh-body bs (kind-one bs mostCells mostFaces h) volumes firsts seconds shares reaches)
 
-pub read-kind-one : (bs : List ℕ) (mostCells mostFaces volumes firsts seconds shares reaches : ℕ) → oldMeshRead mostCells mostFaces bs volumes firsts seconds shares reaches ≡ fine → kindIn bs ≡ 1
+pub read-kind-one : (bs : List ℕ) (mostCells mostFaces volumes firsts seconds shares reaches : ℕ)
+    → oldMeshRead mostCells mostFaces bs volumes firsts seconds shares reaches ≡ fine → kindIn bs ≡ 1
 read-kind-one bs mostCells mostFaces volumes firsts seconds shares reaches e = kind-one bs mostCells mostFaces (both-fine _ _ e .0)
 
 pub mesh-measured : (mostCells mostFaces : ℕ) (bs : List ℕ) → kindIn bs ≢ 5
     → meshMeasured mostCells mostFaces bs ≡ (oldMeshHead mostCells mostFaces bs andThen accepted (record { bytes = lengthOf (oldShapeIn bs); width = Narrow }))
 unfolding meshMeasured
 mesh-measured mostCells mostFaces bs k =
-    ap (λ (v : Verdict). v andThen accepted (record { bytes = meshLength (kindIn bs) (cellsIn bs) (facesIn bs); width = widthIn bs })) (mesh-head bs k mostCells mostFaces)
-    ∙ same-after (oldMeshHead mostCells mostFaces bs) _ _ (λ h. rw (mesh-length bs (kind-one bs mostCells mostFaces h), mesh-narrow bs (kind-one bs mostCells mostFaces h)))
+    ap (λ (v : Verdict). v andThen accepted (record { bytes = meshLength (kindIn bs) (cellsIn bs) (facesIn bs); width = widthIn bs }))
+    (mesh-head bs k mostCells mostFaces)
+    ∙ same-after (oldMeshHead mostCells mostFaces bs) _ _ (λ h. rw
+    (mesh-length bs (kind-one bs mostCells mostFaces h), mesh-narrow bs (kind-one bs mostCells mostFaces h)))
 
 -- A FIELD told to be narrow
 module _ (cells : ℕ) (bs : List ℕ) where
@@ -120,7 +125,8 @@ old-kinds : (kind : ℕ) → (eqb kind 3 || eqb kind 4) ≡ true → (cells face
 unfolding valueBits massBits releaseBits
 old-kinds kind e cells faces seconds = go (eqb kind 3) (same? kind 3) (eqb kind 4) (same? kind 4) e
   where
-    go : (a : Bool) → Same kind 3 a → (b : Bool) → Same kind 4 b → (a || b) ≡ true → (widthOf kind ≡ Narrow) × (stepShape kind cells faces seconds ≡ oldStepShape kind cells faces seconds)
+    go : (a : Bool) → Same kind 3 a → (b : Bool) → Same kind 4 b → (a || b) ≡ true → (widthOf kind ≡ Narrow)
+        × (stepShape kind cells faces seconds ≡ oldStepShape kind cells faces seconds)
     go true (same d) b o h = rw d (refl, refl)
     go false n true (same d) h = rw d (refl, refl)
     go false n false o h = absurd (true≢false (sym h))
@@ -138,10 +144,12 @@ module _ (cells faces : ℕ) (seconds bs : List ℕ) where
   step-shape e = old-kinds (kindIn bs) (step-kind e) cells faces seconds .1
 
   pub step-found : (fluxes outsides releases : ℕ)
-      → (stepHeadVerdict Narrow cells faces seconds bs andThen stepBodyVerdict cells faces seconds bs fluxes outsides releases) ≡ oldStepRead cells faces seconds bs fluxes outsides releases
+      → (stepHeadVerdict Narrow cells faces seconds bs andThen stepBodyVerdict cells faces seconds bs fluxes outsides releases)
+      ≡ oldStepRead cells faces seconds bs fluxes outsides releases
   unfolding stepBodyVerdict stepBodyBy stepLength stepBitGood
   step-found fluxes outsides releases = ap (λ (v : Verdict). v andThen stepBodyVerdict cells faces seconds bs fluxes outsides releases) step-head
-      ∙ same-after (oldStepHead cells faces seconds bs) _ _ (λ h. ap (λ (S : List Section). stepBodyBy S cells faces bs fluxes outsides releases) (step-shape h))
+      ∙ same-after (oldStepHead cells faces seconds bs) _ _ (λ h. ap (λ (S : List Section). stepBodyBy S cells faces bs fluxes outsides releases)
+      (step-shape h))
 
   pub step-needs : stepNeeds Narrow cells faces seconds bs ≡ oldStepNeeds cells faces seconds bs
   unfolding stepNeeds stepLength

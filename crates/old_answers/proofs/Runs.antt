@@ -35,7 +35,8 @@ use Rattle.old_answers.proofs.Records.{mesh-measured, mesh-narrow, mesh
 use Rattle.old_answers.proofs.Taken.{judged-kind-one, mesh-judged, cells-verdict, field-judged, judged-masses, judged-step-in, step-judged}
 
 -- a record whose head asks for the same is the same
-record-same : (head : ℕ) (needs also : List ℕ → Outcome ℕ) (input : List ℕ) → needs (take head input) ≡ also (take head input) → recordAt head needs input ≡ recordAt head also input
+record-same : (head : ℕ) (needs also : List ℕ → Outcome ℕ) (input : List ℕ) → needs (take head input) ≡ also (take head input) → recordAt head needs input
+    ≡ recordAt head also input
 unfolding recordAt
 record-same head needs also input e = ap (λ (o : Outcome ℕ). take (length (take head input) + stillNeeded o (length (take head input))) input) e
 
@@ -51,7 +52,8 @@ module _ (M : Mesh) (s : MeshSmall M) where
       (λ h. ap (λ (k : Call). accepted (printedOf M masses k)) (judged-step-in M bs masses h))
 
   then-same : (masses bs : List ℕ) → fieldThen Narrow M masses bs ≡ oldFieldThen M masses bs
-  then-same masses bs = filled masses (step-judged M bs masses s) (λ h. ap (λ (k : Call). table (M .cells) (next (inputOf M masses k))) (judged-step-in M bs masses h)) refl
+  then-same masses bs = filled masses (step-judged M bs masses s)
+      (λ h. ap (λ (k : Call). table (M .cells) (next (inputOf M masses k))) (judged-step-in M bs masses h)) refl
 
   steps-same : (most step : ℕ) (masses input : List ℕ) → stepsPrinted Narrow M most step masses input ≡ oldStepsPrinted M most step masses input
   unfolding stepsPrinted oldStepsPrinted bytesFor
@@ -64,7 +66,8 @@ module _ (M : Mesh) (s : MeshSmall M) where
       (stepsPrinted Narrow M most (step + 1) (fieldThen Narrow M masses x) (following x (b ∷ bs))) (boardPrinted M (fieldThen Narrow M masses x)))
       (record-same 4 _ _ (b ∷ bs) (step-needs (M .cells) (M .faces) (M .seconds) (take 4 (b ∷ bs))))
       ∙ ap (λ (o : Outcome Printed). stepText step o ++ cond (goesOnAfter o)
-      (stepsPrinted Narrow M most (step + 1) (fieldThen Narrow M masses at) (following at (b ∷ bs))) (boardPrinted M (fieldThen Narrow M masses at))) (said-same masses at)
+      (stepsPrinted Narrow M most (step + 1) (fieldThen Narrow M masses at) (following at (b ∷ bs))) (boardPrinted M (fieldThen Narrow M masses at)))
+      (said-same masses at)
       ∙ ap (λ (x : List ℕ). stepText step (oldStepSaid M masses at) ++ cond (goesOnAfter (oldStepSaid M masses at))
       (stepsPrinted Narrow M most (step + 1) x (following at (b ∷ bs))) (boardPrinted M x)) (then-same masses at)
       ∙ ap (λ (x : List ℕ). stepText step (oldStepSaid M masses at) ++ cond (goesOnAfter (oldStepSaid M masses at)) x (boardPrinted M left))
@@ -87,7 +90,8 @@ module _ (M : Mesh) (s : MeshSmall M) where
       let held = judged-masses (M .cells) (M .volumes) at runCells in
       ap (λ (x : List ℕ). fromField Narrow M (fieldSaid Narrow M x) (inTable runCells (massesIn x (M .cells))) (following x input))
       (record-same 2 _ _ input (field-needs (M .cells) (take 2 input)))
-      ∙ ap (λ (v : Verdict). fromField Narrow M (v andThen accepted (total (cellsOnly (M .cells) (M .volumes)) (massIn (massesIn at (M .cells))))) (inTable runCells (massesIn at (M .cells))) (following at input))
+      ∙ ap (λ (v : Verdict). fromField Narrow M (v andThen accepted (total (cellsOnly (M .cells) (M .volumes)) (massIn (massesIn at (M .cells)))))
+      (inTable runCells (massesIn at (M .cells))) (following at input))
       (field-judged (M .cells) (M .volumes) (s .small-volumes) at runCells)
       ∙ from-field (oldFieldJudged (M .cells) (M .volumes) at runCells) _ _ _ _ (following at input)
       (λ h. (ap (λ (m : List ℕ). total (cellsOnly (M .cells) (M .volumes)) (massIn m)) (held h), ap (inTable runCells) (held h)))

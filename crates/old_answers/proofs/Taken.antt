@@ -29,13 +29,15 @@ use Rattle.old_answers.proofs.Outcomes.{same-after, same-found, filled}
 use Rattle.old_answers.proofs.Records.{mesh-found, read-kind-one, mesh-narrow, mesh-in, old-small, old-field-read, old-masses, step-found, read-shape, step-narrow, flux-small}
 
 -- A MESH that is kept: by the same verdict, and by the width and the mesh that are the same where it passes
-pub kept-same : {u v : Verdict} {w : Width} {M N : Mesh} {volumes firsts seconds shares reaches : List ℕ} {r : MeshAnswer} {volumes′ firsts′ seconds′ shares′ reaches′ : List ℕ}
+pub kept-same : {u v : Verdict} {w : Width} {M N : Mesh} {volumes firsts seconds shares reaches : List ℕ} {r : MeshAnswer}
+    {volumes′ firsts′ seconds′ shares′ reaches′ : List ℕ}
     → u ≡ v → (v ≡ fine → w ≡ Narrow) → (v ≡ fine → M ≡ N)
     → MeshKept u w M volumes firsts seconds shares reaches r volumes′ firsts′ seconds′ shares′ reaches′
     → MeshKept v Narrow N volumes firsts seconds shares reaches r volumes′ firsts′ seconds′ shares′ reaches′
 kept-same {v = v} {w = w} {M = M} {N = N} {volumes = volumes} {firsts = firsts} {seconds = seconds} {shares = shares} {reaches = reaches} e d m c = record {
   answer = c .answer ∙ ap (λ (x : Verdict). x andThen accepted (record { cells = M .cells; faces = M .faces; width = w })) e
-      ∙ same-after v (accepted (record { cells = M .cells; faces = M .faces; width = w })) (accepted (record { cells = N .cells; faces = N .faces; width = Narrow })) (λ h. rw (d h, m h));
+      ∙ same-after v (accepted (record { cells = M .cells; faces = M .faces; width = w }))
+      (accepted (record { cells = N .cells; faces = N .faces; width = Narrow })) (λ h. rw (d h, m h));
   volumes-after = filled volumes e (λ h. ap (λ (K : Mesh). K .volumes) (m h)) (c .volumes-after);
   firsts-after = filled firsts e (λ h. ap (λ (K : Mesh). K .firsts) (m h)) (c .firsts-after);
   seconds-after = filled seconds e (λ h. ap (λ (K : Mesh). K .seconds) (m h)) (c .seconds-after);
@@ -102,7 +104,8 @@ module _ (M : Mesh) (bs : List ℕ) where
           step-verdict h ∙ ap (λ (k : Call). inTurn (causesWithin oldCeiling M masses k)) (old-step-in h)))
 
 module _ {M : Mesh} {masses : List ℕ} where
-  pub stepping-same : {u v : Verdict} {k l : Call} {r : StepTaken} {masses′ : List ℕ} → u ≡ v → (v ≡ fine → k ≡ l) → Stepping M masses u k r masses′ → Stepping M masses v l r masses′
+  pub stepping-same : {u v : Verdict} {k l : Call} {r : StepTaken} {masses′ : List ℕ} → u ≡ v → (v ≡ fine → k ≡ l) → Stepping M masses u k r masses′
+      → Stepping M masses v l r masses′
   stepping-same {v = v} {k = k} {l = l} e d c = record {
     answer = c .answer ∙ ap (λ (x : Verdict). x andThen accepted (printedOf M masses k)) e
         ∙ same-after v (accepted (printedOf M masses k)) (accepted (printedOf M masses l)) (λ h. ap (λ (j : Call). accepted (printedOf M masses j)) (d h));
@@ -136,7 +139,8 @@ module _ (mesh field step : List ℕ) where
         ∙ ap (λ (m : List ℕ). oldStepJudged (oldMeshIn mesh) m step) (judged-masses cells _ field runCells g))
         (λ h. ap (λ (w : Width). bytesLong (fieldLength (fieldKind w) cells) room) (mesh-narrow mesh (judged-kind-one mesh _ _ _ _ _ h))))
 
-  next-record : (room : ℕ) → oldHostVerdict mesh field step room ≡ fine → fieldRecord (fieldKind (widthIn mesh)) cells (table cells (next (hostInput mesh field step))) ≡ oldNextRecord mesh field step
+  next-record : (room : ℕ) → oldHostVerdict mesh field step room ≡ fine
+      → fieldRecord (fieldKind (widthIn mesh)) cells (table cells (next (hostInput mesh field step))) ≡ oldNextRecord mesh field step
   unfolding oldHostVerdict fieldRecord massBits
   next-record room h =
       let p = both-fine _ _ (both-fine _ _ h .0) in
@@ -144,7 +148,8 @@ module _ (mesh field step : List ℕ) where
       let e = judged-kind-one mesh _ _ _ _ _ (q .0) in
       ap (λ (w : Width). fieldRecord (fieldKind w) cells (table cells (next (hostInput mesh field step)))) (mesh-narrow mesh e)
       ∙ ap (λ (M : Mesh). fieldRecord 2 cells (table cells (next (inputOf M (massesIn field cells) (stepIn M step))))) (mesh-in mesh e)
-      ∙ ap (λ (m : List ℕ). fieldRecord 2 cells (table cells (next (inputOf (oldMeshIn mesh) m (stepIn (oldMeshIn mesh) step))))) (judged-masses cells _ field runCells (q .1))
+      ∙ ap (λ (m : List ℕ). fieldRecord 2 cells (table cells (next (inputOf (oldMeshIn mesh) m (stepIn (oldMeshIn mesh) step)))))
+      (judged-masses cells _ field runCells (q .1))
       ∙ ap (λ (c : Call). fieldRecord 2 cells (table cells (next (inputOf (oldMeshIn mesh) (oldMassesIn field cells) c))))
       (judged-step-in (oldMeshIn mesh) step (oldMassesIn field cells) (p .1))
 

@@ -1,5 +1,7 @@
--- Documents 01 and 02 as they were before S-10, of records: kinds 1 to 4, 12 bits for V, K and the size of U, 32 for masses and releases, 4,095 as the ceiling of 3, 5
--- and 8. No code rests on them; OldCalls.antt says that the calls on such records answer by them. What S-10 left alone is named from where it stands: the fields
+-- Documents 01 and 02 as they were before S-10, of records: kinds 1 to 4, 12 bits for V, K and the size of U, 32 for masses and releases, 4,095 as the ceiling
+-- of 3, 5
+-- and 8. No code rests on them; OldCalls.antt says that the calls on such records answer by them. What S-10 left alone is named from where it stands: the
+-- fields
 -- of a head, each cause's test, the step itself.
 use Prim.Native.Nat.{ℕ, _*_, _^_, min}
 use mathlib.Core.Bool.{cond, not, _&&_, _||_}
@@ -31,7 +33,8 @@ abbrev pub oldReleaseBits : ℕ → ℕ
 oldReleaseBits kind = cond (eqb kind 4) 32 0
 
 abbrev pub oldStepShape : (kind cells faces : ℕ) → List ℕ → List Section
-oldStepShape kind cells faces seconds = once (4 ∷ 13 ∷ 15 ∷ []) ∷ per faces (1 ∷ 12 ∷ []) ∷ perThat faces (isRim seconds) (20 ∷ []) ∷ per cells (oldReleaseBits kind ∷ []) ∷ []
+oldStepShape kind cells faces seconds = once (4 ∷ 13 ∷ 15 ∷ []) ∷ per faces (1 ∷ 12 ∷ []) ∷ perThat faces (isRim seconds) (20 ∷ [])
+    ∷ per cells (oldReleaseBits kind ∷ []) ∷ []
 
 -- What a record holds, by the columns of a shape.
 abbrev pub meshBy : List Section → List ℕ → Mesh
@@ -153,12 +156,14 @@ oldStepJudged M masses bs = oldStepRead (M .cells) (M .faces) (M .seconds) bs ru
 -- "Tables lent to a step", the host's call: the three records, and last the bytes for the next field record.
 module _ (mesh field step : List ℕ) where
   unfoldable pub oldHostVerdict : ℕ → Verdict
-  oldHostVerdict room = oldMeshJudged mesh runCells runFaces runFaces runFaces runFaces andThen oldFieldJudged (cellsIn mesh) (oldMeshIn mesh .volumes) field runCells
+  oldHostVerdict room = oldMeshJudged mesh runCells runFaces runFaces runFaces runFaces
+      andThen oldFieldJudged (cellsIn mesh) (oldMeshIn mesh .volumes) field runCells
       andThen oldStepJudged (oldMeshIn mesh) (oldMassesIn field (cellsIn mesh)) step andThen bytesLong (lengthOf (oldFieldShape (cellsIn mesh))) room
 
   abbrev pub oldNextRecord : List ℕ
   oldNextRecord = recordOf (oldFieldShape (cellsIn mesh))
-      (fieldValue 2 (cellsIn mesh) (table (cellsIn mesh) (next (inputOf (oldMeshIn mesh) (oldMassesIn field (cellsIn mesh)) (oldStepIn (oldMeshIn mesh) step)))))
+      (fieldValue 2 (cellsIn mesh) (table (cellsIn mesh) (next
+      (inputOf (oldMeshIn mesh) (oldMassesIn field (cellsIn mesh)) (oldStepIn (oldMeshIn mesh) step)))))
 
   unfoldable pub oldHostBytes : List ℕ → List ℕ
   oldHostBytes bytes = taken (oldHostVerdict (length bytes)) (over oldNextRecord bytes) bytes

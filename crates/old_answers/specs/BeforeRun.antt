@@ -27,7 +27,8 @@ module _ (M : Mesh) where
 
   -- the board
   unfoldable pub oldBoardPrinted : List ℕ → List ℕ
-  oldBoardPrinted masses = taken (oldCellsVerdict (M .cells) (M .volumes) masses) (boardLines (map (entryAt (M .volumes) masses) (listed (M .volumes) masses (M .cells)))) []
+  oldBoardPrinted masses = taken (oldCellsVerdict (M .cells) (M .volumes) masses)
+      (boardLines (map (entryAt (M .volumes) masses) (listed (M .volumes) masses (M .cells)))) []
 
   -- the steps until no byte is left, or one is refused by 11 or 13; then the board
   abbrev pub oldStepSaid : List ℕ → List ℕ → Outcome Printed
@@ -47,14 +48,16 @@ module _ (M : Mesh) where
 
   -- the field: its total is the line of step 0
   abbrev pub oldFieldSaid : List ℕ → Outcome ℕ
-  oldFieldSaid bs = oldFieldJudged (M .cells) (M .volumes) bs runCells andThen accepted (total (cellsOnly (M .cells) (M .volumes)) (massIn (oldMassesIn bs (M .cells))))
+  oldFieldSaid bs = oldFieldJudged (M .cells) (M .volumes) bs runCells
+      andThen accepted (total (cellsOnly (M .cells) (M .volumes)) (massIn (oldMassesIn bs (M .cells))))
 
   abbrev pub oldFromField : Outcome ℕ → List ℕ → List ℕ → List ℕ
   oldFromField (accepted sum) masses input = stepLine 0 0 0 sum 0 ++ oldStepsPrinted (length input) 1 masses input
   oldFromField (refused i j) masses input = refusalLine letterF i j
 
   unfoldable pub oldFieldPrinted : List ℕ → List ℕ
-  oldFieldPrinted input = oldFromField (oldFieldSaid (oldFieldAt input)) (inTable runCells (oldMassesIn (oldFieldAt input) (M .cells))) (following (oldFieldAt input) input)
+  oldFieldPrinted input = oldFromField (oldFieldSaid (oldFieldAt input)) (inTable runCells (oldMassesIn (oldFieldAt input) (M .cells)))
+      (following (oldFieldAt input) input)
 
 -- the mesh
 abbrev pub oldFromMesh : Verdict → Mesh → List ℕ → List ℕ

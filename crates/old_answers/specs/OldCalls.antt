@@ -1,5 +1,7 @@
--- Document 02, S-10, its last sentence, of records: each call as made, by its contract, answers and leaves what Before.antt says. Of the bytes, the fields and the steps
--- nothing is asked; of a mesh record, that its kind is not 5, which S-10 takes besides 1; of tables lent beside a record, that they are within the old ceilings.
+-- Document 02, S-10, its last sentence, of records: each call as made, by its contract, answers and leaves what Before.antt says. Of the bytes, the fields and
+-- the steps
+-- nothing is asked; of a mesh record, that its kind is not 5, which S-10 takes besides 1; of tables lent beside a record, that they are within the old
+-- ceilings.
 use Prim.Native.Nat.{ℕ, _≤_, _<_}
 use mathlib.Core.Path.{_≡_}
 use mathlib.Core.Logic.{_≢_}
@@ -42,39 +44,49 @@ Filled v new t t′ = t′ ≡ taken v (over new t) t
 pub record OldReading : Type 0 where
   -- mesh_length, field_length and step_length
   pub mesh-length : (mostCells mostFaces : ℕ) (bs : List ℕ) → kindIn bs ≢ 5
-      → meshMeasured mostCells mostFaces bs ≡ (oldMeshHead mostCells mostFaces bs andThen accepted (record { bytes = lengthOf (oldShapeIn bs); width = Narrow }))
+      → meshMeasured mostCells mostFaces bs ≡ (oldMeshHead mostCells mostFaces bs
+      andThen accepted (record { bytes = lengthOf (oldShapeIn bs); width = Narrow }))
   pub field-length : (cells : ℕ) (bs : List ℕ) → fieldNeeds Narrow cells bs ≡ oldFieldNeeds cells bs
   pub step-length : (cells faces : ℕ) (seconds bs : List ℕ) → stepNeeds Narrow cells faces seconds bs ≡ oldStepNeeds cells faces seconds bs
   -- read_mesh, read_field and read_step
-  pub mesh-read : (mostCells mostFaces : ℕ) {bs volumes firsts seconds shares reaches : List ℕ} {r : MeshAnswer} {volumes′ firsts′ seconds′ shares′ reaches′ : List ℕ} → kindIn bs ≢ 5
+  pub mesh-read : (mostCells mostFaces : ℕ) {bs volumes firsts seconds shares reaches : List ℕ} {r : MeshAnswer}
+      {volumes′ firsts′ seconds′ shares′ reaches′ : List ℕ} → kindIn bs ≢ 5
       → MeshReading (meshRead mostCells mostFaces bs (length volumes) (length firsts) (length seconds) (length shares) (length reaches))
       bs volumes firsts seconds shares reaches r volumes′ firsts′ seconds′ shares′ reaches′
       → MeshKept (oldMeshRead mostCells mostFaces bs (length volumes) (length firsts) (length seconds) (length shares) (length reaches)) Narrow (oldMeshIn bs)
       volumes firsts seconds shares reaches r volumes′ firsts′ seconds′ shares′ reaches′
-  pub field-read : (cells : ℕ) {bs masses : List ℕ} {r : Answer} {masses′ : List ℕ} → FieldReading (fieldRead Narrow cells bs (length masses)) cells bs masses r masses′
+  pub field-read : (cells : ℕ) {bs masses : List ℕ} {r : Answer} {masses′ : List ℕ}
+      → FieldReading (fieldRead Narrow cells bs (length masses)) cells bs masses r masses′
       → (said r ≡ oldFieldRead cells bs (length masses)) × Filled (oldFieldRead cells bs (length masses)) (oldMassesIn bs cells) masses masses′
-  pub step-read : (cells faces : ℕ) (seconds : List ℕ) {bs : List ℕ} {fluxes : List ℤ} {outsides releases : List ℕ} {r : StepRead} {fluxes′ : List ℤ} {outsides′ releases′ : List ℕ}
-      → StepReading Narrow (stepRead Narrow cells faces seconds bs (length fluxes) (length outsides) (length releases)) cells faces seconds bs fluxes outsides releases
+  pub step-read : (cells faces : ℕ) (seconds : List ℕ) {bs : List ℕ} {fluxes : List ℤ} {outsides releases : List ℕ} {r : StepRead} {fluxes′ : List ℤ}
+      {outsides′ releases′ : List ℕ}
+      → StepReading Narrow (stepRead Narrow cells faces seconds bs (length fluxes) (length outsides) (length releases)) cells faces seconds bs fluxes outsides
+      releases
       r fluxes′ outsides′ releases′
       → let v = oldStepRead cells faces seconds bs (length fluxes) (length outsides) (length releases) in
       let S = oldStepShapeIn bs cells faces seconds in
-      (stepReadSaid Narrow r ≡ (v andThen accepted (kindIn bs))) × Filled v (fluxesBy S bs faces) fluxes fluxes′ × Filled v (columnIn bs S 2 0) outsides outsides′
+      (stepReadSaid Narrow r ≡ (v andThen accepted (kindIn bs))) × Filled v (fluxesBy S bs faces) fluxes fluxes′
+      × Filled v (columnIn bs S 2 0) outsides outsides′
       × Filled v (columnIn bs S 3 0) releases releases′
 
 -- write_mesh, write_field and write_step, told the narrow width
 pub record OldWriting : Type 0 where
   pub mesh-written : (M : Mesh) (bytes : List ℕ) (r : WriteAnswer) (bytes′ : List ℕ) → MeshWriting Narrow M bytes r bytes′ → oldMeshWriting M bytes r bytes′
-  pub field-written : (M : Mesh) (masses bytes : List ℕ) (r : WriteAnswer) (bytes′ : List ℕ) → FieldWriting Narrow M masses bytes r bytes′ → oldFieldWriting M masses bytes r bytes′
+  pub field-written : (M : Mesh) (masses bytes : List ℕ) (r : WriteAnswer) (bytes′ : List ℕ) → FieldWriting Narrow M masses bytes r bytes′
+      → oldFieldWriting M masses bytes r bytes′
   pub step-written : (M : Mesh) (k : StepKind) (fluxes : List ℤ) (outsides releases bytes : List ℕ) (r : WriteAnswer) (bytes′ : List ℕ)
-      → StepWriting Narrow M (kindNumber Narrow k) fluxes outsides releases bytes r bytes′ → oldStepWriting M (kindNumber Narrow k) fluxes outsides releases bytes r bytes′
+      → StepWriting Narrow M (kindNumber Narrow k) fluxes outsides releases bytes r bytes′
+      → oldStepWriting M (kindNumber Narrow k) fluxes outsides releases bytes r bytes′
 
 -- take_mesh, take_field and take_step; lagoon_step; and the run, as far as its program is rendered
 pub record OldTaking : Type 0 where
-  pub mesh-taken : (bs : List ℕ) {volumes firsts seconds shares reaches : List ℕ} {r : MeshAnswer} {volumes′ firsts′ seconds′ shares′ reaches′ : List ℕ} → kindIn bs ≢ 5
+  pub mesh-taken : (bs : List ℕ) {volumes firsts seconds shares reaches : List ℕ} {r : MeshAnswer} {volumes′ firsts′ seconds′ shares′ reaches′ : List ℕ}
+      → kindIn bs ≢ 5
       → MeshTaking bs volumes firsts seconds shares reaches r volumes′ firsts′ seconds′ shares′ reaches′
       → MeshKept (oldMeshJudged bs (length volumes) (length firsts) (length seconds) (length shares) (length reaches)) Narrow (oldMeshIn bs)
       volumes firsts seconds shares reaches r volumes′ firsts′ seconds′ shares′ reaches′
-  pub field-taken : (cells : ℕ) (volumes : List ℕ) {bs masses : List ℕ} {r : TotalAnswer} {masses′ : List ℕ} → ((c : ℕ) → c < cells → getD volumes c 0 ≤ oldCeiling)
+  pub field-taken : (cells : ℕ) (volumes : List ℕ) {bs masses : List ℕ} {r : TotalAnswer} {masses′ : List ℕ}
+      → ((c : ℕ) → c < cells → getD volumes c 0 ≤ oldCeiling)
       → FieldTaking Narrow cells volumes bs masses r masses′
       → (totalSaid r ≡ (oldFieldJudged cells volumes bs (length masses) andThen accepted (total (cellsOnly cells volumes) (massIn (oldMassesIn bs cells)))))
       × Filled (oldFieldJudged cells volumes bs (length masses)) (oldMassesIn bs cells) masses masses′

@@ -69,12 +69,17 @@ masses-add-up volumes masses cells =
 mass-from : (volumes masses : List ℕ) (cells page : ℕ) → sum (cellsOn cells page) (massIn (drop (page * pageCells) masses)) ≡ pageMass volumes masses cells page
 unfolding pageMass
 mass-from volumes masses cells page =
-    sum-cong (cellsOn cells page) (massIn (drop (page * pageCells) masses)) (λ i. massIn masses (page * pageCells + i)) (λ i h. getD-drop (page * pageCells) masses i 0)
+    sum-cong (cellsOn cells page) (massIn (drop (page * pageCells) masses)) (λ i. massIn masses (page * pageCells + i))
+    (λ i h. getD-drop (page * pageCells) masses i 0)
 
 page-mass-most : (volumes masses : List ℕ) (cells page : ℕ) → page * pageCells ≤ cells → pageMass volumes masses cells page ≤ sum cells (massIn masses)
 unfolding pageMass
 page-mass-most volumes masses cells page h =
-    omega (arith, sum-split (page * pageCells) (cellsOn cells page) (massIn masses), sum-fewer (page * pageCells + cellsOn cells page) cells (massIn masses) (cells-end cells page h))
+    omega (
+      arith,
+      sum-split (page * pageCells) (cellsOn cells page) (massIn masses),
+      sum-fewer (page * pageCells + cellsOn cells page) cells (massIn masses) (cells-end cells page h),
+    )
 
 -- what the sum of a page's masses asks for, and gives, of the part of the masses that begins with its first cell
 part-is : (masses : List ℕ) (first : ℕ) → take (length masses - first) (drop first masses) ≡ drop first masses
@@ -104,7 +109,8 @@ in-order l s k m f n e = rw (past s e, past m e) (ap (λ (v : Verdict). v andThe
 
 module _ (further : Verdict) (volumes masses : List ℕ) (cells page room : ℕ) where
   -- the tests as the call makes them: first what is lent, then the bytes and a further table, then all of the field
-  pub judged-out : {k i : ℕ} → (counts (cellsOnly cells volumes) andThen meshTables (cellsOnly cells volumes) andThen fieldTable (cellsOnly cells volumes) masses) ≡ refused k i
+  pub judged-out : {k i : ℕ} → (counts (cellsOnly cells volumes) andThen meshTables (cellsOnly cells volumes)
+      andThen fieldTable (cellsOnly cells volumes) masses) ≡ refused k i
       → verdictWith further volumes masses cells page room ≡ refused k i
   unfolding verdictWith
   judged-out e = refused-at [] (_ ∷ _ ∷ _ ∷ _ ∷ _ ∷ []) tt e
@@ -150,7 +156,8 @@ module _ (volumes masses : List ℕ) (cells : ℕ) where
     page-small : (page : ℕ) → pageMass volumes masses cells page ≤ pageCells * maxMass
     unfolding pageMass
     page-small page =
-        le-trans (sum-bound (cellsOn cells page) maxMass (λ i. massIn masses (page * pageCells + i)) (λ i h. mass-most (page * pageCells + i) (cell-there cells page i h)))
+        le-trans (sum-bound (cellsOn cells page) maxMass (λ i. massIn masses (page * pageCells + i))
+        (λ i h. mass-most (page * pageCells + i) (cell-there cells page i h)))
         (mul-le-mul-right maxMass (cells-most cells page))
 
     rest-below : (c : ℕ) → c < cells → restOf volumes masses c < getD volumes c 0
@@ -182,5 +189,7 @@ module _ (volumes masses : List ℕ) (cells : ℕ) where
     pub put-asks : (page : ℕ) → page < pages cells
         → ((massPlaces (restPlaces cells volumes) ≤ mostDigits) × (page * pageCells ≤ cells) × (cells ≤ length volumes) × (cells ≤ length masses))
         × (((c : ℕ) → c < cells → 1 ≤ getD volumes c 0) × (sum cells (massIn masses) < 2 ^ 64))
-    put-asks page h =
-        ((figures-fit .few-places, omega (arith, page-begins cells page h), asks .0 .0, asks .0 .1), ((λ c l. asks .1 c l .0), sum-asks (cellsOnly cells volumes) masses e .1))
+    put-asks page h = (
+      (figures-fit .few-places, omega (arith, page-begins cells page h), asks .0 .0, asks .0 .1),
+      ((λ c l. asks .1 c l .0), sum-asks (cellsOnly cells volumes) masses e .1),
+    )

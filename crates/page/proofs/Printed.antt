@@ -95,7 +95,8 @@ module _ (places : ℕ) (volumes masses : List ℕ) (cells : ℕ) (f : Fitting p
         (piece-at (lineBytes places) (λ i. lineOf volumes masses places (page * pageCells + i)) (cellsOn cells page) i
         (massLine places (pageMass volumes masses cells page) ++ more) each-length h)
 
-    mass-there : lineAt (lineBytes places) (cellsOn cells page) (pageText volumes masses places cells page ++ more) ≡ massLine places (pageMass volumes masses cells page)
+    mass-there : lineAt (lineBytes places) (cellsOn cells page) (pageText volumes masses places cells page ++ more)
+        ≡ massLine places (pageMass volumes masses cells page)
     unfolding pageText
     mass-there = rw append-assoc
         (after-pieces (lineBytes places) (λ i. lineOf volumes masses places (page * pageCells + i)) (cellsOn cells page)
@@ -107,11 +108,13 @@ module _ (places : ℕ) (volumes masses : List ℕ) (cells : ℕ) (f : Fitting p
         let q : (i : ℕ) → i < cellsOn cells page → numberIn
         (lineAt (lineBytes places) i (pageText volumes masses places cells page ++ more)) (cellPlaces + 1) qPlaces ≡ qOf volumes masses
         (page * pageCells + i) =
-        λ i h. let l = cell-there cells page i h in rw (line-there i h) (q-in-line places _ _ _ (f .some-places) (f .few-places) (f .cell-fits _ l) (f .q-fits _ l) (f .rest-fits _ l)) in
+        λ i h. let l = cell-there cells page i h in rw (line-there i h)
+        (q-in-line places _ _ _ (f .some-places) (f .few-places) (f .cell-fits _ l) (f .q-fits _ l) (f .rest-fits _ l)) in
         let r : (i : ℕ) → i < cellsOn cells page → numberIn
         (lineAt (lineBytes places) i (pageText volumes masses places cells page ++ more))
         (cellPlaces + 1 + qPlaces + 1) places ≡ restOf volumes masses (page * pageCells + i) =
-        λ i h. let l = cell-there cells page i h in rw (line-there i h) (rest-in-line places _ _ _ (f .some-places) (f .few-places) (f .cell-fits _ l) (f .q-fits _ l) (f .rest-fits _ l)) in
+        λ i h. let l = cell-there cells page i h in rw (line-there i h)
+        (rest-in-line places _ _ _ (f .some-places) (f .few-places) (f .cell-fits _ l) (f .q-fits _ l) (f .rest-fits _ l)) in
         record {
           cell-back = λ i h. let l = cell-there cells page i h in rw (line-there i h)
               (cell-in-line places _ _ _ (f .some-places) (f .few-places) (f .cell-fits _ l) (f .q-fits _ l) (f .rest-fits _ l));
@@ -133,7 +136,8 @@ module _ (volumes masses : List ℕ) (cells page : ℕ) (bytes : List ℕ) where
   unfolding _andThen_
   page-accepted {n} {bytes′} e put =
       let passed = page-passed fine volumes masses cells page (length bytes) e in
-      let long = page-length (restPlaces cells volumes) volumes masses cells (figures-fit volumes masses cells (passed .field-fine)) page ∙ sym (bytes-needed (restPlaces cells volumes) cells page (passed .there)) in
+      let long = page-length (restPlaces cells volumes) volumes masses cells (figures-fit volumes masses cells (passed .field-fine)) page
+      ∙ sym (bytes-needed (restPlaces cells volumes) cells page (passed .there)) in
       let all = puts-all bytes put (omega (arith, passed .room-enough)) in
       record { answer = rw e (ap accepted (all .0 ∙ long)); bytes-after = rw e (all .1) }
 
@@ -148,15 +152,18 @@ module _ {volumes masses : List ℕ} {cells page : ℕ} {bytes bytes′ : List �
   fitting : Fitting (restPlaces cells volumes) volumes masses cells
   fitting = figures-fit volumes masses cells (passed .field-fine)
 
-  begins : bytes′ ≡ pageText volumes masses (restPlaces cells volumes) cells page ++ drop (length (pageText volumes masses (restPlaces cells volumes) cells page)) bytes
+  begins : bytes′ ≡ pageText volumes masses (restPlaces cells volumes) cells page
+      ++ drop (length (pageText volumes masses (restPlaces cells volumes) cells page)) bytes
   unfolding over
   begins = p .bytes-after ∙ rw (told .0)
 
   pub answer-length : n ≡ length (pageText volumes masses (restPlaces cells volumes) cells page)
-  answer-length = told .1 ∙ bytes-needed (restPlaces cells volumes) cells page (passed .there) ∙ sym (page-length (restPlaces cells volumes) volumes masses cells fitting page)
+  answer-length = told .1 ∙ bytes-needed (restPlaces cells volumes) cells page (passed .there)
+      ∙ sym (page-length (restPlaces cells volumes) volumes masses cells fitting page)
 
   pub reads-back : ReadsBack (restPlaces cells volumes) volumes masses cells page bytes′
-  reads-back = rw begins (page-back (restPlaces cells volumes) volumes masses cells fitting page (drop (length (pageText volumes masses (restPlaces cells volumes) cells page)) bytes))
+  reads-back = rw begins (page-back (restPlaces cells volumes) volumes masses cells fitting page
+      (drop (length (pageText volumes masses (restPlaces cells volumes) cells page)) bytes))
 
 -- ALL PAGES, each printed by a call into bytes of its own: the masses read from them add up to the field's total, as `total` answers it.
 module _ (volumes masses : List ℕ) (cells : ℕ) (bytes bytes′ : ℕ → List ℕ) (n : ℕ → ℕ)

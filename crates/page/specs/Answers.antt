@@ -37,4 +37,5 @@ pageSaid (Refused r) = told r
 -- The answer is the page's length; the page stands over the first bytes lent. A refusal leaves all.
 pub record PageIs (volumes masses : List ℕ) (cells page : ℕ) (bytes : List ℕ) (r : PageAnswer) (bytes′ : List ℕ) : Type 0 where
   pub answer : pageSaid r ≡ (pageVerdict volumes masses cells page (length bytes) andThen accepted (pageBytes (restPlaces cells volumes) cells page))
-  pub bytes-after : bytes′ ≡ taken (pageVerdict volumes masses cells page (length bytes)) (over (pageText volumes masses (restPlaces cells volumes) cells page) bytes) bytes
+  pub bytes-after : bytes′ ≡ taken (pageVerdict volumes masses cells page (length bytes))
+      (over (pageText volumes masses (restPlaces cells volumes) cells page) bytes) bytes

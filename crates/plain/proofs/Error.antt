@@ -167,7 +167,8 @@ module _ (M : Mesh) {K : Type 0} (past : K → List ℕ) (tables : K → Call) (
 
 -- the calls of a list come to what they come to
 themselves : (M : Mesh) (field : List ℕ) (calls : List PlainCall)
-    → EachStep (plainComes M) (λ p before. (l : Left) → plainComes M p before ≡ accepted l → stepOnTables plain M (p .tables) (lentMasses M (p .past) before) ≡ accepted l) field calls
+    → EachStep (plainComes M) (λ p before. (l : Left) → plainComes M p before ≡ accepted l → stepOnTables plain M (p .tables) (lentMasses M (p .past) before)
+    ≡ accepted l) field calls
 themselves M field [] = tt
 themselves M field (p ∷ ps) = ((λ l e. e), themselves M (fieldAfter (plainComes M p field) field) ps)
 

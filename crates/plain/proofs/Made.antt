@@ -10,7 +10,8 @@ use Rattle.transport.proofs.Promises.{promised-comes}
 use Rattle.plain.specs.Made.{Made, cameTo, KeptOn, ErrorOfCalls}
 
 as-plain : (M : Mesh) (field : List ℕ) (calls : List Made) → KeptOn M field calls
-    → EachStep cameTo (λ m before. (l : Left) → cameTo m before ≡ accepted l → stepOnTables plain M (m .tables) (lentMasses M (m .past) before) ≡ accepted l) field calls
+    → EachStep cameTo (λ m before. (l : Left) → cameTo m before ≡ accepted l → stepOnTables plain M (m .tables) (lentMasses M (m .past) before) ≡ accepted l)
+    field calls
 as-plain M field [] k = tt
 as-plain M field (m ∷ ms) k = (
   (λ l e. promised-comes plain M (lentMasses M (m .past) field) (m .tables) (m .answer) (m .next) (m .moved) (m .work) (k .0) ∙ e),

@@ -37,14 +37,16 @@ full n f = omega (arith, length-table n f)
 
 -- the run's tables, whatever they held
 module _ (mesh field step volumes firsts seconds shares reaches masses : List ℕ)
-    (lv : length volumes ≡ runCells) (lf : length firsts ≡ runFaces) (ls : length seconds ≡ runFaces) (lw : length shares ≡ runFaces) (lk : length reaches ≡ runFaces)
+    (lv : length volumes ≡ runCells) (lf : length firsts ≡ runFaces) (ls : length seconds ≡ runFaces) (lw : length shares ≡ runFaces)
+    (lk : length reaches ≡ runFaces)
     (lm : length masses ≡ runCells) where
   pub mesh-as-the-run : meshJudged mesh (length volumes) (length firsts) (length seconds) (length shares) (length reaches) ≡ meshTested mesh field step
   mesh-as-the-run = rw (lv, lf, ls, lw, lk)
 
   -- what they hold of an accepted mesh, and of a field on it
   abbrev pub lent : Mesh
-  lent = meshOf (cellsIn mesh) (facesIn mesh) (over (volumesIn mesh) volumes) (over (firstsIn mesh) firsts) (over (secondsIn mesh) seconds) (over (sharesIn mesh) shares)
+  lent = meshOf (cellsIn mesh) (facesIn mesh) (over (volumesIn mesh) volumes) (over (firstsIn mesh) firsts) (over (secondsIn mesh) seconds)
+      (over (sharesIn mesh) shares)
       (over (reachesIn mesh) reaches)
 
   abbrev pub lentField : List ℕ
@@ -139,7 +141,8 @@ module _ (mesh field step volumes firsts seconds shares reaches masses : List �
     lent-field-fine e =
         let salt : fieldValues (cellsOnly (cellsIn mesh) (volumesIn mesh)) (massesIn field (cellsIn mesh)) ≡ fine = both-fine _ _ (both-fine _ _ e .1) .1 in
         field-accepted lent lentField (masses-long .1)
-        (λ c h. rw (held-same _ _ masses c h, agrees .volumes c h) (field-fit (cellsOnly (cellsIn mesh) (volumesIn mesh)) (massesIn field (cellsIn mesh)) salt c h))
+        (λ c h. rw (held-same _ _ masses c h, agrees .volumes c h)
+        (field-fit (cellsOnly (cellsIn mesh) (volumesIn mesh)) (massesIn field (cellsIn mesh)) salt c h))
 
     seconds-same : (f : ℕ) → f < facesIn mesh → getD (over (secondsIn mesh) seconds) f 0 ≡ getD (secondsIn mesh) f 0
     seconds-same = agrees .seconds
@@ -147,7 +150,8 @@ module _ (mesh field step volumes firsts seconds shares reaches masses : List �
     outsides-are : outsidesIn step (facesIn mesh) (over (secondsIn mesh) seconds) ≡ outsidesIn step (facesIn mesh) (secondsIn mesh)
     outsides-are = outsides-same step (cellsIn mesh) (facesIn mesh) (secondsIn mesh) (over (secondsIn mesh) seconds) seconds-same
 
-    releases-are : releasesIn step (cellsIn mesh) (facesIn mesh) (over (secondsIn mesh) seconds) ≡ releasesIn step (cellsIn mesh) (facesIn mesh) (secondsIn mesh)
+    releases-are : releasesIn step (cellsIn mesh) (facesIn mesh) (over (secondsIn mesh) seconds)
+        ≡ releasesIn step (cellsIn mesh) (facesIn mesh) (secondsIn mesh)
     releases-are = releases-same step (cellsIn mesh) (facesIn mesh) (secondsIn mesh) (over (secondsIn mesh) seconds) seconds-same
 
     step-agrees : AgreeCall (meshIn mesh) lent (massesIn field (cellsIn mesh)) lentField (stepIn (meshIn mesh) step) (stepIn lent step)
@@ -171,6 +175,8 @@ module _ (mesh field step volumes firsts seconds shares reaches masses : List �
     pub step-as-the-run : stepJudged (widthIn mesh) lent lentField step ≡ stepTested mesh field step
     unfolding stepJudged stepRecordFound
     step-as-the-run = rw (
-      found-same step (cellsIn mesh) (facesIn mesh) (secondsIn mesh) (over (secondsIn mesh) seconds) seconds-same (widthIn mesh) (seconds-long .0) (seconds-long .1),
-      verdict-agree (meshIn mesh) lent (massesIn field (cellsIn mesh)) lentField (stepIn (meshIn mesh) step) (stepIn lent step) step-agrees tables-same field-lent call-lent,
+      found-same step (cellsIn mesh) (facesIn mesh) (secondsIn mesh) (over (secondsIn mesh) seconds) seconds-same (widthIn mesh) (seconds-long .0)
+          (seconds-long .1),
+      verdict-agree (meshIn mesh) lent (massesIn field (cellsIn mesh)) lentField (stepIn (meshIn mesh) step) (stepIn lent step) step-agrees tables-same
+          field-lent call-lent,
     )

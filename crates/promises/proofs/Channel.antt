@@ -31,13 +31,17 @@ use Rattle.promises.proofs.Held.{mesh-holds, field-holds}
 
 -- the definitions that the figures compute
 figures : Unit {0}
-unfolding stepAnswer nextTable movedTable workTable inMass outMass over verdict meshVerdict fieldVerdict counts countsWithin meshTables fieldTable stepTables meshValues fieldValues saltGood raised releasedMass
+unfolding stepAnswer nextTable movedTable workTable inMass outMass over verdict meshVerdict fieldVerdict counts countsWithin meshTables fieldTable stepTables
+    meshValues fieldValues saltGood raised releasedMass
     raisedGood raisedValues stepValues volumeGood
-    endsGood spacingGood outsideGood fluxGood balanceGood outflowGood need each _andThen_ table sum least greatest entering leaving incoming outgoing updated next moved
+    endsGood spacingGood outsideGood fluxGood balanceGood outflowGood need each _andThen_ table sum least greatest entering leaving
+    incoming outgoing updated next moved
     rounded beyond upwind downwind carried low upwindShare correction smooths keptBy lowConcentration kept adjacent lo hi maxGain
     maxLoss receiver giver limitedBy limited portion bitAt bitsAt spelled
-    bitsOf widthOf bytesFor octet packed rows those row fieldsOf recordOf valueBits massBits releaseBits meshRecord fieldRecord meshLength fieldLength stepLength volumesIn firstsIn secondsIn sharesIn reachesIn massesIn
-    fluxesIn outsidesIn releasesIn zeroBitGood minusZero meshBitGood stepBitGood meshHeadVerdict fieldHeadVerdict stepHeadVerdict meshBodyVerdict fieldBodyVerdict stepBodyVerdict
+    bitsOf widthOf bytesFor octet packed rows those row fieldsOf recordOf valueBits massBits releaseBits meshRecord fieldRecord meshLength fieldLength
+    stepLength volumesIn firstsIn secondsIn sharesIn reachesIn massesIn
+    fluxesIn outsidesIn releasesIn zeroBitGood minusZero meshBitGood stepBitGood meshHeadVerdict fieldHeadVerdict stepHeadVerdict meshBodyVerdict
+    fieldBodyVerdict stepBodyVerdict
     fieldRead stepRecordFound meshFieldVerdict meshRecordFound meshJudged fieldJudged stepJudged blank
 figures = tt
 
@@ -53,7 +57,8 @@ after = 100099 ∷ 81188 ∷ 18713 ∷ []
 
 -- one step on tables with two entries more in the masses, one from its record with a byte more for the next field
 abbrev water : Call
-water = callOf (negsuc 49 ∷ pos 50 ∷ pos 50 ∷ pos 50 ∷ []) (1000 ∷ 0 ∷ 0 ∷ 0 ∷ []) (7 ∷ 7 ∷ 7 ∷ []) (pos 0 ∷ pos 0 ∷ pos 0 ∷ pos 0 ∷ []) (replicate 16 7) (0 ∷ 0 ∷ 0 ∷ [])
+water = callOf (negsuc 49 ∷ pos 50 ∷ pos 50 ∷ pos 50 ∷ []) (1000 ∷ 0 ∷ 0 ∷ 0 ∷ []) (7 ∷ 7 ∷ 7 ∷ []) (pos 0 ∷ pos 0 ∷ pos 0 ∷ pos 0 ∷ []) (replicate 16 7)
+    (0 ∷ 0 ∷ 0 ∷ [])
 
 abbrev first : Made
 first = record {
@@ -72,7 +77,16 @@ abbrev room : List ℕ
 room = replicate 15 7
 
 abbrev second : HostMade
-second = record { width = Narrow; mesh = meshRecord 1 channel; field = fieldRecord 2 3 between; step = step; room = room; number = 0; bytes = over (fieldRecord 2 3 after) room }
+second = record {
+  width = Narrow;
+  mesh = meshRecord 1 channel;
+  field = fieldRecord 2 3 between;
+  step = step;
+  room = room;
+  number = 0;
+  bytes =
+      over (fieldRecord 2 3 after) room;
+}
 
 -- four faces of kind 7 with U 0, and the two outside values
 abbrev still : List ℕ
@@ -82,7 +96,16 @@ abbrev wideRoom : List ℕ
 wideRoom = replicate 18 7
 
 abbrev third : HostMade
-third = record { width = Wide; mesh = meshRecord 5 channel; field = fieldRecord 6 3 after; step = still; room = wideRoom; number = 0; bytes = over (fieldRecord 6 3 after) wideRoom }
+third = record {
+  width = Wide;
+  mesh = meshRecord 5 channel;
+  field = fieldRecord 6 3 after;
+  step = still;
+  room = wideRoom;
+  number = 0;
+  bytes =
+      over (fieldRecord 6 3 after) wideRoom;
+}
 
 abbrev calls : List StepCall
 calls = byStep first ∷ byHost second ∷ byHost third ∷ []

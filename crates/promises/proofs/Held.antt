@@ -80,7 +80,8 @@ module _ (w : Width) (M : Mesh) (mesh-fine : meshVerdict M ≡ fine) (fits : mes
   pub mesh-holds : HoldsMesh w M (meshRecord (meshKind w) M)
   unfolding counts
   mesh-holds = record {
-    mesh-read = mesh-read-back w M inside fits maxCells maxFaces (M .cells) (M .faces) (M .faces) (M .faces) (M .faces) inside (omega arith) (omega arith) (omega arith)
+    mesh-read = mesh-read-back w M inside fits maxCells maxFaces (M .cells) (M .faces) (M .faces) (M .faces) (M .faces)
+        inside (omega arith) (omega arith) (omega arith)
         (omega arith) (omega arith);
     mesh-held = mesh-is;
   }
@@ -91,4 +92,8 @@ module _ (w : Width) (M : Mesh) (mesh-fine : meshVerdict M ≡ fine) (fits : mes
     salt = both-fine _ _ field-fine .1
 
     pub field-holds : HoldsField w M field (fieldRecord (fieldKind w) (M .cells) field)
-    field-holds = record { field-read = field-read-back w M inside fits field salt (M .cells) (omega arith); field-held = masses-read-back w M inside fits field salt }
+    field-holds = record {
+      field-read = field-read-back w M inside fits field salt (M .cells) (omega arith);
+      field-held = masses-read-back w M
+          inside fits field salt;
+    }

@@ -53,7 +53,8 @@ water-same M step =
 abbrev own : Call → Call
 own k = ownTables (k .fluxes) (k .outsides) (k .releases)
 
-module _ (M : Mesh) (mesh-fine : meshVerdict M ≡ fine) (field : List ℕ) (m : HostMade) (mesh-holds : HoldsMesh (m .width) M (m .mesh)) (field-was : HoldsField (m .width) M field (m .field)) where
+module _ (M : Mesh) (mesh-fine : meshVerdict M ≡ fine) (field : List ℕ) (m : HostMade) (mesh-holds : HoldsMesh (m .width) M (m .mesh))
+    (field-was : HoldsField (m .width) M field (m .field)) where
   abbrev w : Width
   w = m .width
 
@@ -102,7 +103,8 @@ module _ (M : Mesh) (mesh-fine : meshVerdict M ≡ fine) (field : List ℕ) (m :
         let fit = mesh-fit M (passes M mesh-fine) in
         let g = inputs-agree M (cut M) field (cutField M field) water water (cut-agrees M field water) in
         amounts-fair cutStep cut-ready (moved cutStep) (moved-keeps cutStep (cut-ready .sound)) (cutField M field)
-        (releasedMass (M .cells) (water .releases)) (raised-total (cut M) (cutField M field) water) after (omega (arith, length-table (M .cells) (next cutStep)))
+        (releasedMass (M .cells) (water .releases)) (raised-total (cut M) (cutField M field) water) after
+        (omega (arith, length-table (M .cells) (next cutStep)))
         (λ c h. getD-table (M .cells) (next cutStep) 0 c h)
         left refl (rw (in-agree whole cutStep few-cells fit g, out-agree whole cutStep few-cells fit g))
 
@@ -141,8 +143,14 @@ module _ (M : Mesh) (mesh-fine : meshVerdict M ≡ fine) (field : List ℕ) (m :
       next-record-is : nextRecord M m ≡ fieldRecord (fieldKind w) (M .cells) after
       unfolding hostBytes over
       next-record-is =
-          rw (p .next-field, ok, ← width-held w M (m .mesh) mesh-holds, carry (λ N x k. fieldRecord (fieldKind w) (N .cells) (table (N .cells) (next (inputOf N x k)))))
-          (take-at (fieldRecord (fieldKind w) (M .cells) after) (drop (length (fieldRecord (fieldKind w) (M .cells) after)) (m .room)) (fieldLength (fieldKind w) (M .cells)) (record-long ok))
+          rw (
+            p .next-field,
+            ok,
+            ← width-held w M (m .mesh) mesh-holds,
+            carry (λ N x k. fieldRecord (fieldKind w) (N .cells) (table (N .cells) (next (inputOf N x k)))),
+          )
+          (take-at (fieldRecord (fieldKind w) (M .cells) after) (drop (length (fieldRecord (fieldKind w) (M .cells) after)) (m .room))
+          (fieldLength (fieldKind w) (M .cells)) (record-long ok))
 
       masses-are : massesIn (nextRecord M m) (M .cells) ≡ after
       masses-are = ap (λ (r : List ℕ). massesIn r (M .cells)) next-record-is ∙ read-back ok
@@ -156,7 +164,8 @@ module _ (M : Mesh) (mesh-fine : meshVerdict M ≡ fine) (field : List ℕ) (m :
     abbrev came : Left
     came = record { field = massesIn (nextRecord M m) (M .cells); crossing = crossingOf M field water }
 
-    pub host-fair : (l : Left) → (hostSaid (m .number) andThen accepted came) ≡ accepted l → Fair M (Bounded whole (l .field) × HoldsField w M (l .field) (nextRecord M m)) field l
+    pub host-fair : (l : Left) → (hostSaid (m .number) andThen accepted came) ≡ accepted l
+        → Fair M (Bounded whole (l .field) × HoldsField w M (l .field) (nextRecord M m)) field l
     host-fair l e =
         let b = accepted-of (hostSaid (m .number)) came l (sym e) in
         let ok : verdictOf ≡ fine = sym number-says ∙ b .0 in

@@ -23,7 +23,8 @@ use Rattle.promises.specs.Steps.{RunMade, runLeft, waterIn}
 use Rattle.promises.proofs.Held.{within, passes}
 
 left-with : (v : Verdict) (p : Printed) (masses : List ℕ)
-    → runLeft (v andThen accepted p) masses ≡ (v andThen accepted (record { field = masses; crossing = record { entered = p .entered; gone = p .gone; released = p .released } }))
+    → runLeft (v andThen accepted p) masses ≡ (v andThen accepted
+    (record { field = masses; crossing = record { entered = p .entered; gone = p .gone; released = p .released } }))
 unfolding _andThen_
 left-with (accepted u) p masses = refl
 left-with (refused i j) p masses = refl

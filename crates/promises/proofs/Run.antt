@@ -88,30 +88,36 @@ faces-long = length-table runFaces (λ i. 0)
 -- The mesh of a record that the run accepts, as its tables hold it, and a field on it.
 module _ (bs : List ℕ) (mesh-tested : meshTested bs [] [] ≡ fine) where
   abbrev held : Mesh
-  held = meshOf (cellsIn bs) (facesIn bs) (over (volumesIn bs) cellZeros) (over (firstsIn bs) faceZeros) (over (secondsIn bs) faceZeros) (over (sharesIn bs) faceZeros)
+  held = meshOf (cellsIn bs) (facesIn bs) (over (volumesIn bs) cellZeros) (over (firstsIn bs) faceZeros) (over (secondsIn bs) faceZeros)
+      (over (sharesIn bs) faceZeros)
       (over (reachesIn bs) faceZeros)
 
   held-fine : meshVerdict held ≡ fine
-  held-fine = lent-fine bs [] [] cellZeros faceZeros faceZeros faceZeros faceZeros cellZeros cells-long faces-long faces-long faces-long faces-long cells-long mesh-tested
+  held-fine = lent-fine bs [] [] cellZeros faceZeros faceZeros faceZeros faceZeros cellZeros cells-long faces-long faces-long faces-long faces-long cells-long
+      mesh-tested
 
   module _ (field : List ℕ) (judged : fieldJudged (widthIn bs) (cellsIn bs) (over (volumesIn bs) cellZeros) field (length cellZeros) ≡ fine) where
     abbrev heldField : List ℕ
     heldField = over (massesIn field (cellsIn bs)) cellZeros
 
     field-long : cellsIn bs ≤ length heldField
-    field-long = masses-long bs field [] cellZeros faceZeros faceZeros faceZeros faceZeros cellZeros cells-long faces-long faces-long faces-long faces-long cells-long mesh-tested .1
+    field-long = masses-long bs field [] cellZeros faceZeros faceZeros faceZeros faceZeros cellZeros cells-long faces-long faces-long faces-long faces-long
+        cells-long mesh-tested .1
 
     held-field-fine : fieldVerdict held heldField ≡ fine
     held-field-fine =
-        let same = field-as-the-run bs field [] cellZeros faceZeros faceZeros faceZeros faceZeros cellZeros cells-long faces-long faces-long faces-long faces-long cells-long mesh-tested in
-        lent-field-fine bs field [] cellZeros faceZeros faceZeros faceZeros faceZeros cellZeros cells-long faces-long faces-long faces-long faces-long cells-long mesh-tested (sym same ∙ judged)
+        let same = field-as-the-run bs field [] cellZeros faceZeros faceZeros faceZeros faceZeros cellZeros cells-long faces-long faces-long faces-long
+        faces-long cells-long mesh-tested in
+        lent-field-fine bs field [] cellZeros faceZeros faceZeros faceZeros faceZeros cellZeros cells-long faces-long faces-long faces-long faces-long
+        cells-long mesh-tested (sym same ∙ judged)
 
   -- the run goes on with the mesh and the width that the taking of the record left
   module _ (w : Width) (M : Mesh) (width-is : w ≡ widthIn bs) (mesh-is : M ≡ held) where
     field-demanded : {input out : List ℕ} (p : FieldPrints w M input out) → FieldDemanded p
     field-demanded (field-refused field masses refusal line g t h) = tt
     field-demanded (field-accepted field masses sum line g t h p) =
-        let found = accepted-of (fieldJudged w (M .cells) (M .volumes) field (length cellZeros)) (total (cellsOnly (M .cells) (M .volumes)) (massIn (massesIn field (M .cells)))) sum (t .answer) .0 in
+        let found = accepted-of (fieldJudged w (M .cells) (M .volumes) field (length cellZeros))
+        (total (cellsOnly (M .cells) (M .volumes)) (massIn (massesIn field (M .cells)))) sum (t .answer) .0 in
         let judged : fieldJudged (widthIn bs) (cellsIn bs) (over (volumesIn bs) cellZeros) field (length cellZeros) ≡ fine = rw (width-is, mesh-is) at found in
         let masses-are : masses ≡ over (massesIn field (M .cells)) cellZeros = t .masses-after ∙ rw found in
         let mesh-fine : meshVerdict M ≡ fine = rw mesh-is held-fine in
@@ -122,7 +128,8 @@ module _ (bs : List ℕ) (mesh-tested : meshTested bs [] [] ≡ fine) where
 pub run-makes-list : RunMakesList
 run-makes-list input out (mesh-refused bs volumes firsts seconds shares reaches refusal line g t h) = tt
 run-makes-list input out (mesh-accepted bs volumes firsts seconds shares reaches counts g t p) =
-    let found = accepted-of (meshJudged bs (length cellZeros) (length faceZeros) (length faceZeros) (length faceZeros) (length faceZeros)) (countsIn bs) counts (t .answer) in
+    let found = accepted-of (meshJudged bs (length cellZeros) (length faceZeros) (length faceZeros) (length faceZeros) (length faceZeros)) (countsIn bs) counts
+    (t .answer) in
     let tested : meshTested bs [] [] ≡ fine = rw (cells-long, faces-long) at (found .0) in
     let v : volumes ≡ over (volumesIn bs) cellZeros = t .volumes-after ∙ rw (found .0) in
     let f : firsts ≡ over (firstsIn bs) faceZeros = t .firsts-after ∙ rw (found .0) in
@@ -130,4 +137,5 @@ run-makes-list input out (mesh-accepted bs volumes firsts seconds shares reaches
     let a : shares ≡ over (sharesIn bs) faceZeros = t .shares-after ∙ rw (found .0) in
     let k : reaches ≡ over (reachesIn bs) faceZeros = t .reaches-after ∙ rw (found .0) in
     let mesh-is : meshOf (counts .cells) (counts .faces) volumes firsts seconds shares reaches ≡ held bs tested = rw (found .1, v, f, s, a, k) in
-    field-demanded bs tested (counts .width) (meshOf (counts .cells) (counts .faces) volumes firsts seconds shares reaches) (ap (λ (n : MeshCounts). n .width) (found .1)) mesh-is p
+    field-demanded bs tested (counts .width) (meshOf (counts .cells) (counts .faces) volumes firsts seconds shares reaches)
+    (ap (λ (n : MeshCounts). n .width) (found .1)) mesh-is p

@@ -116,7 +116,8 @@ module _ (M : Mesh) (name : ℕ) (masses : List ℕ) (long : ℕ) where
       rw (p .store-is, n .0) (after-one (M .cells) name masses long (dropping (m .name)) store (λ d. n .1 (p .answer ∙ rw (n .0) d)) h)
   still-held (byReturn m) field store p n h = h
 
-  all-held : (calls : List ListCall) (field store : List ℕ) → CallsMade M field calls → OneStore name store calls → Held store → Held (storeAfterAll store calls)
+  all-held : (calls : List ListCall) (field store : List ℕ) → CallsMade M field calls → OneStore name store calls → Held store
+      → Held (storeAfterAll store calls)
   unfolding storeAfterAll
   all-held [] field store p n h = h
   all-held (call ∷ calls) field store p n h =

@@ -57,7 +57,8 @@ module _ (M : Mesh) where
       (fieldsIn (M .cells) (m .written) ≡ fieldsIn (M .cells) (m .store) ++ (record { name = m .name; masses = table (M .cells) (massIn field) } ∷ []))
       (m .written ≡ m .store)
   CallOwed (byDrop m) field o = taken o (fieldsIn (M .cells) (m .written) ≡ without (m .name) (fieldsIn (M .cells) (m .store))) (m .written ≡ m .store)
-  CallOwed (byReturn m) field o = taken o (m .written ≡ heldUnder (m .name) (fieldsIn (M .cells) (m .store)) ++ m .past) (m .written ≡ lentMasses M (m .past) field)
+  CallOwed (byReturn m) field o = taken o (m .written ≡ heldUnder (m .name) (fieldsIn (M .cells) (m .store)) ++ m .past)
+      (m .written ≡ lentMasses M (m .past) field)
 
 -- DEMAND 3 with calls on stores: from any accepted mesh and first field, after any list of steps, keeps, drops and returns, whichever of them
 -- were refused and whatever the store held at each call.
@@ -92,7 +93,8 @@ OneStore name store (call ∷ calls) = OnStore name store call × OneStore name 
 abbrev pub FieldReturns : Type 0
 FieldReturns = (M : Mesh) (field : List ℕ) (keep : StoreMade) → CallContract M (byKeep keep) field → said (keep .answer) ≡ fine
     → (calls : List ListCall) → CallsMade M field calls → OneStore (keep .name) (keep .written) calls
-    → (back : StoreMade) → CallContract M (byReturn back) (lastField M (did M) field calls) → back .store ≡ storeAfterAll (keep .written) calls → back .name ≡ keep .name
+    → (back : StoreMade) → CallContract M (byReturn back) (lastField M (did M) field calls) → back .store ≡ storeAfterAll (keep .written) calls → back .name
+    ≡ keep .name
     → (said (back .answer) ≡ fine) × (back .written ≡ table (M .cells) (massIn field) ++ back .past)
 
 -- Dropping frees what keeping took: a drop of the name, next on the store, is accepted and leaves the store as it was before the keep, but for

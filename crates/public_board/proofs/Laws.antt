@@ -20,13 +20,15 @@ in-order l k m f g e = rw (past k e, past m e) (ap (λ (v : Verdict). v andThen 
 
 module _ (volumes masses marks : List ℕ) (cells : ℕ) where
   -- THE TESTS as the call makes them: first what is lent, then the marks' table, then all of the field and the marks
-  pub judged-out : {k i : ℕ} → (counts (cellsOnly cells volumes) andThen meshTables (cellsOnly cells volumes) andThen fieldTable (cellsOnly cells volumes) masses) ≡ refused k i
+  pub judged-out : {k i : ℕ} → (counts (cellsOnly cells volumes) andThen meshTables (cellsOnly cells volumes)
+      andThen fieldTable (cellsOnly cells volumes) masses) ≡ refused k i
       → publicVerdict volumes masses marks cells ≡ refused k i
   unfolding publicVerdict
   judged-out e = refused-at [] (_ ∷ _ ∷ _ ∷ _ ∷ []) tt e
 
   pub judged-on : (counts (cellsOnly cells volumes) andThen meshTables (cellsOnly cells volumes) andThen fieldTable (cellsOnly cells volumes) masses) ≡ fine
-      → publicVerdict volumes masses marks cells ≡ (marksLong marks cells andThen meshFieldVerdict (cellsOnly cells volumes) masses andThen marksGood marks cells)
+      → publicVerdict volumes masses marks cells ≡ (marksLong marks cells andThen meshFieldVerdict (cellsOnly cells volumes) masses
+      andThen marksGood marks cells)
   unfolding publicVerdict meshFieldVerdict
   judged-on e = in-order _ _ _ _ _ e
 
@@ -34,7 +36,8 @@ module _ (volumes masses marks : List ℕ) (cells : ℕ) where
   unfolding publicVerdict meshFieldVerdict
   asks e =
       let M = cellsOnly cells volumes in
-      let p = all-fine (counts M ∷ meshTables M ∷ fieldTable M masses ∷ marksLong marks cells ∷ meshValues ceiling M ∷ fieldValues M masses ∷ marksGood marks cells ∷ []) e in
+      let p = all-fine (counts M ∷ meshTables M ∷ fieldTable M masses ∷ marksLong marks cells ∷ meshValues ceiling M ∷ fieldValues M masses
+      ∷ marksGood marks cells ∷ []) e in
       rank-asks volumes masses cells
       (fine-all (counts M ∷ meshTables M ∷ fieldTable M masses ∷ meshValues ceiling M ∷ fieldValues M masses ∷ [])
       (p .0, (p .1 .0, (p .1 .1 .0, (p .1 .1 .1 .1 .0, (p .1 .1 .1 .1 .1 .0, tt))))))

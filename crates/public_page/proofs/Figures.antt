@@ -38,7 +38,8 @@ pub none-withheld : publicText volumes masses (0 ∷ 0 ∷ 0 ∷ []) narrowPlace
 unfolding everything
 none-withheld = refl
 
-pub growers-page : (vs ms : List ℕ) (places cells page : ℕ) → pageText vs ms places cells page ≡ publicText vs ms [] places cells page ++ massLine places (pageMass vs ms cells page)
+pub growers-page : (vs ms : List ℕ) (places cells page : ℕ) → pageText vs ms places cells page ≡ publicText vs ms [] places cells page
+    ++ massLine places (pageMass vs ms cells page)
 unfolding pageText publicText lineIf isOpen
 growers-page vs ms places cells page = refl
 

@@ -61,19 +61,23 @@ either-most false w xs e = omega arith
 
 -- WHAT THE CALL ANSWERS, refused and accepted
 module _ (volumes masses marks : List ℕ) (cells page : ℕ) (bytes : List ℕ) where
-  pub public-refused : {r : Refusal} → publicVerdict volumes masses marks cells page (length bytes) ≡ told r → PublicPageIs volumes masses marks cells page bytes (Refused r) bytes
+  pub public-refused : {r : Refusal} → publicVerdict volumes masses marks cells page (length bytes) ≡ told r
+      → PublicPageIs volumes masses marks cells page bytes (Refused r) bytes
   unfolding _andThen_
   public-refused e = record { answer = rw e; bytes-after = rw e }
 
-  text-fits : publicVerdict volumes masses marks cells page (length bytes) ≡ fine → length (publicText volumes masses marks (restPlaces cells volumes) cells page) ≤ length bytes
+  text-fits : publicVerdict volumes masses marks cells page (length bytes) ≡ fine
+      → length (publicText volumes masses marks (restPlaces cells volumes) cells page) ≤ length bytes
   unfolding publicText lineIf
   text-fits e =
       let p = passed volumes masses marks cells page (length bytes) e in
       let fit = figures-fit volumes masses cells (p .field-fine) in
       omega (
         arith,
-        pieces-most (lineBytes (restPlaces cells volumes)) (cellsOn cells page) (λ i. lineIf volumes masses (isOpen marks) (restPlaces cells volumes) (page * pageCells + i))
-            (λ i h. either-most (isOpen marks (page * pageCells + i)) (lineBytes (restPlaces cells volumes)) (lineOf volumes masses (restPlaces cells volumes) (page * pageCells + i))
+        pieces-most (lineBytes (restPlaces cells volumes)) (cellsOn cells page)
+            (λ i. lineIf volumes masses (isOpen marks) (restPlaces cells volumes) (page * pageCells + i))
+            (λ i h. either-most (isOpen marks (page * pageCells + i)) (lineBytes (restPlaces cells volumes))
+            (lineOf volumes masses (restPlaces cells volumes) (page * pageCells + i))
             (each-length (restPlaces cells volumes) volumes masses cells fit page i h)),
         p .room-enough,
         bytes-needed (restPlaces cells volumes) cells page (p .there),

@@ -17,7 +17,8 @@ touched-is b zero l = absurd (omega arith)
 touched-is b (suc w) l = omega arith
 
 -- a reader's turn: k bytes from byte j on are read as one number, and the next one joins it
-pub bits-more : (bs : List ℕ) (j k : ℕ) {v x : ℕ} → getD bs (j + k) 0 < 256 → v ≡ bitsAt bs (j * 8) (k * 8) → x ≡ getD bs (j + k) 0 → 256 * v + x ≡ bitsAt bs (j * 8) ((k + 1) * 8)
+pub bits-more : (bs : List ℕ) (j k : ℕ) {v x : ℕ} → getD bs (j + k) 0 < 256 → v ≡ bitsAt bs (j * 8) (k * 8) → x ≡ getD bs (j + k) 0 → 256 * v + x
+    ≡ bitsAt bs (j * 8) ((k + 1) * 8)
 bits-more bs j k {v} {x} small e f =
     let p : (k + 1) * 8 ≡ k * 8 + 8 = omega arith in
     let q : j * 8 + k * 8 ≡ (j + k) * 8 = omega arith in

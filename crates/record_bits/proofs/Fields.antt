@@ -57,9 +57,11 @@ bits-byte bs p (suc k) h =
     let e₁ : 8 - p % 8 - k ≡ e + 1 = bits-below p k h in
     let e₂ : (p + k) / 8 ≡ p / 8 = same-byte p k h in
     let e₃ : 7 - (p + k) % 8 ≡ e = bit-below p k h in
-    let a : bitsAt bs p k ≡ x / 2 ^ e / 2 ^ 1 % 2 ^ k = bits-byte bs p k (omega arith) ∙ ap (λ (j : ℕ). x / 2 ^ j % 2 ^ k) e₁ ∙ ap (λ (j : ℕ). j % 2 ^ k) (sym (shr-shr x e 1)) in
+    let a : bitsAt bs p k ≡ x / 2 ^ e / 2 ^ 1 % 2 ^ k = bits-byte bs p k (omega arith) ∙ ap (λ (j : ℕ). x / 2 ^ j % 2 ^ k) e₁
+    ∙ ap (λ (j : ℕ). j % 2 ^ k) (sym (shr-shr x e 1)) in
     let b : bitAt bs (p + k) ≡ x / 2 ^ e % 2 ^ 1 = rw (e₂, e₃) in
-    let m : x / 2 ^ e % 2 ^ suc k ≡ (x / 2 ^ e / 2 ^ 1 % 2 ^ k) * 2 ^ 1 + x / 2 ^ e % 2 ^ 1 = ap (λ (j : ℕ). x / 2 ^ e % 2 ^ j) (sym (add-one k)) ∙ mod-pow-add (x / 2 ^ e) k 1 in
+    let m : x / 2 ^ e % 2 ^ suc k ≡ (x / 2 ^ e / 2 ^ 1 % 2 ^ k) * 2 ^ 1 + x / 2 ^ e % 2 ^ 1 = ap (λ (j : ℕ). x / 2 ^ e % 2 ^ j) (sym (add-one k))
+    ∙ mod-pow-add (x / 2 ^ e) k 1 in
     rw (a, b, m) (omega arith)
 
 -- a field fits where a wider one does

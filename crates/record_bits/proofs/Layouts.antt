@@ -81,7 +81,8 @@ pub spelled-bit : (w v i : ℕ) → i < w → getD (spelled w v) i 0 ≡ v / 2 ^
 unfolding spelled
 spelled-bit zero v i l = absurd (not-suc-le-zero l)
 spelled-bit (suc w) v zero l = let e : w ≡ suc w - suc zero = omega arith in ap (λ (j : ℕ). v / 2 ^ j % 2) e
-spelled-bit (suc w) v (suc i) l = let e : w - suc i ≡ suc w - suc (suc i) = omega arith in spelled-bit w v i (le-of-suc-le-suc l) ∙ ap (λ (j : ℕ). v / 2 ^ j % 2) e
+spelled-bit (suc w) v (suc i) l = let e : w - suc i ≡ suc w - suc (suc i) = omega arith in spelled-bit w v i (le-of-suc-le-suc l)
+    ∙ ap (λ (j : ℕ). v / 2 ^ j % 2) e
 
 -- bit i of a field, after the bits of the fields ahead of it
 pub field-bit : (pre post : List Field) (w v i : ℕ) → i < w → getD (bitsOf (pre ++ field w v ∷ post)) (widthOf pre + i) 0 ≡ v / 2 ^ (w - suc i) % 2
@@ -125,11 +126,13 @@ module _ (b : ℕ → ℕ) (small : (k : ℕ) → b k < 2) where
       go : (r ≡ suc w) ⊎ (r < suc w) → (r ≤ w → weighed b w / 2 ^ (w - r) % 2 ≡ b r) → weighed b (suc w) / 2 ^ (suc w - r) % 2 ≡ b r
       go (inl e) ih =
           let z : suc w - r ≡ 0 = omega arith in
-          ap (λ (j : ℕ). weighed b (suc w) / 2 ^ j % 2) z ∙ ap (λ (x : ℕ). x % 2) (div-one (weighed b (suc w))) ∙ ap (λ (x : ℕ). x % 2) (weighed-more w) ∙ rw e (omega (arith, small (suc w)))
+          ap (λ (j : ℕ). weighed b (suc w) / 2 ^ j % 2) z ∙ ap (λ (x : ℕ). x % 2) (div-one (weighed b (suc w))) ∙ ap (λ (x : ℕ). x % 2) (weighed-more w)
+          ∙ rw e (omega (arith, small (suc w)))
       go (inr m) ih =
           let e : suc w - r ≡ 1 + (w - r) = omega arith in
           let half : weighed b (suc w) / 2 ^ 1 ≡ weighed b w = omega (arith, weighed-more w, small (suc w)) in
-          ap (λ (j : ℕ). weighed b (suc w) / 2 ^ j % 2) e ∙ ap (λ (x : ℕ). x % 2) (sym (shr-shr (weighed b (suc w)) 1 (w - r))) ∙ ap (λ (x : ℕ). x / 2 ^ (w - r) % 2) half ∙ ih (omega arith)
+          ap (λ (j : ℕ). weighed b (suc w) / 2 ^ j % 2) e ∙ ap (λ (x : ℕ). x % 2) (sym (shr-shr (weighed b (suc w)) 1 (w - r)))
+          ∙ ap (λ (x : ℕ). x / 2 ^ (w - r) % 2) half ∙ ih (omega arith)
 
 pub packed-lt : (fs : List Field) (j : ℕ) → getD (packed fs) j 0 < 256
 unfolding packed octet weighed
@@ -239,5 +242,6 @@ read-packed fs {p} {q} {w} {v} s e l =
     let at : q ≡ widthOf (s .ahead) = e ∙ sym (s .place) in
     rw at
     (number-of-bits (packed fs) (widthOf (s .ahead)) w v
-    (λ i m. packed-bit fs (widthOf (s .ahead) + i) ∙ ap (λ (t : List Field). getD (bitsOf t) (widthOf (s .ahead) + i) 0) (s .whole) ∙ field-bit (s .ahead) (s .rest) w v i m)
+    (λ i m. packed-bit fs (widthOf (s .ahead) + i) ∙ ap (λ (t : List Field). getD (bitsOf t) (widthOf (s .ahead) + i) 0) (s .whole)
+    ∙ field-bit (s .ahead) (s .rest) w v i m)
     ∙ mod-eq-of-lt l)

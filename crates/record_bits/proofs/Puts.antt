@@ -71,7 +71,8 @@ module _ (x e k v : ℕ) (small : v < 2 ^ k) where
   mixed-high t l =
       let d : ℕ = t - (k + e) in
       let q : (k + e) + d ≡ t = omega arith in
-      ap (λ (j : ℕ). mixed x e k v / 2 ^ j) (sym q) ∙ sym (shr-shr (mixed x e k v) (k + e) d) ∙ ap (λ (n : ℕ). n / 2 ^ d) (high (x / 2 ^ (k + e)) (k + e) low-lt)
+      ap (λ (j : ℕ). mixed x e k v / 2 ^ j) (sym q) ∙ sym (shr-shr (mixed x e k v) (k + e) d)
+      ∙ ap (λ (n : ℕ). n / 2 ^ d) (high (x / 2 ^ (k + e)) (k + e) low-lt)
       ∙ shr-shr x (k + e) d ∙ ap (λ (j : ℕ). x / 2 ^ j) q
 
   pub mixed-low : (t : ℕ) → t < e → mixed x e k v / 2 ^ t % 2 ≡ x / 2 ^ t % 2
@@ -86,7 +87,8 @@ unfolding mixed
 mixed-whole x e k v l h m = let z : e ≡ 0 = omega arith in rw (h, z) (omega arith)
 
 -- a field within one byte, written
-pub put-byte : (bs : List ℕ) (p k v : ℕ) → p / 8 < length bs → p % 8 + k ≤ 8 → v < 2 ^ k → Put bs p k v (set bs (p / 8) (mixed (getD bs (p / 8) 0) (8 - p % 8 - k) k v))
+pub put-byte : (bs : List ℕ) (p k v : ℕ) → p / 8 < length bs → p % 8 + k ≤ 8 → v < 2 ^ k
+    → Put bs p k v (set bs (p / 8) (mixed (getD bs (p / 8) 0) (8 - p % 8 - k) k v))
 unfolding bitAt
 put-byte bs p k v l h small = record {
   same-length = length-set bs (p / 8) y;
@@ -111,7 +113,8 @@ put-byte bs p k v l h small = record {
     in-it = bits-byte (set bs (p / 8) y) p k h ∙ ap (λ (n : ℕ). n / 2 ^ e % 2 ^ k) here ∙ mixed-in x e k v small
 
     -- a bit of the byte itself, and of another byte
-    mine : (i : ℕ) → i / 8 ≡ p / 8 → y / 2 ^ (7 - i % 8) % 2 ≡ x / 2 ^ (7 - i % 8) % 2 → getD (set bs (p / 8) y) (i / 8) 0 / 2 ^ (7 - i % 8) % 2 ≡ getD bs (i / 8) 0 / 2 ^ (7 - i % 8) % 2
+    mine : (i : ℕ) → i / 8 ≡ p / 8 → y / 2 ^ (7 - i % 8) % 2 ≡ x / 2 ^ (7 - i % 8) % 2 → getD (set bs (p / 8) y) (i / 8) 0 / 2 ^ (7 - i % 8) % 2
+        ≡ getD bs (i / 8) 0 / 2 ^ (7 - i % 8) % 2
     mine i q r = rw (q, here) r
 
     other : (i : ℕ) → (i / 8 ≡ p / 8 → ⊥) → getD (set bs (p / 8) y) (i / 8) 0 / 2 ^ (7 - i % 8) % 2 ≡ getD bs (i / 8) 0 / 2 ^ (7 - i % 8) % 2
@@ -132,14 +135,16 @@ put-start bs at w v l =
     let z : v / 2 ^ (w - 0) ≡ 0 = rw e (div-eq-of-lt l) in
     rw z (put-none bs at)
 
-pub put-turn : (bs mid out : List ℕ) (at w k n v : ℕ) {q : ℕ} → q ≡ 2 ^ n → k + n ≤ w → Put bs at k (v / 2 ^ (w - k)) mid → Put mid (at + k) n (v / 2 ^ (w - k - n) % q) out
+pub put-turn : (bs mid out : List ℕ) (at w k n v : ℕ) {q : ℕ} → q ≡ 2 ^ n → k + n ≤ w → Put bs at k (v / 2 ^ (w - k)) mid
+    → Put mid (at + k) n (v / 2 ^ (w - k - n) % q) out
     → Put bs at (k + n) (v / 2 ^ (w - (k + n))) out
 put-turn bs mid out at w k n v {q} f l p r =
     let j : ℕ = w - k - n in
     let e₁ : w - k ≡ j + n = omega arith in
     let e₂ : w - (k + n) ≡ j = omega arith in
     let a : v / 2 ^ (w - k) * 2 ^ n + v / 2 ^ (w - k - n) % q ≡ v / 2 ^ (w - (k + n)) =
-    ap (λ (i : ℕ). v / 2 ^ i * 2 ^ n + v / 2 ^ j % q) e₁ ∙ ap (λ (i : ℕ). i * 2 ^ n + v / 2 ^ j % q) (sym (shr-shr v j n)) ∙ ap (λ (i : ℕ). v / 2 ^ j / 2 ^ n * 2 ^ n + v / 2 ^ j % i) f
+    ap (λ (i : ℕ). v / 2 ^ i * 2 ^ n + v / 2 ^ j % q) e₁ ∙ ap (λ (i : ℕ). i * 2 ^ n + v / 2 ^ j % q) (sym (shr-shr v j n))
+    ∙ ap (λ (i : ℕ). v / 2 ^ j / 2 ^ n * 2 ^ n + v / 2 ^ j % i) f
     ∙ split (v / 2 ^ j) n ∙ ap (λ (i : ℕ). v / 2 ^ i) (sym e₂) in
     rw a at (put-more bs mid out at k n _ _ p r)
 

@@ -23,7 +23,8 @@ unfolding widthOf
 read-append b (read-none {at = at}) q = rw (add-zero at) at q
 read-append b (read-more {at = at} {f = f} {fs = fs} e r) q = read-more e (read-append b r (rw (add-assoc at (f .width) (widthOf fs)) q))
 
-pub read-rows : {bs : List ℕ} {at : ℕ} (n : ℕ) (g : ℕ → List Field) → ((i : ℕ) → i < n → ReadFrom bs (at + widthOf (rows i g)) (g i)) → ReadFrom bs at (rows n g)
+pub read-rows : {bs : List ℕ} {at : ℕ} (n : ℕ) (g : ℕ → List Field) → ((i : ℕ) → i < n → ReadFrom bs (at + widthOf (rows i g)) (g i))
+    → ReadFrom bs at (rows n g)
 unfolding rows
 read-rows zero g h = read-none
 read-rows (suc n) g h = read-append (g n) (read-rows n g (λ i l. h i (omega arith))) (h n (omega arith))
@@ -37,7 +38,8 @@ read-bit {bs} (read-more {at = at} {f = f} {fs = fs} e r) i l = go (decLt i w) (
     w : ℕ
     w = f .width
 
-    go : Dec (i < w) → (i - w < widthOf fs → getD (bitsOf fs) (i - w) 0 ≡ bitAt bs (at + w + (i - w))) → getD (spelled w (f .value) ++ bitsOf fs) i 0 ≡ bitAt bs (at + i)
+    go : Dec (i < w) → (i - w < widthOf fs → getD (bitsOf fs) (i - w) 0 ≡ bitAt bs (at + w + (i - w))) → getD (spelled w (f .value) ++ bitsOf fs) i 0
+        ≡ bitAt bs (at + i)
     go (yes m) ih =
         List·getD-append (spelled w (f .value)) (bitsOf fs) 0 i (rw (length-spelled w (f .value)) m) ∙ spelled-bit w (f .value) i m
         ∙ ap (λ (x : ℕ). x / 2 ^ (w - suc i) % 2) e ∙ bits-bit bs at w i m
@@ -49,7 +51,8 @@ read-bit {bs} (read-more {at = at} {f = f} {fs = fs} e r) i l = go (decLt i w) (
 
 pub pack-read : (bs : List ℕ) (fs : List Field) → ReadFrom bs 0 fs → length bs ≡ bytesFor (widthOf fs) → ((j : ℕ) → getD bs j 0 < 256)
     → ((i : ℕ) → widthOf fs ≤ i → i < 8 * length bs → bitAt bs i ≡ 0) → packed fs ≡ bs
-pack-read bs fs r len small pad = same-bits (packed fs) bs (length-packed fs ∙ sym len) (packed-lt fs) small (λ i. packed-bit fs i ∙ bit i (decLt i (widthOf fs)) (decLt i (8 * length bs)))
+pack-read bs fs r len small pad = same-bits (packed fs) bs (length-packed fs ∙ sym len) (packed-lt fs) small
+    (λ i. packed-bit fs i ∙ bit i (decLt i (widthOf fs)) (decLt i (8 * length bs)))
   where
     past : (i : ℕ) → widthOf fs ≤ i → getD (bitsOf fs) i 0 ≡ 0
     past i l = List·getD-eq-default (bitsOf fs) 0 (rw (length-bits fs) l)

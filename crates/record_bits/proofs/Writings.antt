@@ -42,11 +42,13 @@ bit-back xs ys i l =
     ap (λ (x : ℕ). x / 2 ^ (7 - i % 8) % 2) g
 
 -- the last bits up to a whole byte, written as a field of value 0
-pub begun-end : {old mid out : List ℕ} (fs : List Field) {at pad : ℕ} → at ≡ widthOf fs → at + pad ≡ 8 * bytesFor (widthOf fs) → bytesFor (widthOf fs) ≤ length old
+pub begun-end : {old mid out : List ℕ} (fs : List Field) {at pad : ℕ} → at ≡ widthOf fs → at + pad ≡ 8 * bytesFor (widthOf fs) → bytesFor (widthOf fs)
+    ≤ length old
     → ((j : ℕ) → getD old j 0 < 256) → ((j : ℕ) → getD out j 0 < 256) → Begun old fs mid → Put mid at pad 0 out → out ≡ over (packed fs) old
 unfolding over
 begun-end {old} {mid} {out} fs {at} {pad} e full room small-old small-out b q =
-    same-bits out (packed fs ++ tail) len small-out (append-lt 256 (packed fs) tail (packed-lt fs) (λ j. rw (getD-drop (length (packed fs)) old j 0) (small-old (length (packed fs) + j))))
+    same-bits out (packed fs ++ tail) len small-out (append-lt 256 (packed fs) tail (packed-lt fs)
+    (λ j. rw (getD-drop (length (packed fs)) old j 0) (small-old (length (packed fs) + j))))
     (λ i. bit i (decLt i at) (decLt i (at + pad)))
   where
     tail : List ℕ
@@ -64,5 +66,6 @@ begun-end {old} {mid} {out} fs {at} {pad} e full room small-old small-out b q =
 
     bit : (i : ℕ) → Dec (i < at) → Dec (i < at + pad) → bitAt out i ≡ bitAt (packed fs ++ tail) i
     bit i (yes l) d = q .below i l ∙ b .written i (omega arith) ∙ sym (packed-bit fs i) ∙ sym (front i (omega arith))
-    bit i (no f) (yes l) = put-bit q i (omega arith) l ∙ ap (λ (x : ℕ). x % 2) (zero-div (2 ^ (pad - suc (i - at)))) ∙ sym (packed-pad fs i (omega arith)) ∙ sym (front i l)
+    bit i (no f) (yes l) = put-bit q i (omega arith) l ∙ ap (λ (x : ℕ). x % 2) (zero-div (2 ^ (pad - suc (i - at)))) ∙ sym (packed-pad fs i (omega arith))
+        ∙ sym (front i l)
     bit i (no f) (no g) = q .above i (omega arith) ∙ b .kept i (omega arith) ∙ sym (back i (omega arith))

@@ -30,7 +30,8 @@ module _ (body : List ℕ) (kind cells faces : ℕ) (seconds : List ℕ) where
           ∙ ap (λ (x : ℕ). withSign (eqb (valueIn body (stepBody kind cells faces seconds) 0 0 f) 1) (bitsAt body x (valueBits kind))) q
 
   pub outsides-taken : {p : ℕ} → p ≡ faces * fluxBits kind
-      → table faces (λ f. cond (isRim seconds f) (bitsAt body (p + rimFaces seconds f * outsideBits) outsideBits) 0) ≡ columnIn body (stepBody kind cells faces seconds) 1 0
+      → table faces (λ f. cond (isRim seconds f) (bitsAt body (p + rimFaces seconds f * outsideBits) outsideBits) 0)
+      ≡ columnIn body (stepBody kind cells faces seconds) 1 0
   outsides-taken {p} e = table-cong {A = ℕ} 0 faces _ _ (λ f l. ap (λ (x : ℕ). cond (isRim seconds f) (bitsAt body x outsideBits) 0) (at f))
     where
       at : (f : ℕ) → p + rimFaces seconds f * outsideBits ≡ place (stepBody kind cells faces seconds) 1 0 f

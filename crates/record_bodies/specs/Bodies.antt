@@ -39,7 +39,8 @@ pub record MeshRoom (kind cells faces : ℕ) (body : List ℕ) (volumes firsts s
   pub reaches-long : faces ≤ reaches
 
 -- the tables hold the columns of the sections k and k + 1
-pub record MeshFilled (bs : List ℕ) (S : List Section) (k : ℕ) (volumes firsts seconds shares reaches volumes′ firsts′ seconds′ shares′ reaches′ : List ℕ) : Type 0 where
+pub record MeshFilled (bs : List ℕ) (S : List Section) (k : ℕ) (volumes firsts seconds shares reaches volumes′ firsts′ seconds′ shares′ reaches′ : List ℕ) :
+    Type 0 where
   pub volumes-full : volumes′ ≡ over (columnIn bs S k 0) volumes
   pub firsts-full : firsts′ ≡ over (columnIn bs S (suc k) 0) firsts
   pub seconds-full : seconds′ ≡ over (columnIn bs S (suc k) 1) seconds
@@ -56,7 +57,8 @@ pub record StepRoom (kind cells faces : ℕ) (seconds body : List ℕ) (fluxes o
   pub releases-long : cells ≤ releases
 
 -- the tables hold the fluxes of section k, the outside values of section k + 1 and the releases of section k + 2
-pub record StepFilled (faces : ℕ) (bs : List ℕ) (S : List Section) (k : ℕ) (fluxes : List ℤ) (outsides releases : List ℕ) (fluxes′ : List ℤ) (outsides′ releases′ : List ℕ) : Type 0 where
+pub record StepFilled (faces : ℕ) (bs : List ℕ) (S : List Section) (k : ℕ) (fluxes : List ℤ) (outsides releases : List ℕ) (fluxes′ : List ℤ)
+    (outsides′ releases′ : List ℕ) : Type 0 where
   pub fluxes-full : fluxes′ ≡ over (table faces (λ f. withSign (eqb (valueIn bs S k 0 f) 1) (valueIn bs S k 1 f))) fluxes
   pub outsides-full : outsides′ ≡ over (columnIn bs S (suc k) 0) outsides
   pub releases-full : releases′ ≡ over (columnIn bs S (suc (suc k)) 0) releases

@@ -25,6 +25,10 @@ abbrev pub mostOf : Width → ℕ
 mostOf Narrow = oldCeiling
 mostOf Wide = ceiling
 
+-- 7 and 8 look at mesh and water alone: the field that their tests take is none, since a writer is lent no masses.
+abbrev pub noField : List ℕ
+noField = []
+
 -- The lowest cause that applies to a record that is written into so many bytes: too few bytes stand among the tables.
 module _ (w : Width) (M : Mesh) where
   unfoldable pub meshWriteVerdict : ℕ → Verdict
@@ -39,5 +43,5 @@ module _ (w : Width) (M : Mesh) where
   stepWriteVerdict kind fluxes outsides releases room = counts M andThen meshTables M andThen long 6 (M .faces) (length fluxes)
       andThen long 7 (M .faces) (length outsides) andThen bytesLong (stepLength kind (M .cells) (M .faces) (M .seconds)) room
       andThen long 14 (M .cells) (length releases) andThen meshValues (mostOf w) M andThen releasesFit kind (M .cells) releases
-      andThen each 7 (M .faces) (outsideGood M [] (waterOf fluxes outsides releases))
-      andThen each 8 (M .faces) (fluxGood (mostOf w) M [] (waterOf fluxes outsides releases))
+      andThen each 7 (M .faces) (outsideGood M noField (waterOf fluxes outsides releases))
+      andThen each 8 (M .faces) (fluxGood (mostOf w) M noField (waterOf fluxes outsides releases))

@@ -29,7 +29,8 @@ pub rim-le : (seconds : List ℕ) (n : ℕ) → rimFaces seconds n ≤ n
 rim-le seconds n = those-le (isRim seconds) n
 
 -- a field that the record holds is read as its bits spell
-pub held : (bs : List ℕ) (bit width : ℕ) → width ≤ widest → bit ≤ furthest → bytesFor (bit + width) ≤ length bs → spelledNumber (numberAt bs bit width) ≡ bitsAt bs bit width
+pub held : (bs : List ℕ) (bit width : ℕ) → width ≤ widest → bit ≤ furthest → bytesFor (bit + width) ≤ length bs → spelledNumber (numberAt bs bit width)
+    ≡ bitsAt bs bit width
 held bs bit width l m h = rw (le-leb width widest l, le-leb bit furthest m, le-leb (bytesFor (bit + width)) (length bs) h)
 
 -- a record that is as long as its head
@@ -93,7 +94,8 @@ pub record StepHeadSays (w : Width) (cells faces : ℕ) (seconds bs : List ℕ) 
   pub few-faces : faces ≤ maxFaces
   pub lent : faces ≤ length seconds
 
-pub step-head-says : (w : Width) (cells faces : ℕ) (seconds bs : List ℕ) → stepHeadVerdict w cells faces seconds bs ≡ fine → StepHeadSays w cells faces seconds bs
+pub step-head-says : (w : Width) (cells faces : ℕ) (seconds bs : List ℕ) → stepHeadVerdict w cells faces seconds bs ≡ fine
+    → StepHeadSays w cells faces seconds bs
 unfolding stepHeadVerdict countsWithin bytesFor
 step-head-says w cells faces seconds bs e =
     let a = both-fine _ _ e in

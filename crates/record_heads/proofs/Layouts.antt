@@ -74,29 +74,90 @@ module _ (kind cells faces : ℕ) where
   volumes-at = record { widths = valueBits kind ∷ []; every = refl; among = omega arith; wide = refl; apart = omega arith; begins = refl }
 
   pub firsts-at : {p : ℕ} → p ≡ cells * (valueBits kind) → Column (meshBody kind cells faces) 1 0 faces p (faceBits kind) endBits
-  firsts-at e = record { widths = endBits ∷ endBits ∷ shareBits ∷ valueBits kind ∷ []; every = refl; among = omega arith; wide = refl; apart = omega arith; begins = omega (arith, e) }
+  firsts-at e = record {
+    widths = endBits ∷ endBits ∷ shareBits ∷ valueBits kind ∷ [];
+    every = refl;
+    among = omega arith;
+    wide = refl;
+    apart = omega arith;
+    begins = omega (arith, e);
+  }
 
   pub seconds-at : {p : ℕ} → p ≡ cells * (valueBits kind) + endBits → Column (meshBody kind cells faces) 1 1 faces p (faceBits kind) endBits
-  seconds-at e = record { widths = endBits ∷ endBits ∷ shareBits ∷ valueBits kind ∷ []; every = refl; among = omega arith; wide = refl; apart = omega arith; begins = omega (arith, e) }
+  seconds-at e = record {
+    widths = endBits ∷ endBits ∷ shareBits ∷ valueBits kind ∷ [];
+    every = refl;
+    among = omega arith;
+    wide = refl;
+    apart = omega arith;
+    begins = omega (arith, e);
+  }
 
   pub shares-at : {p : ℕ} → p ≡ cells * (valueBits kind) + endBits + endBits → Column (meshBody kind cells faces) 1 2 faces p (faceBits kind) shareBits
-  shares-at e = record { widths = endBits ∷ endBits ∷ shareBits ∷ valueBits kind ∷ []; every = refl; among = omega arith; wide = refl; apart = omega arith; begins = omega (arith, e) }
+  shares-at e = record {
+    widths = endBits ∷ endBits ∷ shareBits ∷ valueBits kind ∷ [];
+    every = refl;
+    among = omega arith;
+    wide = refl;
+    apart = omega arith;
+    begins = omega (arith, e);
+  }
 
-  pub reaches-at : {p : ℕ} → p ≡ cells * (valueBits kind) + endBits + endBits + shareBits → Column (meshBody kind cells faces) 1 3 faces p (faceBits kind) (valueBits kind)
-  reaches-at e = record { widths = endBits ∷ endBits ∷ shareBits ∷ valueBits kind ∷ []; every = refl; among = omega arith; wide = refl; apart = omega arith; begins = omega (arith, e) }
+  pub reaches-at : {p : ℕ} → p ≡ cells * (valueBits kind) + endBits + endBits + shareBits
+      → Column (meshBody kind cells faces) 1 3 faces p (faceBits kind) (valueBits kind)
+  reaches-at e = record {
+    widths = endBits ∷ endBits ∷ shareBits ∷ valueBits kind ∷ [];
+    every = refl;
+    among = omega arith;
+    wide = refl;
+    apart = omega arith;
+    begins = omega (arith, e);
+  }
 
   -- its head's fields
   pub mesh-kind-in : Column (meshShape kind cells faces) 0 0 1 0 meshHeadBits kindBits
-  mesh-kind-in = record { widths = kindBits ∷ cellsBits ∷ facesBits ∷ meshZeroBits ∷ []; every = refl; among = omega arith; wide = refl; apart = refl; begins = refl }
+  mesh-kind-in = record {
+    widths = kindBits ∷ cellsBits ∷ facesBits ∷ meshZeroBits ∷ [];
+    every = refl;
+    among = omega arith;
+    wide = refl;
+    apart = refl;
+    begins =
+        refl;
+  }
 
   pub mesh-cells-in : Column (meshShape kind cells faces) 0 1 1 kindBits meshHeadBits cellsBits
-  mesh-cells-in = record { widths = kindBits ∷ cellsBits ∷ facesBits ∷ meshZeroBits ∷ []; every = refl; among = omega arith; wide = refl; apart = refl; begins = refl }
+  mesh-cells-in = record {
+    widths = kindBits ∷ cellsBits ∷ facesBits ∷ meshZeroBits ∷ [];
+    every = refl;
+    among = omega arith;
+    wide = refl;
+    apart = refl;
+    begins =
+        refl;
+  }
 
   pub mesh-faces-in : Column (meshShape kind cells faces) 0 2 1 (kindBits + cellsBits) meshHeadBits facesBits
-  mesh-faces-in = record { widths = kindBits ∷ cellsBits ∷ facesBits ∷ meshZeroBits ∷ []; every = refl; among = omega arith; wide = refl; apart = refl; begins = refl }
+  mesh-faces-in = record {
+    widths = kindBits ∷ cellsBits ∷ facesBits ∷ meshZeroBits ∷ [];
+    every = refl;
+    among = omega arith;
+    wide = refl;
+    apart = refl;
+    begins =
+        refl;
+  }
 
   pub mesh-zeros-in : Column (meshShape kind cells faces) 0 3 1 (kindBits + cellsBits + facesBits) meshHeadBits meshZeroBits
-  mesh-zeros-in = record { widths = kindBits ∷ cellsBits ∷ facesBits ∷ meshZeroBits ∷ []; every = refl; among = omega arith; wide = refl; apart = refl; begins = refl }
+  mesh-zeros-in = record {
+    widths = kindBits ∷ cellsBits ∷ facesBits ∷ meshZeroBits ∷ [];
+    every = refl;
+    among = omega arith;
+    wide = refl;
+    apart = refl;
+    begins =
+        refl;
+  }
 
   pub mesh-most : cells ≤ maxCells → faces ≤ maxFaces → meshBits kind cells faces ≤ meshMost
   mesh-most l m = omega (arith, mul-le-mul l (value-most kind), mul-le-mul m (value-most kind))
@@ -115,10 +176,12 @@ module _ (kind cells faces : ℕ) where
   pub seconds-in : {p : ℕ} → p ≡ meshHeadBits + cells * (valueBits kind) + endBits → Column (meshShape kind cells faces) 2 1 faces p (faceBits kind) endBits
   seconds-in {p} e = column-after meshHead p (seconds-at kind cells faces refl) (omega (arith, e))
 
-  pub shares-in : {p : ℕ} → p ≡ meshHeadBits + cells * (valueBits kind) + endBits + endBits → Column (meshShape kind cells faces) 2 2 faces p (faceBits kind) shareBits
+  pub shares-in : {p : ℕ} → p ≡ meshHeadBits + cells * (valueBits kind) + endBits + endBits
+      → Column (meshShape kind cells faces) 2 2 faces p (faceBits kind) shareBits
   shares-in {p} e = column-after meshHead p (shares-at kind cells faces refl) (omega (arith, e))
 
-  pub reaches-in : {p : ℕ} → p ≡ meshHeadBits + cells * (valueBits kind) + endBits + endBits + shareBits → Column (meshShape kind cells faces) 2 3 faces p (faceBits kind) (valueBits kind)
+  pub reaches-in : {p : ℕ} → p ≡ meshHeadBits + cells * (valueBits kind) + endBits + endBits + shareBits
+      → Column (meshShape kind cells faces) 2 3 faces p (faceBits kind) (valueBits kind)
   reaches-in {p} e = column-after meshHead p (reaches-at kind cells faces refl) (omega (arith, e))
 
 -- a field
@@ -166,7 +229,15 @@ module _ (kind cells faces : ℕ) (seconds : List ℕ) where
 
   pub releases-at : {p : ℕ} → p ≡ faces * fluxBits kind + rimFaces seconds faces * outsideBits
       → Column (stepBody kind cells faces seconds) 2 0 cells p (releaseBits kind) (releaseBits kind)
-  releases-at e = record { widths = releaseBits kind ∷ []; every = refl; among = omega arith; wide = refl; apart = add-zero (releaseBits kind); begins = omega (arith, e) }
+  releases-at e = record {
+    widths = releaseBits kind ∷ [];
+    every = refl;
+    among = omega arith;
+    wide = refl;
+    apart = add-zero (releaseBits kind);
+    begins =
+        omega (arith, e);
+  }
 
   pub step-kind-in : Column (stepShape kind cells faces seconds) 0 0 1 0 stepHeadBits kindBits
   step-kind-in = record { widths = kindBits ∷ facesBits ∷ stepZeroBits ∷ []; every = refl; among = omega arith; wide = refl; apart = refl; begins = refl }
@@ -186,7 +257,8 @@ module _ (kind cells faces : ℕ) (seconds : List ℕ) where
   pub outside-in : (f : ℕ) → place (stepShape kind cells faces seconds) 2 0 f ≡ rimPlace kind faces + rimFaces seconds f * outsideBits
   outside-in f = omega arith
 
-  pub releases-in : {p : ℕ} → p ≡ releasePlace kind faces seconds → Column (stepShape kind cells faces seconds) 3 0 cells p (releaseBits kind) (releaseBits kind)
+  pub releases-in : {p : ℕ} → p ≡ releasePlace kind faces seconds
+      → Column (stepShape kind cells faces seconds) 3 0 cells p (releaseBits kind) (releaseBits kind)
   releases-in {p} e = column-after stepHead p (releases-at refl) (omega (arith, e))
 
   pub step-is : stepBits kind cells faces seconds ≡ releasePlace kind faces seconds + cells * releaseBits kind

@@ -58,10 +58,12 @@ module _ (bs : List ℕ) where
         },
       )
 
-  full : (k j : ℕ) (ys : List ℕ) {zs : List ℕ} → zs ≡ over (columnIn (bodyOf meshHeadBytes bs) (meshBody (kindIn bs) (cellsIn bs) (facesIn bs)) k j) ys → zs ≡ over (columnIn bs (shapeIn bs) (suc k) j) ys
+  full : (k j : ℕ) (ys : List ℕ) {zs : List ℕ} → zs ≡ over (columnIn (bodyOf meshHeadBytes bs) (meshBody (kindIn bs) (cellsIn bs) (facesIn bs)) k j) ys → zs
+      ≡ over (columnIn bs (shapeIn bs) (suc k) j) ys
   full k j ys e = e ∙ ap (λ xs. over xs ys) (body-column meshHeadBytes bs meshHead (meshBody (kindIn bs) (cellsIn bs) (facesIn bs)) k j refl)
 
-  pub mesh-filled : {v f s g k v′ f′ s′ g′ k′ : List ℕ} → MeshFilled (bodyOf meshHeadBytes bs) (meshBody (kindIn bs) (cellsIn bs) (facesIn bs)) 0 v f s g k v′ f′ s′ g′ k′
+  pub mesh-filled : {v f s g k v′ f′ s′ g′ k′ : List ℕ} → MeshFilled (bodyOf meshHeadBytes bs) (meshBody (kindIn bs) (cellsIn bs) (facesIn bs)) 0 v f s g k v′
+      f′ s′ g′ k′
       → MeshFilled bs (shapeIn bs) 1 v f s g k v′ f′ s′ g′ k′
   mesh-filled {v} {f} {s} {g} {k} b = record {
     volumes-full = full 0 0 v (b .volumes-full);
@@ -74,7 +76,8 @@ module _ (bs : List ℕ) where
 -- a field
 module _ (cells : ℕ) (bs : List ℕ) where
   pub field-room : {m : ℕ} → cells ≤ maxCells → fieldBodyVerdict cells bs m ≡ fine
-      → (fieldHeadBytes ≤ length bs) × ((8 * length (bodyOf fieldHeadBytes bs) < 2 ^ 64) × (shapeBits (fieldBody (kindIn bs) cells) ≤ 8 * length (bodyOf fieldHeadBytes bs)) × (cells ≤ m))
+      → (fieldHeadBytes ≤ length bs) × ((8 * length (bodyOf fieldHeadBytes bs) < 2 ^ 64)
+      × (shapeBits (fieldBody (kindIn bs) cells) ≤ 8 * length (bodyOf fieldHeadBytes bs)) × (cells ≤ m))
   field-room {m} few passed =
       let says = field-tables-say cells bs m passed in
       let held = bytes-hold (fieldBits (kindIn bs) cells) in
@@ -84,7 +87,8 @@ module _ (cells : ℕ) (bs : List ℕ) where
       let body = body-length fieldHeadBytes bs in
       (omega arith, (omega arith, omega arith, says .masses-long))
 
-  pub field-filled : (ys : List ℕ) {zs : List ℕ} → zs ≡ over (columnIn (bodyOf fieldHeadBytes bs) (fieldBody (kindIn bs) cells) 0 0) ys → zs ≡ over (massesIn bs cells) ys
+  pub field-filled : (ys : List ℕ) {zs : List ℕ} → zs ≡ over (columnIn (bodyOf fieldHeadBytes bs) (fieldBody (kindIn bs) cells) 0 0) ys → zs
+      ≡ over (massesIn bs cells) ys
   unfolding massesIn
   field-filled ys e = e ∙ ap (λ xs. over xs ys) (body-column fieldHeadBytes bs fieldHead (fieldBody (kindIn bs) cells) 0 0 refl)
 

@@ -102,7 +102,8 @@ pub record ReadSays (mostCells mostFaces : ℕ) (bs : List ℕ) (n : MeshCounts)
   pub head : MeshHeadSays mostCells mostFaces bs
   pub body-fine : meshBodyVerdict bs v f s g k ≡ fine
 
-pub read-says : (mostCells mostFaces : ℕ) (bs : List ℕ) (v f s g k : ℕ) {n : MeshCounts} → meshRead mostCells mostFaces bs v f s g k ≡ accepted n → ReadSays mostCells mostFaces bs n v f s g k
+pub read-says : (mostCells mostFaces : ℕ) (bs : List ℕ) (v f s g k : ℕ) {n : MeshCounts} → meshRead mostCells mostFaces bs v f s g k ≡ accepted n
+    → ReadSays mostCells mostFaces bs n v f s g k
 unfolding meshRead _andThen_
 read-says mostCells mostFaces bs v f s g k e =
     let a = both-fine (meshHeadVerdict mostCells mostFaces bs andThen meshBodyVerdict bs v f s g k) (accepted (countsIn bs)) e in
@@ -115,7 +116,8 @@ pub record StepReadSays (w : Width) (cells faces : ℕ) (seconds bs : List ℕ) 
   pub head : StepHeadSays w cells faces seconds bs
   pub body-fine : stepBodyVerdict cells faces seconds bs u x y ≡ fine
 
-pub step-read-says : (w : Width) (cells faces : ℕ) (seconds bs : List ℕ) (u x y : ℕ) {n : ℕ} → stepRead w cells faces seconds bs u x y ≡ accepted n → StepReadSays w cells faces seconds bs n u x y
+pub step-read-says : (w : Width) (cells faces : ℕ) (seconds bs : List ℕ) (u x y : ℕ) {n : ℕ} → stepRead w cells faces seconds bs u x y ≡ accepted n
+    → StepReadSays w cells faces seconds bs n u x y
 unfolding stepRead _andThen_
 step-read-says w cells faces seconds bs u x y e =
     let a = both-fine (stepHeadVerdict w cells faces seconds bs andThen stepBodyVerdict cells faces seconds bs u x y) (accepted (kindIn bs)) e in
@@ -127,7 +129,8 @@ module _ {bs v f s w k : List ℕ} {o : Outcome MeshCounts} where
   pub mesh-refused : {r : Refusal} → o ≡ told r → MeshReading o bs v f s w k (mesh.Refused r) v f s w k
   mesh-refused e = record { answer = sym e; volumes-read = rw e; firsts-read = rw e; seconds-read = rw e; shares-read = rw e; reaches-read = rw e }
 
-  pub mesh-accepted : {n : MeshCounts} {v′ f′ s′ w′ k′ : List ℕ} → o ≡ accepted n → MeshFilled bs (shapeIn bs) 1 v f s w k v′ f′ s′ w′ k′ → MeshReading o bs v f s w k (mesh.Read n) v′ f′ s′ w′ k′
+  pub mesh-accepted : {n : MeshCounts} {v′ f′ s′ w′ k′ : List ℕ} → o ≡ accepted n → MeshFilled bs (shapeIn bs) 1 v f s w k v′ f′ s′ w′ k′
+      → MeshReading o bs v f s w k (mesh.Read n) v′ f′ s′ w′ k′
   unfolding volumesIn firstsIn secondsIn sharesIn reachesIn
   mesh-accepted e d = record {
     answer = sym e;
@@ -149,7 +152,14 @@ module _ {w : Width} {cells faces : ℕ} {seconds bs : List ℕ} {u : List ℤ} 
   pub step-refused : {r : Refusal} → o ≡ told r → StepReading w o cells faces seconds bs u x y (step.Refused r) u x y
   step-refused e = record { answer = sym e; fluxes-read = rw e; outsides-read = rw e; releases-read = rw e }
 
-  pub step-accepted : {k : StepKind} {u′ : List ℤ} {x′ y′ : List ℕ} → o ≡ accepted (kindNumber w k) → StepFilled faces bs (stepShapeIn bs cells faces seconds) 1 u x y u′ x′ y′
+  pub step-accepted : {k : StepKind} {u′ : List ℤ} {x′ y′ : List ℕ} → o ≡ accepted (kindNumber w k)
+      → StepFilled faces bs (stepShapeIn bs cells faces seconds) 1 u x y u′ x′ y′
       → StepReading w o cells faces seconds bs u x y (step.Read k) u′ x′ y′
   unfolding fluxesIn outsidesIn releasesIn
-  step-accepted e d = record { answer = sym e; fluxes-read = rw e (d .fluxes-full); outsides-read = rw e (d .outsides-full); releases-read = rw e (d .releases-full) }
+  step-accepted e d = record {
+    answer = sym e;
+    fluxes-read = rw e (d .fluxes-full);
+    outsides-read = rw e (d .outsides-full);
+    releases-read =
+        rw e (d .releases-full);
+  }

@@ -27,7 +27,8 @@ stepReadSaid w (step.Refused r) = told r
 
 -- Document 01, "Causes", of reading. A reading that comes to o: its answer, and each table afterwards. The counted entries are filled and
 -- no others; a refused reading fills nothing.
-pub record MeshReading (o : Outcome MeshCounts) (bs volumes firsts seconds shares reaches : List ℕ) (r : MeshAnswer) (volumes′ firsts′ seconds′ shares′ reaches′ : List ℕ) : Type 0 where
+pub record MeshReading (o : Outcome MeshCounts) (bs volumes firsts seconds shares reaches : List ℕ) (r : MeshAnswer)
+    (volumes′ firsts′ seconds′ shares′ reaches′ : List ℕ) : Type 0 where
   pub answer : meshSaid r ≡ o
   pub volumes-read : volumes′ ≡ taken o (over (volumesIn bs) volumes) volumes
   pub firsts-read : firsts′ ≡ taken o (over (firstsIn bs) firsts) firsts

@@ -84,7 +84,8 @@ unfoldable pub meshBitGood : List ℕ → ℕ → Bool
 meshBitGood bs i = zeroBitGood bs meshZeroBits meshHeadBits (meshBits (kindIn bs) (cellsIn bs) (facesIn bs)) i
 
 unfoldable pub stepBitGood : List ℕ → (cells faces : ℕ) → List ℕ → ℕ → Bool
-stepBitGood bs cells faces seconds i = zeroBitGood bs stepZeroBits stepHeadBits (stepBits (kindIn bs) cells faces seconds) i && not (minusZero bs (valueBits (kindIn bs)) faces i)
+stepBitGood bs cells faces seconds i = zeroBitGood bs stepZeroBits stepHeadBits (stepBits (kindIn bs) cells faces seconds) i
+    && not (minusZero bs (valueBits (kindIn bs)) faces i)
 
 -- The order of reading past the head: length 11, then 2, then 12: what a record whose head is fine is refused for, read into tables of so
 -- many entries.

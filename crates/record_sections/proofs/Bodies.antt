@@ -28,12 +28,14 @@ pub body-length : (h : ℕ) (bs : List ℕ) → length (bodyOf h bs) ≡ length 
 body-length h bs = ap length (body-is h bs) ∙ length-drop h bs
 
 -- a field of the body is one of the record, with the head before it, and so is a column
-pub body-value : (h : ℕ) (bs : List ℕ) (head : Section) (S : List Section) (k j i : ℕ) → 8 * h ≡ sectionBits head → valueIn (bodyOf h bs) S k j i ≡ valueIn bs (head ∷ S) (suc k) j i
+pub body-value : (h : ℕ) (bs : List ℕ) (head : Section) (S : List Section) (k j i : ℕ) → 8 * h ≡ sectionBits head → valueIn (bodyOf h bs) S k j i
+    ≡ valueIn bs (head ∷ S) (suc k) j i
 body-value h bs head S k j i e =
     let p : 8 * h + place S k j i ≡ place (head ∷ S) (suc k) j i = omega arith in
     rw (body-is h bs) (bits-drop h bs (place S k j i) (width S k j) ∙ ap (λ (q : ℕ). bitsAt bs q (width S k j)) p)
 
-pub body-column : (h : ℕ) (bs : List ℕ) (head : Section) (S : List Section) (k j : ℕ) → 8 * h ≡ sectionBits head → columnIn (bodyOf h bs) S k j ≡ columnIn bs (head ∷ S) (suc k) j
+pub body-column : (h : ℕ) (bs : List ℕ) (head : Section) (S : List Section) (k j : ℕ) → 8 * h ≡ sectionBits head → columnIn (bodyOf h bs) S k j
+    ≡ columnIn bs (head ∷ S) (suc k) j
 body-column h bs head S k j e =
     table-cong {A = ℕ} 0 (rowsOf (sectionIn S k)) (entryIn (bodyOf h bs) S k j) (entryIn bs (head ∷ S) (suc k) j)
     (λ i l. ap (λ (x : ℕ). cond (hasRow (sectionIn S k) i) x 0) (body-value h bs head S k j i e))
@@ -62,7 +64,8 @@ module _ {S : List Section} {k j n first stride w : ℕ} (c : Column S k j n fir
   unfolding sectionColumn
   column-is bs = table-cong {A = ℕ} 0 n (λ i. bitsAt bs (first + i * stride) w) _ at ∙ ap (λ t. sectionColumn bs (startOf S k) j t) (sym (c .every))
     where
-      at : (i : ℕ) → i < n → bitsAt bs (first + i * stride) w ≡ bitsAt bs (startOf S k + i * rowBits (c .widths) + offsetOf (c .widths) j) (getD (c .widths) j 0)
+      at : (i : ℕ) → i < n → bitsAt bs (first + i * stride) w
+          ≡ bitsAt bs (startOf S k + i * rowBits (c .widths) + offsetOf (c .widths) j) (getD (c .widths) j 0)
       at i l = let p : first + i * stride ≡ startOf S k + i * stride + offsetOf (c .widths) j = omega (arith, c .begins) in rw (c .apart, c .wide, ← p)
 
   pub column-rows : rowsOf (sectionIn S k) ≡ n
@@ -83,12 +86,14 @@ module _ {S : List Section} {k j n first stride w : ℕ} (c : Column S k j n fir
   pub column-place : (i : ℕ) → place S k j i ≡ first + i * stride
   column-place i =
       let p : first + i * stride ≡ startOf S k + i * stride + offsetOf (c .widths) j = omega (arith, c .begins) in
-      ap (λ t. startOf S k + rowsBefore t i * rowBits (widthsOf t) + offsetOf (widthsOf t) j) (c .every) ∙ ap (λ (r : ℕ). startOf S k + i * r + offsetOf (c .widths) j) (c .apart) ∙ sym p
+      ap (λ t. startOf S k + rowsBefore t i * rowBits (widthsOf t) + offsetOf (widthsOf t) j) (c .every)
+      ∙ ap (λ (r : ℕ). startOf S k + i * r + offsetOf (c .widths) j) (c .apart) ∙ sym p
 
   pub column-room : {room : ℕ} → shapeBits S ≤ room → (i : ℕ) → i < n → first + i * stride + w ≤ room
   column-room l i m = let e = place-end S k j i (column-has i m) in omega (arith, column-place i, column-width)
 
-  pub column-rooms : {room far : ℕ} → shapeBits S ≤ room → shapeBits S < far → (i : ℕ) → i < n → (first + i * stride + w ≤ room) × (first + i * stride + w < far)
+  pub column-rooms : {room far : ℕ} → shapeBits S ≤ room → shapeBits S < far → (i : ℕ) → i < n → (first + i * stride + w ≤ room)
+      × (first + i * stride + w < far)
   column-rooms l f i m = (column-room l i m, let e = column-room {room = shapeBits S} (omega arith) i m in omega arith)
 
   -- rows are as far apart as the column is wide, or further
@@ -99,7 +104,8 @@ module _ {S : List Section} {k j n first stride w : ℕ} (c : Column S k j n fir
   column-small v fits i l = rw column-width at (fits k j i (column-has i l))
 
   -- put among the columns of the record
-  pub column-written : (v : Values) → Fits S v → {put : ℕ → ℕ → Bool} {old mid out : List ℕ} {x : ℕ → ℕ} → Written S v put old mid → PutColumn mid n (λ i. true) (λ i. first + i * stride) w x out
+  pub column-written : (v : Values) → Fits S v → {put : ℕ → ℕ → Bool} {old mid out : List ℕ} {x : ℕ → ℕ} → Written S v put old mid
+      → PutColumn mid n (λ i. true) (λ i. first + i * stride) w x out
       → ((i : ℕ) → i < n → v k j i ≡ x i) → Written S v (and put k j) old out
   column-written v fits r p e = written-column S v fits k j r p column-among column-rows column-width column-there (λ i l t. column-place i) e
 
@@ -122,4 +128,12 @@ head-written {S} {k} {j} {p} {stride} c v fits {x = x} r q e =
 -- the same column with a head before it
 pub column-after : {S : List Section} {k j n first stride w : ℕ} (head : Section) (start : ℕ) → Column S k j n first stride w
     → sectionBits head + first ≡ start → Column (head ∷ S) (suc k) j n start stride w
-column-after head start c e = record { widths = c .widths; every = c .every; among = c .among; wide = c .wide; apart = c .apart; begins = omega (arith, c .begins) }
+column-after head start c e = record {
+  widths = c .widths;
+  every = c .every;
+  among = c .among;
+  wide = c .wide;
+  apart = c .apart;
+  begins =
+      omega (arith, c .begins);
+}

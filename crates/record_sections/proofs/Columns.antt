@@ -34,7 +34,8 @@ over-whole {A} {i} {n} f ys l m e = let q : i ≡ n = omega arith in rw q at e
 pub column-start : (bs : List ℕ) (test : ℕ → Bool) (pl : ℕ → ℕ) (w : ℕ) (v : ℕ → ℕ) → PutColumn bs 0 test pl w v bs
 column-start bs test pl w v = record { same-length = refl; inside = λ i l. absurd (not-suc-le-zero l); others = λ b h. refl }
 
-pub column-turn : {bs mid out : List ℕ} {n w x : ℕ} {test : ℕ → Bool} {pl v : ℕ → ℕ} → PutColumn bs n test pl w v mid → test n ≡ true → Put mid (pl n) w x out → x ≡ v n
+pub column-turn : {bs mid out : List ℕ} {n w x : ℕ} {test : ℕ → Bool} {pl v : ℕ → ℕ} → PutColumn bs n test pl w v mid → test n ≡ true → Put mid (pl n) w x out
+    → x ≡ v n
     → ((i : ℕ) → i < n → test i ≡ true → pl i + w ≤ pl n) → PutColumn bs (n + 1) test pl w v out
 column-turn {bs} {mid} {out} {n} {w} {x} {test} {pl} {v} c t q e apart =
     record {
@@ -52,15 +53,22 @@ column-turn {bs} {mid} {out} {n} {w} {x} {test} {pl} {v} c t q e apart =
     off b h (inr l) = q .above b l ∙ c .others b (λ i m r. h i (omega arith) r)
 
 -- a row that is not there
-pub column-skip : {bs mid : List ℕ} {n w : ℕ} {test : ℕ → Bool} {pl v : ℕ → ℕ} → PutColumn bs n test pl w v mid → test n ≡ false → PutColumn bs (n + 1) test pl w v mid
-column-skip {bs} {mid} {n} {w} {test} {pl} {v} c t = record { same-length = c .same-length; inside = λ i l h. go i l h (same? i n); others = λ b h. c .others b (λ i m r. h i (omega arith) r) }
+pub column-skip : {bs mid : List ℕ} {n w : ℕ} {test : ℕ → Bool} {pl v : ℕ → ℕ} → PutColumn bs n test pl w v mid → test n ≡ false
+    → PutColumn bs (n + 1) test pl w v mid
+column-skip {bs} {mid} {n} {w} {test} {pl} {v} c t = record {
+  same-length = c .same-length;
+  inside = λ i l h. go i l h (same? i n);
+  others =
+      λ b h. c .others b (λ i m r. h i (omega arith) r);
+}
   where
     go : (i : ℕ) → i < n + 1 → test i ≡ true → {b : Bool} → Same i n b → bitsAt mid (pl i) w ≡ v i
     go i l h (same d) = absurd (true≢false (sym (rw d at h) ∙ t))
     go i l h (other d) = c .inside i (omega arith) h
 
 -- a row that is there or not
-pub column-if : {bs mid out : List ℕ} {n w x p : ℕ} {here : Bool} {test : ℕ → Bool} {pl v : ℕ → ℕ} → PutColumn bs n test pl w v mid → here ≡ test n → p ≡ pl n → PutIf here mid p w x out → x ≡ v n
+pub column-if : {bs mid out : List ℕ} {n w x p : ℕ} {here : Bool} {test : ℕ → Bool} {pl v : ℕ → ℕ} → PutColumn bs n test pl w v mid → here ≡ test n → p ≡ pl n
+    → PutIf here mid p w x out → x ≡ v n
     → ((i : ℕ) → i < n → test i ≡ true → pl i + w ≤ pl n) → PutColumn bs (n + 1) test pl w v out
 column-if {bs} {mid} {out} {n} {w} {x} {p} {here} {test} {pl} {v} c t e q d apart = go here t q
   where
@@ -116,7 +124,8 @@ pub those-le : (test : ℕ → Bool) (n : ℕ) → those test n ≤ n
 unfolding those
 those-le test n = omega (arith, sum-bound n 1 (λ k. cond (test k) 1 0) (λ k l. one-most (test k)))
 
-pub column-whole : {bs out : List ℕ} {i n w : ℕ} {test : ℕ → Bool} {pl v : ℕ → ℕ} → i ≤ n → n ≤ i → PutColumn bs i test pl w v out → PutColumn bs n test pl w v out
+pub column-whole : {bs out : List ℕ} {i n w : ℕ} {test : ℕ → Bool} {pl v : ℕ → ℕ} → i ≤ n → n ≤ i → PutColumn bs i test pl w v out
+    → PutColumn bs n test pl w v out
 column-whole {i = i} {n = n} l m c = let e : i ≡ n = omega arith in rw e at c
 
 -- rows that are as far apart as their fields are wide
@@ -196,7 +205,8 @@ module _ (S : List Section) (v : Values) where
 
   module _ (fits : Fits S v) where
     -- one column more
-    pub written-column : {put : ℕ → ℕ → Bool} {old mid out : List ℕ} (k j : ℕ) {n : ℕ} {test : ℕ → Bool} {pl x : ℕ → ℕ} {w : ℕ} → Written put old mid → PutColumn mid n test pl w x out
+    pub written-column : {put : ℕ → ℕ → Bool} {old mid out : List ℕ} (k j : ℕ) {n : ℕ} {test : ℕ → Bool} {pl x : ℕ → ℕ} {w : ℕ} → Written put old mid
+        → PutColumn mid n test pl w x out
         → j < length (widthsOf (sectionIn S k)) → rowsOf (sectionIn S k) ≡ n → width S k j ≡ w
         → ((i : ℕ) → hasRow (sectionIn S k) i ≡ test i) → ((i : ℕ) → i < n → test i ≡ true → place S k j i ≡ pl i)
         → ((i : ℕ) → i < n → v k j i ≡ x i) → Written (and put k j) old out
@@ -250,7 +260,8 @@ module _ (S : List Section) (v : Values) where
             go false p b q z = stays k′ j′ i h (r .spells k′ j′ i z h)
 
   -- every column is put, and then the zero bits up to a whole byte
-  pub written-all : {put : ℕ → ℕ → Bool} {old mid out : List ℕ} {at pad : ℕ} → Written put old mid → covers S put ≡ true → at ≡ shapeBits S → at + pad ≡ 8 * lengthOf S → lengthOf S ≤ length old
+  pub written-all : {put : ℕ → ℕ → Bool} {old mid out : List ℕ} {at pad : ℕ} → Written put old mid → covers S put ≡ true → at ≡ shapeBits S → at + pad
+      ≡ 8 * lengthOf S → lengthOf S ≤ length old
       → ((j : ℕ) → getD old j 0 < 256) → ((j : ℕ) → getD out j 0 < 256) → Put mid at pad 0 out → out ≡ over (recordOf S v) old
   unfolding recordOf
   written-all {put} {old} {mid} {out} {at} {pad} r all e full room small-old small-out q =
@@ -262,7 +273,8 @@ module _ (S : List Section) (v : Values) where
           ∙ ap (λ (p : ℕ). bitsAt mid p (width S k j)) (sym (zero-add (place S k j i))))) b l
           ∙ ap (λ (p : ℕ). bitAt mid p) (zero-add b))
 
-      kept : (b : ℕ) → widthOf (fieldsOf S v) ≤ b → (bitAt mid b ≡ bitAt old b) ⊎ ((b < shapeBits S) × (bitAt mid b ≡ bitAt (packed (fieldsOf S v)) b)) → bitAt mid b ≡ bitAt old b
+      kept : (b : ℕ) → widthOf (fieldsOf S v) ≤ b → (bitAt mid b ≡ bitAt old b) ⊎ ((b < shapeBits S) × (bitAt mid b ≡ bitAt (packed (fieldsOf S v)) b))
+          → bitAt mid b ≡ bitAt old b
       kept b l (inl d) = d
       kept b l (inr p) = absurd (omega (arith, width-fields S v, p .0))
 

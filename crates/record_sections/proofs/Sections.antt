@@ -33,12 +33,14 @@ width-rows-before (per m ws) v n = width-rows-of (rowBits ws) n (sectionRow (per
 width-rows-before (perThat m test ws) v zero = sym (zero-mul (rowBits ws))
 width-rows-before (perThat m test ws) v (suc n) =
     width-append (rows n (sectionRow (perThat m test ws) v)) (sectionRow (perThat m test ws) v n)
-    ∙ rw (width-rows-before (perThat m test ws) v n, those-one ws v (test n) n) (sym (add-mul (sum n (λ k. cond (test k) 1 0)) (cond (test n) 1 0) (rowBits ws)))
+    ∙ rw (width-rows-before (perThat m test ws) v n, those-one ws v (test n) n)
+    (sym (add-mul (sum n (λ k. cond (test k) 1 0)) (cond (test n) 1 0) (rowBits ws)))
 
 pub width-fields : (S : List Section) (v : Values) → widthOf (fieldsOf S v) ≡ shapeBits S
 unfolding fieldsOf widthOf
 width-fields [] v = refl
-width-fields (s ∷ S) v = width-append (rows (rowsOf s) (sectionRow s (v 0))) (fieldsOf S (λ k. v (suc k))) ∙ rw (width-rows-before s (v 0) (rowsOf s), width-fields S (λ k. v (suc k)))
+width-fields (s ∷ S) v = width-append (rows (rowsOf s) (sectionRow s (v 0))) (fieldsOf S (λ k. v (suc k)))
+    ∙ rw (width-rows-before s (v 0) (rowsOf s), width-fields S (λ k. v (suc k)))
 
 pub length-record : (S : List Section) (v : Values) → length (recordOf S v) ≡ lengthOf S
 unfolding recordOf
@@ -70,13 +72,16 @@ unfolding fieldsOf
 fields-stand [] v k j i h = absurd (not-suc-le-zero (h .below))
 fields-stand (s ∷ S) v zero j i h = moved (stands-left (fieldsOf S (λ k. v (suc k))) (section-stands s (v 0) i j (h .below) (h .there) (h .among)))
   where
-    moved : {fs : List Field} {w x : ℕ} → Stands fs (rowsBefore s i * rowBits (widthsOf s) + offsetOf (widthsOf s) j) w x → Stands fs (place (s ∷ S) zero j i) w x
+    moved : {fs : List Field} {w x : ℕ} → Stands fs (rowsBefore s i * rowBits (widthsOf s) + offsetOf (widthsOf s) j) w x
+        → Stands fs (place (s ∷ S) zero j i) w x
     moved t = let e : rowsBefore s i * rowBits (widthsOf s) + offsetOf (widthsOf s) j ≡ place (s ∷ S) zero j i = omega arith in rw e at t
 fields-stand (s ∷ S) v (suc k) j i h = moved (stands-right (rows (rowsOf s) (sectionRow s (v 0))) (fields-stand S (λ n. v (suc n)) k j i (sooner h)))
   where
-    moved : {fs : List Field} {w x : ℕ} → Stands fs (widthOf (rows (rowsOf s) (sectionRow s (v 0))) + place S k j i) w x → Stands fs (place (s ∷ S) (suc k) j i) w x
+    moved : {fs : List Field} {w x : ℕ} → Stands fs (widthOf (rows (rowsOf s) (sectionRow s (v 0))) + place S k j i) w x
+        → Stands fs (place (s ∷ S) (suc k) j i) w x
     moved t =
-        let e : widthOf (rows (rowsOf s) (sectionRow s (v 0))) + place S k j i ≡ place (s ∷ S) (suc k) j i = omega (arith, width-rows-before s (v 0) (rowsOf s)) in
+        let e : widthOf (rows (rowsOf s) (sectionRow s (v 0))) + place S k j i ≡ place (s ∷ S) (suc k) j i = omega (arith, width-rows-before s (v 0) (rowsOf s))
+        in
         rw e at t
 
 -- a field ends before the record does
@@ -94,8 +99,10 @@ module _ (S : List Section) (v : Values) (fits : Fits S v) where
   unfolding recordOf
   value-back k j i h = read-packed (fieldsOf S v) (fields-stand S v k j i h) refl (fits k j i h)
 
-  pub column-back : (k j : ℕ) → j < length (widthsOf (sectionIn S k)) → columnIn (recordOf S v) S k j ≡ table (rowsOf (sectionIn S k)) (λ i. cond (hasRow (sectionIn S k) i) (v k j i) 0)
-  column-back k j l = table-cong {A = ℕ} 0 (rowsOf (sectionIn S k)) (entryIn (recordOf S v) S k j) (λ i. cond (hasRow (sectionIn S k) i) (v k j i) 0) (λ i m. entry i m (hasRow (sectionIn S k) i) refl)
+  pub column-back : (k j : ℕ) → j < length (widthsOf (sectionIn S k)) → columnIn (recordOf S v) S k j
+      ≡ table (rowsOf (sectionIn S k)) (λ i. cond (hasRow (sectionIn S k) i) (v k j i) 0)
+  column-back k j l = table-cong {A = ℕ} 0 (rowsOf (sectionIn S k)) (entryIn (recordOf S v) S k j) (λ i. cond (hasRow (sectionIn S k) i) (v k j i) 0)
+      (λ i m. entry i m (hasRow (sectionIn S k) i) refl)
     where
       entry : (i : ℕ) → i < rowsOf (sectionIn S k) → (b : Bool) → hasRow (sectionIn S k) i ≡ b → cond b (valueIn (recordOf S v) S k j i) 0 ≡ cond b (v k j i) 0
       entry i m true e = value-back k j i (record { below = m; there = e; among = l })
@@ -103,30 +110,37 @@ module _ (S : List Section) (v : Values) (fits : Fits S v) where
 
 -- writing undoes reading
 
-row-read : (bs : List ℕ) (at : ℕ) (ws : List ℕ) (v : ℕ → ℕ → ℕ) (i : ℕ) → ((j : ℕ) → j < length ws → v j i ≡ bitsAt bs (at + offsetOf ws j) (getD ws j 0)) → ReadFrom bs at (row ws v i)
+row-read : (bs : List ℕ) (at : ℕ) (ws : List ℕ) (v : ℕ → ℕ → ℕ) (i : ℕ) → ((j : ℕ) → j < length ws → v j i ≡ bitsAt bs (at + offsetOf ws j) (getD ws j 0))
+    → ReadFrom bs at (row ws v i)
 unfolding row
 row-read bs at [] v i h = read-none
 row-read bs at (w ∷ ws) v i h =
     read-more (h 0 (omega arith) ∙ ap (λ (p : ℕ). bitsAt bs p w) (add-zero at))
-    (row-read bs (at + w) ws (λ j. v (suc j)) i (λ j l. h (suc j) (omega arith) ∙ ap (λ (p : ℕ). bitsAt bs p (getD ws j 0)) (sym (add-assoc at w (offsetOf ws j)))))
+    (row-read bs (at + w) ws (λ j. v (suc j)) i (λ j l. h (suc j) (omega arith)
+    ∙ ap (λ (p : ℕ). bitsAt bs p (getD ws j 0)) (sym (add-assoc at w (offsetOf ws j)))))
 
 section-read : (bs : List ℕ) (at : ℕ) (s : Section) (v : ℕ → ℕ → ℕ)
-    → ((j i : ℕ) → i < rowsOf s → hasRow s i ≡ true → j < length (widthsOf s) → v j i ≡ bitsAt bs (at + (rowsBefore s i * rowBits (widthsOf s) + offsetOf (widthsOf s) j)) (getD (widthsOf s) j 0))
+    → ((j i : ℕ) → i < rowsOf s → hasRow s i ≡ true → j < length (widthsOf s) → v j i
+    ≡ bitsAt bs (at + (rowsBefore s i * rowBits (widthsOf s) + offsetOf (widthsOf s) j)) (getD (widthsOf s) j 0))
     → ReadFrom bs at (rows (rowsOf s) (sectionRow s v))
 section-read bs at s v h = read-rows (rowsOf s) (sectionRow s v) (λ i l. rw (width-rows-before s v i) (one i l (hasRow s i) refl))
   where
     one : (i : ℕ) → i < rowsOf s → (b : Bool) → hasRow s i ≡ b → ReadFrom bs (at + rowsBefore s i * rowBits (widthsOf s)) (cond b (row (widthsOf s) v i) [])
     one i l true e = row-read bs (at + rowsBefore s i * rowBits (widthsOf s)) (widthsOf s) v i
-        (λ j m. h j i l e m ∙ ap (λ (p : ℕ). bitsAt bs p (getD (widthsOf s) j 0)) (sym (add-assoc at (rowsBefore s i * rowBits (widthsOf s)) (offsetOf (widthsOf s) j))))
+        (λ j m. h j i l e m ∙ ap (λ (p : ℕ). bitsAt bs p (getD (widthsOf s) j 0))
+        (sym (add-assoc at (rowsBefore s i * rowBits (widthsOf s)) (offsetOf (widthsOf s) j))))
     one i l false e = read-none
 
-pub fields-read : (bs : List ℕ) (at : ℕ) (S : List Section) (v : Values) → ((k j i : ℕ) → Has S k j i → v k j i ≡ bitsAt bs (at + place S k j i) (width S k j)) → ReadFrom bs at (fieldsOf S v)
+pub fields-read : (bs : List ℕ) (at : ℕ) (S : List Section) (v : Values) → ((k j i : ℕ) → Has S k j i → v k j i ≡ bitsAt bs (at + place S k j i) (width S k j))
+    → ReadFrom bs at (fieldsOf S v)
 unfolding fieldsOf
 fields-read bs at [] v h = read-none
 fields-read bs at (s ∷ S) v h =
     read-append (fieldsOf S (λ k. v (suc k)))
-    (section-read bs at s (v 0) (λ j i l e m. h 0 j i (record { below = l; there = e; among = m }) ∙ ap (λ (p : ℕ). bitsAt bs p (getD (widthsOf s) j 0)) (first j i)))
-    (rw (width-rows-before s (v 0) (rowsOf s)) (fields-read bs (at + sectionBits s) S (λ k. v (suc k)) (λ k j i q. h (suc k) j i (later q) ∙ ap (λ (p : ℕ). bitsAt bs p (width S k j)) (next k j i))))
+    (section-read bs at s (v 0) (λ j i l e m. h 0 j i (record { below = l; there = e; among = m })
+    ∙ ap (λ (p : ℕ). bitsAt bs p (getD (widthsOf s) j 0)) (first j i)))
+    (rw (width-rows-before s (v 0) (rowsOf s)) (fields-read bs (at + sectionBits s) S (λ k. v (suc k))
+    (λ k j i q. h (suc k) j i (later q) ∙ ap (λ (p : ℕ). bitsAt bs p (width S k j)) (next k j i))))
   where
     first : (j i : ℕ) → at + place (s ∷ S) 0 j i ≡ at + (rowsBefore s i * rowBits (widthsOf s) + offsetOf (widthsOf s) j)
     first j i = omega arith

@@ -22,45 +22,72 @@ use Rattle.record_reading.proofs.ReadLaws.{mesh-tables-say, field-tables-say, s
 
 module _ (bs : List ℕ) where
   pub mesh-reads : (mostCells mostFaces v f s w k : ℕ) → isMeshKind (kindIn bs) ≡ true
-      → countsWithin (min mostCells maxCells) (min mostFaces maxFaces) (cellsIn bs) (facesIn bs) ≡ fine → length bs ≡ bytesFor (meshBits (kindIn bs) (cellsIn bs) (facesIn bs))
+      → countsWithin (min mostCells maxCells) (min mostFaces maxFaces) (cellsIn bs) (facesIn bs) ≡ fine → length bs
+      ≡ bytesFor (meshBits (kindIn bs) (cellsIn bs) (facesIn bs))
       → cellsIn bs ≤ v → facesIn bs ≤ f → facesIn bs ≤ s → facesIn bs ≤ w → facesIn bs ≤ k
-      → ((i : ℕ) → zeroBitGood bs meshZeroBits meshHeadBits (meshBits (kindIn bs) (cellsIn bs) (facesIn bs)) i ≡ true) → meshRead mostCells mostFaces bs v f s w k ≡ accepted (countsIn bs)
+      → ((i : ℕ) → zeroBitGood bs meshZeroBits meshHeadBits (meshBits (kindIn bs) (cellsIn bs) (facesIn bs)) i ≡ true)
+      → meshRead mostCells mostFaces bs v f s w k ≡ accepted (countsIn bs)
   unfolding meshRead meshHeadVerdict meshBodyVerdict meshLength meshBitGood bytesFor
   mesh-reads mostCells mostFaces v f s w k kind within len lv lf ls lw lk good =
       past _
       (fine-all (_ ∷ _ ∷ []) (
         fine-all (_ ∷ _ ∷ _ ∷ []) (need-met 11 0 (le-leb 4 (length bs) (omega (arith, len))), (need-met 13 0 kind, (within, tt))),
         (
-          fine-all (_ ∷ _ ∷ _ ∷ _ ∷ _ ∷ _ ∷ _ ∷ [])
-              (need-met 11 0 (eq-eqb _ _ len), (need-met 2 0 (le-leb _ _ lv), (need-met 2 1 (le-leb _ _ lf), (need-met 2 2 (le-leb _ _ ls), (need-met 2 3 (le-leb _ _ lw), (need-met 2 4 (le-leb _ _ lk), (fine-each 12 _ _ (λ i l. good i), tt))))))),
+          fine-all (_ ∷ _ ∷ _ ∷ _ ∷ _ ∷ _ ∷ _ ∷ []) (
+            need-met 11 0 (eq-eqb _ _ len),
+            (
+              need-met 2 0 (le-leb _ _ lv),
+              (
+                need-met 2 1 (le-leb _ _ lf),
+                (
+                  need-met 2 2 (le-leb _ _ ls),
+                  (need-met 2 3 (le-leb _ _ lw), (need-met 2 4 (le-leb _ _ lk), (fine-each 12 _ _ (λ i l. good i), tt))),
+                ),
+              ),
+            ),
+          ),
           tt,
         ),
       ))
 
-  pub field-reads : (w : Width) (cells m : ℕ) → kindIn bs ≡ fieldKind w → cellsIn bs ≡ cells → 1 ≤ cells → cells ≤ maxCells → length bs ≡ bytesFor (fieldBits (fieldKind w) cells) → cells ≤ m → fieldRead w cells bs m ≡ fine
+  pub field-reads : (w : Width) (cells m : ℕ) → kindIn bs ≡ fieldKind w → cellsIn bs ≡ cells → 1 ≤ cells → cells ≤ maxCells → length bs
+      ≡ bytesFor (fieldBits (fieldKind w) cells) → cells ≤ m → fieldRead w cells bs m ≡ fine
   unfolding fieldRead fieldHeadVerdict fieldBodyVerdict fieldLength bytesFor
   field-reads w cells m kind c some few len lm =
       rw (kind, c)
       (fine-all (_ ∷ _ ∷ []) (
-        fine-all (_ ∷ _ ∷ _ ∷ _ ∷ [])
-            (need-met 11 0 (le-leb 2 (length bs) (omega (arith, len))), (need-met 13 0 (eq-eqb (fieldKind w) (fieldKind w) refl), (need-met 13 1 (eq-eqb cells cells refl), (need-met 1 0 (rw (le-leb 1 cells some) (le-leb cells maxCells few)), tt)))),
+        fine-all (_ ∷ _ ∷ _ ∷ _ ∷ []) (
+          need-met 11 0 (le-leb 2 (length bs) (omega (arith, len))),
+          (
+            need-met 13 0 (eq-eqb (fieldKind w) (fieldKind w) refl),
+            (need-met 13 1 (eq-eqb cells cells refl), (need-met 1 0 (rw (le-leb 1 cells some) (le-leb cells maxCells few)), tt)),
+          ),
+        ),
         (fine-all (_ ∷ _ ∷ []) (need-met 11 0 (eq-eqb _ _ len), (need-met 2 5 (le-leb _ _ lm), tt)), tt),
       ))
 
   pub step-reads : (w : Width) (cells faces : ℕ) (seconds : List ℕ) (u x y : ℕ) → isStepKind w (kindIn bs) ≡ true → stepFacesIn bs ≡ faces
       → countsWithin maxCells maxFaces cells faces ≡ fine → faces ≤ length seconds → length bs ≡ bytesFor (stepBits (kindIn bs) cells faces seconds)
       → faces ≤ u → faces ≤ x → cells ≤ y
-      → ((i : ℕ) → (zeroBitGood bs stepZeroBits stepHeadBits (stepBits (kindIn bs) cells faces seconds) i && not (minusZero bs (valueBits (kindIn bs)) faces i)) ≡ true)
+      → ((i : ℕ) → (zeroBitGood bs stepZeroBits stepHeadBits (stepBits (kindIn bs) cells faces seconds) i && not (minusZero bs (valueBits (kindIn bs)) faces i))
+      ≡ true)
       → stepRead w cells faces seconds bs u x y ≡ accepted (kindIn bs)
   unfolding stepRead stepHeadVerdict stepBodyVerdict stepLength stepBitGood bytesFor
   step-reads w cells faces seconds u x y kind n within lent len lu lx ly good =
       past _
       (fine-all (_ ∷ _ ∷ []) (
-        fine-all (_ ∷ _ ∷ _ ∷ _ ∷ _ ∷ [])
-            (need-met 11 0 (le-leb 4 (length bs) (omega (arith, len))), (need-met 13 0 kind, (need-met 13 1 (eq-eqb _ _ n), (within, (need-met 2 2 (le-leb _ _ lent), tt))))),
+        fine-all (_ ∷ _ ∷ _ ∷ _ ∷ _ ∷ []) (
+          need-met 11 0 (le-leb 4 (length bs) (omega (arith, len))),
+          (need-met 13 0 kind, (need-met 13 1 (eq-eqb _ _ n), (within, (need-met 2 2 (le-leb _ _ lent), tt)))),
+        ),
         (
-          fine-all (_ ∷ _ ∷ _ ∷ _ ∷ _ ∷ [])
-              (need-met 11 0 (eq-eqb _ _ len), (need-met 2 6 (le-leb _ _ lu), (need-met 2 7 (le-leb _ _ lx), (need-met 2 14 (le-leb _ _ ly), (fine-each 12 _ _ (λ i l. good i), tt))))),
+          fine-all (_ ∷ _ ∷ _ ∷ _ ∷ _ ∷ []) (
+            need-met 11 0 (eq-eqb _ _ len),
+            (
+              need-met 2 6 (le-leb _ _ lu),
+              (need-met 2 7 (le-leb _ _ lx), (need-met 2 14 (le-leb _ _ ly), (fine-each 12 _ _ (λ i l. good i), tt))),
+            ),
+          ),
           tt,
         ),
       ))
@@ -72,7 +99,8 @@ pub record MeshPassed (bs : List ℕ) (n : MeshCounts) : Type 0 where
   pub same-length : length bs ≡ bytesFor (meshBits (kindIn bs) (cellsIn bs) (facesIn bs))
   pub good : (i : ℕ) → i < 8 * length bs → zeroBitGood bs meshZeroBits meshHeadBits (meshBits (kindIn bs) (cellsIn bs) (facesIn bs)) i ≡ true
 
-pub mesh-passed : (mostCells mostFaces : ℕ) (bs : List ℕ) (v f s w k : ℕ) {n : MeshCounts} → meshRead mostCells mostFaces bs v f s w k ≡ accepted n → MeshPassed bs n
+pub mesh-passed : (mostCells mostFaces : ℕ) (bs : List ℕ) (v f s w k : ℕ) {n : MeshCounts} → meshRead mostCells mostFaces bs v f s w k ≡ accepted n
+    → MeshPassed bs n
 unfolding meshBodyVerdict meshBitGood
 mesh-passed mostCells mostFaces bs v f s w k e =
     let r = read-says mostCells mostFaces bs v f s w k e in
@@ -111,7 +139,8 @@ step-passed w cells faces seconds bs u x y e =
     let r = step-read-says w cells faces seconds bs u x y e in
     let b = both-fine _ _ (r .body-fine) in
     let end = stepBits (kindIn bs) cells faces seconds in
-    let both = each-fine 12 (8 * length bs) (λ i. zeroBitGood bs stepZeroBits stepHeadBits end i && not (minusZero bs (valueBits (kindIn bs)) faces i)) (b .1) in
+    let both = each-fine 12 (8 * length bs) (λ i. zeroBitGood bs stepZeroBits stepHeadBits end i && not (minusZero bs (valueBits (kindIn bs)) faces i)) (b .1)
+    in
     record {
       same-count = r .head .same-count;
       same-length = step-tables-say (kindIn bs) cells faces seconds bs u x y (b .0) .same-length;

@@ -65,7 +65,8 @@ module _ (kind : ℕ) (M : Mesh) (fits : Fits (meshShape kind (M .cells) (M .fac
 
   pub mesh-bits-good : (i : ℕ) → zeroBitGood (meshRecord kind M) meshZeroBits meshHeadBits (meshBits kind (M .cells) (M .faces)) i ≡ true
   unfolding meshRecord recordOf
-  mesh-bits-good = zeros-good (fieldsOf MS (meshValue kind M)) meshZeroBits meshHeadBits (shapeBits MS) (omega arith) (mesh-some kind (M .cells) (M .faces)) (width-fields MS (meshValue kind M)) mesh-zeros-back
+  mesh-bits-good = zeros-good (fieldsOf MS (meshValue kind M)) meshZeroBits meshHeadBits (shapeBits MS) (omega arith) (mesh-some kind (M .cells) (M .faces))
+      (width-fields MS (meshValue kind M)) mesh-zeros-back
 
   pub volumes-back : volumesIn (meshRecord kind M) ≡ table (M .cells) (volume M)
   unfolding volumesIn meshRecord
@@ -104,7 +105,8 @@ module _ (kind cells : ℕ) (masses : List ℕ) where
 
     pub masses-back : massesIn (fieldRecord kind cells masses) cells ≡ table cells (massOf masses)
     unfolding massesIn fieldRecord
-    masses-back = ap (λ (k : ℕ). columnIn (fieldRecord kind cells masses) (fieldShape k cells) 1 0) field-kind-back ∙ column-back (fieldShape kind cells) (fieldValue kind cells masses) fits 1 0 (omega arith)
+    masses-back = ap (λ (k : ℕ). columnIn (fieldRecord kind cells masses) (fieldShape k cells) 1 0) field-kind-back
+        ∙ column-back (fieldShape kind cells) (fieldValue kind cells masses) fits 1 0 (omega arith)
 
 -- a sign of 0 or 1, and its size
 sign-back : (b : Bool) → eqb (cond b 1 0) 1 ≡ b
@@ -188,7 +190,8 @@ module _ (kind cells faces : ℕ) (seconds : List ℕ) (fluxes : List ℤ) (outs
         ∙ ap (λ (x : ℕ). eqb (valueIn R TS 1 0 f) 1 && eqb (bitsAt R x (valueBits kind)) 0) q
         ∙ rw (sign-read f l, size-read f l) (no-minus-zero (getD fluxes f (pos 0)))
 
-    pub step-bits-good : (i : ℕ) → (zeroBitGood TR stepZeroBits stepHeadBits (stepBits kind cells faces seconds) i && not (minusZero TR (valueBits kind) faces i)) ≡ true
+    pub step-bits-good : (i : ℕ) → (zeroBitGood TR stepZeroBits stepHeadBits (stepBits kind cells faces seconds) i
+        && not (minusZero TR (valueBits kind) faces i)) ≡ true
     step-bits-good i = rw (step-zeros-good i, minus i (decLt i (stepHeadBits + faces * fluxBits kind)))
       where
         minus : (j : ℕ) → Dec (j < stepHeadBits + faces * fluxBits kind) → minusZero TR (valueBits kind) faces j ≡ false
@@ -202,17 +205,20 @@ entry-over : (bs : List ℕ) (S : List Section) (k j i : ℕ) (ys : List ℕ) �
 entry-over bs S k j i ys h = getD-over (rowsOf (sectionIn S k)) (entryIn bs S k j) ys 0 i (h .below) ∙ rw (h .there)
 
 -- the zero bits of a head that is good
-head-zeros : (bs : List ℕ) (z h e : ℕ) → z ≤ h → h ≤ e → e ≤ 8 * length bs → ((i : ℕ) → i < 8 * length bs → zeroBitGood bs z h e i ≡ true) → 0 ≡ bitsAt bs (h - z) z
+head-zeros : (bs : List ℕ) (z h e : ℕ) → z ≤ h → h ≤ e → e ≤ 8 * length bs → ((i : ℕ) → i < 8 * length bs → zeroBitGood bs z h e i ≡ true) → 0
+    ≡ bitsAt bs (h - z) z
 head-zeros bs z h e k m n good = sym (zero-field bs (h - z) z (λ i l q. good-clear bs z h e i (good i (omega arith)) (inl (l, omega arith))))
 
 module _ (bs : List ℕ) (bytes : (j : ℕ) → getD bs j 0 < 256) {n : MeshCounts} (passed : MeshPassed bs n) (volumes firsts seconds shares reaches : List ℕ) where
   abbrev MN : Mesh
-  MN = meshOf (cellsIn bs) (facesIn bs) (over (volumesIn bs) volumes) (over (firstsIn bs) firsts) (over (secondsIn bs) seconds) (over (sharesIn bs) shares) (over (reachesIn bs) reaches)
+  MN = meshOf (cellsIn bs) (facesIn bs) (over (volumesIn bs) volumes) (over (firstsIn bs) firsts) (over (secondsIn bs) seconds) (over (sharesIn bs) shares)
+      (over (reachesIn bs) reaches)
 
   mesh-zeros : 0 ≡ bitsAt bs (meshHeadBits - meshZeroBits) meshZeroBits
   mesh-zeros =
       let end = meshBits (kindIn bs) (cellsIn bs) (facesIn bs) in
-      head-zeros bs meshZeroBits meshHeadBits end (omega arith) (mesh-some (kindIn bs) (cellsIn bs) (facesIn bs)) (omega (arith, passed .same-length, bytes-hold end)) (passed .good)
+      head-zeros bs meshZeroBits meshHeadBits end (omega arith) (mesh-some (kindIn bs) (cellsIn bs) (facesIn bs))
+      (omega (arith, passed .same-length, bytes-hold end)) (passed .good)
 
   mesh-head : (j : ℕ) → j < 4 → meshValue (kindIn bs) MN 0 j 0 ≡ valueIn bs (shapeIn bs) 0 j 0
   mesh-head zero l = refl
@@ -240,7 +246,8 @@ module _ (bs : List ℕ) (bytes : (j : ℕ) → getD bs j 0 < 256) {n : MeshCoun
 
 -- a field: its bits fill whole bytes
 module _ (w : Width) (cells : ℕ) (bs : List ℕ) (bytes : (j : ℕ) → getD bs j 0 < 256) (passed : FieldPassed w cells bs) (masses : List ℕ) where
-  field-agrees : (k j i : ℕ) → Has (fieldShape (kindIn bs) cells) k j i → fieldValue (kindIn bs) cells (over (massesIn bs cells) masses) k j i ≡ valueIn bs (fieldShape (kindIn bs) cells) k j i
+  field-agrees : (k j i : ℕ) → Has (fieldShape (kindIn bs) cells) k j i → fieldValue (kindIn bs) cells (over (massesIn bs cells) masses) k j i
+      ≡ valueIn bs (fieldShape (kindIn bs) cells) k j i
   unfolding massesIn
   field-agrees zero zero i h = let z : i ≡ 0 = omega (arith, h .below) in rw z
   field-agrees zero (suc zero) i h = let z : i ≡ 0 = omega (arith, h .below) in rw z (sym (passed .same-count))
@@ -259,7 +266,8 @@ module _ (w : Width) (cells : ℕ) (bs : List ℕ) (bytes : (j : ℕ) → getD b
 
   pub field-again : fieldRecord (kindIn bs) cells (over (massesIn bs cells) masses) ≡ bs
   unfolding fieldRecord
-  field-again = record-again bs (fieldShape (kindIn bs) cells) (fieldValue (kindIn bs) cells (over (massesIn bs cells) masses)) (passed .same-length) bytes full field-agrees
+  field-again = record-again bs (fieldShape (kindIn bs) cells) (fieldValue (kindIn bs) cells (over (massesIn bs cells) masses)) (passed .same-length) bytes full
+      field-agrees
 
 -- a sign and a size that are no minus with size 0
 sign-again : (s n : ℕ) → s < 2 → (eqb s 1 && eqb n 0) ≡ false → cond (isNegative (withSign (eqb s 1) n)) 1 0 ≡ s
@@ -287,7 +295,8 @@ module _ (cells faces : ℕ) (seconds bs : List ℕ) (bytes : (j : ℕ) → getD
       sym (minus-at bs (valueBits (kindIn bs)) faces f l
       ∙ ap (λ (x : ℕ). eqb (bitsAt bs x signBits) 1 && eqb (bitsAt bs (stepHeadBits + f * fluxBits (kindIn bs) + signBits) (valueBits (kindIn bs))) 0) p
       ∙ ap (λ (x : ℕ). eqb (valueIn bs SN 1 0 f) 1 && eqb (bitsAt bs x (valueBits (kindIn bs))) 0) q)
-      ∙ not-true _ (passed .plain (stepHeadBits + f * fluxBits (kindIn bs)) (omega (arith, room, step-some (kindIn bs) cells faces seconds, mul-le-mul-right (fluxBits (kindIn bs)) l, suc-mul f (fluxBits (kindIn bs)))))
+      ∙ not-true _ (passed .plain (stepHeadBits + f * fluxBits (kindIn bs))
+      (omega (arith, room, step-some (kindIn bs) cells faces seconds, mul-le-mul-right (fluxBits (kindIn bs)) l, suc-mul f (fluxBits (kindIn bs)))))
 
   flux-is : (f : ℕ) → f < faces → getD (over (fluxesIn bs faces) fluxes) f (pos 0) ≡ withSign (minusIn bs faces f) (sizeIn bs faces f)
   unfolding fluxesIn

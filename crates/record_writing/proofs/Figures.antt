@@ -20,7 +20,8 @@ use Rattle.record_writing.specs.Writing.{releasesFit}
 -- the definitions that a figure computes
 everything : Unit {0}
 unfolding sum table _andThen_ need each countsWithin bitAt bitsAt spelled bitsOf widthOf bytesFor octet packed rows those row fieldsOf recordOf
-    meshRecord fieldRecord stepRecord meshLength fieldLength stepLength volumesIn massesIn fluxesIn outsidesIn valueBits massBits releaseBits releasesIn zeroBitGood minusZero
+    meshRecord fieldRecord stepRecord meshLength fieldLength stepLength volumesIn massesIn fluxesIn outsidesIn valueBits massBits releaseBits releasesIn
+    zeroBitGood minusZero
     meshBitGood stepBitGood meshHeadVerdict fieldHeadVerdict stepHeadVerdict meshBodyVerdict fieldBodyVerdict stepBodyVerdict meshRead fieldRead stepRead
 everything = tt
 

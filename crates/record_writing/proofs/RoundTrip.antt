@@ -64,16 +64,19 @@ module _ (w : Width) (M : Mesh) (within : counts M ≡ fine) (passes : meshValue
   pub faces-read-back : facesIn (meshRecord (meshKind w) M) ≡ M .faces
   faces-read-back = mesh-faces-back (meshKind w) M (mesh-fits w M within passes)
 
-  pub mesh-read-back : (mostCells mostFaces volumes firsts seconds shares reaches : ℕ) → countsWithin (min mostCells maxCells) (min mostFaces maxFaces) (M .cells) (M .faces) ≡ fine
+  pub mesh-read-back : (mostCells mostFaces volumes firsts seconds shares reaches : ℕ)
+      → countsWithin (min mostCells maxCells) (min mostFaces maxFaces) (M .cells) (M .faces) ≡ fine
       → M .cells ≤ volumes → M .faces ≤ firsts → M .faces ≤ seconds → M .faces ≤ shares → M .faces ≤ reaches
-      → meshRead mostCells mostFaces (meshRecord (meshKind w) M) volumes firsts seconds shares reaches ≡ accepted (record { cells = M .cells; faces = M .faces; width = w })
+      → meshRead mostCells mostFaces (meshRecord (meshKind w) M) volumes firsts seconds shares reaches
+      ≡ accepted (record { cells = M .cells; faces = M .faces; width = w })
   mesh-read-back mostCells mostFaces volumes firsts seconds shares reaches limits lv lf ls lw lk =
       let s = mesh-fits w M within passes in
       let c = mesh-cells-back (meshKind w) M s in
       let n = mesh-faces-back (meshKind w) M s in
       let q = mesh-kind-back (meshKind w) M s in
       let same-counts : countsIn (meshRecord (meshKind w) M) ≡ record { cells = M .cells; faces = M .faces; width = w } = rw (q, c, n, width-is w) in
-      mesh-reads (meshRecord (meshKind w) M) mostCells mostFaces volumes firsts seconds shares reaches (rw q (mesh-kind w)) (rw (c, n) limits) (rw (q, c, n) (mesh-record-length (meshKind w) M s))
+      mesh-reads (meshRecord (meshKind w) M) mostCells mostFaces volumes firsts seconds shares reaches (rw q (mesh-kind w)) (rw (c, n) limits)
+      (rw (q, c, n) (mesh-record-length (meshKind w) M s))
       (rw c lv) (rw n lf) (rw n ls) (rw n lw) (rw n lk) (λ i. rw (q, c, n) (mesh-bits-good (meshKind w) M s i)) ∙ ap accepted same-counts
 
   pub volumes-read-back : volumesIn (meshRecord (meshKind w) M) ≡ table (M .cells) (volume M)
@@ -97,7 +100,8 @@ module _ (w : Width) (M : Mesh) (within : counts M ≡ fine) (passes : meshValue
   field-read-back masses l =
       let n = counted M within in
       let s = field-fits w (M .cells) field (n .few-cells) (masses-fit w M passes field salt) in
-      field-reads (fieldRecord (fieldKind w) (M .cells) field) w (M .cells) masses (field-kind-back (fieldKind w) (M .cells) field s) (field-cells-back (fieldKind w) (M .cells) field s)
+      field-reads (fieldRecord (fieldKind w) (M .cells) field) w (M .cells) masses (field-kind-back (fieldKind w) (M .cells) field s)
+      (field-cells-back (fieldKind w) (M .cells) field s)
       (n .some) (n .few-cells) (field-record-length (fieldKind w) (M .cells) field) l
 
   pub masses-read-back : massesIn (fieldRecord (fieldKind w) (M .cells) field) (M .cells) ≡ table (M .cells) (λ c. getD field c 0)
@@ -110,7 +114,8 @@ module _ (w : Width) (M : Mesh) (within : counts M ≡ fine) (passes : meshValue
   abbrev SR : List ℕ
   SR = stepRecord (kindNumber w kind) (M .cells) (M .faces) (M .seconds) (k .fluxes) (k .outsides) (k .releases)
 
-  fits : Fits (stepShape (kindNumber w kind) (M .cells) (M .faces) (M .seconds)) (stepValue (kindNumber w kind) (M .faces) (k .fluxes) (k .outsides) (k .releases))
+  fits : Fits (stepShape (kindNumber w kind) (M .cells) (M .faces) (M .seconds))
+      (stepValue (kindNumber w kind) (M .faces) (k .fluxes) (k .outsides) (k .releases))
   fits = step-fits w M passes field k outsides-pass fluxes-pass kind releases-pass (counted M within .few-faces)
 
   kind-back : kindIn SR ≡ kindNumber w kind
@@ -138,7 +143,8 @@ module _ (w : Width) (M : Mesh) (within : counts M ≡ fine) (passes : meshValue
   releases-read-back = releases-back (kindNumber w kind) (M .cells) (M .faces) (M .seconds) (k .fluxes) (k .outsides) (k .releases) fits
 
 -- A writing that answered a length: its causes found nothing, and the bytes up to that length are the record's.
-wrote : {v : Verdict} {N : ℕ} {rec bytes bytes′ : List ℕ} {r : WriteAnswer} {n : ℕ} → Writing v N rec bytes r bytes′ → writeSaid r ≡ accepted n → length rec ≡ N → (v ≡ fine) × (take n bytes′ ≡ rec)
+wrote : {v : Verdict} {N : ℕ} {rec bytes bytes′ : List ℕ} {r : WriteAnswer} {n : ℕ} → Writing v N rec bytes r bytes′ → writeSaid r ≡ accepted n → length rec ≡ N
+    → (v ≡ fine) × (take n bytes′ ≡ rec)
 unfolding over _andThen_
 wrote {v} {N} {rec} {bytes} {bytes′} {r} {n} done e len =
     let p = both-fine v (accepted N) (sym (done .answer) ∙ e) in
@@ -156,19 +162,24 @@ pub mesh-joined : (w : Width) (M : Mesh) {bytes bytes′ : List ℕ} {r : WriteA
     → (mostCells mostFaces : ℕ) {volumes firsts seconds shares reaches : List ℕ} {a : MeshAnswer} {volumes′ firsts′ seconds′ shares′ reaches′ : List ℕ}
     → countsWithin (min mostCells maxCells) (min mostFaces maxFaces) (M .cells) (M .faces) ≡ fine
     → M .cells ≤ length volumes → M .faces ≤ length firsts → M .faces ≤ length seconds → M .faces ≤ length shares → M .faces ≤ length reaches
-    → MeshReading (meshRead mostCells mostFaces (take n bytes′) (length volumes) (length firsts) (length seconds) (length shares) (length reaches)) (take n bytes′)
+    → MeshReading (meshRead mostCells mostFaces (take n bytes′) (length volumes) (length firsts) (length seconds) (length shares) (length reaches))
+    (take n bytes′)
     volumes firsts seconds shares reaches a volumes′ firsts′ seconds′ shares′ reaches′
     → (meshSaid a ≡ accepted (record { cells = M .cells; faces = M .faces; width = w }))
-    × (volumes′ ≡ over (table (M .cells) (volume M)) volumes) × (firsts′ ≡ over (table (M .faces) (first M)) firsts) × (seconds′ ≡ over (table (M .faces) (second M)) seconds)
+    × (volumes′ ≡ over (table (M .cells) (volume M)) volumes) × (firsts′ ≡ over (table (M .faces) (first M)) firsts)
+    × (seconds′ ≡ over (table (M .faces) (second M)) seconds)
     × (shares′ ≡ over (table (M .faces) (share M)) shares) × (reaches′ ≡ over (table (M .faces) (reach M)) reaches)
 unfolding meshLength
-mesh-joined w M {bytes} {bytes′} {r} {n} done e mostCells mostFaces {volumes} {firsts} {seconds} {shares} {reaches} {a} {volumes′} {firsts′} {seconds′} {shares′} {reaches′} limits lv lf ls lw lk read =
+mesh-joined w M {bytes} {bytes′} {r} {n} done e mostCells mostFaces {volumes} {firsts} {seconds} {shares} {reaches} {a} {volumes′} {firsts′} {seconds′}
+    {shares′} {reaches′} limits lv lf ls lw lk read =
     let v : meshWriteVerdict w M (length bytes) ≡ fine = both-fine _ _ (sym (done .answer) ∙ e) .0 in
     let p = mesh-causes w M (length bytes) v in
     let t = wrote done e (mesh-record-length (meshKind w) M (mesh-fits w M (p .0) (p .1))) .1 in
-    let back = mesh-read-back w M (p .0) (p .1) mostCells mostFaces (length volumes) (length firsts) (length seconds) (length shares) (length reaches) limits lv lf ls lw lk in
+    let back = mesh-read-back w M (p .0) (p .1) mostCells mostFaces (length volumes) (length firsts) (length seconds) (length shares) (length reaches) limits lv
+    lf ls lw lk in
     let same : MeshCounts = record { cells = M .cells; faces = M .faces; width = w } in
-    let q : MeshReading (accepted same) (meshRecord (meshKind w) M) volumes firsts seconds shares reaches a volumes′ firsts′ seconds′ shares′ reaches′ = rw back at (rw t at read) in (
+    let q : MeshReading (accepted same) (meshRecord (meshKind w) M) volumes firsts seconds shares reaches a volumes′ firsts′ seconds′ shares′ reaches′ =
+    rw back at (rw t at read) in (
       q .answer,
       q .volumes-read ∙ ap (λ xs. over xs volumes) (volumes-read-back w M (p .0) (p .1)),
       q .firsts-read ∙ ap (λ xs. over xs firsts) (firsts-read-back w M (p .0) (p .1)),
@@ -178,14 +189,16 @@ mesh-joined w M {bytes} {bytes′} {r} {n} done e mostCells mostFaces {volumes} 
     )
 
 -- A field.
-field-causes : (w : Width) (M : Mesh) (masses : List ℕ) (room : ℕ) → fieldWriteVerdict w M masses room ≡ fine → (counts M ≡ fine) × (meshValues (mostOf w) M ≡ fine) × (fieldValues M masses ≡ fine)
+field-causes : (w : Width) (M : Mesh) (masses : List ℕ) (room : ℕ) → fieldWriteVerdict w M masses room ≡ fine → (counts M ≡ fine)
+    × (meshValues (mostOf w) M ≡ fine) × (fieldValues M masses ≡ fine)
 unfolding fieldWriteVerdict
 field-causes w M masses room e =
     let a = both-fine _ _ e in
     let b = both-fine _ _ (a .0) in
     (both-fine _ _ (both-fine _ _ (both-fine _ _ (b .0) .0) .0) .0, b .1, a .1)
 
-pub field-joined : (w : Width) (M : Mesh) (field : List ℕ) {bytes bytes′ : List ℕ} {r : WriteAnswer} {n : ℕ} → FieldWriting w M field bytes r bytes′ → writeSaid r ≡ accepted n
+pub field-joined : (w : Width) (M : Mesh) (field : List ℕ) {bytes bytes′ : List ℕ} {r : WriteAnswer} {n : ℕ} → FieldWriting w M field bytes r bytes′
+    → writeSaid r ≡ accepted n
     → {masses masses′ : List ℕ} {a : Answer} → M .cells ≤ length masses
     → FieldReading (fieldRead w (M .cells) (take n bytes′) (length masses)) (M .cells) (take n bytes′) masses a masses′
     → (said a ≡ fine) × (masses′ ≡ over (table (M .cells) (massOf field)) masses)
@@ -200,7 +213,8 @@ field-joined w M field {bytes} {bytes′} {r} {n} done e {masses} {masses′} {a
 
 -- A step: its reader is lent the seconds that its writer was lent, and answers the kind that its writer was told.
 step-causes : (w : Width) (M : Mesh) (kind : ℕ) (fluxes : List ℤ) (outsides releases : List ℕ) (room : ℕ)
-    → stepWriteVerdict w M kind fluxes outsides releases room ≡ fine → let k = waterOf fluxes outsides releases in (counts M ≡ fine) × (meshValues (mostOf w) M ≡ fine)
+    → stepWriteVerdict w M kind fluxes outsides releases room ≡ fine → let k = waterOf fluxes outsides releases in (counts M ≡ fine)
+    × (meshValues (mostOf w) M ≡ fine)
     × (each 7 (M .faces) (outsideGood M [] k) ≡ fine) × (each 8 (M .faces) (fluxGood (mostOf w) M [] k) ≡ fine) × (releasesFit kind (M .cells) releases ≡ fine)
 unfolding stepWriteVerdict
 step-causes w M kind fluxes outsides releases room e =
@@ -241,7 +255,8 @@ over-nil {A} xs = let l : length {A = A} [] ≤ length xs = omega arith in ap (�
 
 -- Writing undoes reading. Nothing is asked of the values here: they fit their fields, from which they were read. A writer asks 3 to 8.
 module _ (bs : List ℕ) (bytes : (j : ℕ) → getD bs j 0 < 256) where
-  pub mesh-written-back : {n : MeshCounts} (mostCells mostFaces v f s w k : ℕ) → meshRead mostCells mostFaces bs v f s w k ≡ accepted n → meshRecord (kindIn bs) (meshIn bs) ≡ bs
+  pub mesh-written-back : {n : MeshCounts} (mostCells mostFaces v f s w k : ℕ) → meshRead mostCells mostFaces bs v f s w k ≡ accepted n
+      → meshRecord (kindIn bs) (meshIn bs) ≡ bs
   mesh-written-back mostCells mostFaces v f s w k e =
       rw (over-nil (volumesIn bs), over-nil (firstsIn bs), over-nil (secondsIn bs), over-nil (sharesIn bs), over-nil (reachesIn bs)) at
       (mesh-again bs bytes (mesh-passed mostCells mostFaces bs v f s w k e) [] [] [] [] [])
@@ -267,26 +282,31 @@ module _ (bs : List ℕ) (bytes : (j : ℕ) → getD bs j 0 < 256) where
       (sym d ∙ sym len ∙ ap length same, b ∙ ap (λ xs. over xs old) same)
 
   -- The reader's contract and the writer's, joined.
-  pub mesh-rejoined : (mostCells mostFaces : ℕ) {volumes firsts seconds shares reaches volumes′ firsts′ seconds′ shares′ reaches′ : List ℕ} {a : MeshAnswer} {n : MeshCounts}
+  pub mesh-rejoined : (mostCells mostFaces : ℕ) {volumes firsts seconds shares reaches volumes′ firsts′ seconds′ shares′ reaches′ : List ℕ} {a : MeshAnswer}
+      {n : MeshCounts}
       {old new : List ℕ} {r : WriteAnswer} {k : ℕ}
       → MeshReading (meshRead mostCells mostFaces bs (length volumes) (length firsts) (length seconds) (length shares) (length reaches)) bs
       volumes firsts seconds shares reaches a volumes′ firsts′ seconds′ shares′ reaches′
-      → meshSaid a ≡ accepted n → MeshWriting (n .width) (meshOf (n .cells) (n .faces) volumes′ firsts′ seconds′ shares′ reaches′) old r new → writeSaid r ≡ accepted k
+      → meshSaid a ≡ accepted n → MeshWriting (n .width) (meshOf (n .cells) (n .faces) volumes′ firsts′ seconds′ shares′ reaches′) old r new → writeSaid r
+      ≡ accepted k
       → (k ≡ length bs) × (new ≡ over bs old)
   unfolding meshLength
-  mesh-rejoined mostCells mostFaces {volumes} {firsts} {seconds} {shares} {reaches} {volumes′} {firsts′} {seconds′} {shares′} {reaches′} {a} {n} {old} {new} {r} {k} read told done e =
+  mesh-rejoined mostCells mostFaces {volumes} {firsts} {seconds} {shares} {reaches} {volumes′} {firsts′} {seconds′} {shares′} {reaches′} {a} {n} {old} {new} {r}
+      {k} read told done e =
       let came = sym (read .answer) ∙ told in
       let passed = mesh-passed mostCells mostFaces bs (length volumes) (length firsts) (length seconds) (length shares) (length reaches) came in
       let q : MeshReading (accepted n) bs volumes firsts seconds shares reaches a volumes′ firsts′ seconds′ shares′ reaches′ = rw came at read in
       let N : Mesh = meshOf (n .cells) (n .faces) volumes′ firsts′ seconds′ shares′ reaches′ in
       let kind : meshKind (n .width) ≡ kindIn bs = rw (passed .counts-are) (mesh-kind-is (kindIn bs) (passed .kind)) in
       let same : meshRecord (meshKind (n .width)) N ≡ bs =
-      rw (kind, passed .counts-are, q .volumes-read, q .firsts-read, q .seconds-read, q .shares-read, q .reaches-read) (mesh-again bs bytes passed volumes firsts seconds shares reaches) in
+      rw (kind, passed .counts-are, q .volumes-read, q .firsts-read, q .seconds-read, q .shares-read, q .reaches-read)
+      (mesh-again bs bytes passed volumes firsts seconds shares reaches) in
       let p = mesh-causes (n .width) N (length old) (both-fine _ _ (sym (done .answer) ∙ e) .0) in
       rewrote done e same (mesh-record-length (meshKind (n .width)) N (mesh-fits (n .width) N (p .0) (p .1)))
 
   pub field-rejoined : (w : Width) (M : Mesh) {masses masses′ : List ℕ} {a : Answer} {old new : List ℕ} {r : WriteAnswer} {k : ℕ}
-      → FieldReading (fieldRead w (M .cells) bs (length masses)) (M .cells) bs masses a masses′ → said a ≡ fine → FieldWriting w M masses′ old r new → writeSaid r ≡ accepted k
+      → FieldReading (fieldRead w (M .cells) bs (length masses)) (M .cells) bs masses a masses′ → said a ≡ fine → FieldWriting w M masses′ old r new
+      → writeSaid r ≡ accepted k
       → (k ≡ length bs) × (new ≡ over bs old)
   unfolding fieldLength
   field-rejoined w M {masses} {masses′} {a} {old} {new} {r} {k} read told done e =
@@ -299,7 +319,8 @@ module _ (bs : List ℕ) (bytes : (j : ℕ) → getD bs j 0 < 256) where
   -- the writer is told the width that the reader was told, and the kind that it answered
   pub step-rejoined : (w : Width) (M : Mesh) {us us′ : List ℤ} {xs xs′ ys ys′ : List ℕ} {a : StepRead} {n : ℕ} {old new : List ℕ} {r : WriteAnswer} {k : ℕ}
       → StepReading w (stepRead w (M .cells) (M .faces) (M .seconds) bs (length us) (length xs) (length ys))
-      (M .cells) (M .faces) (M .seconds) bs us xs ys a us′ xs′ ys′ → stepReadSaid w a ≡ accepted n → StepWriting w M n us′ xs′ ys′ old r new → writeSaid r ≡ accepted k
+      (M .cells) (M .faces) (M .seconds) bs us xs ys a us′ xs′ ys′ → stepReadSaid w a ≡ accepted n → StepWriting w M n us′ xs′ ys′ old r new → writeSaid r
+      ≡ accepted k
       → (k ≡ length bs) × (new ≡ over bs old)
   unfolding stepLength
   step-rejoined w M {us} {us′} {xs} {xs′} {ys} {ys′} {a} {n} {old} {new} {r} {k} read told done e =

@@ -68,7 +68,8 @@ mass-fits Wide m v some most h = omega (arith, div-lt-iff-lt-mul {k = v} {x = m}
 
 module _ (w : Width) (M : Mesh) (passes : meshValues (mostOf w) M ≡ fine) (field : List ℕ) (salt : fieldValues M field ≡ fine) where
   pub masses-fit : (c : ℕ) → c < M .cells → massOf field c < 2 ^ massBits (fieldKind w)
-  masses-fit c l = let v = volumes-within (mostOf w) M passes c l in rw (field-mass w) (mass-fits w (getD field c 0) (volume M c) (v .0) (v .1) (field-fit M field salt c l))
+  masses-fit c l = let v = volumes-within (mostOf w) M passes c l in
+      rw (field-mass w) (mass-fits w (getD field c 0) (volume M c) (v .0) (v .1) (field-fit M field salt c l))
 
 pub field-fits : (w : Width) (cells : ℕ) (masses : List ℕ) → cells ≤ maxCells → ((c : ℕ) → c < cells → massOf masses c < 2 ^ massBits (fieldKind w))
     → Fits (fieldShape (fieldKind w) cells) (fieldValue (fieldKind w) cells masses)
@@ -117,7 +118,8 @@ module _ (w : Width) (M : Mesh) (passes : meshValues (mostOf w) M ≡ fine) (fie
     (outsides-pass : each 7 (M .faces) (outsideGood M field k) ≡ fine) (fluxes-pass : each 8 (M .faces) (fluxGood (mostOf w) M field k) ≡ fine)
     (kind : StepKind) (releases-pass : releasesFit (kindNumber w kind) (M .cells) (k .releases) ≡ fine) where
   pub step-fits : M .faces ≤ maxFaces
-      → Fits (stepShape (kindNumber w kind) (M .cells) (M .faces) (M .seconds)) (stepValue (kindNumber w kind) (M .faces) (k .fluxes) (k .outsides) (k .releases))
+      → Fits (stepShape (kindNumber w kind) (M .cells) (M .faces) (M .seconds))
+      (stepValue (kindNumber w kind) (M .faces) (k .fluxes) (k .outsides) (k .releases))
   step-fits few zero zero i h = kind-fits w kind
   step-fits few zero (suc zero) i h = omega arith
   step-fits few zero (suc (suc zero)) i h = omega arith

@@ -46,7 +46,8 @@ mesh-whole w M e =
       enough = leb-true _ _ (need-fine 2 11 _ (b .1));
     }
 
-pub field-whole : (w : Width) (M : Mesh) (masses : List ℕ) {bs : List ℕ} → fieldWriteVerdict w M masses (length bs) ≡ fine → FieldWhole (fieldKind w) (M .cells) masses bs
+pub field-whole : (w : Width) (M : Mesh) (masses : List ℕ) {bs : List ℕ} → fieldWriteVerdict w M masses (length bs) ≡ fine
+    → FieldWhole (fieldKind w) (M .cells) masses bs
 unfolding fieldWriteVerdict
 field-whole w M masses e =
     let a = both-fine _ _ e in

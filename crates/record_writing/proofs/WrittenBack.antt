@@ -57,15 +57,18 @@ mesh-parts w M e = let p = all-fine (counts M ∷ meshTables M ∷ meshValues (m
 
 module _ (bs : List ℕ) (bytes : (j : ℕ) → getD bs j 0 < 256) where
   -- A MESH: 3 to 5.
-  pub mesh-written-again : (mostCells mostFaces : ℕ) {volumes firsts seconds shares reaches volumes′ firsts′ seconds′ shares′ reaches′ : List ℕ} {a : MeshAnswer} {n : MeshCounts}
+  pub mesh-written-again : (mostCells mostFaces : ℕ) {volumes firsts seconds shares reaches volumes′ firsts′ seconds′ shares′ reaches′ : List ℕ}
+      {a : MeshAnswer} {n : MeshCounts}
       {old new : List ℕ} {r : WriteAnswer}
       → MeshReading (meshRead mostCells mostFaces bs (length volumes) (length firsts) (length seconds) (length shares) (length reaches)) bs
       volumes firsts seconds shares reaches a volumes′ firsts′ seconds′ shares′ reaches′
-      → meshSaid a ≡ accepted n → meshValues (mostOf (n .width)) (meshOf (n .cells) (n .faces) volumes′ firsts′ seconds′ shares′ reaches′) ≡ fine → length bs ≤ length old
+      → meshSaid a ≡ accepted n → meshValues (mostOf (n .width))
+      (meshOf (n .cells) (n .faces) volumes′ firsts′ seconds′ shares′ reaches′) ≡ fine → length bs ≤ length old
       → MeshWriting (n .width) (meshOf (n .cells) (n .faces) volumes′ firsts′ seconds′ shares′ reaches′) old r new
       → (writeSaid r ≡ accepted (length bs)) × (new ≡ over bs old)
   unfolding meshBodyVerdict counts meshTables meshWriteVerdict meshLength volumesIn firstsIn secondsIn sharesIn reachesIn
-  mesh-written-again mostCells mostFaces {volumes} {firsts} {seconds} {shares} {reaches} {volumes′} {firsts′} {seconds′} {shares′} {reaches′} {a} {n} {old} {new} {r} read told values room w =
+  mesh-written-again mostCells mostFaces {volumes} {firsts} {seconds} {shares} {reaches} {volumes′} {firsts′} {seconds′} {shares′} {reaches′} {a} {n} {old}
+      {new} {r} read told values room w =
       let came = sym (read .answer) ∙ told in
       let says = read-says mostCells mostFaces bs (length volumes) (length firsts) (length seconds) (length shares) (length reaches) came in
       let lent = mesh-tables-say bs (length volumes) (length firsts) (length seconds) (length shares) (length reaches) (both-fine _ _ (says .body-fine) .0) in
@@ -81,8 +84,13 @@ module _ (bs : List ℕ) (bytes : (j : ℕ) → getD bs j 0 < 256) where
       let ok : meshWriteVerdict (n .width) N (length old) ≡ fine = fine-all (counts N ∷ meshTables N ∷ _ ∷ meshValues (mostOf (n .width)) N ∷ []) (
         rw (says .counts-are) (within (cellsIn bs) (facesIn bs) (says .head .some-cells) (says .head .few-cells) (says .head .few-faces)),
         (
-          rw (says .counts-are) (fine-all (_ ∷ _ ∷ _ ∷ _ ∷ _ ∷ [])
-              (need-met 2 0 (le-leb _ _ v), (need-met 2 1 (le-leb _ _ f), (need-met 2 2 (le-leb _ _ s), (need-met 2 3 (le-leb _ _ g), (need-met 2 4 (le-leb _ _ k), tt)))))),
+          rw (says .counts-are) (fine-all (_ ∷ _ ∷ _ ∷ _ ∷ _ ∷ []) (
+            need-met 2 0 (le-leb _ _ v),
+            (
+              need-met 2 1 (le-leb _ _ f),
+              (need-met 2 2 (le-leb _ _ s), (need-met 2 3 (le-leb _ _ g), (need-met 2 4 (le-leb _ _ k), tt))),
+            ),
+          )),
           (need-met 2 11 (le-leb _ _ long), (values, tt)),
         ),
       ) in
@@ -101,16 +109,19 @@ module _ (bs : List ℕ) (bytes : (j : ℕ) → getD bs j 0 < 256) where
       let lent = field-tables-say (M .cells) bs (length masses) (both-fine _ _ came .1) in
       let q : FieldReading fine (M .cells) bs masses a masses′ = rw came at read in
       let m : M .cells ≤ length masses′ = rw (q .masses-read) (filled-long _ _ masses (lent .masses-long)) in
-      let long : fieldLength (fieldKind w) (M .cells) ≤ length old = rw (← field-passed w (M .cells) bs (length masses) came .kind) (omega (arith, lent .same-length)) in
+      let long : fieldLength (fieldKind w) (M .cells) ≤ length old =
+      rw (← field-passed w (M .cells) bs (length masses) came .kind) (omega (arith, lent .same-length)) in
       let p = mesh-parts w M mesh-fine in
-      let ok : fieldWriteVerdict w M masses′ (length old) ≡ fine = fine-all (counts M ∷ meshTables M ∷ _ ∷ _ ∷ meshValues (mostOf w) M ∷ fieldValues M masses′ ∷ [])
+      let ok : fieldWriteVerdict w M masses′ (length old) ≡ fine =
+      fine-all (counts M ∷ meshTables M ∷ _ ∷ _ ∷ meshValues (mostOf w) M ∷ fieldValues M masses′ ∷ [])
       (p .0, (p .1, (need-met 2 5 (le-leb _ _ m), (need-met 2 11 (le-leb _ _ long), (p .2, (salt, tt)))))) in
       let e = answers done ok in
       let b = field-rejoined bs bytes w M read told done e in
       (rw (b .0) at e, b .1)
 
   -- a release that was read fits its field
-  release-read : (cells faces : ℕ) (seconds ys : List ℕ) (c : ℕ) → c < cells → ltb (getD (over (releasesIn bs cells faces seconds) ys) c 0) (2 ^ releaseBits (kindIn bs)) ≡ true
+  release-read : (cells faces : ℕ) (seconds ys : List ℕ) (c : ℕ) → c < cells
+      → ltb (getD (over (releasesIn bs cells faces seconds) ys) c 0) (2 ^ releaseBits (kindIn bs)) ≡ true
   unfolding releasesIn
   release-read cells faces seconds ys c h = rw (getD-over cells _ ys 0 c h)
       (lt-ltb _ _ (bits-lt bs (place (stepShape (kindIn bs) cells faces seconds) 3 0 c) (releaseBits (kindIn bs))))
@@ -119,7 +130,8 @@ module _ (bs : List ℕ) (bytes : (j : ℕ) → getD bs j 0 < 256) where
   pub step-written-again : (w : Width) (M : Mesh) {us us′ : List ℤ} {xs xs′ ys ys′ : List ℕ} {a : StepRead} {n : ℕ} {old new : List ℕ} {r : WriteAnswer}
       → StepReading w (stepRead w (M .cells) (M .faces) (M .seconds) bs (length us) (length xs) (length ys))
       (M .cells) (M .faces) (M .seconds) bs us xs ys a us′ xs′ ys′ → stepReadSaid w a ≡ accepted n
-      → meshWithin w M ≡ fine → each 7 (M .faces) (outsideGood M [] (waterOf us′ xs′ ys′)) ≡ fine → each 8 (M .faces) (fluxGood (mostOf w) M [] (waterOf us′ xs′ ys′)) ≡ fine
+      → meshWithin w M ≡ fine → each 7 (M .faces) (outsideGood M [] (waterOf us′ xs′ ys′)) ≡ fine
+      → each 8 (M .faces) (fluxGood (mostOf w) M [] (waterOf us′ xs′ ys′)) ≡ fine
       → length bs ≤ length old → StepWriting w M n us′ xs′ ys′ old r new
       → (writeSaid r ≡ accepted (length bs)) × (new ≡ over bs old)
   unfolding stepBodyVerdict stepWriteVerdict stepLength fluxesIn outsidesIn releasesIn
@@ -135,8 +147,20 @@ module _ (bs : List ℕ) (bytes : (j : ℕ) → getD bs j 0 < 256) where
       let fit : releasesFit n (M .cells) ys′ ≡ fine = rw (says .kind-is, q .releases-read)
       (fine-each 18 (M .cells) _ (λ c h. release-read (M .cells) (M .faces) (M .seconds) ys c h)) in
       let p = mesh-parts w M mesh-fine in
-      let ok : stepWriteVerdict w M n us′ xs′ ys′ (length old) ≡ fine = fine-all (counts M ∷ meshTables M ∷ _ ∷ _ ∷ _ ∷ _ ∷ meshValues (mostOf w) M ∷ _ ∷ _ ∷ _ ∷ [])
-      (p .0, (p .1, (need-met 2 6 (le-leb _ _ u), (need-met 2 7 (le-leb _ _ x), (need-met 2 11 (le-leb _ _ long), (need-met 2 14 (le-leb _ _ y), (p .2, (fit, (outside-fine, (flux-fine, tt)))))))))) in
+      let ok : stepWriteVerdict w M n us′ xs′ ys′ (length old) ≡ fine =
+      fine-all (counts M ∷ meshTables M ∷ _ ∷ _ ∷ _ ∷ _ ∷ meshValues (mostOf w) M ∷ _ ∷ _ ∷ _ ∷ []) (
+        p .0,
+        (
+          p .1,
+          (
+            need-met 2 6 (le-leb _ _ u),
+            (
+              need-met 2 7 (le-leb _ _ x),
+              (need-met 2 11 (le-leb _ _ long), (need-met 2 14 (le-leb _ _ y), (p .2, (fit, (outside-fine, (flux-fine, tt)))))),
+            ),
+          ),
+        ),
+      ) in
       let e = answers done ok in
       let b = step-rejoined bs bytes w M read told done e in
       (rw (b .0) at e, b .1)

@@ -31,7 +31,8 @@ module _ (w : Width) (M : Mesh) where
   MeshWriting bytes = Writing (meshWriteVerdict w M (length bytes)) (meshLength (meshKind w) (M .cells) (M .faces)) (meshRecord (meshKind w) M) bytes
 
   abbrev pub FieldWriting : List ℕ → List ℕ → WriteAnswer → List ℕ → Type 0
-  FieldWriting masses bytes = Writing (fieldWriteVerdict w M masses (length bytes)) (fieldLength (fieldKind w) (M .cells)) (fieldRecord (fieldKind w) (M .cells) masses) bytes
+  FieldWriting masses bytes = Writing (fieldWriteVerdict w M masses (length bytes)) (fieldLength (fieldKind w) (M .cells))
+      (fieldRecord (fieldKind w) (M .cells) masses) bytes
 
   abbrev pub StepWriting : (kind : ℕ) → List ℤ → List ℕ → List ℕ → List ℕ → WriteAnswer → List ℕ → Type 0
   StepWriting kind fluxes outsides releases bytes = Writing (stepWriteVerdict w M kind fluxes outsides releases (length bytes))

@@ -27,7 +27,8 @@ minus-is (suc (suc s)) u z l m = absurd (omega arith)
 pub minus-code : (bs : List ℕ) (at value : ℕ) {x : ℕ} → x ≡ bitsAt bs at (signBits + value)
     → eqb x (2 ^ value) ≡ (eqb (bitsAt bs at signBits) 1 && eqb (bitsAt bs (at + signBits) value) 0)
 minus-code bs at value e =
-    rw (e, bits-split bs at signBits value) (minus-is (bitsAt bs at signBits) (2 ^ value) (bitsAt bs (at + signBits) value) (bits-lt bs at signBits) (bits-lt bs (at + signBits) value))
+    rw (e, bits-split bs at signBits value) (minus-is (bitsAt bs at signBits) (2 ^ value) (bitsAt bs (at + signBits) value) (bits-lt bs at signBits)
+    (bits-lt bs (at + signBits) value))
 
 -- a search's turn with three faces
 none-of : (a b d : Bool) → (a || b || d) ≡ false → (a ≡ false) × (b ≡ false) × (d ≡ false)
@@ -42,7 +43,8 @@ module _ (bs : List ℕ) (value faces f : ℕ) (room : f + 2 < faces) where
   abbrev there : ℕ
   there = stepHeadBits + f * (signBits + value)
 
-  pub three-plain : {x : ℕ} → x ≡ bitsAt bs there (3 * (signBits + value)) → oneOfThree x (signBits + value) (2 ^ value) ≡ false → NoMinus bs value faces f → NoMinus bs value faces (f + 3)
+  pub three-plain : {x : ℕ} → x ≡ bitsAt bs there (3 * (signBits + value)) → oneOfThree x (signBits + value) (2 ^ value) ≡ false → NoMinus bs value faces f
+      → NoMinus bs value faces (f + 3)
   unfolding oneOfThree
   three-plain {x} e none before k l = go (decLt k f) (same? k f) (same? k (f + 1))
     where

@@ -28,7 +28,8 @@ not-one bs i n = go (same? (bitAt bs i) 1)
     go (other d) = omega (arith, bit-lt bs i)
 
 -- a scan's turn: one clear bit more
-pub clear-more : (bs : List ℕ) (from i : ℕ) {x : ℕ} → ((k : ℕ) → from ≤ k → k < i → bitAt bs k ≡ 0) → x ≡ bitsAt bs i 1 → (x ≡ 1 → ⊥) → (k : ℕ) → from ≤ k → k < i + 1 → bitAt bs k ≡ 0
+pub clear-more : (bs : List ℕ) (from i : ℕ) {x : ℕ} → ((k : ℕ) → from ≤ k → k < i → bitAt bs k ≡ 0) → x ≡ bitsAt bs i 1 → (x ≡ 1 → ⊥) → (k : ℕ) → from ≤ k
+    → k < i + 1 → bitAt bs k ≡ 0
 clear-more bs from i {x} before e n k l m = go (same? k i)
   where
     go : {b : Bool} → Same k i b → bitAt bs k ≡ 0
@@ -56,7 +57,8 @@ module _ {bs : List ℕ} {z h e : ℕ} {good : ℕ → Bool} (rule : Ruled bs z 
   head-hit {a} n m s l = scan-hit 12 good n a (omega arith) (fine-each 12 a good (head-good s)) refl (rule .head-set a (s .start) l (s .set l))
 
   -- or one of the fields
-  pub middle-hit : {a i : ℕ} (n : ℕ) → FirstSet bs (h - z) h a → h ≤ a → i < n → ((j : ℕ) → h ≤ j → j < i → good j ≡ true) → good i ≡ false → refused 12 i ≡ each 12 n good
+  pub middle-hit : {a i : ℕ} (n : ℕ) → FirstSet bs (h - z) h a → h ≤ a → i < n → ((j : ℕ) → h ≤ j → j < i → good j ≡ true) → good i ≡ false → refused 12 i
+      ≡ each 12 n good
   middle-hit {a} {i} n s m l before bad = scan-hit 12 good n i l (fine-each 12 i good (λ j k. go j k (decLt j h))) refl bad
     where
       go : (j : ℕ) → j < i → Dec (j < h) → good j ≡ true
@@ -72,11 +74,13 @@ module _ {bs : List ℕ} {z h e : ℕ} {good : ℕ → Bool} (rule : Ruled bs z 
       go (no f) (no g) = rule .tail-clear i (omega arith) (t .clear i (omega arith) l)
 
   -- or one of the padding
-  pub tail-hit : {a b : ℕ} (n : ℕ) → FirstSet bs (h - z) h a → h ≤ a → ((j : ℕ) → h ≤ j → j < e → good j ≡ true) → FirstSet bs e n b → b < n → refused 12 b ≡ each 12 n good
+  pub tail-hit : {a b : ℕ} (n : ℕ) → FirstSet bs (h - z) h a → h ≤ a → ((j : ℕ) → h ≤ j → j < e → good j ≡ true) → FirstSet bs e n b → b < n → refused 12 b
+      ≡ each 12 n good
   tail-hit {b = b} n s m fields t l = scan-hit 12 good n b l (fine-each 12 b good (up-to s m fields t)) refl (rule .tail-set b (t .start) (t .set l))
 
   -- or there is none
-  pub no-hit : {a b : ℕ} (n : ℕ) → FirstSet bs (h - z) h a → h ≤ a → ((j : ℕ) → h ≤ j → j < e → good j ≡ true) → FirstSet bs e n b → n ≤ b → fine ≡ each 12 n good
+  pub no-hit : {a b : ℕ} (n : ℕ) → FirstSet bs (h - z) h a → h ≤ a → ((j : ℕ) → h ≤ j → j < e → good j ≡ true) → FirstSet bs e n b → n ≤ b → fine
+      ≡ each 12 n good
   no-hit n s m fields t l = sym (fine-each 12 n good (λ i k. up-to s m fields t i (omega arith)))
 
 -- the rule of zero bits
@@ -124,7 +128,8 @@ module _ (bs : List ℕ) (z h e : ℕ) where
   }
 
 -- zero bits in the head and padding after the fields
-pub zeros-good : (fs : List Field) (z h e : ℕ) → z ≤ h → h ≤ e → widthOf fs ≡ e → bitsAt (packed fs) (h - z) z ≡ 0 → (i : ℕ) → zeroBitGood (packed fs) z h e i ≡ true
+pub zeros-good : (fs : List Field) (z h e : ℕ) → z ≤ h → h ≤ e → widthOf fs ≡ e → bitsAt (packed fs) (h - z) z ≡ 0 → (i : ℕ) → zeroBitGood (packed fs) z h e i
+    ≡ true
 zeros-good fs z h e k m width zeros i = go (decLt i (h - z)) (decLt i h) (decLt i e)
   where
     go : Dec (i < h - z) → Dec (i < h) → Dec (i < e) → zeroBitGood (packed fs) z h e i ≡ true
@@ -147,7 +152,8 @@ face-room b f faces n l h = omega (arith, mul-le-mul-right b l, suc-mul f b)
 
 -- the minus of size 0
 pub minus-at : (bs : List ℕ) (value faces f : ℕ) → f < faces
-    → minusZero bs value faces (stepHeadBits + f * (signBits + value)) ≡ (eqb (bitsAt bs (stepHeadBits + f * (signBits + value)) signBits) 1 && eqb (bitsAt bs (stepHeadBits + f * (signBits + value) + signBits) value) 0)
+    → minusZero bs value faces (stepHeadBits + f * (signBits + value))
+    ≡ (eqb (bitsAt bs (stepHeadBits + f * (signBits + value)) signBits) 1 && eqb (bitsAt bs (stepHeadBits + f * (signBits + value) + signBits) value) 0)
 unfolding minusZero
 minus-at bs value faces f l =
     let i : ℕ = stepHeadBits + f * (signBits + value) in
@@ -160,9 +166,11 @@ minus-at bs value faces f l =
 module _ (bs : List ℕ) (value faces r : ℕ) (plain : (f : ℕ) → f < r → minusZero bs value faces (stepHeadBits + f * (signBits + value)) ≡ false) where
   pub no-minus : (i : ℕ) → (i < stepHeadBits + r * (signBits + value)) ⊎ (stepHeadBits + faces * (signBits + value) ≤ i) → minusZero bs value faces i ≡ false
   unfolding minusZero
-  no-minus i where-it-is = go (leb stepHeadBits i) (fits? stepHeadBits i) (ltb i (stepHeadBits + faces * (signBits + value))) (fits? _ _) (eqb ((i - stepHeadBits) % (signBits + value)) 0) (same? _ _) where-it-is
+  no-minus i where-it-is = go (leb stepHeadBits i) (fits? stepHeadBits i) (ltb i (stepHeadBits + faces * (signBits + value))) (fits? _ _)
+      (eqb ((i - stepHeadBits) % (signBits + value)) 0) (same? _ _) where-it-is
     where
-      go : (a : Bool) → Fits stepHeadBits i a → (b : Bool) → Fits (suc i) (stepHeadBits + faces * (signBits + value)) b → (d : Bool) → Same ((i - stepHeadBits) % (signBits + value)) 0 d
+      go : (a : Bool) → Fits stepHeadBits i a → (b : Bool) → Fits (suc i) (stepHeadBits + faces * (signBits + value)) b → (d : Bool)
+          → Same ((i - stepHeadBits) % (signBits + value)) 0 d
           → (i < stepHeadBits + r * (signBits + value)) ⊎ (stepHeadBits + faces * (signBits + value) ≤ i)
           → (a && b && d && eqb (bitsAt bs i signBits) 1 && eqb (bitsAt bs (i + signBits) value) 0) ≡ false
       go false x b y d w q = refl
@@ -183,10 +191,12 @@ module _ (bs : List ℕ) (value faces e : ℕ) (l : stepHeadBits + faces * (sign
   past-signs i (inl m) = no-minus bs value faces 0 (λ f k. absurd (omega arith)) i (inl (omega arith))
   past-signs i (inr m) = no-minus bs value faces 0 (λ f k. absurd (omega arith)) i (inr m)
 
-  both : (i : ℕ) → zeroBitGood bs stepZeroBits stepHeadBits e i ≡ true → minusZero bs value faces i ≡ false → (zeroBitGood bs stepZeroBits stepHeadBits e i && not (minusZero bs value faces i)) ≡ true
+  both : (i : ℕ) → zeroBitGood bs stepZeroBits stepHeadBits e i ≡ true → minusZero bs value faces i ≡ false
+      → (zeroBitGood bs stepZeroBits stepHeadBits e i && not (minusZero bs value faces i)) ≡ true
   both i p q = rw (p, q)
 
-  zero : (i : ℕ) → zeroBitGood bs stepZeroBits stepHeadBits e i ≡ false → (zeroBitGood bs stepZeroBits stepHeadBits e i && not (minusZero bs value faces i)) ≡ false
+  zero : (i : ℕ) → zeroBitGood bs stepZeroBits stepHeadBits e i ≡ false → (zeroBitGood bs stepZeroBits stepHeadBits e i && not (minusZero bs value faces i))
+      ≡ false
   zero i p = rw p
 
   pub step-ruled : Ruled bs stepZeroBits stepHeadBits e (λ i. zeroBitGood bs stepZeroBits stepHeadBits e i && not (minusZero bs value faces i))
@@ -201,16 +211,22 @@ module _ (bs : List ℕ) (value faces e : ℕ) (l : stepHeadBits + faces * (sign
       }
 
   -- up to the first minus of size 0 the fields are good, and at its sign they are not
-  pub fluxes-good : {r : ℕ} → FirstMinus bs value faces r → (j : ℕ) → stepHeadBits ≤ j → j < stepHeadBits + r * (signBits + value) → (zeroBitGood bs stepZeroBits stepHeadBits e j && not (minusZero bs value faces j)) ≡ true
-  fluxes-good {r} m j h k = both j (bit-used bs stepZeroBits stepHeadBits e j (inr h) (omega (arith, mul-le-mul-right (signBits + value) (m .end)))) (no-minus bs value faces r (m .plain) j (inl k))
+  pub fluxes-good : {r : ℕ} → FirstMinus bs value faces r → (j : ℕ) → stepHeadBits ≤ j → j < stepHeadBits + r * (signBits + value)
+      → (zeroBitGood bs stepZeroBits stepHeadBits e j && not (minusZero bs value faces j)) ≡ true
+  fluxes-good {r} m j h k = both j (bit-used bs stepZeroBits stepHeadBits e j (inr h) (omega (arith, mul-le-mul-right (signBits + value) (m .end))))
+      (no-minus bs value faces r (m .plain) j (inl k))
 
   pub sign-bad : {r : ℕ} → FirstMinus bs value faces r → r < faces
-      → (zeroBitGood bs stepZeroBits stepHeadBits e (stepHeadBits + r * (signBits + value)) && not (minusZero bs value faces (stepHeadBits + r * (signBits + value)))) ≡ false
+      → (zeroBitGood bs stepZeroBits stepHeadBits e (stepHeadBits + r * (signBits + value))
+      && not (minusZero bs value faces (stepHeadBits + r * (signBits + value)))) ≡ false
   sign-bad {r} m k = rw (m .minus k) (and-false (zeroBitGood bs stepZeroBits stepHeadBits e (stepHeadBits + r * (signBits + value))))
 
-  pub all-good : {r : ℕ} → FirstMinus bs value faces r → faces ≤ r → (j : ℕ) → stepHeadBits ≤ j → j < e → (zeroBitGood bs stepZeroBits stepHeadBits e j && not (minusZero bs value faces j)) ≡ true
-  all-good {r} m k j h n = both j (bit-used bs stepZeroBits stepHeadBits e j (inr h) n) (no-minus bs value faces r (m .plain) j (either (decLt j (stepHeadBits + faces * (signBits + value)))))
+  pub all-good : {r : ℕ} → FirstMinus bs value faces r → faces ≤ r → (j : ℕ) → stepHeadBits ≤ j → j < e
+      → (zeroBitGood bs stepZeroBits stepHeadBits e j && not (minusZero bs value faces j)) ≡ true
+  all-good {r} m k j h n = both j (bit-used bs stepZeroBits stepHeadBits e j (inr h) n)
+      (no-minus bs value faces r (m .plain) j (either (decLt j (stepHeadBits + faces * (signBits + value)))))
     where
-      either : Dec (j < stepHeadBits + faces * (signBits + value)) → (j < stepHeadBits + r * (signBits + value)) ⊎ (stepHeadBits + faces * (signBits + value) ≤ j)
+      either : Dec (j < stepHeadBits + faces * (signBits + value))
+          → (j < stepHeadBits + r * (signBits + value)) ⊎ (stepHeadBits + faces * (signBits + value) ≤ j)
       either (yes q) = inl (omega (arith, mul-le-mul-right (signBits + value) k))
       either (no f) = inr (omega arith)

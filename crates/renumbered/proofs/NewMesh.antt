@@ -40,7 +40,11 @@ module _ (M M′ : Mesh) (few : M .cells ≤ rim) (fine-values : meshValues ceil
       × (first M′ (face .new f) ≢ second M′ (face .new f))
   new-ends f l true (turned d p q) =
       let h = fit .second-in f l d in
-      rw (p, q) (cell .new-in _ h, (λ n. cell .new-in _ (fit .first-in f l)), λ e. fit .apart f l (sym (new-one (second M f) (first M f) h (fit .first-in f l) e)))
+      rw (p, q) (
+        cell .new-in _ h,
+        (λ n. cell .new-in _ (fit .first-in f l)),
+        λ e. fit .apart f l (sym (new-one (second M f) (first M f) h (fit .first-in f l) e)),
+      )
   new-ends f l false (straight p q) =
       let at = at-second (atRim M f) (same? (second M f) rim) in
       rw (p, q) (cell .new-in _ (fit .first-in f l), at .0, at .1)

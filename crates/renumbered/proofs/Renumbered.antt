@@ -24,7 +24,8 @@ use Rattle.renumbered.proofs.TwoSteps.{lent, Meshes, Calls, mesh-passes
 
 -- what a step leaves, and what an accepted one leaves in the counted entries
 pub next-is : (s : Scheme) (M : Mesh) (k : Call) (field : List ℕ)
-    → nextTable s M k field ≡ taken (s .finds M field k) (over (table (M .cells) (updated M (mass (inputOf M field k)) (s .moves M field k))) (k .nexts)) (k .nexts)
+    → nextTable s M k field ≡ taken (s .finds M field k) (over (table (M .cells) (updated M (mass (inputOf M field k)) (s .moves M field k))) (k .nexts))
+    (k .nexts)
 unfolding nextTable
 next-is s M k field = refl
 

@@ -308,7 +308,8 @@ module _ (mesh : List ℕ) (cell : Renumbering (cellsIn mesh)) (face : Renumberi
     reads-anew = record {
       mesh-accepted = mesh-judged;
       field-reads = rw (width-anew, cells-read-back w M′ within passes) field-anew-reads;
-      step-reads = ap (λ (v : Width). stepRecordFound v (meshIn (meshAnew mesh cell face turns)) R) width-anew ∙ ap (λ (N : Mesh). stepRecordFound w N R) mesh-held ∙ step-found;
+      step-reads = ap (λ (v : Width). stepRecordFound v (meshIn (meshAnew mesh cell face turns)) R) width-anew
+          ∙ ap (λ (N : Mesh). stepRecordFound w N R) mesh-held ∙ step-found;
     };
     mesh-kind = mesh-kind-anew ∙ mesh-kind-same;
     field-kind = field-kind-back (fieldKind w) (M .cells) (newField mesh cell face turns field) field-anew-fits ∙ sym field-kind-is;

@@ -131,7 +131,8 @@ module _ (mesh : List ℕ) (cell : Renumbering (cellsIn mesh)) (face : Renumberi
         go (accepted t) e = refl
         go (refused i j) e = let z : _≡_ {A = ℕ} 0 1 = cc in absurd (omega arith)
 
-    bytes-anew : hostBytes mesh′ field′ step′ lent′ ≡ over (fieldAnew mesh cell face turns (take (fieldLength (fieldKind w) n) (hostBytes mesh field step lent))) lent′
+    bytes-anew : hostBytes mesh′ field′ step′ lent′ ≡ over (fieldAnew mesh cell face turns
+        (take (fieldLength (fieldKind w) n) (hostBytes mesh field step lent))) lent′
     unfolding hostBytes
     bytes-anew = rw (fine-anew, width-same)
         (ap (λ (bs : List ℕ). over bs lent′)

@@ -65,7 +65,8 @@ module _ (w : Width) (M : Mesh) where
   unfolding stepsPrinted
   from-step most step b masses masses′ input bs rest text p a r s m e =
       ap (λ (x : List ℕ). stepText step (stepComesTo w M masses x)
-      ++ cond (goesOnAfter (stepComesTo w M masses x)) (stepsPrinted w M most (step + 1) (fieldThen w M masses x) (following x (b ∷ input))) (boardPrinted M (fieldThen w M masses x))) a
+      ++ cond (goesOnAfter (stepComesTo w M masses x)) (stepsPrinted w M most (step + 1) (fieldThen w M masses x) (following x (b ∷ input)))
+      (boardPrinted M (fieldThen w M masses x))) a
       ∙ ap (λ (o : Outcome Printed). stepText step o ++ cond (goesOnAfter o)
       (stepsPrinted w M most (step + 1) (fieldThen w M masses bs) (following bs (b ∷ input)))
       (boardPrinted M (fieldThen w M masses bs))) s
@@ -131,7 +132,8 @@ blank-long n x = length-replicate n x
 
 mesh-long : (N : Mesh) → length (N .volumes) ≤ runCells → length (N .firsts) ≤ runFaces → length (N .seconds) ≤ runFaces → length (N .shares) ≤ runFaces
     → length (N .reaches) ≤ runFaces
-    → inTurn (long 0 (N .cells) runCells ∷ long 1 (N .faces) runFaces ∷ long 2 (N .faces) runFaces ∷ long 3 (N .faces) runFaces ∷ long 4 (N .faces) runFaces ∷ []) ≡ fine
+    → inTurn (long 0 (N .cells) runCells ∷ long 1 (N .faces) runFaces ∷ long 2 (N .faces) runFaces ∷ long 3 (N .faces) runFaces ∷ long 4 (N .faces) runFaces
+    ∷ []) ≡ fine
     → meshTables (inTables N) ≡ fine
 unfolding meshTables
 mesh-long N v a b s k e =
@@ -162,7 +164,8 @@ over-field xs ys e = ap (λ (t : List ℕ). xs ++ t) (rw e (drop-append-seam ys 
 
 -- a step with none of its causes
 verdict-fine : (M : Mesh) (field : List ℕ) (call : Call) → counts M ≡ fine → meshTables M ≡ fine → fieldTable M field ≡ fine → stepTables M field call ≡ fine
-    → meshValues ceiling M ≡ fine → fieldValues M field ≡ fine → raisedValues M field call ≡ fine → stepValues ceiling M field call ≡ fine → verdict M field call ≡ fine
+    → meshValues ceiling M ≡ fine → fieldValues M field ≡ fine → raisedValues M field call ≡ fine → stepValues ceiling M field call ≡ fine
+    → verdict M field call ≡ fine
 unfolding verdict _andThen_
 verdict-fine M field call c t f k m s r w = rw (c, t, f, k, m, s, r, w)
 
@@ -197,7 +200,8 @@ unfolding volumesIn firstsIn secondsIn sharesIn reachesIn massesIn fluxesIn outs
 of-values = tt
 
 of-reading : Unit {0}
-unfolding meshHeadVerdict fieldHeadVerdict stepHeadVerdict meshMeasured meshNeeds fieldNeeds stepNeeds meshBodyVerdict fieldBodyVerdict stepBodyVerdict fieldRead
+unfolding meshHeadVerdict fieldHeadVerdict stepHeadVerdict meshMeasured meshNeeds fieldNeeds stepNeeds meshBodyVerdict fieldBodyVerdict stepBodyVerdict
+    fieldRead
 of-reading = tt
 
 of-board : Unit {0}
@@ -376,10 +380,12 @@ unfolding everything
 step-values₂ = refl
 
 verdict₁ : verdict M field₀ call ≡ fine
-verdict₁ = verdict-fine M field₀ call counts-fine mesh-tables (field-table 100000 0 0) (step-tables field₀) mesh-values field-values₁ raised-values₁ step-values₁
+verdict₁ = verdict-fine M field₀ call counts-fine mesh-tables (field-table 100000 0 0) (step-tables field₀) mesh-values field-values₁ raised-values₁
+    step-values₁
 
 verdict₂ : verdict M field₁ call ≡ fine
-verdict₂ = verdict-fine M field₁ call counts-fine mesh-tables (field-table 100099 49901 0) (step-tables field₁) mesh-values field-values₂ raised-values₂ step-values₂
+verdict₂ = verdict-fine M field₁ call counts-fine mesh-tables (field-table 100099 49901 0) (step-tables field₁) mesh-values field-values₂ raised-values₂
+    step-values₂
 
 next₁ : table 3 (next S₁) ≡ 100099 ∷ 49901 ∷ 0 ∷ []
 unfolding everything
@@ -445,7 +451,8 @@ lines =
     let steps = channelStep ++ channelStep in
     let last = board-last Narrow M 29 3 field₂ ∙ board-is in
     let step₂ = step-printed Narrow M channelStep call read-fine call-is field₁ field₂ _ verdict₂ printed₂ moves₂ 30 2 48 _ [] _ (step-at []) refl last in
-    let step₁ = step-printed Narrow M channelStep call read-fine call-is field₀ field₁ _ verdict₁ printed₁ moves₁ 31 1 48 _ channelStep _ (step-at channelStep) refl step₂ in
+    let step₁ = step-printed Narrow M channelStep call read-fine call-is field₀ field₁ _ verdict₁ printed₁ moves₁ 31 1 48 _ channelStep _ (step-at channelStep)
+    refl step₂ in
     let first = ap (λ (ms : List ℕ). stepsPrinted Narrow M 32 1 (inTable runCells ms) (channelStep ++ channelStep)) field-is ∙ step₁ in
     let field = from-field Narrow M (channelField ++ steps) channelField steps _ 100000 field-front refl field-said first in
     from-mesh channelInput channelMesh (channelField ++ steps) _ _ mesh-front refl mesh-said
@@ -576,7 +583,8 @@ water-length = refl
 
 water-at : stepAt Wide strait (straitStep ++ straitOutfall) ≡ straitStep
 unfolding of-bits
-water-at = step-front Wide strait 112 1 0 0 14 (drop 4 straitStep ++ straitOutfall) (step-needs Wide strait (take 4 straitStep) 7 14 water-head water-kind water-length)
+water-at = step-front Wide strait 112 1 0 0 14 (drop 4 straitStep ++ straitOutfall)
+    (step-needs Wide strait (take 4 straitStep) 7 14 water-head water-kind water-length)
 
 water-body : stepBodyVerdict 1 2 (strait .seconds) straitStep runFaces runFaces runCells ≡ fine
 unfolding everything
@@ -616,7 +624,8 @@ outfall-length = refl
 
 outfall-at : stepAt Wide strait straitOutfall ≡ straitOutfall
 unfolding of-bits
-outfall-at = step-front Wide strait 128 1 0 0 19 (drop 4 straitOutfall) (step-needs Wide strait (take 4 straitOutfall) 8 19 outfall-head outfall-kind outfall-length)
+outfall-at = step-front Wide strait 128 1 0 0 19 (drop 4 straitOutfall)
+    (step-needs Wide strait (take 4 straitOutfall) 8 19 outfall-head outfall-kind outfall-length)
 
 outfall-body : stepBodyVerdict 1 2 (strait .seconds) straitOutfall runFaces runFaces runCells ≡ fine
 unfolding everything
@@ -660,12 +669,14 @@ strait-field-table m = field-long strait (m ∷ []) (omega arith) refl
 
 water-verdict : verdict strait strait₀ water ≡ fine
 unfolding everything
-water-verdict = verdict-fine strait strait₀ water strait-counts strait-tables (strait-field-table 4294967296) (strait-step-tables strait₀ 0) strait-values refl refl refl
+water-verdict = verdict-fine strait strait₀ water strait-counts strait-tables (strait-field-table 4294967296) (strait-step-tables strait₀ 0) strait-values refl
+    refl refl
 
 outfall-verdict : verdict strait strait₁ outfall ≡ fine
 unfolding everything
 outfall-verdict =
-    verdict-fine strait strait₁ outfall strait-counts strait-tables (strait-field-table 41673487296) (strait-step-tables strait₁ 5000000000) strait-values refl refl refl
+    verdict-fine strait strait₁ outfall strait-counts strait-tables (strait-field-table 41673487296) (strait-step-tables strait₁ 5000000000) strait-values refl
+    refl refl
 
 water-printed : printedOf strait strait₀ water ≡ record { entered = 40000000000; gone = 2621480000; total = 41673487296; released = 0 }
 unfolding everything
@@ -700,9 +711,11 @@ strait-printed =
     let steps = straitStep ++ straitOutfall in
     let last = board-last Wide strait 30 3 strait₂ ∙ strait-board in
     let found₂ = step-found Wide strait straitOutfall outfall-headed outfall-body in
-    let step₂ = step-printed Wide strait straitOutfall outfall found₂ outfall-call strait₁ strait₂ _ outfall-verdict outfall-printed outfall-moves 31 2 128 _ [] _ outfall-at refl last in
+    let step₂ = step-printed Wide strait straitOutfall outfall found₂ outfall-call strait₁ strait₂ _ outfall-verdict outfall-printed outfall-moves 31 2 128 _ []
+    _ outfall-at refl last in
     let found₁ = step-found Wide strait straitStep water-headed water-body in
-    let step₁ = step-printed Wide strait straitStep water found₁ water-call strait₀ strait₁ _ water-verdict water-printed water-moves 32 1 112 _ straitOutfall _ water-at refl step₂ in
+    let step₁ = step-printed Wide strait straitStep water found₁ water-call strait₀ strait₁ _ water-verdict water-printed water-moves 32 1 112 _ straitOutfall _
+    water-at refl step₂ in
     let first = ap (λ (ms : List ℕ). stepsPrinted Wide strait 33 1 (inTable runCells ms) steps) strait-field-is ∙ step₁ in
     let field = from-field Wide strait (straitField ++ steps) straitField steps _ 4294967296 strait-field-front refl strait-field-said first in
     from-mesh straitInput straitMesh (straitField ++ steps) _ _ strait-mesh-front refl strait-mesh-said

@@ -54,7 +54,8 @@ field-in-room w cells bs n l e =
     rw record-is (omega (arith, q, bytes-most (fieldBits (fieldKind w) cells), mul-le-mul l (mass-most (fieldKind w))))
 
 -- a release has the width of a mass, or none
-pub step-in-room : (w : Width) (cells faces : ℕ) (seconds bs : List ℕ) (n : ℕ) → cells ≤ runCells → faces ≤ runFaces → stepNeeds w cells faces seconds bs ≡ accepted n → n ≤ recordBytes
+pub step-in-room : (w : Width) (cells faces : ℕ) (seconds bs : List ℕ) (n : ℕ) → cells ≤ runCells → faces ≤ runFaces → stepNeeds w cells faces seconds bs
+    ≡ accepted n → n ≤ recordBytes
 unfolding stepNeeds stepLength
 step-in-room w cells faces seconds bs n k l e =
     let p = both-fine _ _ e .1 in

@@ -22,7 +22,8 @@ module _ {lent bytes : List ℕ} {r : ℕ} (wide : length lent ≡ lineBytes) wh
   held : (text : List ℕ) → length text ≤ lineBytes → Puts lent 0 text r bytes → Counts r bytes × (take r bytes ≡ text)
   held text h p = (counts _ _ (within lent p), all-there lent p (omega arith))
 
-  pub refusal-held : (letter number place : ℕ) → Puts lent 0 (refusalLine letter number place) r bytes → Counts r bytes × (take r bytes ≡ refusalLine letter number place)
+  pub refusal-held : (letter number place : ℕ) → Puts lent 0 (refusalLine letter number place) r bytes → Counts r bytes
+      × (take r bytes ≡ refusalLine letter number place)
   refusal-held letter number place = held (refusalLine letter number place) (omega (arith, refusal-fits letter number place))
 
   pub step-held : (step entered gone total released : ℕ) → Puts lent 0 (stepLine step entered gone total released) r bytes
@@ -33,7 +34,8 @@ module _ {lent bytes : List ℕ} {r : ℕ} (wide : length lent ≡ lineBytes) wh
       (simp length-append
       (omega (arith, length-word step space, length-word entered space, length-word gone space, length-word total space, length-word released newline)))
 
-  pub refused-step-held : (step number place : ℕ) → Puts lent 0 (refusedStepLine step number place) r bytes → Counts r bytes × (take r bytes ≡ refusedStepLine step number place)
+  pub refused-step-held : (step number place : ℕ) → Puts lent 0 (refusedStepLine step number place) r bytes → Counts r bytes
+      × (take r bytes ≡ refusedStepLine step number place)
   unfolding refusedStepLine
   refused-step-held step number place =
       held (refusedStepLine step number place) (rw length-append (omega (arith, length-word step space, refusal-fits letterR number place)))
@@ -41,4 +43,5 @@ module _ {lent bytes : List ℕ} {r : ℕ} (wide : length lent ≡ lineBytes) wh
   pub board-held : (cell q rest : ℕ) → Puts lent 0 (boardLine cell q rest) r bytes → Counts r bytes × (take r bytes ≡ boardLine cell q rest)
   unfolding boardLine
   board-held cell q rest =
-      held (boardLine cell q rest) (simp length-append (omega (arith, length-mark letterB, length-word cell space, length-word q space, length-word rest newline)))
+      held (boardLine cell q rest) (simp length-append (omega
+      (arith, length-mark letterB, length-word cell space, length-word q space, length-word rest newline)))

@@ -51,8 +51,10 @@ module _ (head : ℕ) (needs : List ℕ → Outcome ℕ) where
   unfolding recordAt
   is-read {input} r =
       let n = length (take head input) in
-      let all : n + r .more ≡ n + stillNeeded (needs (take head input)) n = ap (λ (k : ℕ). n + k) (r .rest ∙ ap (λ (o : Outcome ℕ). stillNeeded o n) (r .asked)) in
-      r .read ∙ ap (λ (t : List ℕ). t ++ take (r .more) (drop n input)) (sym (take-counted head input)) ∙ sym (take-add n (r .more) input) ∙ ap (λ (k : ℕ). take k input) all
+      let all : n + r .more ≡ n + stillNeeded (needs (take head input)) n = ap (λ (k : ℕ). n + k) (r .rest ∙ ap (λ (o : Outcome ℕ). stillNeeded o n) (r .asked))
+      in
+      r .read ∙ ap (λ (t : List ℕ). t ++ take (r .more) (drop n input)) (sym (take-counted head input)) ∙ sym (take-add n (r .more) input)
+      ∙ ap (λ (k : ℕ). take k input) all
 
   some-byte : (b : ℕ) (bs : List ℕ) → 0 < head → 0 < length (recordAt head needs (b ∷ bs))
   unfolding recordAt
@@ -93,7 +95,8 @@ module _ (w : Width) (M : Mesh) where
   open Mesh M using (cells)
 
   -- one step: its line, and then what its answer leads to
-  module _ (step : ℕ) (masses masses′ bs : List ℕ) (r : StepTaken) (line : Line) (t : StepTaking w M masses bs r masses′) (h : Holds line (stepTakenLine step r)) where
+  module _ (step : ℕ) (masses masses′ bs : List ℕ) (r : StepTaken) (line : Line) (t : StepTaking w M masses bs r masses′)
+      (h : Holds line (stepTakenLine step r)) where
     one-step : (out : List ℕ) (b : Bool) → b ≡ goesOn r → (more last : List ℕ) → out ≡ cond b more last
         → countedBytes line ++ out ≡ stepText step (stepComesTo w M masses bs) ++ cond (goesOnAfter (stepComesTo w M masses bs)) more last
     one-step out b g more last e =
@@ -130,7 +133,8 @@ module _ (w : Width) (M : Mesh) where
   steps-printed {step} {masses} {input} (step-ends {masses′ = masses′} {out = out} bs r line g s t h e p) (suc most) l =
       let q = is-read _ _ g in
       let t′ : StepTaking w M masses (stepAt w M input) r masses′ = rw q at t in
-      one-step step masses masses′ (stepAt w M input) r line t′ h out false e _ _ (board-printed M p ∙ ap (boardPrinted M) (t′ .masses-after)) ∙ turn most step masses input (rw q at s)
+      one-step step masses masses′ (stepAt w M input) r line t′ h out false e _ _ (board-printed M p ∙ ap (boardPrinted M) (t′ .masses-after))
+      ∙ turn most step masses input (rw q at s)
   steps-printed {input = input} (step-goes-on bs r line g s t h e p) zero l = absurd (omega (arith, no-longer headBytes needs input, rw (is-read _ _ g) at s))
   steps-printed {step} {masses} {input} (step-goes-on {masses′ = masses′} {out = out} bs r line g s t h e p) (suc most) l =
       let q = is-read _ _ g in
@@ -153,8 +157,10 @@ module _ (w : Width) (M : Mesh) where
       let held : masses ≡ inTable runCells (massesIn (fieldAt w M input) cells) = rw (q, cells-long, v .0) at (t .masses-after) in
       let rest = steps-printed p (length (drop (length bs) input)) (omega arith) in
       ap (λ (x : List ℕ). x ++ out) (h .1)
-      ∙ ap (λ (x : List ℕ). stepLine 0 0 0 sum 0 ++ x) (rest ∙ ap (λ (x : List ℕ). stepsPrinted w M (length (drop (length bs) input)) 1 x (drop (length bs) input)) held
-      ∙ ap (λ (x : List ℕ). stepsPrinted w M (length (drop (length x) input)) 1 (inTable runCells (massesIn (fieldAt w M input) cells)) (drop (length x) input)) q)
+      ∙ ap (λ (x : List ℕ). stepLine 0 0 0 sum 0 ++ x) (rest
+      ∙ ap (λ (x : List ℕ). stepsPrinted w M (length (drop (length bs) input)) 1 x (drop (length bs) input)) held
+      ∙ ap (λ (x : List ℕ). stepsPrinted w M (length (drop (length x) input)) 1 (inTable runCells (massesIn (fieldAt w M input) cells)) (drop (length x) input))
+      q)
       ∙ ap (λ (o : Outcome ℕ). fromField w M o (inTable runCells (massesIn (fieldAt w M input) cells)) (following (fieldAt w M input) input)) said
 
 -- What the program prints is what the definition says of the bytes that it reads.

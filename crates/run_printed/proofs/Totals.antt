@@ -41,7 +41,8 @@ module _ (w : Width) (M : Mesh) (masses masses′ bs : List ℕ) (r : StepTaken)
         let m : masses′ ≡ over (table (M .cells) (next S)) masses = t .masses-after ∙ rw ok in
         sum-cong (M .cells) (massIn masses′) (next S) (λ c h. rw m (getD-over (M .cells) (next S) masses 0 c h))
 
-  one-closes : (o : Outcome Printed) → takenSaid r ≡ o → (os : List (Outcome Printed)) → Close (total M (massIn masses′)) os → Close (total M (massIn masses)) (o ∷ os)
+  one-closes : (o : Outcome Printed) → takenSaid r ≡ o → (os : List (Outcome Printed)) → Close (total M (massIn masses′)) os
+      → Close (total M (massIn masses)) (o ∷ os)
   one-closes (accepted p) e os rest =
       let a = accepted-of (stepJudged w M masses bs) (printedOf M masses (stepIn M bs)) p (sym e ∙ t .answer) in
       rw (a .1) (budget (a .0), rw (left-total (a .0)) at rest)

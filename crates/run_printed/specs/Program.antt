@@ -1,5 +1,6 @@
 -- What the run program does, call by call. Each fact is the contract of the call that run/src, run_session/src or run_intake/src makes at
--- that place; the order is the program's. Of reading and writing no contract can speak: it is taken here that a read gives the next bytes of the input, fewer only where
+-- that place; the order is the program's. Of reading and writing no contract can speak: it is taken here that a read gives the next bytes of the input, fewer
+-- only where
 -- it ends, and that a write prints what it is lent.
 use Prim.Native.Nat.{ℕ, _+_, _<_}
 use mathlib.Core.Path.{_≡_}
@@ -76,11 +77,14 @@ pub data FieldPrints (w : Width) (M : Mesh) (input : List ℕ) : List ℕ → Ty
 
 -- `main`: the mesh, in tables of zeros; refused, it has the only line.
 pub data Prints (input : List ℕ) : List ℕ → Type 0 where
-  mesh-refused : (bs volumes firsts seconds shares reaches : List ℕ) (refusal : Refusal) (line : Line) → ReadIn (bytesFor meshHeadBits) (meshNeeds runCells runFaces) input bs
+  mesh-refused : (bs volumes firsts seconds shares reaches : List ℕ) (refusal : Refusal) (line : Line)
+      → ReadIn (bytesFor meshHeadBits) (meshNeeds runCells runFaces) input bs
       → MeshTaking bs (table runCells (λ i. 0)) (table runFaces (λ i. 0)) (table runFaces (λ i. 0)) (table runFaces (λ i. 0)) (table runFaces (λ i. 0))
       (mesh.Refused refusal) volumes firsts seconds shares reaches
       → Holds line (refusedText letterM refusal) → Prints input (countedBytes line)
-  mesh-accepted : {out : List ℕ} (bs volumes firsts seconds shares reaches : List ℕ) (counts : MeshCounts) → ReadIn (bytesFor meshHeadBits) (meshNeeds runCells runFaces) input bs
+  mesh-accepted : {out : List ℕ} (bs volumes firsts seconds shares reaches : List ℕ) (counts : MeshCounts)
+      → ReadIn (bytesFor meshHeadBits) (meshNeeds runCells runFaces) input bs
       → MeshTaking bs (table runCells (λ i. 0)) (table runFaces (λ i. 0)) (table runFaces (λ i. 0)) (table runFaces (λ i. 0)) (table runFaces (λ i. 0))
       (mesh.Read counts) volumes firsts seconds shares reaches
-      → FieldPrints (counts .width) (meshOf (counts .cells) (counts .faces) volumes firsts seconds shares reaches) (drop (length bs) input) out → Prints input out
+      → FieldPrints (counts .width) (meshOf (counts .cells) (counts .faces) volumes firsts seconds shares reaches) (drop (length bs) input) out → Prints
+      input out

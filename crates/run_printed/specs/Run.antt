@@ -51,7 +51,8 @@ boardLines (e ∷ es) = boardLine (e .cell) (e .q) (e .rest) ++ boardLines es
 
 module _ (M : Mesh) where
   unfoldable pub boardPrinted : List ℕ → List ℕ
-  boardPrinted masses = taken (boardVerdict (M .volumes) masses (M .cells)) (boardLines (map (entryAt (M .volumes) masses) (listed (M .volumes) masses (M .cells)))) []
+  boardPrinted masses = taken (boardVerdict (M .volumes) masses (M .cells))
+      (boardLines (map (entryAt (M .volumes) masses) (listed (M .volumes) masses (M .cells)))) []
 
 module _ (w : Width) (M : Mesh) where
   -- THE STEPS, until no byte is left. A refused one is numbered too, and moves nothing; 11 and 13 end the run. The board comes last.
@@ -73,14 +74,16 @@ module _ (w : Width) (M : Mesh) where
 
   -- THE FIELD. Refused, it has the only line; else its total is the line of step 0.
   abbrev pub fieldSaid : List ℕ → Outcome ℕ
-  fieldSaid bs = fieldJudged w (M .cells) (M .volumes) bs runCells andThen accepted (total (cellsOnly (M .cells) (M .volumes)) (massIn (massesIn bs (M .cells))))
+  fieldSaid bs = fieldJudged w (M .cells) (M .volumes) bs runCells
+      andThen accepted (total (cellsOnly (M .cells) (M .volumes)) (massIn (massesIn bs (M .cells))))
 
   abbrev pub fromField : Outcome ℕ → List ℕ → List ℕ → List ℕ
   fromField (accepted sum) masses input = stepLine 0 0 0 sum 0 ++ stepsPrinted (length input) 1 masses input
   fromField (refused i j) masses input = refusalLine letterF i j
 
   unfoldable pub fieldPrinted : List ℕ → List ℕ
-  fieldPrinted input = fromField (fieldSaid (fieldAt w M input)) (inTable runCells (massesIn (fieldAt w M input) (M .cells))) (following (fieldAt w M input) input)
+  fieldPrinted input = fromField (fieldSaid (fieldAt w M input)) (inTable runCells (massesIn (fieldAt w M input) (M .cells)))
+      (following (fieldAt w M input) input)
 
 -- THE MESH. Refused, it has the only line.
 abbrev pub inTables : Mesh → Mesh

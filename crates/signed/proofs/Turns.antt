@@ -63,19 +63,22 @@ turn-quot false a n = refl
 turn-quot true a n = neg-quot a n
 
 -- what passes forward at one end and back at the other is the same where ends and amount are turned
-pub turn-passes : (t s r : Bool) (z : ℤ) → cond (cond t r s) (forward (turn t z)) 0 + cond (cond t s r) (backward (turn t z)) 0 ≡ cond s (forward z) 0 + cond r (backward z) 0
+pub turn-passes : (t s r : Bool) (z : ℤ) → cond (cond t r s) (forward (turn t z)) 0 + cond (cond t s r) (backward (turn t z)) 0
+    ≡ cond s (forward z) 0 + cond r (backward z) 0
 turn-passes false s r z = refl
 turn-passes true s r z = rw (forward-turned z, backward-turned z) (omega arith)
 
 -- an amount carries what is at the end that it comes from, n at the first and b at the second
-pub turn-carries : (t : Bool) (z : ℤ) (n b : ℕ) → turn t z *ℤ pos (cond (isNegative (turn t z)) (cond t n b) (cond t b n)) ≡ turn t (z *ℤ pos (cond (isNegative z) b n))
+pub turn-carries : (t : Bool) (z : ℤ) (n b : ℕ) → turn t z *ℤ pos (cond (isNegative (turn t z)) (cond t n b) (cond t b n))
+    ≡ turn t (z *ℤ pos (cond (isNegative z) b n))
 turn-carries false z n b = refl
 turn-carries true (pos zero) n b = rw (zero-mul b, zero-mul n)
 turn-carries true (pos (suc m)) n b = refl
 turn-carries true (negsuc m) n b = sym (neg-withSign (suc m * b))
 
 -- of an amount that is not 0
-pub turn-negative : (t : Bool) (z : ℤ) {A : Type 0} (a b : A) → isZero z ≡ false → cond (isNegative (turn t z)) (cond t b a) (cond t a b) ≡ cond (isNegative z) a b
+pub turn-negative : (t : Bool) (z : ℤ) {A : Type 0} (a b : A) → isZero z ≡ false → cond (isNegative (turn t z)) (cond t b a) (cond t a b)
+    ≡ cond (isNegative z) a b
 turn-negative false z a b e = refl
 turn-negative true (pos zero) a b e = let y : _≡_ {A = ℕ} 0 1 = cc in absurd (omega arith)
 turn-negative true (pos (suc n)) a b e = refl

@@ -109,7 +109,8 @@ one-out true true u o q n = sym (zero-mul n)
 one-out true false u o q n = refl
 one-out false p u o q n = refl
 
-module _ (S : StepInput) (r : Ready S) (f : ℕ) (h : f < S .mesh .faces) (entered gone : ℕ) (next work : List ℕ) (moved : List ℤ) (s : CarriedTo S f entered gone next moved work) where
+module _ (S : StepInput) (r : Ready S) (f : ℕ) (h : f < S .mesh .faces) (entered gone : ℕ) (next work : List ℕ) (moved : List ℤ)
+    (s : CarriedTo S f entered gone next moved work) where
   open StepInput S using (mesh as M)
 
   -- the concentrations that pass 2 reads in work, and what the face carries by them
@@ -218,13 +219,15 @@ module _ (S : StepInput) (r : Ready S) (f : ℕ) (h : f < S .mesh .faces) (enter
   entered-more : (amount : ℕ) → amount ≡ size through → entered + adds-in amount ≡ inMassTo S (f + 1)
   entered-more amount e =
       let piece : adds-in amount ≡ cond (eqb (second M f) rim) (backward (flux S f) * outside S f) 0 =
-      rw (e, size-withSign, backward-is (flux S f)) (one-in (eqb (second M f) rim) negative (size (flux S f)) (outside S f) (ofCell work (second M f) 0) near) in
+      rw (e, size-withSign, backward-is (flux S f)) (one-in (eqb (second M f) rim) negative (size (flux S f)) (outside S f) (ofCell work (second M f) 0) near)
+      in
       omega (arith, s .entered-is, sum-more f (λ g. cond (atRim M g) (backward (flux S g) * outside S g) 0))
 
   gone-more : (amount : ℕ) → amount ≡ size through → gone + adds-out amount ≡ outMassTo S (f + 1)
   gone-more amount e =
       let piece : adds-out amount ≡ cond (eqb (second M f) rim) (forward (flux S f) * concentration S (first M f)) 0 =
-      rw (e, size-withSign, forward-is (flux S f), ← near-is) (one-out (eqb (second M f) rim) negative (size (flux S f)) (outside S f) (ofCell work (second M f) 0) near) in
+      rw (e, size-withSign, forward-is (flux S f), ← near-is)
+      (one-out (eqb (second M f) rim) negative (size (flux S f)) (outside S f) (ofCell work (second M f) 0) near) in
       omega (arith, s .gone-is, sum-more f (λ g. cond (atRim M g) (forward (flux S g) * concentration S (first M g)) 0))
 
   -- the sums stay within the words
@@ -247,9 +250,12 @@ module _ (S : StepInput) (r : Ready S) (f : ℕ) (h : f < S .mesh .faces) (enter
   )
 
   -- what the face has done, of the values that the code has read
-  module _ (p : Bool) (u a b amount : ℕ) (p-is : p ≡ negative) (u-is : u ≡ size (flux S f)) (a-is : a ≡ near) (b-is : b ≡ far) (next′ work′ : List ℕ) (moved′ : List ℤ)
-      (d : FaceDone f (first M f) (second M f) (share M f) (reach M f) a b (M .cells) amount (withSign p u) (withSign p (u * cond p b a)) next next′ moved moved′ work work′) where
-    there : FaceDone f (first M f) (second M f) (share M f) (reach M f) near far (M .cells) amount (withSign negative (size (flux S f))) through next next′ moved moved′ work work′
+  module _ (p : Bool) (u a b amount : ℕ) (p-is : p ≡ negative) (u-is : u ≡ size (flux S f)) (a-is : a ≡ near) (b-is : b ≡ far) (next′ work′ : List ℕ)
+      (moved′ : List ℤ)
+      (d : FaceDone f (first M f) (second M f) (share M f) (reach M f) a b (M .cells) amount (withSign p u) (withSign p (u * cond p b a)) next next′ moved
+      moved′ work work′) where
+    there : FaceDone f (first M f) (second M f) (share M f) (reach M f) near far (M .cells) amount (withSign negative (size (flux S f))) through next next′
+        moved moved′ work work′
     there = rw (p-is, u-is, a-is, b-is) at d
 
     in-is : (i : ℕ) → i ≡ cond (eqb (second M f) rim) (cond p amount 0) 0 → entered + i ≡ inMassTo S (f + 1)
@@ -287,7 +293,8 @@ module _ (S : StepInput) (r : Ready S) (f : ℕ) (h : f < S .mesh .faces) (enter
       flowing = flow-turn M (carried S) (mass S) f h next (s .flowing) next′ (rw through-is at (there .flowed));
       moved-long = rw (there .carries) (length-set moved f _ ∙ s .moved-long);
       moved-at = rw (there .carries, through-is) (below-more (λ g. getD (set moved f (carried S f)) g (pos 0) ≡ carried S g) f
-          (λ g l. getD-set-other moved f g (carried S f) (pos 0) (λ (e : g ≡ f). omega arith) ∙ s .moved-at g l) (getD-set-same moved f (carried S f) (pos 0) (rw (s .moved-long) h)));
+          (λ g l. getD-set-other moved f g (carried S f) (pos 0) (λ (e : g ≡ f). omega arith) ∙ s .moved-at g l)
+          (getD-set-same moved f (carried S f) (pos 0) (rw (s .moved-long) h)));
       work-long = rw worked (length-set widened (4 * M .cells + f) code ∙ widened-long ∙ s .work-long);
       q-at = λ c l. rw worked (face-slot widened (M .cells) f code c 0 refl l ∙ widened-q c l);
       lo-at = λ c l. rw worked (face-slot widened (M .cells) f code c 1 refl l ∙ widened-lo c l);

@@ -32,7 +32,8 @@ module _ (w : List ℕ) (a q c : ℕ) (h : 4 * a + 3 < length w) where
 
   pub widened-lo : ofCell (widened w a q) c 1 ≡ cond (eqb a c) (min (ofCell w c 1) q) (ofCell w c 1)
   unfolding widened
-  widened-lo = slot-set first-set a 2 (max (ofCell w a 2) q) c 1 refl refl long ∙ slot-set w a 1 (min (ofCell w a 1) q) c 1 refl refl h ∙ go (eqb a c) (same? a c)
+  widened-lo = slot-set first-set a 2 (max (ofCell w a 2) q) c 1 refl refl long ∙ slot-set w a 1 (min (ofCell w a 1) q) c 1 refl refl h
+      ∙ go (eqb a c) (same? a c)
     where
       go : (b : Bool) → Same a c b → cond b (min (ofCell w a 1) q) (ofCell w c 1) ≡ cond b (min (ofCell w c 1) q) (ofCell w c 1)
       go true (same e) = rw e
@@ -40,7 +41,8 @@ module _ (w : List ℕ) (a q c : ℕ) (h : 4 * a + 3 < length w) where
 
   pub widened-hi : ofCell (widened w a q) c 2 ≡ cond (eqb a c) (max (ofCell w c 2) q) (ofCell w c 2)
   unfolding widened
-  widened-hi = slot-set first-set a 2 (max (ofCell w a 2) q) c 2 refl refl long ∙ rw (slot-set w a 1 (min (ofCell w a 1) q) c 2 refl refl h) (go (eqb a c) (same? a c))
+  widened-hi = slot-set first-set a 2 (max (ofCell w a 2) q) c 2 refl refl long
+      ∙ rw (slot-set w a 1 (min (ofCell w a 1) q) c 2 refl refl h) (go (eqb a c) (same? a c))
     where
       go : (b : Bool) → Same a c b → cond b (max (ofCell w a 2) q) (ofCell w c 2) ≡ cond b (max (ofCell w c 2) q) (ofCell w c 2)
       go true (same e) = rw e
@@ -103,7 +105,8 @@ module _ (w : List ℕ) (l k a b : ℕ) where
 -- how a cell's own entry goes: v is the entry, m the least or the greatest of two
 abbrev met : (ℕ → ℕ → ℕ) → ℕ → ℕ → ℕ → ℤ → ℕ → ℕ → ℕ → ℕ
 met m v l k z a b c =
-    cond (isZero z) v (cond (eqb k rim) (cond (isNegative z) (cond (eqb l c) (m v b) v) v) (cond (eqb k c) (m (cond (eqb l c) (m v b) v) a) (cond (eqb l c) (m v b) v)))
+    cond (isZero z) v (cond (eqb k rim) (cond (isNegative z) (cond (eqb l c) (m v b) v) v)
+    (cond (eqb k c) (m (cond (eqb l c) (m v b) v) a) (cond (eqb l c) (m v b) v)))
 
 module _ (w : List ℕ) (l k : ℕ) (z : ℤ) (a b c : ℕ) (in-l : 4 * l + 3 < length w) (in-k : k ≢ rim → 4 * k + 3 < length w) where
   in-second : k ≢ rim → 4 * k + 3 < length (widened w l b)

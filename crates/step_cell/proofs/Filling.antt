@@ -69,7 +69,8 @@ module _ (w : List ℕ) (p l g n : ℕ → ℕ) where
   pub filling-start : Filling w p l g n 0 w
   filling-start = record { same-length = refl; at = below-none _; kept = λ k h. refl }
 
-  pub filling-turn : (i : ℕ) (work work′ : List ℕ) → 4 * i + 3 < length w → Filling w p l g n i work → work′ ≡ filled work i (p i) (l i) (g i) (n i) → Filling w p l g n (i + 1) work′
+  pub filling-turn : (i : ℕ) (work work′ : List ℕ) → 4 * i + 3 < length w → Filling w p l g n i work → work′ ≡ filled work i (p i) (l i) (g i) (n i)
+      → Filling w p l g n (i + 1) work′
   filling-turn i work work′ h s e =
       let long : 4 * i + 3 < length work = rw (s .same-length) h in
       rw e (record {

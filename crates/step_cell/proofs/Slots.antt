@@ -20,7 +20,8 @@ same-slot a i c j s t = go (eqb i j) (same? i j) (eqb a c) (same? a c)
     go true (same p) false (other d) = ne-eqb (4 * a + i) (4 * c + j) (λ (e : 4 * a + i ≡ 4 * c + j). d (omega arith))
     go false (other d) y q = ne-eqb (4 * a + i) (4 * c + j) (λ (e : 4 * a + i ≡ 4 * c + j). d (omega (arith, leb-true i 3 s, leb-true j 3 t)))
 
-pub slot-set : (w : List ℕ) (a i v c j : ℕ) → leb i 3 ≡ true → leb j 3 ≡ true → 4 * a + 3 < length w → ofCell (set w (4 * a + i) v) c j ≡ cond (eqb i j && eqb a c) v (ofCell w c j)
+pub slot-set : (w : List ℕ) (a i v c j : ℕ) → leb i 3 ≡ true → leb j 3 ≡ true → 4 * a + 3 < length w → ofCell (set w (4 * a + i) v) c j
+    ≡ cond (eqb i j && eqb a c) v (ofCell w c j)
 slot-set w a i v c j s t h = rw (← same-slot a i c j s t) (getD-set w (4 * a + i) (4 * c + j) v 0 (omega (arith, leb-true i 3 s)))
 
 -- cells and faces do not touch each other's entries

@@ -19,7 +19,8 @@ abbrev pub back : ℕ → ℕ → ℕ → ℕ → Bool
 back a b tk half = cond (ltb b a) (leb half tk) (ltb tk half)
 
 -- the product of three numbers by their signs and sizes, over 256 k
-product : (p q r : Bool) (u d w k : ℕ) → quotZ (withSign p u *ℤ withSign q d *ℤ withSign r w) (pos k) ≡ withSign (cond (cond p (not q) q) (not r) r) (u * d * w / k)
+product : (p q r : Bool) (u d w k : ℕ) → quotZ (withSign p u *ℤ withSign q d *ℤ withSign r w) (pos k)
+    ≡ withSign (cond (cond p (not q) q) (not r) r) (u * d * w / k)
 product p q r u d w k = rw (mul-withSign p q u d, mul-withSign (cond p (not q) q) r (u * d) w) (quot-withSign (cond (cond p (not q) q) (not r) r) (u * d * w) k)
 
 none : (u w k : ℕ) → u * 0 * w / k ≡ 0
@@ -30,7 +31,8 @@ gap-turned a b = omega arith
 
 -- the sign of the product, where a and b differ or the size is 0 anyway
 signs : (p : Bool) (u a b x y k : ℕ)
-    → withSign (cond (cond p (not (ltb (cond p a b) (cond p b a))) (ltb (cond p a b) (cond p b a))) (not (ltb x y)) (ltb x y)) (u * gap (cond p a b) (cond p b a) * gap x y / k)
+    → withSign (cond (cond p (not (ltb (cond p a b) (cond p b a))) (ltb (cond p a b) (cond p b a))) (not (ltb x y)) (ltb x y))
+    (u * gap (cond p a b) (cond p b a) * gap x y / k)
     ≡ withSign (back a b x y) (u * gap a b * gap x y / k)
 signs false u a b x y k = rw (gap-turned a b) (go (ltb b a) (ltb x y) refl)
   where
@@ -54,14 +56,19 @@ signs true u a b x y k = go (ltb a b) (ltb b a) (ltb x y) refl refl refl
 by-sign : (p : Bool) (u a b x y k : ℕ)
     → quotZ (withSign p u *ℤ (pos (cond p a b) -ℤ pos (cond p b a)) *ℤ (pos x -ℤ pos y)) (pos k) ≡ withSign (back a b x y) (u * gap a b * gap x y / k)
 by-sign p u a b x y k =
-    rw (diff-withSign (cond p a b) (cond p b a), diff-withSign x y, product p (ltb (cond p a b) (cond p b a)) (ltb x y) u (gap (cond p a b) (cond p b a)) (gap x y) k)
+    rw (
+      diff-withSign (cond p a b) (cond p b a),
+      diff-withSign x y,
+      product p (ltb (cond p a b) (cond p b a)) (ltb x y) u (gap (cond p a b) (cond p b a)) (gap x y) k,
+    )
     (signs p u a b x y k)
 
 no-amount : (g h k : ℕ) (b : Bool) → withSign b (0 * g * h / k) ≡ pos 0
 no-amount g h k b = rw (zero-mul g, zero-mul h, zero-div k) (withSign-zero b)
 
 pub correction-is : (p : Bool) (u a b s k : ℕ)
-    → correctionOf (withSign p u) a b s k ≡ withSign (back a b (cond p (256 - s) s * k) (128 * u)) (u * gap a b * gap (cond p (256 - s) s * k) (128 * u) / (256 * k))
+    → correctionOf (withSign p u) a b s k ≡ withSign (back a b (cond p (256 - s) s * k) (128 * u))
+    (u * gap a b * gap (cond p (256 - s) s * k) (128 * u) / (256 * k))
 unfolding correctionOf
 correction-is false u a b s k = by-sign false u a b (s * k) (128 * u) (256 * k)
 correction-is true zero a b s k = by-sign false 0 a b (s * k) (128 * 0) (256 * k)

@@ -9,7 +9,8 @@ use Rattle.lists.proofs.Sums.{sum-zero, sum-more, sum-term}
 use Rattle.model.specs.Mesh.{Mesh, first, second, entering, leaving, incoming, outgoing, updated}
 use Rattle.step_face.specs.Exchange.{brings, takes, Transferred, Flowing}
 
-pub flow-start : (M : Mesh) (x : ℕ → ℤ) (m : ℕ → ℕ) (next : List ℕ) → length next ≡ M .cells → ((c : ℕ) → c < M .cells → getD next c 0 ≡ m c) → Flowing M x m 0 next
+pub flow-start : (M : Mesh) (x : ℕ → ℤ) (m : ℕ → ℕ) (next : List ℕ) → length next ≡ M .cells → ((c : ℕ) → c < M .cells → getD next c 0 ≡ m c)
+    → Flowing M x m 0 next
 flow-start M x m next e h = record { long = e; at = λ c l. omega (arith, h c l, sum-zero (leaving M x c), sum-zero (entering M x c)) }
 
 module _ (M : Mesh) (x : ℕ → ℤ) (m : ℕ → ℕ) (f : ℕ) (h : f < M .faces) (next : List ℕ) (s : Flowing M x m f next) where
@@ -17,7 +18,8 @@ module _ (M : Mesh) (x : ℕ → ℤ) (m : ℕ → ℕ) (f : ℕ) (h : f < M .fa
   unfolding outgoing leaving
   flow-afford afford c l = omega (arith, s .at c l, sum-term f (M .faces) (leaving M x c) h, afford c l)
 
-  pub flow-room : ((c : ℕ) → c < M .cells → m c + incoming M x c < 2 ^ 64) → (c : ℕ) → c < M .cells → getD next c 0 + brings (first M f) (second M f) (x f) c < 2 ^ 64
+  pub flow-room : ((c : ℕ) → c < M .cells → m c + incoming M x c < 2 ^ 64) → (c : ℕ) → c < M .cells
+      → getD next c 0 + brings (first M f) (second M f) (x f) c < 2 ^ 64
   unfolding incoming entering
   flow-room room c l = omega (arith, s .at c l, sum-term f (M .faces) (entering M x c) h, room c l)
 

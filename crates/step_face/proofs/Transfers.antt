@@ -55,7 +55,8 @@ one-lost xs g n h = record { same-length = length-set xs g _; at = λ c l. less-
 pub one-gained : (xs : List ℕ) (r n : ℕ) → (r < length xs) × (getD xs r 0 + n < 2 ^ 64) → Gained xs r n (set xs r (getD xs r 0 + n))
 one-gained xs r n h = record { same-length = length-set xs r _; at = λ c l. more-at xs r n c (h .0) }
 
-pub transferred : (xs : List ℕ) (l k : ℕ) (p : Bool) (n : ℕ) (ys zs : List ℕ) → Lost xs (cond p k l) n ys → Gained ys (cond p l k) n zs → Transferred xs l k (withSign p n) zs
+pub transferred : (xs : List ℕ) (l k : ℕ) (p : Bool) (n : ℕ) (ys zs : List ℕ) → Lost xs (cond p k l) n ys → Gained ys (cond p l k) n zs
+    → Transferred xs l k (withSign p n) zs
 transferred xs l k p n ys zs t u = record {
   same-length = u .same-length ∙ t .same-length;
   at = λ c h. omega (arith, u .at c (rw (t .same-length) h), t .at c h, brings-is p l k n c, takes-is p l k n c);
@@ -78,7 +79,8 @@ transferred-in xs l n ys few t = transferred xs l rim true n xs ys (none-lost xs
 pub affords-out : (xs : List ℕ) (l k n : ℕ) → l < length xs → ((c : ℕ) → c < length xs → takes l k (withSign false n) c ≤ getD xs c 0) → n ≤ getD xs l 0
 affords-out xs l k n h afford = omega (arith, takes-is false l k n l, own l n, afford l h)
 
-pub has-room-in : (xs : List ℕ) (l k n : ℕ) → l < length xs → ((c : ℕ) → c < length xs → getD xs c 0 + brings l k (withSign true n) c < 2 ^ 64) → getD xs l 0 + n < 2 ^ 64
+pub has-room-in : (xs : List ℕ) (l k n : ℕ) → l < length xs → ((c : ℕ) → c < length xs → getD xs c 0 + brings l k (withSign true n) c < 2 ^ 64)
+    → getD xs l 0 + n < 2 ^ 64
 has-room-in xs l k n h room = omega (arith, brings-is true l k n l, own l n, room l h)
 
 module _ (xs : List ℕ) (l k : ℕ) (p : Bool) (n : ℕ) (ends : EndsIn (length xs) l k)

@@ -28,7 +28,13 @@ use Rattle.step_smoothing.proofs.CorrectionLaws.{code, size-is, inside, enters-
 
 pub limited-start : (M : Mesh) (work next : List ℕ) (moved : List ℤ) → length next ≡ M .cells → Limited M work next moved 0 next moved
 limited-start M work next moved e =
-    record { flowing = flow-start M (limitedIn M work) (λ c. getD next c 0) next e (λ c h. refl); moved-long = refl; moved-at = below-none _; moved-rest = λ g h. refl }
+    record {
+      flowing = flow-start M (limitedIn M work) (λ c. getD next c 0) next e (λ c h. refl);
+      moved-long = refl;
+      moved-at = below-none _;
+      moved-rest =
+          λ g h. refl;
+    }
 
 -- of a face without a correction nothing is asked and nothing moves
 pub no-cut : (f l k code : ℕ) (work next : List ℕ) (moved : List ℤ) → code / 2 ≡ 0 → CutDone f l k code work next next moved moved
@@ -44,8 +50,10 @@ no-cut f l k code work next moved e = record {
     either g false o = refl
 
 -- a correction cut
-pub cut-done : (f l k code : ℕ) (work next next′ : List ℕ) (moved moved′ : List ℤ) (n : ℕ) → code / 2 ≢ 0 → n ≡ cutOf work code (enters code l k) (leaves code l k) → f < length moved
-    → Transferred next l k (withSign (eqb (code % 2) 1) n) next′ → moved′ ≡ set moved f (getD moved f (pos 0) +ℤ withSign (eqb (code % 2) 1) n) → CutDone f l k code work next next′ moved moved′
+pub cut-done : (f l k code : ℕ) (work next next′ : List ℕ) (moved moved′ : List ℤ) (n : ℕ) → code / 2 ≢ 0 → n
+    ≡ cutOf work code (enters code l k) (leaves code l k) → f < length moved
+    → Transferred next l k (withSign (eqb (code % 2) 1) n) next′ → moved′ ≡ set moved f (getD moved f (pos 0) +ℤ withSign (eqb (code % 2) 1) n)
+    → CutDone f l k code work next next′ moved moved′
 unfolding limitedOf
 cut-done f l k code work next next′ moved moved′ n d e h t q =
     let z-is : limitedOf work code l k ≡ withSign (eqb (code % 2) 1) n = rw (ne-eqb (code / 2) 0 d, e) in
@@ -87,14 +95,20 @@ module _ (M : Mesh) (work next₀ : List ℕ) (moved₀ : List ℤ) (asks : Limi
   lim-is = go (eqb (k / 2) 0) (same? (k / 2) 0)
     where
       go : (b : Bool) → Same (k / 2) 0 b → limitedIn M work f ≡ cond b (pos 0) (withSign (eqb (k % 2) 1) (cutOf work k to from))
-      go true (same e) = limited-zero M _ _ (corrections (M .cells) work) f (size-zero (corrections (M .cells) work f) (size-is M work (asks .coded-in) f h ∙ e))
+      go true (same e) = limited-zero M _ _ (corrections (M .cells) work) f
+          (size-zero (corrections (M .cells) work f) (size-is M work (asks .coded-in) f h ∙ e))
       go false (other d) = cut-is d
 
   afford : (c : ℕ) → c < M .cells → outgoing M (limitedIn M work) c ≤ getD next₀ c 0
   afford c l = le-trans (outgoing-limited M _ _ (corrections (M .cells) work) c) (asks .loss-most c l)
 
   room : (c : ℕ) → c < M .cells → getD next₀ c 0 + incoming M (limitedIn M work) c < 2 ^ 64
-  room c l = omega (arith, incoming-limited M (λ c. ofCell work c 2) (λ c. ofCell work c 1) (corrections (M .cells) work) c, asks .gain-most c l, asks .next-most c l)
+  room c l = omega (
+    arith,
+    incoming-limited M (λ c. ofCell work c 2) (λ c. ofCell work c 1) (corrections (M .cells) work) c,
+    asks .gain-most c l,
+    asks .next-most c l,
+  )
 
   slots-in : {c : ℕ} → c < M .cells → 4 * c + 3 < length work
   slots-in {c} l = cell-in c (M .cells) (M .faces) (length work) l (asks .coded-in .work-long)
@@ -112,7 +126,8 @@ module _ (M : Mesh) (work next₀ : List ℕ) (moved₀ : List ℤ) (asks : Limi
     room = rw (← lim-is, s .flowing .long) (flow-room M (limitedIn M work) (λ c. getD next₀ c 0) f h next (s .flowing) room);
   }
 
-  pub limited-turn : (next′ : List ℕ) (moved′ : List ℤ) → CutDone f (first M f) (second M f) k work next next′ moved moved′ → Limited M work next₀ moved₀ (f + 1) next′ moved′
+  pub limited-turn : (next′ : List ℕ) (moved′ : List ℤ) → CutDone f (first M f) (second M f) k work next next′ moved moved′
+      → Limited M work next₀ moved₀ (f + 1) next′ moved′
   limited-turn next′ moved′ d = record {
     flowing = flow-turn M (limitedIn M work) (λ c. getD next₀ c 0) f h next (s .flowing) next′ (rw lim-is (d .flowed));
     moved-long = d .moved-long ∙ s .moved-long;

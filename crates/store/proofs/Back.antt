@@ -40,7 +40,8 @@ module _ (cells name : ℕ) (masses : List ℕ) (long : ℕ) where
         held = ap (heldUnder name) (keep-effect cells volumes field store other e) ∙ p .1 ∙ h .held;
       }
 
-  after-drop : (store : List ℕ) (other : ℕ) (v : Verdict) → dropVerdict cells store other ≡ v → Spares cells name (dropping other) store → Holding cells name masses long store
+  after-drop : (store : List ℕ) (other : ℕ) (v : Verdict) → dropVerdict cells store other ≡ v → Spares cells name (dropping other) store
+      → Holding cells name masses long store
       → Holding cells name masses long (dropStore cells store other)
   unfolding dropStore
   after-drop store other (refused i j) e n h = rw e h
@@ -53,13 +54,15 @@ module _ (cells name : ℕ) (masses : List ℕ) (long : ℕ) where
         held = ap (heldUnder name) (drop-effect cells store other e) ∙ p .1 ∙ h .held;
       }
 
-  pub after-one : (k : StoreCall) (store : List ℕ) → Spares cells name k store → Holding cells name masses long store → Holding cells name masses long (storeAfter cells k store)
+  pub after-one : (k : StoreCall) (store : List ℕ) → Spares cells name k store → Holding cells name masses long store
+      → Holding cells name masses long (storeAfter cells k store)
   after-one (keeping volumes field other) store n h = after-keep volumes field store other (keepVerdict cells volumes field store other) refl h
   after-one (dropping other) store n h = after-drop store other (dropVerdict cells store other) refl n h
   after-one (returning volumes field other) store n h = h
   after-one elsewhere store n h = h
 
-  pub after-all : (ks : List StoreCall) (store : List ℕ) → Spared cells name store ks → Holding cells name masses long store → Holding cells name masses long (storeAfterAll cells store ks)
+  pub after-all : (ks : List StoreCall) (store : List ℕ) → Spared cells name store ks → Holding cells name masses long store
+      → Holding cells name masses long (storeAfterAll cells store ks)
   unfolding storeAfterAll
   after-all [] store n h = h
   after-all (k ∷ ks) store n h = after-all ks (storeAfter cells k store) (n .1) (after-one k store (n .0) h)
@@ -73,13 +76,15 @@ module _ (cells : ℕ) (volumes masses store : List ℕ) (name : ℕ) (e : keepV
         counted = kept-counted cells volumes masses store name e;
         lasting = kept-length cells volumes masses store name e;
         kept = rw (keep-effect cells volumes masses store name e) (new-kept name (fieldsIn cells store) f refl);
-        held = ap (heldUnder name) (keep-effect cells volumes masses store name e) ∙ new-held name (fieldsIn cells store) f (keep-new cells volumes masses store name e) refl;
+        held = ap (heldUnder name) (keep-effect cells volumes masses store name e)
+            ∙ new-held name (fieldsIn cells store) f (keep-new cells volumes masses store name e) refl;
       }
 
   -- the masses kept pass cause 6 again
   salt-again : fieldValues (lentMesh cells volumes masses store) (take cells masses) ≡ fine
   unfolding keepVerdict fieldValues saltGood
-  salt-again = each-cong 6 cells _ _ (λ c h. ap (saltFit (getD volumes c 0)) (getD-take cells masses c 0 h)) ∙ all-fine (keepCauses cells volumes masses store name) e .1 .0
+  salt-again = each-cong 6 cells _ _ (λ c h. ap (saltFit (getD volumes c 0)) (getD-take cells masses c 0 h))
+      ∙ all-fine (keepCauses cells volumes masses store name) e .1 .0
 
   -- a return from a store that holds them
   module _ (later filled : List ℕ) (l : cells ≤ length filled) (h : Holding cells name (take cells masses) (length store) later) where
@@ -106,6 +111,7 @@ module _ (cells : ℕ) (volumes masses store : List ℕ) (name : ℕ) (e : keepV
 
 pub comes-back : ComesBack
 comes-back cells volumes masses store name e calls n filled l =
-    let h = after-all cells name (take cells masses) (length store) calls (keepStore cells volumes masses store name) n (holding cells volumes masses store name e) in
+    let h = after-all cells name (take cells masses) (length store) calls (keepStore cells volumes masses store name) n
+    (holding cells volumes masses store name e) in
     let later = storeAfterAll cells (keepStore cells volumes masses store name) calls in
     (return-fine cells volumes masses store name e later filled l h, return-gives cells volumes masses store name e later filled l h)

@@ -26,7 +26,8 @@ use Rattle.store.proofs.Named.{new-kept, new-without}
 module _ (cells : ℕ) (fs : List Kept) (sized : Sized cells fs) (more store : List ℕ) (room : used cells (length fs) + length more ≤ length store) where
   pub written-fields : fieldsIn cells (over (storeOf fs ++ more) store) ≡ fs
   unfolding over
-  written-fields = ap (fieldsIn cells) (append-assoc (storeOf fs) more (drop (length (storeOf fs ++ more)) store)) ∙ store-read cells fs (more ++ drop (length (storeOf fs ++ more)) store) sized
+  written-fields = ap (fieldsIn cells) (append-assoc (storeOf fs) more (drop (length (storeOf fs ++ more)) store))
+      ∙ store-read cells fs (more ++ drop (length (storeOf fs ++ more)) store) sized
 
   pub written-length : length (over (storeOf fs ++ more) store) ≡ length store
   written-length = over-length (storeOf fs ++ more) store (omega (arith, length-append (storeOf fs) more, store-length cells fs sized))
@@ -118,7 +119,8 @@ module _ (cells : ℕ) (store : List ℕ) (name : ℕ) (e : dropVerdict cells st
   pub left-length : suc (length left) ≡ count store
   left-length =
       let f = drop-found in
-      let n : length (fieldsIn cells store) ≡ length (f .earlier) + suc (length (f .later)) = ap length (f .all) ∙ length-append (f .earlier) (f .meant ∷ f .later) in
+      let n : length (fieldsIn cells store) ≡ length (f .earlier) + suc (length (f .later)) = ap length (f .all)
+      ∙ length-append (f .earlier) (f .meant ∷ f .later) in
       rw (f .others) (omega (arith, length-append (f .earlier) (f .later), n, in-length cells store drop-counted))
 
   left-room : used cells (length left) + length {A = ℕ} (replicate (cells + 1) 0) ≤ length store
@@ -164,7 +166,8 @@ module _ (cells : ℕ) (volumes masses store : List ℕ) (name : ℕ) (e : keepV
   may-drop =
       let o = all-fine (openedCauses cells volumes masses store) (opened-fine cells volumes masses store name e) in
       let l : 1 ≤ length kept = rw (kept-length cells volumes masses store name e) (omega (arith, keep-counted cells volumes masses store name e)) in
-      let k : isKept name (fieldsIn cells kept) ≡ true = rw (keep-effect cells volumes masses store name e) (new-kept name (fieldsIn cells store) (keptField cells masses name) refl) in
+      let k : isKept name (fieldsIn cells kept) ≡ true = rw (keep-effect cells volumes masses store name e)
+      (new-kept name (fieldsIn cells store) (keptField cells masses name) refl) in
       rw (
         o .0,
         need-met 2 13 (le-leb 1 (length kept) l),

@@ -15,7 +15,8 @@ use Rattle.store.specs.Calls.{storeTable, dropVerdict, dropStore, opened
 
 module _ (cells : ℕ) (store : List ℕ) (name : ℕ) where
   -- dropping: its causes as they are tested, and what the first of them give
-  pub drop-groups : dropVerdict cells store name ≡ (counts (cellsOnly cells []) andThen storeTable cells store andThen (countGood cells store andThen nameKept cells store name))
+  pub drop-groups : dropVerdict cells store name ≡ (counts (cellsOnly cells []) andThen storeTable cells store
+      andThen (countGood cells store andThen nameKept cells store name))
   unfolding dropVerdict
   drop-groups = andThen-assoc (counts (cellsOnly cells []) andThen storeTable cells store) (countGood cells store) (nameKept cells store name)
 
@@ -29,13 +30,16 @@ module _ (cells : ℕ) (store : List ℕ) (name : ℕ) where
 
   module _ (volumes masses : List ℕ) where
     pub opened-asks : openedVerdict cells volumes masses store ≡ fine
-        → (((cells ≤ length volumes) × (cells ≤ length masses)) × ((c : ℕ) → c < cells → (1 ≤ volume (cellsOnly cells volumes) c) × (volume (cellsOnly cells volumes) c ≤ maxVolume)))
+        → (((cells ≤ length volumes) × (cells ≤ length masses))
+        × ((c : ℕ) → c < cells → (1 ≤ volume (cellsOnly cells volumes) c) × (volume (cellsOnly cells volumes) c ≤ maxVolume)))
         × ((1 ≤ length store) × (cells ≤ maxCells))
     unfolding openedVerdict storeTable
     opened-asks e =
         let p = both-fine _ _ e in
-        let q = both-fine _ _ (p .0) in
-        (salt-asks (cellsOnly cells volumes) masses (q .0) (p .1), (long-fine 13 1 (length store) (q .1), counted (cellsOnly cells volumes) (both-fine _ _ (both-fine _ _ (q .0) .0) .0) .few-cells))
+        let q = both-fine _ _ (p .0) in (
+          salt-asks (cellsOnly cells volumes) masses (q .0) (p .1),
+          (long-fine 13 1 (length store) (q .1), counted (cellsOnly cells volumes) (both-fine _ _ (both-fine _ _ (q .0) .0) .0) .few-cells),
+        )
 
     regroup : (o f c n r : Verdict) → (o andThen f andThen c andThen n andThen r) ≡ (o andThen (f andThen (c andThen n andThen r)))
     regroup o f c n r = simp andThen-assoc

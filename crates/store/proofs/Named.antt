@@ -16,7 +16,8 @@ module _ (name : ℕ) where
   kept-append [] gs e = absurd (true≢false (sym e))
   kept-append (f ∷ fs) gs e = go (eqb (f .name) name) e (kept-append fs gs)
     where
-      go : (b : Bool) → (b || isKept name fs) ≡ true → (isKept name fs ≡ true → (isKept name (fs ++ gs) ≡ true) × (heldUnder name (fs ++ gs) ≡ heldUnder name fs))
+      go : (b : Bool) → (b || isKept name fs) ≡ true → (isKept name fs ≡ true → (isKept name (fs ++ gs) ≡ true)
+          × (heldUnder name (fs ++ gs) ≡ heldUnder name fs))
           → ((b || isKept name (fs ++ gs)) ≡ true) × (cond b (f .masses) (heldUnder name (fs ++ gs)) ≡ cond b (f .masses) (heldUnder name fs))
       go true e ih = (refl, refl)
       go false e ih = ih e
@@ -51,7 +52,8 @@ module _ (name : ℕ) where
       go false e ih = ap (λ (gs : List Kept). g ∷ gs) (ih e)
 
   -- another name's field gone
-  pub other-gone : (gone : ℕ) → gone ≢ name → (fs : List Kept) → (isKept name (without gone fs) ≡ isKept name fs) × (heldUnder name (without gone fs) ≡ heldUnder name fs)
+  pub other-gone : (gone : ℕ) → gone ≢ name → (fs : List Kept) → (isKept name (without gone fs) ≡ isKept name fs)
+      × (heldUnder name (without gone fs) ≡ heldUnder name fs)
   unfolding isKept heldUnder without
   other-gone gone n [] = (refl, refl)
   other-gone gone n (f ∷ fs) = go (eqb (f .name) gone) (same? (f .name) gone) (other-gone gone n fs)

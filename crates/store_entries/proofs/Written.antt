@@ -89,7 +89,8 @@ put-written cells name m s l =
     let n : length (storeOf fs) ≡ at = store-length cells fs (in-sized cells s l) ∙ ap (used cells) (in-length cells s l) in
     let whole : s ≡ storeOf fs ++ rest = store-split cells s l in
     let front : take at s ≡ storeOf fs = ap (take at) whole ∙ take-at (storeOf fs) rest at n in
-    let more : length (fs ++ (record { name = name; masses = m } ∷ [])) ≡ count s + 1 = length-append fs (record { name = name; masses = m } ∷ []) ∙ omega (arith, in-length cells s l) in
+    let more : length (fs ++ (record { name = name; masses = m } ∷ [])) ≡ count s + 1 = length-append fs (record { name = name; masses = m } ∷ [])
+    ∙ omega (arith, in-length cells s l) in
     let w = whole-part at s in
     rw (w .0, w .1, append-nil (over (name ∷ m) rest), front, more, entries-append fs (record { name = name; masses = m } ∷ []), append-nil m)
     (sym (ap (over (((count s + 1) ∷ entriesOf fs) ++ (name ∷ m))) whole ∙ over-append ((count s + 1) ∷ entriesOf fs) (name ∷ m) (storeOf fs) rest refl))

@@ -37,7 +37,8 @@ module _ (cells : ℕ) (store : List ℕ) (name : ℕ) where
   pub kept-test : used cells (count store) ≤ length store → (b : ℕ) → b ≡ fieldsBefore name fs → ltb b (count store) ≡ isKept name fs
   kept-test l b e = ap (λ (j : ℕ). ltb j (count store)) e ∙ ap (ltb (fieldsBefore name fs)) (sym (in-length cells store l)) ∙ sym (kept-before name fs)
 
-  pub room-test : used cells (count store) ≤ length store → (u : ℕ) → u ≡ used cells (count store) → ltb cells (length store - u) ≡ leb (used cells (suc (count store))) (length store)
+  pub room-test : used cells (count store) ≤ length store → (u : ℕ) → u ≡ used cells (count store) → ltb cells (length store - u)
+      ≡ leb (used cells (suc (count store))) (length store)
   room-test l u e = go (leb (used cells (suc (count store))) (length store)) (fits? (used cells (suc (count store))) (length store))
     where
       go : (b : Bool) → Fits (used cells (suc (count store))) (length store) b → ltb cells (length store - u) ≡ b
@@ -76,12 +77,14 @@ module _ (cells : ℕ) (store : List ℕ) (name : ℕ) where
     parts =
         let head : storeOf fs ≡ (count store ∷ earlier) ++ (itself ++ later)
         = ap (λ (j : ℕ). j ∷ entriesOf fs) (in-length cells store l)
-        ∙ ap (λ (u : List ℕ). count store ∷ u) (ap entriesOf (meant-found .all) ∙ entries-append (meant-found .earlier) (meant-found .meant ∷ meant-found .later)) in
+        ∙ ap (λ (u : List ℕ). count store ∷ u) (ap entriesOf (meant-found .all)
+        ∙ entries-append (meant-found .earlier) (meant-found .meant ∷ meant-found .later)) in
         store-split cells store l ∙ ap (λ (u : List ℕ). u ++ rest) head ∙ append-assoc (count store ∷ earlier) (itself ++ later) rest
 
     pub place : length (count store ∷ earlier) ≡ used cells (fieldsBefore name fs)
     place =
-        let n : length (count store ∷ earlier) ≡ used cells (length (meant-found .earlier)) = omega (arith, entries-length cells (meant-found .earlier) (sized .0)) in
+        let n : length (count store ∷ earlier) ≡ used cells (length (meant-found .earlier)) =
+        omega (arith, entries-length cells (meant-found .earlier) (sized .0)) in
         n ∙ ap (used cells) (meant-found .at)
 
     pub kept-less : fieldsBefore name fs < count store
@@ -93,7 +96,8 @@ module _ (cells : ℕ) (store : List ℕ) (name : ℕ) where
     pub held-at : take cells (drop (used cells (fieldsBefore name fs) + 1) store) ≡ heldUnder name fs
     held-at =
         let here : drop (used cells (fieldsBefore name fs)) store ≡ (itself ++ later) ++ rest
-        = ap (drop (used cells (fieldsBefore name fs))) parts ∙ drop-at (count store ∷ earlier) ((itself ++ later) ++ rest) (used cells (fieldsBefore name fs)) place in
+        = ap (drop (used cells (fieldsBefore name fs))) parts
+        ∙ drop-at (count store ∷ earlier) ((itself ++ later) ++ rest) (used cells (fieldsBefore name fs)) place in
         let m = meant-found .meant .masses in
         ap (take cells) (sym (drop-drop 1 (used cells (fieldsBefore name fs)) store) ∙ ap (drop 1) here)
         ∙ ap (take cells) (append-assoc m later rest) ∙ take-at m (later ++ rest) cells (sized .1 .0) ∙ sym (meant-found .held)

@@ -56,7 +56,8 @@ module _ (cells : ℕ) where
       let p = one-more n x t l in
       let q : suc n * (cells + 1) ≡ suc (cells + n * (cells + 1)) = omega (arith, suc-mul n (cells + 1)) in
       let one : drop (cells + 1) (x ∷ t) ≡ drop cells t = ap (λ (j : ℕ). drop j (x ∷ t)) (add-one cells) in
-      let all : drop (suc n * (cells + 1)) (x ∷ t) ≡ drop (n * (cells + 1)) (drop cells t) = ap (λ (j : ℕ). drop j (x ∷ t)) q ∙ sym (drop-drop (n * (cells + 1)) cells t) in
+      let all : drop (suc n * (cells + 1)) (x ∷ t) ≡ drop (n * (cells + 1)) (drop cells t) = ap (λ (j : ℕ). drop j (x ∷ t)) q
+      ∙ sym (drop-drop (n * (cells + 1)) cells t) in
       rw (one, all)
       (ap (λ (u : List ℕ). x ∷ u)
       (append-assoc (take cells t) (entriesOf (fieldsFrom cells n (drop cells t))) (drop (n * (cells + 1)) (drop cells t))
@@ -67,7 +68,12 @@ module _ (cells : ℕ) where
   unfolding fieldsFrom entriesOf
   fields-back [] rest s = refl
   fields-back (f ∷ fs) rest s =
-      rw (add-one cells, append-assoc (f .masses) (entriesOf fs) rest, take-at (f .masses) (entriesOf fs ++ rest) cells (s .0), drop-at (f .masses) (entriesOf fs ++ rest) cells (s .0))
+      rw (
+        add-one cells,
+        append-assoc (f .masses) (entriesOf fs) rest,
+        take-at (f .masses) (entriesOf fs ++ rest) cells (s .0),
+        drop-at (f .masses) (entriesOf fs ++ rest) cells (s .0),
+      )
       (ap (λ (gs : List Kept). f ∷ gs) (fields-back fs rest (s .1)))
 
   -- a store written and read

@@ -47,7 +47,8 @@ module _ (name : ℕ) where
   kept-before [] = refl
   kept-before (f ∷ fs) = go (eqb (f .name) name) (kept-before fs)
     where
-      go : (b : Bool) → isKept name fs ≡ ltb (fieldsBefore name fs) (length fs) → (b || isKept name fs) ≡ ltb (cond b 0 (suc (fieldsBefore name fs))) (suc (length fs))
+      go : (b : Bool) → isKept name fs ≡ ltb (fieldsBefore name fs) (length fs) → (b || isKept name fs)
+          ≡ ltb (cond b 0 (suc (fieldsBefore name fs))) (suc (length fs))
       go true e = sym (le-leb 1 (suc (length fs)) (omega arith))
       go false e = e ∙ sym (leb·suc-suc (suc (fieldsBefore name fs)) (length fs))
 

@@ -10,7 +10,8 @@ use Rattle.survey.specs.declared.Point.{Point}
 use Rattle.survey.specs.declared.Face.{Face}
 
 everything : Unit {0}
-unfolding add sub mul div eq sizeOf way middleOf dot normal firstSide secondSide ratio allowed _andThen_ need each coordinatesVerdict found largest notAbove share shareOf faceShare
+unfolding add sub mul div eq sizeOf way middleOf dot normal firstSide secondSide ratio allowed _andThen_ need each coordinatesVerdict found largest notAbove
+    share shareOf faceShare
 everything = tt
 
 abbrev at : Float → Float → Point
@@ -40,7 +41,8 @@ unfolding everything
 quarter = refl
 
 -- coordinates at their limits
-pub limits : faceShare (face (at none million) (at none (fin true 15625 (pos 6))) (at (fin true 15625 (pos 6)) million) (at million (fin true 15625 (pos 6)))) ≡ accepted 128
+pub limits : faceShare (face (at none million) (at none (fin true 15625 (pos 6))) (at (fin true 15625 (pos 6)) million) (at million (fin true 15625 (pos 6))))
+    ≡ accepted 128
 unfolding everything
 limits = refl
 

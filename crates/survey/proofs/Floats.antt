@@ -140,7 +140,8 @@ le-part (fin false n d) (inf false) k K v = refl
 le-part (fin false n d) (fin false m e) k K v =
     at-most (n * up d * down e) (m * up e * down d) ∙ parts-same (n * up d) (down d) (m * up e) (down e) k (down-pos d) (v .1)
 le-part (fin false n d) (fin true m e) k K v =
-    rw (ne-eqb (n * up d * down e) 0 (λ z. omega (arith, z, v .1, mul-pos K (down-pos d), mul-pos some (down-pos e)))) (and-false (eqb (n * up d * down e) (m * up e * down d)))
+    rw (ne-eqb (n * up d * down e) 0 (λ z. omega (arith, z, v .1, mul-pos K (down-pos d), mul-pos some (down-pos e))))
+    (and-false (eqb (n * up d * down e) (m * up e * down d)))
   where
     some : 0 < n * up d
     some = omega (arith, v .1, mul-pos K (down-pos d))

@@ -39,7 +39,8 @@ largest-good good (suc zero) h g = rw g (g, omega arith, omega arith)
 largest-good good (suc (suc n)) h g = go (good (suc (suc n))) refl (largest-good good (suc n) (omega arith) g)
   where
     go : (t : Bool) → good (suc (suc n)) ≡ t → (good (largest good (suc n)) ≡ true) × (1 ≤ largest good (suc n)) × (largest good (suc n) ≤ suc n)
-        → (good (cond t (suc (suc n)) (largest good (suc n))) ≡ true) × (1 ≤ cond t (suc (suc n)) (largest good (suc n))) × (cond t (suc (suc n)) (largest good (suc n)) ≤ suc (suc n))
+        → (good (cond t (suc (suc n)) (largest good (suc n))) ≡ true) × (1 ≤ cond t (suc (suc n)) (largest good (suc n)))
+        × (cond t (suc (suc n)) (largest good (suc n)) ≤ suc (suc n))
     go true e ih = (e, omega arith, omega arith)
     go false e ih = (ih .0, ih .1, omega (arith, ih .2))
 

@@ -25,7 +25,8 @@ use Rattle.record_reading.specs.Answers.{FieldReading}
 use Rattle.taking.specs.Taking.{fieldJudged, FieldTaking}
 use Rattle.model.proofs.Parts.{PartRead, read-part}
 
-module _ (w : Width) (volumes masses : List ℕ) {cells : ℕ} {bs own own′ : List ℕ} {a : Answer} (s : FieldReading (fieldRead w cells bs (length own)) cells bs own a own′) (run : length own ≡ runCells)
+module _ (w : Width) (volumes masses : List ℕ) {cells : ℕ} {bs own own′ : List ℕ} {a : Answer}
+    (s : FieldReading (fieldRead w cells bs (length own)) cells bs own a own′) (run : length own ≡ runCells)
     (l b : Answer) (lent : said l ≡ long 5 cells (length masses)) (both : said b ≡ (said a andThen said l)) where
   -- found before the values are judged
   found : said b ≡ (fieldRead w cells bs runCells andThen long 5 cells (length masses))
@@ -46,7 +47,8 @@ module _ (w : Width) (volumes masses : List ℕ) {cells : ℕ} {bs own own′ : 
 
     own-room : cells ≤ length own
     unfolding fieldRead fieldBodyVerdict
-    own-room = let n : cells ≤ runCells = leb-true _ _ (need-fine 2 5 _ (both-fine _ _ (both-fine _ _ (both-fine _ _ passed .0) .1) .1)) in omega (arith, n, run)
+    own-room = let n : cells ≤ runCells = leb-true _ _ (need-fine 2 5 _ (both-fine _ _ (both-fine _ _ (both-fine _ _ passed .0) .1) .1)) in
+        omega (arith, n, run)
 
     pub masses-part : PartRead cells (massesIn bs cells) own′
     unfolding massesIn
@@ -59,7 +61,8 @@ module _ (w : Width) (volumes masses : List ℕ) {cells : ℕ} {bs own own′ : 
     pub copy-asks : length (take cells own′) ≤ length masses
     copy-asks = rw (masses-part .part) (omega (arith, counted-long, masses-room))
 
-    module _ (t : TotalAnswer) (q : totalSaid t ≡ (meshFieldVerdict (cellsOnly cells volumes) (take cells own′) andThen accepted (sum cells (massIn (take cells own′))))) where
+    module _ (t : TotalAnswer) (q : totalSaid t ≡ (meshFieldVerdict (cellsOnly cells volumes) (take cells own′)
+        andThen accepted (sum cells (massIn (take cells own′))))) where
       abbrev values : Verdict
       values = meshFieldVerdict (cellsOnly cells volumes) (massesIn bs cells)
 
@@ -72,10 +75,14 @@ module _ (w : Width) (volumes masses : List ℕ) {cells : ℕ} {bs own own′ : 
           let o = past values passed ∙ refused-of values _ (number (r .cause)) (r .place) (sym (ap totalSaid f) ∙ judged) in
           record { answer = ap totalSaid f ∙ sym (out _ o); masses-after = rw o }
 
-      pub field-taken : {n : ℕ} {masses′ : List ℕ} → t ≡ total-answer.Total n → masses′ ≡ over (take cells own′) masses → FieldTaking w cells volumes bs masses t masses′
+      pub field-taken : {n : ℕ} {masses′ : List ℕ} → t ≡ total-answer.Total n → masses′ ≡ over (take cells own′) masses
+          → FieldTaking w cells volumes bs masses t masses′
       unfolding fieldJudged total
       field-taken {n = n} {masses′ = masses′} f m =
           let v = accepted-of values _ n (sym (ap totalSaid f) ∙ judged) in
           let o = past values passed ∙ v .0 in
           let e : masses′ ≡ over (massesIn bs cells) masses = rw (masses-part .part) at m in
-          record { answer = judged ∙ sym (ap (λ (v : Verdict). v andThen accepted (sum cells (massIn (massesIn bs cells)))) (past values passed)); masses-after = rw o e }
+          record {
+            answer = judged ∙ sym (ap (λ (v : Verdict). v andThen accepted (sum cells (massIn (massesIn bs cells)))) (past values passed));
+            masses-after = rw o e;
+          }

@@ -81,7 +81,8 @@ module _ (w told : Width) (M : Mesh) (masses bs : List ℕ) (e : kindIn bs ≡ w
     unfolding nextTable next
     next-same =
         let ys = stepIn M bs .nexts in
-        let t : over (table (M .cells) (next S)) ys ≡ over (table (M .cells) (next S₀)) ys = rw (found, sym (same .0) ∙ found) at (kind-three w M masses bs e .same-next) in
+        let t : over (table (M .cells) (next S)) ys ≡ over (table (M .cells) (next S₀)) ys =
+        rw (found, sym (same .0) ∙ found) at (kind-three w M masses bs e .same-next) in
         sym (front (M .cells) (next S) ys) ∙ ap (take (M .cells)) t ∙ front (M .cells) (next S₀) ys
 
     total-same : total M (next S) ≡ total M (next S₀)
@@ -98,20 +99,23 @@ module _ (w told : Width) (M : Mesh) (masses bs : List ℕ) (e : kindIn bs ≡ w
         rw (i, o, r, total-same)
 
   -- what an accepted call makes is the same, and a refused one makes nothing
-  made-same : {A : Type 0} (x y z : A) → (stepJudged told M masses bs ≡ fine → x ≡ y) → taken (stepJudged told M masses bs) x z ≡ taken (judged01 told M masses bs) y z
+  made-same : {A : Type 0} (x y z : A) → (stepJudged told M masses bs ≡ fine → x ≡ y) → taken (stepJudged told M masses bs) x z
+      ≡ taken (judged01 told M masses bs) y z
   made-same x y z f = go (stepJudged told M masses bs) refl ∙ ap (λ (v : Verdict). taken v y z) judged-same
     where
       go : (v : Verdict) → stepJudged told M masses bs ≡ v → taken v x z ≡ taken v y z
       go (accepted t) q = f q
       go (refused i j) q = refl
 
-  answer-same : (v : Verdict) → stepJudged told M masses bs ≡ v → (v andThen accepted (printedOf M masses (stepIn M bs))) ≡ (v andThen accepted (printed01 M masses bs))
+  answer-same : (v : Verdict) → stepJudged told M masses bs ≡ v → (v andThen accepted (printedOf M masses (stepIn M bs)))
+      ≡ (v andThen accepted (printed01 M masses bs))
   unfolding _andThen_
   answer-same (accepted t) q = ap (λ (p : Printed). accepted p) (printed-same q)
   answer-same (refused i j) q = refl
 
 pub taken-as-before : TakenAsBefore
 taken-as-before w told M masses bs e r masses′ p = record {
-  answer = p .answer ∙ answer-same w told M masses bs e (stepJudged told M masses bs) refl ∙ ap (λ (v : Verdict). v andThen accepted (printed01 M masses bs)) (judged-same w told M masses bs e);
+  answer = p .answer ∙ answer-same w told M masses bs e (stepJudged told M masses bs) refl
+      ∙ ap (λ (v : Verdict). v andThen accepted (printed01 M masses bs)) (judged-same w told M masses bs e);
   masses-after = p .masses-after ∙ made-same w told M masses bs e _ _ masses (λ ok. ap (λ (xs : List ℕ). over xs masses) (next-same w told M masses bs e ok));
 }

@@ -22,7 +22,8 @@ use Rattle.model.specs.StepTaken.{takenSaid}
 -- A FIELD on so many cells of these volumes. It is read into a table of the call's own, of 1,023 entries; the lent one, of so many, has to
 -- hold it. Then come the causes that the total of a field has.
 unfoldable pub fieldJudged : Width → ℕ → List ℕ → List ℕ → ℕ → Verdict
-fieldJudged w cells volumes bs masses = fieldRead w cells bs runCells andThen long 5 cells masses andThen meshFieldVerdict (cellsOnly cells volumes) (massesIn bs cells)
+fieldJudged w cells volumes bs masses = fieldRead w cells bs runCells andThen long 5 cells masses
+    andThen meshFieldVerdict (cellsOnly cells volumes) (massesIn bs cells)
 
 -- "The board and the run", step 0: the total of the first field is printed.
 pub record FieldTaking (w : Width) (cells : ℕ) (volumes bs masses : List ℕ) (r : TotalAnswer) (masses′ : List ℕ) : Type 0 where

@@ -34,14 +34,17 @@ use Rattle.taking_mesh.specs.Inner.{MeshCut, keptFound}
 use Rattle.model.proofs.Parts.{PartRead, read-part, long-met}
 
 -- a mesh of which v is found: refused, and accepted
-pub kept-refused : {v : Verdict} (w : Width) (M : Mesh) (volumes firsts seconds shares reaches : List ℕ) (a : MeshAnswer) (k i : ℕ) → v ≡ refused k i → meshSaid a ≡ refused k i
+pub kept-refused : {v : Verdict} (w : Width) (M : Mesh) (volumes firsts seconds shares reaches : List ℕ) (a : MeshAnswer) (k i : ℕ) → v ≡ refused k i
+    → meshSaid a ≡ refused k i
     → MeshKept v w M volumes firsts seconds shares reaches a volumes firsts seconds shares reaches
 kept-refused w M volumes firsts seconds shares reaches a k i e s =
     record { answer = s ∙ sym (out _ e); volumes-after = rw e; firsts-after = rw e; seconds-after = rw e; shares-after = rw e; reaches-after = rw e }
 
 pub kept-accepted : {v : Verdict} (w : Width) (M : Mesh) (volumes firsts seconds shares reaches volumes′ firsts′ seconds′ shares′ reaches′ : List ℕ) → v ≡ fine
-    → volumes′ ≡ over (M .volumes) volumes → firsts′ ≡ over (M .firsts) firsts → seconds′ ≡ over (M .seconds) seconds → shares′ ≡ over (M .shares) shares → reaches′ ≡ over (M .reaches) reaches
-    → MeshKept v w M volumes firsts seconds shares reaches (mesh-answer.Read (record { cells = M .cells; faces = M .faces; width = w })) volumes′ firsts′ seconds′ shares′ reaches′
+    → volumes′ ≡ over (M .volumes) volumes → firsts′ ≡ over (M .firsts) firsts → seconds′ ≡ over (M .seconds) seconds → shares′ ≡ over (M .shares) shares
+    → reaches′ ≡ over (M .reaches) reaches
+    → MeshKept v w M volumes firsts seconds shares reaches (mesh-answer.Read (record { cells = M .cells; faces = M .faces; width = w })) volumes′ firsts′
+    seconds′ shares′ reaches′
 kept-accepted w M volumes firsts seconds shares reaches volumes′ firsts′ seconds′ shares′ reaches′ e a b c d f =
     record { answer = sym (past _ e); volumes-after = rw e a; firsts-after = rw e b; seconds-after = rw e c; shares-after = rw e d; reaches-after = rw e f }
 
@@ -53,7 +56,8 @@ pub record Room (M : Mesh) (volumes firsts seconds shares reaches : List ℕ) : 
   pub shares-room : length (M .shares) ≤ length shares
   pub reaches-room : length (M .reaches) ≤ length reaches
 
-pub room : (M : Mesh) (volumes firsts seconds shares reaches : List ℕ) → MeshCut M → keptFound (meshOf (M .cells) (M .faces) volumes firsts seconds shares reaches) M ≡ fine
+pub room : (M : Mesh) (volumes firsts seconds shares reaches : List ℕ) → MeshCut M
+    → keptFound (meshOf (M .cells) (M .faces) volumes firsts seconds shares reaches) M ≡ fine
     → Room M volumes firsts seconds shares reaches
 room M volumes firsts seconds shares reaches c e =
     let l = mesh-lent (meshOf (M .cells) (M .faces) volumes firsts seconds shares reaches) (both-fine _ _ e .0) in record {
@@ -72,7 +76,13 @@ pub record Limits (bs : List ℕ) : Type 0 where
 
 pub mesh-cut : (bs : List ℕ) → MeshCut (meshIn bs)
 unfolding volumesIn firstsIn secondsIn sharesIn reachesIn
-mesh-cut bs = record { volumes-cut = length-table _ _; firsts-cut = length-table _ _; seconds-cut = length-table _ _; shares-cut = length-table _ _; reaches-cut = length-table _ _ }
+mesh-cut bs = record {
+  volumes-cut = length-table _ _;
+  firsts-cut = length-table _ _;
+  seconds-cut = length-table _ _;
+  shares-cut = length-table _ _;
+  reaches-cut = length-table _ _;
+}
 
 -- V and K of 12 bits are within the old ceilings
 value-narrow : (kind : ℕ) → widthOf kind ≡ Narrow → valueBits kind ≡ valueOf Narrow
@@ -123,7 +133,8 @@ module _ (bs : List ℕ) (e : meshRecordFound bs ≡ fine) where
   values-left = rw (counts-pass, tables-pass)
 
   found-is : (volumes firsts seconds shares reaches : List ℕ)
-      → keptFound (meshOf (cellsIn bs) (facesIn bs) volumes firsts seconds shares reaches) (meshIn bs) ≡ meshJudged bs (length volumes) (length firsts) (length seconds)
+      → keptFound (meshOf (cellsIn bs) (facesIn bs) volumes firsts seconds shares reaches) (meshIn bs)
+      ≡ meshJudged bs (length volumes) (length firsts) (length seconds)
       (length shares) (length reaches)
   unfolding meshJudged meshTables _andThen_
   found-is volumes firsts seconds shares reaches = rw (values-left, e)
@@ -142,7 +153,8 @@ pub record MeshIsRead (bs : List ℕ) (n : MeshCounts) (volumes′ firsts′ sec
 module _ {bs volumes firsts seconds shares reaches : List ℕ} {a : MeshAnswer} {volumes′ firsts′ seconds′ shares′ reaches′ : List ℕ}
     (s : MeshReading (meshRead runCells runFaces bs (length volumes) (length firsts) (length seconds) (length shares) (length reaches))
     bs volumes firsts seconds shares reaches a volumes′ firsts′ seconds′ shares′ reaches′)
-    (lv : length volumes ≡ runCells) (lf : length firsts ≡ runFaces) (ls : length seconds ≡ runFaces) (lw : length shares ≡ runFaces) (lk : length reaches ≡ runFaces) where
+    (lv : length volumes ≡ runCells) (lf : length firsts ≡ runFaces) (ls : length seconds ≡ runFaces) (lw : length shares ≡ runFaces)
+    (lk : length reaches ≡ runFaces) where
   read-said : meshSaid a ≡ (meshRecordFound bs andThen accepted (countsIn bs))
   unfolding meshRead meshRecordFound
   read-said = rw (lv, lf, ls, lw, lk) at (s .answer)
@@ -150,7 +162,8 @@ module _ {bs volumes firsts seconds shares reaches : List ℕ} {a : MeshAnswer} 
   pub mesh-unread : {r : Refusal} → a ≡ mesh-answer.Refused r → (v f s w k : List ℕ) → MeshTaking bs v f s w k a v f s w k
   unfolding meshJudged
   mesh-unread {r = r} d v f s w k =
-      kept-refused (widthIn bs) (meshIn bs) v f s w k a _ _ (refused-at [] (_ ∷ _ ∷ []) tt (refused-of (meshRecordFound bs) (countsIn bs) (number (r .cause)) (r .place) (sym (ap meshSaid d) ∙ read-said))) (ap meshSaid d)
+      kept-refused (widthIn bs) (meshIn bs) v f s w k a _ _ (refused-at [] (_ ∷ _ ∷ []) tt
+      (refused-of (meshRecordFound bs) (countsIn bs) (number (r .cause)) (r .place) (sym (ap meshSaid d) ∙ read-said))) (ap meshSaid d)
 
 -- the causes of a mesh record in their order: of its head, and past it
 abbrev headCauses : (mostCells mostFaces : ℕ) → List ℕ → List Verdict
@@ -250,9 +263,11 @@ pub mesh-read : {bs volumes firsts seconds shares reaches : List ℕ} {a : MeshA
     → {n : MeshCounts} → a ≡ mesh-answer.Read n → MeshIsRead bs n volumes′ firsts′ seconds′ shares′ reaches′
 mesh-read s d = read-within runCells runFaces s (le-refl runCells) (le-refl runFaces) d
 
-module _ {bs : List ℕ} {n : MeshCounts} {volumes′ firsts′ seconds′ shares′ reaches′ : List ℕ} (m : MeshIsRead bs n volumes′ firsts′ seconds′ shares′ reaches′) where
+module _ {bs : List ℕ} {n : MeshCounts} {volumes′ firsts′ seconds′ shares′ reaches′ : List ℕ}
+    (m : MeshIsRead bs n volumes′ firsts′ seconds′ shares′ reaches′) where
   abbrev R : Mesh
-  R = meshOf (n .cells) (n .faces) (take (n .cells) volumes′) (take (n .faces) firsts′) (take (n .faces) seconds′) (take (n .faces) shares′) (take (n .faces) reaches′)
+  R = meshOf (n .cells) (n .faces) (take (n .cells) volumes′) (take (n .faces) firsts′) (take (n .faces) seconds′) (take (n .faces) shares′)
+      (take (n .faces) reaches′)
 
   pub same : R ≡ meshIn bs
   same =
@@ -264,10 +279,13 @@ module _ {bs : List ℕ} {n : MeshCounts} {volumes′ firsts′ seconds′ share
   keep-asks = rw same (mesh-cut bs)
 
   pub mesh-done : {volumes firsts seconds shares reaches : List ℕ} {r : MeshAnswer} {v f s w k : List ℕ}
-      → MeshKept (keptFound (meshOf (n .cells) (n .faces) volumes firsts seconds shares reaches) R) (n .width) R volumes firsts seconds shares reaches r v f s w k
+      → MeshKept (keptFound (meshOf (n .cells) (n .faces) volumes firsts seconds shares reaches) R) (n .width) R volumes firsts seconds shares reaches r v f s w
+      k
       → MeshTaking bs volumes firsts seconds shares reaches r v f s w k
   mesh-done {volumes = volumes} {firsts = firsts} {seconds = seconds} {shares = shares} {reaches = reaches} {r = r} {v = v} {f = f} {s = s} {w = w} {k = k} t =
-      let x : MeshKept (keptFound (meshOf (n .cells) (n .faces) volumes firsts seconds shares reaches) (meshIn bs)) (n .width) (meshIn bs) volumes firsts seconds shares reaches r v f s w k = rw same at t in
-      let y : MeshKept (keptFound (meshOf (cellsIn bs) (facesIn bs) volumes firsts seconds shares reaches) (meshIn bs)) (widthIn bs) (meshIn bs) volumes firsts seconds shares reaches
+      let x : MeshKept (keptFound (meshOf (n .cells) (n .faces) volumes firsts seconds shares reaches) (meshIn bs)) (n .width) (meshIn bs) volumes firsts
+      seconds shares reaches r v f s w k = rw same at t in
+      let y : MeshKept (keptFound (meshOf (cellsIn bs) (facesIn bs) volumes firsts seconds shares reaches) (meshIn bs)) (widthIn bs) (meshIn bs) volumes firsts
+      seconds shares reaches
       r v f s w k = rw (m .counts-are) at x in
       rw (found-is bs (m .passed) volumes firsts seconds shares reaches) at y

@@ -29,9 +29,11 @@ meshJudged bs volumes firsts seconds shares reaches = meshRecordFound bs
 abbrev pub meshJudgedInRun : List ℕ → Verdict
 meshJudgedInRun bs = meshJudged bs runCells runFaces runFaces runFaces runFaces
 
--- A mesh of which v is found, in a record of this width: the answer, and each lent table. The counted entries are filled where it is accepted; no other entry is, and
+-- A mesh of which v is found, in a record of this width: the answer, and each lent table. The counted entries are filled where it is accepted; no other entry
+-- is, and
 -- after a refusal none.
-pub record MeshKept (v : Verdict) (w : Width) (M : Mesh) (volumes firsts seconds shares reaches : List ℕ) (r : MeshAnswer) (volumes′ firsts′ seconds′ shares′ reaches′ : List ℕ) : Type 0 where
+pub record MeshKept (v : Verdict) (w : Width) (M : Mesh) (volumes firsts seconds shares reaches : List ℕ) (r : MeshAnswer)
+    (volumes′ firsts′ seconds′ shares′ reaches′ : List ℕ) : Type 0 where
   pub answer : meshSaid r ≡ (v andThen accepted (record { cells = M .cells; faces = M .faces; width = w }))
   pub volumes-after : volumes′ ≡ taken v (over (M .volumes) volumes) volumes
   pub firsts-after : firsts′ ≡ taken v (over (M .firsts) firsts) firsts
@@ -41,4 +43,5 @@ pub record MeshKept (v : Verdict) (w : Width) (M : Mesh) (volumes firsts seconds
 
 abbrev pub MeshTaking : List ℕ → List ℕ → List ℕ → List ℕ → List ℕ → List ℕ → MeshAnswer → List ℕ → List ℕ → List ℕ → List ℕ → List ℕ → Type 0
 MeshTaking bs volumes firsts seconds shares reaches =
-    MeshKept (meshJudged bs (length volumes) (length firsts) (length seconds) (length shares) (length reaches)) (widthIn bs) (meshIn bs) volumes firsts seconds shares reaches
+    MeshKept (meshJudged bs (length volumes) (length firsts) (length seconds) (length shares) (length reaches)) (widthIn bs) (meshIn bs) volumes firsts seconds
+    shares reaches

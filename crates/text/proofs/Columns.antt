@@ -80,7 +80,8 @@ module _ (width n after : ℕ) (w : 0 < width) (most : width ≤ mostDigits) (u 
   unfolding numberIn
   column-back at xs ys e =
       let whole : take width (column width n after ++ ys) ≡ figures =
-      ap (λ (l : List ℕ). take width (l ++ ys)) column-parts ∙ ap (take width) (append-assoc figures (after ∷ []) ys) ∙ take-at figures ((after ∷ []) ++ ys) width figures-length in
+      ap (λ (l : List ℕ). take width (l ++ ys)) column-parts ∙ ap (take width) (append-assoc figures (after ∷ []) ys)
+      ∙ take-at figures ((after ∷ []) ++ ys) width figures-length in
       rw (drop-at xs (column width n after ++ ys) at e, whole) figures-back
 
 -- LINES OF ONE LENGTH
@@ -96,11 +97,14 @@ module _ (long : ℕ) (piece : ℕ → List ℕ) where
   piece-at zero i more h l = absurd (omega arith)
   piece-at (suc n) i more h l = rw append-assoc (go (eqb i n) (same? i n) (piece-at n i (piece n ++ more) (λ j m. h j (omega arith))))
     where
-      go : (b : Bool) → Same i n b → (i < n → lineAt long i (pieces n piece ++ (piece n ++ more)) ≡ piece i) → take long (drop (i * long) (pieces n piece ++ (piece n ++ more))) ≡ piece i
+      go : (b : Bool) → Same i n b → (i < n → lineAt long i (pieces n piece ++ (piece n ++ more)) ≡ piece i)
+          → take long (drop (i * long) (pieces n piece ++ (piece n ++ more))) ≡ piece i
       go true (same e) ih =
-          rw (e, drop-at (pieces n piece) (piece n ++ more) (n * long) (pieces-length n (λ j m. h j (omega arith)))) (take-at (piece n) more long (h n (omega arith)))
+          rw (e, drop-at (pieces n piece) (piece n ++ more) (n * long) (pieces-length n (λ j m. h j (omega arith))))
+          (take-at (piece n) more long (h n (omega arith)))
       go false (other d) ih = ih (omega arith)
 
-  pub after-pieces : (n : ℕ) (last more : List ℕ) → ((i : ℕ) → i < n → length (piece i) ≡ long) → length last ≡ long → lineAt long n (pieces n piece ++ (last ++ more)) ≡ last
+  pub after-pieces : (n : ℕ) (last more : List ℕ) → ((i : ℕ) → i < n → length (piece i) ≡ long) → length last ≡ long
+      → lineAt long n (pieces n piece ++ (last ++ more)) ≡ last
   unfolding lineAt
   after-pieces n last more h e = rw (drop-at (pieces n piece) (last ++ more) (n * long) (pieces-length n h)) (take-at last more long e)

@@ -77,7 +77,8 @@ module _ (lent : List ℕ) where
 
     joined : (more′ : List ℕ) → longer lent′ r more′ ≡ longer lent at (more ++ more′)
     unfolding longer
-    joined more′ = rw (same-length, first-bytes) (cut-twice (length lent) (take at lent ++ more) more′ ∙ ap (take (length lent)) (append-assoc (take at lent) more more′))
+    joined more′ = rw (same-length, first-bytes) (cut-twice (length lent) (take at lent ++ more) more′
+        ∙ ap (take (length lent)) (append-assoc (take at lent) more more′))
 
     grown : (more′ : List ℕ) → length (longer lent at more) ≤ length (longer lent at (more ++ more′))
     unfolding longer
@@ -117,7 +118,8 @@ pub puts-more : (lent : List ℕ) (piece : ℕ → List ℕ) (n : ℕ) {at r : �
 unfolding pieces
 puts-more lent piece n p q = rw (add-one n) (both lent p q)
 
-pub puts-all : (lent : List ℕ) {r : ℕ} {more lent′ : List ℕ} → Puts lent 0 more r lent′ → length more ≤ length lent → (r ≡ length more) × (lent′ ≡ over more lent)
+pub puts-all : (lent : List ℕ) {r : ℕ} {more lent′ : List ℕ} → Puts lent 0 more r lent′ → length more ≤ length lent → (r ≡ length more)
+    × (lent′ ≡ over more lent)
 unfolding longer
 puts-all lent {r} {more} {lent′} p h =
     let whole : longer lent 0 more ≡ more = take-all (length lent) more h in

@@ -45,14 +45,20 @@ loop-again c =
 returns : tie.Need-returns Inv-loop μ-loop
 returns c =
     let p = c .before .before .loop in
-    let used = c .before .before .before .before .args .ranking .used in
-    (omega arith, room-left boardSize used _ _ _ _ (p .inv .long) (p .inv .untouched) (at-end comesBefore _ _ _ _ _ _ _ _ (c .before .loop-test .left) (p .inv)) (omega arith))
+    let used = c .before .before .before .before .args .ranking .used in (
+      omega arith,
+      room-left boardSize used _ _ _ _ (p .inv .long) (p .inv .untouched) (at-end comesBefore _ _ _ _ _ _ _ _ (c .before .loop-test .left) (p .inv))
+          (omega arith),
+    )
 
 returns-2 : tie.Need-returns-2 Inv-loop μ-loop
 returns-2 c =
     let p = c .before .before .loop in
-    let used = c .before .before .before .before .args .ranking .used in
-    (omega arith, no-room boardSize used _ _ _ _ (p .inv .long) (p .inv .untouched) (at-end comesBefore _ _ _ _ _ _ _ _ (c .before .loop-test .left) (p .inv)) (omega arith) (omega arith))
+    let used = c .before .before .before .before .args .ranking .used in (
+      omega arith,
+      no-room boardSize used _ _ _ _ (p .inv .long) (p .inv .untouched) (at-end comesBefore _ _ _ _ _ _ _ _ (c .before .loop-test .left) (p .inv))
+          (omega arith) (omega arith),
+    )
 
 pub insert-spec : {M : Type 1} → statement M
 insert-spec =

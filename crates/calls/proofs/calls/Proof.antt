@@ -59,6 +59,7 @@ loop-less c =
 pub calls-spec : {M : Type 1} → statement M
 calls-spec =
     tie.close
-    (tie.spec Inv-loop μ-loop (search needs) (λ c. (search needs, refl, refl)) (search needs) (search needs) (search needs) same-length same-length-2 (search needs)
+    (tie.spec Inv-loop μ-loop (search needs) (λ c. (search needs, refl, refl)) (search needs) (search needs) (search needs) same-length same-length-2
+    (search needs)
     (search needs) (search needs) (search needs) (search needs) (search needs) same-length-3 same-length-4 (search needs) (search needs) loop-less loop-again
     (λ c. c .before .loop .inv .1) (λ c. c .before .loop .inv .2) (search needs))

@@ -219,7 +219,8 @@ array-borrow-prefix-fluxes1 : tie.Need-array-borrow-prefix-fluxes1
 array-borrow-prefix-fluxes1 c = let a = to-fluxes1 (made16 c) in fits (a .held-amounts2 .result) (a .held-amounts2 .ensures) (c .size16 .ensures)
 
 slice-aggregate-cut-16 : tie.Need-slice-aggregate-cut-16
-slice-aggregate-cut-16 c = let a = to-fluxes1 (made16 (c .before)) in counted (a .held-amounts2 .result) (a .held-amounts2 .ensures) (c .before .size16 .ensures)
+slice-aggregate-cut-16 c = let a = to-fluxes1 (made16 (c .before)) in
+    counted (a .held-amounts2 .result) (a .held-amounts2 .ensures) (c .before .size16 .ensures)
 
 array-borrow-prefix-outsides1 : tie.Need-array-borrow-prefix-outsides1
 array-borrow-prefix-outsides1 c = let a = to-outsides1 (made17 c) in fits (a .held15 .result) (a .held15 .ensures) (c .size17 .ensures)

@@ -36,7 +36,8 @@ returns c =
     let t = c .before .before .before .before in
     let l = t .before .loop in
     let s = t .before .before .before .before .args in
-    scan-hit _ _ _ _ (t .loop-test .taken) (l .inv .2) (band-is (s .ends .now) (s .prices .now) (s .bands) (l .i) (l .inv .1) (c .before .band-fits .ensures)) (not-true _ (c .if1 .taken))
+    scan-hit _ _ _ _ (t .loop-test .taken) (l .inv .2) (band-is (s .ends .now) (s .prices .now) (s .bands) (l .i) (l .inv .1) (c .before .band-fits .ensures))
+    (not-true _ (c .if1 .taken))
 
 add-i : tie.Need-add-i Inv-loop μ-loop
 add-i c =
@@ -54,7 +55,8 @@ loop-again c =
     let s = t .before .before .before .before .args in (
       turn-within (t .loop-test .taken),
       begin-next (s .ends .now) (l .i),
-      scan-pass _ _ _ (l .inv .2) (band-is (s .ends .now) (s .prices .now) (s .bands) (l .i) (l .inv .1) (c .before .band-fits .ensures)) (not-false _ (c .if1 .left)),
+      scan-pass _ _ _ (l .inv .2) (band-is (s .ends .now) (s .prices .now) (s .bands) (l .i) (l .inv .1) (c .before .band-fits .ensures))
+          (not-false _ (c .if1 .left)),
     )
 
 returns-2 : tie.Need-returns-2 Inv-loop μ-loop

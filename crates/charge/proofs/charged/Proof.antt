@@ -35,7 +35,8 @@ more-requires c κs =
     let t = c .before .before .before in
     let l = t .before .loop in
     let s = t .before .before .before .before in
-    more-asks (s .args .ends .now) (s .args .prices .now) (s .args .bands) (s .pre .1) (l .i) (t .loop-test .taken) (s .pre .0 .2) (l .inv .1) (c .before .lesser .ensures) refl (l .inv .3)
+    more-asks (s .args .ends .now) (s .args .prices .now) (s .args .bands) (s .pre .1) (l .i) (t .loop-test .taken) (s .pre .0 .2) (l .inv .1)
+    (c .before .lesser .ensures) refl (l .inv .3)
 
 add-i : tie.Need-add-i Inv-loop μ-loop
 add-i c =

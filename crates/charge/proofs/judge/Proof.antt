@@ -10,7 +10,8 @@ returns : tie.Need-returns
 returns c = let at-lent = c .before .before .before in sym (judged-out _ _ _ _ _ (at-lent .lent .ensures) (ap said (c .before .tables .given .1)))
 
 bands-good-requires : tie.Need-bands-good-requires
-bands-good-requires c κs = lent-long (c .before .before .before .before .before .args .remainder) (c .before .before .lent .ensures) (ap said (c .enum-told .given .1))
+bands-good-requires c κs = lent-long (c .before .before .before .before .before .args .remainder) (c .before .before .lent .ensures)
+    (ap said (c .enum-told .given .1))
 
 returns-2 : tie.Need-returns-2
 returns-2 c =

@@ -19,14 +19,17 @@ returns-2 : tie.Need-returns-2
 returns-2 c =
     let at-gains = c .before .before .before in
     let told = at-gains .before .before in
-    too-much _ _ _ _ _ (told .before .before .lent .ensures) (ap said (told .enum-told .given .1)) _ (refuses (at-gains .gains-good .ensures) (c .before .gains .given .1))
+    too-much _ _ _ _ _ (told .before .before .lent .ensures) (ap said (told .enum-told .given .1)) _
+    (refuses (at-gains .gains-good .ensures) (c .before .gains .given .1))
 
 raise-requires : tie.Need-raise-requires
 raise-requires c κs =
     let told2 = c .before in
     let at-gains = told2 .before .before in
-    let told = at-gains .before .before in
-    (lent-long (told .before .before .lent .ensures) (ap said (told .enum-told .given .1)), passes (at-gains .gains-good .ensures) (told2 .enum-told2 .given .1))
+    let told = at-gains .before .before in (
+      lent-long (told .before .before .lent .ensures) (ap said (told .enum-told .given .1)),
+      passes (at-gains .gains-good .ensures) (told2 .enum-told2 .given .1),
+    )
 
 returns-3 : tie.Need-returns-3
 returns-3 c =
@@ -34,7 +37,8 @@ returns-3 c =
     let told2 = at-raise .before .before in
     let at-gains = told2 .before .before in
     let told = at-gains .before .before in
-    added _ _ _ _ _ (told .before .before .lent .ensures) (ap said (told .enum-told .given .1)) (passes (at-gains .gains-good .ensures) (told2 .enum-told2 .given .1)) _ (at-raise .raise .ensures)
+    added _ _ _ _ _ (told .before .before .lent .ensures) (ap said (told .enum-told .given .1))
+    (passes (at-gains .gains-good .ensures) (told2 .enum-told2 .given .1)) _ (at-raise .raise .ensures)
 
 pub add-spec : {M : Type 1} → statement M
 add-spec =

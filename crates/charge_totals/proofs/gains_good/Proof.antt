@@ -31,7 +31,8 @@ returns : tie.Need-returns Inv-loop μ-loop
 unfolding gainGood
 returns c =
     let said = rw (c .before .before .gain-at .ensures) at (c .before .gain-fits .ensures) in
-    scan-hit _ _ _ _ (c .before .before .before .before .loop-test .taken) (c .before .before .before .before .before .loop .inv .1) said (not-true _ (c .if1 .taken))
+    scan-hit _ _ _ _ (c .before .before .before .before .loop-test .taken) (c .before .before .before .before .before .loop .inv .1) said
+    (not-true _ (c .if1 .taken))
 
 add-f : tie.Need-add-f Inv-loop μ-loop
 add-f c =
@@ -45,8 +46,10 @@ loop-less c = turn-less (c .before .before .before .before .loop-test .taken)
 loop-again : tie.Need-loop-again Inv-loop μ-loop
 unfolding gainGood
 loop-again c =
-    let said = rw (c .before .before .gain-at .ensures) at (c .before .gain-fits .ensures) in
-    (turn-within (c .before .before .before .before .loop-test .taken), scan-pass _ _ _ (c .before .before .before .before .before .loop .inv .1) said (not-false _ (c .if1 .left)))
+    let said = rw (c .before .before .gain-at .ensures) at (c .before .gain-fits .ensures) in (
+      turn-within (c .before .before .before .before .loop-test .taken),
+      scan-pass _ _ _ (c .before .before .before .before .before .loop .inv .1) said (not-false _ (c .if1 .left)),
+    )
 
 returns-2 : tie.Need-returns-2 Inv-loop μ-loop
 returns-2 c = let l = c .before .loop in scan-end _ _ _ _ (l .inv .0) (c .loop-test .left) (l .inv .1)

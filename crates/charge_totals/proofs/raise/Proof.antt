@@ -29,21 +29,24 @@ raised-requires c κs =
     let t = c .before .before in
     let l = t .before .loop in
     let s = t .before .before .before .before in
-    turn-fits (s .args .seconds .now) (s .args .moved .now) (s .args .totals .now) (s .args .faces) (s .pre .1) (l .f) (t .loop-test .taken) (l .totals) (l .inv .2) (c .gain-at .ensures)
+    turn-fits (s .args .seconds .now) (s .args .moved .now) (s .args .totals .now) (s .args .faces) (s .pre .1) (l .f) (t .loop-test .taken) (l .totals)
+    (l .inv .2) (c .gain-at .ensures)
 
 loop-again : tie.Need-loop-again Inv-loop μ-loop
 loop-again c =
     let t = c .before .before .before in
     let l = t .before .loop in
     let s = t .before .before .before .before in
-    let v = turn-raised (s .args .seconds .now) (s .args .moved .now) (s .args .totals .now) (s .args .faces) (l .f) (l .totals) (l .inv .2) (c .before .gain-at .ensures) (c .raised .ensures) in
+    let v = turn-raised (s .args .seconds .now) (s .args .moved .now) (s .args .totals .now) (s .args .faces) (l .f) (l .totals) (l .inv .2)
+    (c .before .gain-at .ensures) (c .raised .ensures) in
     (turn-within (t .loop-test .taken), simp length-set (l .inv .1), over-step _ _ (l .f) (turn-in (t .loop-test .taken) (s .pre .0 .2)) (l .inv .2) v)
 
 returns : tie.Need-returns Inv-loop μ-loop
 returns c =
     let l = c .before .loop in
     let s = c .before .before .before .before in
-    all-raised (s .args .seconds .now) (s .args .moved .now) (s .args .totals .now) (s .args .faces) (l .f) (l .totals) (l .inv .0) (c .loop-test .left) (l .inv .2)
+    all-raised (s .args .seconds .now) (s .args .moved .now) (s .args .totals .now) (s .args .faces) (l .f) (l .totals) (l .inv .0) (c .loop-test .left)
+    (l .inv .2)
 
 pub raise-spec : {M : Type 1} → statement M
 raise-spec =

@@ -49,7 +49,8 @@ raise-requires c κs =
     let z = read c in
     let t = turn z in
     let s = begun t in
-    in-asks (s .args .faces) (s .args .firsts .now) (s .args .seconds .now) (s .args .fluxes .now) (s .pre .0 .0) (s .pre .1 .0) (t .before .loop .f) (t .loop-test .taken)
+    in-asks (s .args .faces) (s .args .firsts .now) (s .args .seconds .now) (s .args .fluxes .now) (s .pre .0 .0) (s .pre .1 .0) (t .before .loop .f)
+    (t .loop-test .taken)
     _ _ (z .before .is-negative-at .ensures) (z .size-at .ensures) _ _ (c .receiver .ensures) (t .before .loop .inv .1)
 
 raise-requires-2 : tie.Need-raise-requires-2 Inv-loop μ-loop
@@ -57,7 +58,8 @@ raise-requires-2 c κs =
     let z = read (entered c) in
     let t = turn z in
     let s = begun t in
-    out-asks (s .args .faces) (s .args .firsts .now) (s .args .seconds .now) (s .args .fluxes .now) (s .pre .0 .0) (s .pre .1 .0) (t .before .loop .f) (t .loop-test .taken)
+    out-asks (s .args .faces) (s .args .firsts .now) (s .args .seconds .now) (s .args .fluxes .now) (s .pre .0 .0) (s .pre .1 .0) (t .before .loop .f)
+    (t .loop-test .taken)
     _ _ (z .before .is-negative-at .ensures) (z .size-at .ensures) _ _ (c .giver .ensures) (t .before .loop .inv .2)
 
 loop-again : tie.Need-loop-again Inv-loop μ-loop
@@ -96,19 +98,22 @@ size-at-requires : tie.Need-size-at-requires Inv-loop μ-loop
 size-at-requires c κs = turn-in (c .before .loop-test .taken) (search needs)
 
 mul-first : tie.Need-mul-first Inv-loop μ-loop
-mul-first c = let t = c .before .before in let s = t .before .before .before .before .before .before in turn-bytes (t .loop-test .taken) (s .pre .0 .1) (s .good .1 .0 .1)
+mul-first c = let t = c .before .before in let s = t .before .before .before .before .before .before in
+    turn-bytes (t .loop-test .taken) (s .pre .0 .1) (s .good .1 .0 .1)
 
 read-first : tie.Need-shared-slice-read-first Inv-loop μ-loop
 read-first c = turn-in (c .before .before .before .loop-test .taken) (search needs)
 
 mul-second : tie.Need-mul-second Inv-loop μ-loop
-mul-second c = let t = c .before .before .before in let s = t .before .before .before .before .before .before in turn-bytes (t .loop-test .taken) (s .pre .0 .2) (s .good .1 .1 .0 .1)
+mul-second c = let t = c .before .before .before in let s = t .before .before .before .before .before .before in
+    turn-bytes (t .loop-test .taken) (s .pre .0 .2) (s .good .1 .1 .0 .1)
 
 read-second : tie.Need-shared-slice-read-second Inv-loop μ-loop
 read-second c = turn-in (c .before .before .before .before .loop-test .taken) (search needs)
 
 add-f : tie.Need-add-f Inv-loop μ-loop
-add-f c = let t = c .before .before .before .before .before .before .before .before .before .before .before .before .before .before in let s = t .before .before .before .before .before .before in turn-next (t .loop-test .taken) (s .pre .0 .1) (s .good .1 .0 .0)
+add-f c = let t = c .before .before .before .before .before .before .before .before .before .before .before .before .before .before in let s =
+    t .before .before .before .before .before .before in turn-next (t .loop-test .taken) (s .pre .0 .1) (s .good .1 .0 .0)
 
 loop-less : tie.Need-loop-less Inv-loop μ-loop
 loop-less c = turn-less (c .before .before .before .before .before .before .before .before .before .before .before .before .before .before .loop-test .taken)

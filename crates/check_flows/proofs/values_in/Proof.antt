@@ -17,7 +17,8 @@ abbrev balanced-at : tie.After-outflow-fits → tie.After-balanced
 balanced-at c = c .before .before
 
 gather-requires : tie.Need-gather-requires
-gather-requires c κs = let s = c .before .before .before .before .before .before .before in ((s .pre .0 .1, s .pre .0 .3, s .pre .0 .4, s .pre .0 .5), (s .pre .1 .0, s .pre .1 .1))
+gather-requires c κs = let s = c .before .before .before .before .before .before .before in
+    ((s .pre .0 .1, s .pre .0 .3, s .pre .0 .4, s .pre .0 .5), (s .pre .1 .0, s .pre .1 .1))
 
 balanced-requires : tie.Need-balanced-requires
 balanced-requires c κs =
@@ -42,9 +43,11 @@ returns c =
     let g = gathered b in
     let s = start g in
     both-are (c .and-then .ensures)
-    (b .balanced .ensures ∙ balance-read (s .args .cells) (s .args .faces) (s .args .volumes .now) (s .args .firsts .now) (s .args .seconds .now) (s .args .fluxes .now)
+    (b .balanced .ensures ∙ balance-read (s .args .cells) (s .args .faces) (s .args .volumes .now) (s .args .firsts .now) (s .args .seconds .now)
+    (s .args .fluxes .now)
     (s .pre .0 .0) _ _ (g .gather .ensures .0) (g .gather .ensures .1))
-    (o .outflow-fits .ensures ∙ outflow-read (s .args .cells) (s .args .faces) (s .args .volumes .now) (s .args .firsts .now) (s .args .seconds .now) (s .args .fluxes .now)
+    (o .outflow-fits .ensures ∙ outflow-read (s .args .cells) (s .args .faces) (s .args .volumes .now) (s .args .firsts .now) (s .args .seconds .now)
+    (s .args .fluxes .now)
     (s .pre .0 .0) _ _ (g .gather .ensures .0) (g .gather .ensures .1))
 
 pub values-in-spec : {M : Type 1} → statement M

@@ -16,10 +16,14 @@ abbrev μ-loop : tie.MeasureT-loop
 μ-loop cells faces firsts seconds f₀ f = faces - f
 
 returns : tie.Need-returns Inv-loop μ-loop
-returns c = scan-hit _ _ _ _ (c .before .before .before .before .loop-test .taken) (c .before .before .before .before .before .loop .inv .1) (c .before .ends-fit .ensures) (not-true _ (c .if1 .taken))
+returns c = scan-hit _ _ _ _ (c .before .before .before .before .loop-test .taken) (c .before .before .before .before .before .loop .inv .1)
+    (c .before .ends-fit .ensures) (not-true _ (c .if1 .taken))
 
 loop-again : tie.Need-loop-again Inv-loop μ-loop
-loop-again c = (turn-within (c .before .before .before .before .loop-test .taken), scan-pass _ _ _ (c .before .before .before .before .before .loop .inv .1) (c .before .ends-fit .ensures) (not-false _ (c .if1 .left)))
+loop-again c = (
+  turn-within (c .before .before .before .before .loop-test .taken),
+  scan-pass _ _ _ (c .before .before .before .before .before .loop .inv .1) (c .before .ends-fit .ensures) (not-false _ (c .if1 .left)),
+)
 
 returns-2 : tie.Need-returns-2 Inv-loop μ-loop
 returns-2 c = let l = c .before .loop in scan-end _ _ _ _ (l .inv .0) (c .loop-test .left) (l .inv .1)
@@ -37,7 +41,8 @@ read-ends-fit-2 : tie.Need-shared-slice-read-ends-fit-2 Inv-loop μ-loop
 read-ends-fit-2 c = let t = c .before .before in turn-in (t .loop-test .taken) (t .before .before .before .before .pre .1)
 
 add-f : tie.Need-add-f Inv-loop μ-loop
-add-f c = let t = c .before .before .before .before in let s = t .before .before .before .before in turn-next (t .loop-test .taken) (s .pre .0) (s .good .1 .1 .0 .0)
+add-f c = let t = c .before .before .before .before in let s = t .before .before .before .before in
+    turn-next (t .loop-test .taken) (s .pre .0) (s .good .1 .1 .0 .0)
 
 loop-less : tie.Need-loop-less Inv-loop μ-loop
 loop-less c = turn-less (c .before .before .before .before .loop-test .taken)

@@ -30,7 +30,10 @@ loop-again c =
     )
 
 returns-3 : tie.Need-returns-3 Inv-loop μ-loop
-returns-3 c = let l = c .before .loop in λ e. (sym (scan-end _ _ _ _ (l .inv .0) (c .loop-test .left) (l .inv .1)), sym (scan-end _ _ _ _ (l .inv .0) (c .loop-test .left) (l .inv .2)))
+returns-3 c = let l = c .before .loop in λ e. (
+  sym (scan-end _ _ _ _ (l .inv .0) (c .loop-test .left) (l .inv .1)),
+  sym (scan-end _ _ _ _ (l .inv .0) (c .loop-test .left) (l .inv .2)),
+)
 
 mul-second : tie.Need-mul-second Inv-loop μ-loop
 mul-second c = let s = c .before .before .before .before .before .before in turn-bytes (c .loop-test .taken) (s .pre .1) (s .good .1 .1 .1 .0 .1)
@@ -39,25 +42,30 @@ read-second : tie.Need-shared-slice-read-second Inv-loop μ-loop
 read-second c = let t = c .before in turn-in (t .loop-test .taken) (t .before .before .before .before .before .before .pre .1)
 
 mul-ends-fit : tie.Need-mul-ends-fit Inv-loop μ-loop
-mul-ends-fit c = let t = c .before in let s = t .before .before .before .before .before .before in turn-bytes (t .loop-test .taken) (s .pre .0) (s .good .1 .1 .0 .1)
+mul-ends-fit c = let t = c .before in let s = t .before .before .before .before .before .before in
+    turn-bytes (t .loop-test .taken) (s .pre .0) (s .good .1 .1 .0 .1)
 
 read-ends-fit : tie.Need-shared-slice-read-ends-fit Inv-loop μ-loop
 read-ends-fit c = let t = c .before .before in turn-in (t .loop-test .taken) (t .before .before .before .before .before .before .pre .0)
 
 mul-spacing-fits : tie.Need-mul-spacing-fits Inv-loop μ-loop
-mul-spacing-fits c = let t = c .before .before .before .before in let s = t .before .before .before .before .before .before in turn-bytes (t .loop-test .taken) (s .pre .2) (s .good .1 .1 .1 .1 .0 .1)
+mul-spacing-fits c = let t = c .before .before .before .before in let s = t .before .before .before .before .before .before in
+    turn-bytes (t .loop-test .taken) (s .pre .2) (s .good .1 .1 .1 .1 .0 .1)
 
 read-spacing-fits : tie.Need-shared-slice-read-spacing-fits Inv-loop μ-loop
 read-spacing-fits c = turn-in (c .before .before .before .before .before .loop-test .taken) (search needs)
 
 mul-spacing-fits-2 : tie.Need-mul-spacing-fits-2 Inv-loop μ-loop
-mul-spacing-fits-2 c = let t = c .before .before .before .before .before in let s = t .before .before .before .before .before .before in turn-bytes (t .loop-test .taken) (s .pre .3) (s .good .1 .1 .1 .1 .1 .0 .1)
+mul-spacing-fits-2 c = let t = c .before .before .before .before .before in let s = t .before .before .before .before .before .before in
+    turn-bytes (t .loop-test .taken) (s .pre .3) (s .good .1 .1 .1 .1 .1 .0 .1)
 
 read-spacing-fits-2 : tie.Need-shared-slice-read-spacing-fits-2 Inv-loop μ-loop
-read-spacing-fits-2 c = let t = c .before .before .before .before .before .before in turn-in (t .loop-test .taken) (t .before .before .before .before .before .before .pre .3)
+read-spacing-fits-2 c = let t = c .before .before .before .before .before .before in
+    turn-in (t .loop-test .taken) (t .before .before .before .before .before .before .pre .3)
 
 add-f : tie.Need-add-f Inv-loop μ-loop
-add-f c = let t = c .before .before .before .before .before .before .before .before in let s = t .before .before .before .before .before .before in turn-next (t .loop-test .taken) (s .pre .1) (s .good .1 .1 .1 .0 .0)
+add-f c = let t = c .before .before .before .before .before .before .before .before in let s = t .before .before .before .before .before .before in
+    turn-next (t .loop-test .taken) (s .pre .1) (s .good .1 .1 .1 .0 .0)
 
 loop-less : tie.Need-loop-less Inv-loop μ-loop
 loop-less c = turn-less (c .before .before .before .before .before .before .before .before .loop-test .taken)

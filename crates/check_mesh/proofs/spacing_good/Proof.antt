@@ -16,10 +16,14 @@ abbrev μ-loop : tie.MeasureT-loop
 μ-loop faces seconds shares reaches most f₀ f = faces - f
 
 returns : tie.Need-returns Inv-loop μ-loop
-returns c = scan-hit _ _ _ _ (c .before .before .before .before .before .loop-test .taken) (c .before .before .before .before .before .before .loop .inv .1) (c .before .spacing-fits .ensures) (not-true _ (c .if1 .taken))
+returns c = scan-hit _ _ _ _ (c .before .before .before .before .before .loop-test .taken) (c .before .before .before .before .before .before .loop .inv .1)
+    (c .before .spacing-fits .ensures) (not-true _ (c .if1 .taken))
 
 loop-again : tie.Need-loop-again Inv-loop μ-loop
-loop-again c = (turn-within (c .before .before .before .before .before .loop-test .taken), scan-pass _ _ _ (c .before .before .before .before .before .before .loop .inv .1) (c .before .spacing-fits .ensures) (not-false _ (c .if1 .left)))
+loop-again c = (
+  turn-within (c .before .before .before .before .before .loop-test .taken),
+  scan-pass _ _ _ (c .before .before .before .before .before .before .loop .inv .1) (c .before .spacing-fits .ensures) (not-false _ (c .if1 .left)),
+)
 
 returns-2 : tie.Need-returns-2 Inv-loop μ-loop
 returns-2 c = let l = c .before .loop in scan-end _ _ _ _ (l .inv .0) (c .loop-test .left) (l .inv .1)
@@ -31,19 +35,22 @@ read-spacing-fits : tie.Need-shared-slice-read-spacing-fits Inv-loop μ-loop
 read-spacing-fits c = let t = c .before in turn-in (t .loop-test .taken) (t .before .before .before .before .before .pre .0)
 
 mul-spacing-fits-2 : tie.Need-mul-spacing-fits-2 Inv-loop μ-loop
-mul-spacing-fits-2 c = let t = c .before in let s = t .before .before .before .before .before in turn-bytes (t .loop-test .taken) (s .pre .1) (s .good .1 .1 .0 .1)
+mul-spacing-fits-2 c = let t = c .before in let s = t .before .before .before .before .before in
+    turn-bytes (t .loop-test .taken) (s .pre .1) (s .good .1 .1 .0 .1)
 
 read-spacing-fits-2 : tie.Need-shared-slice-read-spacing-fits-2 Inv-loop μ-loop
 read-spacing-fits-2 c = let t = c .before .before in turn-in (t .loop-test .taken) (t .before .before .before .before .before .pre .1)
 
 mul-spacing-fits-3 : tie.Need-mul-spacing-fits-3 Inv-loop μ-loop
-mul-spacing-fits-3 c = let t = c .before .before in let s = t .before .before .before .before .before in turn-bytes (t .loop-test .taken) (s .pre .2) (s .good .1 .1 .1 .0 .1)
+mul-spacing-fits-3 c = let t = c .before .before in let s = t .before .before .before .before .before in
+    turn-bytes (t .loop-test .taken) (s .pre .2) (s .good .1 .1 .1 .0 .1)
 
 read-spacing-fits-3 : tie.Need-shared-slice-read-spacing-fits-3 Inv-loop μ-loop
 read-spacing-fits-3 c = let t = c .before .before .before in turn-in (t .loop-test .taken) (t .before .before .before .before .before .pre .2)
 
 add-f : tie.Need-add-f Inv-loop μ-loop
-add-f c = let t = c .before .before .before .before .before in let s = t .before .before .before .before .before in turn-next (t .loop-test .taken) (s .pre .0) (s .good .1 .0 .0)
+add-f c = let t = c .before .before .before .before .before in let s = t .before .before .before .before .before in
+    turn-next (t .loop-test .taken) (s .pre .0) (s .good .1 .0 .0)
 
 loop-less : tie.Need-loop-less Inv-loop μ-loop
 loop-less c = turn-less (c .before .before .before .before .before .loop-test .taken)

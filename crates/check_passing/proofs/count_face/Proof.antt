@@ -15,7 +15,8 @@ use Rattle.check_passing.proofs.count_face.Tie as tie
 abbrev start : tie.Else1 → tie.Start
 start c = c .before .before .before
 
-fine : (c : tie.Else1) → let s = start c in FaceFine (s .args .cells) (s .args .first) (s .args .second) (s .args .share) (s .args .reach) (s .args .inward) (s .args .size) (s .args .outside)
+fine : (c : tie.Else1) → let s = start c in FaceFine (s .args .cells) (s .args .first) (s .args .second) (s .args .share) (s .args .reach) (s .args .inward)
+    (s .args .size) (s .args .outside)
 fine c = c .before .face-fits .ensures (not-false _ (c .if1 .left))
 
 small : (c : tie.Else1) → start c .args .size ≤ ceiling
@@ -45,7 +46,8 @@ raise-requires c κs =
 abbrev tested : tie.After-raise → tie.Else1
 tested c = c .before .before .before .before
 
-raised : (c : tie.After-raise) → let s = start (tested c) in c .raise .last .0 ≡ plus (s .args .sums .now) (cond (s .args .inward) (s .args .first) (s .args .second)) (s .args .size)
+raised : (c : tie.After-raise) → let s = start (tested c) in c .raise .last .0
+    ≡ plus (s .args .sums .now) (cond (s .args .inward) (s .args .first) (s .args .second)) (s .args .size)
 raised c = rw (c .before .before .before .end-of .ensures) at (c .raise .ensures)
 
 mul-raise : tie.Need-mul-raise
@@ -59,7 +61,8 @@ raise-requires-2 c κs =
     let r = cond (s .args .inward) (s .args .first) (s .args .second) in
     let t = cond (s .args .inward) (s .args .second) (s .args .first) in
     rw (w .before .before .end-of2 .ensures)
-    (plus-asks-2 (s .args .sums .now) _ (maxCells + 1) r t (s .args .size) (s .pre .0 .1) (receiver-in i) (giver-in i) (raised w) (s .pre .1 t (omega (arith, giver-in i))) (small i))
+    (plus-asks-2 (s .args .sums .now) _ (maxCells + 1) r t (s .args .size) (s .pre .0 .1) (receiver-in i) (giver-in i) (raised w)
+    (s .pre .1 t (omega (arith, giver-in i))) (small i))
 
 returns-2 : tie.Need-returns-2
 unfolding counted
@@ -71,4 +74,5 @@ returns-2 c =
 pub count-face-spec : {M : Type 1} → statement M
 count-face-spec =
     tie.close
-    (tie.spec (λ c κs. c .before .pre .0 .0) (λ c e. absurd (true≢false (sym e))) (search needs) (search needs) raise-requires mul-raise raise-requires-2 (search needs) returns-2)
+    (tie.spec (λ c κs. c .before .pre .0 .0) (λ c e. absurd (true≢false (sym e))) (search needs) (search needs) raise-requires mul-raise raise-requires-2
+    (search needs) returns-2)

@@ -22,7 +22,8 @@ use Rattle.check_passing.proofs.faces_fit.Tie as tie
 
 abbrev Inv-loop : tie.InvT-loop
 Inv-loop cells faces firsts seconds shares reaches fluxes outsides sums₀ f₀ sums f =
-    (f ≤ faces) × (length sums ≡ length sums₀) × FacesFine cells f firsts seconds shares reaches fluxes outsides × (sums ≡ table (maxCells + 1) (countedBelow f firsts seconds fluxes))
+    (f ≤ faces) × (length sums ≡ length sums₀) × FacesFine cells f firsts seconds shares reaches fluxes outsides
+    × (sums ≡ table (maxCells + 1) (countedBelow f firsts seconds fluxes))
 
 abbrev μ-loop : tie.MeasureT-loop
 μ-loop cells faces firsts seconds shares reaches fluxes outsides sums₀ f₀ sums f = faces - f
@@ -48,7 +49,8 @@ count-face-requires c κs =
     let s = begun t in
     let l = t .before .loop in (
       (s .pre .0 .0, ap length (l .inv .3) ∙ length-table _ _),
-      room-left (s .args .firsts .now) (s .args .seconds .now) (s .args .fluxes .now) (s .args .cells) (l .f) (s .args .shares .now) (s .args .reaches .now) (s .args .outsides .now) (l .sums)
+      room-left (s .args .firsts .now) (s .args .seconds .now) (s .args .fluxes .now) (s .args .cells) (l .f) (s .args .shares .now) (s .args .reaches .now)
+          (s .args .outsides .now) (l .sums)
           (omega (arith, t .loop-test .taken, s .pre .0 .1)) (l .inv .2) (l .inv .3),
     )
 
@@ -66,11 +68,14 @@ loop-again c =
     let n = z .before .is-negative-at .ensures in
     let done = q .count-face .ensures (not-false _ (c .if1 .left)) in
     let w = ends-within (s .args .cells) _ _ (s .pre .0 .0) (done .0 .0) in
-    let sums-now = counted-turn (s .args .firsts .now) (s .args .seconds .now) (s .args .fluxes .now) (l .f) _ _ (l .sums) _ n (z .size-at .ensures) (w .0) (w .1) (l .inv .3) (done .1) in (
+    let sums-now = counted-turn (s .args .firsts .now) (s .args .seconds .now) (s .args .fluxes .now) (l .f) _ _ (l .sums) _ n (z .size-at .ensures) (w .0)
+    (w .1) (l .inv .3) (done .1) in (
       turn-within (t .loop-test .taken),
       ap length sums-now ∙ length-table _ _ ∙ sym (ap length (s .pre .1 .1) ∙ length-table _ _),
-      below-more (λ g. FaceFine (s .args .cells) (getD (s .args .firsts .now) g 0) (getD (s .args .seconds .now) g 0) (getD (s .args .shares .now) g 0) (getD (s .args .reaches .now) g 0)
-          (isNegative (getD (s .args .fluxes .now) g (pos 0))) (size (getD (s .args .fluxes .now) g (pos 0))) (getD (s .args .outsides .now) g 0)) (l .f) (l .inv .2) (rw (n, z .size-at .ensures) at (done .0)),
+      below-more (λ g. FaceFine (s .args .cells) (getD (s .args .firsts .now) g 0) (getD (s .args .seconds .now) g 0) (getD (s .args .shares .now) g 0)
+          (getD (s .args .reaches .now) g 0)
+          (isNegative (getD (s .args .fluxes .now) g (pos 0))) (size (getD (s .args .fluxes .now) g (pos 0))) (getD (s .args .outsides .now) g 0)) (l .f)
+          (l .inv .2) (rw (n, z .size-at .ensures) at (done .0)),
       sums-now,
     )
 
@@ -87,9 +92,12 @@ faces-fit-spec =
     (λ c κs. turn-in (c .loop-test .taken) (begun c .pre .1 .0 .4)) (λ c κs. let t = c .before in turn-in (t .loop-test .taken) (begun t .pre .1 .0 .4))
     (λ c. bytes (c .before .before)) (λ c. let t = c .before .before .before in turn-in (t .loop-test .taken) (begun t .pre .1 .0 .0))
     (λ c. bytes (c .before .before .before)) (λ c. let t = c .before .before .before .before in turn-in (t .loop-test .taken) (begun t .pre .1 .0 .1))
-    (λ c. bytes (c .before .before .before .before)) (λ c. let t = c .before .before .before .before .before in turn-in (t .loop-test .taken) (begun t .pre .1 .0 .2))
-    (λ c. bytes (c .before .before .before .before .before)) (λ c. let t = c .before .before .before .before .before .before in turn-in (t .loop-test .taken) (begun t .pre .1 .0 .3))
-    (λ c. bytes (c .before .before .before .before .before .before)) (λ c. let t = c .before .before .before .before .before .before .before in turn-in (t .loop-test .taken) (begun t .pre .1 .0 .5))
+    (λ c. bytes (c .before .before .before .before)) (λ c. let t = c .before .before .before .before .before in
+    turn-in (t .loop-test .taken) (begun t .pre .1 .0 .2))
+    (λ c. bytes (c .before .before .before .before .before))
+    (λ c. let t = c .before .before .before .before .before .before in turn-in (t .loop-test .taken) (begun t .pre .1 .0 .3))
+    (λ c. bytes (c .before .before .before .before .before .before))
+    (λ c. let t = c .before .before .before .before .before .before .before in turn-in (t .loop-test .taken) (begun t .pre .1 .0 .5))
     count-face-requires (search needs) (λ c e. absurd (true≢false (sym e)))
     (λ c. let t = turned (c .before .before .before) in turn-next (t .loop-test .taken) (begun t .pre .0 .1) (omega arith))
     (λ c. turn-less (turned (c .before .before .before) .loop-test .taken)) loop-again (λ c. c .before .loop .inv .1) returns-2)

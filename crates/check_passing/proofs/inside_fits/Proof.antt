@@ -14,7 +14,8 @@ returns-7 c =
     let i = c .before .before .before .before .before .before in
     λ e. inside-fine (s .args .cells) (s .args .first) (s .args .second) (s .args .share) (s .args .reach) (s .args .inward) (s .args .size) (s .args .outside)
     (λ (q : s .args .second ≡ rim). omega (arith, s .pre .0, s .pre .1)) (i .before .if1 .left) (s .pre .0) (i .if2 .left)
-    (sym (c .before .before .before .before .before .between .ensures) ∙ not-false _ (c .before .before .before .before .if3 .left)) (sym (c .before .before .before .between2 .ensures) ∙ not-false _ (c .before .before .if4 .left))
+    (sym (c .before .before .before .before .before .between .ensures) ∙ not-false _ (c .before .before .before .before .if3 .left))
+    (sym (c .before .before .before .between2 .ensures) ∙ not-false _ (c .before .before .if4 .left))
     (c .before .if5 .left) (c .if6 .left)
 
 pub inside-fits-spec : {M : Type 1} → statement M

@@ -25,11 +25,13 @@ returns-2 c =
     let q = c .before .before .before .before .before in
     let s = start q in
     let done = q .faces-fit .ensures (not-false _ (c .before .before .if1 .left)) in
-    λ e. faces-pass (s .args .firsts .now) (s .args .seconds .now) (s .args .fluxes .now) (s .args .cells) (s .args .faces) (s .args .volumes .now) (s .args .shares .now) (s .args .reaches .now)
+    λ e. faces-pass (s .args .firsts .now) (s .args .seconds .now) (s .args .fluxes .now) (s .args .cells) (s .args .faces) (s .args .volumes .now)
+    (s .args .shares .now) (s .args .reaches .now)
     (s .args .outsides .now) _ (s .pre .0 .0) (s .pre .0 .1) (done .0) (done .1) (c .sums-fit .ensures e)
 
 pub pass-in-spec : {M : Type 1} → statement M
 pass-in-spec =
     tie.close
-    (tie.spec (λ c κs. let s = c .before .before .before .before .before .before .before .before in ((s .pre .0 .0, s .pre .0 .1), (s .pre .1 .0, s .pre .1 .1))) (search needs) (λ c e. absurd (true≢false (sym e))) sums-fit-requires (search needs)
+    (tie.spec (λ c κs. let s = c .before .before .before .before .before .before .before .before in
+    ((s .pre .0 .0, s .pre .0 .1), (s .pre .1 .0, s .pre .1 .1))) (search needs) (λ c e. absurd (true≢false (sym e))) sums-fit-requires (search needs)
     returns-2)

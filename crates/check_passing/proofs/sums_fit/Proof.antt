@@ -27,7 +27,8 @@ loop-again c =
     let s = begun t in
     let l = t .before .loop in (
       turn-within (t .loop-test .taken),
-      below-more (λ k. SumFits (getD (s .args .volumes .now) k 0) (getD (s .args .sums .now) k 0)) (l .c) (l .inv .1) (c .before .sum-fits .ensures (not-false _ (c .if1 .left))),
+      below-more (λ k. SumFits (getD (s .args .volumes .now) k 0) (getD (s .args .sums .now) k 0)) (l .c) (l .inv .1)
+          (c .before .sum-fits .ensures (not-false _ (c .if1 .left))),
     )
 
 abbrev begun-after : tie.After-loop Inv-loop μ-loop → tie.Start Inv-loop μ-loop
@@ -43,7 +44,10 @@ pub sums-fit-spec : {M : Type 1} → statement M
 sums-fit-spec =
     tie.close
     (tie.spec Inv-loop μ-loop (λ c. (zero-le, below-none _))
-    (λ c. turn-bytes (c .loop-test .taken) (begun c .pre .0) (begun c .good .1 .0 .1)) (λ c. let t = c .before in turn-in (t .loop-test .taken) (begun t .pre .0))
-    (λ c. let t = c .before in turn-bytes (t .loop-test .taken) (begun t .pre .1) (begun t .good .1 .1 .0 .1)) (λ c. let t = c .before .before in turn-in (t .loop-test .taken) (begun t .pre .1))
+    (λ c. turn-bytes (c .loop-test .taken) (begun c .pre .0) (begun c .good .1 .0 .1))
+    (λ c. let t = c .before in turn-in (t .loop-test .taken) (begun t .pre .0))
+    (λ c. let t = c .before in turn-bytes (t .loop-test .taken) (begun t .pre .1) (begun t .good .1 .1 .0 .1))
+    (λ c. let t = c .before .before in turn-in (t .loop-test .taken) (begun t .pre .1))
     (search needs) (λ c e. absurd (true≢false (sym e)))
-    (λ c. let t = c .before .before .before .before in turn-next (t .loop-test .taken) (begun t .pre .0) (begun t .good .1 .0 .0)) (λ c. turn-less (c .before .before .before .before .loop-test .taken)) loop-again returns-2)
+    (λ c. let t = c .before .before .before .before in turn-next (t .loop-test .taken) (begun t .pre .0) (begun t .good .1 .0 .0))
+    (λ c. turn-less (c .before .before .before .before .loop-test .taken)) loop-again returns-2)

@@ -27,11 +27,17 @@ loop-again c =
     let at-outside = c .before .before .before .before in
     let l = at-outside .before .before .before .before .before .before .loop in
     let outside = rw (at-outside .before .before .before .is-negative-at .ensures) at (at-outside .before .outside-fits .ensures) in
-    let flux = rw (c .before .before .size-at .ensures) at (c .before .flux-fits .ensures) in
-    (turn-within (c .before .before .before .before .before .before .before .before .before .loop-test .taken), scan-pass _ _ _ (l .inv .1) outside (not-false _ (at-outside .if1 .left)), scan-pass _ _ _ (l .inv .2) flux (not-false _ (c .if2 .left)))
+    let flux = rw (c .before .before .size-at .ensures) at (c .before .flux-fits .ensures) in (
+      turn-within (c .before .before .before .before .before .before .before .before .before .loop-test .taken),
+      scan-pass _ _ _ (l .inv .1) outside (not-false _ (at-outside .if1 .left)),
+      scan-pass _ _ _ (l .inv .2) flux (not-false _ (c .if2 .left)),
+    )
 
 returns-3 : tie.Need-returns-3 Inv-loop μ-loop
-returns-3 c = let l = c .before .loop in λ e. (sym (scan-end _ _ _ _ (l .inv .0) (c .loop-test .left) (l .inv .1)), sym (scan-end _ _ _ _ (l .inv .0) (c .loop-test .left) (l .inv .2)))
+returns-3 c = let l = c .before .loop in λ e. (
+  sym (scan-end _ _ _ _ (l .inv .0) (c .loop-test .left) (l .inv .1)),
+  sym (scan-end _ _ _ _ (l .inv .0) (c .loop-test .left) (l .inv .2)),
+)
 
 mul-second : tie.Need-mul-second Inv-loop μ-loop
 mul-second c = let s = c .before .before .before .before .before in turn-bytes (c .loop-test .taken) (s .pre .0) (s .good .1 .0 .1)
@@ -43,22 +49,26 @@ is-negative-at-requires : tie.Need-is-negative-at-requires Inv-loop μ-loop
 is-negative-at-requires c κs = let t = c .before in turn-in (t .loop-test .taken) (t .before .before .before .before .before .pre .2)
 
 mul-outside-fits : tie.Need-mul-outside-fits Inv-loop μ-loop
-mul-outside-fits c = let t = c .before .before in let s = t .before .before .before .before .before in turn-bytes (t .loop-test .taken) (s .pre .3) (s .good .1 .1 .1 .1 .0 .1)
+mul-outside-fits c = let t = c .before .before in let s = t .before .before .before .before .before in
+    turn-bytes (t .loop-test .taken) (s .pre .3) (s .good .1 .1 .1 .1 .0 .1)
 
 read-outside-fits : tie.Need-shared-slice-read-outside-fits Inv-loop μ-loop
 read-outside-fits c = let t = c .before .before .before in turn-in (t .loop-test .taken) (t .before .before .before .before .before .pre .3)
 
 mul-flux-fits : tie.Need-mul-flux-fits Inv-loop μ-loop
-mul-flux-fits c = let t = c .before .before .before .before .before in let s = t .before .before .before .before .before in turn-bytes (t .loop-test .taken) (s .pre .1) (s .good .1 .1 .0 .1)
+mul-flux-fits c = let t = c .before .before .before .before .before in let s = t .before .before .before .before .before in
+    turn-bytes (t .loop-test .taken) (s .pre .1) (s .good .1 .1 .0 .1)
 
 read-flux-fits : tie.Need-shared-slice-read-flux-fits Inv-loop μ-loop
 read-flux-fits c = turn-in (c .before .before .before .before .before .before .loop-test .taken) (search needs)
 
 size-at-requires : tie.Need-size-at-requires Inv-loop μ-loop
-size-at-requires c κs = let t = c .before .before .before .before .before .before in turn-in (t .loop-test .taken) (t .before .before .before .before .before .pre .2)
+size-at-requires c κs = let t = c .before .before .before .before .before .before in
+    turn-in (t .loop-test .taken) (t .before .before .before .before .before .pre .2)
 
 add-f : tie.Need-add-f Inv-loop μ-loop
-add-f c = let t = c .before .before .before .before .before .before .before .before .before in let s = t .before .before .before .before .before in turn-next (t .loop-test .taken) (s .pre .0) (s .good .1 .0 .0)
+add-f c = let t = c .before .before .before .before .before .before .before .before .before in let s = t .before .before .before .before .before in
+    turn-next (t .loop-test .taken) (s .pre .0) (s .good .1 .0 .0)
 
 loop-less : tie.Need-loop-less Inv-loop μ-loop
 loop-less c = turn-less (c .before .before .before .before .before .before .before .before .before .loop-test .taken)

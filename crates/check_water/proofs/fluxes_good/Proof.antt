@@ -12,7 +12,8 @@ use Rattle.check_water.proofs.fluxes_good.Statement.{statement}
 use Rattle.check_water.proofs.fluxes_good.Tie as tie
 
 abbrev Inv-loop : tie.InvT-loop
-Inv-loop faces seconds reaches fluxes most f₀ f = (f ≤ faces) × (each 8 f (λ k. fluxFit most (getD seconds k 0) (getD reaches k 0) (size (getD fluxes k (pos 0)))) ≡ fine)
+Inv-loop faces seconds reaches fluxes most f₀ f = (f ≤ faces)
+    × (each 8 f (λ k. fluxFit most (getD seconds k 0) (getD reaches k 0) (size (getD fluxes k (pos 0)))) ≡ fine)
 
 abbrev μ-loop : tie.MeasureT-loop
 μ-loop faces seconds reaches fluxes most f₀ f = faces - f
@@ -20,12 +21,15 @@ abbrev μ-loop : tie.MeasureT-loop
 returns : tie.Need-returns Inv-loop μ-loop
 returns c =
     let said = rw (c .before .before .size-at .ensures) at (c .before .flux-fits .ensures) in
-    scan-hit _ _ _ _ (c .before .before .before .before .before .loop-test .taken) (c .before .before .before .before .before .before .loop .inv .1) said (not-true _ (c .if1 .taken))
+    scan-hit _ _ _ _ (c .before .before .before .before .before .loop-test .taken) (c .before .before .before .before .before .before .loop .inv .1) said
+    (not-true _ (c .if1 .taken))
 
 loop-again : tie.Need-loop-again Inv-loop μ-loop
 loop-again c =
-    let said = rw (c .before .before .size-at .ensures) at (c .before .flux-fits .ensures) in
-    (turn-within (c .before .before .before .before .before .loop-test .taken), scan-pass _ _ _ (c .before .before .before .before .before .before .loop .inv .1) said (not-false _ (c .if1 .left)))
+    let said = rw (c .before .before .size-at .ensures) at (c .before .flux-fits .ensures) in (
+      turn-within (c .before .before .before .before .before .loop-test .taken),
+      scan-pass _ _ _ (c .before .before .before .before .before .before .loop .inv .1) said (not-false _ (c .if1 .left)),
+    )
 
 returns-2 : tie.Need-returns-2 Inv-loop μ-loop
 returns-2 c = let l = c .before .loop in scan-end _ _ _ _ (l .inv .0) (c .loop-test .left) (l .inv .1)
@@ -46,7 +50,8 @@ size-at-requires : tie.Need-size-at-requires Inv-loop μ-loop
 size-at-requires c κs = let t = c .before .before in turn-in (t .loop-test .taken) (t .before .before .before .before .pre .2)
 
 add-f : tie.Need-add-f Inv-loop μ-loop
-add-f c = let t = c .before .before .before .before .before in let s = t .before .before .before .before in turn-next (t .loop-test .taken) (s .pre .0) (s .good .1 .0 .0)
+add-f c = let t = c .before .before .before .before .before in let s = t .before .before .before .before in
+    turn-next (t .loop-test .taken) (s .pre .0) (s .good .1 .0 .0)
 
 loop-less : tie.Need-loop-less Inv-loop μ-loop
 loop-less c = turn-less (c .before .before .before .before .before .loop-test .taken)

@@ -12,7 +12,8 @@ use Rattle.check_water.proofs.outsides_good.Statement.{statement}
 use Rattle.check_water.proofs.outsides_good.Tie as tie
 
 abbrev Inv-loop : tie.InvT-loop
-Inv-loop faces seconds fluxes outsides f₀ f = (f ≤ faces) × (each 7 f (λ k. outsideFit (getD seconds k 0) (isNegative (getD fluxes k (pos 0))) (getD outsides k 0)) ≡ fine)
+Inv-loop faces seconds fluxes outsides f₀ f = (f ≤ faces) × (each 7 f
+    (λ k. outsideFit (getD seconds k 0) (isNegative (getD fluxes k (pos 0))) (getD outsides k 0)) ≡ fine)
 
 abbrev μ-loop : tie.MeasureT-loop
 μ-loop faces seconds fluxes outsides f₀ f = faces - f
@@ -20,12 +21,15 @@ abbrev μ-loop : tie.MeasureT-loop
 returns : tie.Need-returns Inv-loop μ-loop
 returns c =
     let said = rw (c .before .before .before .is-negative-at .ensures) at (c .before .outside-fits .ensures) in
-    scan-hit _ _ _ _ (c .before .before .before .before .before .loop-test .taken) (c .before .before .before .before .before .before .loop .inv .1) said (not-true _ (c .if1 .taken))
+    scan-hit _ _ _ _ (c .before .before .before .before .before .loop-test .taken) (c .before .before .before .before .before .before .loop .inv .1) said
+    (not-true _ (c .if1 .taken))
 
 loop-again : tie.Need-loop-again Inv-loop μ-loop
 loop-again c =
-    let said = rw (c .before .before .before .is-negative-at .ensures) at (c .before .outside-fits .ensures) in
-    (turn-within (c .before .before .before .before .before .loop-test .taken), scan-pass _ _ _ (c .before .before .before .before .before .before .loop .inv .1) said (not-false _ (c .if1 .left)))
+    let said = rw (c .before .before .before .is-negative-at .ensures) at (c .before .outside-fits .ensures) in (
+      turn-within (c .before .before .before .before .before .loop-test .taken),
+      scan-pass _ _ _ (c .before .before .before .before .before .before .loop .inv .1) said (not-false _ (c .if1 .left)),
+    )
 
 returns-2 : tie.Need-returns-2 Inv-loop μ-loop
 returns-2 c = let l = c .before .loop in scan-end _ _ _ _ (l .inv .0) (c .loop-test .left) (l .inv .1)
@@ -40,13 +44,15 @@ is-negative-at-requires : tie.Need-is-negative-at-requires Inv-loop μ-loop
 is-negative-at-requires c κs = let t = c .before in turn-in (t .loop-test .taken) (t .before .before .before .before .pre .1)
 
 mul-outside-fits-2 : tie.Need-mul-outside-fits-2 Inv-loop μ-loop
-mul-outside-fits-2 c = let t = c .before .before in let s = t .before .before .before .before in turn-bytes (t .loop-test .taken) (s .pre .2) (s .good .1 .1 .1 .0 .1)
+mul-outside-fits-2 c = let t = c .before .before in let s = t .before .before .before .before in
+    turn-bytes (t .loop-test .taken) (s .pre .2) (s .good .1 .1 .1 .0 .1)
 
 read-outside-fits-2 : tie.Need-shared-slice-read-outside-fits-2 Inv-loop μ-loop
 read-outside-fits-2 c = let t = c .before .before .before in turn-in (t .loop-test .taken) (t .before .before .before .before .pre .2)
 
 add-f : tie.Need-add-f Inv-loop μ-loop
-add-f c = let t = c .before .before .before .before .before in let s = t .before .before .before .before in turn-next (t .loop-test .taken) (s .pre .0) (s .good .1 .0 .0)
+add-f c = let t = c .before .before .before .before .before in let s = t .before .before .before .before in
+    turn-next (t .loop-test .taken) (s .pre .0) (s .good .1 .0 .0)
 
 loop-less : tie.Need-loop-less Inv-loop μ-loop
 loop-less c = turn-less (c .before .before .before .before .before .loop-test .taken)

@@ -19,14 +19,16 @@ abbrev start : tie.After-and-then → tie.Start
 start c = half (c .before .before .before .before .before .before .before)
 
 abbrev mesh : tie.Start → Mesh
-mesh s = meshOf (s .args .cells) (s .args .faces) (s .args .volumes .now) (s .args .firsts .now) (s .args .seconds .now) (s .args .shares .now) (s .args .reaches .now)
+mesh s = meshOf (s .args .cells) (s .args .faces) (s .args .volumes .now) (s .args .firsts .now) (s .args .seconds .now) (s .args .shares .now)
+    (s .args .reaches .now)
 
 abbrev call : tie.Start → Call
 call s = claimOf (s .args .fluxes .now) (s .args .outsides .now) (s .args .next .now) (s .args .claim .now) (s .args .releases .now)
 
 -- counts and lengths together
 lent-is : (c : tie.After-and-then) → let s = start c in
-    said (c .and-then .result) ≡ (counts (mesh s) andThen meshTables (mesh s) andThen fieldTable (mesh s) (s .args .masses .now) andThen claimTables (mesh s) (s .args .masses .now) (call s))
+    said (c .and-then .result) ≡ (counts (mesh s) andThen meshTables (mesh s) andThen fieldTable (mesh s) (s .args .masses .now)
+    andThen claimTables (mesh s) (s .args .masses .now) (call s))
 unfolding claimTables
 lent-is c = both-are (c .and-then .ensures) (c .before .before .field-lent .ensures) (c .before .claim-lent .ensures)
 

@@ -36,7 +36,8 @@ pass-requires c κs =
     let s = start (tested .before .before .before .before) in
     step-lent _ _ (callOf (s .args .fluxes .now) (s .args .outsides .now) (s .args .next .now) (s .args .moved .now) (s .args .work .now)
     (s .args .releases .now))
-    (passes (tested .before .before .before .field-lent .ensures) (tested .before .enum-told .given .1)) (passes (tested .step-lent .ensures) (c .enum-told2 .given .1))
+    (passes (tested .before .before .before .field-lent .ensures) (tested .before .enum-told .given .1))
+    (passes (tested .step-lent .ensures) (c .enum-told2 .given .1))
 
 returns-3 : tie.Need-returns-3
 unfolding stepTables
@@ -55,7 +56,8 @@ step-values-requires c κs =
     let s = start (tested .before .before .before .before) in
     step-lent _ _ (callOf (s .args .fluxes .now) (s .args .outsides .now) (s .args .next .now) (s .args .moved .now) (s .args .work .now)
     (s .args .releases .now))
-    (passes (tested .before .before .before .field-lent .ensures) (tested .before .enum-told .given .1)) (passes (tested .step-lent .ensures) (told .enum-told2 .given .1))
+    (passes (tested .before .before .before .field-lent .ensures) (tested .before .enum-told .given .1))
+    (passes (tested .step-lent .ensures) (told .enum-told2 .given .1))
 
 returns-4 : tie.Need-returns-4
 unfolding stepTables
@@ -69,4 +71,5 @@ returns-4 c =
 pub check-step-spec : {M : Type 1} → statement M
 check-step-spec =
     tie.close
-    (tie.spec (search needs) (search needs) returns (search needs) step-lent-requires (search needs) returns-2 (search needs) pass-requires returns-3 step-values-requires returns-4)
+    (tie.spec (search needs) (search needs) returns (search needs) step-lent-requires (search needs) returns-2 (search needs) pass-requires returns-3
+    step-values-requires returns-4)

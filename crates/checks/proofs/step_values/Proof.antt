@@ -42,7 +42,8 @@ unfolding fieldValues saltGood raisedValues raisedGood outsideGood fluxGood
 returns-2 c =
     let tested = c .before .before .before in
     let mesh = passes (meshed (shaped tested) .values .ensures) (shaped tested .enum-told .given .1) in
-    let salt = both-are (tested .before .before .and-then .ensures) (tested .before .before .before .before .values2 .ensures) (tested .before .before .before .values3 .ensures) in
+    let salt = both-are (tested .before .before .and-then .ensures) (tested .before .before .before .before .values2 .ensures)
+    (tested .before .before .before .values3 .ensures) in
     let water = both-are (tested .and-then2 .ensures) salt (tested .before .values4 .ensures) in
     sym (in-groups _ _ _ ∙ refused-at (_ ∷ []) (_ ∷ []) (mesh, tt) (refuses water (c .before .b .given .1)))
 
@@ -51,7 +52,8 @@ unfolding fieldValues saltGood raisedValues raisedGood outsideGood fluxGood
 values-requires-5 c κs =
     let tested = c .before .before in
     let mesh = passes (meshed (shaped tested) .values .ensures) (shaped tested .enum-told .given .1) in
-    let salt = both-are (tested .before .before .and-then .ensures) (tested .before .before .before .before .values2 .ensures) (tested .before .before .before .values3 .ensures) in
+    let salt = both-are (tested .before .before .and-then .ensures) (tested .before .before .before .before .values2 .ensures)
+    (tested .before .before .before .values3 .ensures) in
     let water = both-are (tested .and-then2 .ensures) salt (tested .before .values4 .ensures) in
     flows-ask _ _ _ (start (meshed (shaped tested)) .pre) mesh (passes water (c .enum-told2 .given .1))
 
@@ -60,7 +62,8 @@ unfolding fieldValues saltGood raisedValues raisedGood outsideGood fluxGood bala
 returns-3 c =
     let tested = c .before .before .before in
     let mesh = passes (meshed (shaped tested) .values .ensures) (shaped tested .enum-told .given .1) in
-    let salt = both-are (tested .before .before .and-then .ensures) (tested .before .before .before .before .values2 .ensures) (tested .before .before .before .values3 .ensures) in
+    let salt = both-are (tested .before .before .and-then .ensures) (tested .before .before .before .before .values2 .ensures)
+    (tested .before .before .before .values3 .ensures) in
     let water = both-are (tested .and-then2 .ensures) salt (tested .before .values4 .ensures) in
     c .values5 .ensures ∙ sym (in-groups _ _ _ ∙ past _ (past _ mesh ∙ passes water (c .before .enum-told2 .given .1)))
 

@@ -18,7 +18,8 @@ returns : tie.Need-returns
 unfolding valuesFound valuesVerdict labelValues labelGood partGood
 returns c =
     let t = c .before .before in
-    rw (c .and-then2 .ensures, c .before .step-values .ensures, t .and-then .ensures, t .before .labels-fit .ensures, t .before .before .values .ensures) (mesh-once _ _ _ _ _)
+    rw (c .and-then2 .ensures, c .before .step-values .ensures, t .and-then .ensures, t .before .labels-fit .ensures, t .before .before .values .ensures)
+    (mesh-once _ _ _ _ _)
 
 pub values-spec : {M : Type 1} → statement M
 values-spec = tie.close (tie.spec values-requires (λ c κs. start c .pre .1) (search needs) (λ c κs. start (c .before .before) .pre .0) (search needs) returns)

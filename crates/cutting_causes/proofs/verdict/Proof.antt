@@ -16,8 +16,11 @@ values-requires : tie.Need-values-requires
 values-requires c κs =
     let t = c .before .before in
     let s = start t in
-    step-lent (s .args .cells) (s .args .faces) (s .args .volumes .now) (s .args .firsts .now) (s .args .seconds .now) (s .args .shares .now) (s .args .reaches .now) (s .args .masses .now) (s .args .fluxes .now) (s .args .outsides .now) (s .args .releases .now) (s .args .labels .now)
-    (s .args .v0) (s .args .v1) (s .args .f0) (s .args .f1) (s .args .s0) (s .args .s1) (s .args .h0) (s .args .h1) (s .args .k0) (s .args .k1) (s .args .m0) (s .args .m1) (s .args .u0) (s .args .u1) (s .args .o0) (s .args .o1) (s .args .r0) (s .args .r1) (passes (t .lengths .ensures) (c .enum-told .given .1))
+    step-lent (s .args .cells) (s .args .faces) (s .args .volumes .now) (s .args .firsts .now) (s .args .seconds .now) (s .args .shares .now)
+    (s .args .reaches .now) (s .args .masses .now) (s .args .fluxes .now) (s .args .outsides .now) (s .args .releases .now) (s .args .labels .now)
+    (s .args .v0) (s .args .v1) (s .args .f0) (s .args .f1) (s .args .s0) (s .args .s1) (s .args .h0) (s .args .h1) (s .args .k0) (s .args .k1) (s .args .m0)
+    (s .args .m1) (s .args .u0) (s .args .u1) (s .args .o0) (s .args .o1) (s .args .r0) (s .args .r1)
+    (passes (t .lengths .ensures) (c .enum-told .given .1))
 
 returns-2 : tie.Need-returns-2
 returns-2 c = c .values .ensures ∙ sym (past _ (passes (c .before .before .before .lengths .ensures) (c .before .enum-told .given .1)))

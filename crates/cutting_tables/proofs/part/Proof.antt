@@ -87,10 +87,12 @@ seconds-requires : tie.Need-seconds-requires
 seconds-requires c κs = let g = of-firsts (c .before .before .before) .pre in (g .joined, g .room .seconds-long)
 
 spacings-requires : tie.Need-spacings-requires
-spacings-requires c κs = let g = of-seconds (c .before .before .before) .pre in ((faces-lent _ _ _ 0 _ _ (g .joined), g .room .shares-long), g .whole .shares-long)
+spacings-requires c κs = let g = of-seconds (c .before .before .before) .pre in
+    ((faces-lent _ _ _ 0 _ _ (g .joined), g .room .shares-long), g .whole .shares-long)
 
 spacings-requires-2 : tie.Need-spacings-requires-2
-spacings-requires-2 c κs = let g = of-spacings (c .before .before .before) .pre in ((faces-lent _ _ _ 0 _ _ (g .joined), g .room .reaches-long), g .whole .reaches-long)
+spacings-requires-2 c κs = let g = of-spacings (c .before .before .before) .pre in
+    ((faces-lent _ _ _ 0 _ _ (g .joined), g .room .reaches-long), g .whole .reaches-long)
 
 fluxes-requires : tie.Need-fluxes-requires
 fluxes-requires c κs =

@@ -10,7 +10,8 @@ use Rattle.judging.proofs.first_passes.Statement.{statement}
 use Rattle.judging.proofs.first_passes.Tie as tie
 
 abbrev input : tie.Start → StepInput
-input s = inputFrom (s .args .cells) (s .args .faces) (s .args .volumes .now) (s .args .firsts .now) (s .args .seconds .now) (s .args .shares .now) (s .args .reaches .now)
+input s = inputFrom (s .args .cells) (s .args .faces) (s .args .volumes .now) (s .args .firsts .now) (s .args .seconds .now) (s .args .shares .now)
+    (s .args .reaches .now)
     (s .args .masses .now) (s .args .fluxes .now) (s .args .outsides .now) (s .args .releases .now)
 
 -- from each pass back to the one before

@@ -13,7 +13,8 @@ use Rattle.judging.proofs.judge.Statement.{statement}
 use Rattle.judging.proofs.judge.Tie as tie
 
 abbrev mesh : tie.Start → Mesh
-mesh s = meshOf (s .args .cells) (s .args .faces) (s .args .volumes .now) (s .args .firsts .now) (s .args .seconds .now) (s .args .shares .now) (s .args .reaches .now)
+mesh s = meshOf (s .args .cells) (s .args .faces) (s .args .volumes .now) (s .args .firsts .now) (s .args .seconds .now) (s .args .shares .now)
+    (s .args .reaches .now)
 
 abbrev call : tie.Start → Call
 call s = claimOf (s .args .fluxes .now) (s .args .outsides .now) (s .args .next .now) (s .args .claim .now) (s .args .releases .now)
@@ -73,13 +74,16 @@ values-requires c κs =
     let u = past-step t in (
       l .nexts-long,
       (
-        long-enough (mesh s) (s .args .masses .now) (s .args .fluxes .now) (s .args .outsides .now) (s .args .releases .now) r m (l .releases-long) (s .args .claim .now) (l .moveds-long),
+        long-enough (mesh s) (s .args .masses .now) (s .args .fluxes .now) (s .args .outsides .now) (s .args .releases .now) r m (l .releases-long)
+            (s .args .claim .now) (l .moveds-long),
         (
-          faces-fit (mesh s) (s .args .masses .now) (s .args .fluxes .now) (s .args .outsides .now) (s .args .releases .now) r m (l .releases-long) (s .args .claim .now) (l .moveds-long)
+          faces-fit (mesh s) (s .args .masses .now) (s .args .fluxes .now) (s .args .outsides .now) (s .args .releases .now) r m (l .releases-long)
+              (s .args .claim .now) (l .moveds-long)
               (first-fine (mesh s) (s .args .masses .now) (call s) u _ (j .judged .ensures) (a .answer2 .given .1)),
           (
             salted (mesh s) (s .args .masses .now) (s .args .fluxes .now) (s .args .outsides .now) (s .args .releases .now) r m (l .releases-long),
-            affords (mesh s) (s .args .masses .now) (s .args .fluxes .now) (s .args .outsides .now) (s .args .releases .now) r m (l .releases-long) (s .args .claim .now) (l .moveds-long)
+            affords (mesh s) (s .args .masses .now) (s .args .fluxes .now) (s .args .outsides .now) (s .args .releases .now) r m (l .releases-long)
+                (s .args .claim .now) (l .moveds-long)
                 (amounts-fine (mesh s) (s .args .masses .now) (call s) u _ (j .judged .ensures) (a .answer2 .given .1)),
           ),
         ),
@@ -99,7 +103,8 @@ returns-3 c =
     let m = field-lent (mesh s) (s .args .masses .now) (p .field-table-fine) in
     accepted-last (mesh s) (s .args .masses .now) (call s) (past-step t) _ (j .judged .ensures) (a .answer2 .given .1) _
     (v .values .ensures
-    ∙ next-is (mesh s) (s .args .masses .now) (s .args .fluxes .now) (s .args .outsides .now) (s .args .releases .now) r m (l .releases-long) (s .args .claim .now) (l .moveds-long) (s .args .next .now))
+    ∙ next-is (mesh s) (s .args .masses .now) (s .args .fluxes .now) (s .args .outsides .now) (s .args .releases .now) r m (l .releases-long)
+    (s .args .claim .now) (l .moveds-long) (s .args .next .now))
 
 pub judge-spec : {M : Type 1} → statement M
 judge-spec =

@@ -17,13 +17,15 @@ low-long : tie.Need-slice-aggregate-judged-in
 low-long c = let s = begun (c .before) in sym (length-take-le (s .args .cells) _ (room {A = ℕ} (s .args .cells) maxCells 0 (s .pre .0 .counts-fit .few-cells)))
 
 carried-long : tie.Need-slice-aggregate-judged-in-2
-carried-long c = let s = begun (c .before .before) in sym (length-take-le (s .args .faces) _ (room {A = ℤ} (s .args .faces) maxFaces (pos 0) (s .pre .0 .counts-fit .few-faces)))
+carried-long c = let s = begun (c .before .before) in sym (length-take-le (s .args .faces) _
+    (room {A = ℤ} (s .args .faces) maxFaces (pos 0) (s .pre .0 .counts-fit .few-faces)))
 
 work-long : tie.Need-slice-aggregate-judged-in-3
 work-long c =
     let s = begun (c .before .before .before) in
     let f = s .pre .0 .counts-fit in
-    sym (length-take-le (4 * s .args .cells + s .args .faces) _ (room {A = ℕ} (4 * s .args .cells + s .args .faces) (4 * maxCells + maxFaces) 0 (omega (arith, f .few-cells, f .few-faces))))
+    sym (length-take-le (4 * s .args .cells + s .args .faces) _
+    (room {A = ℕ} (4 * s .args .cells + s .args .faces) (4 * maxCells + maxFaces) 0 (omega (arith, f .few-cells, f .few-faces))))
 
 judged-in-requires : tie.Need-judged-in-requires
 judged-in-requires c κs =
@@ -33,7 +35,8 @@ judged-in-requires c κs =
       (
         length-take-le (s .args .cells) _ (room {A = ℕ} (s .args .cells) maxCells 0 (f .few-cells)),
         length-take-le (s .args .faces) _ (room {A = ℤ} (s .args .faces) maxFaces (pos 0) (f .few-faces)),
-        length-take-le (4 * s .args .cells + s .args .faces) _ (room {A = ℕ} (4 * s .args .cells + s .args .faces) (4 * maxCells + maxFaces) 0 (omega (arith, f .few-cells, f .few-faces))),
+        length-take-le (4 * s .args .cells + s .args .faces) _
+            (room {A = ℕ} (4 * s .args .cells + s .args .faces) (4 * maxCells + maxFaces) 0 (omega (arith, f .few-cells, f .few-faces))),
       ),
     )
 

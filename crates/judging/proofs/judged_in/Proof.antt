@@ -13,10 +13,12 @@ use Rattle.judging.proofs.judged_in.Statement.{statement}
 use Rattle.judging.proofs.judged_in.Tie as tie
 
 abbrev mesh : tie.Start → Mesh
-mesh s = meshOf (s .args .cells) (s .args .faces) (s .args .volumes .now) (s .args .firsts .now) (s .args .seconds .now) (s .args .shares .now) (s .args .reaches .now)
+mesh s = meshOf (s .args .cells) (s .args .faces) (s .args .volumes .now) (s .args .firsts .now) (s .args .seconds .now) (s .args .shares .now)
+    (s .args .reaches .now)
 
 abbrev input : tie.Start → StepInput
-input s = inputFrom (s .args .cells) (s .args .faces) (s .args .volumes .now) (s .args .firsts .now) (s .args .seconds .now) (s .args .shares .now) (s .args .reaches .now)
+input s = inputFrom (s .args .cells) (s .args .faces) (s .args .volumes .now) (s .args .firsts .now) (s .args .seconds .now) (s .args .shares .now)
+    (s .args .reaches .now)
     (s .args .masses .now) (s .args .fluxes .now) (s .args .outsides .now) (s .args .releases .now)
 
 -- from each call back to the one before
@@ -60,7 +62,8 @@ values-requires c κs =
         faces-fit (mesh s) (s .args .masses .now) (s .args .fluxes .now) (s .args .outsides .now) (s .args .releases .now)
             (s .pre .0 .0) (s .pre .0 .1) (s .pre .0 .2) (s .args .claim .now) (s .pre .0 .3) e,
         (
-          salted (mesh s) (s .args .masses .now) (s .args .fluxes .now) (s .args .outsides .now) (s .args .releases .now) (s .pre .0 .0) (s .pre .0 .1) (s .pre .0 .2),
+          salted (mesh s) (s .args .masses .now) (s .args .fluxes .now) (s .args .outsides .now) (s .args .releases .now) (s .pre .0 .0) (s .pre .0 .1)
+              (s .pre .0 .2),
           bordered (mesh s) (s .args .masses .now) (s .args .fluxes .now) (s .args .outsides .now) (s .args .releases .now)
               (s .pre .0 .0) (s .pre .0 .1) (s .pre .0 .2) (s .args .claim .now) (s .pre .0 .3) _ _ _ _ _ (w .first-passes .ensures),
         ),
@@ -84,7 +87,8 @@ returns-2 c =
 sum-of-requires : tie.Need-sum-of-requires
 sum-of-requires c κs =
     let s = opened (first (tested (c .before .before))) in
-    released-asks (mesh s) (s .args .masses .now) (s .args .fluxes .now) (s .args .outsides .now) (s .args .releases .now) (s .pre .0 .0) (s .pre .0 .1) (s .pre .0 .2)
+    released-asks (mesh s) (s .args .masses .now) (s .args .fluxes .now) (s .args .outsides .now) (s .args .releases .now) (s .pre .0 .0) (s .pre .0 .1)
+    (s .pre .0 .2)
 
 returns-3 : tie.Need-returns-3
 returns-3 c =

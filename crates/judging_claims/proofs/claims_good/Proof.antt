@@ -25,7 +25,8 @@ face-fits-requires c κs =
     (turn-in l (p .0), turn-in l (p .1), turn-in l (p .2), turn-in l (p .3))
 
 returns : tie.Need-returns Inv-loop μ-loop
-returns c = let t = c .before .before in scan-hit _ _ _ _ (t .loop-test .taken) (t .before .loop .inv .1) (c .before .face-fits .ensures) (not-true _ (c .if1 .taken))
+returns c = let t = c .before .before in scan-hit _ _ _ _ (t .loop-test .taken) (t .before .loop .inv .1) (c .before .face-fits .ensures)
+    (not-true _ (c .if1 .taken))
 
 add-f : tie.Need-add-f Inv-loop μ-loop
 add-f c = let t = c .before .before in let s = start t in turn-next (t .loop-test .taken) (s .pre .0) (s .good .1 .0 .0)
@@ -40,4 +41,5 @@ returns-2 c = let l = c .before .loop in scan-end _ _ _ _ (l .inv .0) (c .loop-t
 pub claims-good-spec : {M : Type 1} → statement M
 claims-good-spec =
     tie.close
-    (tie.spec Inv-loop μ-loop (λ c. (zero-le, scan-start _ _)) face-fits-requires returns add-f (λ c. turn-less (c .before .before .loop-test .taken)) loop-again returns-2)
+    (tie.spec Inv-loop μ-loop (λ c. (zero-le, scan-start _ _)) face-fits-requires returns add-f (λ c. turn-less (c .before .before .loop-test .taken))
+    loop-again returns-2)

@@ -17,7 +17,8 @@ returns c =
       z .before .before .size-at2 .ensures,
       z .before .before .before .is-negative-at .ensures,
       z .before .before .before .before .size-at .ensures,
-    ) (claim-by-parts (getD (a .seconds .now) (a .f) 0) (getD (a .fluxes .now) (a .f) (pos 0)) (getD (a .carried .now) (a .f) (pos 0)) (getD (a .claim .now) (a .f) (pos 0)))
+    ) (claim-by-parts (getD (a .seconds .now) (a .f) 0) (getD (a .fluxes .now) (a .f) (pos 0)) (getD (a .carried .now) (a .f) (pos 0))
+    (getD (a .claim .now) (a .f) (pos 0)))
 
 pub face-fits-spec : {M : Type 1} → statement M
 face-fits-spec =

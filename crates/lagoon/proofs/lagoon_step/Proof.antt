@@ -9,7 +9,8 @@ use Rattle.lagoon.proofs.lagoon_step.Tie as tie
 number-of-requires : tie.Need-number-of-requires
 number-of-requires c κs =
     let s = c .before .before .before .before .before .before .before .before in
-    rw (c .before .before .on-records .ensures .answer) (number-fits (s .args .mesh .now) (s .args .field .now) (s .args .step .now) (length (s .args .next .now)))
+    rw (c .before .before .on-records .ensures .answer) (number-fits (s .args .mesh .now) (s .args .field .now) (s .args .step .now)
+    (length (s .args .next .now)))
 
 returns : tie.Need-returns
 unfolding hostBytes

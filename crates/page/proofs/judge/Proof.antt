@@ -44,7 +44,8 @@ returns-2 c =
     let told = at-places .before in
     let at-lent = told .before .before in
     let start = at-lent .before .before .before .before .args in
-    let room = at-long .long .ensures ∙ ap (λ (n : ℕ). long 12 n (start .room)) (at-bytes .page-bytes .ensures ∙ ap (λ (p : ℕ). pageBytes p (start .cells) (start .page)) (at-places .rest-places .ensures .0)) in
+    let room = at-long .long .ensures ∙ ap (λ (n : ℕ). long 12 n (start .room))
+    (at-bytes .page-bytes .ensures ∙ ap (λ (p : ℕ). pageBytes p (start .cells) (start .page)) (at-places .rest-places .ensures .0)) in
     let there = at-need .need .ensures ∙ ap (λ (n : ℕ). need 14 (start .page) (ltb (start .page) n)) (at-pages .pages .ensures) in
     let given = both-are (at-given .and-then .ensures) room refl in
     both-are (c .and-then3 .ensures) (both-are (at-field .and-then2 .ensures) given (at-check .check-cells .ensures)) there
@@ -53,5 +54,6 @@ returns-2 c =
 pub judge-spec : {M : Type 1} → statement M
 judge-spec =
     tie.close
-    (tie.spec (λ c. search needs) (λ c κs. search needs) (λ c. search needs) returns (λ c. search needs) rest-places-requires page-bytes-requires (λ c κs. search needs)
+    (tie.spec (λ c. search needs) (λ c κs. search needs) (λ c. search needs) returns (λ c. search needs) rest-places-requires page-bytes-requires
+    (λ c κs. search needs)
     (λ c κs. search needs) (λ c κs. search needs) (λ c κs. search needs) pages-requires (λ c κs. search needs) (λ c κs. search needs) returns-2)

@@ -24,7 +24,8 @@ returns-2 : tie.Need-returns-2
 returns-2 c =
     let at-put = c .before .before in
     let told = at-put .before .before .before in
-    page-accepted _ _ _ _ _ (passes (told .before .before .judge .ensures) (told .enum-told .given .1)) (rw (at-put .before .before .rest-places .ensures .0) at (at-put .put .ensures))
+    page-accepted _ _ _ _ _ (passes (told .before .before .judge .ensures) (told .enum-told .given .1))
+    (rw (at-put .before .before .rest-places .ensures .0) at (at-put .put .ensures))
 
 pub page-spec : {M : Type 1} → statement M
 page-spec =

@@ -39,5 +39,6 @@ returns c =
 pub put-spec : {M : Type 1} → statement M
 put-spec =
     tie.close
-    (tie.spec (λ c. omega arith) (λ c κs. search needs) (λ c. search needs) lines-requires (λ c. omega arith) (λ c. omega arith) (λ c. omega arith) (λ c. omega arith) sum-of-requires
+    (tie.spec (λ c. omega arith) (λ c κs. search needs) (λ c. search needs) lines-requires (λ c. omega arith) (λ c. omega arith) (λ c. omega arith)
+    (λ c. omega arith) sum-of-requires
     (λ c κs. search needs) (λ c κs. search needs) (λ c. search needs) returns)

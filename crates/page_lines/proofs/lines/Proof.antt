@@ -35,7 +35,8 @@ loop-again c =
     let at-open = at-line .before .before .before .before in
     let at-loop = at-open .before .before in
     let start = at-loop .before .before .before .before .before .args in
-    let more = line-more (start .lent .now) (start .volumes .now) (start .masses .now) (isOpen (start .marks .now)) (start .places) (start .first) (at-loop .loop .i) _
+    let more = line-more (start .lent .now) (start .volumes .now) (start .masses .now) (isOpen (start .marks .now)) (start .places) (start .first)
+    (at-loop .loop .i) _
     (at-open .is-open .ensures) (at-loop .loop .inv .1) (at-loop .loop .inv .2) (at-line .line-if .ensures) in
     (omega arith, more .0, more .1)
 
@@ -49,5 +50,6 @@ returns c =
 pub lines-spec : {M : Type 1} → statement M
 lines-spec =
     tie.close
-    (tie.spec Inv-loop μ-loop loop-holds (λ c. omega arith) (λ c κs. tt) (λ c. omega arith) (λ c. omega arith) (λ c. omega arith) (λ c. omega arith) line-if-requires
+    (tie.spec Inv-loop μ-loop loop-holds (λ c. omega arith) (λ c κs. tt) (λ c. omega arith) (λ c. omega arith) (λ c. omega arith) (λ c. omega arith)
+    line-if-requires
     (λ c. omega arith) (λ c. omega arith) loop-again (λ c. c .before .loop .inv .1) returns)

@@ -14,7 +14,8 @@ returns-2 c =
     let at-check = at-field .before in
     let at-marks = at-check .before in
     let told = at-marks .before in
-    both-are (c .and-then2 .ensures) (both-are (at-field .and-then .ensures) (at-marks .marks-long .ensures) (at-check .check-cells .ensures)) (c .before .marks-good .ensures)
+    both-are (c .and-then2 .ensures) (both-are (at-field .and-then .ensures) (at-marks .marks-long .ensures) (at-check .check-cells .ensures))
+    (c .before .marks-good .ensures)
     ∙ sym (judged-on _ _ _ _ (passes (told .before .before .field-lent .ensures) (told .enum-told .given .1)))
 
 pub judge-spec : {M : Type 1} → statement M

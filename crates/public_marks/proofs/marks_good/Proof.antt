@@ -20,7 +20,8 @@ returns : tie.Need-returns Inv-loop μ-loop
 returns c =
     let t = c .before .before in
     let l = t .before .loop in
-    scan-hit _ _ _ _ (t .loop-test .taken) (l .inv .1) (bad-mark (t .before .before .before .args .marks .now) (l .c) (c .before .mark-at .ensures) (c .if1 .taken)) refl
+    scan-hit _ _ _ _ (t .loop-test .taken) (l .inv .1) (bad-mark (t .before .before .before .args .marks .now) (l .c) (c .before .mark-at .ensures)
+    (c .if1 .taken)) refl
 
 loop-again : tie.Need-loop-again Inv-loop μ-loop
 loop-again c =

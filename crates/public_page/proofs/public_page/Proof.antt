@@ -36,9 +36,11 @@ returns-2 c =
     let at-places = at-lines .before .before in
     let at-count = at-places .before in
     let told = at-count .before in
-    public-accepted _ _ _ _ _ _ (passes (told .before .before .judge-public .ensures) (told .enum-told .given .1)) (at-count .cells-on .ensures) (rw (at-places .rest-places .ensures .0) at (at-lines .lines .ensures))
+    public-accepted _ _ _ _ _ _ (passes (told .before .before .judge-public .ensures) (told .enum-told .given .1)) (at-count .cells-on .ensures)
+    (rw (at-places .rest-places .ensures .0) at (at-lines .lines .ensures))
 
 pub public-page-spec : {M : Type 1} → statement M
 public-page-spec =
     tie.close
-    (tie.spec (λ c κs. tt) (λ c. search needs) returns (λ c. search needs) mul-first cells-on-requires rest-places-requires lines-requires (λ c. search needs) returns-2)
+    (tie.spec (λ c κs. tt) (λ c. search needs) returns (λ c. search needs) mul-first cells-on-requires rest-places-requires lines-requires (λ c. search needs)
+    returns-2)

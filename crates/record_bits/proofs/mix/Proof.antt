@@ -11,7 +11,8 @@ use Rattle.record_bits.proofs.mix.Tie as tie
 
 -- the sum is the byte that is meant, and is a byte
 whole : (c : tie.After-pow22) → let s = c .before .before .before .before in let w = c .before .before .wide .result in
-    w / c .before .pow2 .result * c .before .pow2 .result + (s .args .v * c .pow22 .result + w % c .pow22 .result) ≡ mixed (s .args .x) (s .args .e) (s .args .k) (s .args .v)
+    w / c .before .pow2 .result * c .before .pow2 .result + (s .args .v * c .pow22 .result + w % c .pow22 .result)
+    ≡ mixed (s .args .x) (s .args .e) (s .args .k) (s .args .v)
 unfolding mixed
 whole c = rw (c .before .before .wide .ensures, c .before .pow2 .ensures, c .pow22 .ensures)
 

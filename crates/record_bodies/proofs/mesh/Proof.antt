@@ -22,7 +22,8 @@ shape s = meshBody (kind s) (s .args .cells) (s .args .faces)
 
 -- what a column asks of the body and of its table
 asks : (s : tie.Start) {k j n first stride w m : ℕ} → Column (shape s) k j n first stride w → w ≤ 40 → n ≤ m
-    → ((8 * length (s .args .body .now) < 18446744073709551616) × (w ≤ 40) × (n ≤ m)) × ((i : ℕ) → i < n → first + i * stride + w ≤ 8 * length (s .args .body .now))
+    → ((8 * length (s .args .body .now) < 18446744073709551616) × (w ≤ 40) × (n ≤ m))
+    × ((i : ℕ) → i < n → first + i * stride + w ≤ 8 * length (s .args .body .now))
 asks s c l e = ((omega (arith, s .pre .small), l, e), λ i h. column-room c (s .pre .holds) i h)
 
 -- the places do not wrap: the body holds what they reach

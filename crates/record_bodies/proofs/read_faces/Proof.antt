@@ -33,7 +33,20 @@ face-small : (c : tie.In-loop Inv-loop μ-loop) → let s = start c in
 face-small c = place-small (face-in c) (start c .pre .small)
 
 loop-holds : tie.Need-loop-holds Inv-loop μ-loop
-loop-holds c = (omega arith, refl, refl, refl, refl, record { firsts-in = over-start _ _; seconds-in = over-start _ _; shares-in = over-start _ _; reaches-in = over-start _ _ })
+loop-holds c = (
+  omega arith,
+  refl,
+  refl,
+  refl,
+  refl,
+  record {
+    firsts-in = over-start _ _;
+    seconds-in = over-start _ _;
+    shares-in = over-start _ _;
+    reaches-in =
+        over-start _ _;
+  },
+)
 
 loop-again : tie.Need-loop-again Inv-loop μ-loop
 loop-again c =
@@ -70,7 +83,8 @@ returns c =
 pub read-faces-spec : {M : Type 1} → statement M
 read-faces-spec =
     tie.close
-    (tie.spec Inv-loop μ-loop (λ c. omega (arith, c .before .before .before .before .before .pre .narrow)) (λ c. omega (arith, c .before .before .before .before .before .pre .narrow))
+    (tie.spec Inv-loop μ-loop (λ c. omega (arith, c .before .before .before .before .before .pre .narrow))
+    (λ c. omega (arith, c .before .before .before .before .before .pre .narrow))
     (λ c. omega (arith, c .before .before .before .before .before .pre .narrow)) loop-holds
     (λ c. offset-fits _ _ _ (face-small c)) (λ c. place-fits _ _ _ (face-small c)) (λ c κs. (face-in c, face-small c, omega (arith, start c .pre .narrow)))
     (λ c κs. omega (arith, start (c .before) .pre .narrow))
@@ -83,7 +97,8 @@ read-faces-spec =
     (λ c. let t = c .before .before .before .before in turn-bytes (t .loop-test .taken) (start t .pre .shares-long) (start t .good .1 .1 .1 .1 .1 .1 .0 .1))
     (λ c. let t = c .before .before .before .before in turn-in-same (t .loop-test .taken) (start t .pre .shares-long) (t .before .loop .inv .3))
     (λ c κs. omega (arith, start (c .before .before .before .before) .pre .narrow))
-    (λ c. let t = c .before .before .before .before .before in turn-bytes (t .loop-test .taken) (start t .pre .reaches-long) (start t .good .1 .1 .1 .1 .1 .1 .1 .0 .1))
+    (λ c. let t = c .before .before .before .before .before in
+    turn-bytes (t .loop-test .taken) (start t .pre .reaches-long) (start t .good .1 .1 .1 .1 .1 .1 .1 .0 .1))
     (λ c. let t = c .before .before .before .before .before in turn-in-same (t .loop-test .taken) (start t .pre .reaches-long) (t .before .loop .inv .4))
     (λ c. let t = c .before .before .before .before .before in turn-next (t .loop-test .taken) (start t .pre .firsts-long) (start t .good .1 .1 .1 .1 .0 .0))
     (λ c. turn-less (c .before .before .before .before .before .loop-test .taken)) loop-again

@@ -65,7 +65,8 @@ read-column-requires c κs =
     let p = s .pre in
     let n = p2 .before in
     releases-ask (s .args .body .now) (kindNumber (s .args .width) (s .args .kind)) (s .args .cells) (s .args .faces) (s .args .seconds .now)
-    (omega (arith, p2 .after-outsides .ensures, n .count-marked .ensures, outside-first (n .before))) (p1 .before .before .before .before .before .release-width .ensures)
+    (omega (arith, p2 .after-outsides .ensures, n .count-marked .ensures, outside-first (n .before)))
+    (p1 .before .before .before .before .before .release-width .ensures)
     (omega (arith, p .small)) (p .holds) (p .releases-long)
 
 returns : tie.Need-returns
@@ -83,13 +84,16 @@ returns c =
     let q = s .args .seconds .now in
     record {
       fluxes-full = p3 .read-signed .ensures ∙ ap (λ zs. over zs (s .args .fluxes .now)) (fluxes-taken b k m f q (value-is (n .before .before)));
-      outsides-full = p2 .read-marked .ensures ∙ ap (λ xs. over xs (s .args .outsides .now)) (outsides-taken b k m f q {p = n .before .new .result .at} (outside-first (n .before)));
+      outsides-full = p2 .read-marked .ensures ∙ ap (λ xs. over xs (s .args .outsides .now))
+          (outsides-taken b k m f q {p = n .before .new .result .at} (outside-first (n .before)));
       releases-full = p1 .read-column .ensures ∙ ap (λ xs. over xs (s .args .releases .now))
-          (releases-taken b k m f q (omega (arith, p4 .after-outsides .ensures, n .count-marked .ensures, outside-first (n .before))) (p3 .before .before .release-width .ensures));
+          (releases-taken b k m f q (omega (arith, p4 .after-outsides .ensures, n .count-marked .ensures, outside-first (n .before)))
+          (p3 .before .before .release-width .ensures));
     }
 
 pub step-spec : {M : Type 1} → statement M
 step-spec =
     tie.close
-    (tie.spec (search needs) add-new mul-new (search needs) (search needs) after-outsides-requires (search needs) read-signed-requires read-marked-requires read-column-requires
+    (tie.spec (search needs) add-new mul-new (search needs) (search needs) after-outsides-requires (search needs) read-signed-requires read-marked-requires
+    read-column-requires
     (search needs) (search needs) (search needs) returns)

@@ -14,7 +14,8 @@ use Rattle.record_causes.proofs.field.Statement.{statement}
 use Rattle.record_causes.proofs.field.Tie as tie
 
 abbrev mesh : tie.Start → Mesh
-mesh s = meshOf (s .args .cells) (s .args .faces) (s .args .volumes .now) (s .args .firsts .now) (s .args .seconds .now) (s .args .shares .now) (s .args .reaches .now)
+mesh s = meshOf (s .args .cells) (s .args .faces) (s .args .volumes .now) (s .args .firsts .now) (s .args .seconds .now) (s .args .shares .now)
+    (s .args .reaches .now)
 
 -- the start, and where the tables' lengths were tested, from where the bytes and the mesh's values were
 abbrev tested : tie.After-and-then → tie.After-field-lent
@@ -26,10 +27,12 @@ start c = tested c .before .before .before .before .before .before .before
 lent : (c : tie.After-and-then) → let s = start c in (counts (mesh s) andThen meshTables (mesh s) andThen fieldTable (mesh s) (s .args .masses .now)) ≡ fine
 lent c = let told = c .before .before .before .before .before in passes (tested c .field-lent .ensures) (told .enum-told .given .1)
 
-fit : (c : tie.After-and-then) → let s = start c in said (c .and-then .result) ≡ (bytesLong (fieldLength (fieldKind (s .args .width)) (s .args .cells)) (s .args .room) andThen meshValues (mostOf (s .args .width)) (mesh s))
+fit : (c : tie.After-and-then) → let s = start c in said (c .and-then .result)
+    ≡ (bytesLong (fieldLength (fieldKind (s .args .width)) (s .args .cells)) (s .args .room) andThen meshValues (mostOf (s .args .width)) (mesh s))
 fit c =
     let long = c .before .before .before in
-    both-are (c .and-then .ensures) (bytes-said (start c .args .room) (long .long .ensures) (long .before .field-bytes .ensures)) (values-said (mesh (start c)) (c .before .before .most-of .ensures) (c .before .values .ensures))
+    both-are (c .and-then .ensures) (bytes-said (start c .args .room) (long .long .ensures) (long .before .field-bytes .ensures))
+    (values-said (mesh (start c)) (c .before .before .most-of .ensures) (c .before .values .ensures))
 
 returns : tie.Need-returns
 unfolding fieldWriteVerdict
@@ -39,7 +42,8 @@ field-bytes-requires : tie.Need-field-bytes-requires
 field-bytes-requires c κs = few _ _ (passes (c .before .before .field-lent .ensures) (c .enum-told .given .1)) .0
 
 values-requires : tie.Need-values-requires
-values-requires c κs = mesh-long _ (both-fine _ _ (passes (c .before .before .before .before .before .field-lent .ensures) (c .before .before .before .enum-told .given .1)) .0)
+values-requires c κs = mesh-long _ (both-fine _ _ (passes (c .before .before .before .before .before .field-lent .ensures)
+    (c .before .before .before .enum-told .given .1)) .0)
 
 returns-2 : tie.Need-returns-2
 unfolding fieldWriteVerdict
@@ -50,7 +54,8 @@ returns-2 c =
 values-requires-2 : tie.Need-values-requires-2
 values-requires-2 c κs =
     let k = c .before .before in
-    salt-asks-within (mostOf (start k .args .width)) (most-within (start k .args .width)) _ _ (lent k) (both-fine _ _ (passes (fit k) (c .enum-told2 .given .1)) .1)
+    salt-asks-within (mostOf (start k .args .width)) (most-within (start k .args .width)) _ _ (lent k)
+    (both-fine _ _ (passes (fit k) (c .enum-told2 .given .1)) .1)
 
 returns-3 : tie.Need-returns-3
 unfolding fieldWriteVerdict fieldValues saltGood
@@ -61,5 +66,6 @@ returns-3 c =
 pub field-spec : {M : Type 1} → statement M
 field-spec =
     tie.close
-    (tie.spec (search needs) (search needs) returns (search needs) field-bytes-requires (search needs) (search needs) values-requires (search needs) (search needs) returns-2 (search needs)
+    (tie.spec (search needs) (search needs) returns (search needs) field-bytes-requires (search needs) (search needs) values-requires (search needs)
+    (search needs) returns-2 (search needs)
     values-requires-2 returns-3)

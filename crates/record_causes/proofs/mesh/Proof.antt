@@ -28,7 +28,8 @@ returns-2 c =
     let told = long .before .before in
     let s = told .before .before .before .before .before .before .before .before in
     let bytes = bytes-said (s .args .room) (long .long .ensures) (long .before .mesh-bytes .ensures) in
-    both-are (c .and-then .ensures) bytes (values-said _ (c .before .before .most-of .ensures) (c .before .values .ensures)) ∙ sym (past-first _ _ (passes (told .before .before .mesh-lent .ensures) (told .enum-told .given .1)))
+    both-are (c .and-then .ensures) bytes (values-said _ (c .before .before .most-of .ensures) (c .before .values .ensures))
+    ∙ sym (past-first _ _ (passes (told .before .before .mesh-lent .ensures) (told .enum-told .given .1)))
 
 pub mesh-spec : {M : Type 1} → statement M
 mesh-spec =

@@ -16,7 +16,8 @@ use Rattle.record_causes.proofs.step.Statement.{statement}
 use Rattle.record_causes.proofs.step.Tie as tie
 
 abbrev mesh : tie.Start → Mesh
-mesh s = meshOf (s .args .cells) (s .args .faces) (s .args .volumes .now) (s .args .firsts .now) (s .args .seconds .now) (s .args .shares .now) (s .args .reaches .now)
+mesh s = meshOf (s .args .cells) (s .args .faces) (s .args .volumes .now) (s .args .firsts .now) (s .args .seconds .now) (s .args .shares .now)
+    (s .args .reaches .now)
 
 -- the start from where the mesh's tables were tested, and both from where all tables were
 abbrev from-lent : tie.After-mesh-lent → tie.Start
@@ -50,7 +51,8 @@ longs : (c : tie.After-and-then3) → c .and-then3 .result ≡ Done → let s = 
     (s .args .faces ≤ length (s .args .fluxes .now)) × (s .args .faces ≤ length (s .args .outsides .now)) × (s .args .cells ≤ length (s .args .releases .now))
 longs c e =
     let s = start c in
-    let space = bytesLong (stepLength (kindNumber (s .args .width) (s .args .kind)) (s .args .cells) (s .args .faces) (s .args .seconds .now)) (s .args .room) in
+    let space = bytesLong (stepLength (kindNumber (s .args .width) (s .args .kind)) (s .args .cells) (s .args .faces) (s .args .seconds .now)) (s .args .room)
+    in
     water-long (s .args .faces) (length (s .args .fluxes .now)) (length (s .args .outsides .now)) (s .args .cells)
     (length (s .args .releases .now)) space (passes (tables c) e)
 
@@ -91,12 +93,15 @@ returns-3 c =
     let fit = c .before .before .before in
     let told = fit .before .before .before .before in
     let k = told .before .before in
-    both-are (c .and-then5 .ensures) (both-are (fit .and-then4 .ensures) (values-said (mesh (start k)) (fit .before .before .before .most-of .ensures) (fit .before .before .values .ensures)) (fit .before .values2 .ensures))
+    both-are (c .and-then5 .ensures) (both-are (fit .and-then4 .ensures)
+    (values-said (mesh (start k)) (fit .before .before .before .most-of .ensures) (fit .before .before .values .ensures)) (fit .before .values2 .ensures))
     (rw (c .before .before .most-of2 .ensures) at (c .before .values3 .ensures))
     ∙ sym (step-groups _ _ _ _ _ _ (start k .args .room) ∙ past _ (past _ (lent k) ∙ passes (tables k) (told .enum-told2 .given .1)))
 
 pub step-spec : {M : Type 1} → statement M
 step-spec =
     tie.close
-    (tie.spec (search needs) (search needs) returns (search needs) (search needs) (search needs) (search needs) step-bytes-requires (search needs) (search needs)
-    (search needs) (search needs) (search needs) returns-2 (search needs) (search needs) values-requires values-requires-2 (search needs) (search needs) values-requires-3 (search needs) returns-3)
+    (tie.spec (search needs) (search needs) returns (search needs) (search needs) (search needs) (search needs) step-bytes-requires (search needs)
+    (search needs)
+    (search needs) (search needs) (search needs) returns-2 (search needs) (search needs) values-requires values-requires-2 (search needs) (search needs)
+    values-requires-3 (search needs) returns-3)

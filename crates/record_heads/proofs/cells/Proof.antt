@@ -9,7 +9,8 @@ use Rattle.record_heads.proofs.cells.Tie as tie
 
 returns : tie.Need-returns
 unfolding bytesFor
-returns c = c .field-after .ensures ∙ held (c .before .before .args .bytes .now) kindBits cellsBits (omega arith) (omega arith) (omega (arith, c .before .before .pre))
+returns c = c .field-after .ensures ∙ held (c .before .before .args .bytes .now) kindBits cellsBits (omega arith) (omega arith)
+    (omega (arith, c .before .before .pre))
 
 pub cells-spec : {M : Type 1} → statement M
 cells-spec = tie.close (tie.spec (search needs) returns)

@@ -10,7 +10,8 @@ use Rattle.record_heads.proofs.faces.Tie as tie
 
 returns : tie.Need-returns
 unfolding bytesFor
-returns c = c .field-after .ensures ∙ held (c .before .before .args .bytes .now) (kindBits + cellsBits) facesBits (omega arith) (omega arith) (omega (arith, c .before .before .pre))
+returns c = c .field-after .ensures ∙ held (c .before .before .args .bytes .now) (kindBits + cellsBits) facesBits (omega arith) (omega arith)
+    (omega (arith, c .before .before .pre))
 
 pub faces-spec : {M : Type 1} → statement M
 faces-spec = tie.close (tie.spec (search needs) (search needs) returns)

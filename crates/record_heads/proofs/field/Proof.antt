@@ -43,4 +43,5 @@ returns-2 c =
 pub field-spec : {M : Type 1} → statement M
 field-spec =
     tie.close
-    (tie.spec (search needs) (search needs) returns (search needs) (search needs) kind-requires (search needs) cells-requires (search needs) (search needs) (search needs) (search needs) (search needs) returns-2)
+    (tie.spec (search needs) (search needs) returns (search needs) (search needs) kind-requires (search needs) cells-requires (search needs) (search needs)
+    (search needs) (search needs) (search needs) returns-2)

@@ -43,4 +43,5 @@ returns-2 c =
 pub mesh-spec : {M : Type 1} → statement M
 mesh-spec =
     tie.close
-    (tie.spec (search needs) (search needs) returns (search needs) kind-requires (search needs) (search needs) cells-requires faces-requires (search needs) (search needs) returns-2)
+    (tie.spec (search needs) (search needs) returns (search needs) kind-requires (search needs) (search needs) cells-requires faces-requires (search needs)
+    (search needs) returns-2)

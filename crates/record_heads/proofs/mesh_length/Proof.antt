@@ -34,7 +34,14 @@ returns-2 : tie.Need-returns-2
 unfolding meshMeasured
 returns-2 c =
     let k = c .before .before .before .before in
-    rw (c .mesh-bytes .ensures, c .before .mesh-width .ensures .0, c .before .mesh-width .ensures .1, c .before .before .faces .ensures, c .before .before .before .cells .ensures) (sym (past _ (passes (k .before .before .mesh .ensures) (k .enum-told .given .1))))
+    rw (
+      c .mesh-bytes .ensures,
+      c .before .mesh-width .ensures .0,
+      c .before .mesh-width .ensures .1,
+      c .before .before .faces .ensures,
+      c .before .before .before .cells .ensures,
+    ) (sym (past _ (passes (k .before .before .mesh .ensures) (k .enum-told .given .1))))
 
 pub mesh-length-spec : {M : Type 1} → statement M
-mesh-length-spec = tie.close (tie.spec (search needs) (search needs) returns (search needs) cells-requires faces-requires mesh-width-requires mesh-bytes-requires returns-2)
+mesh-length-spec = tie.close (tie.spec (search needs) (search needs) returns (search needs) cells-requires faces-requires mesh-width-requires
+    mesh-bytes-requires returns-2)

@@ -19,7 +19,8 @@ returns-2 : tie.Need-returns-2
 returns-2 c =
     let k = c .before in
     let s = k .before .before in
-    let e = eqb-true _ _ (other-true (eqb (kindIn (s .args .bytes .now)) (meshKind Narrow)) _ (s .pre .1) (ne-eqb _ _ (rw (k .kind .ensures) at (c .if1 .left)))) in
+    let e = eqb-true _ _ (other-true (eqb (kindIn (s .args .bytes .now)) (meshKind Narrow)) _ (s .pre .1)
+    (ne-eqb _ _ (rw (k .kind .ensures) at (c .if1 .left)))) in
     (sym e, rw e)
 
 pub mesh-width-spec : {M : Type 1} → statement M

@@ -9,7 +9,8 @@ use Rattle.record_heads.proofs.step_faces.Tie as tie
 
 returns : tie.Need-returns
 unfolding bytesFor
-returns c = c .field-after .ensures ∙ held (c .before .before .args .bytes .now) kindBits facesBits (omega arith) (omega arith) (omega (arith, c .before .before .pre))
+returns c = c .field-after .ensures ∙ held (c .before .before .args .bytes .now) kindBits facesBits (omega arith) (omega arith)
+    (omega (arith, c .before .before .pre))
 
 pub step-faces-spec : {M : Type 1} → statement M
 step-faces-spec = tie.close (tie.spec (search needs) returns)

@@ -66,7 +66,8 @@ from-three c = from-two (c .before .before .before .before)
 one : (c : tie.After-write-bits) → Some (start c) (and none 0 0) (c .write-bits .last .0)
 one c =
     let s = start c in
-    head-written (field-kind-in (kind s) (s .args .cells)) (value s) (s .pre .fits) (written-none (shape s) (value s) _) (c .write-bits .ensures) (sym (c .before .before .before .of-width .ensures))
+    head-written (field-kind-in (kind s) (s .args .cells)) (value s) (s .pre .fits) (written-none (shape s) (value s) _) (c .write-bits .ensures)
+    (sym (c .before .before .before .of-width .ensures))
 
 two : (c : tie.After-write-bits2) → Some (start (from-two c)) (and (and none 0 0) 0 1) (c .write-bits2 .last .0)
 two c =
@@ -78,7 +79,8 @@ three : (c : tie.After-put-masses) → Some (start (from-three c)) (and (and (an
 three c =
     let p1 = c .before .before .before .before in
     let s = start (from-three c) in
-    column-written (masses-in (kind s) (s .args .cells)) (value s) (s .pre .fits) (two p1) (rw (sym (field-mass (s .args .width))) at (c .put-masses .ensures)) (λ i l. refl)
+    column-written (masses-in (kind s) (s .args .cells)) (value s) (s .pre .fits) (two p1) (rw (sym (field-mass (s .args .width))) at (c .put-masses .ensures))
+    (λ i l. refl)
 
 write-bits-requires : tie.Need-write-bits-requires
 write-bits-requires c κs =
@@ -97,7 +99,8 @@ put-masses-requires : tie.Need-put-masses-requires
 put-masses-requires c κs =
     let p1 = c .before .before .before in
     let s = start (from-two p1) in
-    let asked = column-asks (holds s) (two p1) (masses-in (kind s) (s .args .cells)) (s .pre .fits) (s .args .masses .now) (omega (arith, mass-most (kind s))) (s .pre .masses-long) (λ i l. refl) in
+    let asked = column-asks (holds s) (two p1) (masses-in (kind s) (s .args .cells)) (s .pre .fits) (s .args .masses .now) (omega (arith, mass-most (kind s)))
+    (s .pre .masses-long) (λ i l. refl) in
     rw (← field-mass (s .args .width)) (asked .0 .2, asked .1 .0, asked .1 .1)
 
 mul-pad : tie.Need-mul-pad
@@ -134,8 +137,10 @@ returns c =
     record {
       takes = (rw (mass-is (from-mass f)) at (p1 .pad .ensures .0)) ∙ ap bytesFor e;
       written = written-all (shape s) (value s) (three p2) refl e (rw e (omega (arith, bytes-hold (shapeBits (shape s))))) (s .pre .enough)
-          (λ j. omega (arith, f .before .before .before .before .slice-known .given j)) (λ j. omega (arith, c .slice-known5 .given j)) (rw (mass-is (from-mass f)) at (p1 .pad .ensures .1));
+          (λ j. omega (arith, f .before .before .before .before .slice-known .given j)) (λ j. omega (arith, c .slice-known5 .given j))
+          (rw (mass-is (from-mass f)) at (p1 .pad .ensures .1));
     }
 
 pub field-spec : {M : Type 1} → statement M
-field-spec = tie.close (tie.spec (search needs) (search needs) write-bits-requires write-bits-requires-2 put-masses-requires mul-pad add-pad pad-requires same-length returns)
+field-spec = tie.close (tie.spec (search needs) (search needs) write-bits-requires write-bits-requires-2 put-masses-requires mul-pad add-pad pad-requires
+    same-length returns)

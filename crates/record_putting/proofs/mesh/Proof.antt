@@ -20,7 +20,8 @@ use Rattle.record_putting.proofs.mesh.Statement.{statement}
 use Rattle.record_putting.proofs.mesh.Tie as tie
 
 abbrev mesh : tie.Start → Mesh
-mesh s = meshOf (s .args .cells) (s .args .faces) (s .args .volumes .now) (s .args .firsts .now) (s .args .seconds .now) (s .args .shares .now) (s .args .reaches .now)
+mesh s = meshOf (s .args .cells) (s .args .faces) (s .args .volumes .now) (s .args .firsts .now) (s .args .seconds .now) (s .args .shares .now)
+    (s .args .reaches .now)
 
 abbrev kind : tie.Start → ℕ
 kind s = meshKind (s .args .width)
@@ -114,7 +115,8 @@ from-nine c = from-eight (c .before .before .before .before)
 one : (c : tie.After-write-bits) → Some (start c) (and none 0 0) (c .write-bits .last .0)
 one c =
     let s = start c in
-    head-written (mesh-kind-in (kind s) (s .args .cells) (s .args .faces)) (value s) (s .pre .fits) (written-none (shape s) (value s) _) (c .write-bits .ensures) (sym (c .before .before .before .of-width .ensures))
+    head-written (mesh-kind-in (kind s) (s .args .cells) (s .args .faces)) (value s) (s .pre .fits) (written-none (shape s) (value s) _)
+    (c .write-bits .ensures) (sym (c .before .before .before .of-width .ensures))
 
 two : (c : tie.After-write-bits2) → Some (start (from-two c)) (and (and none 0 0) 0 1) (c .write-bits2 .last .0)
 two c =
@@ -138,31 +140,36 @@ five : (c : tie.After-put-column) → Some (start (from-five c)) (and Head 1 0) 
 five c =
     let p1 = c .before .before .before .before in
     let s = start (from-five c) in
-    column-written (volumes-in (kind s) (s .args .cells) (s .args .faces)) (value s) (s .pre .fits) (four p1) (rw (value-is (from-value (from-five c))) at (c .put-column .ensures)) (λ i l. refl)
+    column-written (volumes-in (kind s) (s .args .cells) (s .args .faces)) (value s) (s .pre .fits) (four p1)
+    (rw (value-is (from-value (from-five c))) at (c .put-column .ensures)) (λ i l. refl)
 
 six : (c : tie.After-put-column2) → Some (start (from-six c)) (and (and Head 1 0) 2 0) (c .put-column2 .last .0)
 six c =
     let p1 = c .before .before .before .before in
     let s = start (from-six c) in
-    column-written (firsts-in (kind s) (s .args .cells) (s .args .faces) refl) (value s) (s .pre .fits) (five p1) (rw (value-is (from-value (from-six c))) at (c .put-column2 .ensures)) (λ i l. refl)
+    column-written (firsts-in (kind s) (s .args .cells) (s .args .faces) refl) (value s) (s .pre .fits) (five p1)
+    (rw (value-is (from-value (from-six c))) at (c .put-column2 .ensures)) (λ i l. refl)
 
 seven : (c : tie.After-put-column3) → Some (start (from-seven c)) (and (and (and Head 1 0) 2 0) 2 1) (c .put-column3 .last .0)
 seven c =
     let p1 = c .before .before .before .before in
     let s = start (from-seven c) in
-    column-written (seconds-in (kind s) (s .args .cells) (s .args .faces) refl) (value s) (s .pre .fits) (six p1) (rw (value-is (from-value (from-seven c))) at (c .put-column3 .ensures)) (λ i l. refl)
+    column-written (seconds-in (kind s) (s .args .cells) (s .args .faces) refl) (value s) (s .pre .fits) (six p1)
+    (rw (value-is (from-value (from-seven c))) at (c .put-column3 .ensures)) (λ i l. refl)
 
 eight : (c : tie.After-put-column4) → Some (start (from-eight c)) (and (and (and (and Head 1 0) 2 0) 2 1) 2 2) (c .put-column4 .last .0)
 eight c =
     let p1 = c .before .before .before .before in
     let s = start (from-eight c) in
-    column-written (shares-in (kind s) (s .args .cells) (s .args .faces) refl) (value s) (s .pre .fits) (seven p1) (rw (value-is (from-value (from-eight c))) at (c .put-column4 .ensures)) (λ i l. refl)
+    column-written (shares-in (kind s) (s .args .cells) (s .args .faces) refl) (value s) (s .pre .fits) (seven p1)
+    (rw (value-is (from-value (from-eight c))) at (c .put-column4 .ensures)) (λ i l. refl)
 
 nine : (c : tie.After-put-column5) → Some (start (from-nine c)) (and (and (and (and (and Head 1 0) 2 0) 2 1) 2 2) 2 3) (c .put-column5 .last .0)
 nine c =
     let p1 = c .before .before .before .before in
     let s = start (from-nine c) in
-    column-written (reaches-in (kind s) (s .args .cells) (s .args .faces) refl) (value s) (s .pre .fits) (eight p1) (rw (value-is (from-value (from-nine c))) at (c .put-column5 .ensures)) (λ i l. refl)
+    column-written (reaches-in (kind s) (s .args .cells) (s .args .faces) refl) (value s) (s .pre .fits) (eight p1)
+    (rw (value-is (from-value (from-nine c))) at (c .put-column5 .ensures)) (λ i l. refl)
 
 write-bits-requires : tie.Need-write-bits-requires
 write-bits-requires c κs =
@@ -193,31 +200,36 @@ put-column-requires : tie.Need-put-column-requires
 put-column-requires c κs =
     let p1 = c .before .before .before in
     let s = start (from-four p1) in
-    rw (value-is (from-value (from-four p1))) (column-asks (holds s) (four p1) (volumes-in (kind s) (s .args .cells) (s .args .faces)) (s .pre .fits) (s .args .volumes .now) (omega (arith, small s)) (s .pre .lent .volumes-long) (λ i l. refl))
+    rw (value-is (from-value (from-four p1))) (column-asks (holds s) (four p1) (volumes-in (kind s) (s .args .cells) (s .args .faces)) (s .pre .fits)
+    (s .args .volumes .now) (omega (arith, small s)) (s .pre .lent .volumes-long) (λ i l. refl))
 
 put-column-requires-2 : tie.Need-put-column-requires-2
 put-column-requires-2 c κs =
     let p1 = c .before .before .before in
     let s = start (from-five p1) in
-    rw (value-is (from-value (from-five p1))) (column-asks (holds s) (five p1) (firsts-in (kind s) (s .args .cells) (s .args .faces) refl) (s .pre .fits) (s .args .firsts .now) (omega arith) (s .pre .lent .firsts-long) (λ i l. refl))
+    rw (value-is (from-value (from-five p1))) (column-asks (holds s) (five p1) (firsts-in (kind s) (s .args .cells) (s .args .faces) refl) (s .pre .fits)
+    (s .args .firsts .now) (omega arith) (s .pre .lent .firsts-long) (λ i l. refl))
 
 put-column-requires-3 : tie.Need-put-column-requires-3
 put-column-requires-3 c κs =
     let p1 = c .before .before .before in
     let s = start (from-six p1) in
-    rw (value-is (from-value (from-six p1))) (column-asks (holds s) (six p1) (seconds-in (kind s) (s .args .cells) (s .args .faces) refl) (s .pre .fits) (s .args .seconds .now) (omega arith) (s .pre .lent .seconds-long) (λ i l. refl))
+    rw (value-is (from-value (from-six p1))) (column-asks (holds s) (six p1) (seconds-in (kind s) (s .args .cells) (s .args .faces) refl) (s .pre .fits)
+    (s .args .seconds .now) (omega arith) (s .pre .lent .seconds-long) (λ i l. refl))
 
 put-column-requires-4 : tie.Need-put-column-requires-4
 put-column-requires-4 c κs =
     let p1 = c .before .before .before in
     let s = start (from-seven p1) in
-    rw (value-is (from-value (from-seven p1))) (column-asks (holds s) (seven p1) (shares-in (kind s) (s .args .cells) (s .args .faces) refl) (s .pre .fits) (s .args .shares .now) (omega arith) (s .pre .lent .shares-long) (λ i l. refl))
+    rw (value-is (from-value (from-seven p1))) (column-asks (holds s) (seven p1) (shares-in (kind s) (s .args .cells) (s .args .faces) refl) (s .pre .fits)
+    (s .args .shares .now) (omega arith) (s .pre .lent .shares-long) (λ i l. refl))
 
 put-column-requires-5 : tie.Need-put-column-requires-5
 put-column-requires-5 c κs =
     let p1 = c .before .before .before in
     let s = start (from-eight p1) in
-    rw (value-is (from-value (from-eight p1))) (column-asks (holds s) (eight p1) (reaches-in (kind s) (s .args .cells) (s .args .faces) refl) (s .pre .fits) (s .args .reaches .now) (omega (arith, small s)) (s .pre .lent .reaches-long) (λ i l. refl))
+    rw (value-is (from-value (from-eight p1))) (column-asks (holds s) (eight p1) (reaches-in (kind s) (s .args .cells) (s .args .faces) refl) (s .pre .fits)
+    (s .args .reaches .now) (omega (arith, small s)) (s .pre .lent .reaches-long) (λ i l. refl))
 
 mul-pad : tie.Need-mul-pad
 mul-pad c =
@@ -255,7 +267,8 @@ returns c =
     record {
       takes = (rw (value-is (from-value f)) at (p1 .pad .ensures .0)) ∙ ap bytesFor e;
       written = written-all (shape s) (value s) (nine p2) refl e (rw e (omega (arith, bytes-hold (shapeBits (shape s))))) (s .pre .enough)
-          (λ j. omega (arith, f .before .before .before .before .slice-known .given j)) (λ j. omega (arith, c .slice-known11 .given j)) (rw (value-is (from-value f)) at (p1 .pad .ensures .1));
+          (λ j. omega (arith, f .before .before .before .before .slice-known .given j)) (λ j. omega (arith, c .slice-known11 .given j))
+          (rw (value-is (from-value f)) at (p1 .pad .ensures .1));
     }
 
 pub mesh-spec : {M : Type 1} → statement M
@@ -263,4 +276,5 @@ mesh-spec =
     tie.close
     (tie.spec (search needs) (search needs) add-face (search needs) (search needs) mul-first add-first add-second add-share add-reach
     write-bits-requires write-bits-requires-2 (search needs) write-bits-requires-3 write-bits-requires-4
-    put-column-requires put-column-requires-2 put-column-requires-3 put-column-requires-4 put-column-requires-5 mul-pad add-pad pad-requires same-length returns)
+    put-column-requires put-column-requires-2 put-column-requires-3 put-column-requires-4 put-column-requires-5 mul-pad add-pad pad-requires same-length
+    returns)

@@ -5,10 +5,12 @@ use Rattle.record_putting.proofs.put_masses.Statement.{statement}
 use Rattle.record_putting.proofs.put_masses.Tie as tie
 
 put-column-requires : tie.Need-put-column-requires
-put-column-requires c κs = let p = rw (c .before .enum-told .given .1) at (c .before .before .before .before .before .pre) in ((omega arith, omega arith, p .0), (p .1, p .2))
+put-column-requires c κs = let p = rw (c .before .enum-told .given .1) at (c .before .before .before .before .before .pre) in
+    ((omega arith, omega arith, p .0), (p .1, p .2))
 
 put-column-requires-2 : tie.Need-put-column-requires-2
-put-column-requires-2 c κs = let p = rw (c .before .enum-told2 .given .1) at (c .before .before .before .before .before .pre) in ((omega arith, omega arith, p .0), (p .1, p .2))
+put-column-requires-2 c κs = let p = rw (c .before .enum-told2 .given .1) at (c .before .before .before .before .before .pre) in
+    ((omega arith, omega arith, p .0), (p .1, p .2))
 
 returns : tie.Need-returns
 returns c = rw (c .before .before .before .before .enum-told .given .1) (c .before .before .put-column .ensures)

@@ -156,7 +156,8 @@ six : (c : tie.After-put-marked) → Some (start (from-six c)) Water (c .put-mar
 six c =
     let p1 = c .before .before .before .before in
     let s = start (from-six c) in
-    written-column (shape s) (value s) (s .pre .fits) 2 0 (five p1) (rw (value-is (from-value (from-six c))) at (c .put-marked .ensures)) (omega arith) refl refl (λ i. refl)
+    written-column (shape s) (value s) (s .pre .fits) 2 0 (five p1) (rw (value-is (from-value (from-six c))) at (c .put-marked .ensures)) (omega arith) refl
+    refl (λ i. refl)
     (λ i l t. outside-in (kind s) (s .args .cells) (s .args .faces) (s .args .seconds .now) i) (λ i l. refl)
 
 seven : (c : tie.After-put-column) → Some (start (from-seven c)) (and Water 3 0) (c .put-column .last .0)
@@ -194,14 +195,20 @@ put-signs-requires : tie.Need-put-signs-requires
 put-signs-requires c κs =
     let p1 = c .before .before .before in
     let s = start (from-three p1) in
-    rw (value-is (from-value (from-three p1))) ((omega arith, s .pre .fluxes-long), rooms (holds s) (three p1) (signs-in (kind s) (s .args .cells) (s .args .faces) (s .args .seconds .now)))
+    rw (value-is (from-value (from-three p1))) (
+      (omega arith, s .pre .fluxes-long),
+      rooms (holds s) (three p1) (signs-in (kind s) (s .args .cells) (s .args .faces) (s .args .seconds .now)),
+    )
 
 put-sizes-requires : tie.Need-put-sizes-requires
 put-sizes-requires c κs =
     let p1 = c .before .before .before in
     let s = start (from-four p1) in
     let k = sizes-in (kind s) (s .args .cells) (s .args .faces) (s .args .seconds .now) in
-    rw (value-is (from-value (from-four p1))) ((omega (arith, small s), column-fits k, s .pre .fluxes-long), (rooms (holds s) (four p1) k, column-small k (value s) (s .pre .fits)))
+    rw (value-is (from-value (from-four p1))) (
+      (omega (arith, small s), column-fits k, s .pre .fluxes-long),
+      (rooms (holds s) (four p1) k, column-small k (value s) (s .pre .fits)),
+    )
 
 put-marked-requires : tie.Need-put-marked-requires
 put-marked-requires c κs =
@@ -209,7 +216,16 @@ put-marked-requires c κs =
     let s = start (from-five p1) in
     let h = holds s in
     let r = five p1 in
-    rw (value-is (from-value (from-five p1))) ((omega arith, s .pre .seconds-long, s .pre .outsides-long, omega (arith, r .same-length, h .held, ends s), omega (arith, h .small, ends s)), s .pre .outsides-fit)
+    rw (value-is (from-value (from-five p1))) (
+      (
+        omega arith,
+        s .pre .seconds-long,
+        s .pre .outsides-long,
+        omega (arith, r .same-length, h .held, ends s),
+        omega (arith, h .small, ends s),
+      ),
+      s .pre .outsides-fit,
+    )
 
 put-column-requires : tie.Need-put-column-requires
 put-column-requires c κs =
@@ -256,6 +272,7 @@ returns c =
 pub step-spec : {M : Type 1} → statement M
 step-spec =
     tie.close
-    (tie.spec (search needs) add-flux (search needs) (search needs) (search needs) mul-first add-first (search needs) after-outsides-requires (search needs) (search needs)
+    (tie.spec (search needs) add-flux (search needs) (search needs) (search needs) mul-first add-first (search needs) after-outsides-requires (search needs)
+    (search needs)
     write-bits-requires write-bits-requires-2 write-bits-requires-3 put-signs-requires put-sizes-requires put-marked-requires put-column-requires
     mul-pad add-pad pad-requires same-length returns)

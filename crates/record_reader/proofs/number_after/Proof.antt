@@ -126,32 +126,39 @@ module _ {M : Type 1} (𝓤 : URA M) (H : Heap 𝓤) (A : Atoms 𝓤) (W : Given
   abbrev to-moved : Reader → Val → Moved 𝓤 H A mem run .Ghost
   to-moved r u = (((κ, tt), (q, tt), tt, (r, (b, tt)), (u ∷ [], (vint w64 b ∷ [], tt))), tt)
 
-  goes-moved : (r : Reader) (u : Val) → r .bit + b < 2 ^ 64 → ent 𝓤 (sep 𝓤 (sep 𝓤 (A .lft κ q) (sem 𝓤 H A ftrue)) (sem 𝓤 H A (B (κ, tt) .own r (u ∷ [])))) (Moved 𝓤 H A mem run .pre (to-moved r u))
+  goes-moved : (r : Reader) (u : Val) → r .bit + b < 2 ^ 64 → ent 𝓤 (sep 𝓤 (sep 𝓤 (A .lft κ q) (sem 𝓤 H A ftrue)) (sem 𝓤 H A (B (κ, tt) .own r (u ∷ []))))
+      (Moved 𝓤 H A mem run .pre (to-moved r u))
   goes-moved r u fits =
       qed W ((‵ (flft κ q) ⊛ ‵ ftrue) ∷ ‵ (B (κ, tt) .own r (u ∷ [])) ∷ []) ∵ says ! fits $ frame ! $
       nothing ! $ owned ! usize (Is usize) (uint-makes 𝓤 H A W w64) b _ (refl, b-fits) $ fjoin ! $ move ! (1 ∷ 0 ∷ []) $ fjoin ! $ done !
 
-  moved-said : (r p : Reader) → ent 𝓤 (ensured 𝓤 H A moved.ended (moved.clauses 𝓤 H A mem run) (κ, tt) (r, (b, tt)) tt p) (fact 𝓤 ((p .bytes ≡ r .bytes) × (p .bit ≡ r .bit + b)))
+  moved-said : (r p : Reader) → ent 𝓤 (ensured 𝓤 H A moved.ended (moved.clauses 𝓤 H A mem run) (κ, tt) (r, (b, tt)) tt p)
+      (fact 𝓤 ((p .bytes ≡ r .bytes) × (p .bit ≡ r .bit + b)))
   moved-said r p = exE 𝓤 _ (λ ws. snd∗ 𝓤 (sem 𝓤 H A (lasts moved.ended (κ, tt) (r, (b, tt)) ws)) (fact 𝓤 ((p .bytes ≡ r .bytes) × (p .bit ≡ r .bit + b))))
 
   -- the call of `number`, at the struct p
   abbrev to-number : Reader → Val → Number 𝓤 H A mem run .Ghost
   to-number p u = (((κ, tt), (q, tt), tt, (p, (n, tt)), (u ∷ [], (vint w64 n ∷ [], tt))), tt)
 
-  goes-number : (p : Reader) (u : Val) → ent 𝓤 (sep 𝓤 (sep 𝓤 (A .lft κ q) (sem 𝓤 H A ftrue)) (sem 𝓤 H A (B (κ, tt) .own p (u ∷ [])))) (Number 𝓤 H A mem run .pre (to-number p u))
+  goes-number : (p : Reader) (u : Val) → ent 𝓤 (sep 𝓤 (sep 𝓤 (A .lft κ q) (sem 𝓤 H A ftrue)) (sem 𝓤 H A (B (κ, tt) .own p (u ∷ []))))
+      (Number 𝓤 H A mem run .pre (to-number p u))
   goes-number p u =
       qed W ((‵ (flft κ q) ⊛ ‵ ftrue) ∷ ‵ (B (κ, tt) .own p (u ∷ [])) ∷ []) ∵
-      nothing ! $ owned ! usize (Is usize) (uint-makes 𝓤 H A W w64) n _ (refl, n-fits) $ fjoin ! $ move ! (2 ∷ 0 ∷ []) $ fjoin ! $ move ! (1 ∷ 0 ∷ []) $ join ! $ frame ! $ done !
+      nothing ! $ owned ! usize (Is usize) (uint-makes 𝓤 H A W w64) n _ (refl, n-fits) $ fjoin ! $ move ! (2 ∷ 0 ∷ []) $ fjoin ! $ move ! (1 ∷ 0 ∷ []) $ join !
+      $ frame ! $ done !
 
-  number-said : (p : Reader) (t : Spelled) → ent 𝓤 (ensured 𝓤 H A number.ended (number.clauses 𝓤 H A mem run) (κ, tt) (p, (n, tt)) tt t) (fact 𝓤 (t ≡ numberAt (now (p .bytes)) (p .bit) n))
+  number-said : (p : Reader) (t : Spelled) → ent 𝓤 (ensured 𝓤 H A number.ended (number.clauses 𝓤 H A mem run) (κ, tt) (p, (n, tt)) tt t)
+      (fact 𝓤 (t ≡ numberAt (now (p .bytes)) (p .bit) n))
   number-said p t = exE 𝓤 _ (λ ws. snd∗ 𝓤 (sem 𝓤 H A (lasts number.ended (κ, tt) (p, (n, tt)) ws)) (fact 𝓤 (t ≡ numberAt (now (p .bytes)) (p .bit) n)))
 
   -- the first bit and the bits moved on by
   starts : (r : Reader) → r .bit ≡ 0 → r .bit + b < 2 ^ 64
   starts r e = rw (e, zero-add b) b-fits
 
-  comes : (r p : Reader) (t : Spelled) → (r .bytes ≡ s) × (r .bit ≡ 0) → (p .bytes ≡ r .bytes) × (p .bit ≡ r .bit + b) → t ≡ numberAt (now (p .bytes)) (p .bit) n → t ≡ found
-  comes r p t e d f = f ∙ (ap (λ (x : RefT (List ℕ)). numberAt (now x) (p .bit) n) (d .0 ∙ e .0) ∙ ap (λ (k : ℕ). numberAt (now s) k n) (d .1 ∙ (ap (λ (k : ℕ). k + b) (e .1) ∙ zero-add b)))
+  comes : (r p : Reader) (t : Spelled) → (r .bytes ≡ s) × (r .bit ≡ 0) → (p .bytes ≡ r .bytes) × (p .bit ≡ r .bit + b) → t
+      ≡ numberAt (now (p .bytes)) (p .bit) n → t ≡ found
+  comes r p t e d f = f ∙ (ap (λ (x : RefT (List ℕ)). numberAt (now x) (p .bit) n) (d .0 ∙ e .0)
+      ∙ ap (λ (k : ℕ). numberAt (now s) k n) (d .1 ∙ (ap (λ (k : ℕ). k + b) (e .1) ∙ zero-add b)))
 
   exits : (t : Spelled) (u : Val) → t ≡ found → ent 𝓤 (⋆ 𝓤 H A (‵ (S.the-row .own t (u ∷ [])) ∷ (‵ (flft κ q) ⊛ ‵ ftrue) ∷ ‵ Own ∷ [])) (Post u)
   exits t u e =
@@ -168,7 +175,8 @@ module _ {M : Type 1} (𝓤 : URA M) (H : Heap 𝓤) (A : Atoms 𝓤) (W : Given
         → ent 𝓤 (onEntry 𝓤 H A number-after.signature (κ, tt) (q, tt) (s, (b, (n, tt))) at)
         (WpFn 𝓤 H C Λ code.function (v ∷ vint w64 b ∷ vint w64 n ∷ []) Post)
     walk p =
-        qed W (raw (onEntry 𝓤 H A number-after.signature (κ, tt) (q, tt) (s, (b, (n, tt))) at) ∷ []) ∵ enter ! C Λ code.function (v ∷ vint w64 b ∷ vint w64 n ∷ []) _ $
+        qed W (raw (onEntry 𝓤 H A number-after.signature (κ, tt) (q, tt) (s, (b, (n, tt))) at) ∷ []) ∵ enter ! C Λ code.function
+        (v ∷ vint w64 b ∷ vint w64 n ∷ []) _ $
         alloc1 ! (λ l₀. alloc1 ! (λ l₁. alloc1 ! (λ l₂. alloc1 ! (λ l₃. alloc1 ! (λ l₄. alloc1 ! (λ l₅. alloc0 ! $ params1 ! $
         pass1 ! (init ! 8 refl (shr-slice-lawful 𝓤 H A W (named 0) κ u8 .typed s (v ∷ []) p .0)) $
         pass1 ! (init ! 6 refl (tt, record { fits = b-fits })) $ pass1 ! (init ! 4 refl (tt, record { fits = n-fits })) $ pass0 ! $
@@ -177,13 +185,15 @@ module _ {M : Type 1} (𝓤 : URA M) (H : Heap 𝓤) (A : Atoms 𝓤) (W : Given
         calls-at ! fm (New 𝓤 H A mem run) known-new to-new (and-then ! (load ! (from ! (stop !)) (look ! 10 refl)) (no-more !)) (λ u.
         use1 W (later (some (λ (r : Reader). ((‵ (flft κ q) ⊛ ‵ ftrue) ⊛ ‵ (B (κ, tt) .own r (u ∷ []))) ⊛ raw (ensured 𝓤 H A new.ended
         (new.clauses 𝓤 H A mem run) (κ, tt) (s, tt) tt r)))) (id⊢ 𝓤 _) $ await ! tt $ pick ! (λ r.
-        split ! $ move ! (1 ∷ []) $ use1 W (raw (fact 𝓤 ((r .bytes ≡ s) × (r .bit ≡ 0)))) (new-said r) $ heard ! ((r .bytes ≡ s) × (r .bit ≡ 0)) (λ e. split ! $ move ! (1 ∷ []) $
+        split ! $ move ! (1 ∷ []) $ use1 W (raw (fact 𝓤 ((r .bytes ≡ s) × (r .bit ≡ 0)))) (new-said r)
+        $ heard ! ((r .bytes ≡ s) × (r .bit ≡ 0)) (λ e. split ! $ move ! (1 ∷ []) $
         -- [what the struct owns; the token; what s owns; room for _5; …; room for _4; …; _3; …; _2; …; _1; …; room for _0; …]
         peeks ! (B (κ, tt)) (Is (B (κ, tt))) (shows 𝓤 H A (B (κ, tt))) r (u ∷ []) (λ is.
         land ! (from ! (stop !)) (init ! 3 refl (LL.lawful (T.the-type αᵉ) (T′.the-laws αᵉ) 𝓤 H A W .typed r _ is .0)) $
         -- `moved`
         move ! (1 ∷ 0 ∷ []) $ use2 W (raw (Moved 𝓤 H A mem run .pre (to-moved r u))) (goes-moved r u (starts r (e .1))) $
-        calls-at ! fm (Moved 𝓤 H A mem run) known-moved (to-moved r u) (and-then ! (load ! (from ! (stop !)) (look ! 2 refl)) (and-then ! (load ! (from ! (stop !)) (look ! 8 refl)) (no-more !))) (λ w.
+        calls-at ! fm (Moved 𝓤 H A mem run) known-moved (to-moved r u)
+        (and-then ! (load ! (from ! (stop !)) (look ! 2 refl)) (and-then ! (load ! (from ! (stop !)) (look ! 8 refl)) (no-more !))) (λ w.
         use1 W (later (some (λ (o : Reader). ((‵ (flft κ q) ⊛ ‵ ftrue) ⊛ ‵ (B (κ, tt) .own o (w ∷ []))) ⊛ raw (ensured 𝓤 H A moved.ended
         (moved.clauses 𝓤 H A mem run) (κ, tt) (r, (b, tt)) tt o)))) (id⊢ 𝓤 _) $ await ! tt $ pick ! (λ o.
         split ! $ move ! (1 ∷ []) $ use1 W (raw (fact 𝓤 ((o .bytes ≡ r .bytes) × (o .bit ≡ r .bit + b)))) (moved-said r o) $
@@ -219,7 +229,8 @@ module _ {M : Type 1} (𝓤 : URA M) (H : Heap 𝓤) (A : Atoms 𝓤) (W : Given
       known-number (are .0)))
 
 number-after-meets : {M : Type 1} (𝓤 : URA M) (H : Heap 𝓤) (A : Atoms 𝓤) (W : Given 𝓤 H A) (mem : Memory → SProp 𝓤) (run : Routine → Fun 𝓤) (𝓣 : Tables 𝓤 H)
-    → Triple 𝓤 (𝓣 .C #record-reader·new) (New 𝓤 H A mem run) → Triple 𝓤 (𝓣 .C #record-reader·moved) (Moved 𝓤 H A mem run) → Triple 𝓤 (𝓣 .C #record-reader·number) (Number 𝓤 H A mem run)
+    → Triple 𝓤 (𝓣 .C #record-reader·new) (New 𝓤 H A mem run) → Triple 𝓤 (𝓣 .C #record-reader·moved) (Moved 𝓤 H A mem run)
+    → Triple 𝓤 (𝓣 .C #record-reader·number) (Number 𝓤 H A mem run)
     → Meets 𝓤 H A number-after.signature (WpFn 𝓤 H (𝓣 .C) (𝓣 .Λ) code.function) (number-after.spec 𝓤 H A mem run)
 number-after-meets 𝓤 H A W mem run 𝓣 known-new known-moved known-number =
     walk-meets 𝓤 H A number-after.ended stayed W (
@@ -227,7 +238,8 @@ number-after-meets 𝓤 H A W mem run 𝓣 known-new known-moved known-number =
       (goes-none 𝓤 H A W 1 (λ _. usize) yes (λ κs x f. refl), (goes-none 𝓤 H A W 1 (λ _. usize) yes (λ κs x f. refl), tt)),
     )
     (number-after.clauses 𝓤 H A mem run)
-    (WpFn 𝓤 H (𝓣 .C) (𝓣 .Λ) code.function) (WpFn-mono 𝓤 H (W .laws) 𝓣 code.function) (number-after-walks 𝓤 H A W mem run (𝓣 .C) (𝓣 .Λ) (fmOf 𝓤 H (W .laws) 𝓣) known-new known-moved known-number)
+    (WpFn 𝓤 H (𝓣 .C) (𝓣 .Λ) code.function) (WpFn-mono 𝓤 H (W .laws) 𝓣 code.function)
+    (number-after-walks 𝓤 H A W mem run (𝓣 .C) (𝓣 .Λ) (fmOf 𝓤 H (W .laws) 𝓣) known-new known-moved known-number)
 
 pub number-after-spec : {M : Type 1} → stated.statement M
 unfolding code.routine tablesOf
@@ -236,5 +248,7 @@ number-after-spec 𝓤 H 𝓜 𝓖 𝓡 =
     (tables 𝓤 H 𝓜 𝓡 code.env .C) (tables 𝓤 H 𝓜 𝓡 code.env .Λ) #record-reader·number-after code.function (code.unfolded 𝓤 H 𝓜 𝓡)
     (number-after-meets 𝓤 H (𝓖 .A) (givenOf 𝓤 H 𝓜 𝓖) (𝓜 .mem) (𝓡 .run) (tablesOf 𝓤 H 𝓜 (tables 𝓤 H 𝓜 𝓡 code.env))
     (cited 𝓤 H (New 𝓤 H (𝓖 .A) (𝓜 .mem) (𝓡 .run)) 𝓜 𝓡 code.env #record-reader·new new-def.routine code.calls-record-reader·new (new-thm.met 𝓤 H 𝓜 𝓖 𝓡))
-    (cited 𝓤 H (Moved 𝓤 H (𝓖 .A) (𝓜 .mem) (𝓡 .run)) 𝓜 𝓡 code.env #record-reader·moved moved-def.routine code.calls-record-reader·moved (moved-thm.met 𝓤 H 𝓜 𝓖 𝓡))
-    (cited 𝓤 H (Number 𝓤 H (𝓖 .A) (𝓜 .mem) (𝓡 .run)) 𝓜 𝓡 code.env #record-reader·number number-def.routine code.calls-record-reader·number (number-thm.met 𝓤 H 𝓜 𝓖 𝓡)))
+    (cited 𝓤 H (Moved 𝓤 H (𝓖 .A) (𝓜 .mem) (𝓡 .run)) 𝓜 𝓡 code.env #record-reader·moved moved-def.routine code.calls-record-reader·moved
+    (moved-thm.met 𝓤 H 𝓜 𝓖 𝓡))
+    (cited 𝓤 H (Number 𝓤 H (𝓖 .A) (𝓜 .mem) (𝓡 .run)) 𝓜 𝓡 code.env #record-reader·number number-def.routine code.calls-record-reader·number
+    (number-thm.met 𝓤 H 𝓜 𝓖 𝓡)))

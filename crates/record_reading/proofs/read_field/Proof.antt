@@ -19,7 +19,8 @@ use Rattle.record_reading.proofs.read_field.Tie as tie
 
 -- a reading that passed has room for its body
 room : (w : Width) (cells : _) (bs : _) {m : _} → fieldRead w cells bs m ≡ fine
-    → (fieldHeadBytes ≤ length bs) × ((8 * length (bodyOf fieldHeadBytes bs) < 2 ^ 64) × (shapeBits (fieldBody (fieldKind w) cells) ≤ 8 * length (bodyOf fieldHeadBytes bs)) × (cells ≤ m))
+    → (fieldHeadBytes ≤ length bs) × ((8 * length (bodyOf fieldHeadBytes bs) < 2 ^ 64)
+    × (shapeBits (fieldBody (fieldKind w) cells) ≤ 8 * length (bodyOf fieldHeadBytes bs)) × (cells ≤ m))
 unfolding fieldRead
 room w cells bs e = let a = both-fine _ _ e in let h = field-head-says w cells bs (a .0) in rw (← h .kind) (field-room cells bs (h .few-cells) (a .1))
 
@@ -58,11 +59,15 @@ returns-2 c =
     let p2 = p1 .before .before .before in
     let p3 = p2 .before .before in
     let s = p3 .before .before .before in
-    field-accepted (passes (p3 .field .ensures) (p2 .enum-told .given .1)) (field-filled (s .args .cells) (s .args .bytes .now) (s .args .masses .now) (rw (kind-is (s .args .width) (s .args .cells) (s .args .bytes .now) (length (s .args .masses .now)) (passes (p3 .field .ensures) (p2 .enum-told .given .1))) at (p1 .field2 .ensures)))
+    field-accepted (passes (p3 .field .ensures) (p2 .enum-told .given .1))
+    (field-filled (s .args .cells) (s .args .bytes .now) (s .args .masses .now)
+    (rw (kind-is (s .args .width) (s .args .cells) (s .args .bytes .now) (length (s .args .masses .now))
+    (passes (p3 .field .ensures) (p2 .enum-told .given .1))) at (p1 .field2 .ensures)))
 
 -- the tables that were filled keep their lengths
 same-length : tie.Need-same-length
 same-length c = c .before .before .field2 .kept .1 .1 .1 .0
 
 pub read-field-spec : {M : Type 1} → statement M
-read-field-spec = tie.close (tie.spec (search needs) (search needs) returns (search needs) sub-field part-field-start (search needs) field-requires-2 same-length returns-2)
+read-field-spec = tie.close (tie.spec (search needs) (search needs) returns (search needs) sub-field part-field-start (search needs) field-requires-2
+    same-length returns-2)

@@ -17,14 +17,18 @@ use Rattle.record_reading.proofs.read_mesh.Tie as tie
 
 abbrev comes : tie.Start → MeshCounts → Type 0
 comes s n = meshRead (s .args .most-cells) (s .args .most-faces) (s .args .bytes .now)
-    (length (s .args .volumes .now)) (length (s .args .firsts .now)) (length (s .args .seconds .now)) (length (s .args .shares .now)) (length (s .args .reaches .now)) ≡ accepted n
+    (length (s .args .volumes .now)) (length (s .args .firsts .now)) (length (s .args .seconds .now)) (length (s .args .shares .now))
+    (length (s .args .reaches .now)) ≡ accepted n
 
 says : (s : tie.Start) {n : MeshCounts} → comes s n → ReadSays (s .args .most-cells) (s .args .most-faces) (s .args .bytes .now) n
-    (length (s .args .volumes .now)) (length (s .args .firsts .now)) (length (s .args .seconds .now)) (length (s .args .shares .now)) (length (s .args .reaches .now))
+    (length (s .args .volumes .now)) (length (s .args .firsts .now)) (length (s .args .seconds .now)) (length (s .args .shares .now))
+    (length (s .args .reaches .now))
 says s e = read-says _ _ _ _ _ _ _ _ e
 
-room : (s : tie.Start) {n : MeshCounts} → comes s n → let bs = s .args .bytes .now in (meshHeadBytes ≤ length bs) × MeshRoom (kindIn bs) (cellsIn bs) (facesIn bs) (bodyOf meshHeadBytes bs)
-    (length (s .args .volumes .now)) (length (s .args .firsts .now)) (length (s .args .seconds .now)) (length (s .args .shares .now)) (length (s .args .reaches .now))
+room : (s : tie.Start) {n : MeshCounts} → comes s n → let bs = s .args .bytes .now in (meshHeadBytes ≤ length bs)
+    × MeshRoom (kindIn bs) (cellsIn bs) (facesIn bs) (bodyOf meshHeadBytes bs)
+    (length (s .args .volumes .now)) (length (s .args .firsts .now)) (length (s .args .seconds .now)) (length (s .args .shares .now))
+    (length (s .args .reaches .now))
 room s e = let k = says s e in mesh-room (s .args .bytes .now) (k .head .few-cells) (k .head .few-faces) (k .body-fine)
 
 returns : tie.Need-returns
@@ -62,7 +66,8 @@ returns-2 c =
     let p4 = p3 .before .before in
     let s = p4 .before .before .before .before .before .before .before in
     let e = sym (p4 .mesh .ensures) ∙ ap meshSaid (p3 .a .given .1) in
-    mesh-accepted e (mesh-filled (s .args .bytes .now) (rw (says s e .counts-are, mesh-kind-is (kindIn (s .args .bytes .now)) (says s e .head .kind)) at (p2 .mesh2 .ensures)))
+    mesh-accepted e (mesh-filled (s .args .bytes .now) (rw (says s e .counts-are, mesh-kind-is (kindIn (s .args .bytes .now)) (says s e .head .kind)) at
+    (p2 .mesh2 .ensures)))
 
 -- the tables that were filled keep their lengths
 same-length : tie.Need-same-length

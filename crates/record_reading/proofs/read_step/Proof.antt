@@ -32,7 +32,8 @@ abbrev start : tie.After-step → tie.Start
 start c = c .before .before .before .before .before
 
 returns : tie.Need-returns
-returns c = let e = c .enum-told .given .1 in rw e (step-refused (sym (c .before .before .step .ensures) ∙ ap (stepReadSaid (start (c .before .before) .args .width)) e))
+returns c = let e = c .enum-told .given .1 in rw e (step-refused
+    (sym (c .before .before .step .ensures) ∙ ap (stepReadSaid (start (c .before .before) .args .width)) e))
 
 sub-step : tie.Need-sub-step
 sub-step c =
@@ -61,7 +62,8 @@ returns-2 c =
     let p3 = p2 .before .before in
     let s = start p3 in
     let e = sym (p3 .step .ensures) ∙ ap (stepReadSaid (start p3 .args .width)) (p2 .a .given .1) in
-    step-accepted e (step-filled (s .args .cells) (s .args .faces) (s .args .seconds .now) (s .args .bytes .now) (rw (says s e .kind-is) at (p1 .step2 .ensures)))
+    step-accepted e (step-filled (s .args .cells) (s .args .faces) (s .args .seconds .now) (s .args .bytes .now)
+    (rw (says s e .kind-is) at (p1 .step2 .ensures)))
 
 -- the tables that were filled keep their lengths
 same-length : tie.Need-same-length

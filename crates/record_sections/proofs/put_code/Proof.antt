@@ -11,8 +11,11 @@ use Rattle.record_sections.proofs.put_code.Tie as tie
 put-requires : tie.Need-put-requires
 put-requires c κs =
     let m = c .before in
-    let s = m .before in
-    (s .pre .0, rw (m .pow2 .ensures) (lt-of-lt-of-le (mod-lt (s .args .code) (pow-pos (s .args .width))) (pow-mono {i = s .args .width} {j = 63} (omega (arith, s .pre .1)))))
+    let s = m .before in (
+      s .pre .0,
+      rw (m .pow2 .ensures) (lt-of-lt-of-le (mod-lt (s .args .code) (pow-pos (s .args .width)))
+          (pow-mono {i = s .args .width} {j = 63} (omega (arith, s .pre .1)))),
+    )
 
 returns : tie.Need-returns
 unfolding coded

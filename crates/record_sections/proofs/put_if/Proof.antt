@@ -14,7 +14,11 @@ same-length : tie.Need-same-length
 same-length c = c .before .before .write-bits .ensures .same-length
 
 returns : tie.Need-returns
-returns c = record { put = λ e. c .before .before .write-bits .ensures; none = λ e. absurd (true≢false (sym (c .before .before .before .before .if1 .taken) ∙ e)) }
+returns c = record {
+  put = λ e. c .before .before .write-bits .ensures;
+  none =
+      λ e. absurd (true≢false (sym (c .before .before .before .before .if1 .taken) ∙ e));
+}
 
 returns-2 : tie.Need-returns-2
 returns-2 c = record { put = λ e. absurd (true≢false (sym e ∙ c .if1 .left)); none = λ e. refl }

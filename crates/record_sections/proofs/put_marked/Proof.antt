@@ -13,7 +13,8 @@ use Rattle.record_sections.proofs.put_marked.Tie as tie
 
 abbrev Inv-loop : tie.InvT-loop
 Inv-loop bytes₀ first width mark n marks values at₀ i₀ bytes at i =
-    (i ≤ n) × (at ≡ first + those (marked mark marks) i * width) × PutColumn bytes₀ i (marked mark marks) (λ k. first + those (marked mark marks) k * width) width (λ k. getD values k 0) bytes
+    (i ≤ n) × (at ≡ first + those (marked mark marks) i * width)
+    × PutColumn bytes₀ i (marked mark marks) (λ k. first + those (marked mark marks) k * width) width (λ k. getD values k 0) bytes
 
 abbrev μ-loop : tie.MeasureT-loop
 μ-loop bytes₀ first width mark n marks values at₀ i₀ bytes at i = n - i

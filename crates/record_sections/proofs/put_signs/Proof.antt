@@ -15,7 +15,8 @@ use Rattle.record_sections.proofs.put_signs.Statement.{statement}
 use Rattle.record_sections.proofs.put_signs.Tie as tie
 
 abbrev Inv-loop : tie.InvT-loop
-Inv-loop bytes₀ first stride n values i₀ bytes i = (i ≤ n) × PutColumn bytes₀ i (λ _. true) (λ k. first + k * stride) 1 (λ k. cond (isNegative (getD values k (pos 0))) 1 0) bytes
+Inv-loop bytes₀ first stride n values i₀ bytes i = (i ≤ n) × PutColumn bytes₀ i (λ _. true) (λ k. first + k * stride) 1
+    (λ k. cond (isNegative (getD values k (pos 0))) 1 0) bytes
 
 abbrev μ-loop : tie.MeasureT-loop
 μ-loop bytes₀ first stride n values i₀ bytes i = n - i
@@ -49,7 +50,8 @@ loop-again c =
     let s = t .before .before .before in
     let l = t .before .loop in (
       turn-within (t .loop-test .taken),
-      column-turn (l .inv .1) refl (c .before .before .write-bits .ensures) (c .before .before .before .before .sign .ensures ∙ rw (c .before .before .before .before .before .is-negative-at .ensures))
+      column-turn (l .inv .1) refl (c .before .before .write-bits .ensures)
+          (c .before .before .before .before .sign .ensures ∙ rw (c .before .before .before .before .before .is-negative-at .ensures))
           (λ i m _. row-apart (s .args .first) (s .args .stride) 1 i (l .i) (s .pre .0 .0) m),
     )
 

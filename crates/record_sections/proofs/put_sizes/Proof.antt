@@ -13,7 +13,8 @@ use Rattle.record_sections.proofs.put_sizes.Statement.{statement}
 use Rattle.record_sections.proofs.put_sizes.Tie as tie
 
 abbrev Inv-loop : tie.InvT-loop
-Inv-loop bytes₀ first stride width n values i₀ bytes i = (i ≤ n) × PutColumn bytes₀ i (λ _. true) (λ k. first + k * stride) width (λ k. size (getD values k (pos 0))) bytes
+Inv-loop bytes₀ first stride width n values i₀ bytes i = (i ≤ n)
+    × PutColumn bytes₀ i (λ _. true) (λ k. first + k * stride) width (λ k. size (getD values k (pos 0))) bytes
 
 abbrev μ-loop : tie.MeasureT-loop
 μ-loop bytes₀ first stride width n values i₀ bytes i = n - i

@@ -13,7 +13,8 @@ use Rattle.record_sections.proofs.read_column.Statement.{statement}
 use Rattle.record_sections.proofs.read_column.Tie as tie
 
 abbrev Inv-loop : tie.InvT-loop
-Inv-loop bytes first stride width n out₀ i₀ out i = (length out ≡ length out₀) × (i ≤ n) × (out ≡ over (table i (λ k. bitsAt bytes (first + k * stride) width)) out₀)
+Inv-loop bytes first stride width n out₀ i₀ out i = (length out ≡ length out₀) × (i ≤ n)
+    × (out ≡ over (table i (λ k. bitsAt bytes (first + k * stride) width)) out₀)
 
 abbrev μ-loop : tie.MeasureT-loop
 μ-loop bytes first stride width n out₀ i₀ out i = n - i

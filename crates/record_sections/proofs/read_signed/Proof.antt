@@ -87,7 +87,8 @@ returns c =
 pub read-signed-spec : {M : Type 1} → statement M
 read-signed-spec =
     tie.close
-    (tie.spec Inv-loop μ-loop (λ c. record { fits = omega (arith, c .before .pre .0 .1) }) (λ c κs. (c .before .before .pre .0, c .before .before .pre .1)) loop-holds
+    (tie.spec Inv-loop μ-loop (λ c. record { fits = omega (arith, c .before .pre .0 .1) }) (λ c κs. (c .before .before .pre .0, c .before .before .pre .1))
+    loop-holds
     (λ c. offset-fits _ _ _ (row-small c)) (λ c. place-fits _ _ _ (row-small c)) read-bits-requires put-code-requires add-i
     (λ c. turn-less (c .before .before .before .before .loop-test .taken)) loop-again
     same-length returns)

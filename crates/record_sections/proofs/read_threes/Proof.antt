@@ -25,7 +25,8 @@ abbrev μ-loop : tie.MeasureT-loop
 -- three rows are in the record
 rows-in : (c : tie.In-loop Inv-loop μ-loop) → let s = c .before .before .before in
     s .args .first + c .before .loop .i * (1 + s .args .width) + 3 * (1 + s .args .width) ≤ 8 * length (s .args .bytes .now)
-rows-in c = let s = c .before .before .before in three-in (s .args .first) (c .before .loop .i) (1 + s .args .width) (s .pre .1 (c .before .loop .i + 2) (c .loop-test .taken))
+rows-in c = let s = c .before .before .before in three-in (s .args .first) (c .before .loop .i) (1 + s .args .width)
+    (s .pre .1 (c .before .loop .i + 2) (c .loop-test .taken))
 
 rows-small : (c : tie.In-loop Inv-loop μ-loop) → let s = c .before .before .before in
     s .args .first + c .before .loop .i * (1 + s .args .width) + 3 * (1 + s .args .width) < 2 ^ 64
@@ -57,7 +58,8 @@ loop-again c =
     let p = c .before .put-three .ensures in (
       rw p (simp length-set (l .inv .0)),
       three-within (l .i) (t .loop-test .taken),
-      p ∙ three-turn (s .args .bytes .now) (s .args .first) (s .args .width) (l .i) _ (omega (arith, t .loop-test .taken, s .pre .0 .2)) (c .before .before .before .read-bits .ensures) (l .inv .2),
+      p ∙ three-turn (s .args .bytes .now) (s .args .first) (s .args .width) (l .i) _ (omega (arith, t .loop-test .taken, s .pre .0 .2))
+          (c .before .before .before .read-bits .ensures) (l .inv .2),
     )
 
 pub read-threes-spec : {M : Type 1} → statement M

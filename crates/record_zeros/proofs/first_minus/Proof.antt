@@ -19,9 +19,12 @@ abbrev μ-loop : tie.MeasureT-loop
 μ-loop bytes faces value flux f₀ f = faces - f
 
 room : (c : tie.In-loop Inv-loop μ-loop) → let s = c .before .before .before .before in
-    (stepHeadBits + c .before .loop .f * (signBits + s .args .value) + (signBits + s .args .value) ≤ 8 * length (s .args .bytes .now)) × (8 * length (s .args .bytes .now) < 2 ^ 64)
-room c = let s = c .before .before .before .before in
-    (face-room (signBits + s .args .value) (c .before .loop .f) (s .args .faces) (8 * length (s .args .bytes .now)) (c .loop-test .taken) (s .pre .0), s .pre .1)
+    (stepHeadBits + c .before .loop .f * (signBits + s .args .value) + (signBits + s .args .value) ≤ 8 * length (s .args .bytes .now))
+    × (8 * length (s .args .bytes .now) < 2 ^ 64)
+room c = let s = c .before .before .before .before in (
+  face-room (signBits + s .args .value) (c .before .loop .f) (s .args .faces) (8 * length (s .args .bytes .now)) (c .loop-test .taken) (s .pre .0),
+  s .pre .1,
+)
 
 returns : tie.Need-returns Inv-loop μ-loop
 returns c =
@@ -39,5 +42,6 @@ returns-2 c = let l = c .before .loop in record { end = l .inv .0; plain = l .in
 pub first-minus-spec : {M : Type 1} → statement M
 first-minus-spec =
     tie.close
-    (tie.spec Inv-loop μ-loop (search needs) (search needs) (λ c. c .plain-threes .ensures) (search needs) (λ c. omega (arith, room c)) (λ c. omega (arith, room c))
+    (tie.spec Inv-loop μ-loop (search needs) (search needs) (λ c. c .plain-threes .ensures) (search needs) (λ c. omega (arith, room c))
+    (λ c. omega (arith, room c))
     (λ c κs. omega (arith, room c, c .before .before .before .before .pre .2)) returns (search needs) (search needs) loop-again returns-2)

@@ -37,4 +37,5 @@ returns-2 c =
 
 pub first-set-spec : {M : Type 1} → statement M
 first-set-spec =
-    tie.close (tie.spec Inv-loop μ-loop (λ c. (search needs, search needs, λ k l m. absurd (omega arith))) (search needs) returns (search needs) (search needs) loop-again returns-2)
+    tie.close (tie.spec Inv-loop μ-loop (λ c. (search needs, search needs, λ k l m. absurd (omega arith))) (search needs) returns (search needs) (search needs)
+    loop-again returns-2)

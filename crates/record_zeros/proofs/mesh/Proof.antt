@@ -24,7 +24,8 @@ returns-3 : tie.Need-returns-3
 returns-3 c =
     let t = c .before in
     let s = t .before .before .before .before in
-    no-hit (zeros-ruled _ _ _ _ (s .pre .1)) _ (t .before .before .first-set .ensures) (t .before .if1 .left) (λ j h l. bit-used _ _ _ _ j (inr h) l) (t .first-set2 .ensures) (c .if2 .left)
+    no-hit (zeros-ruled _ _ _ _ (s .pre .1)) _ (t .before .before .first-set .ensures) (t .before .if1 .left) (λ j h l. bit-used _ _ _ _ j (inr h) l)
+    (t .first-set2 .ensures) (c .if2 .left)
 
 pub mesh-spec : {M : Type 1} → statement M
 mesh-spec =

@@ -12,14 +12,27 @@ returns-2 : tie.Need-returns-2
 unfolding oneOfThree
 returns-2 c =
     let one = c .before .before in
-    rw (← one .before .before .pow2 .ensures, ← one .before .part .ensures, ← c .before .part2 .ensures, ne-eqb _ _ (one .if1 .left), eq-eqb _ _ (c .if2 .taken))
+    rw (
+      ← one .before .before .pow2 .ensures,
+      ← one .before .part .ensures,
+      ← c .before .part2 .ensures,
+      ne-eqb _ _ (one .if1 .left),
+      eq-eqb _ _ (c .if2 .taken),
+    )
 
 returns-3 : tie.Need-returns-3
 unfolding oneOfThree
 returns-3 c =
     let two = c .before in
     let one = two .before .before in
-    rw (← one .before .before .pow2 .ensures, ← one .before .part .ensures, ← two .before .part2 .ensures, ← c .part3 .ensures, ne-eqb _ _ (one .if1 .left), ne-eqb _ _ (two .if2 .left))
+    rw (
+      ← one .before .before .pow2 .ensures,
+      ← one .before .part .ensures,
+      ← two .before .part2 .ensures,
+      ← c .part3 .ensures,
+      ne-eqb _ _ (one .if1 .left),
+      ne-eqb _ _ (two .if2 .left),
+    )
 
 pub minus-in-three-spec : {M : Type 1} → statement M
 minus-in-three-spec =

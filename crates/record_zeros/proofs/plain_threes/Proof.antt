@@ -17,9 +17,12 @@ abbrev μ-loop : tie.MeasureT-loop
 μ-loop bytes faces value flux f₀ f = faces - f
 
 room : (c : tie.In-loop Inv-loop μ-loop) → let s = c .before .before .before in
-    (stepHeadBits + c .before .loop .f * (signBits + s .args .value) + 3 * (signBits + s .args .value) ≤ 8 * length (s .args .bytes .now)) × (8 * length (s .args .bytes .now) < 2 ^ 64)
-room c = let s = c .before .before .before in
-    (three-room (signBits + s .args .value) (c .before .loop .f) (s .args .faces) (8 * length (s .args .bytes .now)) (c .loop-test .taken) (s .pre .0), s .pre .1)
+    (stepHeadBits + c .before .loop .f * (signBits + s .args .value) + 3 * (signBits + s .args .value) ≤ 8 * length (s .args .bytes .now))
+    × (8 * length (s .args .bytes .now) < 2 ^ 64)
+room c = let s = c .before .before .before in (
+  three-room (signBits + s .args .value) (c .before .loop .f) (s .args .faces) (8 * length (s .args .bytes .now)) (c .loop-test .taken) (s .pre .0),
+  s .pre .1,
+)
 
 -- every face has a bit
 few : (s : tie.Start Inv-loop μ-loop) → s .args .faces + 32 < 2 ^ 64
@@ -48,5 +51,6 @@ plain-threes-spec =
     tie.close
     (tie.spec Inv-loop μ-loop (search needs) (λ c. (search needs, λ k l. absurd (omega arith))) add-loop
     (search needs) (λ c. omega (arith, room c)) (λ c. omega (arith, room c)) (λ c. omega (arith, c .before .before .before .pre .2))
-    (λ c κs. omega (arith, room c, c .before .before .before .pre .2)) (search needs) (λ c. let v = c .before .before .before .before .loop .inv in (v .0, v .1))
+    (λ c κs. omega (arith, room c, c .before .before .before .pre .2)) (search needs)
+    (λ c. let v = c .before .before .before .before .loop .inv in (v .0, v .1))
     add-f (λ c. omega (arith, c .before .before .before .loop-test .taken)) loop-again (λ c. (c .before .loop .inv .0, c .before .loop .inv .1)))

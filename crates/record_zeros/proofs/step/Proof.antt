@@ -34,7 +34,8 @@ returns-3 c =
     let m = t .before .before in
     let s = m .before .before .before .before in
     c .refused3 .ensures
-    ∙ tail-hit (step-ruled _ _ _ _ (s .pre .1)) _ (m .before .before .first-set .ensures) (m .before .if1 .left) (all-good _ _ _ _ (s .pre .1) (m .first-minus .ensures) (t .before .if2 .left))
+    ∙ tail-hit (step-ruled _ _ _ _ (s .pre .1)) _ (m .before .before .first-set .ensures) (m .before .if1 .left)
+    (all-good _ _ _ _ (s .pre .1) (m .first-minus .ensures) (t .before .if2 .left))
     (t .first-set2 .ensures) (c .before .if3 .taken)
 
 returns-4 : tie.Need-returns-4
@@ -42,11 +43,14 @@ returns-4 c =
     let t = c .before in
     let m = t .before .before in
     let s = m .before .before .before .before in
-    no-hit (step-ruled _ _ _ _ (s .pre .1)) _ (m .before .before .first-set .ensures) (m .before .if1 .left) (all-good _ _ _ _ (s .pre .1) (m .first-minus .ensures) (t .before .if2 .left))
+    no-hit (step-ruled _ _ _ _ (s .pre .1)) _ (m .before .before .first-set .ensures) (m .before .if1 .left)
+    (all-good _ _ _ _ (s .pre .1) (m .first-minus .ensures) (t .before .if2 .left))
     (t .first-set2 .ensures) (c .if3 .left)
 
 pub step-spec : {M : Type 1} → statement M
 step-spec =
     tie.close
-    (tie.spec (search needs) (search needs) (search needs) (search needs) returns (search needs) (λ c. omega (arith, c .before .before .before .before .before .pre .3)) (λ c. omega (arith, room c)) (λ c. omega (arith, room c)) (search needs) returns-2 (search needs) (search needs) (search needs)
+    (tie.spec (search needs) (search needs) (search needs) (search needs) returns (search needs)
+    (λ c. omega (arith, c .before .before .before .before .before .pre .3)) (λ c. omega (arith, room c)) (λ c. omega (arith, room c)) (search needs)
+    returns-2 (search needs) (search needs) (search needs)
     returns-3 returns-4)

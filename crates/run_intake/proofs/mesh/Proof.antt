@@ -16,8 +16,11 @@ returns-2 c =
     let r = c .before .before in
     let said = r .before .before in
     let head = said .before .before .before .before .before .before in
-    let e = r .rest .ensures in
-    (e .0, asked-rest _ _ _ _ _ _ _ (head .bytes .ensures .2) (e .1) (said .bytes-alone .ensures ∙ ap bytesOf (said .before .mesh-length .ensures)) (e .3) (e .2))
+    let e = r .rest .ensures in (
+      e .0,
+      asked-rest _ _ _ _ _ _ _ (head .bytes .ensures .2) (e .1) (said .bytes-alone .ensures ∙ ap bytesOf (said .before .mesh-length .ensures)) (e .3)
+          (e .2),
+    )
 
 pub mesh-spec : {M : Type 1} → statement M
 mesh-spec =

@@ -18,5 +18,6 @@ returns-2 c =
 pub once-spec : {M : Type 1} → statement M
 once-spec =
     tie.close
-    (tie.spec (search needs) (search needs) (search needs) (search needs) (search needs) (search needs) (search needs) returns (search needs) (search needs) (search needs)
+    (tie.spec (search needs) (search needs) (search needs) (search needs) (search needs) (search needs) (search needs) returns (search needs) (search needs)
+    (search needs)
     (search needs) (search needs) (search needs) returns-2)

@@ -9,7 +9,11 @@ add-bytes : tie.Need-add-bytes
 add-bytes c = omega (arith, room-left _ _ (c .before .still-needed .ensures .1) (c .before .before .before .pre .0))
 
 bytes-requires : tie.Need-bytes-requires
-bytes-requires c κs = (omega arith, le-trans (room-left _ _ (c .before .still-needed .ensures .1) (c .before .before .before .pre .0)) (c .before .before .before .pre .1))
+bytes-requires c κs = (
+  omega arith,
+  le-trans (room-left _ _ (c .before .still-needed .ensures .1) (c .before .before .before .pre .0))
+      (c .before .before .before .pre .1),
+)
 
 returns : tie.Need-returns
 returns c = let e = c .before .before .bytes .ensures in (e .0, e .1, rw (← c .before .before .before .before .still-needed .ensures .0) (e .2), e .3)

@@ -17,10 +17,16 @@ least-requires : tie.Need-least-requires
 least-requires c κs = search needs
 
 returns-2 : tie.Need-returns-2
-returns-2 c = (rw (c .before .before .before .answer .given .1, record-is) (omega (arith, c .before .least .ensures)), λ h. rw record-is (omega (arith, record-is)))
+returns-2 c = (
+  rw (c .before .before .before .answer .given .1, record-is) (omega (arith, c .before .least .ensures)),
+  λ h. rw record-is (omega (arith, record-is)),
+)
 
 returns-3 : tie.Need-returns-3
-returns-3 c = (rw (c .before .before .before .answer .given .1, c .before .least .ensures, record-is), λ h. rw record-is (omega (arith, c .before .least .ensures, record-is)))
+returns-3 c = (
+  rw (c .before .before .before .answer .given .1, c .before .least .ensures, record-is),
+  λ h. rw record-is (omega (arith, c .before .least .ensures, record-is)),
+)
 
 pub still-needed-spec : {M : Type 1} → statement M
 still-needed-spec =

@@ -14,7 +14,8 @@ returns c =
     let cell = q .before .before .before in
     let letter = cell .before .before .before in
     let args = letter .before .before .args in
-    board-held refl (args .cell) (args .q) (args .rest) (both _ (letter .mark .ensures) (both _ (cell .word .ensures) (both _ (q .word2 .ensures) (rest .word3 .ensures))))
+    board-held refl (args .cell) (args .q) (args .rest) (both _ (letter .mark .ensures)
+    (both _ (cell .word .ensures) (both _ (q .word2 .ensures) (rest .word3 .ensures))))
 
 pub board-line-spec : {M : Type 1} → statement M
 board-line-spec =

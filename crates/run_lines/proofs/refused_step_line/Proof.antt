@@ -14,7 +14,8 @@ returns c =
     let letter = number .before .before .before in
     let step = letter .before .before .before in
     let args = step .before .before .args in
-    refused-step-held refl (args .step) (args .number) (args .place) (both _ (step .word .ensures) (both _ (letter .mark .ensures) (both _ (number .word2 .ensures) (place .word3 .ensures))))
+    refused-step-held refl (args .step) (args .number) (args .place)
+    (both _ (step .word .ensures) (both _ (letter .mark .ensures) (both _ (number .word2 .ensures) (place .word3 .ensures))))
 
 pub refused-step-line-spec : {M : Type 1} → statement M
 refused-step-line-spec =

@@ -17,7 +17,8 @@ returns c =
     let step = entered .before .before .before in
     let args = step .before .before .args in
     step-held refl (args .step) (args .entered) (args .gone) (args .total) (args .released)
-    (both _ (step .word .ensures) (both _ (entered .word2 .ensures) (both _ (gone .word3 .ensures) (both _ (total .word4 .ensures) (released .word5 .ensures)))))
+    (both _ (step .word .ensures) (both _ (entered .word2 .ensures)
+    (both _ (gone .word3 .ensures) (both _ (total .word4 .ensures) (released .word5 .ensures)))))
 
 pub step-line-spec : {M : Type 1} → statement M
 step-line-spec =

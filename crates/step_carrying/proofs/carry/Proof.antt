@@ -36,7 +36,8 @@ below c = c .loop-test .taken
 -- how far the pass has come, of the step that the call was made for
 so-far : (c : tie.At-loop Inv-loop μ-loop)
     → let s = begun (c .before) in
-    CarriedTo (stepThrough (s .args .cells) (s .args .faces) (s .args .firsts .now) (s .args .seconds .now) (s .args .shares .now) (s .args .reaches .now) (s .args .fluxes .now)
+    CarriedTo (stepThrough (s .args .cells) (s .args .faces) (s .args .firsts .now) (s .args .seconds .now) (s .args .shares .now) (s .args .reaches .now)
+    (s .args .fluxes .now)
     (s .args .outsides .now) (s .pre .unseen)) (c .loop .f) (c .loop .so-far .entered) (c .loop .so-far .gone) (c .loop .next) (c .loop .moved) (c .loop .work)
 so-far c = let s = begun (c .before) in c .loop .inv .1 (s .pre .unseen) (s .pre .ready) (s .pre .so-far)
 
@@ -52,7 +53,8 @@ loop-again c =
     (omega (arith, below w), λ u r k. t .carry-turn .ensures u r (w .before .loop .inv .1 u r k))
 
 returns : tie.Need-returns Inv-loop μ-loop
-returns c = let e : c .before .loop .f ≡ start-after c .args .faces = omega (arith, c .before .loop .inv .0, c .loop-test .left) in rw e at (c .before .loop .inv .1)
+returns c = let e : c .before .loop .f ≡ start-after c .args .faces = omega (arith, c .before .loop .inv .0, c .loop-test .left) in
+    rw e at (c .before .loop .inv .1)
 
 pub carry-spec : {M : Type 1} → statement M
 carry-spec =
@@ -60,6 +62,7 @@ carry-spec =
     (tie.spec Inv-loop μ-loop (λ c. (search needs, λ u r k. k)) carry-turn-requires
     (λ c. let w = turned (c .before .before .before .before .before) in face-next (below w) (start w .pre .ready .counts-fit .few-faces))
     (λ c. falls _ _ (below (turned (c .before .before .before .before .before)))) loop-again
-    (λ c. so-far (c .before) .flowing .long ∙ sym (start-after c .pre .so-far .flowing .long)) (λ c. so-far (c .before) .moved-long ∙ sym (start-after c .pre .so-far .moved-long))
+    (λ c. so-far (c .before) .flowing .long ∙ sym (start-after c .pre .so-far .flowing .long))
+    (λ c. so-far (c .before) .moved-long ∙ sym (start-after c .pre .so-far .moved-long))
     (λ c. so-far (c .before) .work-long ∙ sym (start-after c .pre .so-far .work-long))
     returns)

@@ -18,7 +18,8 @@ use Rattle.step_carrying.proofs.carry_turn.Tie as tie
 
 -- the step whose face is passed, whatever of it is not lent
 abbrev input : tie.Start → Unseen → StepInput
-input s = stepThrough (s .args .cells) (s .args .faces) (s .args .firsts .now) (s .args .seconds .now) (s .args .shares .now) (s .args .reaches .now) (s .args .fluxes .now)
+input s = stepThrough (s .args .cells) (s .args .faces) (s .args .firsts .now) (s .args .seconds .now) (s .args .shares .now) (s .args .reaches .now)
+    (s .args .fluxes .now)
     (s .args .outsides .now)
 
 -- the one that the call was made for
@@ -78,11 +79,15 @@ carry-rim-requires c κs =
     let q = i .before in
     let u = near-read q in
     let s = start-near q in (
-      rim-asks (s .args .f) _ _ (u .size-at .result) (getD (s .args .shares .now) (s .args .f) 0) (getD (s .args .reaches .now) (s .args .f) 0) (q .concentration .result) _ (s .args .cells) _
+      rim-asks (s .args .f) _ _ (u .size-at .result) (getD (s .args .shares .now) (s .args .f) 0) (getD (s .args .reaches .now) (s .args .f) 0)
+          (q .concentration .result) _ (s .args .cells) _
           (s .args .next .now) (s .args .moved .now) (s .args .work .now) (i .if1 .taken)
-          (face-asks (asked s) (ready s) (s .args .f) (s .pre .0) _ _ (s .args .next .now) (s .args .work .now) (s .args .moved .now) (s .pre .1 .so-far) (u .before .is-negative-at .result)
-          (u .size-at .result) (q .concentration .result) _ (u .before .is-negative-at .ensures) (u .size-at .ensures) (q .concentration .ensures) (outside-is i)),
-      runs-back (getD (s .args .fluxes .now) (s .args .f) (pos 0)) (u .before .is-negative-at .result) (u .size-at .result) (u .before .is-negative-at .ensures) (u .size-at .ensures),
+          (face-asks (asked s) (ready s) (s .args .f) (s .pre .0) _ _ (s .args .next .now) (s .args .work .now) (s .args .moved .now) (s .pre .1 .so-far)
+          (u .before .is-negative-at .result)
+          (u .size-at .result) (q .concentration .result) _ (u .before .is-negative-at .ensures) (u .size-at .ensures) (q .concentration .ensures)
+          (outside-is i)),
+      runs-back (getD (s .args .fluxes .now) (s .args .f) (pos 0)) (u .before .is-negative-at .result) (u .size-at .result) (u .before .is-negative-at .ensures)
+          (u .size-at .ensures),
     )
 
 add-entered : tie.Need-add-t34
@@ -94,10 +99,12 @@ add-entered c =
     let u = near-read q in
     let s = start-near q in
     record {
-      fits = rim-entered-fits (asked s) (ready s) (s .args .f) (s .pre .0) _ _ (s .args .next .now) (s .args .work .now) (s .args .moved .now) (s .pre .1 .so-far)
+      fits = rim-entered-fits (asked s) (ready s) (s .args .f) (s .pre .0) _ _ (s .args .next .now) (s .args .work .now) (s .args .moved .now)
+          (s .pre .1 .so-far)
           (u .before .is-negative-at .result) (u .size-at .result) (q .concentration .result) _ (t .carry-rim .result)
           (u .before .is-negative-at .ensures) (u .size-at .ensures) (q .concentration .ensures) (outside-is i) _ _ _
-          (rim-done (s .args .f) _ _ _ _ (q .concentration .result) _ (s .args .cells) (t .carry-rim .result) _ _ _ _ _ _ _ _ (i .if1 .taken) (t .carry-rim .ensures)) (i .if1 .taken)
+          (rim-done (s .args .f) _ _ _ _ (q .concentration .result) _ (s .args .cells) (t .carry-rim .result) _ _ _ _ _ _ _ _ (i .if1 .taken)
+          (t .carry-rim .ensures)) (i .if1 .taken)
           (e .entered .result) (e .entered .ensures);
     }
 
@@ -113,7 +120,8 @@ add-gone c =
       fits = rim-gone-fits (asked s) (ready s) (s .args .f) (s .pre .0) _ _ (s .args .next .now) (s .args .work .now) (s .args .moved .now) (s .pre .1 .so-far)
           (u .before .is-negative-at .result) (u .size-at .result) (q .concentration .result) _ (t .carry-rim .result)
           (u .before .is-negative-at .ensures) (u .size-at .ensures) (q .concentration .ensures) (outside-is i) _ _ _
-          (rim-done (s .args .f) _ _ _ _ (q .concentration .result) _ (s .args .cells) (t .carry-rim .result) _ _ _ _ _ _ _ _ (i .if1 .taken) (t .carry-rim .ensures)) (i .if1 .taken)
+          (rim-done (s .args .f) _ _ _ _ (q .concentration .result) _ (s .args .cells) (t .carry-rim .result) _ _ _ _ _ _ _ _ (i .if1 .taken)
+          (t .carry-rim .ensures)) (i .if1 .taken)
           (g .gone .result) (g .gone .ensures);
     }
 
@@ -126,10 +134,12 @@ returns c =
     let q = i .before in
     let u = near-read q in
     let s = start-near q in
-    λ v r k. rim-turn (input s v) r (s .args .f) (s .pre .0) _ _ (s .args .next .now) (s .args .work .now) (s .args .moved .now) k (u .before .is-negative-at .result)
+    λ v r k. rim-turn (input s v) r (s .args .f) (s .pre .0) _ _ (s .args .next .now) (s .args .work .now) (s .args .moved .now) k
+    (u .before .is-negative-at .result)
     (u .size-at .result) (q .concentration .result) _ (t .carry-rim .result)
     (u .before .is-negative-at .ensures) (u .size-at .ensures) (q .concentration .ensures) (outside-is i) _ _ _
-    (rim-done (s .args .f) _ _ _ _ (q .concentration .result) _ (s .args .cells) (t .carry-rim .result) _ _ _ _ _ _ _ _ (i .if1 .taken) (t .carry-rim .ensures)) (i .if1 .taken)
+    (rim-done (s .args .f) _ _ _ _ (q .concentration .result) _ (s .args .cells) (t .carry-rim .result) _ _ _ _ _ _ _ _ (i .if1 .taken) (t .carry-rim .ensures))
+    (i .if1 .taken)
     (e .entered .result) (g .gone .result) (e .entered .ensures) (g .gone .ensures)
 
 concentration-requires-2 : tie.Need-concentration-requires-2
@@ -155,8 +165,10 @@ carry-inside-requires c κs =
     let q = i .before in
     let u = near-read q in
     let s = start-near q in (
-      face-asks (asked s) (ready s) (s .args .f) (s .pre .0) _ _ (s .args .next .now) (s .args .work .now) (s .args .moved .now) (s .pre .1 .so-far) (u .before .is-negative-at .result)
-          (u .size-at .result) (q .concentration .result) (b .concentration2 .result) (u .before .is-negative-at .ensures) (u .size-at .ensures) (q .concentration .ensures) (second-is b),
+      face-asks (asked s) (ready s) (s .args .f) (s .pre .0) _ _ (s .args .next .now) (s .args .work .now) (s .args .moved .now) (s .pre .1 .so-far)
+          (u .before .is-negative-at .result)
+          (u .size-at .result) (q .concentration .result) (b .concentration2 .result) (u .before .is-negative-at .ensures) (u .size-at .ensures)
+          (q .concentration .ensures) (second-is b),
       i .if1 .left,
     )
 
@@ -168,7 +180,8 @@ returns-2 c =
     let q = i .before in
     let u = near-read q in
     let s = start-near q in
-    λ v r k. inside-turn (input s v) r (s .args .f) (s .pre .0) _ _ (s .args .next .now) (s .args .work .now) (s .args .moved .now) k (u .before .is-negative-at .result)
+    λ v r k. inside-turn (input s v) r (s .args .f) (s .pre .0) _ _ (s .args .next .now) (s .args .work .now) (s .args .moved .now) k
+    (u .before .is-negative-at .result)
     (u .size-at .result) (q .concentration .result) (b .concentration2 .result) _
     (u .before .is-negative-at .ensures) (u .size-at .ensures) (q .concentration .ensures) (second-is b) _ _ _ (t .carry-inside .ensures) (i .if1 .left)
 
@@ -177,7 +190,8 @@ carry-turn-spec =
     tie.close
     (tie.spec
     (λ c. face-bytes (start c .pre .0) (few (start c))) (λ c. let s = start (c .before) in lt-of-lt-of-le (s .pre .0) (ready s .lent .firsts-long))
-    (λ c. let s = start (c .before) in face-bytes (s .pre .0) (few s)) (λ c. let s = start (c .before .before) in lt-of-lt-of-le (s .pre .0) (ready s .lent .seconds-long))
+    (λ c. let s = start (c .before) in face-bytes (s .pre .0) (few s))
+    (λ c. let s = start (c .before .before) in lt-of-lt-of-le (s .pre .0) (ready s .lent .seconds-long))
     (λ c κs. let s = start (c .before .before) in lt-of-lt-of-le (s .pre .0) (ready s .fluxes-long))
     (λ c κs. let s = signed c in lt-of-lt-of-le (s .pre .0) (ready s .fluxes-long))
     concentration-requires

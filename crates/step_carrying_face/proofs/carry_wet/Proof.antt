@@ -100,13 +100,16 @@ returns c =
     let t = passed m in
     let w = chosen (noted t) in
     let s = start w in
-    wet-done (s .args .f) (s .args .first) (s .args .second) (s .args .share) (s .args .reach) (s .args .a) (s .args .b) (s .args .cells) (w .upwind .result) (c .correction-code .result)
+    wet-done (s .args .f) (s .args .first) (s .args .second) (s .args .share) (s .args .reach) (s .args .a) (s .args .b) (s .args .cells) (w .upwind .result)
+    (c .correction-code .result)
     (s .args .negative) (s .args .size)
-    (s .args .next .now) _ (s .args .moved .now) _ (s .args .work .now) _ _ _ (s .pre .1 .0) (s .pre .1 .1) (w .upwind .ensures) (t .transfer .ensures) (noted t .put .ensures)
+    (s .args .next .now) _ (s .args .moved .now) _ (s .args .work .now) _ _ _ (s .pre .1 .0) (s .pre .1 .1) (w .upwind .ensures) (t .transfer .ensures)
+    (noted t .put .ensures)
     (m .widen .ensures) (met c .widen2 .ensures) (c .correction-code .ensures) refl
 
 pub carry-wet-spec : {M : Type 1} → statement M
 carry-wet-spec =
     tie.close
-    (tie.spec (search needs) mul-amount put-requires transfer-requires widen-requires widen-requires-2 correction-code-requires mul-work add-work mul-work-2 write-work (search needs)
+    (tie.spec (search needs) mul-amount put-requires transfer-requires widen-requires widen-requires-2 correction-code-requires mul-work add-work mul-work-2
+    write-work (search needs)
     (search needs) same-work returns)

@@ -47,11 +47,13 @@ returns c =
     let w = met c in
     let g = gained w in
     let s = start (noted g) in
-    in-done (s .args .f) (s .args .first) (s .args .a) (s .args .outside) (s .args .cells) (s .args .size) (s .args .next .now) _ (s .args .moved .now) _ (s .args .work .now) _ _
+    in-done (s .args .f) (s .args .first) (s .args .a) (s .args .outside) (s .args .cells) (s .args .size) (s .args .next .now) _ (s .args .moved .now) _
+    (s .args .work .now) _ _
     (s .pre .1) (rw (s .pre .0 .next-long) (s .pre .0 .ends .few)) (g .gain .ensures) (noted g .put .ensures) (w .widen .ensures) refl
 
 pub come-in-spec : {M : Type 1} → statement M
 come-in-spec =
     tie.close
-    (tie.spec (λ c. omega (arith, amount-small (c .before .before))) (λ c κs. let s = c .before .before .before in (s .pre .0 .in-moved, omega (arith, amount-small s)))
+    (tie.spec (λ c. omega (arith, amount-small (c .before .before)))
+    (λ c κs. let s = c .before .before .before in (s .pre .0 .in-moved, omega (arith, amount-small s)))
     gain-requires (search needs) (search needs) (search needs) (search needs) (search needs) (search needs) (search needs) same-work returns)

@@ -38,11 +38,13 @@ returns : tie.Need-returns
 returns c =
     let g = lost c in
     let s = start (noted g) in
-    out-done (s .args .f) (s .args .first) (s .args .a) (s .args .outside) (s .args .cells) (s .args .size) (s .args .next .now) _ (s .args .moved .now) _ (s .args .work .now) _
+    out-done (s .args .f) (s .args .first) (s .args .a) (s .args .outside) (s .args .cells) (s .args .size) (s .args .next .now) _ (s .args .moved .now) _
+    (s .args .work .now) _
     (rw (s .pre .next-long) (s .pre .ends .few)) (g .lose .ensures) (noted g .put .ensures) refl
 
 pub go-out-spec : {M : Type 1} → statement M
 go-out-spec =
     tie.close
-    (tie.spec (λ c. omega (arith, amount-small (c .before .before))) (λ c κs. let s = c .before .before .before in (s .pre .in-moved, omega (arith, amount-small s)))
+    (tie.spec (λ c. omega (arith, amount-small (c .before .before)))
+    (λ c κs. let s = c .before .before .before in (s .pre .in-moved, omega (arith, amount-small s)))
     lose-requires (search needs) (search needs) (search needs) (search needs) (search needs) (search needs) (search needs) returns)

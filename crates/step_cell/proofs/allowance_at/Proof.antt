@@ -36,7 +36,9 @@ pub allowance-at-spec : {M : Type 1} → statement M
 allowance-at-spec =
     tie.close
     (tie.spec (λ c. base-fits (c .before .pre .0 .1))
-    (λ c. slot-fits 1 refl (c .before .pre .0 .1)) (λ c. slot-bytes 1 refl (c .before .pre .0 .1)) (λ c. slot-in _ 1 _ refl (c .before .before .pre .0 .0)) (search needs)
+    (λ c. slot-fits 1 refl (c .before .pre .0 .1)) (λ c. slot-bytes 1 refl (c .before .pre .0 .1)) (λ c. slot-in _ 1 _ refl (c .before .before .pre .0 .0))
+    (search needs)
     (λ c. c .before .before .pre .1 .above)
-    (λ c. slot-fits 2 refl (c .before .before .pre .0 .1)) (λ c. slot-bytes 2 refl (c .before .before .pre .0 .1)) (λ c. slot-in _ 2 _ refl (start c .pre .0 .0)) mul-gain-2 add-gain-2
+    (λ c. slot-fits 2 refl (c .before .before .pre .0 .1)) (λ c. slot-bytes 2 refl (c .before .before .pre .0 .1))
+    (λ c. slot-in _ 2 _ refl (start c .pre .0 .0)) mul-gain-2 add-gain-2
     (search needs) (λ c. start c .pre .1 .below) (search needs) (λ c κs. start (c .before) .pre .0) same-length returns)

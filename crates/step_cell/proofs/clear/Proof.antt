@@ -22,4 +22,5 @@ returns c = over-done _ _ _ (search needs) (search needs) (c .before .loop .inv 
 pub clear-spec : {M : Type 1} → statement M
 clear-spec =
     tie.close
-    (tie.spec Inv-loop μ-loop (λ c. (search needs, refl, over-start _ _)) (search needs) (search needs) (search needs) (search needs) loop-again (search needs) returns)
+    (tie.spec Inv-loop μ-loop (λ c. (search needs, refl, over-start _ _)) (search needs) (search needs) (search needs) (search needs) loop-again (search needs)
+    returns)

@@ -58,8 +58,10 @@ pub allowances-spec : {M : Type 1} → statement M
 allowances-spec =
     tie.close
     (tie.spec Inv-loop μ-loop (λ c. (search needs, filling-start _ _ _ _ _))
-    (λ c. cell-bytes (below (c .before)) (start (c .before) .pre .0 .0)) (λ c. lt-of-lt-of-le (below (c .before .before)) (start (c .before .before) .pre .0 .1))
-    (λ c. cell-bytes (below (c .before .before)) (start (c .before .before) .pre .0 .0)) (λ c. lt-of-lt-of-le (below (c .before .before .before)) (start (c .before .before .before) .pre .0 .2))
+    (λ c. cell-bytes (below (c .before)) (start (c .before) .pre .0 .0))
+    (λ c. lt-of-lt-of-le (below (c .before .before)) (start (c .before .before) .pre .0 .1))
+    (λ c. cell-bytes (below (c .before .before)) (start (c .before .before) .pre .0 .0))
+    (λ c. lt-of-lt-of-le (below (c .before .before .before)) (start (c .before .before .before) .pre .0 .2))
     allowance-at-requires
     (λ c. let w = turned (c .before .before) in cell-next (below w) (start w .pre .0 .0)) (λ c. falls _ _ (below (turned (c .before .before)))) loop-again
     (λ c. c .before .loop .inv .1 .same-length) returns)

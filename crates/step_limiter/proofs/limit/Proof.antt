@@ -54,7 +54,8 @@ loop-again c =
     )
 
 returns : tie.Need-returns Inv-loop μ-loop
-returns c = let e : c .before .loop .f ≡ start-after c .args .faces = omega (arith, c .before .loop .inv .0, c .loop-test .left) in rw e at (c .before .loop .inv .1)
+returns c = let e : c .before .loop .f ≡ start-after c .args .faces = omega (arith, c .before .loop .inv .0, c .loop-test .left) in
+    rw e at (c .before .loop .inv .1)
 
 pub limit-spec : {M : Type 1} → statement M
 limit-spec =

@@ -30,7 +30,8 @@ abbrev joined : tie.After-transfer-arg → tie.After-cut
 joined c = c .before .before .before .before
 
 returns : tie.Need-returns
-returns c = let s = c .before .before .before in no-cut (s .args .f) (s .args .first) (s .args .second) (s .args .code) (s .args .work .now) (s .args .next .now) (s .args .moved .now)
+returns c = let s = c .before .before .before in no-cut (s .args .f) (s .args .first) (s .args .second) (s .args .code) (s .args .work .now)
+    (s .args .next .now) (s .args .moved .now)
     (c .if1 .taken)
 
 cut-requires : tie.Need-cut-requires
@@ -52,7 +53,8 @@ cut-requires c κs =
 
 -- the amount is what the limiter says, and no more than the correction
 amount-is : (c : tie.After-cut) → let s = at-cut c in
-    c .cut .result ≡ cutOf (s .args .work .now) (s .args .code) (enters (s .args .code) (s .args .first) (s .args .second)) (leaves (s .args .code) (s .args .first) (s .args .second))
+    c .cut .result ≡ cutOf (s .args .work .now) (s .args .code) (enters (s .args .code) (s .args .first) (s .args .second))
+    (leaves (s .args .code) (s .args .first) (s .args .second))
 amount-is c = rw (c .before .before .end-to .ensures, c .before .end-to2 .ensures) at (c .cut .ensures)
 
 amount-small : (c : tie.After-cut) → c .cut .result ≤ maxCarried
@@ -61,7 +63,8 @@ amount-small c =
     let r = enters (s .args .code) (s .args .first) (s .args .second) in
     omega (arith, amount-is c, portion-le (s .args .code / 2) (ofCell (s .args .work .now) r 2) (enteringIn (s .args .work .now) r), s .pre .size-most)
 
-limited-is : (c : tie.After-cut) → let s = at-cut c in limitedOf (s .args .work .now) (s .args .code) (s .args .first) (s .args .second) ≡ withSign (eqb (s .args .code % 2) 1) (c .cut .result)
+limited-is : (c : tie.After-cut) → let s = at-cut c in limitedOf (s .args .work .now) (s .args .code) (s .args .first) (s .args .second)
+    ≡ withSign (eqb (s .args .code % 2) 1) (c .cut .result)
 unfolding limitedOf
 limited-is c = rw (ne-eqb _ 0 (c .before .before .before .if1 .left), amount-is c)
 
@@ -80,8 +83,10 @@ returns-2 c =
     let t = c .before .before in
     let w = joined (t .before) in
     let s = at-cut w in
-    cut-done (s .args .f) (s .args .first) (s .args .second) (s .args .code) (s .args .work .now) (s .args .next .now) _ (s .args .moved .now) _ (w .cut .result)
+    cut-done (s .args .f) (s .args .first) (s .args .second) (s .args .code) (s .args .work .now) (s .args .next .now) _ (s .args .moved .now) _
+    (w .cut .result)
     (w .before .before .before .if1 .left) (amount-is w) (s .pre .in-moved) (t .transfer .ensures) (t .before .before .before .add-at .ensures)
 
 pub limit-face-spec : {M : Type 1} → statement M
-limit-face-spec = tie.close (tie.spec returns (search needs) (search needs) cut-requires add-at-requires transfer-requires (search needs) (search needs) returns-2)
+limit-face-spec = tie.close (tie.spec returns (search needs) (search needs) cut-requires add-at-requires transfer-requires (search needs) (search needs)
+    returns-2)

@@ -44,5 +44,8 @@ pub +by-halves-spec : {M : Type 1} → statement M
     (λ c κs.
     let s = c .before .before .before .before in
     odd-asks _ _ _ _ _ (s .args .a) _ (s .fits .a .fits) (s .pre .1 .0) (c .if2 .left) (c .before .before .by-halves .ensures .0) (c .before .doubled .ensures))
-    (λ c.
-    (odd-is _ _ _ _ _ (c .increased .ensures .0) (c .before .before .doubled .ensures .0) (c .before .before .before .by-halves .ensures .0) (c .before .if2 .left), c .increased .ensures .1))
+    (λ c. (
+      odd-is _ _ _ _ _ (c .increased .ensures .0) (c .before .before .doubled .ensures .0) (c .before .before .before .by-halves .ensures .0)
+          (c .before .if2 .left),
+      c .increased .ensures .1,
+    ))

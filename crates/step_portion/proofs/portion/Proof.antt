@@ -21,4 +21,5 @@ returns-3 c = rw (lt-leb _ _ (c .before .before .before .if1 .left)) (quotient-i
 pub portion-spec : {M : Type 1} → statement M
 portion-spec =
     tie.close
-    (tie.spec returns (search needs) (λ c. record { fits = product-fits _ _ _ (c .if2 .taken) (c .before .few-of .ensures) }) (search needs) returns-2 (search needs) returns-3)
+    (tie.spec returns (search needs) (λ c. record { fits = product-fits _ _ _ (c .if2 .taken) (c .before .few-of .ensures) }) (search needs) returns-2
+    (search needs) returns-3)

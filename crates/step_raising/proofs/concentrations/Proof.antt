@@ -63,20 +63,23 @@ loop-again c =
     let s = start w in (
       omega (arith, below w),
       ap length (t .start-cell .ensures .0) ∙ length-set (l .next) (l .c) _ ∙ l .inv .1,
-      concentrations-turn (s .args .volumes .now) (raised (s .args .cells) (s .args .masses .now) (s .args .releases .now)) (s .args .work .now) (l .c) (l .next) (l .work) _ _
+      concentrations-turn (s .args .volumes .now) (raised (s .args .cells) (s .args .masses .now) (s .args .releases .now)) (s .args .work .now) (l .c)
+          (l .next) (l .work) _ _
           (rw (l .inv .1) (omega (arith, below w, s .pre .1 .0))) (omega (arith, below w, s .pre .1 .0)) (l .inv .2)
           (rw (mass-is m) (t .start-cell .ensures .0)) (rw (mass-is m) (t .start-cell .ensures .1)),
     )
 
 returns : tie.Need-returns Inv-loop μ-loop
-returns c = let e : c .before .loop .c ≡ start-after c .args .cells = omega (arith, c .before .loop .inv .0, c .loop-test .left) in rw e at (c .before .loop .inv .2)
+returns c = let e : c .before .loop .c ≡ start-after c .args .cells = omega (arith, c .before .loop .inv .0, c .loop-test .left) in
+    rw e at (c .before .loop .inv .2)
 
 pub concentrations-spec : {M : Type 1} → statement M
 concentrations-spec =
     tie.close
     (tie.spec Inv-loop μ-loop (λ c. (search needs, refl, concentrations-start _ _ _ _))
     (λ c. cell-bytes (below c) (start c .pre .0 .0)) (λ c. lt-of-lt-of-le (below (c .before)) (start (c .before) .pre .0 .2))
-    (λ c. cell-bytes (below (c .before)) (start (c .before) .pre .0 .0)) (λ c. lt-of-lt-of-le (below (c .before .before)) (start (c .before .before) .pre .0 .3))
+    (λ c. cell-bytes (below (c .before)) (start (c .before) .pre .0 .0))
+    (λ c. lt-of-lt-of-le (below (c .before .before)) (start (c .before .before) .pre .0 .3))
     (λ c κs. let w = c .before .before in start w .pre .1 .1 (w .before .loop .c) (below w) .1)
     (λ c. let w = c .before .before .before in cell-bytes (below w) (start w .pre .0 .0))
     (λ c. let w = c .before .before .before .before in lt-of-lt-of-le (below w) (start w .pre .0 .1))

@@ -33,7 +33,8 @@ below : (c : tie.In-loop Inv-loop μ-loop) → c .before .loop .f < start c .arg
 below c = c .loop-test .taken
 
 -- the face's entry stands in work as it stood at the start
-as-it-was : (c : tie.In-loop Inv-loop μ-loop) → let l = c .before .loop in ofFace (l .work) (start c .args .cells) (l .f) ≡ ofFace (start c .args .work .now) (start c .args .cells) (l .f)
+as-it-was : (c : tie.In-loop Inv-loop μ-loop) → let l = c .before .loop in ofFace (l .work) (start c .args .cells) (l .f)
+    ≡ ofFace (start c .args .work .now) (start c .args .cells) (l .f)
 as-it-was c = c .before .loop .inv .1 .rest-at (c .before .loop .f) (omega arith)
 
 keep-at-requires : tie.Need-keep-at-requires Inv-loop μ-loop
@@ -54,7 +55,8 @@ loop-again c =
     )
 
 returns : tie.Need-returns Inv-loop μ-loop
-returns c = let e : c .before .loop .f ≡ start-after c .args .faces = omega (arith, c .before .loop .inv .0, c .loop-test .left) in rw e at (c .before .loop .inv .1)
+returns c = let e : c .before .loop .f ≡ start-after c .args .faces = omega (arith, c .before .loop .inv .0, c .loop-test .left) in
+    rw e at (c .before .loop .inv .1)
 
 pub keep-corrections-spec : {M : Type 1} → statement M
 keep-corrections-spec =

@@ -12,7 +12,8 @@ use Rattle.store.proofs.drop.Tie as tie
 returns : tie.Need-returns
 unfolding counts storeTable
 returns c =
-    let lent = both-are (c .before .before .before .and-then .ensures) (c .before .before .before .before .before .counts-within .ensures) (c .before .before .before .before .long .ensures) in
+    let lent = both-are (c .before .before .before .and-then .ensures) (c .before .before .before .before .before .counts-within .ensures)
+    (c .before .before .before .before .long .ensures) in
     let v = drop-groups _ _ _ ∙ out _ (refuses lent (c .before .a .given .1)) in
     record { answer = sym v; store-is = drop-stays _ _ _ v }
 

@@ -26,7 +26,8 @@ returns-2 c =
     let at-is-kept = at-b .before .before in
     let at-told = at-is-kept .before in
     let at-opened = at-told .before .before in
-    let v = return-groups _ _ _ _ _ ∙ past _ (passes (at-opened .opened .ensures) (at-told .enum-told .given .1)) ∙ out _ (refuses (at-is-kept .is-kept .ensures) (at-b .b .given .1)) in
+    let v = return-groups _ _ _ _ _ ∙ past _ (passes (at-opened .opened .ensures) (at-told .enum-told .given .1))
+    ∙ out _ (refuses (at-is-kept .is-kept .ensures) (at-b .b .given .1)) in
     record { answer = sym v; masses-are = return-stays _ _ _ _ _ v }
 
 masses-of-requires : tie.Need-masses-of-requires

@@ -9,7 +9,8 @@ use Rattle.store.proofs.keep.Statement.{statement}
 use Rattle.store.proofs.keep.Tie as tie
 
 returns : tie.Need-returns
-returns c = let v = refuses (c .before .before .before .may-keep .ensures) (c .before .a .given .1) in record { answer = sym v; store-is = keep-stays _ _ _ _ _ v }
+returns c = let v = refuses (c .before .before .before .may-keep .ensures) (c .before .a .given .1) in
+    record { answer = sym v; store-is = keep-stays _ _ _ _ _ v }
 
 put-field-requires : tie.Need-put-field-requires
 put-field-requires c κs =

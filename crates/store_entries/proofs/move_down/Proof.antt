@@ -36,5 +36,6 @@ returns c = let l = c .before .loop in over-done _ _ _ (l .inv .1) (omega (arith
 pub move-down-spec : {M : Type 1} → statement M
 move-down-spec =
     tie.close
-    (tie.spec Inv-loop μ-loop (λ c. (refl, search needs, over-start _ _)) further-requires (search needs) (search needs) (search needs) (search needs) loop-again
+    (tie.spec Inv-loop μ-loop (λ c. (refl, search needs, over-start _ _)) further-requires (search needs) (search needs) (search needs) (search needs)
+    loop-again
     (λ c. c .before .loop .inv .0) returns)

@@ -26,7 +26,8 @@ returns c =
     ap (λ (p : List ℕ). set (take at store ++ (p ++ drop (length store - at) (drop at store))) 0 (count store + 1)) (at-write-field .write-field .ensures)
     ∙ ap (λ (j : ℕ). set (take j store ++ (over (s .args .name ∷ take (s .args .cells) (s .args .masses .now))
     (take (length store - j) (drop j store)) ++ drop (length store - j) (drop j store))) 0 (count store + 1)) u
-    ∙ put-written (s .args .cells) (s .args .name) (take (s .args .cells) (s .args .masses .now)) store (omega (arith, used-more (s .args .cells) (count store) (suc (count store)) (omega arith)))
+    ∙ put-written (s .args .cells) (s .args .name) (take (s .args .cells) (s .args .masses .now)) store
+    (omega (arith, used-more (s .args .cells) (count store) (suc (count store)) (omega arith)))
 
 pub put-field-spec : {M : Type 1} → statement M
 put-field-spec =

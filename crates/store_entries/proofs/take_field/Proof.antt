@@ -23,7 +23,8 @@ abbrev begun : tie.After-used2 → tie.Start
 begun c = c .before .before .before .before .before .before
 
 -- the field's place, before the end of the used part
-within : (c : tie.After-used2) → used (begun c .args .cells) (c .before .before .before2 .result) ≤ used (begun c .args .cells) (count (begun c .args .store .now))
+within : (c : tie.After-used2) → used (begun c .args .cells) (c .before .before .before2 .result)
+    ≤ used (begun c .args .cells) (count (begun c .args .store .now))
 within c =
     let s = begun c in
     let place = ap (used (s .args .cells)) (c .before .before .before2 .ensures) in
@@ -62,7 +63,8 @@ returns c =
     let place = used cells (fieldsBefore (s .args .name) (fieldsIn cells store)) in
     ap (λ (p : List ℕ). set (take at store ++ (p ++ drop (end - at) (drop at store))) 0 (count store - 1)) (at-move-down .move-down .ensures)
     ∙ ap (λ (j : ℕ). set (take j store ++ (movedDown (cells + 1) (take (end - j) (drop j store)) ++ drop (end - j) (drop j store))) 0 (count store - 1)) u
-    ∙ ap (λ (j : ℕ). set (take place store ++ (movedDown (cells + 1) (take (j - place) (drop place store)) ++ drop (j - place) (drop place store))) 0 (count store - 1)) (at-used .used2 .ensures)
+    ∙ ap (λ (j : ℕ). set (take place store ++ (movedDown (cells + 1) (take (j - place) (drop place store)) ++ drop (j - place) (drop place store))) 0
+    (count store - 1)) (at-used .used2 .ensures)
     ∙ taken-out cells store (s .args .name) (s .pre .1) (s .pre .2)
 
 pub take-field-spec : {M : Type 1} → statement M

@@ -25,7 +25,8 @@ returns : tie.Need-returns
 returns c =
     let at-copy = c .before .before in
     let s = at-copy .before .before .before .before .before in
-    ap (λ (p : List ℕ). set (take 1 (s .args .part .now) ++ (p ++ drop (length (s .args .part .now) - 1) (drop 1 (s .args .part .now)))) 0 (s .args .name)) (at-copy .copy .ensures)
+    ap (λ (p : List ℕ). set (take 1 (s .args .part .now) ++ (p ++ drop (length (s .args .part .now) - 1) (drop 1 (s .args .part .now)))) 0 (s .args .name))
+    (at-copy .copy .ensures)
     ∙ field-written (s .args .name) (take (s .args .cells) (s .args .masses .now)) (s .args .part .now) (omega arith)
 
 pub write-field-spec : {M : Type 1} → statement M

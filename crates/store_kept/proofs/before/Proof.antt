@@ -49,5 +49,6 @@ returns-2 c = let l = c .before .loop in search-end _ _ _ (l .i) (search needs) 
 pub before-spec : {M : Type 1} → statement M
 before-spec =
     tie.close
-    (tie.spec Inv-loop μ-loop (search needs) (λ c. (search needs, search-start _ _ _)) used-requires mul-if1 shared-slice-read-if1 returns (search needs) (search needs)
+    (tie.spec Inv-loop μ-loop (search needs) (λ c. (search needs, search-start _ _ _)) used-requires mul-if1 shared-slice-read-if1 returns (search needs)
+    (search needs)
     loop-again returns-2)

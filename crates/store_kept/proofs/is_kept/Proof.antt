@@ -38,7 +38,8 @@ returns-2 c =
     let fine-count = passes good (at-told .enum-told .given .1) in
     let test = kept-test (s .args .cells) (s .args .store .now) (s .args .name)
     (count-counted (s .args .cells) (s .args .store .now) fine-count) (at-before .before2 .result) (at-before .before2 .ensures) in
-    c .need2 .ensures ∙ ap (need 17 (s .args .name)) (at-name-fits .name-fits .ensures ∙ ap (λ (b : Bool). nameFits (s .args .name) && b) test) ∙ sym (past _ fine-count)
+    c .need2 .ensures ∙ ap (need 17 (s .args .name)) (at-name-fits .name-fits .ensures ∙ ap (λ (b : Bool). nameFits (s .args .name) && b) test)
+    ∙ sym (past _ fine-count)
 
 pub is-kept-spec : {M : Type 1} → statement M
 is-kept-spec =

@@ -64,7 +64,8 @@ returns-2 c =
     let l = count-counted (s .args .cells) (s .args .store .now) fine-count in
     let test = new-test (s .args .cells) (s .args .store .now) (s .args .name) l (at-before .before2 .result) (at-before .before2 .ensures) in
     let room = room-test (s .args .cells) (s .args .store .now) (s .args .name) l (at-used .used .result) (at-used .used .ensures) in
-    let new = at-need2 .need2 .ensures ∙ ap (need 15 (s .args .name)) (at-name-fits .name-fits .ensures ∙ ap (λ (b : Bool). nameFits (s .args .name) && b) test) in
+    let new = at-need2 .need2 .ensures ∙ ap (need 15 (s .args .name)) (at-name-fits .name-fits .ensures ∙ ap (λ (b : Bool). nameFits (s .args .name) && b) test)
+    in
     let left = at-need .need3 .ensures ∙ ap (need 16 (s .args .name)) room in
     both-are (c .and-then .ensures) new left ∙ sym (andThen-assoc _ _ _ ∙ past _ fine-count)
 

@@ -19,7 +19,8 @@ returns-2 c =
 returns-3 : tie.Need-returns-3
 unfolding faceShare
 returns-3 c =
-    c .refusal2 .ensures ∙ ap (λ s. shareFound (foundBy s)) (sym (c .before .enum-told .given .1)) ∙ ap shareFound (c .before .before .before .middle-stage .ensures)
+    c .refusal2 .ensures ∙ ap (λ s. shareFound (foundBy s)) (sym (c .before .enum-told .given .1))
+    ∙ ap shareFound (c .before .before .before .middle-stage .ensures)
 
 pub face-share-spec : {M : Type 1} → statement M
 face-share-spec =

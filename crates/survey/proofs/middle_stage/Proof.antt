@@ -28,8 +28,11 @@ returns c =
 loop-again : tie.Need-loop-again Inv-loop μ-loop
 loop-again c =
     let at-loop = c .before .before .before in
-    let p = at-loop .loop in
-    (turn-within (c .before .before .loop-test .taken), found-pass _ _ (p .i) (at-loop .before .coordinates-of .ensures) (p .inv .1) (c .before .is-allowed .ensures) (not-false _ (c .if1 .left)))
+    let p = at-loop .loop in (
+      turn-within (c .before .before .loop-test .taken),
+      found-pass _ _ (p .i) (at-loop .before .coordinates-of .ensures) (p .inv .1)
+          (c .before .is-allowed .ensures) (not-false _ (c .if1 .left)),
+    )
 
 returns-2 : tie.Need-returns-2 Inv-loop μ-loop
 returns-2 c =
@@ -39,5 +42,6 @@ returns-2 c =
 pub middle-stage-spec : {M : Type 1} → statement M
 middle-stage-spec =
     tie.close
-    (tie.spec Inv-loop μ-loop (search needs) loop-holds (search needs) (search needs) (search needs) returns (search needs) (λ c. turn-less (c .before .before .loop-test .taken)) loop-again
+    (tie.spec Inv-loop μ-loop (search needs) loop-holds (search needs) (search needs) (search needs) returns (search needs)
+    (λ c. turn-less (c .before .before .loop-test .taken)) loop-again
     (search needs) returns-2)

@@ -17,7 +17,8 @@ returns-2 c =
     let at-all = c .before in
     let at-one = at-all .before .before in
     c .refusal2 .ensures
-    ∙ ratio-not-below _ (sym (at-one .before .is-not-above .ensures) ∙ not-false _ (at-one .if1 .left)) (sym (at-all .before .is-not-above2 .ensures) ∙ at-all .if2 .taken)
+    ∙ ratio-not-below _ (sym (at-one .before .is-not-above .ensures) ∙ not-false _ (at-one .if1 .left))
+    (sym (at-all .before .is-not-above2 .ensures) ∙ at-all .if2 .taken)
 
 share-of-requires : tie.Need-share-of-requires
 share-of-requires c κs =
@@ -28,7 +29,8 @@ returns-3 : tie.Need-returns-3
 returns-3 c =
     let at-all = c .before in
     let at-one = at-all .before .before in
-    ratio-between _ (sym (at-one .before .is-not-above .ensures) ∙ not-false _ (at-one .if1 .left)) (sym (at-all .before .is-not-above2 .ensures) ∙ at-all .if2 .left)
+    ratio-between _ (sym (at-one .before .is-not-above .ensures) ∙ not-false _ (at-one .if1 .left))
+    (sym (at-all .before .is-not-above2 .ensures) ∙ at-all .if2 .left)
     (c .share-of .ensures)
 
 pub share-or-refusal-spec : {M : Type 1} → statement M

@@ -20,7 +20,8 @@ returns c =
     let start = at-count .before .before .before .before .args in
     let count = at-count .least2 .result in
     let all : length (take count (start .bytes .now)) ≡ count = simp length-take (omega arith) in
-    appended (start .lent .now) (start .at) (at-count .before .least .result) count (start .bytes .now) (at-count .before .least .ensures) (at-count .least2 .ensures) _ all (at-copy .copy .ensures)
+    appended (start .lent .now) (start .at) (at-count .before .least .result) count (start .bytes .now) (at-count .before .least .ensures)
+    (at-count .least2 .ensures) _ all (at-copy .copy .ensures)
 
 pub append-spec : {M : Type 1} → statement M
 append-spec =

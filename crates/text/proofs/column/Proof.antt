@@ -27,7 +27,8 @@ returns c =
     let count = count-digits mostDigits (decimal .result) (start .n) (omega arith) (omega arith) (decimal .ensures .1 .0) in
     let told = decimal .ensures .1 .1 ∙ fewest-digits mostDigits (decimal .result) (start .n) (omega arith) (omega arith) (decimal .ensures .1 .0) in
     let blanks = fewer-blanks (gap .result) mostDigits space (omega arith) in
-    both (start .lent .now) (rw (blanks, gap .ensures, ← count) at (at-blanks .append .ensures)) (both _ (rw told at (at-digits .append2 .ensures)) (at-after .append3 .ensures))
+    both (start .lent .now) (rw (blanks, gap .ensures, ← count) at (at-blanks .append .ensures))
+    (both _ (rw told at (at-digits .append2 .ensures)) (at-after .append3 .ensures))
 
 pub column-spec : {M : Type 1} → statement M
 column-spec =

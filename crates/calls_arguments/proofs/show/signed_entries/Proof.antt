@@ -12,4 +12,5 @@ abbrev μ-loop : tie.MeasureT-loop
 pub signed-entries-spec : {M : Type 1} → statement M
 signed-entries-spec =
     tie.close
-    (tie.spec Inv-loop μ-loop (search needs) (search needs) (search needs) (search needs) (search needs) (search needs) (search needs) (search needs) (search needs))
+    (tie.spec Inv-loop μ-loop (search needs) (search needs) (search needs) (search needs) (search needs) (search needs) (search needs) (search needs)
+    (search needs))

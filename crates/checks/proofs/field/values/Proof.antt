@@ -20,10 +20,14 @@ salt-fits-requires : tie.Need-salt-fits-requires Inv-loop μ-loop
 salt-fits-requires c κs = c .before .before .before .before .before .before .pre .1 (c .before .before .before .loop .c) (c .before .before .loop-test .taken)
 
 returns : tie.Need-returns Inv-loop μ-loop
-returns c = scan-hit _ _ _ _ (c .before .before .before .before .loop-test .taken) (c .before .before .before .before .before .loop .inv .1) (c .before .salt-fits .ensures) (not-true _ (c .if1 .taken))
+returns c = scan-hit _ _ _ _ (c .before .before .before .before .loop-test .taken) (c .before .before .before .before .before .loop .inv .1)
+    (c .before .salt-fits .ensures) (not-true _ (c .if1 .taken))
 
 loop-again : tie.Need-loop-again Inv-loop μ-loop
-loop-again c = (turn-within (c .before .before .before .before .loop-test .taken), scan-pass _ _ _ (c .before .before .before .before .before .loop .inv .1) (c .before .salt-fits .ensures) (not-false _ (c .if1 .left)))
+loop-again c = (
+  turn-within (c .before .before .before .before .loop-test .taken),
+  scan-pass _ _ _ (c .before .before .before .before .before .loop .inv .1) (c .before .salt-fits .ensures) (not-false _ (c .if1 .left)),
+)
 
 returns-2 : tie.Need-returns-2 Inv-loop μ-loop
 returns-2 c = let l = c .before .loop in scan-end _ _ _ _ (l .inv .0) (c .loop-test .left) (l .inv .1)
@@ -41,7 +45,8 @@ read-salt-fits-2 : tie.Need-shared-slice-read-salt-fits-2 Inv-loop μ-loop
 read-salt-fits-2 c = turn-in (c .before .before .loop-test .taken) (search needs)
 
 add-c : tie.Need-add-c Inv-loop μ-loop
-add-c c = let t = c .before .before .before .before in let s = t .before .before .before .before in turn-next (t .loop-test .taken) (s .pre .0 .0) (s .good .1 .0 .0)
+add-c c = let t = c .before .before .before .before in let s = t .before .before .before .before in
+    turn-next (t .loop-test .taken) (s .pre .0 .0) (s .good .1 .0 .0)
 
 loop-less : tie.Need-loop-less Inv-loop μ-loop
 loop-less c = turn-less (c .before .before .before .before .loop-test .taken)

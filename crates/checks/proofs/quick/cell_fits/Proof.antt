@@ -20,5 +20,6 @@ returns-4 c =
 pub cell-fits-spec : {M : Type 1} → statement M
 cell-fits-spec =
     tie.close
-    (tie.spec (search needs) (λ c e. absurd (true≢false (sym e))) (search needs) (λ c. omega (arith, volume-within (c .before .before .args .volume) (within c)))
+    (tie.spec (search needs) (λ c e. absurd (true≢false (sym e))) (search needs)
+    (λ c. omega (arith, volume-within (c .before .before .args .volume) (within c)))
     (λ c e. absurd (true≢false (sym e))) (search needs) (λ c e. absurd (true≢false (sym e))) returns-4)

@@ -44,9 +44,12 @@ pub cells-fit-spec : {M : Type 1} → statement M
 cells-fit-spec =
     tie.close
     (tie.spec Inv-loop μ-loop (λ c. (zero-le, below-none _))
-    (λ c. turn-bytes (c .loop-test .taken) (begun c .pre .0) (begun c .good .1 .0 .1)) (λ c. let t = c .before in turn-in (t .loop-test .taken) (begun t .pre .0))
-    (λ c. let t = c .before in turn-bytes (t .loop-test .taken) (begun t .pre .1) (begun t .good .1 .1 .0 .1)) (λ c. let t = c .before .before in turn-in (t .loop-test .taken) (begun t .pre .1))
+    (λ c. turn-bytes (c .loop-test .taken) (begun c .pre .0) (begun c .good .1 .0 .1))
+    (λ c. let t = c .before in turn-in (t .loop-test .taken) (begun t .pre .0))
+    (λ c. let t = c .before in turn-bytes (t .loop-test .taken) (begun t .pre .1) (begun t .good .1 .1 .0 .1))
+    (λ c. let t = c .before .before in turn-in (t .loop-test .taken) (begun t .pre .1))
     (λ c. let t = c .before .before in turn-bytes (t .loop-test .taken) (begun t .pre .2) (begun t .good .1 .1 .1 .0 .1))
     (λ c. let t = c .before .before .before in turn-in (t .loop-test .taken) (begun t .pre .2))
     (search needs) (λ c e. absurd (true≢false (sym e)))
-    (λ c. let t = c .before .before .before .before .before in turn-next (t .loop-test .taken) (begun t .pre .0) (begun t .good .1 .0 .0)) (λ c. turn-less (c .before .before .before .before .before .loop-test .taken)) loop-again returns-2)
+    (λ c. let t = c .before .before .before .before .before in turn-next (t .loop-test .taken) (begun t .pre .0) (begun t .good .1 .0 .0))
+    (λ c. turn-less (c .before .before .before .before .before .loop-test .taken)) loop-again returns-2)

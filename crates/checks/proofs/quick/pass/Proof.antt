@@ -6,7 +6,8 @@ use Rattle.checks.proofs.quick.pass.Statement.{statement}
 use Rattle.checks.proofs.quick.pass.Tie as tie
 
 cells-fit-requires : tie.Need-cells-fit-requires
-cells-fit-requires c κs = let l = c .before .before .before .before .before .before .before .before .pre in (l .lent .volumes-long, l .masses-long, l .releases-long)
+cells-fit-requires c κs = let l = c .before .before .before .before .before .before .before .before .pre in
+    (l .lent .volumes-long, l .masses-long, l .releases-long)
 
 pass-requires : tie.Need-pass-requires
 pass-requires c κs =

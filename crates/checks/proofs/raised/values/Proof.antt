@@ -22,11 +22,14 @@ raised-fits-requires c κs =
     turn .before .before .before .before .pre .1 (turn .loop .c) (c .before .before .before .loop-test .taken)
 
 returns : tie.Need-returns Inv-loop μ-loop
-returns c = scan-hit _ _ _ _ (c .before .before .before .before .before .loop-test .taken) (c .before .before .before .before .before .before .loop .inv .1) (c .before .raised-fits .ensures) (not-true _ (c .if1 .taken))
+returns c = scan-hit _ _ _ _ (c .before .before .before .before .before .loop-test .taken) (c .before .before .before .before .before .before .loop .inv .1)
+    (c .before .raised-fits .ensures) (not-true _ (c .if1 .taken))
 
 loop-again : tie.Need-loop-again Inv-loop μ-loop
-loop-again c =
-    (turn-within (c .before .before .before .before .before .loop-test .taken), scan-pass _ _ _ (c .before .before .before .before .before .before .loop .inv .1) (c .before .raised-fits .ensures) (not-false _ (c .if1 .left)))
+loop-again c = (
+  turn-within (c .before .before .before .before .before .loop-test .taken),
+  scan-pass _ _ _ (c .before .before .before .before .before .before .loop .inv .1) (c .before .raised-fits .ensures) (not-false _ (c .if1 .left)),
+)
 
 returns-2 : tie.Need-returns-2 Inv-loop μ-loop
 returns-2 c = let l = c .before .loop in scan-end _ _ _ _ (l .inv .0) (c .loop-test .left) (l .inv .1)
@@ -38,19 +41,22 @@ read-raised-fits : tie.Need-shared-slice-read-raised-fits Inv-loop μ-loop
 read-raised-fits c = turn-in (c .before .loop-test .taken) (search needs)
 
 mul-raised-fits-2 : tie.Need-mul-raised-fits-2 Inv-loop μ-loop
-mul-raised-fits-2 c = let t = c .before in let s = t .before .before .before .before .before in turn-bytes (t .loop-test .taken) (s .pre .0 .1) (s .good .1 .1 .0 .1)
+mul-raised-fits-2 c = let t = c .before in let s = t .before .before .before .before .before in
+    turn-bytes (t .loop-test .taken) (s .pre .0 .1) (s .good .1 .1 .0 .1)
 
 read-raised-fits-2 : tie.Need-shared-slice-read-raised-fits-2 Inv-loop μ-loop
 read-raised-fits-2 c = turn-in (c .before .before .loop-test .taken) (search needs)
 
 mul-raised-fits-3 : tie.Need-mul-raised-fits-3 Inv-loop μ-loop
-mul-raised-fits-3 c = let t = c .before .before in let s = t .before .before .before .before .before in turn-bytes (t .loop-test .taken) (s .pre .0 .2) (s .good .1 .1 .1 .0 .1)
+mul-raised-fits-3 c = let t = c .before .before in let s = t .before .before .before .before .before in
+    turn-bytes (t .loop-test .taken) (s .pre .0 .2) (s .good .1 .1 .1 .0 .1)
 
 read-raised-fits-3 : tie.Need-shared-slice-read-raised-fits-3 Inv-loop μ-loop
 read-raised-fits-3 c = turn-in (c .before .before .before .loop-test .taken) (search needs)
 
 add-c : tie.Need-add-c Inv-loop μ-loop
-add-c c = let t = c .before .before .before .before .before in let s = t .before .before .before .before .before in turn-next (t .loop-test .taken) (s .pre .0 .0) (s .good .1 .0 .0)
+add-c c = let t = c .before .before .before .before .before in let s = t .before .before .before .before .before in
+    turn-next (t .loop-test .taken) (s .pre .0 .0) (s .good .1 .0 .0)
 
 loop-less : tie.Need-loop-less Inv-loop μ-loop
 loop-less c = turn-less (c .before .before .before .before .before .loop-test .taken)

@@ -26,7 +26,11 @@ outsides-requires c κs =
     let n = c .before .before .before in
     let s = start n in (
       (faces-lent _ _ _ (s .args .part) _ _ (s .pre .0 .0), s .pre .0 .1),
-      (ends-in _ _ _ (s .args .part) _ _ (s .pre .0 .0) _ (q-long _ _ _ (s .args .part) _ _ (s .pre .0 .0) (s .args .volumes .now) (s .args .masses .now) (s .args .releases .now) _ _ (omega arith) (n .concentrations .ensures)), s .pre .1 .1),
+      (
+        ends-in _ _ _ (s .args .part) _ _ (s .pre .0 .0) _ (q-long _ _ _ (s .args .part) _ _ (s .pre .0 .0) (s .args .volumes .now) (s .args .masses .now)
+            (s .args .releases .now) _ _ (omega arith) (n .concentrations .ensures)),
+        s .pre .1 .1,
+      ),
     )
 
 returns : tie.Need-returns
@@ -36,7 +40,8 @@ returns c =
     let s = start n in (
       k .outsides .ensures .0,
       k .outsides .ensures .1 ∙ ap (λ (xs : List ℕ). over xs (s .args .out .now))
-          (outsides-are _ _ _ (s .args .part) _ _ (s .pre .0 .0) (s .args .volumes .now) (s .args .masses .now) (s .args .releases .now) _ _ (omega arith) (n .concentrations .ensures) (s .args .amounts .now) (s .args .values .now)),
+          (outsides-are _ _ _ (s .args .part) _ _ (s .pre .0 .0) (s .args .volumes .now) (s .args .masses .now) (s .args .releases .now) _ _ (omega arith)
+          (n .concentrations .ensures) (s .args .amounts .now) (s .args .values .now)),
     )
 
 pub outsides-spec : {M : Type 1} → statement M

@@ -19,14 +19,22 @@ returns-3 c =
     let t = c .before in
     let i = t .before in
     let s = start i in
-    rw (enters (s .args .minus) (s .args .amount) (not-false (s .args .minus) (i .before .before .if1 .left)) (i .before .if2 .left), sym (i .is-in .ensures) ∙ t .if3 .taken)
+    rw (
+      enters (s .args .minus) (s .args .amount) (not-false (s .args .minus) (i .before .before .if1 .left)) (i .before .if2 .left),
+      sym (i .is-in .ensures)
+          ∙ t .if3 .taken,
+    )
 
 returns-4 : tie.Need-returns-4
 returns-4 c =
     let t = c .before in
     let i = t .before in
     let s = start i in
-    rw (enters (s .args .minus) (s .args .amount) (not-false (s .args .minus) (i .before .before .if1 .left)) (i .before .if2 .left), sym (i .is-in .ensures) ∙ t .if3 .left)
+    rw (
+      enters (s .args .minus) (s .args .amount) (not-false (s .args .minus) (i .before .before .if1 .left)) (i .before .if2 .left),
+      sym (i .is-in .ensures)
+          ∙ t .if3 .left,
+    )
 
 pub entering-spec : {M : Type 1} → statement M
 entering-spec = tie.close (tie.spec returns returns-2 (λ c κs. c .before .before .before .before .pre .0)

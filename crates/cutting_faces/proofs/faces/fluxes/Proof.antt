@@ -68,8 +68,10 @@ keep-amount-requires : tie.Need-keep-amount-requires Inv-loop μ-loop
 keep-amount-requires c κs =
     let t = begun (found-before c) in
     let s = start t in
-    let l = t .before .loop in
-    ((λ m. room _ _ _ _ (l .inv .2) (t .loop-test .taken) (s .pre .0 .1) (l .inv .1)), rw (c .before .size-at .ensures) (s .pre .1 .1 (l .f) (t .loop-test .taken)))
+    let l = t .before .loop in (
+      (λ m. room _ _ _ _ (l .inv .2) (t .loop-test .taken) (s .pre .0 .1) (l .inv .1)),
+      rw (c .before .size-at .ensures) (s .pre .1 .1 (l .f) (t .loop-test .taken)),
+    )
 
 add-f : tie.Need-add-f Inv-loop μ-loop
 add-f c = let t = begun (found (c .before)) in let s = start t in turn-next (t .loop-test .taken) (s .pre .0 .0 .firsts-long) (s .good .1 .1 .1 .0 .0)
@@ -84,7 +86,8 @@ loop-again c =
       turn-within (t .loop-test .taken),
       count-turn _ _ (l .inv .1) (m .touches .ensures) (k .keep-amount .ensures .0),
       picked-turn _ _ (s .args .out .now) (pos 0) (l .f) (l .at) _ (turn-in (t .loop-test .taken) (s .pre .0 .1)) (l .inv .1) (m .touches .ensures)
-          (amount-is (turnsAt (s .args .labels .now) (s .args .part) (s .args .firsts .now) (l .f)) (getD (s .args .amounts .now) (l .f) (pos 0)) (k .before .before .before .is-minus .ensures) (k .before .before .size-at .ensures)) (l .inv .2) (k .keep-amount .ensures .1),
+          (amount-is (turnsAt (s .args .labels .now) (s .args .part) (s .args .firsts .now) (l .f)) (getD (s .args .amounts .now) (l .f) (pos 0))
+          (k .before .before .before .is-minus .ensures) (k .before .before .size-at .ensures)) (l .inv .2) (k .keep-amount .ensures .1),
     )
 
 same-length : tie.Need-same-length Inv-loop μ-loop
@@ -99,6 +102,7 @@ returns c =
 pub fluxes-spec : {M : Type 1} → statement M
 fluxes-spec =
     tie.close
-    (tie.spec Inv-loop μ-loop (λ c. (zero-le, sym (count-start _), picked-start _ _ _)) mul-first (λ c. let t = c .before in turn-in (t .loop-test .taken) (start t .pre .0 .0 .firsts-long))
+    (tie.spec Inv-loop μ-loop (λ c. (zero-le, sym (count-start _), picked-start _ _ _)) mul-first
+    (λ c. let t = c .before in turn-in (t .loop-test .taken) (start t .pre .0 .0 .firsts-long))
     mul-second (λ c. let t = c .before .before in turn-in (t .loop-test .taken) (start t .pre .0 .0 .seconds-long)) touches-requires
     is-minus-requires size-at-requires keep-amount-requires add-f (λ c. turn-less (begun (found (c .before)) .loop-test .taken)) loop-again same-length returns)

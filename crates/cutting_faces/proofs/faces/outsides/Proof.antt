@@ -105,7 +105,8 @@ keep-requires c κs m =
     room _ _ _ _ (l .inv .2) (t .loop-test .taken) (s .pre .0 .1) (l .inv .1)
 
 add-f : tie.Need-add-f Inv-loop μ-loop
-add-f c = let t = begun (found (c .before .before)) in let s = start t in turn-next (t .loop-test .taken) (s .pre .0 .0 .firsts-long) (s .good .1 .1 .1 .1 .0 .0)
+add-f c = let t = begun (found (c .before .before)) in let s = start t in
+    turn-next (t .loop-test .taken) (s .pre .0 .0 .firsts-long) (s .good .1 .1 .1 .1 .0 .0)
 
 loop-again : tie.Need-loop-again Inv-loop μ-loop
 loop-again c =
@@ -124,7 +125,8 @@ loop-again c =
           let t = turnsAt (s .args .labels .now) (s .args .part) (s .args .firsts .now) (l .f) in
           enters-is t (getD (s .args .amounts .now) (l .f) (pos 0)) (cutting (s .args .labels .now) (s .args .part) first second)
           (getD (s .args .q .now) (cond t first second) 0) (getD (s .args .values .now) (l .f) 0)
-          (u .unless-cut .ensures) (e .entering .ensures) (e .before .before .is-minus .ensures) (e .before .size-at .ensures)) (l .inv .2) (k .keep .ensures .1),
+          (u .unless-cut .ensures) (e .entering .ensures) (e .before .before .is-minus .ensures) (e .before .size-at .ensures)) (l .inv .2)
+          (k .keep .ensures .1),
     )
 
 same-length : tie.Need-same-length Inv-loop μ-loop
@@ -139,6 +141,8 @@ returns c =
 pub outsides-spec : {M : Type 1} → statement M
 outsides-spec =
     tie.close
-    (tie.spec Inv-loop μ-loop (λ c. (zero-le, sym (count-start _), picked-start _ _ _)) mul-first (λ c. let t = c .before in turn-in (t .loop-test .taken) (start t .pre .0 .0 .firsts-long))
+    (tie.spec Inv-loop μ-loop (λ c. (zero-le, sym (count-start _), picked-start _ _ _)) mul-first
+    (λ c. let t = c .before in turn-in (t .loop-test .taken) (start t .pre .0 .0 .firsts-long))
     mul-second (λ c. let t = c .before .before in turn-in (t .loop-test .taken) (start t .pre .0 .0 .seconds-long)) touches-requires
-    is-minus-requires size-at-requires entering-requires mul-unless-cut shared-slice-read-unless-cut unless-cut-requires keep-requires add-f (λ c. turn-less (begun (found (c .before .before)) .loop-test .taken)) loop-again same-length returns)
+    is-minus-requires size-at-requires entering-requires mul-unless-cut shared-slice-read-unless-cut unless-cut-requires keep-requires add-f
+    (λ c. turn-less (begun (found (c .before .before)) .loop-test .taken)) loop-again same-length returns)

@@ -105,6 +105,8 @@ returns c =
 pub spacings-spec : {M : Type 1} → statement M
 spacings-spec =
     tie.close
-    (tie.spec Inv-loop μ-loop (λ c. (zero-le, sym (count-start _), picked-start _ _ _)) mul-first (λ c. let t = c .before in turn-in (t .loop-test .taken) (start t .pre .0 .0 .firsts-long))
+    (tie.spec Inv-loop μ-loop (λ c. (zero-le, sym (count-start _), picked-start _ _ _)) mul-first
+    (λ c. let t = c .before in turn-in (t .loop-test .taken) (start t .pre .0 .0 .firsts-long))
     mul-second (λ c. let t = c .before .before in turn-in (t .loop-test .taken) (start t .pre .0 .0 .seconds-long)) touches-requires
-    mul-unless-cut shared-slice-read-unless-cut unless-cut-requires keep-requires add-f (λ c. turn-less (begun (found (c .before .before)) .loop-test .taken)) loop-again same-length returns)
+    mul-unless-cut shared-slice-read-unless-cut unless-cut-requires keep-requires add-f (λ c. turn-less (begun (found (c .before .before)) .loop-test .taken))
+    loop-again same-length returns)

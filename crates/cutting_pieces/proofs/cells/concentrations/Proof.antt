@@ -52,8 +52,11 @@ loop-again : tie.Need-loop-again Inv-loop μ-loop
 loop-again c =
     let t = turned c in
     let l = t .before .loop in
-    let s = start t in
-    (turn-within (t .loop-test .taken), over-step _ (s .args .out .now) (l .c) (turn-in (t .loop-test .taken) (s .pre .0 .3)) (l .inv .1) (c .raised-concentration .ensures))
+    let s = start t in (
+      turn-within (t .loop-test .taken),
+      over-step _ (s .args .out .now) (l .c) (turn-in (t .loop-test .taken) (s .pre .0 .3)) (l .inv .1)
+          (c .raised-concentration .ensures),
+    )
 
 same-length : tie.Need-same-length Inv-loop μ-loop
 same-length c = let l = c .before .loop in written-long _ (ended c .args .out .now) (l .inv .1) (le-trans (l .inv .0) (ended c .pre .0 .3))

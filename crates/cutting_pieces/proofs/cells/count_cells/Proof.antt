@@ -25,7 +25,10 @@ add-c : tie.Need-add-c Inv-loop μ-loop
 add-c c = let t = c .before .before in let s = start t in turn-next (t .loop-test .taken) (s .pre) (s .good .1 .1 .0 .0)
 
 loop-again : tie.Need-loop-again Inv-loop μ-loop
-loop-again c = let t = c .before .before in (turn-within (t .loop-test .taken), count-turn _ _ (t .before .loop .inv .1) (c .before .is-in .ensures) (c .one-more .ensures))
+loop-again c = let t = c .before .before in (
+  turn-within (t .loop-test .taken),
+  count-turn _ _ (t .before .loop .inv .1) (c .before .is-in .ensures) (c .one-more .ensures),
+)
 
 returns : tie.Need-returns Inv-loop μ-loop
 returns c =

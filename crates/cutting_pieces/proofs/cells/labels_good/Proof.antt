@@ -31,5 +31,7 @@ loop-again c = let t = c .before .before in (turn-within (t .loop-test .taken), 
 pub labels-good-spec : {M : Type 1} → statement M
 labels-good-spec =
     tie.close
-    (tie.spec Inv-loop μ-loop (λ c. (zero-le, scan-start _ _)) mul-if1 (λ c. let t = c .before in turn-in (t .loop-test .taken) (t .before .before .pre)) returns add-c
-    (λ c. turn-less (c .before .before .loop-test .taken)) loop-again (λ c. let l = c .before .loop in scan-end _ _ _ _ (l .inv .0) (c .loop-test .left) (l .inv .1)))
+    (tie.spec Inv-loop μ-loop (λ c. (zero-le, scan-start _ _)) mul-if1 (λ c. let t = c .before in turn-in (t .loop-test .taken) (t .before .before .pre))
+    returns add-c
+    (λ c. turn-less (c .before .before .loop-test .taken)) loop-again
+    (λ c. let l = c .before .loop in scan-end _ _ _ _ (l .inv .0) (c .loop-test .left) (l .inv .1)))

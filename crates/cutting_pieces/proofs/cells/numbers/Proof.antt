@@ -17,7 +17,8 @@ use Rattle.cutting_pieces.proofs.cells.numbers.Statement.{statement}
 use Rattle.cutting_pieces.proofs.cells.numbers.Tie as tie
 
 abbrev Inv-loop : tie.InvT-loop
-Inv-loop cells part labels out₀ n₀ c₀ out n c = (c ≤ cells) × (n ≡ count c (hasLabel labels part)) × (out ≡ over (table c (λ k. count k (hasLabel labels part))) out₀)
+Inv-loop cells part labels out₀ n₀ c₀ out n c = (c ≤ cells) × (n ≡ count c (hasLabel labels part))
+    × (out ≡ over (table c (λ k. count k (hasLabel labels part))) out₀)
 
 abbrev μ-loop : tie.MeasureT-loop
 μ-loop cells part labels out₀ n₀ c₀ out n c = cells - c
@@ -66,5 +67,6 @@ returns c =
 pub numbers-spec : {M : Type 1} → statement M
 numbers-spec =
     tie.close
-    (tie.spec Inv-loop μ-loop (λ c. (zero-le, sym (count-start _), over-start _ _)) (search needs) slice-write-out (λ c κs. turn-in (c .loop-test .taken) (start c .pre .0))
+    (tie.spec Inv-loop μ-loop (λ c. (zero-le, sym (count-start _), over-start _ _)) (search needs) slice-write-out
+    (λ c κs. turn-in (c .loop-test .taken) (start c .pre .0))
     one-more-requires add-c (λ c. turn-less (c .before .before .loop-test .taken)) loop-again (search needs) slice-write-out-2 same-length returns)

@@ -24,7 +24,8 @@ cell-fits-requires : tie.Need-cell-fits-requires Inv-loop μ-loop
 cell-fits-requires c κs = (c .loop-test .taken, start c .pre)
 
 returns : tie.Need-returns Inv-loop μ-loop
-returns c = let t = c .before .before in scan-hit _ _ _ _ (t .loop-test .taken) (t .before .loop .inv .1) (c .before .cell-fits .ensures) (not-true _ (c .if1 .taken))
+returns c = let t = c .before .before in scan-hit _ _ _ _ (t .loop-test .taken) (t .before .loop .inv .1) (c .before .cell-fits .ensures)
+    (not-true _ (c .if1 .taken))
 
 add-c : tie.Need-add-c Inv-loop μ-loop
 add-c c = let t = c .before .before in cell-next (start t .pre .0) (t .loop-test .taken)
@@ -39,4 +40,5 @@ returns-2 c = let l = c .before .loop in scan-end _ _ _ _ (l .inv .0) (c .loop-t
 pub bounds-good-spec : {M : Type 1} → statement M
 bounds-good-spec =
     tie.close
-    (tie.spec Inv-loop μ-loop (λ c. (zero-le, scan-start _ _)) cell-fits-requires returns add-c (λ c. turn-less (c .before .before .loop-test .taken)) loop-again returns-2)
+    (tie.spec Inv-loop μ-loop (λ c. (zero-le, scan-start _ _)) cell-fits-requires returns add-c (λ c. turn-less (c .before .before .loop-test .taken))
+    loop-again returns-2)

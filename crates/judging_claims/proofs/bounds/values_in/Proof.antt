@@ -29,7 +29,8 @@ returns c =
     let g = c .before .before .before .before .before .before .before in
     let s = start g in
     c .bounds-good .ensures
-    ∙ bounds-read (s .args .cells) (s .args .faces) (s .args .firsts .now) (s .args .seconds .now) (s .args .claim .now) (s .pre .0 .0) (s .pre .0 .1) (s .pre .1 .0)
+    ∙ bounds-read (s .args .cells) (s .args .faces) (s .args .firsts .now) (s .args .seconds .now) (s .args .claim .now) (s .pre .0 .0) (s .pre .0 .1)
+    (s .pre .1 .0)
     _ _ (g .gather .ensures .0) (g .gather .ensures .1) (s .args .volumes .now) (s .args .masses .now) (s .args .releases .now) (s .args .work .now)
 
 pub values-in-spec : {M : Type 1} → statement M

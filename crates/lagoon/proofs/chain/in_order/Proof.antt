@@ -27,7 +27,8 @@ array-share-prefix-volumes c = let d = c in let a = start (taking d) .args in me
 
 slice-aggregate-on-mesh : tie.Need-slice-aggregate-on-mesh
 slice-aggregate-on-mesh c = let d = c .before in let a = start (taking d) .args in part-long
-    (mesh-read (a .mesh .now) (a .field .now) (a .step .now) (a .bytes .now) (taking d .take-mesh .ensures) refl refl refl refl refl (d .before .a2 .given .1) .volumes-part)
+    (mesh-read (a .mesh .now) (a .field .now) (a .step .now) (a .bytes .now) (taking d .take-mesh .ensures) refl refl refl refl refl (d .before .a2 .given .1)
+    .volumes-part)
 
 array-share-prefix-firsts : tie.Need-array-share-prefix-firsts
 array-share-prefix-firsts c = let d = c .before in let a = start (taking d) .args in mesh-read (a .mesh .now) (a .field .now) (a .step .now) (a .bytes .now)
@@ -35,15 +36,18 @@ array-share-prefix-firsts c = let d = c .before in let a = start (taking d) .arg
 
 slice-aggregate-on-mesh-2 : tie.Need-slice-aggregate-on-mesh-2
 slice-aggregate-on-mesh-2 c = let d = c .before .before in let a = start (taking d) .args in part-long
-    (mesh-read (a .mesh .now) (a .field .now) (a .step .now) (a .bytes .now) (taking d .take-mesh .ensures) refl refl refl refl refl (d .before .a2 .given .1) .firsts-part)
+    (mesh-read (a .mesh .now) (a .field .now) (a .step .now) (a .bytes .now) (taking d .take-mesh .ensures) refl refl refl refl refl (d .before .a2 .given .1)
+    .firsts-part)
 
 array-share-prefix-seconds : tie.Need-array-share-prefix-seconds
-array-share-prefix-seconds c = let d = c .before .before in let a = start (taking d) .args in mesh-read (a .mesh .now) (a .field .now) (a .step .now) (a .bytes .now)
+array-share-prefix-seconds c = let d = c .before .before in let a = start (taking d) .args in
+    mesh-read (a .mesh .now) (a .field .now) (a .step .now) (a .bytes .now)
     (taking d .take-mesh .ensures) refl refl refl refl refl (d .before .a2 .given .1) .seconds-part .fits
 
 slice-aggregate-on-mesh-3 : tie.Need-slice-aggregate-on-mesh-3
 slice-aggregate-on-mesh-3 c = let d = c .before .before .before in let a = start (taking d) .args in part-long
-    (mesh-read (a .mesh .now) (a .field .now) (a .step .now) (a .bytes .now) (taking d .take-mesh .ensures) refl refl refl refl refl (d .before .a2 .given .1) .seconds-part)
+    (mesh-read (a .mesh .now) (a .field .now) (a .step .now) (a .bytes .now) (taking d .take-mesh .ensures) refl refl refl refl refl (d .before .a2 .given .1)
+    .seconds-part)
 
 array-share-prefix-shares : tie.Need-array-share-prefix-shares
 array-share-prefix-shares c = let d = c .before .before .before in let a = start (taking d) .args in mesh-read (a .mesh .now) (a .field .now) (a .step .now)
@@ -51,15 +55,18 @@ array-share-prefix-shares c = let d = c .before .before .before in let a = start
 
 slice-aggregate-on-mesh-4 : tie.Need-slice-aggregate-on-mesh-4
 slice-aggregate-on-mesh-4 c = let d = c .before .before .before .before in let a = start (taking d) .args in part-long
-    (mesh-read (a .mesh .now) (a .field .now) (a .step .now) (a .bytes .now) (taking d .take-mesh .ensures) refl refl refl refl refl (d .before .a2 .given .1) .shares-part)
+    (mesh-read (a .mesh .now) (a .field .now) (a .step .now) (a .bytes .now) (taking d .take-mesh .ensures) refl refl refl refl refl (d .before .a2 .given .1)
+    .shares-part)
 
 array-share-prefix-reaches : tie.Need-array-share-prefix-reaches
-array-share-prefix-reaches c = let d = c .before .before .before .before in let a = start (taking d) .args in mesh-read (a .mesh .now) (a .field .now) (a .step .now)
+array-share-prefix-reaches c = let d = c .before .before .before .before in let a = start (taking d) .args in
+    mesh-read (a .mesh .now) (a .field .now) (a .step .now)
     (a .bytes .now) (taking d .take-mesh .ensures) refl refl refl refl refl (d .before .a2 .given .1) .reaches-part .fits
 
 slice-aggregate-on-mesh-5 : tie.Need-slice-aggregate-on-mesh-5
 slice-aggregate-on-mesh-5 c = let d = c .before .before .before .before .before in let a = start (taking d) .args in part-long
-    (mesh-read (a .mesh .now) (a .field .now) (a .step .now) (a .bytes .now) (taking d .take-mesh .ensures) refl refl refl refl refl (d .before .a2 .given .1) .reaches-part)
+    (mesh-read (a .mesh .now) (a .field .now) (a .step .now) (a .bytes .now) (taking d .take-mesh .ensures) refl refl refl refl refl (d .before .a2 .given .1)
+    .reaches-part)
 
 on-mesh-requires : tie.Need-on-mesh-requires
 on-mesh-requires c κs =
@@ -71,7 +78,8 @@ returns-2 : tie.Need-returns-2
 returns-2 c =
     let d = c .before .before .before .before .before .before .before .before .before in
     let a = start (taking d) .args in
-    host-done (a .mesh .now) (a .field .now) (a .step .now) (a .bytes .now) (taking d .take-mesh .ensures) refl refl refl refl refl (d .before .a2 .given .1) (c .before .before .on-mesh .ensures)
+    host-done (a .mesh .now) (a .field .now) (a .step .now) (a .bytes .now) (taking d .take-mesh .ensures) refl refl refl refl refl (d .before .a2 .given .1)
+    (c .before .before .on-mesh .ensures)
 
 pub in-order-spec : {M : Type 1} → statement M
 in-order-spec =

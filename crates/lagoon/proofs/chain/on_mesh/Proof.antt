@@ -8,7 +8,8 @@ use Rattle.lagoon.proofs.chain.on_mesh.Statement.{statement}
 use Rattle.lagoon.proofs.chain.on_mesh.Tie as tie
 
 abbrev mesh : tie.Start → Mesh
-mesh s = meshOf (s .args .cells) (s .args .faces) (s .args .volumes .now) (s .args .firsts .now) (s .args .seconds .now) (s .args .shares .now) (s .args .reaches .now)
+mesh s = meshOf (s .args .cells) (s .args .faces) (s .args .volumes .now) (s .args .firsts .now) (s .args .seconds .now) (s .args .shares .now)
+    (s .args .reaches .now)
 
 abbrev entered : tie.After-slice-known → tie.Start
 entered c = c .before .before .before .before .before .before .before .before
@@ -32,16 +33,19 @@ abbrev told : tie.After-write-field → tie.After-enum-told
 told c = field-told (c .before .before .before .before .before .before .before)
 
 returns : tie.Need-returns
-returns c = let s = start (c .before .before .before .before) in field-refused (s .args .width) (mesh s) (s .args .field .now) (s .args .step .now) (s .args .bytes .now)
+returns c = let s = start (c .before .before .before .before) in
+    field-refused (s .args .width) (mesh s) (s .args .field .now) (s .args .step .now) (s .args .bytes .now)
     (c .before .before .before .before .take-field .ensures) refl (c .before .a .given .1)
 
 array-borrow-prefix-masses : tie.Need-array-borrow-prefix-masses
-array-borrow-prefix-masses c = let s = start (c .before .before .before) in masses-part (s .args .width) (mesh s) (s .args .field .now) (s .args .step .now) (s .args .bytes .now)
+array-borrow-prefix-masses c = let s = start (c .before .before .before) in
+    masses-part (s .args .width) (mesh s) (s .args .field .now) (s .args .step .now) (s .args .bytes .now)
     (c .before .before .before .take-field .ensures) refl (c .enum-told .given .1) .fits
 
 slice-aggregate-counted : tie.Need-slice-aggregate-counted
 slice-aggregate-counted c = let s = start (c .before .before .before .before) in part-long
-    (masses-part (s .args .width) (mesh s) (s .args .field .now) (s .args .step .now) (s .args .bytes .now) (c .before .before .before .before .take-field .ensures) refl (c .before .enum-told .given .1))
+    (masses-part (s .args .width) (mesh s) (s .args .field .now) (s .args .step .now) (s .args .bytes .now)
+    (c .before .before .before .before .take-field .ensures) refl (c .before .enum-told .given .1))
 
 returns-2 : tie.Need-returns-2
 returns-2 c =
@@ -67,7 +71,8 @@ returns-4 c =
     let f = fielded (c .before .before .before .before .before) in
     written (s .args .width) (mesh s) (s .args .field .now) (s .args .step .now) (s .args .bytes .now) (f .take-field .ensures) refl
     ((told (c .before .before .before .before .before)) .enum-told .given .1) ((stepped (c .before .before .before .before .before)) .take-step .ensures)
-    (c .before .before .before .before .before .before .before .before .enum-told2 .given .1) (s .pre) (c .before .before .before .before .before .write-field .ensures)
+    (c .before .before .before .before .before .before .before .before .enum-told2 .given .1) (s .pre)
+    (c .before .before .before .before .before .write-field .ensures)
     (c .enum-told3 .given .1)
 
 pub on-mesh-spec : {M : Type 1} → statement M

@@ -28,7 +28,8 @@ outfall-bits Narrow = refl
 outfall-bits Wide = refl
 
 returns : tie.Need-returns
-returns c = let s = c .before .before in rw (c .enum-told .given .1, water-bits (s .args .width)) (none-but-zero (s .args .release) (same? (s .args .release) 0))
+returns c = let s = c .before .before in rw (c .enum-told .given .1, water-bits (s .args .width))
+    (none-but-zero (s .args .release) (same? (s .args .release) 0))
 
 returns-2 : tie.Need-returns-2
 returns-2 c = let told = c .before in let s = told .before .before in rw (told .enum-told2 .given .1, outfall-bits (s .args .width), c .release-end .ensures)

@@ -55,11 +55,13 @@ returns c =
     let v = c .before .before in
     let k = v .before in
     let s = k .before .before in
-    let e : v .value-width .result ≡ valueBits (kindNumber (s .args .width) (s .args .kind)) = v .value-width .ensures ∙ sym (step-value (s .args .width) (s .args .kind)) in
+    let e : v .value-width .result ≡ valueBits (kindNumber (s .args .width) (s .args .kind)) = v .value-width .ensures
+    ∙ sym (step-value (s .args .width) (s .args .kind)) in
     rw (c .release-width .ensures, c .before .after-outsides .ensures, k .count-marked .ensures, e)
     (sym (step-is (kindNumber (s .args .width) (s .args .kind)) (s .args .cells) (s .args .faces) (s .args .seconds .now)))
 
 pub step-bits-spec : {M : Type 1} → statement M
 step-bits-spec =
     tie.close
-    (tie.spec (search needs) (search needs) add-flux (search needs) mul-after-outsides-2 add-after-outsides after-outsides-requires (search needs) mul-result add-result returns)
+    (tie.spec (search needs) (search needs) add-flux (search needs) mul-after-outsides-2 add-after-outsides after-outsides-requires (search needs) mul-result
+    add-result returns)

@@ -8,7 +8,12 @@ use Rattle.record_heads.proofs.lengths.step_bytes.Tie as tie
 bytes-for-requires : tie.Need-bytes-for-requires
 bytes-for-requires c κs =
     let s = c .before .before in
-    omega (arith, c .step-bits .ensures, step-most (kindNumber (s .args .width) (s .args .kind)) (s .args .cells) (s .args .faces) (s .args .seconds .now) (s .pre .0) (s .pre .1))
+    omega (
+      arith,
+      c .step-bits .ensures,
+      step-most (kindNumber (s .args .width) (s .args .kind)) (s .args .cells) (s .args .faces) (s .args .seconds .now)
+          (s .pre .0) (s .pre .1),
+    )
 
 returns : tie.Need-returns
 unfolding stepLength

@@ -61,7 +61,12 @@ returns-3 c =
     let p3 = p2 .before in
     let p4 = p3 .before in
     let p5 = p4 .before .before in
-    rw (p3 .cells .ensures, p2 .faces .ensures, p0 .mesh-width .ensures .1) (sym (past _ (fine-all (_ ∷ _ ∷ []) (passes (p5 .mesh .ensures) (p4 .enum-told .given .1), (passes (p1 .mesh-body .ensures) (c .enum-told2 .given .1), tt)))))
+    rw (p3 .cells .ensures, p2 .faces .ensures, p0 .mesh-width .ensures .1)
+    (sym (past _ (fine-all (_ ∷ _ ∷ []) (
+      passes (p5 .mesh .ensures) (p4 .enum-told .given .1),
+      (passes (p1 .mesh-body .ensures) (c .enum-told2 .given .1), tt),
+    ))))
 
 pub mesh-spec : {M : Type 1} → statement M
-mesh-spec = tie.close (tie.spec (search needs) (search needs) returns (search needs) cells-requires faces-requires mesh-width-requires mesh-body-requires (search needs) returns-2 (search needs) returns-3)
+mesh-spec = tie.close (tie.spec (search needs) (search needs) returns (search needs) cells-requires faces-requires mesh-width-requires mesh-body-requires
+    (search needs) returns-2 (search needs) returns-3)

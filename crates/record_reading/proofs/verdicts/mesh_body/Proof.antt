@@ -26,7 +26,8 @@ bytes-for-requires c κs =
 
 -- the length and the tables
 lent : (c : tie.After-then-long5) → let s = c .before .before .before .before .before .before .before .before .before in let bs = s .args .bytes .now in
-    said (c .then-long5 .result) ≡ (hasLength bs (meshLength (kindIn bs) (cellsIn bs) (facesIn bs)) andThen long 0 (cellsIn bs) (s .args .volumes) andThen long 1 (facesIn bs) (s .args .firsts)
+    said (c .then-long5 .result) ≡ (hasLength bs (meshLength (kindIn bs) (cellsIn bs) (facesIn bs)) andThen long 0 (cellsIn bs) (s .args .volumes)
+    andThen long 1 (facesIn bs) (s .args .firsts)
     andThen long 2 (facesIn bs) (s .args .seconds) andThen long 3 (facesIn bs) (s .args .shares) andThen long 4 (facesIn bs) (s .args .reaches))
 unfolding meshLength
 lent c =
@@ -57,7 +58,15 @@ mesh-requires c κs =
     let s = n .before .before .before .before in
     let bs = s .args .bytes .now in
     let t = mesh-tables-say bs _ _ _ _ _ (passes (lent (c .before .before)) (c .enum-told .given .1)) in
-    omega (arith, end n, t .same-length, bytes-hold (meshBits (kindIn bs) (cellsIn bs) (facesIn bs)), bytes-most (meshBits (kindIn bs) (cellsIn bs) (facesIn bs)), mesh-some (kindIn bs) (cellsIn bs) (facesIn bs), mesh-most (kindIn bs) (cellsIn bs) (facesIn bs) (rw (s .pre .0) at (s .pre .2)) (rw (s .pre .1) at (s .pre .3)))
+    omega (
+      arith,
+      end n,
+      t .same-length,
+      bytes-hold (meshBits (kindIn bs) (cellsIn bs) (facesIn bs)),
+      bytes-most (meshBits (kindIn bs) (cellsIn bs) (facesIn bs)),
+      mesh-some (kindIn bs) (cellsIn bs) (facesIn bs),
+      mesh-most (kindIn bs) (cellsIn bs) (facesIn bs) (rw (s .pre .0) at (s .pre .2)) (rw (s .pre .1) at (s .pre .3)),
+    )
 
 returns-2 : tie.Need-returns-2
 unfolding meshBodyVerdict meshBitGood
@@ -70,4 +79,5 @@ returns-2 c =
 pub mesh-body-spec : {M : Type 1} → statement M
 mesh-body-spec =
     tie.close
-    (tie.spec (search needs) bytes-for-requires (search needs) (search needs) (search needs) (search needs) (search needs) (search needs) (search needs) returns (search needs) mesh-requires returns-2)
+    (tie.spec (search needs) bytes-for-requires (search needs) (search needs) (search needs) (search needs) (search needs) (search needs) (search needs) returns
+    (search needs) mesh-requires returns-2)

@@ -33,7 +33,8 @@ returns-2 c =
     let p1 = c .before in
     let p2 = p1 .before .before in
     let p3 = p2 .before .before in
-    sym (out _ (refused-at (_ ∷ []) [] (passes (p3 .before .before .step .ensures) (p3 .enum-told .given .1), tt) (refuses (p2 .step-body .ensures) (p1 .b .given .1))))
+    sym (out _ (refused-at (_ ∷ []) [] (passes (p3 .before .before .step .ensures) (p3 .enum-told .given .1), tt)
+    (refuses (p2 .step-body .ensures) (p1 .b .given .1))))
 
 returns-3 : tie.Need-returns-3
 unfolding stepRead
@@ -42,7 +43,11 @@ returns-3 c =
     let p2 = p1 .before in
     let p3 = p2 .before in
     rw (p2 .step-kind .ensures)
-    (sym (past _ (fine-all (_ ∷ _ ∷ []) (passes (p3 .before .before .step .ensures) (p3 .enum-told .given .1), (passes (p1 .step-body .ensures) (c .enum-told2 .given .1), tt)))))
+    (sym (past _ (fine-all (_ ∷ _ ∷ []) (
+      passes (p3 .before .before .step .ensures) (p3 .enum-told .given .1),
+      (passes (p1 .step-body .ensures) (c .enum-told2 .given .1), tt),
+    ))))
 
 pub step-spec : {M : Type 1} → statement M
-step-spec = tie.close (tie.spec (search needs) (search needs) returns (search needs) step-kind-requires step-body-requires (search needs) returns-2 (search needs) returns-3)
+step-spec = tie.close (tie.spec (search needs) (search needs) returns (search needs) step-kind-requires step-body-requires (search needs) returns-2
+    (search needs) returns-3)

@@ -35,7 +35,8 @@ known c = c .before .before .before .before .before
 
 -- the length and the tables
 lent : (c : tie.After-then-long3) → let s = start (known c) in
-    said (c .then-long3 .result) ≡ (hasLength (s .args .bytes .now) (stepLength (kindIn (s .args .bytes .now)) (s .args .cells) (s .args .faces) (s .args .seconds .now))
+    said (c .then-long3 .result) ≡ (hasLength (s .args .bytes .now)
+    (stepLength (kindIn (s .args .bytes .now)) (s .args .cells) (s .args .faces) (s .args .seconds .now))
     andThen long 6 (s .args .faces) (s .args .fluxes) andThen long 7 (s .args .faces) (s .args .outsides) andThen long 14 (s .args .cells) (s .args .releases))
 unfolding stepLength
 lent c =
@@ -57,7 +58,8 @@ step-requires c κs =
     let n = told .before .before in
     let s = start (known n) in
     let k = kindIn (s .args .bytes .now) in
-    let t = step-tables-say k (s .args .cells) (s .args .faces) (s .args .seconds .now) (s .args .bytes .now) _ _ _ (passes (lent n) (told .enum-told .given .1)) in
+    let t = step-tables-say k (s .args .cells) (s .args .faces) (s .args .seconds .now) (s .args .bytes .now) _ _ _
+    (passes (lent n) (told .enum-told .given .1)) in
     let e : c .value-width .result ≡ valueBits k = c .value-width .ensures ∙ sym (step-value (s .args .width) (s .args .kind)) ∙ ap valueBits (s .pre .0) in
     rw e (omega (
       arith,
@@ -77,10 +79,12 @@ returns-2 c =
     let k = v .before in
     let n = k .before .before in
     let s = start (known n) in
-    let e : v .value-width .result ≡ valueBits (kindIn (s .args .bytes .now)) = v .value-width .ensures ∙ sym (step-value (s .args .width) (s .args .kind)) ∙ ap valueBits (s .pre .0) in
+    let e : v .value-width .result ≡ valueBits (kindIn (s .args .bytes .now)) = v .value-width .ensures ∙ sym (step-value (s .args .width) (s .args .kind))
+    ∙ ap valueBits (s .pre .0) in
     rw (c .step .ensures, end (known n), e) (sym (past _ (passes (lent n) (k .enum-told .given .1))))
 
 pub step-body-spec : {M : Type 1} → statement M
 step-body-spec =
     tie.close
-    (tie.spec (search needs) bytes-for-requires (search needs) (search needs) (search needs) (search needs) (search needs) returns (search needs) (search needs) step-requires returns-2)
+    (tie.spec (search needs) bytes-for-requires (search needs) (search needs) (search needs) (search needs) (search needs) returns (search needs) (search needs)
+    step-requires returns-2)

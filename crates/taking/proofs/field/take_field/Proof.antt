@@ -16,14 +16,16 @@ returns : tie.Need-returns
 returns c =
     let s = start (c .before .before .before) in
     let d = c .before .before .before in
-    field-unread (s .args .width) (s .args .volumes .now) (s .args .masses .now) (d .before .before .before .read-field .ensures) refl (d .before .long .result) (d .and-then .result)
+    field-unread (s .args .width) (s .args .volumes .now) (s .args .masses .now) (d .before .before .before .read-field .ensures) refl (d .before .long .result)
+    (d .and-then .result)
     (d .before .long .ensures) (d .and-then .ensures) (c .before .found .given .1)
 
 array-share-prefix-read : tie.Need-array-share-prefix-read
 array-share-prefix-read c =
     let s = start (c .before .before) in
     let d = c .before .before in
-    masses-part (s .args .width) (s .args .volumes .now) (s .args .masses .now) (d .before .before .before .read-field .ensures) refl (d .before .long .result) (d .and-then .result)
+    masses-part (s .args .width) (s .args .volumes .now) (s .args .masses .now) (d .before .before .before .read-field .ensures) refl (d .before .long .result)
+    (d .and-then .result)
     (d .before .long .ensures) (d .and-then .ensures) (c .enum-told .given .1) .fits
 
 slice-aggregate-counted : tie.Need-slice-aggregate-counted
@@ -38,7 +40,8 @@ returns-2 : tie.Need-returns-2
 returns-2 c =
     let s = start (c .before .before .before .before .before .before) in
     let d = c .before .before .before .before .before .before in
-    salt-refused (s .args .width) (s .args .volumes .now) (s .args .masses .now) (d .before .before .before .read-field .ensures) refl (d .before .long .result) (d .and-then .result)
+    salt-refused (s .args .width) (s .args .volumes .now) (s .args .masses .now) (d .before .before .before .read-field .ensures) refl (d .before .long .result)
+    (d .and-then .result)
     (d .before .long .ensures) (d .and-then .ensures) (c .before .before .before .before .enum-told .given .1) _ (c .before .before .total .ensures)
     (c .enum-told3 .given .1)
 
@@ -46,16 +49,19 @@ copy-requires : tie.Need-copy-requires
 copy-requires c κs =
     let s = start (c .before .before .before .before .before .before .before) in
     let d = c .before .before .before .before .before .before .before in
-    copy-asks (s .args .width) (s .args .volumes .now) (s .args .masses .now) (d .before .before .before .read-field .ensures) refl (d .before .long .result) (d .and-then .result)
+    copy-asks (s .args .width) (s .args .volumes .now) (s .args .masses .now) (d .before .before .before .read-field .ensures) refl (d .before .long .result)
+    (d .and-then .result)
     (d .before .long .ensures) (d .and-then .ensures) (c .before .before .before .before .before .enum-told .given .1)
 
 returns-3 : tie.Need-returns-3
 returns-3 c =
     let s = (start (judged (c .before .before .before .before .before .before))) in
     let d = judged (c .before .before .before .before .before .before) in
-    field-taken (s .args .width) (s .args .volumes .now) (s .args .masses .now) (d .before .before .before .read-field .ensures) refl (d .before .long .result) (d .and-then .result)
+    field-taken (s .args .width) (s .args .volumes .now) (s .args .masses .now) (d .before .before .before .read-field .ensures) refl (d .before .long .result)
+    (d .and-then .result)
     (d .before .long .ensures) (d .and-then .ensures) (c .before .before .before .before .before .before .before .before .enum-told .given .1) _
-    (c .before .before .before .before .before .before .total .ensures) (c .before .before .before .before .enum-told2 .given .1) (c .before .before .copy .ensures)
+    (c .before .before .before .before .before .before .total .ensures) (c .before .before .before .before .enum-told2 .given .1)
+    (c .before .before .copy .ensures)
 
 pub take-field-spec : {M : Type 1} → statement M
 take-field-spec =

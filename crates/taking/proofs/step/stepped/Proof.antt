@@ -13,7 +13,8 @@ array-share-prefix-next : tie.Need-array-share-prefix-next
 array-share-prefix-next c = nexts-part (c .before .before .before .before .before .before .step .ensures) (c .before .answer2 .given .1) .fits
 
 slice-aggregate-copy : tie.Need-slice-aggregate-copy
-slice-aggregate-copy c = part-long (nexts-part (c .before .before .before .before .before .before .before .step .ensures) (c .before .before .answer2 .given .1))
+slice-aggregate-copy c = part-long (nexts-part (c .before .before .before .before .before .before .before .step .ensures)
+    (c .before .before .answer2 .given .1))
 
 copy-requires : tie.Need-copy-requires
 copy-requires c κs = copy-asks (c .before .before .before .before .before .before .before .before .step .ensures) (c .before .before .before .answer2 .given .1)
@@ -27,7 +28,8 @@ returns c = step-refused (c .before .before .before .before .before .before .ste
 
 returns-2 : tie.Need-returns-2
 returns-2 c = step-done (stepped (c .before .before .before .before .before .before .before) .step .ensures) refl refl refl
-    (c .before .before .before .before .before .before .before .before .answer2 .given .1) (c .before .before .before .before .copy .ensures) (c .sum-of .ensures)
+    (c .before .before .before .before .before .before .before .before .answer2 .given .1) (c .before .before .before .before .copy .ensures)
+    (c .sum-of .ensures)
 
 pub stepped-spec : {M : Type 1} → statement M
 stepped-spec =

@@ -8,7 +8,8 @@ use Rattle.taking.proofs.step.take_step.Statement.{statement}
 use Rattle.taking.proofs.step.take_step.Tie as tie
 
 abbrev mesh : tie.Start → Mesh
-mesh s = meshOf (s .args .cells) (s .args .faces) (s .args .volumes .now) (s .args .firsts .now) (s .args .seconds .now) (s .args .shares .now) (s .args .reaches .now)
+mesh s = meshOf (s .args .cells) (s .args .faces) (s .args .volumes .now) (s .args .firsts .now) (s .args .seconds .now) (s .args .shares .now)
+    (s .args .reaches .now)
 
 abbrev start : tie.After-slice-known → tie.Start
 start c = c .before .before .before .before .before .before .before

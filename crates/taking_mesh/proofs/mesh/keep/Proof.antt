@@ -17,10 +17,12 @@ start c = entered (c .before .before .before .before .before .before .before)
 
 -- the mesh that was read, and the lent tables
 abbrev read : tie.Start → Mesh
-read s = meshOf (s .args .cells) (s .args .faces) (s .args .read-volumes .now) (s .args .read-firsts .now) (s .args .read-seconds .now) (s .args .read-shares .now) (s .args .read-reaches .now)
+read s = meshOf (s .args .cells) (s .args .faces) (s .args .read-volumes .now) (s .args .read-firsts .now) (s .args .read-seconds .now)
+    (s .args .read-shares .now) (s .args .read-reaches .now)
 
 abbrev lent : tie.Start → Mesh
-lent s = meshOf (s .args .cells) (s .args .faces) (s .args .volumes .now) (s .args .firsts .now) (s .args .seconds .now) (s .args .shares .now) (s .args .reaches .now)
+lent s = meshOf (s .args .cells) (s .args .faces) (s .args .volumes .now) (s .args .firsts .now) (s .args .seconds .now) (s .args .shares .now)
+    (s .args .reaches .now)
 
 found : (c : tie.After-and-then) → let s = start c in said (c .and-then .result) ≡ keptFound (lent s) (read s)
 unfolding meshTables
@@ -30,15 +32,18 @@ returns : tie.Need-returns
 returns c =
     let d = c .before .before .before in
     let s = start d in
-    kept-refused (s .args .width) (read s) (lent s .volumes) (lent s .firsts) (lent s .seconds) (lent s .shares) (lent s .reaches) _ _ _ (sym (found d) ∙ ap said (c .before .found .given .1)) refl
+    kept-refused (s .args .width) (read s) (lent s .volumes) (lent s .firsts) (lent s .seconds) (lent s .shares) (lent s .reaches) _ _ _
+    (sym (found d) ∙ ap said (c .before .found .given .1)) refl
 
 -- nothing was found, so the lent tables hold the mesh
 passes : (c : tie.After-enum-told) → let s = start (c .before .before) in keptFound (lent s) (read s) ≡ fine
 passes c = sym (found (c .before .before)) ∙ ap said (c .enum-told .given .1)
 
 rooms : (c : tie.After-enum-told)
-    → let a = start (c .before .before) .args in let s = start (c .before .before) in Room (read s) (a .volumes .now) (a .firsts .now) (a .seconds .now) (a .shares .now) (a .reaches .now)
-rooms c = let s = start (c .before .before) in room (read s) (lent s .volumes) (lent s .firsts) (lent s .seconds) (lent s .shares) (lent s .reaches) (s .pre) (passes c)
+    → let a = start (c .before .before) .args in let s = start (c .before .before) in
+    Room (read s) (a .volumes .now) (a .firsts .now) (a .seconds .now) (a .shares .now) (a .reaches .now)
+rooms c = let s = start (c .before .before) in room (read s) (lent s .volumes) (lent s .firsts) (lent s .seconds) (lent s .shares) (lent s .reaches) (s .pre)
+    (passes c)
 
 -- from each copy back to the one before
 abbrev volumes : tie.After-copy2 → tie.After-copy

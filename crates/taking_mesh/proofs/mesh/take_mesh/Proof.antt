@@ -27,7 +27,8 @@ kept c = c .before .before .before .before .before .before .before .before .befo
 returns : tie.Need-returns
 returns c =
     let a = (start (c .before .before .before .before .before .before .before)) .args in
-    mesh-unread (c .before .before .before .before .before .before .before .read-mesh .ensures) refl refl refl refl refl (c .enum-told .given .1) (a .volumes .now)
+    mesh-unread (c .before .before .before .before .before .before .before .read-mesh .ensures) refl refl refl refl refl (c .enum-told .given .1)
+    (a .volumes .now)
     (a .firsts .now) (a .seconds .now) (a .shares .now) (a .reaches .now)
 
 array-share-prefix-read-volumes : tie.Need-array-share-prefix-read-volumes
@@ -43,7 +44,8 @@ slice-aggregate-keep-2 : tie.Need-slice-aggregate-keep-2
 slice-aggregate-keep-2 c = part-long (mesh-read (reading (c .before .before) .read-mesh .ensures) (c .before .before .before .answer .given .1) .firsts-part)
 
 array-share-prefix-read-seconds : tie.Need-array-share-prefix-read-seconds
-array-share-prefix-read-seconds c = mesh-read (reading (c .before .before) .read-mesh .ensures) (c .before .before .before .answer .given .1) .seconds-part .fits
+array-share-prefix-read-seconds c = mesh-read (reading (c .before .before) .read-mesh .ensures) (c .before .before .before .answer .given .1) .seconds-part
+    .fits
 
 slice-aggregate-keep-3 : tie.Need-slice-aggregate-keep-3
 slice-aggregate-keep-3 c = part-long
@@ -63,7 +65,8 @@ array-share-prefix-read-reaches c = mesh-read (reading (c .before .before .befor
 
 slice-aggregate-keep-5 : tie.Need-slice-aggregate-keep-5
 slice-aggregate-keep-5 c = part-long
-    (mesh-read (reading (c .before .before .before .before .before) .read-mesh .ensures) (c .before .before .before .before .before .before .answer .given .1) .reaches-part)
+    (mesh-read (reading (c .before .before .before .before .before) .read-mesh .ensures) (c .before .before .before .before .before .before .answer .given .1)
+    .reaches-part)
 
 keep-requires : tie.Need-keep-requires
 keep-requires c κs = let d = lent (c .before .before .before .before) in keep-asks (mesh-read (reading d .read-mesh .ensures) (d .before .answer .given .1))
