@@ -7,11 +7,17 @@ cd "$(dirname "$0")/.."
 name=$1 log=$2
 shift 2
 
-# crates.txt stands bottom up, so the needed ones are found from its end
-total=$(tac crates.txt | awk -F '[: ]+' -v name="$name" '
-  BEGIN { needed[name] = 1 }
-  /^[a-z]/ && $1 in needed { count++; for (i = 2; i <= NF; i++) needed[$i] = 1 }
-  END { print count + 0 }')
+# all that it needs, by crates.txt: families stand there by what they are for, so a crate may need one of a later family
+total=$(awk -F '[: ]+' -v name="$name" '
+  /^[a-z]/ { needs[$1] = $0 }
+  END {
+    todo[last = 1] = name; seen[name] = 1
+    for (at = 1; at <= last; at++) {
+      many = split(needs[todo[at]], words)
+      for (i = 2; i <= many; i++) if (words[i] in needs && !(words[i] in seen)) { seen[words[i]] = 1; todo[++last] = words[i] }
+    }
+    print last
+  }' crates.txt)
 
 "$@" 2>&1 | tee "$log" | {
   count=0
