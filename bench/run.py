@@ -39,7 +39,7 @@ NO_REP = "glibc.cpu.x86_rep_stosb_threshold=1000000000:glibc.cpu.x86_rep_movsb_t
 
 PLAIN, TUNED = FORMS = ("plain", "tuned")
 BENCH_STEP, RUN = TOP / "target" / "bin" / "bench_step", TOP / "target" / "bin" / "run"
-LIBRARY = TOP / "target" / "staticlib" / "liblagoon.a"
+LIBRARY = TOP / "target" / "lib" / "liblagoon.a"
 
 
 def command(*words):
@@ -58,7 +58,7 @@ def build(engine_too):
     OUT.mkdir(parents=True, exist_ok=True)
     if engine_too:
         command("rt", "check", "bench_step", "run")
-        command("rt", "staticlib", "lagoon")
+        command("tools/lib.sh")
     gcc = ("gcc", "-std=c11", "-O2", "-Wall", "-Wextra", "-Werror")     # quicker than -O3: bench/README.md
     for form in FORMS:
         for large in (False, True):
@@ -196,10 +196,11 @@ def counts():
 
 
 def stacks():
-    """Bytes of stack: of a call on the channel's records, on the longest, with a product past 64 bits; of the run."""
+    """Bytes of stack by name: of the calls that tests/stack.c makes, and of the run."""
     command("gcc", "-std=c11", "-O2", "-Iinclude", "-Iexamples", "tests/stack.c", LIBRARY, "-lpthread", "-o", OUT / "stack")
-    *calls, = map(int, command(OUT / "stack").split())
-    return [*calls, *(work.programs[-1].stack(LARGEST) for work in WORKS if work.name.startswith("a step of the run"))]
+    calls = (line.split(" ", 1) for line in command(OUT / "stack").decode().splitlines())
+    runs = (work for work in WORKS if work.name.startswith("a step of the run"))
+    return {**{name: int(size) for size, name in calls}, **{work.name: work.programs[-1].stack(LARGEST) for work in runs}}
 
 
 # ---------------------------------------------------------------- Report
@@ -228,8 +229,7 @@ def table_of(title, values, digits):
 
 
 def table_of_stacks(taken):
-    names = ["call, the channel's records", "call, the longest records", "call, a product past 64 bits", "run", "run at 65,535"]
-    return table(["Stack", "bytes"], [[name, f"{size:,}"] for name, size in zip(names, taken, strict=True)])
+    return table(["Stack", "bytes"], [[name, f"{size:,}"] for name, size in taken.items()])
 
 
 def filled(page, mark, text):

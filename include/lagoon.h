@@ -56,10 +56,10 @@ enum lagoon_cause {
     LAGOON_TABLE = 2,         /* a lent table is too short, or too few bytes for a record or page; place: its position (enum lagoon_position) */
     LAGOON_VOLUME = 3,        /* a volume outside 1 to 65,535; in a narrow record that is written, above 4,095; place: the cell */
     LAGOON_ENDS = 4,          /* first no cell; second neither a cell nor LAGOON_RIM; or both equal; place: the face */
-    LAGOON_SPACING = 5,       /* share outside 1 to 255 or reach outside 1 to 65,535; at the rim either not 0; place: the face */
-    LAGOON_CONCENTRATION = 6, /* mass divided by volume above 1,000,000; place: the cell */
+    LAGOON_SPACING = 5,       /* share outside 1 to 255, reach outside 1 to 65,535 (narrow, written: 4,095); at the rim either not 0; place: the face */
+    LAGOON_CONCENTRATION = 6, /* mass divided by volume, rounded down, above 1,000,000; place: the cell */
     LAGOON_OUTSIDE = 7,       /* an outside value above 1,000,000, or not 0 elsewhere than at a rim inflow; place: the face */
-    LAGOON_FLUX = 8,          /* a flux larger than the reach, or than 65,535 at the rim; place: the face */
+    LAGOON_FLUX = 8,          /* a flux larger than the reach, or than 65,535 at the rim (narrow, written: 4,095); place: the face */
     LAGOON_BALANCE = 9,       /* what enters a cell is not what leaves it, inflow and outflow; place: the cell */
     LAGOON_OUTFLOW = 10,      /* more leaves a cell than its volume; place: the cell */
     LAGOON_LENGTH = 11,       /* a record of the wrong length; place 0 */
@@ -69,13 +69,13 @@ enum lagoon_cause {
     LAGOON_NAME = 15,         /* on keeping: a name of 0, above 65,535 or already kept; place: the name */
     LAGOON_ROOM = 16,         /* on keeping: fewer entries left in the store than one for the name and one per cell; place: the name */
     LAGOON_UNKEPT = 17,       /* on dropping or return: a name that is not kept; place: the name */
-    LAGOON_RELEASE = 18,      /* mass and release of a cell, divided by its volume, above 1,000,000; on writing, too large; place: the cell */
+    LAGOON_RELEASE = 18,      /* mass and release divided by volume, rounded down, above 1,000,000; on writing, a release too large; place: the cell */
     LAGOON_COORDINATE = 19,   /* a survey coordinate not finite or of size above 1,000,000; place 0 to 7: the argument of lagoon_share */
     LAGOON_RATIO = 20,        /* both distances are 0, or their ratio below 1/256 or not below 1; place 0 */
     LAGOON_MOVED = 21,        /* a claimed mass of size above 1,099,511,627,776, not 0 at a still face, or at the rim not its water's; place: the face */
-    LAGOON_BOUNDS = 22,       /* by a claim: a next mass below 0, or outside the bounds of its neighbourhood; place: the cell */
-    LAGOON_LABEL = 23,        /* a label other than 0 and 1; place: the cell */
-    LAGOON_PART = 24,         /* a part without cells; place: the label */
+    LAGOON_BOUNDS = 22,       /* by a claim: a next mass below 0, or a next concentration outside its neighbourhood's bounds; place: the cell */
+    LAGOON_LABEL = 23,        /* in cutting, which this library does not do: a label other than 0 and 1; place: the cell */
+    LAGOON_PART = 24,         /* likewise: a part without cells; place: the label */
     LAGOON_BANDS = 25,        /* no bands or more than 8, ends that do not rise to 2^40, a price or remainder too large; place 0, or the band */
     LAGOON_PERIOD = 26,       /* in charging, a total above the last end; in adding, one past 2^40; place 0; or the face */
     LAGOON_MARK = 27          /* a mark other than 0 and 1; place: the cell */
@@ -103,11 +103,11 @@ static inline const char *lagoon_cause_text(uint32_t cause)
     case LAGOON_NAME: return "name 0, above its range or already kept";
     case LAGOON_ROOM: return "no room left in the store for the name and the cells";
     case LAGOON_UNKEPT: return "name not kept";
-    case LAGOON_RELEASE: return "concentration above its ceiling with the release";
+    case LAGOON_RELEASE: return "concentration above its ceiling with the release; on writing, a release that the record cannot hold";
     case LAGOON_COORDINATE: return "a survey coordinate not finite or too large";
     case LAGOON_RATIO: return "no ratio of the distances that a share can be";
     case LAGOON_MOVED: return "a claimed mass too large, at a still face, or other than the rim's water carries";
-    case LAGOON_BOUNDS: return "by a claim, a next mass outside the bounds of its neighbourhood";
+    case LAGOON_BOUNDS: return "by a claim, a next mass below 0 or a next concentration outside the bounds of its neighbourhood";
     case LAGOON_LABEL: return "a label other than 0 and 1";
     case LAGOON_PART: return "a part without cells";
     case LAGOON_BANDS: return "bands, a price or a remainder out of range";
@@ -175,7 +175,8 @@ enum lagoon_width { LAGOON_NARROW, LAGOON_WIDE };
 /* ---------------------------------------------------------------- 3  Calls on records */
 
 /* mesh, field and step are read only, each length that of the record, neither more nor less. The mesh record is tested first, then the field,
- * then the step record with the water in it, then what the call asks for besides, last the room; the first that is refused gives the answer.
+ * then the step record with the water in it, then what the call asks for besides (lagoon_judge says where its claim is tested), last the room;
+ * the first that is refused gives the answer.
  * Within a record the order is 11 for less than a head, 13, 1, 11, 12, then 18, then the lowest of 3 to 10. No alignment is asked. */
 
 /* One step. next: room for the next field record, which is as long as the field; bytes past the record stay. After an accepted step copy it
@@ -196,8 +197,8 @@ uint64_t lagoon_crossing(const uint8_t *mesh, size_t mesh_len, const uint8_t *fi
                          uint64_t *found, size_t found_len);
 
 /* Another model's step, by the masses that it claims to have moved through the faces, an entry each. next: the field record that they lead
- * to. found: in-mass, out-mass and released mass. Refuses by 11, 12 and 13 of the records, by 2, place 9, where the claim is too short, then
- * as lagoon_step; then by 21 and 22, last by 2, place 11. */
+ * to. found: in-mass, out-mass and released mass. Refuses what is refused of the mesh, of the field and of reading the step record, in this
+ * order; then by 2, place 9, where the claim is too short; 18; 7 and 8; 9 and 10; 21; 22; last by 2, place 11. */
 uint64_t lagoon_judge(const uint8_t *mesh, size_t mesh_len, const uint8_t *field, size_t field_len, const uint8_t *step, size_t step_len,
                       const int64_t *claim, size_t claim_len, uint8_t *next, size_t next_len, uint64_t *found, size_t found_len);
 
@@ -225,7 +226,7 @@ enum lagoon_position {
     LAGOON_AT_PAGE = 12,    /* bytes of a page */
     LAGOON_AT_STORE = 13,   /* LAGOON_STORE_ENTRIES(cells, fields) */
     LAGOON_AT_RELEASES = 14, /* cells: the mass released into each */
-    LAGOON_AT_LABELS = 15,  /* cells: 0 or 1 */
+    LAGOON_AT_LABELS = 15,  /* cells: 0 or 1 (of cutting, which this library does not do) */
     LAGOON_AT_TOTALS = 16,  /* faces: what moved outward over the rim in a period */
     LAGOON_AT_ENDS = 17,    /* bands */
     LAGOON_AT_PRICES = 18,  /* bands: cents per million mass units */
@@ -306,8 +307,9 @@ uint64_t lagoon_write_step(uint64_t kind, uint64_t cells, uint64_t faces, const 
 
 /* ---------------------------------------------------------------- 7  Pages and boards of a field */
 
-/* On records, refused by the causes of the mesh and of the field first; and on tables, by 1, 2, 3 and 6. Pages have sixty cells each and are
- * counted from 0; a page has LAGOON_MOST_PAGE_BYTES at most. A line has 18 bytes, or 19 where some volume of the mesh is above 4,095. */
+/* On records, refused by the causes of the mesh and of the field first, then by what is named below; on tables by 1; 2, places 0 and 5 and those
+ * named below; 3; 6; then what is named below. Pages have sixty cells each and are counted from 0; a page has LAGOON_MOST_PAGE_BYTES at most. A
+ * line has 18 bytes, or 19 where some volume of the mesh is above 4,095. */
 #define LAGOON_PAGE_CELLS 60
 #define LAGOON_MOST_PAGE_BYTES (61 * 19)
 #define LAGOON_BOARD_NUMBERS 25 /* how many lines are used, then eight times cell, concentration and rest; lines not used are 0 */

@@ -7,7 +7,7 @@ cd "$(dirname "$0")/.."
 name=$1 log=$2
 shift 2
 
-# all that it needs, by crates.txt: families stand there by what they are for, so a crate may need one of a later family
+# all that it needs, by crates.txt
 total=$(awk -F '[: ]+' -v name="$name" '
   /^[a-z]/ { needs[$1] = $0 }
   END {

@@ -26,8 +26,9 @@ FaceFine cells first second share reach inward amount outside =
 -- of the faces below n
 abbrev pub FacesFine : (cells n : ℕ) (firsts seconds shares reaches : List ℕ) → List ℤ → List ℕ → Type 0
 FacesFine cells n firsts seconds shares reaches fluxes outsides =
-    (f : ℕ) → f < n → FaceFine cells (getD firsts f 0) (getD seconds f 0) (getD shares f 0) (getD reaches f 0) (isNegative (getD fluxes f (pos 0)))
-    (size (getD fluxes f (pos 0))) (getD outsides f 0)
+    (f : ℕ) → f < n
+    → FaceFine cells (getD firsts f 0) (getD seconds f 0) (getD shares f 0) (getD reaches f 0)
+    (isNegative (getD fluxes f (pos 0))) (size (getD fluxes f (pos 0))) (getD outsides f 0)
 
 -- one entry raised; a face's flux counted at both ends
 abbrev pub plus : List ℕ → ℕ → ℕ → List ℕ
@@ -39,8 +40,8 @@ counted xs inward first second amount = plus (plus xs (cond inward first second)
 -- inflow and outflow of a cell through the faces below n, in one number
 unfoldable pub countedBelow : ℕ → (firsts seconds : List ℕ) → List ℤ → ℕ → ℕ
 countedBelow n firsts seconds fluxes c =
-    sum n (entering (facesOnly n firsts seconds) (λ f. getD fluxes f (pos 0)) c) + half * sum n
-    (leaving (facesOnly n firsts seconds) (λ f. getD fluxes f (pos 0)) c)
+    sum n (entering (facesOnly n firsts seconds) (λ f. getD fluxes f (pos 0)) c)
+    + half * sum n (leaving (facesOnly n firsts seconds) (λ f. getD fluxes f (pos 0)) c)
 
 -- 9 and 10 of one such number
 abbrev pub SumFits : (volume both : ℕ) → Type 0

@@ -20,8 +20,8 @@ valuesFound L labels = inTurn (meshValues ceiling (meshIn L)
 
 -- causes 1 and 2, of the lengths in the order of the positions: of each kind the whole's table and the parts', then the labels
 abbrev pub lengthsFound : (cells faces v v0 v1 f f0 f1 s s0 s1 h h0 h1 k k0 k1 m m0 m1 u u0 u1 o o0 o1 r r0 r1 labels : ℕ) → Verdict
-lengthsFound cells faces v v0 v1 f f0 f1 s s0 s1 h h0 h1 k k0 k1 m m0 m1 u u0 u1 o o0 o1 r r0 r1 labels = countsWithin maxCells maxFaces cells faces andThen
-    inTurn (three 0 cells v v0 v1
+lengthsFound cells faces v v0 v1 f f0 f1 s s0 s1 h h0 h1 k k0 k1 m m0 m1 u u0 u1 o o0 o1 r r0 r1 labels = countsWithin maxCells maxFaces cells faces
+    andThen inTurn (three 0 cells v v0 v1
     ∷ three 1 faces f f0 f1
     ∷ three 2 faces s s0 s1
     ∷ three 3 faces h h0 h1

@@ -81,8 +81,8 @@ module _ (labels : List ℕ) (p : ℕ) (firsts seconds : List ℕ) where
   -- with any q of the cells
   abbrev pub newOutsideAt : (q : ℕ → ℕ) (amounts : List ℤ) (values : List ℕ) → ℕ → ℕ
   newOutsideAt q amounts values f = cond (cutting labels p (getD firsts f 0) (getD seconds f 0))
-      (cond (isNegative (turn (turnsAt labels p firsts f) (getD amounts f (pos 0)))) (q (cond (turnsAt labels p firsts f) (getD firsts f 0) (getD seconds f 0)))
-      0)
+      (cond (isNegative (turn (turnsAt labels p firsts f) (getD amounts f (pos 0))))
+      (q (cond (turnsAt labels p firsts f) (getD firsts f 0) (getD seconds f 0))) 0)
       (getD values f 0)
 
 -- faces that join cells, of tables that are long enough

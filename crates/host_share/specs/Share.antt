@@ -18,6 +18,6 @@ faceFrom x1 y1 x2 y2 firstX firstY secondX secondY = record {
 abbrev pub ShareFromC : (face : Face) (found : List ℕ) (r : ℕ) (found′ : List ℕ) → Type 0
 ShareFromC face = Answered alone (faceShare face)
 
--- A version as one number: those of the same first number have compatible interfaces.
+-- A version as one number; its first part changes where a figure that was given before does.
 abbrev pub version : (major minor patch : ℕ) → ℕ
 version major minor patch = major * 1000000 + minor * 1000 + patch

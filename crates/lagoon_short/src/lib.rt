@@ -1,5 +1,5 @@
-// The host's call straight through the records of a small lagoon, in short tables: an array has to be cleared, and for few cells clearing
-// tables as long as the run's limits takes longer than the rest that a short table spares.
+// The host's call straight through the records of a small lagoon, in short tables: an array is cleared before it is filled, and for few cells
+// clearing tables as long as the run's limits takes longer than reading them.
 use model::Answer;
 use record_heads::Width;
 use record_reading::MeshAnswer;

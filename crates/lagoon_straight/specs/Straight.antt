@@ -30,5 +30,5 @@ module _ (mesh field step : List ℕ) where
     pub room-fine : bytesLong (fieldLength (fieldKind (widthIn mesh)) (meshIn mesh .cells)) room ≡ fine
 
   abbrev pub RecordsPut : List ℕ → Bool → List ℕ → Type 0
-  RecordsPut bytes = Put (Unrefused (length bytes)) (widthIn mesh) (inputOf (meshIn mesh) (massesIn field (meshIn mesh .cells)) (stepIn
-      (meshIn mesh) step)) bytes
+  RecordsPut bytes = Put (Unrefused (length bytes)) (widthIn mesh)
+      (inputOf (meshIn mesh) (massesIn field (meshIn mesh .cells)) (stepIn (meshIn mesh) step)) bytes

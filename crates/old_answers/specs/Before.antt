@@ -1,8 +1,6 @@
--- Documents 01 and 02 as they were before S-10, of records: kinds 1 to 4, 12 bits for V, K and the size of U, 32 for masses and releases, 4,095 as the ceiling
--- of 3, 5
--- and 8. No code rests on them; OldCalls.antt says that the calls on such records answer by them. What S-10 left alone is named from where it stands: the
--- fields
--- of a head, each cause's test, the step itself.
+-- Documents 01 and 02 as they were before S-10, of records: kinds 1 to 4, 12 bits for V, K and the size of U, 32 for masses and releases, 4,095
+-- as the ceiling of 3, 5 and 8. No code rests on them; OldCalls.antt says that the calls on such records answer by them. What S-10 left alone
+-- is named from where it stands: the fields of a head, each cause's test, the step itself.
 use Prim.Native.Nat.{ℕ, _*_, _^_, min}
 use mathlib.Core.Bool.{cond, not, _&&_, _||_}
 use mathlib.Core.List.{List, [], _∷_}
@@ -136,7 +134,10 @@ module _ (M : Mesh) where
 -- "The board and the run": a record is read into tables of the run's limits, then judged by the causes of its values.
 unfoldable pub oldMeshJudged : List ℕ → (volumes firsts seconds shares reaches : ℕ) → Verdict
 oldMeshJudged bs volumes firsts seconds shares reaches = oldMeshRead runCells runFaces bs runCells runFaces runFaces runFaces runFaces
-    andThen (long 0 (cellsIn bs) volumes andThen long 1 (facesIn bs) firsts andThen long 2 (facesIn bs) seconds andThen long 3 (facesIn bs) shares
+    andThen (long 0 (cellsIn bs) volumes
+    andThen long 1 (facesIn bs) firsts
+    andThen long 2 (facesIn bs) seconds
+    andThen long 3 (facesIn bs) shares
     andThen long 4 (facesIn bs) reaches)
     andThen meshValues oldCeiling (oldMeshIn bs)
 

@@ -1,7 +1,6 @@
--- Document 02, S-10, its last sentence, of records: each call as made, by its contract, answers and leaves what Before.antt says. Of the bytes, the fields and
--- the steps
--- nothing is asked; of a mesh record, that its kind is not 5, which S-10 takes besides 1; of tables lent beside a record, that they are within the old
--- ceilings.
+-- Document 02, S-10, its last sentence, of records: each call as made, by its contract, answers and leaves what Before.antt says. Of the bytes,
+-- the fields and the steps nothing is asked; of a mesh record, that its kind is not 5, which S-10 takes besides 1; of tables lent beside a
+-- record, that they are within the old ceilings.
 use Prim.Native.Nat.{ℕ, _≤_, _<_}
 use mathlib.Core.Path.{_≡_}
 use mathlib.Core.Logic.{_≢_}

@@ -77,7 +77,7 @@ module _ (M : Mesh) where
   abbrev pub nextRecord : HostMade → List ℕ
   nextRecord m = take (fieldLength (fieldKind (m .width)) (M .cells)) (m .bytes)
 
-  -- A host is told no in-mass and no out-mass: they are those of the water in its step record.
+  -- `lagoon_step` tells no in-mass and no out-mass: they are those of the water in its step record.
   abbrev pub cameTo : StepCall → List ℕ → Outcome Left
   cameTo (byStep m) field = leftBy (stepSaid (m .answer)) (m .next)
   cameTo (byPlainStep m) field = leftBy (stepSaid (m .answer)) (m .next)

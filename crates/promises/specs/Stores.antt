@@ -93,8 +93,8 @@ OneStore name store (call ∷ calls) = OnStore name store call × OneStore name 
 abbrev pub FieldReturns : Type 0
 FieldReturns = (M : Mesh) (field : List ℕ) (keep : StoreMade) → CallContract M (byKeep keep) field → said (keep .answer) ≡ fine
     → (calls : List ListCall) → CallsMade M field calls → OneStore (keep .name) (keep .written) calls
-    → (back : StoreMade) → CallContract M (byReturn back) (lastField M (did M) field calls) → back .store ≡ storeAfterAll (keep .written) calls → back .name
-    ≡ keep .name
+    → (back : StoreMade) → CallContract M (byReturn back) (lastField M (did M) field calls)
+    → back .store ≡ storeAfterAll (keep .written) calls → back .name ≡ keep .name
     → (said (back .answer) ≡ fine) × (back .written ≡ table (M .cells) (massIn field) ++ back .past)
 
 -- Dropping frees what keeping took: a drop of the name, next on the store, is accepted and leaves the store as it was before the keep, but for

@@ -39,8 +39,8 @@ pub record MeshRoom (kind cells faces : ℕ) (body : List ℕ) (volumes firsts s
   pub reaches-long : faces ≤ reaches
 
 -- the tables hold the columns of the sections k and k + 1
-pub record MeshFilled (bs : List ℕ) (S : List Section) (k : ℕ) (volumes firsts seconds shares reaches volumes′ firsts′ seconds′ shares′ reaches′ : List ℕ) :
-    Type 0 where
+pub record MeshFilled (bs : List ℕ) (S : List Section) (k : ℕ)
+    (volumes firsts seconds shares reaches volumes′ firsts′ seconds′ shares′ reaches′ : List ℕ) : Type 0 where
   pub volumes-full : volumes′ ≡ over (columnIn bs S k 0) volumes
   pub firsts-full : firsts′ ≡ over (columnIn bs S (suc k) 0) firsts
   pub seconds-full : seconds′ ≡ over (columnIn bs S (suc k) 1) seconds

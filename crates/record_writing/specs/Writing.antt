@@ -1,4 +1,4 @@
--- Document 01, "Causes", of writing: what writing a record gives. What it refuses is defined in write_causes, and passed on here.
+-- Document 01, "Causes", of writing: what writing a record gives. What it refuses is defined in record_causes, and passed on here.
 use mathlib.Core.Path.{_≡_}
 use mathlib.Core.List.{List}
 use Prim.Native.Nat.{ℕ}

@@ -13,9 +13,8 @@ use Rattle.record_heads.specs.declared.Width.the-variants.{Wide}
 abbrev pub recordBytes : ℕ
 recordBytes = bytesFor (stepHeadBits + runFaces * (fluxBits (outfallKind Wide) + outsideBits) + runCells * releaseBits (outfallKind Wide))
 
--- Of a record whose head asks for so many bytes, those not yet read: the head's own are among them, so that nothing is cut off. No head within the limits asks
--- for more than the longest
--- record, and a refused one asks for none.
+-- Of a record whose head asks for so many bytes, those not yet read: the head's own are among them, so that nothing is cut off. No head within
+-- the limits asks for more than the longest record, and a refused one asks for none.
 abbrev pub stillNeeded : Outcome ℕ → ℕ → ℕ
 stillNeeded (accepted n) got = min n recordBytes - got
 stillNeeded (refused _ _) got = 0

@@ -1,7 +1,6 @@
 -- What the run program does, call by call. Each fact is the contract of the call that run/src, run_session/src or run_intake/src makes at
--- that place; the order is the program's. Of reading and writing no contract can speak: it is taken here that a read gives the next bytes of the input, fewer
--- only where
--- it ends, and that a write prints what it is lent.
+-- that place; the order is the program's. Of reading and writing no contract can speak: it is taken here that a read gives the next bytes of
+-- the input, fewer only where it ends, and that a write prints what it is lent.
 use Prim.Native.Nat.{ℕ, _+_, _<_}
 use mathlib.Core.Path.{_≡_}
 use mathlib.Core.Bool.{true, false}
@@ -86,5 +85,5 @@ pub data Prints (input : List ℕ) : List ℕ → Type 0 where
       → ReadIn (bytesFor meshHeadBits) (meshNeeds runCells runFaces) input bs
       → MeshTaking bs (table runCells (λ i. 0)) (table runFaces (λ i. 0)) (table runFaces (λ i. 0)) (table runFaces (λ i. 0)) (table runFaces (λ i. 0))
       (mesh.Read counts) volumes firsts seconds shares reaches
-      → FieldPrints (counts .width) (meshOf (counts .cells) (counts .faces) volumes firsts seconds shares reaches) (drop (length bs) input) out → Prints
-      input out
+      → FieldPrints (counts .width) (meshOf (counts .cells) (counts .faces) volumes firsts seconds shares reaches) (drop (length bs) input) out
+      → Prints input out

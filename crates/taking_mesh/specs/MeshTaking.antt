@@ -21,7 +21,10 @@ meshRecordFound bs = meshHeadVerdict runCells runFaces bs andThen meshBodyVerdic
 -- "Causes", 2: the lent tables, of so many entries, have to hold it. Then 3 to 5.
 unfoldable pub meshJudged : List ℕ → ℕ → ℕ → ℕ → ℕ → ℕ → Verdict
 meshJudged bs volumes firsts seconds shares reaches = meshRecordFound bs
-    andThen (long 0 (cellsIn bs) volumes andThen long 1 (facesIn bs) firsts andThen long 2 (facesIn bs) seconds andThen long 3 (facesIn bs) shares
+    andThen (long 0 (cellsIn bs) volumes
+    andThen long 1 (facesIn bs) firsts
+    andThen long 2 (facesIn bs) seconds
+    andThen long 3 (facesIn bs) shares
     andThen long 4 (facesIn bs) reaches)
     andThen meshValues ceiling (meshIn bs)
 
@@ -29,9 +32,8 @@ meshJudged bs volumes firsts seconds shares reaches = meshRecordFound bs
 abbrev pub meshJudgedInRun : List ℕ → Verdict
 meshJudgedInRun bs = meshJudged bs runCells runFaces runFaces runFaces runFaces
 
--- A mesh of which v is found, in a record of this width: the answer, and each lent table. The counted entries are filled where it is accepted; no other entry
--- is, and
--- after a refusal none.
+-- A mesh of which v is found, in a record of this width: the answer, and each lent table. The counted entries are filled where it is accepted;
+-- no other entry is, and after a refusal none.
 pub record MeshKept (v : Verdict) (w : Width) (M : Mesh) (volumes firsts seconds shares reaches : List ℕ) (r : MeshAnswer)
     (volumes′ firsts′ seconds′ shares′ reaches′ : List ℕ) : Type 0 where
   pub answer : meshSaid r ≡ (v andThen accepted (record { cells = M .cells; faces = M .faces; width = w }))
@@ -43,5 +45,5 @@ pub record MeshKept (v : Verdict) (w : Width) (M : Mesh) (volumes firsts seconds
 
 abbrev pub MeshTaking : List ℕ → List ℕ → List ℕ → List ℕ → List ℕ → List ℕ → MeshAnswer → List ℕ → List ℕ → List ℕ → List ℕ → List ℕ → Type 0
 MeshTaking bs volumes firsts seconds shares reaches =
-    MeshKept (meshJudged bs (length volumes) (length firsts) (length seconds) (length shares) (length reaches)) (widthIn bs) (meshIn bs) volumes firsts seconds
-    shares reaches
+    MeshKept (meshJudged bs (length volumes) (length firsts) (length seconds) (length shares) (length reaches))
+    (widthIn bs) (meshIn bs) volumes firsts seconds shares reaches
