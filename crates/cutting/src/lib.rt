@@ -2,7 +2,6 @@
 use cutting_tables::part;
 use model::Answer;
 use model::Refusal;
-ghost use mathlib.Core.Path.{_≡_};
 ghost use Rattle.cutting_parts.specs.Cut.{tablesOf, lagoonOf};
 ghost use Rattle.cutting.specs.Promise.{CutPromise};
 

@@ -7,7 +7,7 @@ use native.Mathlib.Numerals.{add-one}
 use native.Mathlib.Omega.{arith}
 use lib.ListN.{length, set, getD, replicate, length-append}
 use Rattle.lists.specs.Marked.{count}
-use Rattle.model.specs.Causes.{Outcome, accepted, refused, Verdict, fine, _andThen_, taken}
+use Rattle.model.specs.Causes.{accepted, refused, Verdict, fine, _andThen_, taken}
 use Rattle.model.specs.Answers.{said}
 use Rattle.model.specs.declared.Answer.{Answer}
 use Rattle.board.specs.Board.{boardSize, unused, boardVerdict, boardEntries, entriesOf, BoardAfter, BoardIs}

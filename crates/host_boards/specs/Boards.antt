@@ -3,7 +3,7 @@
 use Prim.Native.Nat.{ℕ, min}
 use mathlib.Core.List.{List}
 use Rattle.lists.specs.Marked.{count}
-use Rattle.model.specs.Causes.{Outcome, accepted, Verdict, _andThen_}
+use Rattle.model.specs.Causes.{Outcome, accepted, _andThen_}
 use Rattle.record_reading.specs.Reading.{meshIn}
 use Rattle.public_marks.specs.Marks.{isOpen}
 use Rattle.board.specs.Board.{boardSize, boardVerdict, boardEntries}

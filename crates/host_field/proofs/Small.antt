@@ -7,7 +7,7 @@ use lib.Dec.{ltb}
 use Rattle.model.specs.Mesh.{ceiling}
 use Rattle.model.specs.Causes.{Verdict, fine, need, long, cellsOnly, counts, meshTables, fieldTable, meshValues, fieldValues}
 use Rattle.model.proofs.Verdicts.{all-fine}
-use Rattle.public_marks.specs.Marks.{marksLong, marksGood}
+use Rattle.public_marks.specs.Marks.{marksLong}
 use Rattle.page.specs.Page.{restPlaces, pages, pageBytes}
 use Rattle.page.specs.Answers.{verdictWith}
 use Rattle.public_page.specs.Public.{publicVerdict}

@@ -35,7 +35,6 @@ use Rattle.host_taking.specs.declared.FieldTaken.{FieldTaken}
 use Rattle.host_taking.specs.declared.FieldTaken.the-variants.{Taken}
 use Rattle.host_taking.proofs.Held.{tested-fine, all-as}
 use Rattle.host_taking.proofs.Small.{field-tested-small, step-record-small}
-use Rattle.host_next.specs.Next.{NextWritten}
 use Rattle.host_next.proofs.Next.{MeshPassed, written-refused, written-past}
 use Rattle.host_next.proofs.Read.{unread, read-fine}
 use Rattle.host_judge.specs.Judge.{claimIn, claimJudged, JudgedIn, JudgedOn, JudgedTaking, JudgedFromC}
@@ -63,7 +62,7 @@ module _ (w : Width) (M : Mesh) (masses step : List ℕ) (claim : List ℤ) (byt
   on-read d {r = r} {bytes′ = bytes′} p =
       let x : JudgedIn w M masses (fluxesIn step (M .faces)) (outsidesIn step (M .faces) (M .seconds)) (releasesIn step (M .cells) (M .faces) (M .seconds))
       claim bytes r bytes′ =
-      rw (fluxes-part w M masses s fl ol rl d .part, outsides-part w M masses s fl ol rl d .part, releases-part w M masses s fl ol rl d .part) at p in
+      rw (fluxes-part w M masses s d .part, outsides-part w M masses s d .part, releases-part w M masses s d .part) at p in
       written-past (read-fine w M s fl ol rl d) x
 
 module _ (mesh field step : List ℕ) (claim : List ℤ) (bytes : List ℕ) where

@@ -7,7 +7,7 @@ use lib.ListN.{length}
 use Rattle.lists.specs.Table.{table, over}
 use Rattle.model.specs.Mesh.{Mesh, updated}
 use Rattle.model.specs.Step.{mass}
-use Rattle.model.specs.Causes.{Outcome, accepted, Verdict, _andThen_, taken, Call, inputOf, bytesLong}
+use Rattle.model.specs.Causes.{accepted, Verdict, _andThen_, taken, Call, inputOf, bytesLong}
 use Rattle.model.specs.Calls.{Crossing, Scheme, crossingOf}
 use Rattle.transport.specs.Promise.{stepSaid}
 use Rattle.transport.specs.declared.StepAnswer.{StepAnswer}

@@ -6,9 +6,8 @@ use native.Mathlib.Omega.{arith}
 use lib.IntN.{ℤ}
 use lib.ListN.{length, take}
 use Rattle.model.specs.Mesh.{Mesh, meshOf, runCells, runFaces}
-use Rattle.model.specs.Causes.{fine, accepted, verdict, Call}
+use Rattle.model.specs.Causes.{fine, verdict, Call}
 use Rattle.model.specs.Answers.{number, told}
-use Rattle.model.specs.Calls.{plain}
 use Rattle.model.specs.declared.Refusal.{Refusal}
 use Rattle.model.proofs.Accepted.{passed}
 use Rattle.model.proofs.Verdicts.{out, refused-of, accepted-of}
@@ -34,7 +33,7 @@ use Rattle.host_taking.specs.declared.FieldTaken.{FieldTaken}
 use Rattle.host_taking.specs.declared.FieldTaken.the-variants.{Taken}
 use Rattle.host_taking.proofs.Held.{tested-fine, all-as}
 use Rattle.host_taking.proofs.Small.{field-tested-small, step-judged-small}
-use Rattle.host_next.specs.Next.{withRoom, NextWritten}
+use Rattle.host_next.specs.Next.{withRoom}
 use Rattle.host_next.proofs.Next.{MeshPassed, written-refused, written-past}
 use Rattle.host_next.proofs.Read.{unread, read-fine}
 use Rattle.host_plain.specs.Plain.{PlainIn, PlainOn, PlainTaking, PlainPromise, plainTested}
@@ -62,7 +61,7 @@ module _ (w : Width) (M : Mesh) (masses step bytes : List ℕ) {fluxes : List �
   on-read d {r = r} {bytes′ = bytes′} p =
       let x : PlainIn w M masses (fluxesIn step (M .faces)) (outsidesIn step (M .faces) (M .seconds)) (releasesIn step (M .cells) (M .faces) (M .seconds))
       bytes r bytes′ =
-      rw (fluxes-part w M masses s fl ol rl d .part, outsides-part w M masses s fl ol rl d .part, releases-part w M masses s fl ol rl d .part) at p in
+      rw (fluxes-part w M masses s d .part, outsides-part w M masses s d .part, releases-part w M masses s d .part) at p in
       written-past (read-fine w M s fl ol rl d) x
 
 module _ (mesh field step bytes : List ℕ) where

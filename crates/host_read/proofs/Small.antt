@@ -1,5 +1,5 @@
 -- What a reader refuses has small places: positions of tables, and the bits of a record whose length has been tested.
-use Prim.Native.Nat.{ℕ, _+_, _*_, _^_, _≤_, _<_, min}
+use Prim.Native.Nat.{ℕ, _+_, _*_, _^_, _≤_, _<_}
 use mathlib.Core.Path.{_≡_}
 use mathlib.Core.List.{List}
 use native.Mathlib.Nat.{mul-le-mul, le-of-lt, le-trans}

@@ -22,7 +22,7 @@ use Rattle.taking.specs.Taking.{fieldJudged, stepIn, stepRecordFound, stepJudge
 use Rattle.host_answer.specs.Number.{causeStep}
 use Rattle.host_answer.proofs.Small.{Small, small-then, small-and, small-need, small-each}
 use Rattle.host_answer.proofs.Tables.{Few, mesh-values-small, mesh-field-small, verdict-small}
-use Rattle.host_taking.specs.Taken.{fieldTested, fieldIn}
+use Rattle.host_taking.specs.Taken.{fieldTested}
 
 few-cells : (mesh : List ℕ) → cellsIn mesh < 2 ^ cellsBits
 few-cells mesh = bits-lt mesh kindBits cellsBits

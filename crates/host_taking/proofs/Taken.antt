@@ -5,9 +5,8 @@ use mathlib.Core.List.{List, [], _∷_}
 use native.Mathlib.Omega.{arith}
 use lib.ListN.{length, take}
 use Rattle.model.specs.Mesh.{total, runCells, runFaces}
-use Rattle.model.specs.Causes.{accepted, refused, Verdict, fine, _andThen_, cellsOnly, long}
+use Rattle.model.specs.Causes.{accepted, refused, Verdict, fine, _andThen_}
 use Rattle.model.specs.Answers.{number}
-use Rattle.model.specs.Calls.{massIn}
 use Rattle.model.specs.declared.Refusal.{Refusal}
 use Rattle.model.proofs.Verdicts.{both-fine, past, out, refused-of, accepted-of, long-fine}
 use Rattle.checks.specs.Total.{totalSaid}

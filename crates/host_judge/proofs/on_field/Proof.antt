@@ -41,37 +41,37 @@ array-share-prefix-fluxes : tie.Need-array-share-prefix-fluxes
 array-share-prefix-fluxes c =
     let s = (start-from-At-match-keys2 (c .before)) in
     let r = c .before .before .before .before .before .read-step .ensures in
-    fluxes-part (s .args .width) (mesh s) (s .args .masses .now) r refl refl refl (c .enum-told .given .1) .fits
+    fluxes-part (s .args .width) (mesh s) (s .args .masses .now) r (c .enum-told .given .1) .fits
 
 slice-aggregate-written : tie.Need-slice-aggregate-written
 slice-aggregate-written c =
     let s = (start-from-At-match-keys2 (c .before .before)) in
     let r = c .before .before .before .before .before .before .read-step .ensures in
-    part-long (fluxes-part (s .args .width) (mesh s) (s .args .masses .now) r refl refl refl (c .before .enum-told .given .1))
+    part-long (fluxes-part (s .args .width) (mesh s) (s .args .masses .now) r (c .before .enum-told .given .1))
 
 array-share-prefix-outsides : tie.Need-array-share-prefix-outsides
 array-share-prefix-outsides c =
     let s = (start-from-At-match-keys2 (c .before .before)) in
     let r = c .before .before .before .before .before .before .read-step .ensures in
-    outsides-part (s .args .width) (mesh s) (s .args .masses .now) r refl refl refl (c .before .enum-told .given .1) .fits
+    outsides-part (s .args .width) (mesh s) (s .args .masses .now) r (c .before .enum-told .given .1) .fits
 
 slice-aggregate-written-2 : tie.Need-slice-aggregate-written-2
 slice-aggregate-written-2 c =
     let s = (start-from-At-match-keys2 (c .before .before .before)) in
     let r = c .before .before .before .before .before .before .before .read-step .ensures in
-    part-long (outsides-part (s .args .width) (mesh s) (s .args .masses .now) r refl refl refl (c .before .before .enum-told .given .1))
+    part-long (outsides-part (s .args .width) (mesh s) (s .args .masses .now) r (c .before .before .enum-told .given .1))
 
 array-share-prefix-releases : tie.Need-array-share-prefix-releases
 array-share-prefix-releases c =
     let s = (start-from-At-match-keys2 (c .before .before .before)) in
     let r = c .before .before .before .before .before .before .before .read-step .ensures in
-    releases-part (s .args .width) (mesh s) (s .args .masses .now) r refl refl refl (c .before .before .enum-told .given .1) .fits
+    releases-part (s .args .width) (mesh s) (s .args .masses .now) r (c .before .before .enum-told .given .1) .fits
 
 slice-aggregate-written-3 : tie.Need-slice-aggregate-written-3
 slice-aggregate-written-3 c =
     let s = (start-from-At-match-keys2 (c .before .before .before .before)) in
     let r = c .before .before .before .before .before .before .before .before .read-step .ensures in
-    part-long (releases-part (s .args .width) (mesh s) (s .args .masses .now) r refl refl refl (c .before .before .before .enum-told .given .1))
+    part-long (releases-part (s .args .width) (mesh s) (s .args .masses .now) r (c .before .before .before .enum-told .given .1))
 
 written-requires : tie.Need-written-requires
 written-requires c κs = (start-from-At-match-keys2 (c .before .before .before .before .before)) .pre
