@@ -9,7 +9,7 @@ MODULES = $(TO)/share/lagoon/python/lagoon
 SONAME = liblagoon.so.$(firstword $(subst ., ,$(VERSION)))
 
 # as in .ci/run
-export RT_JOBS ?= 8
+export RT_JOBS ?= 4
 export TMPDIR := $(shell tools/scratch.sh)
 
 help:
