@@ -11,10 +11,10 @@ shift 2
 total=$(awk -F '[: ]+' -v name="$name" '
   /^[a-z]/ { needs[$1] = $0 }
   END {
-    todo[last = 1] = name; seen[name] = 1
+    queue[last = 1] = name; seen[name] = 1
     for (at = 1; at <= last; at++) {
-      many = split(needs[todo[at]], words)
-      for (i = 2; i <= many; i++) if (words[i] in needs && !(words[i] in seen)) { seen[words[i]] = 1; todo[++last] = words[i] }
+      many = split(needs[queue[at]], words)
+      for (i = 2; i <= many; i++) if (words[i] in needs && !(words[i] in seen)) { seen[words[i]] = 1; queue[++last] = words[i] }
     }
     print last
   }' crates.txt)
