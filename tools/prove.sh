@@ -22,7 +22,7 @@ total=$(awk -F '[: ]+' -v name="$name" '
 "$@" 2>&1 | tee "$log" | {
   count=0
   while IFS= read -r line; do
-    case $line in 'rt: '*' proved'*) count=$((count + 1)) ;; *) continue ;; esac
+    case $line in 'rt: '*' proved ('*) count=$((count + 1)) ;; *) continue ;; esac
     case $line in *unchanged*) ;; *) echo "$count of $total: ${line#rt: }" >&2 ;; esac
   done
 } || { tail -n 40 "$log" >&2; exit 1; }
