@@ -10,10 +10,11 @@ use lib.IntN.{ℤ, pos, _*ℤ_}
 use Rattle.lists.proofs.Tests.{Same, same, other, same?}
 use Rattle.lists.proofs.Renumbered.{sum-along}
 use Rattle.signed.specs.Sign.{isNegative, forward, backward, turn}
-use Rattle.signed.proofs.Turns.{turn-passes, turn-carries}
-use Rattle.model.specs.Mesh.{Mesh, first, second, atRim, rim, entering, leaving, incoming, outgoing, updated}
+use Rattle.signed.proofs.Turns.{turn-passes, turn-opposite, turn-carries}
+use Rattle.model.specs.Mesh.{Mesh, first, second, atRim, rim, entering, incoming, outgoing, updated}
 use Rattle.model.specs.Step.{StepInput, flux, outside, concentration, beyond, upwind, carried}
 use Rattle.model.specs.Accepted.{Joined}
+use Rattle.model.proofs.Turned.{opposite, outgoing-turned}
 
 -- Cell c of N is cell `cell c` of M. Face f of N is face F of M: inside the part, over the rim, or cut, on the side of its first or of its second cell.
 pub data Side (M N : Mesh) (cell : ℕ → ℕ) (f F : ℕ) : (cut turned : Bool) → Type 0 where
@@ -85,16 +86,14 @@ module _ {M N : Mesh} {cell face place : ℕ → ℕ} {cuts turns : ℕ → Bool
         (λ f l. rw (ends f c l h .0, ends f c l h .1, along f l)
         (turn-passes (turns (face f)) (eqb (second M (face f)) (cell c)) (eqb (first M (face f)) (cell c)) (x (face f))))
 
+  module _ (x y : ℕ → ℤ) (along : (f : ℕ) → f < N .faces → y f ≡ turn (turns (face f)) (x (face f))) where
     pub outgoing-part : (c : ℕ) → c < N .cells → outgoing N y c ≡ outgoing M x (cell c)
-    unfolding outgoing leaving
-    outgoing-part c h = sum-along (N .faces) (M .faces) (leaving N y c) (leaving M x (cell c)) face place (p .face-in) (p .face-place)
-        (λ F l n. kept c F (backward (x F)) (forward (x F)) h l (λ e. n (omega arith)))
-        (λ f l. rw (ends f c l h .0, ends f c l h .1, along f l)
-        (turn-passes (turns (face f)) (eqb (first M (face f)) (cell c)) (eqb (second M (face f)) (cell c)) (x (face f))))
+    outgoing-part c h = rw (outgoing-turned N y c, outgoing-turned M x (cell c))
+        (incoming-part (opposite x) (opposite y) (λ f l. rw (along f l) (turn-opposite (turns (face f)) (x (face f)))) c h)
 
     pub updated-part : (m n : ℕ → ℕ) → ((c : ℕ) → c < N .cells → n c ≡ m (cell c)) → (c : ℕ) → c < N .cells → updated N n y c ≡ updated M m x (cell c)
     unfolding updated
-    updated-part m n e c h = rw (e c h, incoming-part c h, outgoing-part c h)
+    updated-part m n e c h = rw (e c h, incoming-part x y along c h, outgoing-part c h)
 
 -- with q, U and outside values
 pub record PartStep (S P : StepInput) (cell face place : ℕ → ℕ) (cuts turns : ℕ → Bool) : Type 0 where

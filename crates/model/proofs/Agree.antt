@@ -6,20 +6,21 @@ use mathlib.Core.Bool.{Bool, true, false, cond}
 use mathlib.Core.List.{List}
 use native.Mathlib.Omega.{arith}
 use lib.Dec.{eqb}
-use lib.IntN.{ℤ, pos}
+use lib.IntN.{ℤ, pos, negℤ}
 use Rattle.lists.specs.Fold.{sum}
 use Rattle.lists.specs.Renumbering.{unmoved}
 use Rattle.lists.specs.Table.{table, over}
 use Rattle.lists.proofs.Tests.{Same, same, same?}
 use Rattle.lists.proofs.Sums.{sum-cong}
 use Rattle.lists.proofs.Tables.{table-cong}
-use Rattle.model.specs.Mesh.{Mesh, first, second, rim, entering, leaving, incoming, outgoing, total, ceiling}
+use Rattle.model.specs.Mesh.{Mesh, first, second, rim, entering, incoming, outgoing, total, ceiling}
 use Rattle.model.specs.Step.{StepInput, carried, lo, hi, moved, next, inMass, outMass}
 use Rattle.model.specs.Alike.{straight, AlikeEnds, AlikeMesh, Alike, AlikeCall, AgreeMesh, Agree, AgreeCall}
 use Rattle.model.specs.Causes.{accepted, refused, Verdict, fine, taken, each, Call, inputOf, meshTables, fieldTable, stepTables, meshValues, volumeGood, endsGood, spacingGood, fieldValues, fieldVerdict, verdict}
 use Rattle.model.specs.Calls.{massIn, Bounded, Left, crossingOf, corrected, stepAnswer, nextTable, movedTable}
 use Rattle.model.specs.Accepted.{MeshFit}
 use Rattle.model.proofs.Accepted.{ready}
+use Rattle.model.proofs.Turned.{opposite, outgoing-turned}
 use Rattle.model.proofs.Lists.{Fair}
 use Rattle.model.proofs.AlikeStages.{carried-alike, lo-alike, hi-alike, moved-alike, next-alike, in-mass-alike, out-mass-alike}
 use Rattle.model.proofs.AlikeCauses.{each-alike, field-values-alike, raised-alike, q-alike, crossing-alike, verdict-alike, answer-alike}
@@ -86,9 +87,12 @@ module _ (M M′ : Mesh) (same-faces : M′ .faces ≡ M .faces)
   unfolding incoming entering
   incoming-agree c = ap (λ (n : ℕ). sum n (entering M′ x′ c)) same-faces ∙ sum-cong (M .faces) _ _ (λ f l. rw (ends f l .0, ends f l .1, same-amounts f l))
 
+module _ (M M′ : Mesh) (same-faces : M′ .faces ≡ M .faces)
+    (ends : (f : ℕ) → f < M .faces → (first M′ f ≡ first M f) × (second M′ f ≡ second M f))
+    (x x′ : ℕ → ℤ) (same-amounts : (f : ℕ) → f < M .faces → x′ f ≡ x f) where
   pub outgoing-agree : (c : ℕ) → outgoing M′ x′ c ≡ outgoing M x c
-  unfolding outgoing leaving
-  outgoing-agree c = ap (λ (n : ℕ). sum n (leaving M′ x′ c)) same-faces ∙ sum-cong (M .faces) _ _ (λ f l. rw (ends f l .0, ends f l .1, same-amounts f l))
+  outgoing-agree c = rw (outgoing-turned M′ x′ c, outgoing-turned M x c)
+      (incoming-agree M M′ same-faces ends (opposite x) (opposite x′) (λ f l. ap negℤ (same-amounts f l)) c)
 
 -- a scan of tests that agree finds the same, at the same place
 pub each-agree : (k n : ℕ) {n′ : ℕ} (good good′ : ℕ → Bool) → n′ ≡ n → ((i : ℕ) → i < n → good′ i ≡ good i) → each k n′ good′ ≡ each k n good

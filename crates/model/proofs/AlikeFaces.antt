@@ -11,14 +11,15 @@ use lib.IntN.{ℤ, pos}
 use Rattle.lists.proofs.Tests.{Same, same, other, same?, cond-same}
 use Rattle.signed.specs.Sign.{isNegative, isZero, size, withSign, turn}
 use Rattle.signed.proofs.Laws.{isZero-size, size-zero}
-use Rattle.model.specs.Mesh.{Mesh, first, second, atRim, rim, entering, leaving, incoming, outgoing, updated}
+use Rattle.model.specs.Mesh.{Mesh, first, second, atRim, rim, entering, incoming, outgoing, updated}
 use Rattle.model.specs.Step.{portion, receiver, giver, smooths, keptBy, limitedBy}
 use Rattle.model.specs.Accepted.{Joined}
+use Rattle.model.proofs.Turned.{opposite, outgoing-turned}
 use Rattle.model.proofs.Limit.{portion-zero}
 use Rattle.lists.specs.Renumbering.{Renumbering}
 use Rattle.model.specs.Alike.{Facing, straight, turned, AlikeEnds}
 use Rattle.lists.proofs.Renumbered.{sum-renumbered, renumbered-eqb}
-use Rattle.signed.proofs.Turns.{size-turn, isZero-turn, turn-zero, turn-passes, turn-negative, turn-withSign}
+use Rattle.signed.proofs.Turns.{size-turn, isZero-turn, turn-opposite, turn-zero, turn-passes, turn-negative, turn-withSign}
 
 -- a correction z from l to k, kept or not
 abbrev keep : (ℕ → ℕ) → ℤ → ℕ → ℕ → ℤ
@@ -126,16 +127,16 @@ module _ (M M′ : Mesh) (j : Joined M) (cell : Renumbering (M .cells)) (face : 
         (sum-renumbered (M .faces) face (entering M′ x′ (cell .new c)) (entering M x c)
         (λ f l. rw (first-is f c l h, second-is f c l h, along f l) (turn-passes (turns f) (eqb (second M f) c) (eqb (first M f) c) (x f))))
 
+  -- and in the same way what leaves: of amounts carried along the opposite ones are too
+  module _ (x x′ : ℕ → ℤ) (along : (f : ℕ) → f < M .faces → x′ (face .new f) ≡ turn (turns f) (x f)) where
     pub outgoing-alike : (c : ℕ) → c < M .cells → outgoing M′ x′ (cell .new c) ≡ outgoing M x c
-    unfolding outgoing leaving
-    outgoing-alike c h = rw (a .faces-same)
-        (sum-renumbered (M .faces) face (leaving M′ x′ (cell .new c)) (leaving M x c)
-        (λ f l. rw (first-is f c l h, second-is f c l h, along f l) (turn-passes (turns f) (eqb (first M f) c) (eqb (second M f) c) (x f))))
+    outgoing-alike c h = rw (outgoing-turned M′ x′ (cell .new c), outgoing-turned M x c)
+        (incoming-alike (opposite x) (opposite x′) (λ f l. rw (along f l) (turn-opposite (turns f) (x f))) c h)
 
     pub updated-alike : (m m′ : ℕ → ℕ) → ((c : ℕ) → c < M .cells → m′ (cell .new c) ≡ m c) → (c : ℕ) → c < M .cells → updated M′ m′ x′ (cell .new c)
         ≡ updated M m x c
     unfolding updated
-    updated-alike m m′ e c h = rw (e c h, incoming-alike c h, outgoing-alike c h)
+    updated-alike m m′ e c h = rw (e c h, incoming-alike x x′ along c h, outgoing-alike c h)
 
     -- Document 02's S-5, for a correction that is 0 at the rim.
     pub kept-alike : (q q′ : ℕ → ℕ) → ((c : ℕ) → c < M .cells → q′ (cell .new c) ≡ q c)
@@ -170,4 +171,4 @@ module _ (M M′ : Mesh) (j : Joined M) (cell : Renumbering (M .cells)) (face : 
             let d = within z in
             let p = ends-alike f d (turns f) (a .facing f l) in
             rw (p .0, p .1) (limit-turned (M .cells) (cell .new) gain (incoming M x) loss (outgoing M x) gain′ (incoming M′ x′) loss′ (outgoing M′ x′)
-            g incoming-alike e outgoing-alike (turns f) (x f) (first M f) (second M f) z (j .first-in f l) (j .second-in f l d))
+            g (incoming-alike x x′ along) e outgoing-alike (turns f) (x f) (first M f) (second M f) z (j .first-in f l) (j .second-in f l d))

@@ -1,4 +1,5 @@
 pub mod Verdicts
+pub mod Turned
 pub mod Budget
 pub mod Low
 pub mod Raised

@@ -8,10 +8,12 @@ use lib.IntN.{ℤ, pos, _-ℤ_, _*ℤ_}
 use lib.Signed.{quotZ}
 use Rattle.signed.specs.Sign.{forward, backward, size, isZero, isNegative}
 use Rattle.signed.proofs.Laws.{size-mul, size-add, size-quot, size-diff, size-withSign, forward-le, backward-le}
+use Rattle.signed.proofs.Turns.{size-turn}
 use Rattle.lists.proofs.Tests.{Same, other, same?, Fits, exceeds, fits?}
 use Rattle.lists.proofs.Sums.{sum-bound}
-use Rattle.model.specs.Mesh.{Mesh, first, second, share, reach, atRim, rim, entering, leaving, incoming, outgoing, total, maxCells, maxFaces, maxConcentration}
+use Rattle.model.specs.Mesh.{Mesh, first, second, share, reach, atRim, rim, entering, incoming, outgoing, total, maxCells, maxFaces, maxConcentration}
 use Rattle.model.specs.Step.{StepInput, portion, receiver, limitedBy, flux, outside, mass, concentration, beyond, upwind, downwind, upwindShare, carried, low, correction, lowConcentration, kept, maxGain, maxLoss, limited, moved, next, inMass, outMass}
+use Rattle.model.proofs.Turned.{opposite, outgoing-turned}
 use Rattle.model.proofs.Low.{low-bounds}
 use Rattle.model.proofs.Limit.{kept-either}
 use Rattle.model.proofs.Next.{next-bounds}
@@ -41,13 +43,9 @@ module _ (M : Mesh) (x : ℕ → ℤ) (B : ℕ) (few : M .faces ≤ maxFaces) (s
       (le-trans (backward-le (x f)) (small f l))))
       (mul-le-mul-right (B + B) few)
 
+module _ (M : Mesh) (x : ℕ → ℤ) (B : ℕ) (few : M .faces ≤ maxFaces) (small : (f : ℕ) → f < M .faces → size (x f) ≤ B) (c : ℕ) where
   pub outgoing-most : outgoing M x c ≤ maxFaces * (B + B)
-  unfolding outgoing leaving
-  outgoing-most = le-trans
-      (sum-bound (M .faces) (B + B) (leaving M x c)
-      (λ f l. either (eqb (first M f) c) (eqb (second M f) c) (forward (x f)) (backward (x f)) B (le-trans (forward-le (x f)) (small f l))
-      (le-trans (backward-le (x f)) (small f l))))
-      (mul-le-mul-right (B + B) few)
+  outgoing-most = rw (outgoing-turned M x c) (incoming-most M (opposite x) B few (λ f l. rw (size-turn true (x f)) (small f l)) c)
 
 pub portion-le : (a g p : ℕ) → portion a g p ≤ a
 unfolding portion

@@ -5,7 +5,7 @@ use mathlib.Core.Bool.{Bool, true, false, cond, _||_}
 use native.Mathlib.Nat.{zero-mul, mul-zero, zero-div}
 use native.Mathlib.Omega.{arith}
 use lib.Dec.{eqb}
-use lib.IntN.{ℤ, pos, _*ℤ_, _-ℤ_}
+use lib.IntN.{ℤ, pos, negℤ, _*ℤ_, _-ℤ_}
 use lib.Signed.{quotZ}
 use Rattle.signed.specs.Sign.{size, isZero, isNegative}
 use Rattle.signed.proofs.Laws.{size-mul, size-quot, size-zero, diff-self}
@@ -14,6 +14,7 @@ use Rattle.lists.proofs.Tests.{Same, other, same?, cond-same}
 use Rattle.lists.proofs.Sums.{sum-cong, sum-scale, sum-zeros, sum-zero}
 use Rattle.model.specs.Mesh.{Mesh, first, second, reach, atRim, rim, entering, leaving, incoming, outgoing, updated}
 use Rattle.model.specs.Step.{StepInput, flux, outside, mass, concentration, beyond, upwind, downwind, upwindShare, carried, low, correction, lowConcentration, kept, adjacent, maxGain, maxLoss, limited, moved, next}
+use Rattle.model.proofs.Turned.{opposite, outgoing-turned}
 use Rattle.model.proofs.Low.{met-any, entering-carried, outgoing-carried, low-is}
 use Rattle.model.proofs.Limit.{limited-zero, kept-zero}
 use Rattle.model.proofs.Next.{next-is}
@@ -23,12 +24,13 @@ use Rattle.model.specs.Accepted.{Sound}
 nothing : (s t : Bool) → cond s 0 0 + cond t 0 0 ≡ 0
 nothing s t = rw (cond-same {A = ℕ} s 0, cond-same {A = ℕ} t 0)
 
+none-enters : (M : Mesh) (x : ℕ → ℤ) → ((f : ℕ) → f < M .faces → x f ≡ pos 0) → (c : ℕ) → incoming M x c ≡ 0
+unfolding incoming entering
+none-enters M x z c = sum-cong (M .faces) (entering M x c) (λ f. 0) (λ f l. rw (z f l) (nothing (eqb (second M f) c) (eqb (first M f) c)))
+    ∙ sum-zeros (M .faces)
+
 still : (M : Mesh) (x : ℕ → ℤ) → ((f : ℕ) → f < M .faces → x f ≡ pos 0) → (c : ℕ) → (incoming M x c ≡ 0) × (outgoing M x c ≡ 0)
-unfolding incoming outgoing entering leaving
-still M x z c = (
-  sum-cong (M .faces) (entering M x c) (λ f. 0) (λ f l. rw (z f l) (nothing (eqb (second M f) c) (eqb (first M f) c))) ∙ sum-zeros (M .faces),
-  sum-cong (M .faces) (leaving M x c) (λ f. 0) (λ f l. rw (z f l) (nothing (eqb (first M f) c) (eqb (second M f) c))) ∙ sum-zeros (M .faces),
-)
+still M x z c = (none-enters M x z c, outgoing-turned M x c ∙ none-enters M (opposite x) (λ f l. ap negℤ (z f l)) c)
 
 no-difference : (u w : ℤ) (k : ℕ) (K : ℕ) → quotZ (u *ℤ (pos k -ℤ pos k) *ℤ w) (pos K) ≡ pos 0
 no-difference u w k K = size-zero _ (size-quot (u *ℤ (pos k -ℤ pos k) *ℤ w) K ∙ ap (λ (n : ℕ). n / K) none ∙ zero-div K)

@@ -8,12 +8,12 @@ use lib.IntN.{ℤ, pos, negsuc, negℤ, _+ℤ_, _*ℤ_, negℤ-negℤ, negℤ-+�
 use lib.Signed.{quotZ}
 use Rattle.signed.specs.Sign.{isNegative, isZero, size, forward, backward, withSign, turn}
 
-forward-turned : (z : ℤ) → forward (negℤ z) ≡ backward z
+pub forward-turned : (z : ℤ) → forward (negℤ z) ≡ backward z
 forward-turned (pos zero) = refl
 forward-turned (pos (suc n)) = refl
 forward-turned (negsuc n) = refl
 
-backward-turned : (z : ℤ) → backward (negℤ z) ≡ forward z
+pub backward-turned : (z : ℤ) → backward (negℤ z) ≡ forward z
 backward-turned (pos zero) = refl
 backward-turned (pos (suc n)) = refl
 backward-turned (negsuc n) = refl
@@ -23,6 +23,10 @@ size-turn false z = refl
 size-turn true (pos zero) = refl
 size-turn true (pos (suc n)) = refl
 size-turn true (negsuc n) = refl
+
+pub turn-opposite : (t : Bool) (z : ℤ) → negℤ (turn t z) ≡ turn t (negℤ z)
+turn-opposite false z = refl
+turn-opposite true z = refl
 
 pub isZero-turn : (t : Bool) (z : ℤ) → isZero (turn t z) ≡ isZero z
 isZero-turn false z = refl
