@@ -1,11 +1,12 @@
 -- Document 01, "The board and the run": the cells that the board lists, in the order of document 02, S-2.
-use Prim.Native.Nat.{ℕ, _-_, _*_, _/_, _≤_, _<_, min}
+use Prim.Native.Nat.{ℕ, _/_, _≤_, _<_, min}
 use mathlib.Core.Path.{_≡_}
 use mathlib.Core.Bool.{Bool, true}
 use mathlib.Core.List.{List, map}
 use lib.ListN.{length, getD, take, replicate}
 use Rattle.lists.specs.Table.{over}
 use Rattle.lists.specs.Marked.{count}
+use Rattle.model.specs.Step.{restOf}
 use Rattle.model.specs.Causes.{Verdict, taken, meshFieldVerdict, cellsOnly}
 use Rattle.model.specs.Answers.{said}
 use Rattle.board_order.specs.declared.Ranked.{Ranked}
@@ -17,9 +18,9 @@ use Rattle.board.specs.declared.BoardAnswer.{BoardAnswer}
 abbrev pub boardSize : ℕ
 boardSize = 8
 
--- An entry: q is m / V rounded down, the rest m − qV.
+-- An entry: q is m / V rounded down, beside its rest.
 unfoldable pub entryOf : ℕ → ℕ → ℕ → Entry
-entryOf cell volume mass = record { cell = cell; q = mass / volume; rest = mass - mass / volume * volume }
+entryOf cell volume mass = record { cell = cell; q = mass / volume; rest = restOf volume mass }
 
 abbrev pub unused : Entry
 unused = record { cell = 0; q = 0; rest = 0 }

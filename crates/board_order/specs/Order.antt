@@ -1,17 +1,18 @@
 -- Document 01, "The board and the run", and document 02, S-2: the order in which the board lists cells.
-use Prim.Native.Nat.{ℕ, zero, suc, _-_, _*_, _/_}
+use Prim.Native.Nat.{ℕ, zero, suc, _*_, _/_}
 use mathlib.Core.Bool.{Bool, cond, _&&_, _||_}
 use mathlib.Core.List.{List, [], _∷_}
 use lib.Dec.{eqb, ltb}
+use Rattle.model.specs.Step.{restOf}
 use Rattle.board_order.specs.declared.Ranked.{Ranked}
 
 -- The largest volume that can be ranked, of 32 bits: the ceilings of document 01 and of S-10 are below it.
 abbrev pub maxRanked : ℕ
 maxRanked = 4294967295
 
--- A cell as the order sees it: its entry, and the volume that its rest is a part of. q·V is at most m, so the rest is not cut off.
+-- A cell as the order sees it: its entry, and the volume that its rest is a part of.
 unfoldable pub rankedOf : ℕ → ℕ → ℕ → Ranked
-rankedOf cell volume mass = record { cell = cell; q = mass / volume; rest = mass - mass / volume * volume; volume = volume }
+rankedOf cell volume mass = record { cell = cell; q = mass / volume; rest = restOf volume mass; volume = volume }
 
 abbrev pub unranked : Ranked
 unranked = record { cell = 0; q = 0; rest = 0; volume = 0 }

@@ -58,6 +58,10 @@ pub record StepInput : Type 0 where
 unfoldable pub rounded : (volumes masses : List ℕ) → ℕ → ℕ
 rounded volumes masses c = getD masses c 0 / getD volumes c 0
 
+-- item 5: the rest of that division, m − qV, never cut off, since qV is at most m
+abbrev pub restOf : (volume mass : ℕ) → ℕ
+restOf volume mass = mass - mass / volume * volume
+
 -- what a step of document 01 works on
 abbrev pub roundedInput : Mesh → List ℕ → List ℤ → List ℕ → StepInput
 roundedInput M masses fluxes outsides = record { mesh = M; masses = masses; q = rounded (M .volumes) masses; fluxes = fluxes; outsides = outsides }

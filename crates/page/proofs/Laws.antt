@@ -20,7 +20,7 @@ use Rattle.model.proofs.Verdicts.{refused-at, both-fine, need-fine, long-fine, 
 use Rattle.model.proofs.Accepted.{field-passed, FieldPassed, few, salt-asks, field-fit, mass-small}
 use Rattle.checks.proofs.Laws.{sum-asks}
 use Rattle.text.specs.Digits.{mostDigits}
-use Rattle.page.specs.Page.{narrowPlaces, widePlaces, largest, restOf, restPlaces, massPlaces, lineBytes, pageCells, pages, cellsOn, pageBytes, qOf, pageMass}
+use Rattle.page.specs.Page.{narrowPlaces, widePlaces, largest, restAt, restPlaces, massPlaces, lineBytes, pageCells, pages, cellsOn, pageBytes, qOf, pageMass}
 use Rattle.page.specs.Fitting.{Fitting}
 use Rattle.page.specs.Answers.{verdictWith}
 
@@ -160,7 +160,7 @@ module _ (volumes masses : List ℕ) (cells : ℕ) where
         (λ i h. mass-most (page * pageCells + i) (cell-there cells page i h)))
         (mul-le-mul-right maxMass (cells-most cells page))
 
-    rest-below : (c : ℕ) → c < cells → restOf volumes masses c < getD volumes c 0
+    rest-below : (c : ℕ) → c < cells → restAt volumes masses c < getD volumes c 0
     rest-below c h = omega (arith, lt-div-mul-add {a = massIn masses c} (asks .1 c h .0), asks .1 c h .0)
 
     pub figures-fit : Fitting (restPlaces cells volumes) volumes masses cells

@@ -20,7 +20,7 @@ use Rattle.text.specs.Lines.{Puts, column, space, newline}
 use Rattle.text.specs.Reading.{numberIn, lineAt}
 use Rattle.text.proofs.Lines.{puts-all}
 use Rattle.text.proofs.Columns.{column-length, column-back, pieces-length, piece-at, after-pieces}
-use Rattle.page.specs.Page.{cellPlaces, qPlaces, restPlaces, massPlaces, lineBytes, pageCells, cellLine, massLine, pages, cellsOn, pageBytes, qOf, restOf, lineOf, pageMass, pageText}
+use Rattle.page.specs.Page.{cellPlaces, qPlaces, restPlaces, massPlaces, lineBytes, pageCells, cellLine, massLine, pages, cellsOn, pageBytes, qOf, restAt, lineOf, pageMass, pageText}
 use Rattle.page.specs.Fitting.{Fitting}
 use Rattle.page.specs.Reading.{cellRead, qRead, restRead, massRead, ReadsBack}
 use Rattle.page.specs.Answers.{pageVerdict, PageIs}
@@ -112,7 +112,7 @@ module _ (places : ℕ) (volumes masses : List ℕ) (cells : ℕ) (f : Fitting p
         (q-in-line places _ _ _ (f .some-places) (f .few-places) (f .cell-fits _ l) (f .q-fits _ l) (f .rest-fits _ l)) in
         let r : (i : ℕ) → i < cellsOn cells page → numberIn
         (lineAt (lineBytes places) i (pageText volumes masses places cells page ++ more))
-        (cellPlaces + 1 + qPlaces + 1) places ≡ restOf volumes masses (page * pageCells + i) =
+        (cellPlaces + 1 + qPlaces + 1) places ≡ restAt volumes masses (page * pageCells + i) =
         λ i h. let l = cell-there cells page i h in rw (line-there i h)
         (rest-in-line places _ _ _ (f .some-places) (f .few-places) (f .cell-fits _ l) (f .q-fits _ l) (f .rest-fits _ l)) in
         record {

@@ -6,7 +6,7 @@ use lib.Dec.{ltb}
 use Rattle.lists.specs.Fold.{sum}
 use Rattle.model.specs.Calls.{massIn}
 use Rattle.text.specs.Lines.{column, pieces, newline}
-pub use Rattle.page_lines.specs.Lines.{cellPlaces, qPlaces, narrowPlaces, widePlaces, largest, massPlaces, lineBytes, pageCells, qOf, restOf}
+pub use Rattle.page_lines.specs.Lines.{cellPlaces, qPlaces, narrowPlaces, widePlaces, largest, massPlaces, lineBytes, pageCells, qOf, restAt}
 unfoldable pub use Rattle.page_lines.specs.Lines.{restPlaces, cellLine, cellsOn, lineOf, lineIf}
 
 -- The line of the mass is as long as a cell's.

@@ -5,7 +5,7 @@ use mathlib.Core.Path.{_≡_}
 use lib.ListN.{getD}
 use Rattle.model.specs.Calls.{massIn}
 use Rattle.text.specs.Reading.{numberIn, lineAt}
-use Rattle.page.specs.Page.{cellPlaces, qPlaces, massPlaces, lineBytes, pageCells, cellsOn, qOf, restOf, pageMass}
+use Rattle.page.specs.Page.{cellPlaces, qPlaces, massPlaces, lineBytes, pageCells, cellsOn, qOf, restAt, pageMass}
 
 module _ (places : ℕ) (bytes : List ℕ) where
   -- line i of a page, from 0; the mass stands on the line after its cells
@@ -28,7 +28,7 @@ module _ (places : ℕ) (bytes : List ℕ) where
 pub record ReadsBack (places : ℕ) (volumes masses : List ℕ) (cells page : ℕ) (bytes : List ℕ) : Type 0 where
   pub cell-back : (i : ℕ) → i < cellsOn cells page → cellRead places bytes i ≡ page * pageCells + i
   pub q-back : (i : ℕ) → i < cellsOn cells page → qRead places bytes i ≡ qOf volumes masses (page * pageCells + i)
-  pub rest-back : (i : ℕ) → i < cellsOn cells page → restRead places bytes i ≡ restOf volumes masses (page * pageCells + i)
+  pub rest-back : (i : ℕ) → i < cellsOn cells page → restRead places bytes i ≡ restAt volumes masses (page * pageCells + i)
   pub mass-back : (i : ℕ) → i < cellsOn cells page
       → qRead places bytes i * getD volumes (page * pageCells + i) 0 + restRead places bytes i ≡ massIn masses (page * pageCells + i)
   pub page-mass-back : massRead places bytes (cellsOn cells page) ≡ pageMass volumes masses cells page

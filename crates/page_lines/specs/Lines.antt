@@ -6,6 +6,7 @@ use lib.Dec.{leb}
 use lib.ListN.{getD}
 use Rattle.lists.specs.Fold.{greatest}
 use Rattle.model.specs.Mesh.{oldCeiling}
+use Rattle.model.specs.Step.{restOf}
 use Rattle.model.specs.Calls.{massIn}
 use Rattle.text.specs.Lines.{column, space, newline}
 
@@ -47,15 +48,15 @@ unfoldable pub cellsOn : ℕ → ℕ → ℕ
 cellsOn cells page = min pageCells (cells - page * pageCells)
 
 module _ (volumes masses : List ℕ) where
-  -- q is m / V rounded down, the rest m − qV, never cut off, since qV is at most m
+  -- q, m / V rounded down, and the rest
   abbrev pub qOf : ℕ → ℕ
   qOf c = massIn masses c / getD volumes c 0
 
-  abbrev pub restOf : ℕ → ℕ
-  restOf c = massIn masses c - qOf c * getD volumes c 0
+  abbrev pub restAt : ℕ → ℕ
+  restAt c = restOf (getD volumes c 0) (massIn masses c)
 
   unfoldable pub lineOf : ℕ → ℕ → List ℕ
-  lineOf places c = cellLine places c (qOf c) (restOf c)
+  lineOf places c = cellLine places c (qOf c) (restAt c)
 
   -- Document 02, S-14: of a cell that the reader may not see there is no line, not even a blank one
   unfoldable pub lineIf : (visible : ℕ → Bool) → ℕ → ℕ → List ℕ
