@@ -1,5 +1,6 @@
 // What calls answer, and the numbers that document 01 sets.
 pub mod needs;
+pub mod positions;
 
 ghost use mathlib.Core.Path.{_≡_};
 ghost use Prim.Native.Nat.{_≤_};
