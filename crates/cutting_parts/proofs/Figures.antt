@@ -4,13 +4,11 @@ use mathlib.Core.Path.{_≡_, refl}
 use mathlib.Core.List.{List, [], _∷_}
 use lib.IntN.{ℤ, pos, negsuc}
 use lib.ListN.{replicate}
-use Rattle.lists.specs.Fold.{sum}
-use Rattle.lists.specs.Table.{table, over}
-use Rattle.model.specs.Mesh.{rim, entering, leaving, incoming, outgoing, updated}
-use Rattle.model.specs.Step.{raised, rounded, beyond, upwind, carried, inMass, outMass, releasedMass}
-use Rattle.model.specs.Causes.{fine, refused, accepted, _andThen_, need, each, countsWithin, counts, meshTables, volumeGood, endsGood, spacingGood, meshValues, fieldTable, saltGood, fieldValues, raisedGood, raisedValues, stepTables, outsideGood, fluxGood, balanceGood, outflowGood, stepValues, verdict}
-use Rattle.model.specs.Calls.{stepAnswer, nextTable, movedTable}
+use Rattle.model.specs.Mesh.{rim}
+use Rattle.model.specs.Step.{raised}
+use Rattle.model.specs.Causes.{fine, refused, accepted, each, counts}
 use Rattle.model.proofs.Figures.{channel, channelCall}
+use Rattle.model.proofs.Unfolded.{the-step}
 use Rattle.lists.specs.Marked.{count, old, picked}
 use Rattle.cutting_parts.specs.Cut.{Tables, tablesOf, Lagoon, lagoonOf, partTables, partOf}
 use Rattle.cutting_parts.specs.Refusals.{labelGood, partGood, labelValues, cutTables, cutVerdict}
@@ -47,11 +45,7 @@ abbrev work : List ℕ
 work = replicate 16 0
 
 everything : Unit {0}
-unfolding cutVerdict cutTables labelValues labelGood partGood count old picked stepAnswer nextTable movedTable over table sum entering leaving
-    incoming outgoing updated
-    raised rounded beyond upwind carried inMass outMass releasedMass _andThen_ need each countsWithin counts meshTables volumeGood endsGood spacingGood
-    meshValues fieldTable saltGood
-    fieldValues raisedGood raisedValues stepTables outsideGood fluxGood balanceGood outflowGood stepValues verdict
+unfolding the-step cutVerdict cutTables labelValues labelGood partGood count old picked
 everything = tt
 
 pub record CutFigures : Type 0 where

@@ -3,21 +3,15 @@ use Prim.Native.Nat.{ℕ}
 use mathlib.Core.Path.{_≡_, refl}
 use mathlib.Core.List.{List, [], _∷_}
 use lib.IntN.{ℤ, pos, negsuc}
-use Rattle.lists.specs.Fold.{sum, least, greatest}
-use Rattle.lists.specs.Table.{table, over}
-use Rattle.model.specs.Mesh.{entering, leaving, incoming, outgoing, updated}
-use Rattle.model.specs.Step.{rounded, raised, beyond, upwind, carried, adjacent, lo, hi}
-use Rattle.model.specs.Causes.{Verdict, Call, fine, refused, _andThen_, need, each, countsWithin, counts, meshTables, volumeGood, endsGood, spacingGood, meshValues, fieldTable, saltGood, fieldValues, raisedGood, raisedValues, outsideGood, fluxGood, balanceGood, outflowGood, stepValues}
+use Rattle.model.specs.Causes.{Call, fine, refused}
 use Rattle.model.specs.Claims.{claimOf, claimGood, boundsGood, amountsVerdict, claimTables, unworkedVerdict, claimVerdict}
 use Rattle.model.specs.Calls.{judged, nextTable}
 use Rattle.model.proofs.Figures.{channel}
+use Rattle.model.proofs.Unfolded.{the-step}
 
 -- a name for all that a figure computes through
 everything : Unit {0}
-unfolding nextTable over claimVerdict unworkedVerdict claimTables amountsVerdict claimGood boundsGood counts countsWithin meshTables fieldTable
-    meshValues fieldValues saltGood raised raisedGood raisedValues stepValues volumeGood endsGood spacingGood outsideGood fluxGood balanceGood outflowGood need
-    each
-    _andThen_ table sum least greatest entering leaving incoming outgoing updated rounded beyond upwind carried adjacent lo hi
+unfolding the-step claimVerdict unworkedVerdict claimTables amountsVerdict claimGood boundsGood
 everything = tt
 
 abbrev field : List ℕ

@@ -8,26 +8,16 @@ use native.Mathlib.Nat.{add-zero}
 use native.Mathlib.Omega.{arith}
 use lib.IntN.{ℤ, pos, negsuc}
 use lib.ListN.{replicate}
-use Rattle.lists.specs.Fold.{sum, least, greatest}
 use Rattle.lists.specs.Table.{table, over}
 use Rattle.signed.specs.Sign.{isNegative}
-use Rattle.model.specs.Mesh.{Mesh, meshOf, second, rim, ceiling, oldCeiling, entering, leaving, incoming, outgoing, updated}
-use Rattle.model.specs.Step.{StepInput, rounded, roundedInput, raised, releasedMass, flux, outside, inMass, outMass, next, moved, concentration, beyond, upwind, downwind, carried, low, upwindShare, correction, smooths, keptBy, lowConcentration, kept, adjacent, lo, hi, maxGain, maxLoss, receiver, giver, limitedBy, limited, portion}
-use Rattle.model.specs.Causes.{Call, release, inputOf, fine, refused, _andThen_, need, each, countsWithin, counts, meshTables, volumeGood, endsGood, spacingGood, meshValues, fieldTable, saltGood, fieldValues, fieldVerdict, raisedGood, raisedValues, stepTables, outsideGood, fluxGood, balanceGood, outflowGood, stepValues, verdict}
-use Rattle.model.specs.Calls.{massIn, corrected, stepOnTables, nextTable, afterAll, totalIn, totalOut, totalReleased}
+use Rattle.model.specs.Mesh.{Mesh, meshOf, second, rim, ceiling, oldCeiling}
+use Rattle.model.specs.Step.{StepInput, rounded, roundedInput, raised, releasedMass, flux, outside, outMass, next, moved, concentration, upwind, low, correction, lowConcentration, kept, lo, hi, maxLoss, giver, limited}
+use Rattle.model.specs.Causes.{Call, release, inputOf, fine, refused, each, counts, meshValues, fieldVerdict, verdict}
+use Rattle.model.specs.Calls.{massIn, corrected, stepOnTables, afterAll, totalIn, totalReleased}
 use Rattle.model.proofs.Accepted.{ready}
 use Rattle.model.proofs.Raised.{raised-at}
 use Rattle.model.proofs.Uniform.{uniform, no-faces}
-
--- a name for all that a figure computes through: to unfold it is to unfold what its `unfolding` line names
-everything : Unit {0}
-unfolding afterAll totalIn totalOut totalReleased stepOnTables nextTable inMass outMass over verdict counts countsWithin meshTables fieldTable stepTables
-    meshValues fieldValues saltGood raised raisedGood raisedValues releasedMass stepValues volumeGood endsGood spacingGood outsideGood fluxGood balanceGood
-    outflowGood need each
-    _andThen_ table sum least greatest entering leaving incoming outgoing updated next moved rounded beyond upwind downwind carried
-    low upwindShare correction smooths keptBy lowConcentration kept adjacent lo hi maxGain maxLoss receiver giver limitedBy limited portion
-    fieldVerdict
-everything = tt
+use Rattle.model.proofs.Unfolded.{the-step}
 
 -- "The board and the run", the channel session: its mesh, the call of its two steps, and what that works on
 abbrev pub channel : Mesh
@@ -129,67 +119,67 @@ pub record Figures : Type 0 where
   pub alone : (v m : ℕ) → next (inputOf (lake v) (m ∷ []) lakeCall) 0 ≡ m
 
 channel-1-accepted-is : verdict channel (100000 ∷ 0 ∷ 0 ∷ []) channelCall ≡ fine
-unfolding everything
+unfolding the-step
 channel-1-accepted-is = refl
 
 channel-1-is : table 3 (next (channelStep (100000 ∷ 0 ∷ 0 ∷ []))) ≡ 100099 ∷ 49901 ∷ 0 ∷ []
-unfolding everything
+unfolding the-step
 channel-1-is = refl
 
 channel-1-moved-is : table 4 (moved (channelStep (100000 ∷ 0 ∷ 0 ∷ []))) ≡ negsuc 49999 ∷ pos 49901 ∷ pos 0 ∷ pos 0 ∷ []
-unfolding everything
+unfolding the-step
 channel-1-moved-is = refl
 
 channel-1-correction-is : correction (channelStep (100000 ∷ 0 ∷ 0 ∷ [])) 1 ≡ negsuc 12499
-unfolding everything
+unfolding the-step
 channel-1-correction-is = refl
 
 channel-1-cut-is : limited (channelStep (100000 ∷ 0 ∷ 0 ∷ [])) 1 ≡ negsuc 98
-unfolding everything
+unfolding the-step
 channel-1-cut-is = refl
 
 channel-2-accepted-is : verdict channel (100099 ∷ 49901 ∷ 0 ∷ []) channelCall ≡ fine
-unfolding everything
+unfolding the-step
 channel-2-accepted-is = refl
 
 channel-2-is : table 3 (next (channelStep (100099 ∷ 49901 ∷ 0 ∷ []))) ≡ 100099 ∷ 81188 ∷ 18713 ∷ []
-unfolding everything
+unfolding the-step
 channel-2-is = refl
 
 exchange-accepted-is : verdict pair (93 ∷ 15 ∷ []) exchangeCall ≡ fine
-unfolding everything
+unfolding the-step
 exchange-accepted-is = refl
 
 exchange-is : table 2 (next (inputOf pair (93 ∷ 15 ∷ []) exchangeCall)) ≡ 13 ∷ 95 ∷ []
-unfolding everything
+unfolding the-step
 exchange-is = refl
 
 correction-none-is : correction (between 3 0 (pos 1) 128 2) 0 ≡ pos 0
-unfolding everything
+unfolding the-step
 correction-none-is = refl
 
 correction-downwind-is : correction (between 1000 0 (pos 100) 1 100) 0 ≡ pos 49609
-unfolding everything
+unfolding the-step
 correction-downwind-is = refl
 
 fullest-is : fieldVerdict (lake 4095) (4095004094 ∷ []) ≡ fine
-unfolding everything
+unfolding the-step
 fullest-is = refl
 
 too-full-is : fieldVerdict (lake 4095) (4095004095 ∷ []) ≡ refused 6 0
-unfolding everything
+unfolding the-step
 too-full-is = refl
 
 outflow-100-is : verdict strait (0 ∷ []) (through 99) ≡ fine
-unfolding everything
+unfolding the-step
 outflow-100-is = refl
 
 outflow-101-is : verdict strait (0 ∷ []) (through 100) ≡ refused 10 0
-unfolding everything
+unfolding the-step
 outflow-101-is = refl
 
 alone-accepted-is : verdict (lake 100) (99 ∷ []) lakeCall ≡ fine
-unfolding everything
+unfolding the-step
 alone-accepted-is = refl
 
 pub figures : Figures
@@ -302,7 +292,7 @@ pub record KeptFigures : Type 0 where
   pub channel-kept : kept (channelStep (100000 ∷ 0 ∷ 0 ∷ [])) 1 ≡ negsuc 12499
 
 pub kept-figures : KeptFigures
-unfolding everything
+unfolding the-step
 kept-figures = record {
   cancelled-accepted = refl;
   cancelled-low = refl;
@@ -399,7 +389,7 @@ pub record ReleaseFigures : Type 0 where
   pub too-full-before : verdict (lake 4095) (4095004095 ∷ []) (lakeOutfall 1) ≡ refused 6 0
 
 pub release-figures : ReleaseFigures
-unfolding everything
+unfolding the-step
 release-figures = record {
   outfall-accepted = refl;
   outfall-next = refl;
@@ -416,35 +406,35 @@ release-figures = record {
 -- Besides the lines marked P.
 -- the second cell upwind: U −100, K 100, s 1, so t is 255; the correction runs with the water, toward cell 0
 second-upwind : correction (between 1000 0 (negsuc 99) 1 100) 0 ≡ negsuc 49608
-unfolding everything
+unfolding the-step
 second-upwind = refl
 
 -- a still face does not widen the bounds
 still-face : (lo (between 1000 0 (pos 0) 1 100) 0 ≡ 1000) × (hi (between 1000 0 (pos 0) 1 100) 1 ≡ 0)
-unfolding everything
+unfolding the-step
 still-face = (refl, refl)
 
 -- a negative quotient is rounded toward zero: U 1, K 2, s 128, d 3 gives 384 / 512, d −3 gives −384 / 512
 toward-zero : (correction (between 0 3 (pos 1) 128 2) 0 ≡ pos 0) × (correction (between 3 0 (pos 1) 128 2) 0 ≡ pos 0)
-unfolding everything
+unfolding the-step
 toward-zero = (refl, refl)
 
 -- the channel session as a list of two calls
 session : afterAll (stepOnTables corrected channel) (100000 ∷ 0 ∷ 0 ∷ []) (channelCall ∷ channelCall ∷ []) ≡ 100099 ∷ 81188 ∷ 18713 ∷ []
-unfolding everything
+unfolding the-step
 session = refl
 
 session-in : totalIn (stepOnTables corrected channel) (100000 ∷ 0 ∷ 0 ∷ []) (channelCall ∷ channelCall ∷ []) ≡ 100000
-unfolding everything
+unfolding the-step
 session-in = refl
 
 -- a release of 100000 into fresh water, one that is refused by 18, and the channel's own step
 session-released : totalReleased (stepOnTables corrected channel) (0 ∷ 0 ∷ 0 ∷ []) (channelOutfall ∷ tooMuch ∷ channelCall ∷ []) ≡ 100000
-unfolding everything
+unfolding the-step
 session-released = refl
 
 session-after : afterAll (stepOnTables corrected channel) (0 ∷ 0 ∷ 0 ∷ []) (channelOutfall ∷ tooMuch ∷ channelCall ∷ []) ≡ 100099 ∷ 81188 ∷ 18713 ∷ []
-unfolding everything
+unfolding the-step
 session-after = refl
 
 -- all V 7, all m 30, outside 4, on the channel
@@ -460,7 +450,7 @@ all-30 : table 3 (next (roundedInput
     })
     (30 ∷ 30 ∷ 30 ∷ []) (negsuc 4 ∷ pos 5 ∷ pos 5 ∷ pos 5 ∷ []) (4 ∷ 0 ∷ 0 ∷ 0 ∷ [])))
     ≡ 30 ∷ 30 ∷ 30 ∷ []
-unfolding everything
+unfolding the-step
 all-30 = refl
 
 -- Document 02, S-10: one cell of V v with two faces over the rim; two cells of V 65,535 and two faces from 0 to 1, s 255 and 128, K 65,535 or one more
@@ -508,7 +498,7 @@ pub record LargeFigures : Type 0 where
   pub large-moved : table 2 (moved (inputOf (largePair 65535) largeMasses largeCall)) ≡ pos 6916622967 ∷ negsuc 6916622965 ∷ []
 
 pub large-figures : LargeFigures
-unfolding everything
+unfolding the-step
 large-figures = record {
   volume-last = refl;
   volume-beyond = refl;

@@ -17,5 +17,6 @@ pub mod Lists
 pub mod Uniform
 pub mod Sizes
 pub mod Claims
+pub mod Unfolded
 pub mod Figures
 pub mod Parts

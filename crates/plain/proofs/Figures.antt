@@ -4,22 +4,18 @@ use mathlib.Core.Path.{_≡_, refl}
 use mathlib.Core.List.{List, [], _∷_}
 use lib.IntN.{pos, negsuc}
 use lib.ListN.{replicate}
-use Rattle.lists.specs.Fold.{sum}
-use Rattle.lists.specs.Table.{table, over}
-use Rattle.model.specs.Mesh.{Mesh, meshOf, rim, entering, leaving, incoming, outgoing, updated}
-use Rattle.model.specs.Step.{raised, releasedMass, inMass, outMass, rounded, beyond, upwind, carried, low}
-use Rattle.model.specs.Causes.{Call, callOf, _andThen_, need, each, countsWithin, counts, meshTables, volumeGood, endsGood, spacingGood, meshValues, fieldTable, saltGood, fieldValues, raisedGood, raisedValues, stepTables, outsideGood, fluxGood, balanceGood, outflowGood, stepValues, verdict}
-use Rattle.model.specs.Calls.{nextTable, stepOnTables, afterAll}
+use Rattle.model.specs.Mesh.{Mesh, meshOf, rim}
+use Rattle.model.specs.Step.{rounded}
+use Rattle.model.specs.Causes.{Call, callOf, each}
+use Rattle.model.specs.Calls.{afterAll}
 use Rattle.model.proofs.Figures.{channel, channelCall}
+use Rattle.model.proofs.Unfolded.{the-step}
 use Rattle.plain.specs.Unrounded.{product, eachTimes, Fractions, wholeMasses, finer, unroundedStep}
 use Rattle.plain.specs.Error.{acceptedOf, unroundedAfter, PlainCall, plainComes}
 
 -- a name for all that a figure computes through
 computed : Unit {0}
-unfolding afterAll acceptedOf unroundedAfter unroundedStep finer eachTimes product stepOnTables nextTable inMass outMass releasedMass over verdict
-    counts countsWithin meshTables fieldTable stepTables meshValues fieldValues saltGood raised raisedGood raisedValues stepValues volumeGood
-    endsGood spacingGood outsideGood fluxGood balanceGood outflowGood need each _andThen_ table sum entering leaving incoming outgoing updated
-    rounded beyond upwind carried low
+unfolding the-step acceptedOf unroundedAfter unroundedStep finer eachTimes product
 computed = tt
 
 -- calls of a list, with 9 past the field in their tables of masses

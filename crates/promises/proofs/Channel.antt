@@ -5,13 +5,13 @@ use mathlib.Core.Path.{_≡_, refl, sym, subst}
 use mathlib.Core.List.{List, [], _∷_}
 use lib.IntN.{pos, negsuc}
 use lib.ListN.{take, replicate}
-use Rattle.lists.specs.Fold.{sum, least, greatest}
 use Rattle.lists.specs.Table.{table, over}
-use Rattle.model.specs.Mesh.{ceiling, oldCeiling, entering, leaving, incoming, outgoing, updated}
-use Rattle.model.specs.Step.{raised, releasedMass, inMass, outMass, next, moved, rounded, beyond, upwind, downwind, carried, low, upwindShare, correction, smooths, keptBy, lowConcentration, kept, adjacent, lo, hi, maxGain, maxLoss, receiver, giver, limitedBy, limited, portion}
-use Rattle.model.specs.Causes.{fine, _andThen_, Call, meshVerdict, fieldVerdict, need, each, countsWithin, counts, meshTables, volumeGood, endsGood, spacingGood, meshValues, fieldTable, saltGood, fieldValues, raisedGood, raisedValues, meshFieldVerdict, stepTables, outsideGood, fluxGood, balanceGood, outflowGood, stepValues, verdict, callOf}
-use Rattle.model.specs.Calls.{lentMasses, crossingOf, corrected, stepAnswer, nextTable, movedTable, workTable, afterAll, totalIn}
+use Rattle.model.specs.Mesh.{ceiling, oldCeiling}
+use Rattle.model.specs.Step.{next, moved}
+use Rattle.model.specs.Causes.{fine, Call, meshVerdict, fieldVerdict, each, meshValues, callOf}
+use Rattle.model.specs.Calls.{lentMasses, crossingOf, corrected, afterAll, totalIn}
 use Rattle.model.proofs.Figures.{channel}
+use Rattle.model.proofs.Unfolded.{the-step}
 use Rattle.record_bits.specs.Field.{bitAt, bitsAt}
 use Rattle.record_bits.specs.Layout.{spelled, bitsOf, widthOf, bytesFor, octet, packed, rows}
 use Rattle.record_sections.specs.Sections.{those, row, fieldsOf, recordOf}
@@ -31,18 +31,10 @@ use Rattle.promises.proofs.Held.{mesh-holds, field-holds}
 
 -- the definitions that the figures compute
 figures : Unit {0}
-unfolding stepAnswer nextTable movedTable workTable inMass outMass over verdict meshVerdict fieldVerdict counts countsWithin meshTables fieldTable stepTables
-    meshValues fieldValues saltGood raised releasedMass
-    raisedGood raisedValues stepValues volumeGood
-    endsGood spacingGood outsideGood fluxGood balanceGood outflowGood need each _andThen_ table sum least greatest entering leaving
-    incoming outgoing updated next moved
-    rounded beyond upwind downwind carried low upwindShare correction smooths keptBy lowConcentration kept adjacent lo hi maxGain
-    maxLoss receiver giver limitedBy limited portion bitAt bitsAt spelled
-    bitsOf widthOf bytesFor octet packed rows those row fieldsOf recordOf valueBits massBits releaseBits meshRecord fieldRecord meshLength fieldLength
-    stepLength volumesIn firstsIn secondsIn sharesIn reachesIn massesIn
-    fluxesIn outsidesIn releasesIn zeroBitGood minusZero meshBitGood stepBitGood meshHeadVerdict fieldHeadVerdict stepHeadVerdict meshBodyVerdict
-    fieldBodyVerdict stepBodyVerdict
-    fieldRead stepRecordFound meshFieldVerdict meshRecordFound meshJudged fieldJudged stepJudged blank
+unfolding the-step bitAt bitsAt spelled bitsOf widthOf bytesFor octet packed rows those row fieldsOf recordOf valueBits massBits releaseBits meshRecord
+    fieldRecord meshLength fieldLength stepLength volumesIn firstsIn secondsIn sharesIn reachesIn massesIn fluxesIn outsidesIn releasesIn zeroBitGood
+    minusZero meshBitGood stepBitGood meshHeadVerdict fieldHeadVerdict stepHeadVerdict meshBodyVerdict fieldBodyVerdict stepBodyVerdict fieldRead
+    stepRecordFound meshRecordFound meshJudged fieldJudged stepJudged blank
 figures = tt
 
 -- the fields of the session

@@ -6,13 +6,13 @@ use mathlib.Core.List.{List, [], _∷_}
 use native.Mathlib.Omega.{arith}
 use lib.Dec.{eqb}
 use lib.IntN.{pos, negsuc}
-use Rattle.lists.specs.Fold.{sum, least, greatest}
-use Rattle.lists.specs.Table.{table, over}
+use Rattle.lists.specs.Table.{table}
 use Rattle.lists.specs.Renumbering.{Renumbering, carriedAlong}
-use Rattle.model.specs.Mesh.{Mesh, rim, entering, leaving, incoming, outgoing, updated}
-use Rattle.model.specs.Step.{raised, rounded, beyond, upwind, downwind, carried, low, upwindShare, correction, smooths, keptBy, lowConcentration, kept, adjacent, lo, hi, maxGain, maxLoss, receiver, giver, limitedBy, limited, portion, moved, next}
+use Rattle.model.specs.Mesh.{Mesh, rim}
+use Rattle.model.specs.Step.{moved, next}
 use Rattle.model.specs.Causes.{Call, inputOf}
 use Rattle.model.proofs.Figures.{channel, channelCall}
+use Rattle.model.proofs.Unfolded.{the-step}
 use Rattle.renumbered.specs.Renumbered.{renumberedMesh, renumberedField, renumberedCall}
 
 -- cell c becomes cell 2 − c, face f becomes face 3 − f
@@ -50,8 +50,7 @@ abbrev call : Call
 call = renumberedCall channel from-the-end faces-too turned channelCall (channelCall .nexts) (channelCall .moveds) (channelCall .work)
 
 everything : Unit {0}
-unfolding carriedAlong table over sum least greatest entering leaving incoming outgoing updated raised rounded beyond upwind downwind carried low
-    upwindShare correction smooths keptBy lowConcentration kept adjacent lo hi maxGain maxLoss receiver giver limitedBy limited portion moved next
+unfolding the-step carriedAlong
 everything = tt
 
 pub record NewFigures : Type 0 where

@@ -9,14 +9,14 @@ use lib.IntN.{ℤ, pos, negsuc}
 use native.Mathlib.Omega.{arith}
 use lib.ListN.{length, getD, take, drop, length-append, length-drop, length-replicate}
 use lib.Seq.{drop-append-seam}
-use Rattle.lists.specs.Fold.{sum, least, greatest}
+use Rattle.lists.specs.Fold.{sum}
 use Rattle.lists.specs.Table.{table, over}
 use Rattle.lists.proofs.Tables.{length-table}
-use Rattle.model.specs.Mesh.{Mesh, runCells, runFaces, rim, entering, leaving, incoming, outgoing, updated, total, ceiling}
-use Rattle.model.specs.Step.{StepInput, portion, receiver, giver, limitedBy, rounded, beyond, upwind, downwind, carried, low, upwindShare, correction, smooths, keptBy, lowConcentration, kept, adjacent, lo, hi, maxGain}
-use Rattle.model.specs.Step.{maxLoss, limited, moved, next, inMass, outMass, raised, releasedMass}
-use Rattle.model.specs.Causes.{Outcome, accepted, Verdict, fine, inTurn, long, Call, inputOf, workEntries, _andThen_, need, each, countsWithin, counts, meshTables, volumeGood, endsGood, spacingGood, meshValues}
-use Rattle.model.specs.Causes.{fieldTable, saltGood, fieldValues, meshFieldVerdict, stepTables, raisedGood, raisedValues, outsideGood, fluxGood, balanceGood, outflowGood, stepValues, verdict}
+use Rattle.model.specs.Mesh.{Mesh, runCells, runFaces, rim, total, ceiling}
+use Rattle.model.specs.Step.{StepInput}
+use Rattle.model.specs.Step.{next, inMass, outMass, releasedMass}
+use Rattle.model.specs.Causes.{Outcome, accepted, Verdict, fine, inTurn, long, Call, inputOf, workEntries, _andThen_, need, each, counts, meshTables, meshValues}
+use Rattle.model.specs.Causes.{fieldTable, fieldValues, stepTables, raisedValues, stepValues, verdict}
 use Rattle.model.proofs.Figures.{channel, largeStrait}
 use Rattle.record_bits.specs.Field.{bitAt, bitsAt}
 use Rattle.record_bits.specs.Layout.{bytesFor}
@@ -34,6 +34,7 @@ use Rattle.board.specs.Board.{entryOf, entryAt, rankedAt, cellBefore, listedOf}
 use Rattle.taking_mesh.specs.MeshTaking.{meshRecordFound, meshJudged}
 use Rattle.taking.specs.Taking.{fieldJudged, stepRecordFound, stepJudged, stepIn, ownTables, blank, printedOf, massesAfter}
 use Rattle.model.specs.declared.Printed.{Printed}
+use Rattle.model.proofs.Unfolded.{of-sums, of-faces, of-stages, of-causes}
 use Rattle.text.specs.Digits.{digits}
 use Rattle.text.specs.Lines.{word, mark}
 use Rattle.run_intake.specs.Intake.{stillNeeded}
@@ -170,27 +171,6 @@ unfolding verdict _andThen_
 verdict-fine M field call c t f k m s r w = rw (c, t, f, k, m, s, r, w)
 
 -- names for all that is computed through: to unfold one is to unfold what it names
-of-sums : Unit {0}
-unfolding sum least greatest table over
-of-sums = tt
-
-of-faces : Unit {0}
-unfolding entering leaving incoming outgoing updated total
-of-faces = tt
-
-of-step : Unit {0}
-unfolding portion receiver giver limitedBy rounded beyond upwind downwind carried low upwindShare correction smooths keptBy
-    lowConcentration kept adjacent lo hi maxGain maxLoss limited moved next inMass outMass raised releasedMass
-of-step = tt
-
-of-causes : Unit {0}
-unfolding _andThen_ need each countsWithin counts meshTables volumeGood endsGood spacingGood meshValues fieldTable saltGood fieldValues meshFieldVerdict
-of-causes = tt
-
-of-step-causes : Unit {0}
-unfolding stepTables raisedGood raisedValues outsideGood fluxGood balanceGood outflowGood stepValues verdict
-of-step-causes = tt
-
 of-bits : Unit {0}
 unfolding bitAt bitsAt bytesFor those valueBits massBits releaseBits meshLength fieldLength stepLength
 of-bits = tt
@@ -221,7 +201,7 @@ unfolding recordAt boardLines boardPrinted stepsPrinted fieldPrinted printed
 of-run = tt
 
 everything : Unit {0}
-unfolding of-sums of-faces of-step of-causes of-step-causes of-bits of-values of-reading of-board of-taking of-lines of-run
+unfolding of-sums of-faces of-stages of-causes of-bits of-values of-reading of-board of-taking of-lines of-run
 everything = tt
 
 -- three cells of V 100; faces 0 to rim, 0 to 1, 1 to 2, 2 to rim; s 128, K 100
