@@ -9,9 +9,9 @@ use borrow.Author.Tests.{leb-true}
 use Rattle.model.specs.Mesh.{Mesh, ceiling}
 use Rattle.model.specs.Causes.{Verdict, fine, _andThen_, each, Call, long, counts, meshTables, meshValues, outsideGood, fluxGood, bytesLong, waterOf}
 use Rattle.model.proofs.Verdicts.{both-fine, need-fine, past, andThen-assoc}
-use Rattle.record_heads.specs.Layouts.{stepLength}
-use Rattle.record_heads.specs.declared.Width.{Width}
-use Rattle.record_heads.specs.declared.Width.the-variants.{Narrow, Wide}
+use Rattle.record_layouts.specs.Layouts.{stepLength}
+use Rattle.record_layouts.specs.declared.Width.{Width}
+use Rattle.record_layouts.specs.declared.Width.the-variants.{Narrow, Wide}
 use Rattle.record_causes.specs.Verdicts.{mostOf, releasesFit, stepWriteVerdict}
 
 -- the ceiling of a width is within that of the calls

@@ -9,9 +9,9 @@ use lib.ListN.{length, getD}
 use lib.IntN.{ℤ}
 use Rattle.model.specs.Mesh.{Mesh, ceiling, oldCeiling}
 use Rattle.model.specs.Causes.{Verdict, _andThen_, each, long, bytesLong, waterOf, counts, meshTables, meshValues, fieldTable, fieldValues, outsideGood, fluxGood}
-use Rattle.record_heads.specs.Layouts.{meshKind, fieldKind, releaseBits, meshLength, fieldLength, stepLength}
-use Rattle.record_heads.specs.declared.Width.{Width}
-use Rattle.record_heads.specs.declared.Width.the-variants.{Narrow, Wide}
+use Rattle.record_layouts.specs.Layouts.{meshKind, fieldKind, releaseBits, meshLength, fieldLength, stepLength}
+use Rattle.record_layouts.specs.declared.Width.{Width}
+use Rattle.record_layouts.specs.declared.Width.the-variants.{Narrow, Wide}
 
 -- S-6, 18 of a writer: a release that its field holds, in kind 3 none but 0. It is lent no masses and does not judge the raised q.
 abbrev pub releaseFits : (kind r : ℕ) → Bool

@@ -17,16 +17,11 @@ use Rattle.model.specs.declared.Answer.the-variants.{Done}
 use Rattle.model.proofs.Verdicts.{both-fine, need-fine, passes}
 use Rattle.record_bits.specs.Field.{bitsAt}
 use Rattle.record_bits.specs.Layout.{bytesFor}
-use Rattle.record_sections.proofs.Columns.{those-le}
-use Rattle.record_heads.specs.Layouts.{meshKind, fieldKind, isRim, rimFaces}
-use Rattle.record_heads.specs.declared.Width.{Width}
+use Rattle.record_layouts.specs.Layouts.{fieldKind}
+use Rattle.record_layouts.specs.declared.Width.{Width}
 use Rattle.record_heads.specs.declared.MeshLength.{MeshLength}
 use Rattle.record_reader.specs.Numbers.{widest, furthest, numberAt, spelledNumber}
 use Rattle.record_heads.specs.Heads.{kindIn, cellsIn, facesIn, stepFacesIn, isMeshKind, isStepKind, meshHeadVerdict, fieldHeadVerdict, stepHeadVerdict, bytesOf}
-
--- no more faces are at the rim than there are
-pub rim-le : (seconds : List ℕ) (n : ℕ) → rimFaces seconds n ≤ n
-rim-le seconds n = those-le (isRim seconds) n
 
 -- a field that the record holds is read as its bits spell
 pub held : (bs : List ℕ) (bit width : ℕ) → width ≤ widest → bit ≤ furthest → bytesFor (bit + width) ≤ length bs → spelledNumber (numberAt bs bit width)

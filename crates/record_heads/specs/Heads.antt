@@ -10,9 +10,9 @@ use Rattle.model.specs.Causes.{Outcome, accepted, refused, Verdict, _andThen_, 
 use Rattle.model.specs.Answers.{told}
 use Rattle.record_bits.specs.Field.{bitsAt}
 use Rattle.record_bits.specs.Layout.{bytesFor}
-use Rattle.record_heads.specs.Layouts.{meshKind, fieldKind, waterKind, outfallKind, widthOf, kindBits, cellsBits, facesBits, meshHeadBits, fieldHeadBits, stepHeadBits, meshLength, fieldLength, stepLength}
-use Rattle.record_heads.specs.declared.Width.{Width}
-use Rattle.record_heads.specs.declared.Width.the-variants.{Narrow, Wide}
+use Rattle.record_layouts.specs.Layouts.{meshKind, fieldKind, waterKind, outfallKind, widthOf, kindBits, cellsBits, facesBits, meshHeadBits, fieldHeadBits, stepHeadBits, meshLength, fieldLength, stepLength}
+use Rattle.record_layouts.specs.declared.Width.{Width}
+use Rattle.record_layouts.specs.declared.Width.the-variants.{Narrow, Wide}
 use Rattle.record_heads.specs.declared.LengthAnswer.{LengthAnswer}
 use Rattle.record_heads.specs.declared.LengthAnswer.the-variants as needs
 use Rattle.record_heads.specs.declared.MeshLength.{MeshLength}

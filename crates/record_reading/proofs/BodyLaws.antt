@@ -15,9 +15,9 @@ use Rattle.model.proofs.Verdicts.{both-fine}
 use Rattle.record_bits.proofs.Layouts.{bytes-hold, bytes-most}
 use Rattle.record_sections.specs.Sections.{Section, shapeBits, valueIn, columnIn}
 use Rattle.record_sections.proofs.Bodies.{bodyOf, body-length, body-value, body-column}
-use Rattle.record_heads.specs.Layouts.{meshHead, meshBody, fieldHead, fieldBody, stepHead, stepBody, meshBits, fieldBits, stepBits}
+use Rattle.record_layouts.specs.Layouts.{meshHead, meshBody, fieldHead, fieldBody, stepHead, stepBody, meshBits, fieldBits, stepBits}
 use Rattle.record_heads.specs.Heads.{kindIn, cellsIn, facesIn}
-use Rattle.record_heads.proofs.Layouts.{value-most, mesh-most, field-most, step-most}
+use Rattle.record_layouts.proofs.Layouts.{value-most, mesh-most, field-most, step-most}
 use Rattle.record_reading.specs.Reading.{shapeIn, massesIn, stepShapeIn, meshBodyVerdict, fieldBodyVerdict, stepBodyVerdict}
 use Rattle.record_bodies.specs.Bodies.{MeshRoom, MeshFilled, StepRoom, StepFilled}
 use Rattle.record_reading.proofs.ReadLaws.{mesh-tables-say, field-tables-say, step-tables-say}

@@ -15,11 +15,11 @@ use Rattle.model.specs.declared.Answer.the-variants as call
 use Rattle.model.specs.declared.Refusal.{Refusal}
 use Rattle.model.proofs.Verdicts.{both-fine, need-fine}
 use Rattle.record_bits.specs.Layout.{bytesFor}
-use Rattle.record_heads.specs.Layouts.{meshKind, widthOf, kindNumber, meshBits, fieldBits, stepBits, meshLength, fieldLength, stepLength}
+use Rattle.record_layouts.specs.Layouts.{meshKind, widthOf, kindNumber, meshBits, fieldBits, stepBits, meshLength, fieldLength, stepLength}
 use Rattle.record_heads.specs.Heads.{kindIn, isMeshKind, cellsIn, facesIn, hasLength, meshHeadVerdict, stepHeadVerdict}
-use Rattle.record_heads.specs.declared.Width.{Width}
-use Rattle.record_heads.specs.declared.Width.the-variants.{Narrow, Wide}
-use Rattle.record_heads.specs.declared.StepKind.{StepKind}
+use Rattle.record_layouts.specs.declared.Width.{Width}
+use Rattle.record_layouts.specs.declared.Width.the-variants.{Narrow, Wide}
+use Rattle.record_layouts.specs.declared.StepKind.{StepKind}
 use Rattle.record_heads.proofs.HeadLaws.{MeshHeadSays, mesh-head-says, StepHeadSays, step-head-says}
 use Rattle.record_reading.specs.Reading.{shapeIn, countsIn, volumesIn, firstsIn, secondsIn, sharesIn, reachesIn, massesIn, fluxesIn, outsidesIn, stepShapeIn, releasesIn, meshBodyVerdict, fieldBodyVerdict, stepBodyVerdict, meshRead, stepRead}
 use Rattle.record_reading.specs.Answers.{MeshReading, FieldReading, StepReading}

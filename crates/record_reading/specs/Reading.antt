@@ -10,10 +10,10 @@ use Rattle.signed.specs.Sign.{withSign}
 use Rattle.model.specs.Mesh.{Mesh, meshOf}
 use Rattle.model.specs.Causes.{Outcome, accepted, Verdict, _andThen_, each, long}
 use Rattle.record_sections.specs.Sections.{Section, place, valueIn, columnIn}
-use Rattle.record_heads.specs.Layouts.{valueBits, meshZeroBits, stepZeroBits, meshHeadBits, stepHeadBits, Column, volumeColumn, firstColumn, secondColumn, shareColumn, reachColumn, massColumn, signColumn, sizeColumn, outsideColumn, releaseColumn, meshShape, fieldShape, stepHead, fluxSection, outsideSection, stepShape, meshBits, stepBits, meshLength, fieldLength, stepLength}
+use Rattle.record_layouts.specs.Layouts.{valueBits, meshZeroBits, stepZeroBits, meshHeadBits, stepHeadBits, Column, volumeColumn, firstColumn, secondColumn, shareColumn, reachColumn, massColumn, signColumn, sizeColumn, outsideColumn, releaseColumn, meshShape, fieldShape, stepHead, fluxSection, outsideSection, stepShape, meshBits, stepBits, meshLength, fieldLength, stepLength}
 use Rattle.record_heads.specs.Heads.{kindIn, widthIn, cellsIn, facesIn, hasLength, meshHeadVerdict, fieldHeadVerdict, stepHeadVerdict}
 use Rattle.record_zeros.specs.Zeros.{zeroBitGood, minusZero}
-use Rattle.record_heads.specs.declared.Width.{Width}
+use Rattle.record_layouts.specs.declared.Width.{Width}
 use Rattle.record_reading.specs.declared.MeshCounts.{MeshCounts}
 
 -- A step up to its releases: what stands there rests on the width of the kind, and not on the cells.

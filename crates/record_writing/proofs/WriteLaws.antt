@@ -11,9 +11,9 @@ use Rattle.model.specs.Answers.{told}
 use Rattle.model.specs.declared.Refusal.{Refusal}
 use Rattle.model.proofs.Verdicts.{both-fine, need-fine}
 use Rattle.model.proofs.Accepted.{counted, mesh-lent, field-lent}
-use Rattle.record_heads.specs.Layouts.{meshKind, fieldKind, kindNumber}
-use Rattle.record_heads.specs.declared.Width.{Width}
-use Rattle.record_heads.specs.declared.StepKind.{StepKind}
+use Rattle.record_layouts.specs.Layouts.{meshKind, fieldKind, kindNumber}
+use Rattle.record_layouts.specs.declared.Width.{Width}
+use Rattle.record_layouts.specs.declared.StepKind.{StepKind}
 use Rattle.record_writing.specs.declared.WriteAnswer.the-variants as write
 use Rattle.record_writing.specs.Writing.{meshWriteVerdict, fieldWriteVerdict, stepWriteVerdict, Writing}
 use Rattle.record_putting.specs.Putting.{MeshWhole, FieldWhole, StepWhole, Wrote}

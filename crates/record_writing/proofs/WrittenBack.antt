@@ -21,9 +21,9 @@ use Rattle.model.specs.declared.Answer.{Answer}
 use Rattle.model.proofs.Verdicts.{all-fine, fine-all, both-fine, need-met, fine-each, past}
 use Rattle.record_bits.proofs.Fields.{bits-lt}
 use Rattle.record_sections.specs.Sections.{place}
-use Rattle.record_heads.specs.Layouts.{meshKind, fieldKind, releaseBits, stepShape, meshLength, fieldLength, stepLength}
+use Rattle.record_layouts.specs.Layouts.{meshKind, fieldKind, releaseBits, stepShape, meshLength, fieldLength, stepLength}
 use Rattle.record_heads.specs.Heads.{kindIn, cellsIn, facesIn}
-use Rattle.record_heads.specs.declared.Width.{Width}
+use Rattle.record_layouts.specs.declared.Width.{Width}
 use Rattle.record_reading.specs.Reading.{volumesIn, firstsIn, secondsIn, sharesIn, reachesIn, massesIn, fluxesIn, outsidesIn, releasesIn, meshBodyVerdict, stepBodyVerdict, meshRead, fieldRead, stepRead}
 use Rattle.record_reading.specs.Answers.{meshSaid, stepReadSaid, MeshReading, FieldReading, StepReading}
 use Rattle.record_reading.specs.declared.MeshCounts.{MeshCounts}

@@ -24,10 +24,10 @@ use Rattle.transport.specs.Promise.{stepSaid, StepPromise}
 use Rattle.transport.specs.declared.StepAnswer.{StepAnswer}
 use Rattle.transport.specs.declared.StepAnswer.the-variants as step-answer
 use Rattle.transport.specs.declared.Crossed.{Crossed}
-use Rattle.record_heads.specs.Layouts.{kindNumber, stepLength}
+use Rattle.record_layouts.specs.Layouts.{kindNumber, stepLength}
 use Rattle.record_heads.specs.Heads.{kindIn, hasLength, stepHeadVerdict}
-use Rattle.record_heads.specs.declared.Width.{Width}
-use Rattle.record_heads.specs.declared.StepKind.{StepKind}
+use Rattle.record_layouts.specs.declared.Width.{Width}
+use Rattle.record_layouts.specs.declared.StepKind.{StepKind}
 use Rattle.record_reading.specs.Reading.{fluxesIn, outsidesIn, releasesIn, stepBitGood, stepBodyVerdict, stepRead}
 use Rattle.record_reading.specs.Answers.{stepReadSaid as readSaid, StepReading}
 use Rattle.record_reading.specs.declared.StepRead.{StepRead}

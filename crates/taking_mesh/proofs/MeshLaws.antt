@@ -20,10 +20,10 @@ use Rattle.model.proofs.Verdicts.{AllFine, all-fine, fine-all, refused-at, both
 use Rattle.model.proofs.Accepted.{mesh-lent}
 use Rattle.record_bits.proofs.Fields.{bits-lt}
 use Rattle.record_sections.specs.Sections.{place, entryIn}
-use Rattle.record_heads.specs.Layouts.{widthOf, valueOf, valueBits, meshShape, meshHeadBits, meshLength}
+use Rattle.record_layouts.specs.Layouts.{widthOf, valueOf, valueBits, meshShape, meshHeadBits, meshLength}
 use Rattle.record_heads.specs.Heads.{kindIn, widthIn, cellsIn, facesIn, hasHead, hasLength, hasMeshKind, meshHeadVerdict}
-use Rattle.record_heads.specs.declared.Width.{Width}
-use Rattle.record_heads.specs.declared.Width.the-variants.{Narrow}
+use Rattle.record_layouts.specs.declared.Width.{Width}
+use Rattle.record_layouts.specs.declared.Width.the-variants.{Narrow}
 use Rattle.record_reading.specs.Reading.{volumesIn, firstsIn, secondsIn, sharesIn, reachesIn, countsIn, meshIn, meshBitGood, meshBodyVerdict, meshRead}
 use Rattle.record_reading.specs.Answers.{meshSaid, MeshReading}
 use Rattle.record_reading.specs.declared.MeshAnswer.{MeshAnswer}

@@ -10,7 +10,7 @@ use Rattle.model.specs.declared.Answer.the-variants.{Done}
 use Rattle.model.specs.Causes.{fine, _andThen_, long, bytesLong, counts, meshTables, outsideGood, fluxGood}
 use Rattle.model.proofs.Verdicts.{refused-at, both-fine, past, both-are, refuses, passes}
 use Rattle.model.proofs.Accepted.{counted, mesh-long}
-use Rattle.record_heads.specs.Layouts.{kindNumber, stepLength}
+use Rattle.record_layouts.specs.Layouts.{kindNumber, stepLength}
 use Rattle.record_causes.proofs.Refusing.{bytes-said, values-said, water-long, step-groups}
 use Rattle.record_causes.proofs.step.Statement.{statement}
 use Rattle.record_causes.proofs.step.Tie as tie

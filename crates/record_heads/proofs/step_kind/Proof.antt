@@ -4,7 +4,7 @@ use borrow.Author.Needs.{needs}
 use borrow.Author.Tests.{eqb-true, ne-eqb}
 use lib.Dec.{eqb}
 use Rattle.lists.proofs.Tests.{either-true}
-use Rattle.record_heads.specs.Layouts.{outfallKind}
+use Rattle.record_layouts.specs.Layouts.{outfallKind}
 use Rattle.record_heads.specs.Heads.{kindIn}
 use Rattle.record_heads.proofs.step_kind.Statement.{statement}
 use Rattle.record_heads.proofs.step_kind.Tie as tie

@@ -7,8 +7,8 @@ use Rattle.model.specs.Causes.{fine}
 use Rattle.model.proofs.Verdicts.{both-fine, refuses, passes}
 use Rattle.record_sections.specs.Sections.{shapeBits}
 use Rattle.record_sections.proofs.Bodies.{bodyOf}
-use Rattle.record_heads.specs.declared.Width.{Width}
-use Rattle.record_heads.specs.Layouts.{fieldKind, fieldBody}
+use Rattle.record_layouts.specs.declared.Width.{Width}
+use Rattle.record_layouts.specs.Layouts.{fieldKind, fieldBody}
 use Rattle.record_heads.specs.Heads.{kindIn}
 use Rattle.record_heads.proofs.HeadLaws.{field-head-says}
 use Rattle.record_reading.specs.Reading.{fieldRead}

@@ -6,7 +6,7 @@ use mathlib.Core.Bool.{false}
 use native.Mathlib.Omega.{arith}
 use borrow.Author.Needs.{needs}
 use borrow.Author.Count.{below-more}
-use Rattle.record_heads.specs.Layouts.{stepHeadBits, signBits}
+use Rattle.record_layouts.specs.Layouts.{stepHeadBits, signBits}
 use Rattle.record_zeros.specs.Scans.{NoMinus}
 use Rattle.record_zeros.proofs.ZeroLaws.{face-room, minus-at}
 use Rattle.record_zeros.proofs.first_minus.Statement.{statement}

@@ -5,8 +5,8 @@ use borrow.Author.Needs.{needs}
 use Rattle.model.specs.Causes.{_andThen_, long}
 use Rattle.model.specs.Answers.{said}
 use Rattle.model.proofs.Verdicts.{past, out, refuses, passes}
-use Rattle.record_heads.specs.Layouts.{meshKind, meshBits, meshLength}
-use Rattle.record_heads.proofs.Layouts.{mesh-most, mesh-some}
+use Rattle.record_layouts.specs.Layouts.{meshKind, meshBits, meshLength}
+use Rattle.record_layouts.proofs.Layouts.{mesh-most, mesh-some}
 use Rattle.record_heads.specs.Heads.{kindIn, cellsIn, facesIn, hasLength}
 use Rattle.record_reading.specs.Reading.{meshBodyVerdict, meshBitGood}
 use Rattle.record_bits.proofs.Layouts.{bytes-hold, bytes-most}

@@ -7,11 +7,11 @@ use Rattle.model.specs.Causes.{_andThen_, long}
 use Rattle.model.specs.Answers.{said}
 use Rattle.model.proofs.Verdicts.{past, out, both-are, refuses, passes}
 use Rattle.record_bits.specs.Layout.{bytesFor}
-use Rattle.record_heads.specs.Layouts.{valueBits, stepBits, stepLength}
+use Rattle.record_layouts.specs.Layouts.{valueBits, stepBits, stepLength}
 use Rattle.record_heads.specs.Heads.{kindIn, hasLength}
 use Rattle.record_reading.specs.Reading.{stepBodyVerdict, stepBitGood}
 use Rattle.record_bits.proofs.Layouts.{bytes-hold, bytes-most}
-use Rattle.record_heads.proofs.Layouts.{step-value, value-most, stepMost, step-some, step-most}
+use Rattle.record_layouts.proofs.Layouts.{step-value, value-most, stepMost, step-some, step-most}
 use Rattle.record_reading.proofs.ReadLaws.{step-tables-say}
 use Rattle.record_reading.proofs.verdicts.step_body.Statement.{statement}
 use Rattle.record_reading.proofs.verdicts.step_body.Tie as tie
