@@ -8,13 +8,13 @@ use native.Mathlib.Omega.{arith}
 use lib.ListN.{length}
 use lib.Dec.{leb}
 use borrow.Author.Tests.{leb-true, le-leb, eqb-true}
-use Rattle.lists.proofs.Tests.{both-true}
+use Rattle.lists.proofs.Tests.{both-true, true-both}
 use Rattle.model.specs.Mesh.{maxCells, maxFaces}
 use Rattle.model.specs.Causes.{accepted, refused, Verdict, fine, _andThen_, need, countsWithin}
 use Rattle.model.specs.Answers.{said}
 use Rattle.model.specs.declared.Answer.{Answer}
 use Rattle.model.specs.declared.Answer.the-variants.{Done}
-use Rattle.model.proofs.Verdicts.{all-fine, need-fine, long-fine, passes}
+use Rattle.model.proofs.Verdicts.{all-fine, fine-all, need-fine, need-met, long-fine, passes}
 use Rattle.record_bits.specs.Field.{bitsAt}
 use Rattle.record_bits.specs.Layout.{bytesFor}
 use Rattle.record_layouts.specs.Layouts.{fieldKind}
@@ -40,6 +40,12 @@ within-says mostCells mostFaces cells faces e =
     let p = all-fine (_ ∷ _ ∷ []) e in
     let c = both-true (leb 1 cells) (leb cells mostCells) (need-fine 1 0 _ (p .0)) in
     (leb-true _ _ (c .0), leb-true _ _ (c .1), leb-true _ _ (need-fine 1 1 _ (p .1 .0)))
+
+-- and what passes it
+pub within-met : (mostCells mostFaces cells faces : ℕ) → 1 ≤ cells → cells ≤ mostCells → faces ≤ mostFaces → countsWithin mostCells mostFaces cells faces ≡ fine
+unfolding countsWithin
+within-met mostCells mostFaces cells faces some few least =
+    fine-all (_ ∷ _ ∷ []) (need-met 1 0 (true-both (le-leb 1 cells some) (le-leb cells mostCells few)), (need-met 1 1 (le-leb faces mostFaces least), tt))
 
 pub record MeshHeadSays (mostCells mostFaces : ℕ) (bs : List ℕ) : Type 0 where
   pub long : 4 ≤ length bs

@@ -18,7 +18,6 @@ use Rattle.record_bits.specs.Layout.{bytesFor}
 use Rattle.record_layouts.specs.Layouts.{meshKind, widthOf, kindNumber, meshBits, fieldBits, stepBits, meshLength, fieldLength, stepLength}
 use Rattle.record_heads.specs.Heads.{kindIn, isMeshKind, cellsIn, facesIn, meshHeadVerdict, stepHeadVerdict}
 use Rattle.record_layouts.specs.declared.Width.{Width}
-use Rattle.record_layouts.specs.declared.Width.the-variants.{Narrow, Wide}
 use Rattle.record_layouts.specs.declared.StepKind.{StepKind}
 use Rattle.record_heads.proofs.HeadLaws.{MeshHeadSays, mesh-head-says, FieldHeadSays, field-head-says, StepHeadSays, step-head-says}
 use Rattle.record_reading.specs.Reading.{shapeIn, countsIn, volumesIn, firstsIn, secondsIn, sharesIn, reachesIn, massesIn, fluxesIn, outsidesIn, stepShapeIn, releasesIn, meshBitGood, stepBitGood, meshTableCauses, fieldBodyCauses, stepTableCauses, meshBodyVerdict, fieldBodyVerdict, stepBodyVerdict, meshRead, fieldRead, stepRead}

@@ -1,5 +1,5 @@
 -- What a writing that is accepted has passed, that its record fits its bytes, and what the writer answers.
-use Prim.Native.Nat.{ℕ, _≤_}
+use Prim.Native.Nat.{ℕ}
 use mathlib.Core.Path.{_≡_}
 use mathlib.Core.List.{List}
 use lib.ListN.{length}

@@ -12,10 +12,9 @@ use lib.Dec.{ltb}
 use lib.IntN.{ℤ}
 use lib.ListN.{length, getD}
 use Rattle.lists.specs.Table.{table, over}
-use Rattle.lists.proofs.Tests.{true-both}
 use Rattle.lists.proofs.Tables.{length-over, getD-over}
 use Rattle.model.specs.Mesh.{Mesh, meshOf, maxCells, maxFaces}
-use Rattle.model.specs.Causes.{accepted, Verdict, fine, _andThen_, each, counts, countsWithin, meshTables, meshValues, fieldTable, fieldValues, outsideGood, fluxGood, waterOf}
+use Rattle.model.specs.Causes.{accepted, Verdict, fine, _andThen_, each, counts, meshTables, meshValues, fieldTable, fieldValues, outsideGood, fluxGood, waterOf}
 use Rattle.model.specs.Answers.{said}
 use Rattle.model.specs.declared.Answer.{Answer}
 use Rattle.model.proofs.Verdicts.{all-fine, fine-all, need-met, fine-each, past}
@@ -24,6 +23,7 @@ use Rattle.record_sections.specs.Sections.{place}
 use Rattle.record_layouts.specs.Layouts.{meshKind, fieldKind, releaseBits, stepShape, meshLength, fieldLength, stepLength}
 use Rattle.record_heads.specs.Heads.{kindIn, cellsIn, facesIn}
 use Rattle.record_layouts.specs.declared.Width.{Width}
+use Rattle.record_heads.proofs.HeadLaws.{within-met}
 use Rattle.record_reading.specs.Reading.{volumesIn, firstsIn, secondsIn, sharesIn, reachesIn, massesIn, fluxesIn, outsidesIn, releasesIn, meshRead, fieldRead, stepRead}
 use Rattle.record_reading.specs.Answers.{meshSaid, stepReadSaid, MeshReading, FieldReading, StepReading}
 use Rattle.record_reading.specs.declared.MeshCounts.{MeshCounts}
@@ -34,11 +34,6 @@ use Rattle.record_causes.specs.Verdicts.{meshWriteCauses, fieldWriteCauses, ste
 use Rattle.record_writing.specs.declared.WriteAnswer.{WriteAnswer}
 use Rattle.record_writing.specs.Writing.{mostOf, releasesFit, meshWriteVerdict, fieldWriteVerdict, stepWriteVerdict, writeSaid, Writing, MeshWriting, FieldWriting, StepWriting}
 use Rattle.record_writing.proofs.RoundTrip.{mesh-rejoined, field-rejoined, step-rejoined}
-
-within : (cells faces : ℕ) → 1 ≤ cells → cells ≤ maxCells → faces ≤ maxFaces → countsWithin maxCells maxFaces cells faces ≡ fine
-unfolding countsWithin
-within cells faces some few least =
-    fine-all (_ ∷ _ ∷ []) (need-met 1 0 (true-both (le-leb 1 cells some) (le-leb cells maxCells few)), (need-met 1 1 (le-leb faces maxFaces least), tt))
 
 -- a table that was read into is as long as it was
 filled-long : {A : Type 0} (n : ℕ) (f : ℕ → A) (ys : List A) → n ≤ length ys → n ≤ length (over (table n f) ys)
@@ -82,7 +77,7 @@ module _ (bs : List ℕ) (bytes : (j : ℕ) → getD bs j 0 < 256) where
       let kind : meshKind (n .width) ≡ kindIn bs = rw (says .counts-are) (mesh-kind-is (kindIn bs) (says .head .kind)) in
       let long : meshLength (meshKind (n .width)) (n .cells) (n .faces) ≤ length old = rw (kind, says .counts-are) (omega (arith, lent .same-length)) in
       let ok : meshWriteVerdict (n .width) N (length old) ≡ fine = fine-all (meshWriteCauses (n .width) N (length old)) (
-        rw (says .counts-are) (within (cellsIn bs) (facesIn bs) (says .head .some-cells) (says .head .few-cells) (says .head .few-faces)),
+        rw (says .counts-are) (within-met maxCells maxFaces (cellsIn bs) (facesIn bs) (says .head .some-cells) (says .head .few-cells) (says .head .few-faces)),
         (
           rw (says .counts-are) (fine-all (_ ∷ _ ∷ _ ∷ _ ∷ _ ∷ []) (
             need-met 2 0 (le-leb _ _ v),

@@ -1,5 +1,5 @@
 -- The masses are the column of the field's width.
-use mathlib.Core.Path.{_≡_, ap, _∙_}
+use mathlib.Core.Path.{ap, _∙_}
 use borrow.Author.Needs.{needs}
 use Rattle.lists.specs.Table.{over}
 use Rattle.record_sections.proofs.Bodies.{column-is, column-room}

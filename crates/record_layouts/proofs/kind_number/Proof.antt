@@ -1,5 +1,4 @@
 use borrow.Author.Needs.{needs}
-use mathlib.Core.Path.{_∙_}
 use Rattle.record_layouts.proofs.kind_number.Statement.{statement}
 use Rattle.record_layouts.proofs.kind_number.Tie as tie
 
