@@ -10,7 +10,7 @@ use model::Refusal;
 use page::PageAnswer;
 use record_heads::LengthAnswer;
 use record_heads::MeshLengthAnswer;
-use record_heads::Width;
+use record_layouts::Width;
 use record_reader::Spelled;
 use record_reading::MeshAnswer;
 use record_reading::StepRead;
@@ -111,7 +111,7 @@ pub fn mesh(said: MeshAnswer) {
 // The number of the kind.
 pub fn step_read(width: Width, said: StepRead) {
     match said {
-        StepRead::Read(kind) => accepted_with(record_heads::kind_number(width, kind)),
+        StepRead::Read(kind) => accepted_with(record_layouts::kind_number(width, kind)),
         StepRead::Refused(refusal) => refused(refusal),
     }
 }

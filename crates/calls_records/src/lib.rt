@@ -9,8 +9,8 @@ use calls_arguments::parts::number;
 use calls_arguments::parts::octets;
 use calls_arguments::parts::table;
 use calls_arguments::show;
-use record_heads::StepKind;
-use record_heads::Width;
+use record_layouts::StepKind;
+use record_layouts::Width;
 
 pub fn mesh_length(words: &[u64], bytes: &[u8]) {
     show::word(b"mesh_length:");
@@ -199,7 +199,7 @@ pub fn write_field(words: &[u64]) {
 
 // The kind of a step that a script names: 4, or any other number for 3.
 fn kind(named: usize) -> StepKind {
-    if named as u64 == record_heads::OUTFALL_KIND {
+    if named as u64 == record_layouts::OUTFALL_KIND {
         StepKind::Outfalls
     } else {
         StepKind::Water

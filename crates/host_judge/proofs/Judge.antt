@@ -16,8 +16,8 @@ use Rattle.transport.specs.Promise.{stepSaid}
 use Rattle.transport.specs.declared.StepAnswer.{StepAnswer}
 use Rattle.transport.specs.declared.StepAnswer.the-variants.{Refused}
 use Rattle.record_heads.specs.Heads.{widthIn}
-use Rattle.record_heads.specs.declared.Width.{Width}
-use Rattle.record_heads.specs.declared.StepKind.{StepKind}
+use Rattle.record_layouts.specs.declared.Width.{Width}
+use Rattle.record_layouts.specs.declared.StepKind.{StepKind}
 use Rattle.record_reading.specs.Reading.{stepRead, fluxesIn, outsidesIn, releasesIn, meshIn}
 use Rattle.record_reading.specs.Answers.{StepReading}
 use Rattle.record_reading.specs.declared.StepRead.{StepRead}

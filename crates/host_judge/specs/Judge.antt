@@ -11,7 +11,7 @@ use Rattle.model.specs.Claims.{claimOf, claimVerdict}
 use Rattle.model.specs.Calls.{Crossing, crossingOf, judged}
 use Rattle.transport.specs.declared.StepAnswer.{StepAnswer}
 use Rattle.record_heads.specs.Heads.{widthIn}
-use Rattle.record_heads.specs.declared.Width.{Width}
+use Rattle.record_layouts.specs.declared.Width.{Width}
 use Rattle.record_reading.specs.Reading.{meshIn, fluxesIn, outsidesIn, releasesIn}
 use Rattle.taking.specs.Taking.{blank, stepRecordFound}
 use Rattle.host_answer.specs.Found.{Answered}

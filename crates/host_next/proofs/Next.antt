@@ -21,10 +21,10 @@ use Rattle.transport.specs.Promise.{stepSaid}
 use Rattle.transport.specs.declared.Crossed.{Crossed}
 use Rattle.transport.specs.declared.StepAnswer.{StepAnswer}
 use Rattle.transport.specs.declared.StepAnswer.the-variants.{Stepped, Refused}
-use Rattle.record_heads.specs.Layouts.{fieldKind, fieldLength}
+use Rattle.record_layouts.specs.Layouts.{fieldKind, fieldLength}
 use Rattle.record_heads.specs.Heads.{widthIn}
-use Rattle.record_heads.specs.declared.Width.{Width}
-use Rattle.record_heads.specs.declared.Width.the-variants.{Narrow, Wide}
+use Rattle.record_layouts.specs.declared.Width.{Width}
+use Rattle.record_layouts.specs.declared.Width.the-variants.{Narrow, Wide}
 use Rattle.record_reading.specs.Reading.{meshIn}
 use Rattle.record_writing.specs.Writing.{mostOf, fieldWriteVerdict, FieldWriting, writeSaid}
 use Rattle.record_writing.specs.declared.WriteAnswer.{WriteAnswer}

@@ -9,10 +9,10 @@ use Rattle.model.specs.Causes.{accepted, fine, _andThen_}
 use Rattle.model.specs.Answers.{number, told}
 use Rattle.model.specs.declared.Refusal.{Refusal}
 use Rattle.model.proofs.Verdicts.{refused-of, accepted-of}
-use Rattle.record_heads.specs.Layouts.{kindNumber}
+use Rattle.record_layouts.specs.Layouts.{kindNumber}
 use Rattle.record_heads.specs.Heads.{kindIn}
-use Rattle.record_heads.specs.declared.Width.{Width}
-use Rattle.record_heads.specs.declared.StepKind.{StepKind}
+use Rattle.record_layouts.specs.declared.Width.{Width}
+use Rattle.record_layouts.specs.declared.StepKind.{StepKind}
 use Rattle.record_reading.specs.Reading.{stepRead}
 use Rattle.record_reading.specs.Answers.{stepReadSaid, StepReading}
 use Rattle.record_reading.specs.declared.StepRead.{StepRead}

@@ -11,8 +11,8 @@ use Rattle.model.specs.Causes.{accepted, Verdict, _andThen_, taken, Call, input
 use Rattle.model.specs.Calls.{Crossing, Scheme, crossingOf}
 use Rattle.transport.specs.Promise.{stepSaid}
 use Rattle.transport.specs.declared.StepAnswer.{StepAnswer}
-use Rattle.record_heads.specs.Layouts.{fieldKind, fieldRecord, fieldLength}
-use Rattle.record_heads.specs.declared.Width.{Width}
+use Rattle.record_layouts.specs.Layouts.{fieldKind, fieldRecord, fieldLength}
+use Rattle.record_layouts.specs.declared.Width.{Width}
 
 -- what is found, with the room last, and the bytes afterwards
 module _ (v : Verdict) (w : Width) (cells : ℕ) where

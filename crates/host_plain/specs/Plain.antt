@@ -9,7 +9,7 @@ use Rattle.model.specs.Causes.{Verdict, _andThen_, verdict}
 use Rattle.model.specs.Calls.{plain}
 use Rattle.transport.specs.declared.StepAnswer.{StepAnswer}
 use Rattle.record_heads.specs.Heads.{widthIn}
-use Rattle.record_heads.specs.declared.Width.{Width}
+use Rattle.record_layouts.specs.declared.Width.{Width}
 use Rattle.record_reading.specs.Reading.{meshIn}
 use Rattle.taking.specs.Taking.{ownTables, stepIn, stepJudged}
 use Rattle.host_answer.specs.Number.{numberOf}

@@ -3,7 +3,7 @@ use Prim.Native.Nat.{ℕ}
 use mathlib.Core.Path.{_≡_}
 use mathlib.Core.List.{List}
 use lib.IntN.{ℤ}
-use Rattle.record_heads.specs.declared.Width.{Width}
+use Rattle.record_layouts.specs.declared.Width.{Width}
 use Rattle.record_reading.specs.declared.StepRead.{StepRead}
 use Rattle.record_reading.specs.Answers.{stepReadSaid, StepReading}
 use Rattle.host_answer.specs.Found.{alone, Answered}

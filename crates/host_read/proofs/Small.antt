@@ -13,11 +13,10 @@ use Rattle.model.specs.Causes.{fine, _andThen_, countsWithin}
 use Rattle.model.proofs.Verdicts.{both-fine, need-fine}
 use Rattle.record_bits.proofs.Fields.{bits-lt}
 use Rattle.record_bits.proofs.Layouts.{bytes-most}
-use Rattle.record_heads.specs.Layouts.{kindBits, cellsBits, facesBits, meshLength, stepLength, meshBits, stepBits}
+use Rattle.record_layouts.specs.Layouts.{kindBits, cellsBits, facesBits, meshLength, stepLength, meshBits, stepBits}
 use Rattle.record_heads.specs.Heads.{kindIn, cellsIn, facesIn, meshHeadVerdict, fieldHeadVerdict, stepHeadVerdict}
-use Rattle.record_heads.specs.declared.Width.{Width}
-use Rattle.record_heads.proofs.HeadLaws.{rim-le}
-use Rattle.record_heads.proofs.Layouts.{value-most, mass-most, release-wide}
+use Rattle.record_layouts.specs.declared.Width.{Width}
+use Rattle.record_layouts.proofs.Layouts.{rim-le, value-most, mass-most, release-wide}
 use Rattle.record_reading.specs.Reading.{meshBodyVerdict, fieldBodyVerdict, stepBodyVerdict, meshRead, fieldRead, stepRead}
 use Rattle.host_answer.specs.Number.{causeStep}
 use Rattle.host_answer.proofs.Small.{Small, small-then, small-and, small-need, small-each, small-giving}

@@ -10,8 +10,8 @@ use lib.ListN.{length}
 use Rattle.lists.specs.Table.{over}
 use Rattle.model.specs.Mesh.{maxCells, maxFaces}
 use Rattle.model.specs.Causes.{Outcome, taken}
-use Rattle.record_heads.specs.declared.Width.{Width}
-use Rattle.record_heads.specs.declared.Width.the-variants.{Narrow, Wide}
+use Rattle.record_layouts.specs.declared.Width.{Width}
+use Rattle.record_layouts.specs.declared.Width.the-variants.{Narrow, Wide}
 use Rattle.record_reading.specs.declared.MeshCounts.{MeshCounts}
 use Rattle.record_reading.specs.Reading.{volumesIn, firstsIn, secondsIn, sharesIn, reachesIn, massesIn, fluxesIn, outsidesIn, releasesIn, meshRead, fieldRead, stepRead}
 use Rattle.host_answer.specs.Number.{numberOf}

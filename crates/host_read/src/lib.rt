@@ -3,7 +3,7 @@ use host_answer::answer_number;
 use host_answer::fill1;
 use host_answer::fill3;
 use host_answer::number_of;
-use record_heads::Width;
+use record_layouts::Width;
 use record_reading::MeshAnswer;
 use record_reading::StepRead;
 ghost use mathlib.Core.Path.{_≡_};
@@ -105,7 +105,7 @@ fn step_answered(width: Width, answer: StepRead, found: &mut [u64]) -> u64
 {
     match answer {
         StepRead::Read(kind) => {
-            fill1(found, record_heads::kind_number(width, kind));
+            fill1(found, record_layouts::kind_number(width, kind));
             0
         }
         StepRead::Refused(refusal) => number_of(refusal),

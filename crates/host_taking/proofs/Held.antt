@@ -9,7 +9,7 @@ use Rattle.model.specs.Answers.{number, told}
 use Rattle.model.specs.declared.Refusal.{Refusal}
 use Rattle.model.proofs.Verdicts.{refused-of, accepted-of}
 use Rattle.record_heads.specs.Heads.{widthIn}
-use Rattle.record_heads.specs.declared.Width.{Width}
+use Rattle.record_layouts.specs.declared.Width.{Width}
 use Rattle.record_reading.specs.Reading.{meshIn}
 use Rattle.host_taking.specs.Taken.{fieldTested, fieldIn, takenIn, takenSaid, Front, Held, FieldTaking, CellsTaking}
 use Rattle.host_taking.specs.declared.FieldCounts.{FieldCounts}

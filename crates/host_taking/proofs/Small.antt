@@ -12,10 +12,9 @@ use Rattle.model.specs.Causes.{countsWithin, cellsOnly}
 use Rattle.model.proofs.Verdicts.{both-fine, need-fine}
 use Rattle.record_bits.proofs.Fields.{bits-lt}
 use Rattle.record_bits.proofs.Layouts.{bytes-most}
-use Rattle.record_heads.specs.Layouts.{kindBits, cellsBits, facesBits, meshLength, stepLength, meshBits, stepBits}
+use Rattle.record_layouts.specs.Layouts.{kindBits, cellsBits, facesBits, meshLength, stepLength, meshBits, stepBits}
 use Rattle.record_heads.specs.Heads.{kindIn, cellsIn, facesIn, widthIn, meshHeadVerdict, fieldHeadVerdict, stepHeadVerdict}
-use Rattle.record_heads.proofs.HeadLaws.{rim-le}
-use Rattle.record_heads.proofs.Layouts.{value-most, mass-most, release-wide}
+use Rattle.record_layouts.proofs.Layouts.{rim-le, value-most, mass-most, release-wide}
 use Rattle.record_reading.specs.Reading.{meshBodyVerdict, fieldBodyVerdict, stepBodyVerdict, fieldRead, volumesIn, secondsIn, meshIn, massesIn}
 use Rattle.taking_mesh.specs.MeshTaking.{meshRecordFound, meshJudged, meshJudgedInRun}
 use Rattle.taking.specs.Taking.{fieldJudged, stepIn, stepRecordFound, stepJudged}

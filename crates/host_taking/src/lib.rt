@@ -2,7 +2,7 @@
 use checks::TotalAnswer;
 use model::RUN_FACES;
 use model::Refusal;
-use record_heads::Width;
+use record_layouts::Width;
 use record_reading::MeshAnswer;
 ghost use mathlib.Core.Path.{_≡_};
 ghost use lib.ListN.{length};

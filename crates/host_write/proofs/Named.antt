@@ -5,9 +5,9 @@ use mathlib.Core.List.{List}
 use lib.IntN.{ℤ}
 use Rattle.model.specs.Mesh.{Mesh}
 use Rattle.model.specs.Causes.{Verdict}
-use Rattle.record_heads.specs.Layouts.{kindNumber}
-use Rattle.record_heads.specs.declared.Width.{Width}
-use Rattle.record_heads.specs.declared.StepKind.{StepKind}
+use Rattle.record_layouts.specs.Layouts.{kindNumber}
+use Rattle.record_layouts.specs.declared.Width.{Width}
+use Rattle.record_layouts.specs.declared.StepKind.{StepKind}
 use Rattle.record_writing.specs.declared.WriteAnswer.{WriteAnswer}
 use Rattle.record_writing.specs.Writing.{writeSaid, Writing, MeshWriting, FieldWriting, StepWriting}
 use Rattle.host_answer.specs.Found.{alone, Answered}

@@ -5,7 +5,7 @@ use native.Mathlib.Omega.{arith}
 use lib.IntN.{ℤ}
 use Rattle.model.specs.Mesh.{Mesh}
 use Rattle.model.specs.Causes.{counts}
-use Rattle.record_heads.specs.declared.Width.{Width}
+use Rattle.record_layouts.specs.declared.Width.{Width}
 use Rattle.record_writing.specs.Writing.{mostOf, meshWriteVerdict, fieldWriteVerdict, stepWriteVerdict}
 use Rattle.host_answer.proofs.Small.{Small, small-need, small-each, small-after}
 use Rattle.host_answer.proofs.Tables.{few-of, counts-small, mesh-tables-small, mesh-values-small, field-table-small, field-values-small}

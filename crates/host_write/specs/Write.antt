@@ -9,11 +9,11 @@ use lib.ListN.{length}
 use Rattle.lists.specs.Table.{over}
 use Rattle.model.specs.Mesh.{Mesh}
 use Rattle.model.specs.Causes.{accepted, Verdict, _andThen_, taken}
-use Rattle.record_heads.specs.Layouts.{meshKind, fieldKind, outfallKind, meshRecord, fieldRecord, stepRecord, meshLength, fieldLength, stepLength}
-use Rattle.record_heads.specs.declared.Width.{Width}
-use Rattle.record_heads.specs.declared.Width.the-variants.{Narrow, Wide}
-use Rattle.record_heads.specs.declared.StepKind.{StepKind}
-use Rattle.record_heads.specs.declared.StepKind.the-variants.{Water, Outfalls}
+use Rattle.record_layouts.specs.Layouts.{meshKind, fieldKind, outfallKind, meshRecord, fieldRecord, stepRecord, meshLength, fieldLength, stepLength}
+use Rattle.record_layouts.specs.declared.Width.{Width}
+use Rattle.record_layouts.specs.declared.Width.the-variants.{Narrow, Wide}
+use Rattle.record_layouts.specs.declared.StepKind.{StepKind}
+use Rattle.record_layouts.specs.declared.StepKind.the-variants.{Water, Outfalls}
 use Rattle.record_writing.specs.Writing.{meshWriteVerdict, fieldWriteVerdict, stepWriteVerdict}
 use Rattle.host_answer.specs.Found.{alone, Answered}
 

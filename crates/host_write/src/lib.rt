@@ -2,13 +2,13 @@
 use host_answer::fill1;
 use host_answer::number_of;
 use host_read::width_named;
-use record_heads::StepKind;
-use record_heads::Width;
+use record_layouts::StepKind;
+use record_layouts::Width;
 use record_writing::WriteAnswer;
 ghost use mathlib.Core.Path.{_≡_};
 ghost use Prim.Native.Nat.{_<_, _^_};
 ghost use Rattle.model.specs.Mesh.{meshOf};
-ghost use Rattle.record_heads.specs.Layouts.{widthOf, kindNumber};
+ghost use Rattle.record_layouts.specs.Layouts.{widthOf, kindNumber};
 ghost use Rattle.record_writing.specs.Writing.{writeSaid};
 ghost use Rattle.host_answer.specs.Number.{numberOf};
 ghost use Rattle.host_answer.specs.Found.{alone, Answered};

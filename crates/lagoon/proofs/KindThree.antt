@@ -6,9 +6,9 @@ use lib.ListN.{length}
 use Rattle.lists.specs.Table.{over}
 use Rattle.model.specs.Causes.{accepted, refused, Verdict, fine, _andThen_, taken, bytesLong}
 use Rattle.model.proofs.Verdicts.{both-fine}
-use Rattle.record_heads.specs.Layouts.{fieldKind, waterKind, fieldRecord, fieldLength}
+use Rattle.record_layouts.specs.Layouts.{fieldKind, waterKind, fieldRecord, fieldLength}
 use Rattle.record_heads.specs.Heads.{kindIn, widthIn}
-use Rattle.record_heads.specs.declared.Width.{Width}
+use Rattle.record_layouts.specs.declared.Width.{Width}
 use Rattle.record_reading.specs.Reading.{meshIn, massesIn}
 use Rattle.taking.specs.Taking.{stepJudged}
 use Rattle.taking.proofs.KindThree.{judged-same, next-same}

@@ -9,9 +9,9 @@ use Rattle.model.specs.Step.{StepInput, next}
 use Rattle.model.specs.Causes.{Verdict, _andThen_, taken, inputOf, bytesLong}
 use Rattle.model.specs.Answers.{said}
 use Rattle.model.specs.declared.Answer.{Answer}
-use Rattle.record_heads.specs.Layouts.{fieldKind, fieldRecord, fieldLength}
+use Rattle.record_layouts.specs.Layouts.{fieldKind, fieldRecord, fieldLength}
 use Rattle.record_heads.specs.Heads.{widthIn}
-use Rattle.record_heads.specs.declared.Width.{Width}
+use Rattle.record_layouts.specs.declared.Width.{Width}
 use Rattle.record_reading.specs.Reading.{massesIn}
 use Rattle.taking.specs.Taking.{fieldJudged, stepIn, stepJudged}
 use Rattle.lagoon.specs.Host.{hostInput, hostVerdict}

@@ -6,9 +6,9 @@ use lib.ListN.{length}
 use Rattle.lists.specs.Table.{table, over}
 use Rattle.model.specs.Step.{next}
 use Rattle.model.specs.Causes.{Verdict, _andThen_, taken, bytesLong}
-use Rattle.record_heads.specs.Layouts.{fieldKind, waterKind, fieldRecord, fieldLength}
+use Rattle.record_layouts.specs.Layouts.{fieldKind, waterKind, fieldRecord, fieldLength}
 use Rattle.record_heads.specs.Heads.{kindIn, widthIn}
-use Rattle.record_heads.specs.declared.Width.{Width}
+use Rattle.record_layouts.specs.declared.Width.{Width}
 use Rattle.record_reading.specs.Reading.{meshIn, massesIn}
 use Rattle.taking.specs.KindThree.{step01, judged01}
 use Rattle.lagoon.specs.Host.{meshTested, fieldTested, numberOf, HostPromise}

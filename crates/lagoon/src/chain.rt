@@ -4,7 +4,7 @@ use model::Answer;
 use model::RUN_CELLS;
 use model::RUN_FACES;
 use model::StepTaken;
-use record_heads::Width;
+use record_layouts::Width;
 use record_reading::MeshAnswer;
 use record_writing::WriteAnswer;
 ghost use mathlib.Core.Path.{_≡_};

@@ -1,7 +1,7 @@
 // The host's call straight through the records of a small lagoon, in short tables: an array is cleared before it is filled, and for few cells
 // clearing tables as long as the run's limits takes longer than reading them.
 use model::Answer;
-use record_heads::Width;
+use record_layouts::Width;
 use record_reading::MeshAnswer;
 use record_reading::StepRead;
 ghost use mathlib.Core.Path.{_≡_};

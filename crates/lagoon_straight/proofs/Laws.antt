@@ -21,10 +21,10 @@ use Rattle.transport.specs.Promise.{StepPromise}
 use Rattle.transport.specs.declared.StepAnswer.{StepAnswer}
 use Rattle.transport.specs.declared.StepAnswer.the-variants as step-answer
 use Rattle.transport.specs.declared.Crossed.{Crossed}
-use Rattle.record_heads.specs.Layouts.{fieldKind, fieldRecord, fieldLength}
+use Rattle.record_layouts.specs.Layouts.{fieldKind, fieldRecord, fieldLength}
 use Rattle.record_heads.specs.Heads.{kindIn, widthIn, cellsIn, facesIn, hasLength, fieldHeadVerdict}
-use Rattle.record_heads.specs.declared.Width.{Width}
-use Rattle.record_heads.specs.declared.StepKind.{StepKind}
+use Rattle.record_layouts.specs.declared.Width.{Width}
+use Rattle.record_layouts.specs.declared.StepKind.{StepKind}
 use Rattle.record_reading.specs.Reading.{meshIn, massesIn, fluxesIn, outsidesIn, releasesIn, fieldBodyVerdict, fieldRead, stepRead}
 use Rattle.record_reading.specs.Answers.{FieldReading, StepReading}
 use Rattle.record_reading.specs.declared.MeshCounts.{MeshCounts}

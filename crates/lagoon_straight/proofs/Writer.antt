@@ -13,10 +13,10 @@ use Rattle.model.proofs.Verdicts.{both-fine}
 use Rattle.model.proofs.Accepted.{ready, passed, field-accepted, hi-most}
 use Rattle.model.proofs.Ceilings.{old-meshes}
 use Rattle.model.proofs.Next.{next-concentration}
-use Rattle.record_heads.specs.Layouts.{fieldKind, fieldLength}
+use Rattle.record_layouts.specs.Layouts.{fieldKind, fieldLength}
 use Rattle.record_heads.specs.Heads.{widthIn}
-use Rattle.record_heads.specs.declared.Width.{Width}
-use Rattle.record_heads.specs.declared.Width.the-variants.{Narrow, Wide}
+use Rattle.record_layouts.specs.declared.Width.{Width}
+use Rattle.record_layouts.specs.declared.Width.the-variants.{Narrow, Wide}
 use Rattle.record_reading.specs.Reading.{meshIn}
 use Rattle.record_writing.specs.Writing.{mostOf, fieldWriteVerdict}
 use Rattle.taking_mesh.proofs.MeshLaws.{mesh-small}

@@ -6,8 +6,8 @@ use mathlib.Core.List.{List}
 use lib.ListN.{length}
 use Rattle.model.specs.Mesh.{Mesh, runCells}
 use Rattle.model.specs.Causes.{fine, Call, inputOf, verdict, bytesLong}
-use Rattle.record_heads.specs.Layouts.{fieldKind, fieldLength}
-use Rattle.record_heads.specs.declared.Width.{Width}
+use Rattle.record_layouts.specs.Layouts.{fieldKind, fieldLength}
+use Rattle.record_layouts.specs.declared.Width.{Width}
 use Rattle.record_reading.specs.Reading.{massesIn, fieldRead}
 use Rattle.taking.specs.Taking.{stepIn, stepRecordFound}
 use Rattle.lagoon_straight.specs.Straight.{Put}

@@ -9,9 +9,9 @@ use Rattle.lists.specs.Table.{table, over}
 use Rattle.model.specs.Mesh.{runCells}
 use Rattle.model.specs.Step.{StepInput, next}
 use Rattle.model.specs.Causes.{fine, inputOf, bytesLong}
-use Rattle.record_heads.specs.Layouts.{fieldKind, fieldRecord, fieldLength}
+use Rattle.record_layouts.specs.Layouts.{fieldKind, fieldRecord, fieldLength}
 use Rattle.record_heads.specs.Heads.{widthIn}
-use Rattle.record_heads.specs.declared.Width.{Width}
+use Rattle.record_layouts.specs.declared.Width.{Width}
 use Rattle.record_reading.specs.Reading.{meshIn, massesIn}
 use Rattle.taking_mesh.specs.MeshTaking.{meshJudgedInRun}
 use Rattle.taking.specs.Taking.{fieldJudged, stepIn, stepJudged}

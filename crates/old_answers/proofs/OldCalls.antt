@@ -8,11 +8,11 @@ use Rattle.model.specs.Mesh.{Mesh, total}
 use Rattle.model.specs.Causes.{accepted, Verdict, _andThen_, cellsOnly}
 use Rattle.model.specs.Calls.{massIn}
 use Rattle.record_sections.specs.Sections.{Section, columnIn}
-use Rattle.record_heads.specs.Layouts.{kindNumber, valueBits, massBits, releaseBits, meshRecord, fieldRecord, stepRecord, meshLength, fieldLength, stepLength}
+use Rattle.record_layouts.specs.Layouts.{kindNumber, valueBits, massBits, releaseBits, meshRecord, fieldRecord, stepRecord, meshLength, fieldLength, stepLength}
 use Rattle.record_heads.specs.Heads.{kindIn, widthIn, meshHeadVerdict, stepHeadVerdict}
-use Rattle.record_heads.specs.declared.Width.the-variants.{Narrow}
-use Rattle.record_heads.specs.declared.StepKind.{StepKind}
-use Rattle.record_heads.specs.declared.StepKind.the-variants.{Water, Outfalls}
+use Rattle.record_layouts.specs.declared.Width.the-variants.{Narrow}
+use Rattle.record_layouts.specs.declared.StepKind.{StepKind}
+use Rattle.record_layouts.specs.declared.StepKind.the-variants.{Water, Outfalls}
 use Rattle.record_reading.specs.Reading.{meshIn, massesIn, outsidesIn, releasesIn, meshBodyVerdict, stepBodyVerdict, meshRead, stepRead}
 use Rattle.record_writing.specs.Writing.{StepWriting, meshWriteVerdict, fieldWriteVerdict, stepWriteVerdict}
 use Rattle.record_writing.specs.declared.WriteAnswer.{WriteAnswer}

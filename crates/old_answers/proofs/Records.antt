@@ -20,9 +20,9 @@ use Rattle.model.proofs.Verdicts.{both-fine, need-fine}
 use Rattle.record_bits.specs.Layout.{bytesFor}
 use Rattle.record_bits.proofs.Fields.{bits-lt}
 use Rattle.record_sections.specs.Sections.{Section, place, lengthOf}
-use Rattle.record_heads.specs.Layouts.{widthOf, valueOf, valueBits, massBits, releaseBits, stepHead, fluxSection, meshShape, fieldShape, stepShape, meshLength, fieldLength, stepLength}
+use Rattle.record_layouts.specs.Layouts.{widthOf, valueOf, valueBits, massBits, releaseBits, stepHead, fluxSection, meshShape, fieldShape, stepShape, meshLength, fieldLength, stepLength}
 use Rattle.record_heads.specs.Heads.{kindIn, widthIn, cellsIn, facesIn, isMeshKind, meshHeadVerdict, fieldHeadVerdict, stepHeadVerdict, meshMeasured, fieldNeeds, stepNeeds}
-use Rattle.record_heads.specs.declared.Width.the-variants.{Narrow}
+use Rattle.record_layouts.specs.declared.Width.the-variants.{Narrow}
 use Rattle.record_reading.specs.Reading.{volumesIn, firstsIn, secondsIn, sharesIn, reachesIn, massesIn, fluxesIn, meshIn, minusIn, sizeIn, meshBitGood, stepBitGood, meshBodyVerdict, fieldBodyVerdict, stepBodyVerdict, fieldRead}
 use Rattle.taking_mesh.proofs.MeshLaws.{mesh-small}
 use Rattle.old_answers.specs.Before.{oldFieldShape, oldStepShape, oldShapeIn, oldStepShapeIn, meshBy, fluxesBy, oldMeshIn, oldMassesIn}

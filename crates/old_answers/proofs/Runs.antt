@@ -17,8 +17,8 @@ use Rattle.record_bits.specs.Field.{bitAt, bitsAt}
 use Rattle.record_bits.specs.Layout.{bytesFor}
 use Rattle.record_sections.specs.Sections.{entryIn}
 use Rattle.record_heads.specs.Heads.{kindIn, widthIn, cellsIn, facesIn, bytesOf, meshNeeds}
-use Rattle.record_heads.specs.declared.Width.{Width}
-use Rattle.record_heads.specs.declared.Width.the-variants.{Narrow}
+use Rattle.record_layouts.specs.declared.Width.{Width}
+use Rattle.record_layouts.specs.declared.Width.the-variants.{Narrow}
 use Rattle.record_heads.proofs.HeadLaws.{bytes-alone}
 use Rattle.record_reading.specs.Reading.{volumesIn, reachesIn, shapeIn, meshIn, countsIn, massesIn}
 use Rattle.board.specs.Board.{entryAt, listed}

@@ -14,10 +14,10 @@ use Rattle.model.specs.Ceilings.{MeshSmall, StepSmall}
 use Rattle.model.proofs.Verdicts.{both-fine}
 use Rattle.model.proofs.Ceilings.{old-meshes, old-steps}
 use Rattle.record_sections.specs.Sections.{Section}
-use Rattle.record_heads.specs.Layouts.{fieldKind, massBits, fieldRecord, fieldLength}
+use Rattle.record_layouts.specs.Layouts.{fieldKind, massBits, fieldRecord, fieldLength}
 use Rattle.record_heads.specs.Heads.{kindIn, widthIn, cellsIn}
-use Rattle.record_heads.specs.declared.Width.{Width}
-use Rattle.record_heads.specs.declared.Width.the-variants.{Narrow}
+use Rattle.record_layouts.specs.declared.Width.{Width}
+use Rattle.record_layouts.specs.declared.Width.the-variants.{Narrow}
 use Rattle.record_reading.specs.Reading.{meshIn, massesIn, fluxesIn, outsidesIn, releasesIn}
 use Rattle.record_reading.specs.declared.MeshAnswer.{MeshAnswer}
 use Rattle.taking_mesh.specs.MeshTaking.{MeshKept, meshRecordFound, meshJudged}

@@ -13,7 +13,7 @@ use Rattle.model.specs.Mesh.{Mesh, meshOf, maxCells, maxFaces, runCells, runFac
 use Rattle.model.specs.Step.{next}
 use Rattle.model.specs.Causes.{Outcome, accepted, Verdict, _andThen_, inTurn, taken, need, each, between, countsWithin, long, bytesLong, Call, waterOf, cellsOnly, inputOf, counts, meshTables, meshValues, fieldTable, fieldValues, outsideGood, fluxGood, causesWithin}
 use Rattle.record_sections.specs.Sections.{Section, per, perThat, once, shapeBits, lengthOf, width, valueIn, columnIn, recordOf}
-use Rattle.record_heads.specs.Layouts.{isRim, meshValue, fieldValue, stepValue}
+use Rattle.record_layouts.specs.Layouts.{isRim, meshValue, fieldValue, stepValue}
 use Rattle.record_heads.specs.Heads.{kindIn, cellsIn, facesIn, stepFacesIn, hasLength}
 use Rattle.record_zeros.specs.Zeros.{zeroBitGood, minusZero}
 use Rattle.record_writing.specs.Writing.{Writing}

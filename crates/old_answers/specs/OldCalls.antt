@@ -17,10 +17,10 @@ use Rattle.model.specs.declared.Answer.{Answer}
 use Rattle.checks.specs.Total.{totalSaid}
 use Rattle.checks.specs.declared.TotalAnswer.{TotalAnswer}
 use Rattle.record_sections.specs.Sections.{lengthOf, columnIn}
-use Rattle.record_heads.specs.Layouts.{kindNumber}
+use Rattle.record_layouts.specs.Layouts.{kindNumber}
 use Rattle.record_heads.specs.Heads.{kindIn, meshMeasured, fieldNeeds, stepNeeds}
-use Rattle.record_heads.specs.declared.Width.the-variants.{Narrow}
-use Rattle.record_heads.specs.declared.StepKind.{StepKind}
+use Rattle.record_layouts.specs.declared.Width.the-variants.{Narrow}
+use Rattle.record_layouts.specs.declared.StepKind.{StepKind}
 use Rattle.record_reading.specs.Reading.{meshRead, fieldRead, stepRead}
 use Rattle.record_reading.specs.Answers.{stepReadSaid, MeshReading, FieldReading, StepReading}
 use Rattle.record_reading.specs.declared.MeshAnswer.{MeshAnswer}

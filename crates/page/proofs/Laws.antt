@@ -13,16 +13,16 @@ use Rattle.lists.specs.Fold.{sum}
 use Rattle.lists.proofs.Tests.{Fits, fits, fits?}
 use Rattle.lists.proofs.Sums.{greatest-each, sum-bound, sum-split, sum-fewer, sum-blocks, sum-cong}
 use Rattle.model.specs.Mesh.{maxCells, maxVolume, oldCeiling, maxConcentration}
-use Rattle.model.specs.Causes.{Verdict, refused, fine, _andThen_, inTurn, long, need, cellsOnly, counts, meshTables, fieldTable, meshFieldVerdict}
+use Rattle.model.specs.Causes.{Verdict, refused, fine, _andThen_, long, need, cellsOnly, counts, meshTables, fieldTable, meshFieldVerdict}
 use Rattle.model.specs.Accepted.{maxMass}
 use Rattle.model.specs.Calls.{massIn}
-use Rattle.model.proofs.Verdicts.{refused-at, both-fine, need-fine, long-fine, past, andThen-assoc}
+use Rattle.model.proofs.Verdicts.{refused-at, all-fine, fine-all, need-fine, long-fine, past, andThen-assoc}
 use Rattle.model.proofs.Accepted.{field-passed, FieldPassed, few, salt-asks, field-fit, mass-small}
 use Rattle.checks.proofs.Laws.{sum-asks}
 use Rattle.text.specs.Digits.{mostDigits}
 use Rattle.page.specs.Page.{narrowPlaces, widePlaces, largest, restAt, restPlaces, massPlaces, lineBytes, pageCells, pages, cellsOn, pageBytes, qOf, pageMass}
 use Rattle.page.specs.Fitting.{Fitting}
-use Rattle.page.specs.Answers.{verdictWith}
+use Rattle.page.specs.Answers.{causesWith, verdictWith}
 
 -- THE PAGES. One that is not beyond the last has a first cell; all of them have every cell.
 pub page-begins : (cells page : ℕ) → page < pages cells → page * pageCells < cells
@@ -96,9 +96,6 @@ module _ (volumes masses : List ℕ) (cells page : ℕ) {count : ℕ} (e : count
   part-gives = rw (part-is masses (page * pageCells), e) (mass-from volumes masses cells page)
 
 -- WHAT AN ACCEPTED CALL HAS PASSED: the causes of a field, with those of the bytes among them
-all-in-turn : (a b c d e : Verdict) → (a andThen b andThen c) ≡ fine → d ≡ fine → e ≡ fine → inTurn (a ∷ b ∷ c ∷ d ∷ e ∷ []) ≡ fine
-all-in-turn a b c d e p q r = past e (past d p ∙ q) ∙ r
-
 pub record PagePassed (volumes masses : List ℕ) (cells page room : ℕ) : Type 0 where
   pub field-fine : meshFieldVerdict (cellsOnly cells volumes) masses ≡ fine
   pub room-enough : pageBytes (restPlaces cells volumes) cells page ≤ room
@@ -125,14 +122,13 @@ module _ (further : Verdict) (volumes masses : List ℕ) (cells page room : ℕ)
   pub page-passed : verdictWith further volumes masses cells page room ≡ fine → PagePassed volumes masses cells page room
   unfolding verdictWith meshFieldVerdict
   page-passed e =
-      let p = both-fine _ _ e in
-      let q = both-fine _ _ (p .0) in
-      let v = both-fine _ _ (q .0) in
-      let b = both-fine _ _ (both-fine _ _ (v .0) .0) in
+      let p = all-fine (causesWith further volumes masses cells page room) e in
+      let bytes = p .1 .1 .1 in
+      let values = bytes .1 .1 in
       record {
-        field-fine = all-in-turn _ _ _ _ _ (b .0) (v .1) (q .1);
-        room-enough = long-fine _ _ _ (b .1);
-        there = ltb-true page (pages cells) (need-fine 14 page (ltb page (pages cells)) (p .1));
+        field-fine = fine-all (_ ∷ _ ∷ _ ∷ _ ∷ _ ∷ []) (p .0, (p .1 .0, (p .1 .1 .0, (values .0, (values .1 .0, tt)))));
+        room-enough = long-fine _ _ _ (bytes .0);
+        there = ltb-true page (pages cells) (need-fine 14 page (ltb page (pages cells)) (values .1 .1 .0));
       }
 
 module _ (volumes masses : List ℕ) (cells : ℕ) where

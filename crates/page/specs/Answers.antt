@@ -1,12 +1,12 @@
 -- Document 02, S-1: what the call that prints a page refuses, answers and leaves.
 use Prim.Native.Nat.{ℕ}
-use mathlib.Core.List.{List}
+use mathlib.Core.List.{List, [], _∷_}
 use mathlib.Core.Path.{_≡_}
 use lib.Dec.{ltb}
 use lib.ListN.{length}
 use Rattle.lists.specs.Table.{over}
 use Rattle.model.specs.Mesh.{ceiling}
-use Rattle.model.specs.Causes.{Outcome, accepted, Verdict, fine, _andThen_, taken, long, need, cellsOnly, counts, meshTables, fieldTable, meshValues, fieldValues}
+use Rattle.model.specs.Causes.{Outcome, accepted, Verdict, fine, _andThen_, inTurn, taken, long, need, cellsOnly, counts, meshTables, fieldTable, meshValues, fieldValues}
 use Rattle.model.specs.Answers.{told}
 use Rattle.page.specs.Page.{restPlaces, pages, pageBytes, pageText}
 use Rattle.page.specs.declared.PageAnswer.{PageAnswer}
@@ -14,16 +14,20 @@ use Rattle.page.specs.declared.PageAnswer.the-variants.{Printed, Refused
 
 -- Causes in order: position 12 of 2 is what the page is printed into; 14 stands behind 6, and its place is the page asked for. The call is
 -- lent no faces, so 4 and 5 find nothing. A further table that is lent after the bytes, S-14's marks, is judged between 2 and 3.
-unfoldable pub verdictWith : (further : Verdict) (volumes masses : List ℕ) (cells page room : ℕ) → Verdict
-verdictWith further volumes masses cells page room =
+abbrev pub causesWith : (further : Verdict) (volumes masses : List ℕ) (cells page room : ℕ) → List Verdict
+causesWith further volumes masses cells page room =
     counts (cellsOnly cells volumes)
-    andThen meshTables (cellsOnly cells volumes)
-    andThen fieldTable (cellsOnly cells volumes) masses
-    andThen long 12 (pageBytes (restPlaces cells volumes) cells page) room
-    andThen further
-    andThen meshValues ceiling (cellsOnly cells volumes)
-    andThen fieldValues (cellsOnly cells volumes) masses
-    andThen need 14 page (ltb page (pages cells))
+    ∷ meshTables (cellsOnly cells volumes)
+    ∷ fieldTable (cellsOnly cells volumes) masses
+    ∷ long 12 (pageBytes (restPlaces cells volumes) cells page) room
+    ∷ further
+    ∷ meshValues ceiling (cellsOnly cells volumes)
+    ∷ fieldValues (cellsOnly cells volumes) masses
+    ∷ need 14 page (ltb page (pages cells))
+    ∷ []
+
+unfoldable pub verdictWith : (further : Verdict) (volumes masses : List ℕ) (cells page room : ℕ) → Verdict
+verdictWith further volumes masses cells page room = inTurn (causesWith further volumes masses cells page room)
 
 -- The growers' page is lent no further table.
 abbrev pub pageVerdict : (volumes masses : List ℕ) (cells page room : ℕ) → Verdict

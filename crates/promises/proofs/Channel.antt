@@ -15,9 +15,9 @@ use Rattle.model.proofs.Unfolded.{the-step}
 use Rattle.record_bits.specs.Field.{bitAt, bitsAt}
 use Rattle.record_bits.specs.Layout.{spelled, bitsOf, widthOf, bytesFor, octet, packed, rows}
 use Rattle.record_sections.specs.Sections.{those, row, fieldsOf, recordOf}
-use Rattle.record_heads.specs.Layouts.{valueBits, massBits, releaseBits, meshRecord, fieldRecord, meshLength, fieldLength, stepLength}
+use Rattle.record_layouts.specs.Layouts.{valueBits, massBits, releaseBits, meshRecord, fieldRecord, meshLength, fieldLength, stepLength}
 use Rattle.record_heads.specs.Heads.{widthIn, meshHeadVerdict, fieldHeadVerdict, stepHeadVerdict}
-use Rattle.record_heads.specs.declared.Width.the-variants.{Narrow, Wide}
+use Rattle.record_layouts.specs.declared.Width.the-variants.{Narrow, Wide}
 use Rattle.record_zeros.specs.Zeros.{zeroBitGood, minusZero}
 use Rattle.record_reading.specs.Reading.{meshIn, volumesIn, firstsIn, secondsIn, sharesIn, reachesIn, massesIn, fluxesIn, outsidesIn, releasesIn, meshBitGood, stepBitGood, meshBodyVerdict, fieldBodyVerdict, stepBodyVerdict, fieldRead}
 use Rattle.taking_mesh.specs.MeshTaking.{meshRecordFound, meshJudged}

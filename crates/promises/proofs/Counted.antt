@@ -16,9 +16,9 @@ use Rattle.model.specs.Calls.{massIn}
 use Rattle.model.proofs.Verdicts.{need-met, each-cong}
 use Rattle.record_bits.specs.Field.{bitsAt}
 use Rattle.record_sections.specs.Sections.{those, entryIn}
-use Rattle.record_heads.specs.Layouts.{outsideBits, rimFaces, isRim, stepLength}
+use Rattle.record_layouts.specs.Layouts.{outsideBits, rimFaces, isRim, stepLength}
 use Rattle.record_heads.specs.Heads.{stepHeadVerdict}
-use Rattle.record_heads.specs.declared.Width.{Width}
+use Rattle.record_layouts.specs.declared.Width.{Width}
 use Rattle.record_reading.specs.Reading.{outsidesIn, outsidePlace, stepShapeIn, releasesIn, stepBitGood, stepBodyVerdict}
 use Rattle.promises.specs.Held.{cut, cutField}
 

@@ -10,10 +10,10 @@ use Rattle.model.specs.Ceilings.{MeshSmall}
 use Rattle.model.specs.Causes.{fine, counts, meshValues, meshVerdict, fieldValues, fieldVerdict}
 use Rattle.model.proofs.Verdicts.{both-fine}
 use Rattle.model.proofs.Ceilings.{old-meshes, small-of}
-use Rattle.record_heads.specs.Layouts.{meshKind, fieldKind, meshRecord, fieldRecord}
+use Rattle.record_layouts.specs.Layouts.{meshKind, fieldKind, meshRecord, fieldRecord}
 use Rattle.record_heads.specs.Heads.{widthIn}
-use Rattle.record_heads.specs.declared.Width.{Width}
-use Rattle.record_heads.specs.declared.Width.the-variants.{Narrow, Wide}
+use Rattle.record_layouts.specs.declared.Width.{Width}
+use Rattle.record_layouts.specs.declared.Width.the-variants.{Narrow, Wide}
 use Rattle.record_reading.specs.Reading.{meshIn}
 use Rattle.record_reading.specs.declared.MeshCounts.{MeshCounts}
 use Rattle.record_writing.specs.Writing.{mostOf}

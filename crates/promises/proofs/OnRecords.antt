@@ -19,8 +19,8 @@ use Rattle.model.proofs.Accepted.{ready, passed, counted, mesh-fit}
 use Rattle.model.proofs.Next.{moved-keeps}
 use Rattle.model.proofs.Lists.{Fair, amounts-fair, raised-total}
 use Rattle.model.proofs.Agree.{in-agree, out-agree, inputs-agree, fair-agree}
-use Rattle.record_heads.specs.Layouts.{fieldKind, fieldRecord, fieldLength}
-use Rattle.record_heads.specs.declared.Width.{Width}
+use Rattle.record_layouts.specs.Layouts.{fieldKind, fieldRecord, fieldLength}
+use Rattle.record_layouts.specs.declared.Width.{Width}
 use Rattle.record_writing.specs.Writing.{mostOf}
 use Rattle.record_reading.specs.Reading.{meshIn, massesIn}
 use Rattle.record_writing.proofs.Back.{field-record-length}

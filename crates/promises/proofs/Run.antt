@@ -17,7 +17,7 @@ use Rattle.model.specs.Causes.{Outcome, accepted, refused, Verdict, fine, input
 use Rattle.model.specs.Calls.{massIn, lentMasses, fieldAfter}
 use Rattle.model.proofs.Verdicts.{accepted-of, refused-of}
 use Rattle.record_heads.specs.Heads.{widthIn, cellsIn, facesIn}
-use Rattle.record_heads.specs.declared.Width.{Width}
+use Rattle.record_layouts.specs.declared.Width.{Width}
 use Rattle.record_reading.specs.Reading.{volumesIn, firstsIn, secondsIn, sharesIn, reachesIn, massesIn, countsIn}
 use Rattle.record_reading.specs.declared.MeshCounts.{MeshCounts}
 use Rattle.taking_mesh.specs.MeshTaking.{meshJudged}

@@ -6,7 +6,7 @@ use Rattle.lists.specs.Table.{table}
 use Rattle.model.specs.Mesh.{Mesh, meshOf, volume, first, second, share, reach, maxCells, maxFaces}
 use Rattle.model.specs.Causes.{accepted, fine}
 use Rattle.model.specs.Calls.{massIn}
-use Rattle.record_heads.specs.declared.Width.{Width}
+use Rattle.record_layouts.specs.declared.Width.{Width}
 use Rattle.record_reading.specs.Reading.{meshIn, massesIn, meshRead, fieldRead}
 
 -- a mesh and a field with their tables cut to the counts

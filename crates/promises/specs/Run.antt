@@ -6,7 +6,7 @@ use lib.ListN.{drop}
 use Rattle.model.specs.Mesh.{Mesh}
 use Rattle.model.specs.Causes.{fine, meshVerdict, fieldVerdict}
 use Rattle.model.specs.Calls.{Claim}
-use Rattle.record_heads.specs.declared.Width.{Width}
+use Rattle.record_layouts.specs.declared.Width.{Width}
 use Rattle.model.specs.declared.StepTaken.{StepTaken}
 use Rattle.run_printed.specs.Program.{StepsPrint, no-byte, step-ends, step-goes-on, FieldPrints, field-refused, field-accepted, Prints, mesh-refused, mesh-accepted}
 use Rattle.promises.specs.Steps.{StepCall, byTakeStep, StepsMade, cameTo, StepOwed}

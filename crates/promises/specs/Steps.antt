@@ -12,8 +12,8 @@ use Rattle.model.specs.Calls.{Bounded, Left, crossingOf, corrected, plain, lent
 use Rattle.transport.specs.Promise.{stepSaid, leftBy, StepPromise}
 use Rattle.judging.specs.Promise.{JudgePromise}
 use Rattle.plain.specs.Made.{Made}
-use Rattle.record_heads.specs.Layouts.{fieldKind, fieldLength}
-use Rattle.record_heads.specs.declared.Width.{Width}
+use Rattle.record_layouts.specs.Layouts.{fieldKind, fieldLength}
+use Rattle.record_layouts.specs.declared.Width.{Width}
 use Rattle.record_reading.specs.Reading.{massesIn, fluxesIn, outsidesIn, releasesIn}
 use Rattle.model.specs.declared.Printed.{Printed}
 use Rattle.model.specs.declared.StepTaken.{StepTaken}

@@ -5,7 +5,7 @@ use Prim.Native.Nat.{ℕ, _+_, _*_, _/_, _%_, _^_}
 use native.Mathlib.Omega.{arith}
 use Rattle.record_bits.specs.Field.{bitsAt}
 use Rattle.record_bits.proofs.Bytes.{bits-within}
-use Rattle.record_heads.specs.Layouts.{endBits, shareBits}
+use Rattle.record_layouts.specs.Layouts.{endBits, shareBits}
 
 pub row-is : (bs : List ℕ) (first v f : ℕ) {x : ℕ} → x ≡ bitsAt bs (first + f * (32 + v)) (32 + v)
     → (x / 2 ^ (v + shareBits + endBits) % 2 ^ endBits ≡ bitsAt bs (first + f * (32 + v)) endBits)

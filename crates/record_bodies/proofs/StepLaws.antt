@@ -13,8 +13,8 @@ use Rattle.signed.specs.Sign.{withSign}
 use Rattle.record_bits.specs.Field.{bitsAt}
 use Rattle.record_sections.specs.Sections.{shapeBits, place, valueIn, columnIn}
 use Rattle.record_sections.proofs.Bodies.{column-is, column-room}
-use Rattle.record_heads.specs.Layouts.{valueBits, fluxBits, outsideBits, releaseBits, isRim, rimFaces, stepBody}
-use Rattle.record_heads.proofs.Layouts.{release-wide, mass-most, outside-at, releases-at}
+use Rattle.record_layouts.specs.Layouts.{valueBits, fluxBits, outsideBits, releaseBits, isRim, rimFaces, stepBody}
+use Rattle.record_layouts.proofs.Layouts.{release-wide, mass-most, outside-at, releases-at}
 
 module _ (body : List ℕ) (kind cells faces : ℕ) (seconds : List ℕ) where
   pub fluxes-taken : {v : ℕ} → v ≡ valueBits kind → table faces (λ f. withSign (eqb (bitsAt body (0 + f * (1 + v)) 1) 1) (bitsAt body (0 + f * (1 + v) + 1) v))

@@ -9,7 +9,7 @@ use Rattle.lists.specs.Table.{table, over}
 use Rattle.signed.specs.Sign.{withSign}
 use Rattle.record_sections.specs.Sections.{Section, shapeBits, valueIn, columnIn}
 use Rattle.record_bits.specs.Field.{bitsAt}
-use Rattle.record_heads.specs.Layouts.{endBits, shareBits, faceBits, outsideBits, meshBody, stepBody}
+use Rattle.record_layouts.specs.Layouts.{endBits, shareBits, faceBits, outsideBits, meshBody, stepBody}
 
 -- The faces of a mesh from bit `first` on, K of `value` bits: a body holds n of them, and the tables can take them.
 pub record FacesRoom (value : ℕ) (body : List ℕ) (first n firsts seconds shares reaches : ℕ) : Type 0 where

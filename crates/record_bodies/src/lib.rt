@@ -1,8 +1,8 @@
 // The body of a record, read from the part of the record that begins at the head's end, into the counted entries of the tables.
-use record_heads::StepKind;
-use record_heads::Width;
-use record_heads::body::Body;
-use record_heads::lengths;
+use record_layouts::StepKind;
+use record_layouts::Width;
+use record_layouts::body::Body;
+use record_layouts::lengths;
 use record_sections::count_marked;
 use record_sections::read_column;
 use record_sections::read_marked;
@@ -13,7 +13,7 @@ ghost use lib.ListN.{length};
 ghost use Rattle.lists.specs.Table.{table, over};
 ghost use Rattle.record_bits.specs.Field.{bitsAt};
 ghost use Rattle.record_sections.specs.Sections.{shapeBits, columnIn};
-ghost use Rattle.record_heads.specs.Layouts.{meshKind, fieldKind, kindNumber, massWidth, meshBody, fieldBody, stepBody};
+ghost use Rattle.record_layouts.specs.Layouts.{meshKind, fieldKind, kindNumber, massWidth, meshBody, fieldBody, stepBody};
 ghost use Rattle.record_bodies.specs.Bodies.{FacesRoom, FacesFilled, MeshRoom, MeshFilled, StepRoom, StepFilled};
 
 // The four fields of each of n faces from a bit on: they stand one after another, and are read as one number.

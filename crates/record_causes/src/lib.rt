@@ -4,13 +4,13 @@ mod releases;
 use model::Answer;
 use model::needs::and_then;
 use model::needs::long;
-use record_heads::StepKind;
-use record_heads::Width;
-use record_heads::lengths;
+use record_layouts::StepKind;
+use record_layouts::Width;
+use record_layouts::lengths;
 ghost use mathlib.Core.Path.{_≡_};
 ghost use Rattle.model.specs.Mesh.{meshOf};
 ghost use Rattle.model.specs.Answers.{said};
-ghost use Rattle.record_heads.specs.Layouts.{kindNumber};
+ghost use Rattle.record_layouts.specs.Layouts.{kindNumber};
 ghost use Rattle.record_causes.specs.Verdicts.{mostOf, meshWriteVerdict, fieldWriteVerdict, stepWriteVerdict};
 
 // The position of the record's bytes among the tables of cause 2.

@@ -2,15 +2,15 @@
 use model::Answer;
 use model::Cause;
 use model::Refusal;
-use record_heads::StepKind;
-use record_heads::Width;
-use record_heads::body::Body;
+use record_layouts::StepKind;
+use record_layouts::Width;
+use record_layouts::body::Body;
 ghost use mathlib.Core.Path.{_≡_};
 ghost use Prim.Native.Nat.{_≤_, _^_};
 ghost use lib.ListN.{length, getD};
 ghost use Rattle.model.specs.Causes.{each};
 ghost use Rattle.model.specs.Answers.{said};
-ghost use Rattle.record_heads.specs.Layouts.{kindNumber, massWidth};
+ghost use Rattle.record_layouts.specs.Layouts.{kindNumber, massWidth};
 ghost use Rattle.record_causes.specs.Verdicts.{releaseFits};
 
 // The first release that a field of the kind with outfalls does not hold, narrow and wide.

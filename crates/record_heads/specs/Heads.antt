@@ -2,17 +2,17 @@
 -- the head of a step says one of two kinds. S-10: that of a mesh says one of two widths, and the records after it are expected to have its width.
 use Prim.Native.Nat.{ℕ, _+_, min}
 use mathlib.Core.Bool.{Bool, _||_}
-use mathlib.Core.List.{List}
+use mathlib.Core.List.{List, [], _∷_}
 use lib.ListN.{length}
 use lib.Dec.{eqb, leb}
 use Rattle.model.specs.Mesh.{maxCells, maxFaces}
-use Rattle.model.specs.Causes.{Outcome, accepted, refused, Verdict, _andThen_, need, between, countsWithin, long}
+use Rattle.model.specs.Causes.{Outcome, accepted, refused, Verdict, _andThen_, inTurn, need, between, countsWithin, long}
 use Rattle.model.specs.Answers.{told}
 use Rattle.record_bits.specs.Field.{bitsAt}
 use Rattle.record_bits.specs.Layout.{bytesFor}
-use Rattle.record_heads.specs.Layouts.{meshKind, fieldKind, waterKind, outfallKind, widthOf, kindBits, cellsBits, facesBits, meshHeadBits, fieldHeadBits, stepHeadBits, meshLength, fieldLength, stepLength}
-use Rattle.record_heads.specs.declared.Width.{Width}
-use Rattle.record_heads.specs.declared.Width.the-variants.{Narrow, Wide}
+use Rattle.record_layouts.specs.Layouts.{meshKind, fieldKind, waterKind, outfallKind, widthOf, kindBits, cellsBits, facesBits, meshHeadBits, fieldHeadBits, stepHeadBits, meshLength, fieldLength, stepLength}
+use Rattle.record_layouts.specs.declared.Width.{Width}
+use Rattle.record_layouts.specs.declared.Width.the-variants.{Narrow, Wide}
 use Rattle.record_heads.specs.declared.LengthAnswer.{LengthAnswer}
 use Rattle.record_heads.specs.declared.LengthAnswer.the-variants as needs
 use Rattle.record_heads.specs.declared.MeshLength.{MeshLength}
@@ -63,19 +63,34 @@ abbrev pub hasCount : ℕ → ℕ → Verdict
 hasCount count expected = need 13 1 (eqb count expected)
 
 -- The order of reading up to the head: too short for its head 11, then 13, then 1. A caller may set lower limits of a mesh than the paper's.
+abbrev pub meshHeadCauses : ℕ → ℕ → List ℕ → List Verdict
+meshHeadCauses mostCells mostFaces bs =
+    hasHead bs meshHeadBits ∷ hasMeshKind bs
+    ∷ countsWithin (min mostCells maxCells) (min mostFaces maxFaces) (cellsIn bs) (facesIn bs)
+    ∷ []
+
 unfoldable pub meshHeadVerdict : ℕ → ℕ → List ℕ → Verdict
-meshHeadVerdict mostCells mostFaces bs = hasHead bs meshHeadBits andThen hasMeshKind bs
-    andThen countsWithin (min mostCells maxCells) (min mostFaces maxFaces) (cellsIn bs) (facesIn bs)
+meshHeadVerdict mostCells mostFaces bs = inTurn (meshHeadCauses mostCells mostFaces bs)
+
+abbrev pub fieldHeadCauses : Width → ℕ → List ℕ → List Verdict
+fieldHeadCauses w cells bs =
+    hasHead bs fieldHeadBits ∷ hasKind bs (fieldKind w) ∷ hasCount (cellsIn bs) cells
+    ∷ need 1 0 (between 1 maxCells cells)
+    ∷ []
 
 unfoldable pub fieldHeadVerdict : Width → ℕ → List ℕ → Verdict
-fieldHeadVerdict w cells bs = hasHead bs fieldHeadBits andThen hasKind bs (fieldKind w) andThen hasCount (cellsIn bs) cells
-    andThen need 1 0 (between 1 maxCells cells)
+fieldHeadVerdict w cells bs = inTurn (fieldHeadCauses w cells bs)
 
 -- A step's length rests on the cells and the seconds, so that both are tested before that length: the cells by 1, a table of seconds that is
 -- too short by 2.
+abbrev pub stepHeadCauses : Width → (cells faces : ℕ) → List ℕ → List ℕ → List Verdict
+stepHeadCauses w cells faces seconds bs =
+    hasHead bs stepHeadBits ∷ hasStepKind w bs ∷ hasCount (stepFacesIn bs) faces
+    ∷ countsWithin maxCells maxFaces cells faces ∷ long 2 faces (length seconds)
+    ∷ []
+
 unfoldable pub stepHeadVerdict : Width → (cells faces : ℕ) → List ℕ → List ℕ → Verdict
-stepHeadVerdict w cells faces seconds bs = hasHead bs stepHeadBits andThen hasStepKind w bs andThen hasCount (stepFacesIn bs) faces
-    andThen countsWithin maxCells maxFaces cells faces andThen long 2 faces (length seconds)
+stepHeadVerdict w cells faces seconds bs = inTurn (stepHeadCauses w cells faces seconds bs)
 
 -- How many bytes a record needs, as its head and the mesh that it belongs to say. S-10: the head of a mesh says the width too.
 unfoldable pub meshMeasured : ℕ → ℕ → List ℕ → Outcome MeshLength

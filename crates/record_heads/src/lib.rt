@@ -1,17 +1,25 @@
-// The three records of document 01 up to their bodies: where each field stands, how long a record is, and its head. A step record is of one
-// of two kinds, by document 02's S-6.
-pub mod body;
-pub mod lengths;
-
-pub use lengths::FIELD_HEAD;
-pub use lengths::MESH_HEAD;
-pub use lengths::STEP_HEAD;
+// The heads of the three records of document 01: their fields, what they are refused for, and how many bytes the record needs.
 use model::Answer;
 use model::Cause;
 use model::Refusal;
 use model::needs::and_then;
 use model::needs::between;
 use model::needs::need;
+use record_layouts::CELLS;
+use record_layouts::FACES;
+use record_layouts::FIELD_HEAD;
+use record_layouts::FIELD_KIND;
+use record_layouts::KIND;
+use record_layouts::MESH_HEAD;
+use record_layouts::MESH_KIND;
+use record_layouts::OUTFALL_KIND;
+use record_layouts::STEP_HEAD;
+use record_layouts::StepKind;
+use record_layouts::WATER_KIND;
+use record_layouts::WIDER;
+use record_layouts::Width;
+use record_layouts::lengths;
+use record_layouts::of_width;
 use record_reader::Spelled;
 ghost use mathlib.Core.Path.{_≡_};
 ghost use mathlib.Core.Bool.{true};
@@ -21,43 +29,8 @@ ghost use Rattle.model.specs.Mesh.{maxCells, maxFaces};
 ghost use Rattle.model.specs.Causes.{countsWithin};
 ghost use Rattle.model.specs.Answers.{said};
 ghost use Rattle.record_reader.specs.Numbers.{numberAt, spelledNumber};
-ghost use Rattle.record_heads.specs.Layouts.{ofWidth, meshKind, kindNumber};
+ghost use Rattle.record_layouts.specs.Layouts.{meshKind, kindNumber};
 ghost use Rattle.record_heads.specs.Heads.{kindIn, widthIn, cellsIn, facesIn, stepFacesIn, isMeshKind, isStepKind, meshHeadVerdict, fieldHeadVerdict, stepHeadVerdict, meshMeasured, fieldNeeds, stepNeeds, lengthSaid, meshLengthSaid};
-
-// The widths of a head's fields.
-pub const KIND: usize = 4;
-
-pub const CELLS: usize = 12;
-
-pub const FACES: usize = 13;
-
-// The zero bits that end a head.
-pub const MESH_ZEROS: usize = 3;
-
-pub const STEP_ZEROS: usize = 15;
-
-// The kinds of the narrow records; the wide ones are four more.
-pub const MESH_KIND: u64 = 1;
-
-pub const FIELD_KIND: u64 = 2;
-
-pub const WATER_KIND: u64 = 3;
-
-pub const OUTFALL_KIND: u64 = 4;
-
-pub const WIDER: u64 = 4;
-
-// The width of the records: that of a mesh fixes that of those after it.
-pub enum Width {
-    Narrow,
-    Wide,
-}
-
-// The kind of a step record: the water alone, or with what outfalls release into the cells.
-pub enum StepKind {
-    Water,
-    Outfalls,
-}
 
 // How many bytes a record needs, or why its head is refused.
 pub enum LengthAnswer {
@@ -125,27 +98,6 @@ fn step_faces(bytes: &[u8]) -> usize
     ensures { λ r. ⌜ r ≡ stepFacesIn (now (bytes .entry)) ⌝ }
 {
     field_after(bytes, KIND, FACES) as usize
-}
-
-// The kind of a width, by that of the narrow record.
-pub fn of_width(width: Width, kind: u64) -> u64
-    requires { ⌜ kind ≤ 4 ⌝ }
-    ensures { λ r. ⌜ r ≡ ofWidth width kind ⌝ }
-{
-    match width {
-        Width::Narrow => kind,
-        Width::Wide => WIDER + kind,
-    }
-}
-
-// The number that a step's head says for a kind.
-pub fn kind_number(width: Width, kind: StepKind) -> u64
-    ensures { λ r. ⌜ r ≡ kindNumber width kind ⌝ }
-{
-    match kind {
-        StepKind::Water => of_width(width, WATER_KIND),
-        StepKind::Outfalls => of_width(width, OUTFALL_KIND),
-    }
 }
 
 // Whether a head's kind is one of a mesh's.

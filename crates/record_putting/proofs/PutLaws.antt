@@ -8,8 +8,8 @@ use lib.ListN.{length, getD}
 use Rattle.record_sections.specs.Sections.{Section, Values, Fits, shapeBits}
 use Rattle.record_sections.proofs.Columns.{Written}
 use Rattle.record_sections.proofs.Bodies.{Column, column-rooms, column-fits, column-small}
-use Rattle.record_heads.specs.Layouts.{releaseBits, stepShape, stepBits}
-use Rattle.record_heads.proofs.Layouts.{mass-most, releasePlace, release-wide, step-is, releases-in}
+use Rattle.record_layouts.specs.Layouts.{releaseBits, stepShape, stepBits}
+use Rattle.record_layouts.proofs.Layouts.{mass-most, releasePlace, release-wide, step-is, releases-in}
 
 -- bytes that hold a record with a head of so many bits; its places are far below 2^64
 pub record Room (S : List Section) (head : ℕ) (bs : List ℕ) : Type 0 where

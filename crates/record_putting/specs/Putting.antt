@@ -8,7 +8,7 @@ use Rattle.lists.specs.Table.{over}
 use Rattle.model.specs.Mesh.{Mesh, maxCells, maxFaces}
 use Rattle.model.specs.Accepted.{MeshLent}
 use Rattle.record_sections.specs.Sections.{Fits}
-use Rattle.record_heads.specs.Layouts.{outsideBits, outsideOf, meshShape, meshValue, fieldShape, fieldValue, stepShape, stepValue, meshLength, fieldLength, stepLength}
+use Rattle.record_layouts.specs.Layouts.{outsideBits, outsideOf, meshShape, meshValue, fieldShape, fieldValue, stepShape, stepValue, meshLength, fieldLength, stepLength}
 
 -- a record that its fields can hold, tables that lend it, and bytes that can hold it
 pub record MeshWhole (kind : ℕ) (M : Mesh) (bs : List ℕ) : Type 0 where

@@ -1,9 +1,16 @@
 // A record that passed, put into the bytes field by field of its head and column by column of its body, and how many bytes it takes.
 use record_bits::write_bits;
-use record_heads::StepKind;
-use record_heads::Width;
-use record_heads::body::Body;
-use record_heads::lengths;
+use record_layouts::CELLS;
+use record_layouts::FACES;
+use record_layouts::FIELD_KIND;
+use record_layouts::KIND;
+use record_layouts::MESH_KIND;
+use record_layouts::MESH_ZEROS;
+use record_layouts::STEP_ZEROS;
+use record_layouts::StepKind;
+use record_layouts::Width;
+use record_layouts::body::Body;
+use record_layouts::lengths;
 use record_sections::count_marked;
 use record_sections::pad;
 use record_sections::put_column;
@@ -15,7 +22,7 @@ ghost use Prim.Native.Nat.{ℕ, _+_, _*_, _^_, _≤_, _<_};
 ghost use lib.ListN.{length, getD};
 ghost use Rattle.record_sections.specs.Columns.{PutColumn};
 ghost use Rattle.model.specs.Mesh.{meshOf};
-ghost use Rattle.record_heads.specs.Layouts.{meshKind, fieldKind, kindNumber, massWidth, fieldHeadBits, meshRecord, fieldRecord, stepRecord, meshLength, fieldLength, stepLength};
+ghost use Rattle.record_layouts.specs.Layouts.{meshKind, fieldKind, kindNumber, massWidth, fieldHeadBits, meshRecord, fieldRecord, stepRecord, meshLength, fieldLength, stepLength};
 ghost use Rattle.record_putting.specs.Putting.{MeshWhole, FieldWhole, StepWhole, Wrote};
 
 // In bits.
@@ -37,24 +44,19 @@ pub fn mesh(
         (meshRecord (meshKind width) (meshOf cells faces (now (volumes .entry)) (now (firsts .entry)) (now (seconds .entry)) (now (shares .entry)) (now (reaches .entry))))
         (meshLength (meshKind width) cells faces) (now (bytes .exit)) r ⌝ }
 {
-    let kind = record_heads::of_width(width, record_heads::MESH_KIND);
+    let kind = record_layouts::of_width(width, MESH_KIND);
     let value = lengths::value_width(width);
     let face = Body::ENDS_AND_SHARE + value;
     let head = 8 * lengths::MESH_HEAD;
-    let zeros = head - record_heads::MESH_ZEROS;
+    let zeros = head - MESH_ZEROS;
     let first = head + cells * value;
     let second = first + Body::END;
     let share = second + Body::END;
     let reach = share + Body::SHARE;
-    write_bits(bytes, 0, record_heads::KIND, kind);
-    write_bits(bytes, record_heads::KIND, record_heads::CELLS, cells as u64);
-    write_bits(
-        bytes,
-        record_heads::KIND + record_heads::CELLS,
-        record_heads::FACES,
-        faces as u64,
-    );
-    write_bits(bytes, zeros, record_heads::MESH_ZEROS, 0);
+    write_bits(bytes, 0, KIND, kind);
+    write_bits(bytes, KIND, CELLS, cells as u64);
+    write_bits(bytes, KIND + CELLS, FACES, faces as u64);
+    write_bits(bytes, zeros, MESH_ZEROS, 0);
     put_column(bytes, head, value, value, cells, volumes);
     put_column(bytes, first, face, Body::END, faces, firsts);
     put_column(bytes, second, face, Body::END, faces, seconds);
@@ -88,10 +90,10 @@ pub fn field(width: Width, cells: usize, masses: &[u64], bytes: &mut [u8]) -> us
     requires { ⌜ FieldWhole (fieldKind width) cells (now masses) (now bytes) ⌝ }
     ensures { λ r. ⌜ Wrote (now (bytes .entry)) (fieldRecord (fieldKind width) cells (now (masses .entry))) (fieldLength (fieldKind width) cells) (now (bytes .exit)) r ⌝ }
 {
-    let kind = record_heads::of_width(width, record_heads::FIELD_KIND);
+    let kind = record_layouts::of_width(width, FIELD_KIND);
     let mass = lengths::mass_width(width);
-    write_bits(bytes, 0, record_heads::KIND, kind);
-    write_bits(bytes, record_heads::KIND, record_heads::CELLS, cells as u64);
+    write_bits(bytes, 0, KIND, kind);
+    write_bits(bytes, KIND, CELLS, cells as u64);
     put_masses(bytes, width, cells, masses);
     pad(bytes, FIELD_HEAD + cells * mass)
 }
@@ -116,20 +118,15 @@ pub fn step(
     let value = lengths::value_width(width);
     let flux = Body::SIGN + value;
     let head = 8 * lengths::STEP_HEAD;
-    let zeros = head - record_heads::STEP_ZEROS;
+    let zeros = head - STEP_ZEROS;
     let size = head + Body::SIGN;
     let first = head + faces * flux;
     let outside = count_marked(model::RIM, faces, seconds);
     let release = lengths::after_outsides(first, outside);
     let bits = lengths::release_width(width, kind);
-    write_bits(
-        bytes,
-        0,
-        record_heads::KIND,
-        record_heads::kind_number(width, kind),
-    );
-    write_bits(bytes, record_heads::KIND, record_heads::FACES, faces as u64);
-    write_bits(bytes, zeros, record_heads::STEP_ZEROS, 0);
+    write_bits(bytes, 0, KIND, record_layouts::kind_number(width, kind));
+    write_bits(bytes, KIND, FACES, faces as u64);
+    write_bits(bytes, zeros, STEP_ZEROS, 0);
     put_signs(bytes, head, flux, faces, fluxes);
     put_sizes(bytes, size, flux, value, faces, fluxes);
     put_marked(

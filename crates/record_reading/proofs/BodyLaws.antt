@@ -10,17 +10,15 @@ use Rattle.lists.specs.Table.{over}
 use Rattle.lists.proofs.Tables.{table-cong}
 use Rattle.signed.specs.Sign.{withSign}
 use Rattle.model.specs.Mesh.{maxCells, maxFaces}
-use Rattle.model.specs.Causes.{fine}
-use Rattle.model.proofs.Verdicts.{both-fine}
 use Rattle.record_bits.proofs.Layouts.{bytes-hold, bytes-most}
 use Rattle.record_sections.specs.Sections.{Section, shapeBits, valueIn, columnIn}
 use Rattle.record_sections.proofs.Bodies.{bodyOf, body-length, body-value, body-column}
-use Rattle.record_heads.specs.Layouts.{meshHead, meshBody, fieldHead, fieldBody, stepHead, stepBody, meshBits, fieldBits, stepBits}
+use Rattle.record_layouts.specs.Layouts.{meshHead, meshBody, fieldHead, fieldBody, stepHead, stepBody, meshBits, fieldBits, stepBits}
 use Rattle.record_heads.specs.Heads.{kindIn, cellsIn, facesIn}
-use Rattle.record_heads.proofs.Layouts.{value-most, mesh-most, field-most, step-most}
-use Rattle.record_reading.specs.Reading.{shapeIn, massesIn, stepShapeIn, meshBodyVerdict, fieldBodyVerdict, stepBodyVerdict}
+use Rattle.record_layouts.proofs.Layouts.{value-most, mesh-most, field-most, step-most}
+use Rattle.record_reading.specs.Reading.{shapeIn, massesIn, stepShapeIn}
 use Rattle.record_bodies.specs.Bodies.{MeshRoom, MeshFilled, StepRoom, StepFilled}
-use Rattle.record_reading.proofs.ReadLaws.{mesh-tables-say, field-tables-say, step-tables-say}
+use Rattle.record_reading.proofs.ReadLaws.{MeshTablesSay, FieldTablesSay, StepTablesSay}
 
 -- heads in bytes
 abbrev pub meshHeadBytes : ℕ
@@ -34,11 +32,9 @@ stepHeadBytes = 4
 
 -- a mesh
 module _ (bs : List ℕ) where
-  pub mesh-room : {v f s g k : ℕ} → cellsIn bs ≤ maxCells → facesIn bs ≤ maxFaces → meshBodyVerdict bs v f s g k ≡ fine
+  pub mesh-room : {v f s g k : ℕ} → cellsIn bs ≤ maxCells → facesIn bs ≤ maxFaces → MeshTablesSay bs v f s g k
       → (meshHeadBytes ≤ length bs) × MeshRoom (kindIn bs) (cellsIn bs) (facesIn bs) (bodyOf meshHeadBytes bs) v f s g k
-  unfolding meshBodyVerdict
-  mesh-room {v} {f} {s} {g} {k} few-cells few-faces passed =
-      let says = mesh-tables-say bs v f s g k (both-fine _ _ passed .0) in
+  mesh-room few-cells few-faces says =
       let end = meshBits (kindIn bs) (cellsIn bs) (facesIn bs) in
       let held = bytes-hold end in
       let most = bytes-most end in
@@ -75,11 +71,10 @@ module _ (bs : List ℕ) where
 
 -- a field
 module _ (cells : ℕ) (bs : List ℕ) where
-  pub field-room : {m : ℕ} → cells ≤ maxCells → fieldBodyVerdict cells bs m ≡ fine
+  pub field-room : {m : ℕ} → cells ≤ maxCells → FieldTablesSay cells bs m
       → (fieldHeadBytes ≤ length bs) × ((8 * length (bodyOf fieldHeadBytes bs) < 2 ^ 64)
       × (shapeBits (fieldBody (kindIn bs) cells) ≤ 8 * length (bodyOf fieldHeadBytes bs)) × (cells ≤ m))
-  field-room {m} few passed =
-      let says = field-tables-say cells bs m passed in
+  field-room few says =
       let held = bytes-hold (fieldBits (kindIn bs) cells) in
       let most = bytes-most (fieldBits (kindIn bs) cells) in
       let small = field-most (kindIn bs) cells few in
@@ -97,11 +92,9 @@ module _ (cells faces : ℕ) (seconds bs : List ℕ) where
   abbrev T : List Section
   T = stepBody (kindIn bs) cells faces seconds
 
-  pub step-room : {u x y : ℕ} → cells ≤ maxCells → faces ≤ maxFaces → faces ≤ length seconds → stepBodyVerdict cells faces seconds bs u x y ≡ fine
+  pub step-room : {u x y : ℕ} → cells ≤ maxCells → faces ≤ maxFaces → faces ≤ length seconds → StepTablesSay cells faces seconds bs u x y
       → (stepHeadBytes ≤ length bs) × StepRoom (kindIn bs) cells faces seconds (bodyOf stepHeadBytes bs) u x y
-  unfolding stepBodyVerdict
-  step-room {u} {x} {y} few-cells few-faces lent passed =
-      let says = step-tables-say (kindIn bs) cells faces seconds bs u x y (both-fine _ _ passed .0) in
+  step-room few-cells few-faces lent says =
       let end = stepBits (kindIn bs) cells faces seconds in
       let held = bytes-hold end in
       let most = bytes-most end in

@@ -1,5 +1,5 @@
 -- What a record that passed its tests says, and what a reading comes to where it is refused, at its head or after it, and where it is accepted.
-use Prim.Native.Nat.{ℕ, _≤_}
+use Prim.Native.Nat.{ℕ, _*_, _≤_}
 use mathlib.Core.Path.{_≡_, sym}
 use mathlib.Core.List.{List}
 use mathlib.Core.Bool.{Bool, true, false, _||_}
@@ -7,21 +7,20 @@ use lib.Dec.{eqb}
 use lib.IntN.{ℤ}
 use Rattle.lists.proofs.Tests.{Same, same, same?}
 use lib.ListN.{length}
-use borrow.Author.Tests.{leb-true, eqb-true}
+use borrow.Author.Tests.{eqb-true}
 use Rattle.lists.specs.Table.{over}
-use Rattle.model.specs.Causes.{Outcome, accepted, Verdict, fine, _andThen_, long}
+use Rattle.model.specs.Causes.{Outcome, accepted, Verdict, fine, _andThen_, inTurn, each}
 use Rattle.model.specs.Answers.{told}
 use Rattle.model.specs.declared.Answer.the-variants as call
 use Rattle.model.specs.declared.Refusal.{Refusal}
-use Rattle.model.proofs.Verdicts.{both-fine, need-fine}
+use Rattle.model.proofs.Verdicts.{both-fine, all-fine, need-fine, long-fine}
 use Rattle.record_bits.specs.Layout.{bytesFor}
-use Rattle.record_heads.specs.Layouts.{meshKind, widthOf, kindNumber, meshBits, fieldBits, stepBits, meshLength, fieldLength, stepLength}
-use Rattle.record_heads.specs.Heads.{kindIn, isMeshKind, cellsIn, facesIn, hasLength, meshHeadVerdict, stepHeadVerdict}
-use Rattle.record_heads.specs.declared.Width.{Width}
-use Rattle.record_heads.specs.declared.Width.the-variants.{Narrow, Wide}
-use Rattle.record_heads.specs.declared.StepKind.{StepKind}
-use Rattle.record_heads.proofs.HeadLaws.{MeshHeadSays, mesh-head-says, StepHeadSays, step-head-says}
-use Rattle.record_reading.specs.Reading.{shapeIn, countsIn, volumesIn, firstsIn, secondsIn, sharesIn, reachesIn, massesIn, fluxesIn, outsidesIn, stepShapeIn, releasesIn, meshBodyVerdict, fieldBodyVerdict, stepBodyVerdict, meshRead, stepRead}
+use Rattle.record_layouts.specs.Layouts.{meshKind, widthOf, kindNumber, meshBits, fieldBits, stepBits, meshLength, fieldLength, stepLength}
+use Rattle.record_heads.specs.Heads.{kindIn, isMeshKind, cellsIn, facesIn, meshHeadVerdict, stepHeadVerdict}
+use Rattle.record_layouts.specs.declared.Width.{Width}
+use Rattle.record_layouts.specs.declared.StepKind.{StepKind}
+use Rattle.record_heads.proofs.HeadLaws.{MeshHeadSays, mesh-head-says, FieldHeadSays, field-head-says, StepHeadSays, step-head-says}
+use Rattle.record_reading.specs.Reading.{shapeIn, countsIn, volumesIn, firstsIn, secondsIn, sharesIn, reachesIn, massesIn, fluxesIn, outsidesIn, stepShapeIn, releasesIn, meshBitGood, stepBitGood, meshTableCauses, fieldBodyCauses, stepTableCauses, meshBodyVerdict, fieldBodyVerdict, stepBodyVerdict, meshRead, fieldRead, stepRead}
 use Rattle.record_reading.specs.Answers.{MeshReading, FieldReading, StepReading}
 use Rattle.record_bodies.specs.Bodies.{MeshFilled, StepFilled}
 use Rattle.record_reading.specs.declared.MeshCounts.{MeshCounts}
@@ -45,24 +44,18 @@ pub record MeshTablesSay (bs : List ℕ) (volumes firsts seconds shares reaches 
   pub shares-long : facesIn bs ≤ shares
   pub reaches-long : facesIn bs ≤ reaches
 
-pub mesh-tables-say : (bs : List ℕ) (volumes firsts seconds shares reaches : ℕ)
-    → (hasLength bs (meshLength (kindIn bs) (cellsIn bs) (facesIn bs)) andThen long 0 (cellsIn bs) volumes andThen long 1 (facesIn bs) firsts
-    andThen long 2 (facesIn bs) seconds andThen long 3 (facesIn bs) shares andThen long 4 (facesIn bs) reaches) ≡ fine
+pub mesh-tables-say : (bs : List ℕ) (volumes firsts seconds shares reaches : ℕ) → inTurn (meshTableCauses bs volumes firsts seconds shares reaches) ≡ fine
     → MeshTablesSay bs volumes firsts seconds shares reaches
 unfolding meshLength
 mesh-tables-say bs volumes firsts seconds shares reaches e =
-    let a = both-fine _ _ e in
-    let b = both-fine _ _ (a .0) in
-    let c = both-fine _ _ (b .0) in
-    let d = both-fine _ _ (c .0) in
-    let g = both-fine _ _ (d .0) in
+    let p = all-fine (meshTableCauses bs volumes firsts seconds shares reaches) e in
     record {
-      same-length = eqb-true _ _ (need-fine 11 0 _ (g .0));
-      volumes-long = leb-true _ _ (need-fine 2 0 _ (g .1));
-      firsts-long = leb-true _ _ (need-fine 2 1 _ (d .1));
-      seconds-long = leb-true _ _ (need-fine 2 2 _ (c .1));
-      shares-long = leb-true _ _ (need-fine 2 3 _ (b .1));
-      reaches-long = leb-true _ _ (need-fine 2 4 _ (a .1));
+      same-length = eqb-true _ _ (need-fine 11 0 _ (p .0));
+      volumes-long = long-fine 0 _ _ (p .1 .0);
+      firsts-long = long-fine 1 _ _ (p .1 .1 .0);
+      seconds-long = long-fine 2 _ _ (p .1 .1 .1 .0);
+      shares-long = long-fine 3 _ _ (p .1 .1 .1 .1 .0);
+      reaches-long = long-fine 4 _ _ (p .1 .1 .1 .1 .1 .0);
     }
 
 pub record FieldTablesSay (cells : ℕ) (bs : List ℕ) (masses : ℕ) : Type 0 where
@@ -72,57 +65,68 @@ pub record FieldTablesSay (cells : ℕ) (bs : List ℕ) (masses : ℕ) : Type 0 
 pub field-tables-say : (cells : ℕ) (bs : List ℕ) (masses : ℕ) → fieldBodyVerdict cells bs masses ≡ fine → FieldTablesSay cells bs masses
 unfolding fieldBodyVerdict fieldLength
 field-tables-say cells bs masses e =
-    let a = both-fine _ _ e in
-    record { same-length = eqb-true _ _ (need-fine 11 0 _ (a .0)); masses-long = leb-true _ _ (need-fine 2 5 _ (a .1)) }
+    let p = all-fine (fieldBodyCauses cells bs masses) e in
+    record { same-length = eqb-true _ _ (need-fine 11 0 _ (p .0)); masses-long = long-fine 5 _ _ (p .1 .0) }
 
-pub record StepTablesSay (kind cells faces : ℕ) (seconds bs : List ℕ) (fluxes outsides releases : ℕ) : Type 0 where
-  pub same-length : length bs ≡ bytesFor (stepBits kind cells faces seconds)
+pub record StepTablesSay (cells faces : ℕ) (seconds bs : List ℕ) (fluxes outsides releases : ℕ) : Type 0 where
+  pub same-length : length bs ≡ bytesFor (stepBits (kindIn bs) cells faces seconds)
   pub fluxes-long : faces ≤ fluxes
   pub outsides-long : faces ≤ outsides
   pub releases-long : cells ≤ releases
 
-pub step-tables-say : (kind cells faces : ℕ) (seconds bs : List ℕ) (fluxes outsides releases : ℕ)
-    → (hasLength bs (stepLength kind cells faces seconds) andThen long 6 faces fluxes andThen long 7 faces outsides andThen long 14 cells releases) ≡ fine
-    → StepTablesSay kind cells faces seconds bs fluxes outsides releases
+pub step-tables-say : (cells faces : ℕ) (seconds bs : List ℕ) (fluxes outsides releases : ℕ)
+    → inTurn (stepTableCauses cells faces seconds bs fluxes outsides releases) ≡ fine → StepTablesSay cells faces seconds bs fluxes outsides releases
 unfolding stepLength
-step-tables-say kind cells faces seconds bs fluxes outsides releases e =
-    let a = both-fine _ _ e in
-    let b = both-fine _ _ (a .0) in
-    let c = both-fine _ _ (b .0) in
+step-tables-say cells faces seconds bs fluxes outsides releases e =
+    let p = all-fine (stepTableCauses cells faces seconds bs fluxes outsides releases) e in
     record {
-      same-length = eqb-true _ _ (need-fine 11 0 _ (c .0));
-      fluxes-long = leb-true _ _ (need-fine 2 6 _ (c .1));
-      outsides-long = leb-true _ _ (need-fine 2 7 _ (b .1));
-      releases-long = leb-true _ _ (need-fine 2 14 _ (a .1));
+      same-length = eqb-true _ _ (need-fine 11 0 _ (p .0));
+      fluxes-long = long-fine 6 _ _ (p .1 .0);
+      outsides-long = long-fine 7 _ _ (p .1 .1 .0);
+      releases-long = long-fine 14 _ _ (p .1 .1 .1 .0);
     }
 
--- what a mesh reading that is accepted has passed
+-- what a reading that is accepted has passed: a mesh
 pub record ReadSays (mostCells mostFaces : ℕ) (bs : List ℕ) (n : MeshCounts) (v f s g k : ℕ) : Type 0 where
   pub counts-are : n ≡ countsIn bs
   pub head : MeshHeadSays mostCells mostFaces bs
-  pub body-fine : meshBodyVerdict bs v f s g k ≡ fine
+  pub tables : MeshTablesSay bs v f s g k
+  pub zeros : each 12 (8 * length bs) (meshBitGood bs) ≡ fine
 
 pub read-says : (mostCells mostFaces : ℕ) (bs : List ℕ) (v f s g k : ℕ) {n : MeshCounts} → meshRead mostCells mostFaces bs v f s g k ≡ accepted n
     → ReadSays mostCells mostFaces bs n v f s g k
-unfolding meshRead _andThen_
+unfolding meshRead meshBodyVerdict _andThen_
 read-says mostCells mostFaces bs v f s g k e =
     let a = both-fine (meshHeadVerdict mostCells mostFaces bs andThen meshBodyVerdict bs v f s g k) (accepted (countsIn bs)) e in
     let b = both-fine (meshHeadVerdict mostCells mostFaces bs) (meshBodyVerdict bs v f s g k) (a .0) in
-    record { counts-are = cc; head = mesh-head-says mostCells mostFaces bs (b .0); body-fine = b .1 }
+    let d = both-fine (inTurn (meshTableCauses bs v f s g k)) (each 12 (8 * length bs) (meshBitGood bs)) (b .1) in
+    record { counts-are = cc; head = mesh-head-says mostCells mostFaces bs (b .0); tables = mesh-tables-say bs v f s g k (d .0); zeros = d .1 }
 
--- what a step reading that is accepted has passed
+-- a field
+pub record FieldReadSays (w : Width) (cells : ℕ) (bs : List ℕ) (m : ℕ) : Type 0 where
+  pub head : FieldHeadSays w cells bs
+  pub tables : FieldTablesSay cells bs m
+
+pub field-read-says : (w : Width) (cells : ℕ) (bs : List ℕ) (m : ℕ) → fieldRead w cells bs m ≡ fine → FieldReadSays w cells bs m
+unfolding fieldRead
+field-read-says w cells bs m e =
+    let p = both-fine _ _ e in record { head = field-head-says w cells bs (p .0); tables = field-tables-say cells bs m (p .1) }
+
+-- a step
 pub record StepReadSays (w : Width) (cells faces : ℕ) (seconds bs : List ℕ) (n u x y : ℕ) : Type 0 where
   pub kind-is : n ≡ kindIn bs
   pub head : StepHeadSays w cells faces seconds bs
-  pub body-fine : stepBodyVerdict cells faces seconds bs u x y ≡ fine
+  pub tables : StepTablesSay cells faces seconds bs u x y
+  pub zeros : each 12 (8 * length bs) (stepBitGood bs cells faces seconds) ≡ fine
 
 pub step-read-says : (w : Width) (cells faces : ℕ) (seconds bs : List ℕ) (u x y : ℕ) {n : ℕ} → stepRead w cells faces seconds bs u x y ≡ accepted n
     → StepReadSays w cells faces seconds bs n u x y
-unfolding stepRead _andThen_
+unfolding stepRead stepBodyVerdict _andThen_
 step-read-says w cells faces seconds bs u x y e =
     let a = both-fine (stepHeadVerdict w cells faces seconds bs andThen stepBodyVerdict cells faces seconds bs u x y) (accepted (kindIn bs)) e in
     let b = both-fine (stepHeadVerdict w cells faces seconds bs) (stepBodyVerdict cells faces seconds bs u x y) (a .0) in
-    record { kind-is = cc; head = step-head-says w cells faces seconds bs (b .0); body-fine = b .1 }
+    let d = both-fine (inTurn (stepTableCauses cells faces seconds bs u x y)) (each 12 (8 * length bs) (stepBitGood bs cells faces seconds)) (b .1) in
+    record { kind-is = cc; head = step-head-says w cells faces seconds bs (b .0); tables = step-tables-say cells faces seconds bs u x y (d .0); zeros = d .1 }
 
 -- the answer and the tables
 module _ {bs v f s w k : List ℕ} {o : Outcome MeshCounts} where

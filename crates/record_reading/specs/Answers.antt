@@ -7,8 +7,8 @@ use Rattle.lists.specs.Table.{over}
 use Rattle.model.specs.Causes.{Outcome, accepted, Verdict, taken}
 use Rattle.model.specs.Answers.{told, said}
 use Rattle.model.specs.declared.Answer.{Answer}
-use Rattle.record_heads.specs.declared.Width.{Width}
-use Rattle.record_heads.specs.Layouts.{kindNumber}
+use Rattle.record_layouts.specs.declared.Width.{Width}
+use Rattle.record_layouts.specs.Layouts.{kindNumber}
 use Rattle.record_reading.specs.declared.MeshCounts.{MeshCounts}
 use Rattle.record_reading.specs.declared.MeshAnswer.{MeshAnswer}
 use Rattle.record_reading.specs.declared.MeshAnswer.the-variants as mesh

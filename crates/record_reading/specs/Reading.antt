@@ -1,19 +1,19 @@
 -- Document 01, "Causes", of reading: what reading a record gives, and what it refuses. Document 02, S-6: releases, and the kind of a step.
 use Prim.Native.Nat.{ℕ, _*_}
 use mathlib.Core.Bool.{Bool, not, _&&_}
-use mathlib.Core.List.{List, [], _∷_}
+use mathlib.Core.List.{List, [], _∷_, _++_}
 use lib.ListN.{length}
 use lib.Dec.{eqb}
 use lib.IntN.{ℤ}
 use Rattle.lists.specs.Table.{table}
 use Rattle.signed.specs.Sign.{withSign}
 use Rattle.model.specs.Mesh.{Mesh, meshOf}
-use Rattle.model.specs.Causes.{Outcome, accepted, Verdict, _andThen_, each, long}
+use Rattle.model.specs.Causes.{Outcome, accepted, Verdict, _andThen_, inTurn, each, long}
 use Rattle.record_sections.specs.Sections.{Section, place, valueIn, columnIn}
-use Rattle.record_heads.specs.Layouts.{valueBits, meshZeroBits, stepZeroBits, meshHeadBits, stepHeadBits, Column, volumeColumn, firstColumn, secondColumn, shareColumn, reachColumn, massColumn, signColumn, sizeColumn, outsideColumn, releaseColumn, meshShape, fieldShape, stepHead, fluxSection, outsideSection, stepShape, meshBits, stepBits, meshLength, fieldLength, stepLength}
+use Rattle.record_layouts.specs.Layouts.{valueBits, meshZeroBits, stepZeroBits, meshHeadBits, stepHeadBits, Column, volumeColumn, firstColumn, secondColumn, shareColumn, reachColumn, massColumn, signColumn, sizeColumn, outsideColumn, releaseColumn, meshShape, fieldShape, stepHead, fluxSection, outsideSection, stepShape, meshBits, stepBits, meshLength, fieldLength, stepLength}
 use Rattle.record_heads.specs.Heads.{kindIn, widthIn, cellsIn, facesIn, hasLength, meshHeadVerdict, fieldHeadVerdict, stepHeadVerdict}
 use Rattle.record_zeros.specs.Zeros.{zeroBitGood, minusZero}
-use Rattle.record_heads.specs.declared.Width.{Width}
+use Rattle.record_layouts.specs.declared.Width.{Width}
 use Rattle.record_reading.specs.declared.MeshCounts.{MeshCounts}
 
 -- A step up to its releases: what stands there rests on the width of the kind, and not on the cells.
@@ -89,20 +89,45 @@ stepBitGood bs cells faces seconds i = zeroBitGood bs stepZeroBits stepHeadBits 
 
 -- The order of reading past the head: length 11, then 2, then 12: what a record whose head is fine is refused for, read into tables of so
 -- many entries.
-unfoldable pub meshBodyVerdict : List ℕ → ℕ → ℕ → ℕ → ℕ → ℕ → Verdict
-meshBodyVerdict bs volumes firsts seconds shares reaches = hasLength bs (meshLength (kindIn bs) (cellsIn bs) (facesIn bs))
-    andThen long 0 (cellsIn bs) volumes andThen long 1 (facesIn bs) firsts andThen long 2 (facesIn bs) seconds
-    andThen long 3 (facesIn bs) shares andThen long 4 (facesIn bs) reaches
-    andThen each 12 (8 * length bs) (meshBitGood bs)
+abbrev pub meshTableCauses : List ℕ → (volumes firsts seconds shares reaches : ℕ) → List Verdict
+meshTableCauses bs volumes firsts seconds shares reaches =
+    hasLength bs (meshLength (kindIn bs) (cellsIn bs) (facesIn bs))
+    ∷ long 0 (cellsIn bs) volumes
+    ∷ long 1 (facesIn bs) firsts
+    ∷ long 2 (facesIn bs) seconds
+    ∷ long 3 (facesIn bs) shares
+    ∷ long 4 (facesIn bs) reaches
+    ∷ []
+
+abbrev pub meshBodyCauses : List ℕ → (volumes firsts seconds shares reaches : ℕ) → List Verdict
+meshBodyCauses bs volumes firsts seconds shares reaches =
+    meshTableCauses bs volumes firsts seconds shares reaches ++ (each 12 (8 * length bs) (meshBitGood bs) ∷ [])
+
+unfoldable pub meshBodyVerdict : List ℕ → (volumes firsts seconds shares reaches : ℕ) → Verdict
+meshBodyVerdict bs volumes firsts seconds shares reaches = inTurn (meshBodyCauses bs volumes firsts seconds shares reaches)
+
+-- a field has no zero bits
+abbrev pub fieldBodyCauses : ℕ → List ℕ → ℕ → List Verdict
+fieldBodyCauses cells bs masses = hasLength bs (fieldLength (kindIn bs) cells) ∷ long 5 cells masses ∷ []
 
 unfoldable pub fieldBodyVerdict : ℕ → List ℕ → ℕ → Verdict
-fieldBodyVerdict cells bs masses = hasLength bs (fieldLength (kindIn bs) cells) andThen long 5 cells masses
+fieldBodyVerdict cells bs masses = inTurn (fieldBodyCauses cells bs masses)
 
 -- the releases are table 14, in kind 3 too
+abbrev pub stepTableCauses : (cells faces : ℕ) → List ℕ → List ℕ → (fluxes outsides releases : ℕ) → List Verdict
+stepTableCauses cells faces seconds bs fluxes outsides releases =
+    hasLength bs (stepLength (kindIn bs) cells faces seconds)
+    ∷ long 6 faces fluxes
+    ∷ long 7 faces outsides
+    ∷ long 14 cells releases
+    ∷ []
+
+abbrev pub stepBodyCauses : (cells faces : ℕ) → List ℕ → List ℕ → (fluxes outsides releases : ℕ) → List Verdict
+stepBodyCauses cells faces seconds bs fluxes outsides releases =
+    stepTableCauses cells faces seconds bs fluxes outsides releases ++ (each 12 (8 * length bs) (stepBitGood bs cells faces seconds) ∷ [])
+
 unfoldable pub stepBodyVerdict : (cells faces : ℕ) → List ℕ → List ℕ → (fluxes outsides releases : ℕ) → Verdict
-stepBodyVerdict cells faces seconds bs fluxes outsides releases = hasLength bs (stepLength (kindIn bs) cells faces seconds)
-    andThen long 6 faces fluxes andThen long 7 faces outsides andThen long 14 cells releases
-    andThen each 12 (8 * length bs) (stepBitGood bs cells faces seconds)
+stepBodyVerdict cells faces seconds bs fluxes outsides releases = inTurn (stepBodyCauses cells faces seconds bs fluxes outsides releases)
 
 -- What each reading comes to. Document 02, S-10: the reading of a mesh answers its width too, and those of a field and of a step are told it.
 unfoldable pub meshRead : ℕ → ℕ → List ℕ → ℕ → ℕ → ℕ → ℕ → ℕ → Outcome MeshCounts

@@ -3,8 +3,8 @@ mod verdicts;
 
 use model::Answer;
 use model::Refusal;
-use record_heads::StepKind;
-use record_heads::Width;
+use record_layouts::StepKind;
+use record_layouts::Width;
 ghost use lib.ListN.{length};
 ghost use Rattle.record_reading.specs.Reading.{meshRead, fieldRead, stepRead};
 ghost use Rattle.record_reading.specs.Answers.{MeshReading, FieldReading, StepReading};
@@ -64,7 +64,7 @@ pub fn read_mesh(
         width,
         n.cells,
         n.faces,
-        &bytes[record_heads::MESH_HEAD..],
+        &bytes[record_layouts::MESH_HEAD..],
         volumes,
         firsts,
         seconds,
@@ -84,7 +84,7 @@ pub fn read_field(width: Width, cells: usize, bytes: &[u8], masses: &mut [u64]) 
     if let Answer::Refused(r) = a {
         return Answer::Refused(r);
     }
-    record_bodies::field(width, cells, &bytes[record_heads::FIELD_HEAD..], masses);
+    record_bodies::field(width, cells, &bytes[record_layouts::FIELD_HEAD..], masses);
     Answer::Done
 }
 
@@ -125,7 +125,7 @@ pub fn read_step(
         cells,
         faces,
         seconds,
-        &bytes[record_heads::STEP_HEAD..],
+        &bytes[record_layouts::STEP_HEAD..],
         fluxes,
         outsides,
         releases,

@@ -10,7 +10,6 @@ use native.Mathlib.Decide.{decLt}
 use native.Mathlib.Omega.{arith}
 use lib.Dec.{eqb}
 use lib.ListN.{length, getD}
-use Rattle.signed.specs.Sign.{withSign}
 use Rattle.lists.specs.Table.{table, over}
 use Rattle.lists.proofs.Sums.{sum-zero, sum-more, sum-fewer, sum-bound}
 use Rattle.lists.proofs.Tests.{Same, same, other, same?, both-true}

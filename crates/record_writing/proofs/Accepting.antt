@@ -9,16 +9,15 @@ use borrow.Author.Tests.{eq-eqb, le-leb}
 use Rattle.lists.proofs.Tests.{both-true}
 use Rattle.model.specs.Mesh.{maxCells, maxFaces}
 use Rattle.model.specs.Causes.{accepted, fine, countsWithin}
-use Rattle.model.proofs.Verdicts.{need-met, fine-each, each-fine, both-fine, past, fine-all}
+use Rattle.model.proofs.Verdicts.{need-met, fine-each, each-fine, past, fine-all}
 use Rattle.record_bits.specs.Layout.{bytesFor}
-use Rattle.record_heads.specs.Layouts.{fieldKind, valueBits, meshZeroBits, stepZeroBits, meshHeadBits, stepHeadBits, meshBits, fieldBits, stepBits, meshLength, fieldLength, stepLength}
-use Rattle.record_heads.specs.Heads.{kindIn, cellsIn, facesIn, stepFacesIn, isMeshKind, isStepKind, meshHeadVerdict, fieldHeadVerdict, stepHeadVerdict}
-use Rattle.record_heads.proofs.HeadLaws.{field-head-says}
+use Rattle.record_layouts.specs.Layouts.{fieldKind, valueBits, meshZeroBits, stepZeroBits, meshHeadBits, stepHeadBits, meshBits, fieldBits, stepBits, meshLength, fieldLength, stepLength}
+use Rattle.record_heads.specs.Heads.{kindIn, cellsIn, facesIn, stepFacesIn, isMeshKind, isStepKind, meshHeadCauses, stepHeadCauses, meshHeadVerdict, fieldHeadVerdict, stepHeadVerdict}
 use Rattle.record_zeros.specs.Zeros.{zeroBitGood, minusZero}
-use Rattle.record_reading.specs.Reading.{countsIn, meshBitGood, stepBitGood, meshBodyVerdict, fieldBodyVerdict, stepBodyVerdict, meshRead, fieldRead, stepRead}
-use Rattle.record_heads.specs.declared.Width.{Width}
+use Rattle.record_reading.specs.Reading.{countsIn, meshBitGood, stepBitGood, meshBodyCauses, stepBodyCauses, meshBodyVerdict, fieldBodyVerdict, stepBodyVerdict, meshRead, fieldRead, stepRead}
+use Rattle.record_layouts.specs.declared.Width.{Width}
 use Rattle.record_reading.specs.declared.MeshCounts.{MeshCounts}
-use Rattle.record_reading.proofs.ReadLaws.{mesh-tables-say, field-tables-say, step-tables-say, read-says, step-read-says}
+use Rattle.record_reading.proofs.ReadLaws.{read-says, field-read-says, step-read-says}
 
 module _ (bs : List ℕ) where
   pub mesh-reads : (mostCells mostFaces v f s w k : ℕ) → isMeshKind (kindIn bs) ≡ true
@@ -31,9 +30,9 @@ module _ (bs : List ℕ) where
   mesh-reads mostCells mostFaces v f s w k kind within len lv lf ls lw lk good =
       past _
       (fine-all (_ ∷ _ ∷ []) (
-        fine-all (_ ∷ _ ∷ _ ∷ []) (need-met 11 0 (le-leb 4 (length bs) (omega (arith, len))), (need-met 13 0 kind, (within, tt))),
+        fine-all (meshHeadCauses mostCells mostFaces bs) (need-met 11 0 (le-leb 4 (length bs) (omega (arith, len))), (need-met 13 0 kind, (within, tt))),
         (
-          fine-all (_ ∷ _ ∷ _ ∷ _ ∷ _ ∷ _ ∷ _ ∷ []) (
+          fine-all (meshBodyCauses bs v f s w k) (
             need-met 11 0 (eq-eqb _ _ len),
             (
               need-met 2 0 (le-leb _ _ lv),
@@ -76,12 +75,12 @@ module _ (bs : List ℕ) where
   step-reads w cells faces seconds u x y kind n within lent len lu lx ly good =
       past _
       (fine-all (_ ∷ _ ∷ []) (
-        fine-all (_ ∷ _ ∷ _ ∷ _ ∷ _ ∷ []) (
+        fine-all (stepHeadCauses w cells faces seconds bs) (
           need-met 11 0 (le-leb 4 (length bs) (omega (arith, len))),
           (need-met 13 0 kind, (need-met 13 1 (eq-eqb _ _ n), (within, (need-met 2 2 (le-leb _ _ lent), tt)))),
         ),
         (
-          fine-all (_ ∷ _ ∷ _ ∷ _ ∷ _ ∷ []) (
+          fine-all (stepBodyCauses cells faces seconds bs u x y) (
             need-met 11 0 (eq-eqb _ _ len),
             (
               need-met 2 6 (le-leb _ _ lu),
@@ -101,15 +100,14 @@ pub record MeshPassed (bs : List ℕ) (n : MeshCounts) : Type 0 where
 
 pub mesh-passed : (mostCells mostFaces : ℕ) (bs : List ℕ) (v f s w k : ℕ) {n : MeshCounts} → meshRead mostCells mostFaces bs v f s w k ≡ accepted n
     → MeshPassed bs n
-unfolding meshBodyVerdict meshBitGood
+unfolding meshBitGood
 mesh-passed mostCells mostFaces bs v f s w k e =
     let r = read-says mostCells mostFaces bs v f s w k e in
-    let b = both-fine _ _ (r .body-fine) in
     record {
       counts-are = r .counts-are;
       kind = r .head .kind;
-      same-length = mesh-tables-say bs v f s w k (b .0) .same-length;
-      good = each-fine 12 (8 * length bs) (λ i. zeroBitGood bs meshZeroBits meshHeadBits (meshBits (kindIn bs) (cellsIn bs) (facesIn bs)) i) (b .1);
+      same-length = r .tables .same-length;
+      good = each-fine 12 (8 * length bs) (λ i. zeroBitGood bs meshZeroBits meshHeadBits (meshBits (kindIn bs) (cellsIn bs) (facesIn bs)) i) (r .zeros);
     }
 
 -- an accepted field
@@ -119,11 +117,9 @@ pub record FieldPassed (w : Width) (cells : ℕ) (bs : List ℕ) : Type 0 where
   pub same-length : length bs ≡ bytesFor (fieldBits (kindIn bs) cells)
 
 pub field-passed : (w : Width) (cells : ℕ) (bs : List ℕ) (m : ℕ) → fieldRead w cells bs m ≡ fine → FieldPassed w cells bs
-unfolding fieldRead
 field-passed w cells bs m e =
-    let a = both-fine _ _ e in
-    let h = field-head-says w cells bs (a .0) in
-    record { kind = h .kind; same-count = h .same-count; same-length = field-tables-say cells bs m (a .1) .same-length }
+    let r = field-read-says w cells bs m e in
+    record { kind = r .head .kind; same-count = r .head .same-count; same-length = r .tables .same-length }
 
 -- an accepted step
 pub record StepPassed (cells faces : ℕ) (seconds bs : List ℕ) : Type 0 where
@@ -134,16 +130,15 @@ pub record StepPassed (cells faces : ℕ) (seconds bs : List ℕ) : Type 0 where
 
 pub step-passed : (w : Width) (cells faces : ℕ) (seconds bs : List ℕ) (u x y : ℕ) {n : ℕ} → stepRead w cells faces seconds bs u x y ≡ accepted n
     → StepPassed cells faces seconds bs
-unfolding stepBodyVerdict stepBitGood
+unfolding stepBitGood
 step-passed w cells faces seconds bs u x y e =
     let r = step-read-says w cells faces seconds bs u x y e in
-    let b = both-fine _ _ (r .body-fine) in
     let end = stepBits (kindIn bs) cells faces seconds in
-    let both = each-fine 12 (8 * length bs) (λ i. zeroBitGood bs stepZeroBits stepHeadBits end i && not (minusZero bs (valueBits (kindIn bs)) faces i)) (b .1)
-    in
+    let both = each-fine 12 (8 * length bs) (λ i. zeroBitGood bs stepZeroBits stepHeadBits end i && not (minusZero bs (valueBits (kindIn bs)) faces i))
+    (r .zeros) in
     record {
       same-count = r .head .same-count;
-      same-length = step-tables-say (kindIn bs) cells faces seconds bs u x y (b .0) .same-length;
+      same-length = r .tables .same-length;
       good = λ i l. both-true (zeroBitGood bs stepZeroBits stepHeadBits end i) _ (both i l) .0;
       plain = λ i l. both-true (zeroBitGood bs stepZeroBits stepHeadBits end i) _ (both i l) .1;
     }

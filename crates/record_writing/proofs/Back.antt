@@ -24,15 +24,15 @@ use Rattle.record_bits.proofs.Layouts.{bytes-hold}
 use Rattle.record_sections.specs.Sections.{Section, Values, Has, rowsOf, sectionIn, shapeBits, place, fieldsOf, recordOf, Fits, valueIn, entryIn, columnIn}
 use Rattle.record_sections.proofs.Sections.{width-fields, length-record, value-back, column-back, record-again}
 use Rattle.record_sections.proofs.Bodies.{column-has}
-use Rattle.record_heads.specs.Layouts.{meshZeroBits, stepZeroBits, signBits, valueBits, massBits, massWidth, widthOf, fluxBits, meshHeadBits, stepHeadBits, isRim, signOf, sizeOf, outsideOf, releaseOf, massOf, meshShape, meshValue, fieldShape, fieldValue, stepShape, stepValue, meshBits, fieldBits, stepBits, meshRecord, fieldRecord, stepRecord}
+use Rattle.record_layouts.specs.Layouts.{meshZeroBits, stepZeroBits, signBits, valueBits, massBits, massWidth, widthOf, fluxBits, meshHeadBits, stepHeadBits, isRim, signOf, sizeOf, outsideOf, releaseOf, massOf, meshShape, meshValue, fieldShape, fieldValue, stepShape, stepValue, meshBits, fieldBits, stepBits, meshRecord, fieldRecord, stepRecord}
 use Rattle.record_heads.specs.Heads.{kindIn, cellsIn, facesIn, stepFacesIn}
-use Rattle.record_heads.proofs.Layouts.{mesh-kind-in, mesh-cells-in, mesh-faces-in, mesh-zeros-in, mesh-some, field-kind-in, field-cells-in, step-kind-in, step-faces-in, step-zeros-in, signs-in, sizes-in, step-some}
+use Rattle.record_layouts.proofs.Layouts.{mesh-kind-in, mesh-cells-in, mesh-faces-in, mesh-zeros-in, mesh-some, field-kind-in, field-cells-in, step-kind-in, step-faces-in, step-zeros-in, signs-in, sizes-in, step-some}
 use Rattle.record_zeros.specs.Zeros.{zeroBitGood, minusZero}
 use Rattle.record_zeros.proofs.ZeroLaws.{good-clear, zeros-good, minus-at, no-minus}
 use Rattle.record_reading.specs.Reading.{shapeIn, volumesIn, firstsIn, secondsIn, sharesIn, reachesIn, massesIn, minusIn, sizeIn, fluxesIn, outsidesIn, stepShapeIn, waterShape, releasesIn}
 use Rattle.record_reading.specs.declared.MeshCounts.{MeshCounts}
-use Rattle.record_heads.specs.declared.Width.{Width}
-use Rattle.record_heads.specs.declared.Width.the-variants.{Narrow, Wide}
+use Rattle.record_layouts.specs.declared.Width.{Width}
+use Rattle.record_layouts.specs.declared.Width.the-variants.{Narrow, Wide}
 use Rattle.record_writing.proofs.Accepting.{MeshPassed, FieldPassed, StepPassed}
 
 -- a mesh that fits its record

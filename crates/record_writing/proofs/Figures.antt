@@ -10,9 +10,9 @@ use Rattle.model.specs.Causes.{accepted, refused, fine, _andThen_, need, each, 
 use Rattle.record_bits.specs.Field.{bitAt, bitsAt}
 use Rattle.record_bits.specs.Layout.{spelled, bitsOf, widthOf, bytesFor, octet, packed, rows}
 use Rattle.record_sections.specs.Sections.{those, row, fieldsOf, recordOf}
-use Rattle.record_heads.specs.Layouts.{valueBits, massBits, releaseBits, meshRecord, fieldRecord, stepRecord, meshLength, fieldLength, stepLength}
+use Rattle.record_layouts.specs.Layouts.{valueBits, massBits, releaseBits, meshRecord, fieldRecord, stepRecord, meshLength, fieldLength, stepLength}
 use Rattle.record_heads.specs.Heads.{meshHeadVerdict, fieldHeadVerdict, stepHeadVerdict}
-use Rattle.record_heads.specs.declared.Width.the-variants.{Narrow, Wide}
+use Rattle.record_layouts.specs.declared.Width.the-variants.{Narrow, Wide}
 use Rattle.record_zeros.specs.Zeros.{zeroBitGood, minusZero}
 use Rattle.record_reading.specs.Reading.{volumesIn, massesIn, fluxesIn, outsidesIn, releasesIn, meshBitGood, stepBitGood, meshBodyVerdict, fieldBodyVerdict, stepBodyVerdict, meshRead, fieldRead, stepRead}
 use Rattle.record_writing.specs.Writing.{releasesFit}

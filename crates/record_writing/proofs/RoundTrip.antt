@@ -22,20 +22,22 @@ use Rattle.model.specs.declared.Answer.{Answer}
 use Rattle.model.proofs.Verdicts.{both-fine}
 use Rattle.model.proofs.Accepted.{counted}
 use Rattle.record_sections.specs.Sections.{Fits}
-use Rattle.record_heads.specs.Layouts.{meshKind, fieldKind, kindNumber, widthOf, massOf, outsideOf, releaseOf, stepShape, stepValue, meshRecord, fieldRecord, stepRecord, meshLength, fieldLength, stepLength}
+use Rattle.record_layouts.specs.Layouts.{meshKind, fieldKind, kindNumber, widthOf, massOf, outsideOf, releaseOf, stepShape, stepValue, meshRecord, fieldRecord, stepRecord, meshLength, fieldLength, stepLength}
 use Rattle.record_heads.specs.Heads.{kindIn, cellsIn, facesIn, isMeshKind, isStepKind}
-use Rattle.record_heads.specs.declared.Width.{Width}
-use Rattle.record_heads.specs.declared.Width.the-variants.{Narrow, Wide}
-use Rattle.record_heads.specs.declared.StepKind.{StepKind}
-use Rattle.record_heads.specs.declared.StepKind.the-variants.{Water, Outfalls}
+use Rattle.record_layouts.specs.declared.Width.{Width}
+use Rattle.record_layouts.specs.declared.Width.the-variants.{Narrow, Wide}
+use Rattle.record_layouts.specs.declared.StepKind.{StepKind}
+use Rattle.record_layouts.specs.declared.StepKind.the-variants.{Water, Outfalls}
 use Rattle.record_reading.specs.Reading.{meshIn, countsIn, volumesIn, firstsIn, secondsIn, sharesIn, reachesIn, massesIn, fluxesIn, outsidesIn, releasesIn, meshRead, fieldRead, stepRead}
 use Rattle.record_reading.specs.Answers.{meshSaid, stepReadSaid, MeshReading, FieldReading, StepReading}
 use Rattle.record_reading.specs.declared.MeshCounts.{MeshCounts}
 use Rattle.record_reading.specs.declared.MeshAnswer.{MeshAnswer}
 use Rattle.record_reading.specs.declared.StepRead.{StepRead}
 use Rattle.record_reading.proofs.ReadLaws.{mesh-kind-is, step-read-says}
+use Rattle.record_causes.specs.Verdicts.{noField}
+use Rattle.record_causes.proofs.Passed.{mesh-write-says, field-write-says, step-write-says}
 use Rattle.record_writing.specs.declared.WriteAnswer.{WriteAnswer}
-use Rattle.record_writing.specs.Writing.{mostOf, releasesFit, meshWriteVerdict, fieldWriteVerdict, stepWriteVerdict, writeSaid, Writing, MeshWriting, FieldWriting, StepWriting}
+use Rattle.record_writing.specs.Writing.{mostOf, releasesFit, writeSaid, Writing, MeshWriting, FieldWriting, StepWriting}
 use Rattle.record_writing.proofs.WidthLaws.{mesh-fits, masses-fit, field-fits, step-fits, none-inside}
 use Rattle.record_writing.proofs.Accepting.{mesh-reads, field-reads, step-reads, mesh-passed, field-passed, step-passed}
 use Rattle.record_writing.proofs.Back.{mesh-kind-back, mesh-cells-back, mesh-faces-back, mesh-record-length, mesh-bits-good, volumes-back, firsts-back, seconds-back, shares-back, reaches-back, field-kind-back, field-cells-back, field-record-length, masses-back, step-kind-back, step-faces-back, step-record-length, step-bits-good, fluxes-back, outsides-back, releases-back, mesh-again, field-again, step-again}
@@ -142,20 +144,19 @@ module _ (w : Width) (M : Mesh) (within : counts M ≡ fine) (passes : meshValue
   pub releases-read-back : releasesIn SR (M .cells) (M .faces) (M .seconds) ≡ table (M .cells) (λ c. getD (k .releases) c 0)
   releases-read-back = releases-back (kindNumber w kind) (M .cells) (M .faces) (M .seconds) (k .fluxes) (k .outsides) (k .releases) fits
 
--- A writing that answered a length: its causes found nothing, and the bytes up to that length are the record's.
-wrote : {v : Verdict} {N : ℕ} {rec bytes bytes′ : List ℕ} {r : WriteAnswer} {n : ℕ} → Writing v N rec bytes r bytes′ → writeSaid r ≡ accepted n → length rec ≡ N
-    → (v ≡ fine) × (take n bytes′ ≡ rec)
-unfolding over _andThen_
-wrote {v} {N} {rec} {bytes} {bytes′} {r} {n} done e len =
-    let p = both-fine v (accepted N) (sym (done .answer) ∙ e) in
-    let q = p .1 in
-    let d : N ≡ n = cc in
-    let b : bytes′ ≡ rec ++ drop (length rec) bytes = rw (p .0) at (done .bytes-written) in
-    (p .0, rw (b, ← d) (take-at rec (drop (length rec) bytes) N len))
+-- A writing that answered a length: its causes found nothing, the length is the record's, and so are the bytes up to it.
+module _ {v : Verdict} {N : ℕ} {rec bytes bytes′ : List ℕ} {r : WriteAnswer} {n : ℕ} (done : Writing v N rec bytes r bytes′) (e : writeSaid r ≡ accepted n) where
+  wrote : (v ≡ fine) × (N ≡ n) × (bytes′ ≡ over rec bytes)
+  unfolding _andThen_
+  wrote =
+      let p = both-fine v (accepted N) (sym (done .answer) ∙ e) in
+      let q = p .1 in
+      let d : N ≡ n = cc in
+      (p .0, d, rw (p .0) at (done .bytes-written))
 
-mesh-causes : (w : Width) (M : Mesh) (room : ℕ) → meshWriteVerdict w M room ≡ fine → (counts M ≡ fine) × (meshValues (mostOf w) M ≡ fine)
-unfolding meshWriteVerdict
-mesh-causes w M room e = let a = both-fine _ _ e in (both-fine _ _ (both-fine _ _ (a .0) .0) .0, a .1)
+  begins : length rec ≡ N → take n bytes′ ≡ rec
+  unfolding over
+  begins len = rw (wrote .2, ← wrote .1) (take-at rec (drop (length rec) bytes) N len)
 
 -- The writer's contract and the reader's, joined: a mesh.
 pub mesh-joined : (w : Width) (M : Mesh) {bytes bytes′ : List ℕ} {r : WriteAnswer} {n : ℕ} → MeshWriting w M bytes r bytes′ → writeSaid r ≡ accepted n
@@ -172,31 +173,24 @@ pub mesh-joined : (w : Width) (M : Mesh) {bytes bytes′ : List ℕ} {r : WriteA
 unfolding meshLength
 mesh-joined w M {bytes} {bytes′} {r} {n} done e mostCells mostFaces {volumes} {firsts} {seconds} {shares} {reaches} {a} {volumes′} {firsts′} {seconds′}
     {shares′} {reaches′} limits lv lf ls lw lk read =
-    let v : meshWriteVerdict w M (length bytes) ≡ fine = both-fine _ _ (sym (done .answer) ∙ e) .0 in
-    let p = mesh-causes w M (length bytes) v in
-    let t = wrote done e (mesh-record-length (meshKind w) M (mesh-fits w M (p .0) (p .1))) .1 in
-    let back = mesh-read-back w M (p .0) (p .1) mostCells mostFaces (length volumes) (length firsts) (length seconds) (length shares) (length reaches) limits lv
+    let p = mesh-write-says w M (length bytes) (wrote done e .0) in
+    let c = p .counts-fine in
+    let v = p .values-fine in
+    let t = begins done e (mesh-record-length (meshKind w) M (mesh-fits w M c v)) in
+    let back = mesh-read-back w M c v mostCells mostFaces (length volumes) (length firsts) (length seconds) (length shares) (length reaches) limits lv
     lf ls lw lk in
     let same : MeshCounts = record { cells = M .cells; faces = M .faces; width = w } in
     let q : MeshReading (accepted same) (meshRecord (meshKind w) M) volumes firsts seconds shares reaches a volumes′ firsts′ seconds′ shares′ reaches′ =
     rw back at (rw t at read) in (
       q .answer,
-      q .volumes-read ∙ ap (λ xs. over xs volumes) (volumes-read-back w M (p .0) (p .1)),
-      q .firsts-read ∙ ap (λ xs. over xs firsts) (firsts-read-back w M (p .0) (p .1)),
-      q .seconds-read ∙ ap (λ xs. over xs seconds) (seconds-read-back w M (p .0) (p .1)),
-      q .shares-read ∙ ap (λ xs. over xs shares) (shares-read-back w M (p .0) (p .1)),
-      q .reaches-read ∙ ap (λ xs. over xs reaches) (reaches-read-back w M (p .0) (p .1)),
+      q .volumes-read ∙ ap (λ xs. over xs volumes) (volumes-read-back w M c v),
+      q .firsts-read ∙ ap (λ xs. over xs firsts) (firsts-read-back w M c v),
+      q .seconds-read ∙ ap (λ xs. over xs seconds) (seconds-read-back w M c v),
+      q .shares-read ∙ ap (λ xs. over xs shares) (shares-read-back w M c v),
+      q .reaches-read ∙ ap (λ xs. over xs reaches) (reaches-read-back w M c v),
     )
 
 -- A field.
-field-causes : (w : Width) (M : Mesh) (masses : List ℕ) (room : ℕ) → fieldWriteVerdict w M masses room ≡ fine → (counts M ≡ fine)
-    × (meshValues (mostOf w) M ≡ fine) × (fieldValues M masses ≡ fine)
-unfolding fieldWriteVerdict
-field-causes w M masses room e =
-    let a = both-fine _ _ e in
-    let b = both-fine _ _ (a .0) in
-    (both-fine _ _ (both-fine _ _ (both-fine _ _ (b .0) .0) .0) .0, b .1, a .1)
-
 pub field-joined : (w : Width) (M : Mesh) (field : List ℕ) {bytes bytes′ : List ℕ} {r : WriteAnswer} {n : ℕ} → FieldWriting w M field bytes r bytes′
     → writeSaid r ≡ accepted n
     → {masses masses′ : List ℕ} {a : Answer} → M .cells ≤ length masses
@@ -204,27 +198,13 @@ pub field-joined : (w : Width) (M : Mesh) (field : List ℕ) {bytes bytes′ : L
     → (said a ≡ fine) × (masses′ ≡ over (table (M .cells) (massOf field)) masses)
 unfolding fieldLength
 field-joined w M field {bytes} {bytes′} {r} {n} done e {masses} {masses′} {a} lm read =
-    let v : fieldWriteVerdict w M field (length bytes) ≡ fine = both-fine _ _ (sym (done .answer) ∙ e) .0 in
-    let p = field-causes w M field (length bytes) v in
-    let t = wrote done e (field-record-length (fieldKind w) (M .cells) field) .1 in
-    let back = field-read-back w M (p .0) (p .1) field (p .2) (length masses) lm in
+    let p = field-write-says w M field (length bytes) (wrote done e .0) in
+    let t = begins done e (field-record-length (fieldKind w) (M .cells) field) in
+    let back = field-read-back w M (p .counts-fine) (p .values-fine) field (p .salt-fine) (length masses) lm in
     let q : FieldReading fine (M .cells) (fieldRecord (fieldKind w) (M .cells) field) masses a masses′ = rw back at (rw t at read) in
-    (q .answer, q .masses-read ∙ ap (λ xs. over xs masses) (masses-read-back w M (p .0) (p .1) field (p .2)))
+    (q .answer, q .masses-read ∙ ap (λ xs. over xs masses) (masses-read-back w M (p .counts-fine) (p .values-fine) field (p .salt-fine)))
 
 -- A step: its reader is lent the seconds that its writer was lent, and answers the kind that its writer was told.
-step-causes : (w : Width) (M : Mesh) (kind : ℕ) (fluxes : List ℤ) (outsides releases : List ℕ) (room : ℕ)
-    → stepWriteVerdict w M kind fluxes outsides releases room ≡ fine → let k = waterOf fluxes outsides releases in (counts M ≡ fine)
-    × (meshValues (mostOf w) M ≡ fine)
-    × (each 7 (M .faces) (outsideGood M [] k) ≡ fine) × (each 8 (M .faces) (fluxGood (mostOf w) M [] k) ≡ fine) × (releasesFit kind (M .cells) releases ≡ fine)
-unfolding stepWriteVerdict
-step-causes w M kind fluxes outsides releases room e =
-    let a = both-fine _ _ e in
-    let b = both-fine _ _ (a .0) in
-    let c = both-fine _ _ (b .0) in
-    let d = both-fine _ _ (c .0) in
-    let f = both-fine _ _ (both-fine _ _ (d .0) .0) in
-    (both-fine _ _ (both-fine _ _ (both-fine _ _ (f .0) .0) .0) .0, d .1, b .1, a .1, c .1)
-
 pub step-joined : (w : Width) (M : Mesh) (kind : StepKind) (fluxes : List ℤ) (outsides releases : List ℕ) {bytes bytes′ : List ℕ} {r : WriteAnswer} {n : ℕ}
     → StepWriting w M (kindNumber w kind) fluxes outsides releases bytes r bytes′ → writeSaid r ≡ accepted n
     → {us us′ : List ℤ} {xs xs′ ys ys′ : List ℕ} {a : StepRead}
@@ -235,17 +215,21 @@ pub step-joined : (w : Width) (M : Mesh) (kind : StepKind) (fluxes : List ℤ) (
     × (xs′ ≡ over (table (M .faces) (outsideOf outsides)) xs) × (ys′ ≡ over (table (M .cells) (releaseOf releases)) ys)
 unfolding stepLength
 step-joined w M kind fluxes outsides releases {bytes} {bytes′} {r} {n} done e {us} {us′} {xs} {xs′} {ys} {ys′} {a} ls lu lx ly read =
-    let v : stepWriteVerdict w M (kindNumber w kind) fluxes outsides releases (length bytes) ≡ fine = both-fine _ _ (sym (done .answer) ∙ e) .0 in
-    let p = step-causes w M (kindNumber w kind) fluxes outsides releases (length bytes) v in
+    let p = step-write-says w M (kindNumber w kind) fluxes outsides releases (length bytes) (wrote done e .0) in
+    let c = p .counts-fine in
+    let v = p .values-fine in
+    let o = p .outsides-fine in
+    let u = p .fluxes-fine in
+    let y = p .releases-fine in
     let k : Call = waterOf fluxes outsides releases in
     let R = stepRecord (kindNumber w kind) (M .cells) (M .faces) (M .seconds) fluxes outsides releases in
-    let t = wrote done e (step-record-length (kindNumber w kind) (M .cells) (M .faces) (M .seconds) fluxes outsides releases) .1 in
-    let back = step-read-back w M (p .0) (p .1) [] k (p .2) (p .3) kind (p .4) (length us) (length xs) (length ys) ls lu lx ly in
+    let t = begins done e (step-record-length (kindNumber w kind) (M .cells) (M .faces) (M .seconds) fluxes outsides releases) in
+    let back = step-read-back w M c v noField k o u kind y (length us) (length xs) (length ys) ls lu lx ly in
     let q : StepReading w (accepted (kindNumber w kind)) (M .cells) (M .faces) (M .seconds) R us xs ys a us′ xs′ ys′ = rw back at (rw t at read) in (
       q .answer,
-      q .fluxes-read ∙ ap (λ zs. over zs us) (fluxes-read-back w M (p .0) (p .1) [] k (p .2) (p .3) kind (p .4)),
-      q .outsides-read ∙ ap (λ zs. over zs xs) (outsides-read-back w M (p .0) (p .1) [] k (p .2) (p .3) kind (p .4)),
-      q .releases-read ∙ ap (λ zs. over zs ys) (releases-read-back w M (p .0) (p .1) [] k (p .2) (p .3) kind (p .4)),
+      q .fluxes-read ∙ ap (λ zs. over zs us) (fluxes-read-back w M c v noField k o u kind y),
+      q .outsides-read ∙ ap (λ zs. over zs xs) (outsides-read-back w M c v noField k o u kind y),
+      q .releases-read ∙ ap (λ zs. over zs ys) (releases-read-back w M c v noField k o u kind y),
     )
 
 -- a table that was written over none
@@ -273,13 +257,8 @@ module _ (bs : List ℕ) (bytes : (j : ℕ) → getD bs j 0 < 256) where
   -- A writing of what was read: it answers the length of the record, and leaves its bytes.
   rewrote : {v : Verdict} {N : ℕ} {rec old new : List ℕ} {r : WriteAnswer} {k : ℕ} → Writing v N rec old r new → writeSaid r ≡ accepted k
       → rec ≡ bs → length rec ≡ N → (k ≡ length bs) × (new ≡ over bs old)
-  unfolding _andThen_
-  rewrote {v} {N} {rec} {old} {new} {r} {k} done e same len =
-      let p = both-fine v (accepted N) (sym (done .answer) ∙ e) in
-      let q = p .1 in
-      let d : N ≡ k = cc in
-      let b : new ≡ over rec old = rw (p .0) at (done .bytes-written) in
-      (sym d ∙ sym len ∙ ap length same, b ∙ ap (λ xs. over xs old) same)
+  rewrote {old = old} done e same len =
+      let p = wrote done e in (sym (p .1) ∙ sym len ∙ ap length same, p .2 ∙ ap (λ xs. over xs old) same)
 
   -- The reader's contract and the writer's, joined.
   pub mesh-rejoined : (mostCells mostFaces : ℕ) {volumes firsts seconds shares reaches volumes′ firsts′ seconds′ shares′ reaches′ : List ℕ} {a : MeshAnswer}
@@ -301,8 +280,8 @@ module _ (bs : List ℕ) (bytes : (j : ℕ) → getD bs j 0 < 256) where
       let same : meshRecord (meshKind (n .width)) N ≡ bs =
       rw (kind, passed .counts-are, q .volumes-read, q .firsts-read, q .seconds-read, q .shares-read, q .reaches-read)
       (mesh-again bs bytes passed volumes firsts seconds shares reaches) in
-      let p = mesh-causes (n .width) N (length old) (both-fine _ _ (sym (done .answer) ∙ e) .0) in
-      rewrote done e same (mesh-record-length (meshKind (n .width)) N (mesh-fits (n .width) N (p .0) (p .1)))
+      let p = mesh-write-says (n .width) N (length old) (wrote done e .0) in
+      rewrote done e same (mesh-record-length (meshKind (n .width)) N (mesh-fits (n .width) N (p .counts-fine) (p .values-fine)))
 
   pub field-rejoined : (w : Width) (M : Mesh) {masses masses′ : List ℕ} {a : Answer} {old new : List ℕ} {r : WriteAnswer} {k : ℕ}
       → FieldReading (fieldRead w (M .cells) bs (length masses)) (M .cells) bs masses a masses′ → said a ≡ fine → FieldWriting w M masses′ old r new

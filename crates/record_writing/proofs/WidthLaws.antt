@@ -17,12 +17,12 @@ use Rattle.model.proofs.Accepted.{volumes-within, spaced-within, fit-within, fi
 use Rattle.model.proofs.Verdicts.{each-fine}
 use Rattle.record_sections.specs.Sections.{Fits}
 use Rattle.record_sections.proofs.Columns.{sign-fits}
-use Rattle.record_heads.specs.Layouts.{kindNumber, kindBits, releaseBits, releaseOf, meshKind, fieldKind, valueOf, massWidth, endBits, valueBits, massBits, outsideBits, isRim, massOf, sizeOf, outsideOf, meshShape, meshValue, fieldShape, fieldValue, stepShape, stepValue}
-use Rattle.record_heads.specs.declared.StepKind.{StepKind}
-use Rattle.record_heads.specs.declared.StepKind.the-variants.{Water, Outfalls}
-use Rattle.record_heads.specs.declared.Width.{Width}
-use Rattle.record_heads.specs.declared.Width.the-variants.{Narrow, Wide}
-use Rattle.record_heads.proofs.Layouts.{mesh-value, field-mass, step-value}
+use Rattle.record_layouts.specs.Layouts.{kindNumber, kindBits, releaseBits, releaseOf, meshKind, fieldKind, valueOf, massWidth, endBits, valueBits, massBits, outsideBits, isRim, massOf, sizeOf, outsideOf, meshShape, meshValue, fieldShape, fieldValue, stepShape, stepValue}
+use Rattle.record_layouts.specs.declared.StepKind.{StepKind}
+use Rattle.record_layouts.specs.declared.StepKind.the-variants.{Water, Outfalls}
+use Rattle.record_layouts.specs.declared.Width.{Width}
+use Rattle.record_layouts.specs.declared.Width.the-variants.{Narrow, Wide}
+use Rattle.record_layouts.proofs.Layouts.{mesh-value, field-mass, step-value}
 use Rattle.record_causes.proofs.Refusing.{most-within}
 use Rattle.record_writing.specs.Writing.{mostOf, releaseFits, releasesFit}
 

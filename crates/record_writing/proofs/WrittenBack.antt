@@ -12,33 +12,28 @@ use lib.Dec.{ltb}
 use lib.IntN.{ℤ}
 use lib.ListN.{length, getD}
 use Rattle.lists.specs.Table.{table, over}
-use Rattle.lists.proofs.Tests.{true-both}
 use Rattle.lists.proofs.Tables.{length-over, getD-over}
 use Rattle.model.specs.Mesh.{Mesh, meshOf, maxCells, maxFaces}
-use Rattle.model.specs.Causes.{accepted, Verdict, fine, _andThen_, each, counts, countsWithin, meshTables, meshValues, fieldTable, fieldValues, outsideGood, fluxGood, waterOf}
+use Rattle.model.specs.Causes.{accepted, Verdict, fine, _andThen_, each, counts, meshTables, meshValues, fieldTable, fieldValues, outsideGood, fluxGood, waterOf}
 use Rattle.model.specs.Answers.{said}
 use Rattle.model.specs.declared.Answer.{Answer}
-use Rattle.model.proofs.Verdicts.{all-fine, fine-all, both-fine, need-met, fine-each, past}
+use Rattle.model.proofs.Verdicts.{all-fine, fine-all, need-met, fine-each, past}
 use Rattle.record_bits.proofs.Fields.{bits-lt}
 use Rattle.record_sections.specs.Sections.{place}
-use Rattle.record_heads.specs.Layouts.{meshKind, fieldKind, releaseBits, stepShape, meshLength, fieldLength, stepLength}
+use Rattle.record_layouts.specs.Layouts.{meshKind, fieldKind, releaseBits, stepShape, meshLength, fieldLength, stepLength}
 use Rattle.record_heads.specs.Heads.{kindIn, cellsIn, facesIn}
-use Rattle.record_heads.specs.declared.Width.{Width}
-use Rattle.record_reading.specs.Reading.{volumesIn, firstsIn, secondsIn, sharesIn, reachesIn, massesIn, fluxesIn, outsidesIn, releasesIn, meshBodyVerdict, stepBodyVerdict, meshRead, fieldRead, stepRead}
+use Rattle.record_layouts.specs.declared.Width.{Width}
+use Rattle.record_heads.proofs.HeadLaws.{within-met}
+use Rattle.record_reading.specs.Reading.{volumesIn, firstsIn, secondsIn, sharesIn, reachesIn, massesIn, fluxesIn, outsidesIn, releasesIn, meshRead, fieldRead, stepRead}
 use Rattle.record_reading.specs.Answers.{meshSaid, stepReadSaid, MeshReading, FieldReading, StepReading}
 use Rattle.record_reading.specs.declared.MeshCounts.{MeshCounts}
 use Rattle.record_reading.specs.declared.MeshAnswer.{MeshAnswer}
 use Rattle.record_reading.specs.declared.StepRead.{StepRead}
-use Rattle.record_reading.proofs.ReadLaws.{mesh-kind-is, mesh-tables-say, field-tables-say, step-tables-say, read-says, step-read-says}
+use Rattle.record_reading.proofs.ReadLaws.{mesh-kind-is, read-says, field-read-says, step-read-says}
+use Rattle.record_causes.specs.Verdicts.{meshWriteCauses, fieldWriteCauses, stepWriteCauses}
 use Rattle.record_writing.specs.declared.WriteAnswer.{WriteAnswer}
 use Rattle.record_writing.specs.Writing.{mostOf, releasesFit, meshWriteVerdict, fieldWriteVerdict, stepWriteVerdict, writeSaid, Writing, MeshWriting, FieldWriting, StepWriting}
-use Rattle.record_writing.proofs.Accepting.{field-passed}
 use Rattle.record_writing.proofs.RoundTrip.{mesh-rejoined, field-rejoined, step-rejoined}
-
-within : (cells faces : ℕ) → 1 ≤ cells → cells ≤ maxCells → faces ≤ maxFaces → countsWithin maxCells maxFaces cells faces ≡ fine
-unfolding countsWithin
-within cells faces some few least =
-    fine-all (_ ∷ _ ∷ []) (need-met 1 0 (true-both (le-leb 1 cells some) (le-leb cells maxCells few)), (need-met 1 1 (le-leb faces maxFaces least), tt))
 
 -- a table that was read into is as long as it was
 filled-long : {A : Type 0} (n : ℕ) (f : ℕ → A) (ys : List A) → n ≤ length ys → n ≤ length (over (table n f) ys)
@@ -66,12 +61,12 @@ module _ (bs : List ℕ) (bytes : (j : ℕ) → getD bs j 0 < 256) where
       (meshOf (n .cells) (n .faces) volumes′ firsts′ seconds′ shares′ reaches′) ≡ fine → length bs ≤ length old
       → MeshWriting (n .width) (meshOf (n .cells) (n .faces) volumes′ firsts′ seconds′ shares′ reaches′) old r new
       → (writeSaid r ≡ accepted (length bs)) × (new ≡ over bs old)
-  unfolding meshBodyVerdict counts meshTables meshWriteVerdict meshLength volumesIn firstsIn secondsIn sharesIn reachesIn
+  unfolding counts meshTables meshWriteVerdict meshLength volumesIn firstsIn secondsIn sharesIn reachesIn
   mesh-written-again mostCells mostFaces {volumes} {firsts} {seconds} {shares} {reaches} {volumes′} {firsts′} {seconds′} {shares′} {reaches′} {a} {n} {old}
       {new} {r} read told values room w =
       let came = sym (read .answer) ∙ told in
       let says = read-says mostCells mostFaces bs (length volumes) (length firsts) (length seconds) (length shares) (length reaches) came in
-      let lent = mesh-tables-say bs (length volumes) (length firsts) (length seconds) (length shares) (length reaches) (both-fine _ _ (says .body-fine) .0) in
+      let lent = says .tables in
       let q : MeshReading (accepted n) bs volumes firsts seconds shares reaches a volumes′ firsts′ seconds′ shares′ reaches′ = rw came at read in
       let N : Mesh = meshOf (n .cells) (n .faces) volumes′ firsts′ seconds′ shares′ reaches′ in
       let v : cellsIn bs ≤ length volumes′ = rw (q .volumes-read) (filled-long _ _ volumes (lent .volumes-long)) in
@@ -81,8 +76,8 @@ module _ (bs : List ℕ) (bytes : (j : ℕ) → getD bs j 0 < 256) where
       let k : facesIn bs ≤ length reaches′ = rw (q .reaches-read) (filled-long _ _ reaches (lent .reaches-long)) in
       let kind : meshKind (n .width) ≡ kindIn bs = rw (says .counts-are) (mesh-kind-is (kindIn bs) (says .head .kind)) in
       let long : meshLength (meshKind (n .width)) (n .cells) (n .faces) ≤ length old = rw (kind, says .counts-are) (omega (arith, lent .same-length)) in
-      let ok : meshWriteVerdict (n .width) N (length old) ≡ fine = fine-all (counts N ∷ meshTables N ∷ _ ∷ meshValues (mostOf (n .width)) N ∷ []) (
-        rw (says .counts-are) (within (cellsIn bs) (facesIn bs) (says .head .some-cells) (says .head .few-cells) (says .head .few-faces)),
+      let ok : meshWriteVerdict (n .width) N (length old) ≡ fine = fine-all (meshWriteCauses (n .width) N (length old)) (
+        rw (says .counts-are) (within-met maxCells maxFaces (cellsIn bs) (facesIn bs) (says .head .some-cells) (says .head .few-cells) (says .head .few-faces)),
         (
           rw (says .counts-are) (fine-all (_ ∷ _ ∷ _ ∷ _ ∷ _ ∷ []) (
             need-met 2 0 (le-leb _ _ v),
@@ -103,17 +98,18 @@ module _ (bs : List ℕ) (bytes : (j : ℕ) → getD bs j 0 < 256) where
       → FieldReading (fieldRead w (M .cells) bs (length masses)) (M .cells) bs masses a masses′ → said a ≡ fine
       → meshWithin w M ≡ fine → fieldValues M masses′ ≡ fine → length bs ≤ length old → FieldWriting w M masses′ old r new
       → (writeSaid r ≡ accepted (length bs)) × (new ≡ over bs old)
-  unfolding fieldRead fieldTable fieldWriteVerdict fieldLength massesIn
+  unfolding fieldTable fieldWriteVerdict fieldLength massesIn
   field-written-again w M {masses} {masses′} {a} {old} {new} {r} read told mesh-fine salt room done =
       let came = sym (read .answer) ∙ told in
-      let lent = field-tables-say (M .cells) bs (length masses) (both-fine _ _ came .1) in
+      let says = field-read-says w (M .cells) bs (length masses) came in
+      let lent = says .tables in
       let q : FieldReading fine (M .cells) bs masses a masses′ = rw came at read in
       let m : M .cells ≤ length masses′ = rw (q .masses-read) (filled-long _ _ masses (lent .masses-long)) in
       let long : fieldLength (fieldKind w) (M .cells) ≤ length old =
-      rw (← field-passed w (M .cells) bs (length masses) came .kind) (omega (arith, lent .same-length)) in
+      rw (← says .head .kind) (omega (arith, lent .same-length)) in
       let p = mesh-parts w M mesh-fine in
       let ok : fieldWriteVerdict w M masses′ (length old) ≡ fine =
-      fine-all (counts M ∷ meshTables M ∷ _ ∷ _ ∷ meshValues (mostOf w) M ∷ fieldValues M masses′ ∷ [])
+      fine-all (fieldWriteCauses w M masses′ (length old))
       (p .0, (p .1, (need-met 2 5 (le-leb _ _ m), (need-met 2 11 (le-leb _ _ long), (p .2, (salt, tt)))))) in
       let e = answers done ok in
       let b = field-rejoined bs bytes w M read told done e in
@@ -134,11 +130,11 @@ module _ (bs : List ℕ) (bytes : (j : ℕ) → getD bs j 0 < 256) where
       → each 8 (M .faces) (fluxGood (mostOf w) M [] (waterOf us′ xs′ ys′)) ≡ fine
       → length bs ≤ length old → StepWriting w M n us′ xs′ ys′ old r new
       → (writeSaid r ≡ accepted (length bs)) × (new ≡ over bs old)
-  unfolding stepBodyVerdict stepWriteVerdict stepLength fluxesIn outsidesIn releasesIn
+  unfolding stepWriteVerdict stepLength fluxesIn outsidesIn releasesIn
   step-written-again w M {us} {us′} {xs} {xs′} {ys} {ys′} {a} {n} {old} {new} {r} read told mesh-fine outside-fine flux-fine room done =
       let came = sym (read .answer) ∙ told in
       let says = step-read-says w (M .cells) (M .faces) (M .seconds) bs (length us) (length xs) (length ys) came in
-      let lent = step-tables-say (kindIn bs) (M .cells) (M .faces) (M .seconds) bs (length us) (length xs) (length ys) (both-fine _ _ (says .body-fine) .0) in
+      let lent = says .tables in
       let q : StepReading w (accepted n) (M .cells) (M .faces) (M .seconds) bs us xs ys a us′ xs′ ys′ = rw came at read in
       let u : M .faces ≤ length us′ = rw (q .fluxes-read) (filled-long _ _ us (lent .fluxes-long)) in
       let x : M .faces ≤ length xs′ = rw (q .outsides-read) (filled-long _ _ xs (lent .outsides-long)) in
@@ -148,7 +144,7 @@ module _ (bs : List ℕ) (bytes : (j : ℕ) → getD bs j 0 < 256) where
       (fine-each 18 (M .cells) _ (λ c h. release-read (M .cells) (M .faces) (M .seconds) ys c h)) in
       let p = mesh-parts w M mesh-fine in
       let ok : stepWriteVerdict w M n us′ xs′ ys′ (length old) ≡ fine =
-      fine-all (counts M ∷ meshTables M ∷ _ ∷ _ ∷ _ ∷ _ ∷ meshValues (mostOf w) M ∷ _ ∷ _ ∷ _ ∷ []) (
+      fine-all (stepWriteCauses w M n us′ xs′ ys′ (length old)) (
         p .0,
         (
           p .1,

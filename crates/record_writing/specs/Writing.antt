@@ -8,8 +8,8 @@ use Rattle.lists.specs.Table.{over}
 use Rattle.model.specs.Mesh.{Mesh}
 use Rattle.model.specs.Answers.{told}
 use Rattle.model.specs.Causes.{Outcome, accepted, Verdict, _andThen_, taken}
-use Rattle.record_heads.specs.Layouts.{meshKind, fieldKind, meshRecord, fieldRecord, stepRecord, meshLength, fieldLength, stepLength}
-use Rattle.record_heads.specs.declared.Width.{Width}
+use Rattle.record_layouts.specs.Layouts.{meshKind, fieldKind, meshRecord, fieldRecord, stepRecord, meshLength, fieldLength, stepLength}
+use Rattle.record_layouts.specs.declared.Width.{Width}
 pub use Rattle.record_causes.specs.Verdicts.{releaseFits, releasesFit, mostOf}
 unfoldable pub use Rattle.record_causes.specs.Verdicts.{meshWriteVerdict, fieldWriteVerdict, stepWriteVerdict}
 use Rattle.record_writing.specs.declared.WriteAnswer.{WriteAnswer}

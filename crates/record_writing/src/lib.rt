@@ -1,10 +1,10 @@
 // The records of documents 01 and 02, written. What is refused is refused before the first byte is touched.
 use model::Answer;
 use model::Refusal;
-use record_heads::StepKind;
-use record_heads::Width;
+use record_layouts::StepKind;
+use record_layouts::Width;
 ghost use Rattle.model.specs.Mesh.{meshOf};
-ghost use Rattle.record_heads.specs.Layouts.{kindNumber};
+ghost use Rattle.record_layouts.specs.Layouts.{kindNumber};
 ghost use Rattle.record_writing.specs.Writing.{MeshWriting, FieldWriting, StepWriting};
 
 // How many bytes have been written.

@@ -12,7 +12,7 @@ use Rattle.lists.proofs.Tests.{Same, same, other, same?}
 use Rattle.record_bits.specs.Field.{bitsAt}
 use Rattle.record_bits.proofs.Fields.{bits-lt, bits-split}
 use Rattle.record_bits.proofs.Bytes.{three-within}
-use Rattle.record_heads.specs.Layouts.{signBits, stepHeadBits}
+use Rattle.record_layouts.specs.Layouts.{signBits, stepHeadBits}
 use Rattle.record_zeros.specs.Zeros.{minusZero}
 use Rattle.record_zeros.specs.Scans.{NoMinus, oneOfThree}
 use Rattle.record_zeros.proofs.ZeroLaws.{face-room, minus-at}

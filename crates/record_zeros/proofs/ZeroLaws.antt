@@ -16,7 +16,7 @@ use Rattle.record_bits.specs.Field.{bitAt, bitsAt}
 use Rattle.record_bits.proofs.Fields.{bit-lt, one-bit, zero-bits}
 use Rattle.record_bits.specs.Layout.{Field, widthOf, packed}
 use Rattle.record_bits.proofs.Layouts.{packed-pad}
-use Rattle.record_heads.specs.Layouts.{signBits, stepHeadBits, stepZeroBits}
+use Rattle.record_layouts.specs.Layouts.{signBits, stepHeadBits, stepZeroBits}
 use Rattle.record_zeros.specs.Zeros.{zeroBitGood, minusZero}
 use Rattle.record_zeros.specs.Scans.{FirstSet, FirstMinus}
 

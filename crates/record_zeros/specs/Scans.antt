@@ -5,7 +5,7 @@ use mathlib.Core.List.{List}
 use Prim.Native.Nat.{ℕ, _+_, _*_, _/_, _%_, _^_, _≤_, _<_}
 use lib.Dec.{eqb}
 use Rattle.record_bits.specs.Field.{bitAt}
-use Rattle.record_heads.specs.Layouts.{stepHeadBits, signBits}
+use Rattle.record_layouts.specs.Layouts.{stepHeadBits, signBits}
 use Rattle.record_zeros.specs.Zeros.{minusZero}
 
 -- r is the first bit set from `from` on, or `to`

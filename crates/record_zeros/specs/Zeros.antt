@@ -4,7 +4,7 @@ use mathlib.Core.Bool.{Bool, not, _&&_, _||_}
 use mathlib.Core.List.{List}
 use lib.Dec.{eqb, leb, ltb}
 use Rattle.record_bits.specs.Field.{bitAt, bitsAt}
-use Rattle.record_heads.specs.Layouts.{signBits, stepHeadBits}
+use Rattle.record_layouts.specs.Layouts.{signBits, stepHeadBits}
 
 -- The bit at i. The zero bits are those that end the head, and those after the last field.
 unfoldable pub zeroBitGood : List ℕ → ℕ → ℕ → ℕ → ℕ → Bool

@@ -2,8 +2,8 @@
 use model::Answer;
 use model::Cause;
 use model::needs::need;
-use record_heads::body::Body;
-use record_heads::lengths;
+use record_layouts::body::Body;
+use record_layouts::lengths;
 ghost use mathlib.Core.Path.{_≡_};
 ghost use Prim.Native.Nat.{_+_, _*_, _^_, _≤_, _<_};
 ghost use mathlib.Core.Bool.{not, _&&_};
@@ -12,7 +12,7 @@ ghost use lib.Dec.{eqb};
 ghost use Rattle.model.specs.Causes.{each, refused as refusedAs};
 ghost use Rattle.model.specs.Answers.{said};
 ghost use Rattle.record_bits.specs.Field.{bitsAt};
-ghost use Rattle.record_heads.specs.Layouts.{meshZeroBits, stepZeroBits, meshHeadBits, stepHeadBits, signBits};
+ghost use Rattle.record_layouts.specs.Layouts.{meshZeroBits, stepZeroBits, meshHeadBits, stepHeadBits, signBits};
 ghost use Rattle.record_zeros.specs.Zeros.{zeroBitGood, minusZero};
 ghost use Rattle.record_zeros.specs.Scans.{FirstSet, NoMinus, FirstMinus, oneOfThree};
 
@@ -100,7 +100,7 @@ pub fn mesh(bytes: &[u8], end: usize) -> Answer
     ensures { λ r. ⌜ said r ≡ each 12 (8 * length (now (bytes .entry))) (zeroBitGood (now (bytes .entry)) meshZeroBits meshHeadBits end) ⌝ }
 {
     let head = 8 * lengths::MESH_HEAD;
-    let a = first_set(bytes, head - record_heads::MESH_ZEROS, head);
+    let a = first_set(bytes, head - record_layouts::MESH_ZEROS, head);
     if a < head {
         return refused(a);
     }
@@ -118,7 +118,7 @@ pub fn step(bytes: &[u8], faces: usize, end: usize, value: usize) -> Answer
     ensures { λ r. ⌜ said r ≡ each 12 (8 * length (now (bytes .entry))) (λ i. zeroBitGood (now (bytes .entry)) stepZeroBits stepHeadBits end i && not (minusZero (now (bytes .entry)) value faces i)) ⌝ }
 {
     let head = 8 * lengths::STEP_HEAD;
-    let a = first_set(bytes, head - record_heads::STEP_ZEROS, head);
+    let a = first_set(bytes, head - record_layouts::STEP_ZEROS, head);
     if a < head {
         return refused(a);
     }

@@ -26,10 +26,10 @@ use Rattle.record_bits.specs.Field.{bitsAt}
 use Rattle.record_bits.proofs.Fields.{bits-lt}
 use Rattle.record_sections.specs.Sections.{Fits, place, entryIn}
 use Rattle.record_sections.proofs.Columns.{sign-fits}
-use Rattle.record_heads.specs.Layouts.{meshKind, fieldKind, widthOf, kindBits, valueBits, massBits, outsideBits, releaseBits, isRim, massOf, outsideOf, fieldShape, fieldValue, stepShape, stepValue}
+use Rattle.record_layouts.specs.Layouts.{meshKind, fieldKind, widthOf, kindBits, valueBits, massBits, outsideBits, releaseBits, isRim, massOf, outsideOf, fieldShape, fieldValue, stepShape, stepValue}
 use Rattle.record_heads.specs.Heads.{kindIn, widthIn, cellsIn, facesIn, meshHeadVerdict}
-use Rattle.record_heads.specs.declared.Width.{Width}
-use Rattle.record_heads.specs.declared.Width.the-variants.{Narrow, Wide}
+use Rattle.record_layouts.specs.declared.Width.{Width}
+use Rattle.record_layouts.specs.declared.Width.the-variants.{Narrow, Wide}
 use Rattle.record_heads.proofs.HeadLaws.{step-head-says}
 use Rattle.record_reading.specs.Reading.{meshIn, massesIn, fluxesIn, outsidesIn, releasesIn, minusIn, sizeIn, outsidePlace, meshRead, fieldRead, stepRead}
 use Rattle.record_writing.proofs.WidthLaws.{mesh-fits, field-fits}

@@ -21,11 +21,11 @@ use Rattle.model.proofs.Accepted.{ready, hi-most, volumes-within}
 use Rattle.model.specs.Accepted.{Ready}
 use Rattle.model.proofs.Next.{next-bounds}
 use Rattle.model.proofs.AlikeCauses.{in-turn}
-use Rattle.record_heads.specs.Layouts.{fieldKind, widthOf, massWidth, massBits, fieldRecord, fieldLength}
+use Rattle.record_layouts.specs.Layouts.{fieldKind, widthOf, massWidth, massBits, fieldRecord, fieldLength}
 use Rattle.record_heads.specs.Heads.{widthIn, cellsIn, facesIn}
-use Rattle.record_heads.specs.declared.Width.{Width}
-use Rattle.record_heads.specs.declared.Width.the-variants.{Narrow, Wide}
-use Rattle.record_heads.proofs.Layouts.{field-mass}
+use Rattle.record_layouts.specs.declared.Width.{Width}
+use Rattle.record_layouts.specs.declared.Width.the-variants.{Narrow, Wide}
+use Rattle.record_layouts.proofs.Layouts.{field-mass}
 use Rattle.record_reading.specs.Reading.{meshIn, massesIn}
 use Rattle.record_writing.proofs.WidthLaws.{field-fits}
 use Rattle.record_writing.proofs.Back.{field-record-length, masses-back}

@@ -6,7 +6,7 @@ use mathlib.Core.List.{List}
 use Rattle.lists.specs.Renumbering.{Renumbering}
 use Rattle.model.specs.Mesh.{Mesh, runCells}
 use Rattle.model.specs.Causes.{fine, Call}
-use Rattle.record_heads.specs.Layouts.{meshKind, fieldKind, meshRecord, fieldRecord, stepRecord}
+use Rattle.record_layouts.specs.Layouts.{meshKind, fieldKind, meshRecord, fieldRecord, stepRecord}
 use Rattle.record_heads.specs.Heads.{kindIn, widthIn, cellsIn, facesIn}
 use Rattle.record_reading.specs.Reading.{meshIn, massesIn, fieldRead}
 use Rattle.taking_mesh.specs.MeshTaking.{meshJudgedInRun}

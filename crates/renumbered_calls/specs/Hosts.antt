@@ -7,7 +7,7 @@ use lib.Dec.{eqb}
 use lib.ListN.{length, take}
 use Rattle.lists.specs.Renumbering.{Renumbering}
 use Rattle.lists.specs.Table.{over}
-use Rattle.record_heads.specs.Layouts.{fieldKind, fieldLength}
+use Rattle.record_layouts.specs.Layouts.{fieldKind, fieldLength}
 use Rattle.record_heads.specs.Heads.{widthIn, cellsIn, facesIn}
 use Rattle.lagoon.specs.Host.{causeStep, HostPromise}
 use Rattle.renumbered_calls.specs.Anew.{meshAnew, fieldAnew, stepAnew, Reads, Held}

@@ -6,7 +6,7 @@ use checks::TotalAnswer;
 use model::RUN_CELLS;
 use model::RUN_FACES;
 use model::StepTaken;
-use record_heads::Width;
+use record_layouts::Width;
 use record_reading::MeshAnswer;
 use run_intake::RECORD;
 use run_session::Next;

@@ -21,9 +21,9 @@ use Rattle.model.proofs.Figures.{channel, largeStrait}
 use Rattle.record_bits.specs.Field.{bitAt, bitsAt}
 use Rattle.record_bits.specs.Layout.{bytesFor}
 use Rattle.record_sections.specs.Sections.{those}
-use Rattle.record_heads.specs.Layouts.{valueBits, massBits, releaseBits, meshLength, fieldLength, stepLength}
-use Rattle.record_heads.specs.declared.Width.{Width}
-use Rattle.record_heads.specs.declared.Width.the-variants.{Narrow, Wide}
+use Rattle.record_layouts.specs.Layouts.{valueBits, massBits, releaseBits, meshLength, fieldLength, stepLength}
+use Rattle.record_layouts.specs.declared.Width.{Width}
+use Rattle.record_layouts.specs.declared.Width.the-variants.{Narrow, Wide}
 use Rattle.record_zeros.specs.Zeros.{zeroBitGood, minusZero}
 use Rattle.record_reading.specs.Reading.{meshIn, volumesIn, firstsIn, secondsIn, sharesIn, reachesIn, massesIn, fluxesIn, outsidesIn, releasesIn, meshBitGood, stepBitGood}
 use Rattle.record_heads.specs.Heads.{kindIn, meshHeadVerdict, fieldHeadVerdict, stepHeadVerdict, meshMeasured, meshNeeds, fieldNeeds, stepNeeds}

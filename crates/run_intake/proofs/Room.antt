@@ -12,11 +12,11 @@ use Rattle.model.specs.Causes.{accepted, countsWithin}
 use Rattle.model.proofs.Verdicts.{both-fine, need-fine}
 use Rattle.record_bits.specs.Layout.{bytesFor}
 use Rattle.record_bits.proofs.Layouts.{bytes-most}
-use Rattle.record_heads.specs.Layouts.{fieldKind, valueBits, massBits, releaseBits, meshBits, fieldBits, stepBits, meshLength, fieldLength, stepLength}
+use Rattle.record_layouts.specs.Layouts.{fieldKind, valueBits, massBits, releaseBits, meshBits, fieldBits, stepBits, meshLength, fieldLength, stepLength}
 use Rattle.record_heads.specs.Heads.{kindIn, cellsIn, facesIn, meshHeadVerdict, meshMeasured, meshNeeds, fieldNeeds, stepNeeds}
-use Rattle.record_heads.specs.declared.Width.{Width}
-use Rattle.record_heads.proofs.HeadLaws.{rim-le, bytes-alone}
-use Rattle.record_heads.proofs.Layouts.{value-most, mass-most, release-wide}
+use Rattle.record_layouts.specs.declared.Width.{Width}
+use Rattle.record_heads.proofs.HeadLaws.{bytes-alone}
+use Rattle.record_layouts.proofs.Layouts.{rim-le, value-most, mass-most, release-wide}
 use Rattle.run_intake.specs.Intake.{recordBytes}
 
 -- the same in bytes, as the run's buffer has them

@@ -5,8 +5,8 @@ use lib.ListN.{take}
 use Rattle.model.specs.Mesh.{runCells, runFaces}
 use Rattle.model.specs.Causes.{Outcome, accepted, refused}
 use Rattle.record_bits.specs.Layout.{bytesFor}
-use Rattle.record_heads.specs.Layouts.{outfallKind, stepHeadBits, fluxBits, outsideBits, releaseBits}
-use Rattle.record_heads.specs.declared.Width.the-variants.{Wide}
+use Rattle.record_layouts.specs.Layouts.{outfallKind, stepHeadBits, fluxBits, outsideBits, releaseBits}
+use Rattle.record_layouts.specs.declared.Width.the-variants.{Wide}
 
 -- The longest record within the run's limits. Document 02, S-10: a step with outfalls in the wide kind, of all cells and faces, each face at
 -- the rim.

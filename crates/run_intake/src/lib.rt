@@ -2,20 +2,20 @@
 use libc::STDIN_FILENO;
 use model::RUN_CELLS;
 use model::RUN_FACES;
-use record_heads::FIELD_HEAD;
 use record_heads::LengthAnswer;
-use record_heads::MESH_HEAD;
 use record_heads::MeshLengthAnswer;
-use record_heads::STEP_HEAD;
-use record_heads::Width;
-use record_heads::body::Body;
+use record_layouts::FIELD_HEAD;
+use record_layouts::MESH_HEAD;
+use record_layouts::STEP_HEAD;
+use record_layouts::Width;
+use record_layouts::body::Body;
 ghost use mathlib.Core.Path.{_≡_};
 ghost use Prim.Native.Nat.{_+_, _≤_};
 ghost use lib.ListN.{length, take};
 ghost use Rattle.io.specs.Counts.{Counts};
 ghost use Rattle.model.specs.Mesh.{runCells, runFaces};
 ghost use Rattle.record_bits.specs.Layout.{bytesFor};
-ghost use Rattle.record_heads.specs.Layouts.{meshHeadBits, fieldHeadBits, stepHeadBits};
+ghost use Rattle.record_layouts.specs.Layouts.{meshHeadBits, fieldHeadBits, stepHeadBits};
 ghost use Rattle.record_heads.specs.Heads.{lengthSaid, meshLengthSaid, bytesOf, meshNeeds, fieldNeeds, stepNeeds};
 ghost use Rattle.run_intake.specs.Intake.{recordBytes, stillNeeded, Asked};
 

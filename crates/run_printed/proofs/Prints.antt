@@ -12,9 +12,9 @@ use Rattle.lists.proofs.Tables.{length-table}
 use Rattle.model.specs.Mesh.{Mesh, meshOf, runCells, runFaces}
 use Rattle.model.specs.Causes.{Outcome, accepted, refused, Verdict, taken}
 use Rattle.record_bits.specs.Layout.{bytesFor}
-use Rattle.record_heads.specs.Layouts.{stepHeadBits}
+use Rattle.record_layouts.specs.Layouts.{stepHeadBits}
 use Rattle.record_heads.specs.Heads.{stepNeeds}
-use Rattle.record_heads.specs.declared.Width.{Width}
+use Rattle.record_layouts.specs.declared.Width.{Width}
 use Rattle.record_reading.specs.Reading.{volumesIn, firstsIn, secondsIn, sharesIn, reachesIn, massesIn}
 use Rattle.record_reading.specs.declared.MeshCounts.{MeshCounts}
 use Rattle.board.specs.Board.{entryAt, listed, entriesOf, boardVerdict, boardEntries, boardSize, unused}

@@ -14,7 +14,7 @@ use Rattle.model.proofs.Verdicts.{both-fine, accepted-of, refused-of}
 use Rattle.model.proofs.Accepted.{ready}
 use Rattle.model.proofs.Next.{amounts-budget, moved-keeps}
 use Rattle.model.proofs.Lists.{raised-total}
-use Rattle.record_heads.specs.declared.Width.{Width}
+use Rattle.record_layouts.specs.declared.Width.{Width}
 use Rattle.record_reading.specs.Reading.{massesIn}
 use Rattle.model.specs.declared.Printed.{Printed}
 use Rattle.model.specs.declared.StepTaken.{StepTaken}

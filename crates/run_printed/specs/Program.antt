@@ -12,9 +12,9 @@ use Rattle.model.specs.Causes.{Outcome}
 use Rattle.model.specs.declared.Refusal.{Refusal}
 use Rattle.checks.specs.declared.TotalAnswer.the-variants as total
 use Rattle.record_bits.specs.Layout.{bytesFor}
-use Rattle.record_heads.specs.Layouts.{meshHeadBits, fieldHeadBits, stepHeadBits}
+use Rattle.record_layouts.specs.Layouts.{meshHeadBits, fieldHeadBits, stepHeadBits}
 use Rattle.record_heads.specs.Heads.{lengthSaid, meshNeeds, fieldNeeds, stepNeeds}
-use Rattle.record_heads.specs.declared.Width.{Width}
+use Rattle.record_layouts.specs.declared.Width.{Width}
 use Rattle.record_reading.specs.declared.MeshCounts.{MeshCounts}
 use Rattle.record_heads.specs.declared.LengthAnswer.{LengthAnswer}
 use Rattle.record_reading.specs.declared.MeshAnswer.the-variants as mesh

@@ -8,10 +8,10 @@ use Rattle.model.specs.Mesh.{Mesh, meshOf, total, runCells, runFaces}
 use Rattle.model.specs.Causes.{Outcome, accepted, refused, _andThen_, taken, cellsOnly}
 use Rattle.model.specs.Calls.{massIn}
 use Rattle.record_bits.specs.Layout.{bytesFor}
-use Rattle.record_heads.specs.Layouts.{meshHeadBits, fieldHeadBits, stepHeadBits}
+use Rattle.record_layouts.specs.Layouts.{meshHeadBits, fieldHeadBits, stepHeadBits}
 use Rattle.record_reading.specs.Reading.{meshIn, countsIn, massesIn}
 use Rattle.record_heads.specs.Heads.{meshNeeds, fieldNeeds, stepNeeds}
-use Rattle.record_heads.specs.declared.Width.{Width}
+use Rattle.record_layouts.specs.declared.Width.{Width}
 use Rattle.record_reading.specs.declared.MeshCounts.{MeshCounts}
 use Rattle.board.specs.Board.{entryAt, listed, boardVerdict}
 use Rattle.board.specs.declared.Entry.{Entry}

@@ -4,7 +4,7 @@ use mathlib.Core.Path.{_≡_}
 use mathlib.Core.List.{List, [], _∷_}
 use Rattle.model.specs.Mesh.{Mesh}
 use Rattle.model.specs.Causes.{Outcome, accepted, refused}
-use Rattle.record_heads.specs.declared.Width.{Width}
+use Rattle.record_layouts.specs.declared.Width.{Width}
 use Rattle.model.specs.declared.Printed.{Printed}
 use Rattle.model.specs.StepTaken.{takenSaid}
 use Rattle.run_printed.specs.Program.{StepsPrint, no-byte, step-ends, step-goes-on, FieldPrints, field-refused, field-accepted, Prints, mesh-refused, mesh-accepted}

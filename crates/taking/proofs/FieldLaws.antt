@@ -20,7 +20,7 @@ use Rattle.checks.specs.Total.{totalSaid}
 use Rattle.checks.specs.declared.TotalAnswer.{TotalAnswer}
 use Rattle.checks.specs.declared.TotalAnswer.the-variants as total-answer
 use Rattle.record_reading.specs.Reading.{massesIn, fieldBodyVerdict, fieldRead}
-use Rattle.record_heads.specs.declared.Width.{Width}
+use Rattle.record_layouts.specs.declared.Width.{Width}
 use Rattle.record_reading.specs.Answers.{FieldReading}
 use Rattle.taking.specs.Taking.{fieldJudged, FieldTaking}
 use Rattle.model.proofs.Parts.{PartRead, read-part}

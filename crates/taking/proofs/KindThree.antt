@@ -17,10 +17,10 @@ use Rattle.model.proofs.Verdicts.{both-fine}
 use Rattle.model.proofs.Unreleased.{unreleased}
 use Rattle.record_bits.specs.Field.{bitsAt}
 use Rattle.record_sections.specs.Sections.{place, entryIn}
-use Rattle.record_heads.specs.Layouts.{waterKind, releaseBits, stepShape}
+use Rattle.record_layouts.specs.Layouts.{waterKind, releaseBits, stepShape}
 use Rattle.record_heads.specs.Heads.{kindIn}
-use Rattle.record_heads.specs.declared.Width.{Width}
-use Rattle.record_heads.specs.declared.Width.the-variants.{Narrow, Wide}
+use Rattle.record_layouts.specs.declared.Width.{Width}
+use Rattle.record_layouts.specs.declared.Width.the-variants.{Narrow, Wide}
 use Rattle.record_reading.specs.Reading.{stepShapeIn, releasesIn}
 use Rattle.model.specs.declared.Printed.{Printed}
 use Rattle.taking.specs.Taking.{stepIn, printedOf, stepRecordFound, stepJudged}

@@ -1,7 +1,7 @@
 -- What a step record comes to, from what the calls that `take_step` and `stepped` make promise.
-use Prim.Native.Nat.{ℕ, _*_, _^_, _≤_, _<_}
+use Prim.Native.Nat.{ℕ, _^_, _≤_, _<_}
 use mathlib.Core.Path.{_≡_, sym, ap, _∙_}
-use mathlib.Core.List.{List, [], _∷_}
+use mathlib.Core.List.{List}
 use native.Mathlib.Nat.{le-trans}
 use native.Mathlib.Omega.{arith}
 use lib.IntN.{ℤ, pos}
@@ -24,11 +24,11 @@ use Rattle.transport.specs.Promise.{stepSaid, StepPromise}
 use Rattle.transport.specs.declared.StepAnswer.{StepAnswer}
 use Rattle.transport.specs.declared.StepAnswer.the-variants as step-answer
 use Rattle.transport.specs.declared.Crossed.{Crossed}
-use Rattle.record_heads.specs.Layouts.{kindNumber, stepLength}
-use Rattle.record_heads.specs.Heads.{kindIn, hasLength, stepHeadVerdict}
-use Rattle.record_heads.specs.declared.Width.{Width}
-use Rattle.record_heads.specs.declared.StepKind.{StepKind}
-use Rattle.record_reading.specs.Reading.{fluxesIn, outsidesIn, releasesIn, stepBitGood, stepBodyVerdict, stepRead}
+use Rattle.record_layouts.specs.Layouts.{kindNumber}
+use Rattle.record_heads.specs.Heads.{kindIn, stepHeadVerdict}
+use Rattle.record_layouts.specs.declared.Width.{Width}
+use Rattle.record_layouts.specs.declared.StepKind.{StepKind}
+use Rattle.record_reading.specs.Reading.{fluxesIn, outsidesIn, releasesIn, stepBodyCauses, stepBodyVerdict, stepRead}
 use Rattle.record_reading.specs.Answers.{stepReadSaid as readSaid, StepReading}
 use Rattle.record_reading.specs.declared.StepRead.{StepRead}
 use Rattle.record_reading.specs.declared.StepRead.the-variants as read
@@ -180,16 +180,6 @@ module _ {M : Mesh} {masses : List ℕ} {fluxes : List ℤ} {outsides nexts : Li
         rw (i, o, h, l, sum-is d e) in
         record { answer = ap accepted q ∙ sym (past _ v); masses-after = rw v (masses-are d e) }
 
--- the causes of a step record past its head, in their order
-abbrev bodyCauses : Mesh → List ℕ → (fluxes outsides releases : ℕ) → List Verdict
-bodyCauses M bs fluxes outsides releases =
-    hasLength bs (stepLength (kindIn bs) (M .cells) (M .faces) (M .seconds))
-    ∷ long 6 (M .faces) fluxes
-    ∷ long 7 (M .faces) outsides
-    ∷ long 14 (M .cells) releases
-    ∷ each 12 (8 * length bs) (stepBitGood bs (M .cells) (M .faces) (M .seconds))
-    ∷ []
-
 -- the step of a record
 module _ (w : Width) (M : Mesh) (masses : List ℕ) {bs : List ℕ} {fluxes : List ℤ} {outsides releases : List ℕ} {a : StepRead} {fluxes′ : List ℤ}
     {outsides′ releases′ : List ℕ}
@@ -202,9 +192,9 @@ module _ (w : Width) (M : Mesh) (masses : List ℕ) {bs : List ℕ} {fluxes : Li
     unfolding stepRead
     read-fine = both-fine _ _ (accepted-of _ (kindIn bs) (kindNumber w kind) (sym (ap (readSaid w) d) ∙ s .answer) .0)
 
-    body-fine : AllFine (bodyCauses M bs (length fluxes) (length outsides) (length releases))
+    body-fine : AllFine (stepBodyCauses (M .cells) (M .faces) (M .seconds) bs (length fluxes) (length outsides) (length releases))
     unfolding stepBodyVerdict
-    body-fine = all-fine (bodyCauses M bs (length fluxes) (length outsides) (length releases)) (read-fine .1)
+    body-fine = all-fine (stepBodyCauses (M .cells) (M .faces) (M .seconds) bs (length fluxes) (length outsides) (length releases)) (read-fine .1)
 
     pub fluxes-part : PartRead (M .faces) (fluxesIn bs (M .faces)) fluxes′
     unfolding fluxesIn
@@ -226,7 +216,7 @@ module _ (w : Width) (M : Mesh) (masses : List ℕ) {bs : List ℕ} {fluxes : Li
 
       pub found-fine : stepRecordFound w M bs ≡ fine
       unfolding stepRecordFound stepBodyVerdict
-      found-fine = past _ (read-fine .0) ∙ fine-all (bodyCauses M bs runFaces runFaces runCells)
+      found-fine = past _ (read-fine .0) ∙ fine-all (stepBodyCauses (M .cells) (M .faces) (M .seconds) bs runFaces runFaces runCells)
           (body-fine .0, (long-met 6 _ _ (few .1), (long-met 7 _ _ (few .1), (long-met 14 _ _ (few .0), (body-fine .1 .1 .1 .1 .0, tt)))))
 
   -- in tables as long as the run's limits

@@ -13,7 +13,7 @@ use Rattle.model.specs.Calls.{massIn}
 use Rattle.checks.specs.Total.{totalSaid}
 use Rattle.checks.specs.declared.TotalAnswer.{TotalAnswer}
 use Rattle.record_heads.specs.Heads.{stepHeadVerdict}
-use Rattle.record_heads.specs.declared.Width.{Width}
+use Rattle.record_layouts.specs.declared.Width.{Width}
 use Rattle.record_reading.specs.Reading.{massesIn, fluxesIn, outsidesIn, releasesIn, fieldRead, stepBodyVerdict}
 use Rattle.model.specs.declared.Printed.{Printed}
 use Rattle.model.specs.declared.StepTaken.{StepTaken}

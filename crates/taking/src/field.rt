@@ -2,7 +2,7 @@
 use checks::TotalAnswer;
 use model::Answer;
 use model::RUN_CELLS;
-use record_heads::Width;
+use record_layouts::Width;
 ghost use Rattle.taking.specs.Taking.{FieldTaking};
 
 // Document 01's position of the table of masses.

@@ -4,7 +4,7 @@ use model::RUN_CELLS;
 use model::RUN_FACES;
 use model::RUN_WORK;
 use model::StepTaken;
-use record_heads::Width;
+use record_layouts::Width;
 use record_reading::StepRead;
 use transport::StepAnswer;
 ghost use Rattle.model.specs.Mesh.{meshOf};

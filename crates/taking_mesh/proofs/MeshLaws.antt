@@ -1,30 +1,29 @@
 -- What a mesh record comes to, from what the calls that `take_mesh` and `keep` make promise. What is read has tables as long as its counts,
 -- within the run's limits; so of the verdict on it only the values are left.
-use Prim.Native.Nat.{ℕ, _*_, _^_, _≤_, _<_, min}
+use Prim.Native.Nat.{ℕ, _^_, _≤_, _<_, min}
 use mathlib.Core.Path.{_≡_, refl, sym, ap, _∙_}
 use mathlib.Core.List.{List, [], _∷_}
 use native.Mathlib.Nat.{le-trans, le-refl}
 use native.Mathlib.Omega.{arith}
-use borrow.Author.Tests.{leb-true, le-leb}
-use lib.Dec.{leb}
+use borrow.Author.Tests.{le-leb}
 use lib.ListN.{length, take}
 use Rattle.lists.specs.Table.{over}
-use Rattle.lists.proofs.Tests.{both-true, true-both}
 use Rattle.lists.proofs.Tables.{length-table, getD-table}
 use Rattle.model.specs.Mesh.{Mesh, meshOf, runCells, runFaces, maxCells, maxFaces, ceiling, oldCeiling}
-use Rattle.model.specs.Causes.{accepted, refused, Verdict, fine, _andThen_, each, long, countsWithin, counts, meshTables, meshValues, meshVerdict}
+use Rattle.model.specs.Causes.{accepted, refused, Verdict, fine, _andThen_, long, countsWithin, counts, meshTables, meshValues, meshVerdict}
 use Rattle.model.specs.Ceilings.{MeshSmall}
 use Rattle.model.specs.Answers.{number}
 use Rattle.model.specs.declared.Refusal.{Refusal}
-use Rattle.model.proofs.Verdicts.{AllFine, all-fine, fine-all, refused-at, both-fine, past, out, refused-of, accepted-of, need-fine, need-met, long-fine}
+use Rattle.model.proofs.Verdicts.{AllFine, all-fine, fine-all, refused-at, both-fine, past, out, refused-of, accepted-of, need-met, long-fine}
 use Rattle.model.proofs.Accepted.{mesh-lent}
 use Rattle.record_bits.proofs.Fields.{bits-lt}
 use Rattle.record_sections.specs.Sections.{place, entryIn}
-use Rattle.record_heads.specs.Layouts.{widthOf, valueOf, valueBits, meshShape, meshHeadBits, meshLength}
-use Rattle.record_heads.specs.Heads.{kindIn, widthIn, cellsIn, facesIn, hasHead, hasLength, hasMeshKind, meshHeadVerdict}
-use Rattle.record_heads.specs.declared.Width.{Width}
-use Rattle.record_heads.specs.declared.Width.the-variants.{Narrow}
-use Rattle.record_reading.specs.Reading.{volumesIn, firstsIn, secondsIn, sharesIn, reachesIn, countsIn, meshIn, meshBitGood, meshBodyVerdict, meshRead}
+use Rattle.record_layouts.specs.Layouts.{widthOf, valueOf, valueBits, meshShape}
+use Rattle.record_heads.specs.Heads.{kindIn, widthIn, cellsIn, facesIn, meshHeadCauses, meshHeadVerdict}
+use Rattle.record_heads.proofs.HeadLaws.{within-says, within-met, mesh-head-says}
+use Rattle.record_layouts.specs.declared.Width.{Width}
+use Rattle.record_layouts.specs.declared.Width.the-variants.{Narrow}
+use Rattle.record_reading.specs.Reading.{volumesIn, firstsIn, secondsIn, sharesIn, reachesIn, countsIn, meshIn, meshBodyCauses, meshBodyVerdict, meshRead}
 use Rattle.record_reading.specs.Answers.{meshSaid, MeshReading}
 use Rattle.record_reading.specs.declared.MeshAnswer.{MeshAnswer}
 use Rattle.record_reading.specs.declared.MeshAnswer.the-variants as mesh-answer
@@ -103,20 +102,15 @@ mesh-small bs e = record {
 
 module _ (bs : List ℕ) (e : meshRecordFound bs ≡ fine) where
   pub limits : Limits bs
-  unfolding meshRecordFound meshHeadVerdict countsWithin
+  unfolding meshRecordFound
   limits =
-      let n = both-fine _ _ (both-fine _ _ (both-fine _ _ e .0) .1) in
-      let c = both-true (leb 1 (cellsIn bs)) (leb (cellsIn bs) runCells) (need-fine 1 0 _ (n .0)) in
-      record { some-cells = leb-true _ _ (c .0); few-cells = leb-true _ _ (c .1); few-faces = leb-true _ _ (need-fine 1 1 _ (n .1)) }
+      let h = mesh-head-says runCells runFaces bs (both-fine _ _ e .0) in
+      record { some-cells = h .some-cells; few-cells = h .within-cells; few-faces = h .within-faces }
 
   counts-pass : countsWithin maxCells maxFaces (cellsIn bs) (facesIn bs) ≡ fine
-  unfolding countsWithin _andThen_
   counts-pass =
       let m = limits in
-      rw (
-        need-met 1 0 (true-both (le-leb 1 (cellsIn bs) (m .some-cells)) (le-leb (cellsIn bs) maxCells (omega (arith, m .few-cells)))),
-        need-met 1 1 (le-leb (facesIn bs) maxFaces (omega (arith, m .few-faces))),
-      )
+      within-met maxCells maxFaces (cellsIn bs) (facesIn bs) (m .some-cells) (omega (arith, m .few-cells)) (omega (arith, m .few-faces))
 
   tables-pass : meshTables (meshIn bs) ≡ fine
   unfolding meshTables _andThen_
@@ -165,22 +159,6 @@ module _ {bs volumes firsts seconds shares reaches : List ℕ} {a : MeshAnswer} 
       kept-refused (widthIn bs) (meshIn bs) v f s w k a _ _ (refused-at [] (_ ∷ _ ∷ []) tt
       (refused-of (meshRecordFound bs) (countsIn bs) (number (r .cause)) (r .place) (sym (ap meshSaid d) ∙ read-said))) (ap meshSaid d)
 
--- the causes of a mesh record in their order: of its head, and past it
-abbrev headCauses : (mostCells mostFaces : ℕ) → List ℕ → List Verdict
-headCauses mostCells mostFaces bs =
-    hasHead bs meshHeadBits ∷ hasMeshKind bs ∷ countsWithin (min mostCells maxCells) (min mostFaces maxFaces) (cellsIn bs) (facesIn bs) ∷ []
-
-abbrev bodyCauses : List ℕ → (volumes firsts seconds shares reaches : ℕ) → List Verdict
-bodyCauses bs volumes firsts seconds shares reaches =
-    hasLength bs (meshLength (kindIn bs) (cellsIn bs) (facesIn bs))
-    ∷ long 0 (cellsIn bs) volumes
-    ∷ long 1 (facesIn bs) firsts
-    ∷ long 2 (facesIn bs) seconds
-    ∷ long 3 (facesIn bs) shares
-    ∷ long 4 (facesIn bs) reaches
-    ∷ each 12 (8 * length bs) (meshBitGood bs)
-    ∷ []
-
 -- a mesh that is read within limits and into tables that may be less than the run's
 module _ (mostCells mostFaces : ℕ) {bs volumes firsts seconds shares reaches : List ℕ} {a : MeshAnswer} {volumes′ firsts′ seconds′ shares′ reaches′ : List ℕ}
     (s : MeshReading (meshRead mostCells mostFaces bs (length volumes) (length firsts) (length seconds) (length shares) (length reaches))
@@ -192,31 +170,27 @@ module _ (mostCells mostFaces : ℕ) {bs volumes firsts seconds shares reaches :
   unfolding meshRead
   read-fine = accepted-of _ (countsIn bs) n (sym (ap meshSaid d) ∙ s .answer)
 
-  head-fine : AllFine (headCauses mostCells mostFaces bs)
+  head-fine : AllFine (meshHeadCauses mostCells mostFaces bs)
   unfolding meshHeadVerdict
-  head-fine = all-fine (headCauses mostCells mostFaces bs) (both-fine _ _ (read-fine .0) .0)
+  head-fine = all-fine (meshHeadCauses mostCells mostFaces bs) (both-fine _ _ (read-fine .0) .0)
 
-  body-fine : AllFine (bodyCauses bs (length volumes) (length firsts) (length seconds) (length shares) (length reaches))
+  body-fine : AllFine (meshBodyCauses bs (length volumes) (length firsts) (length seconds) (length shares) (length reaches))
   unfolding meshBodyVerdict
-  body-fine = all-fine (bodyCauses bs (length volumes) (length firsts) (length seconds) (length shares) (length reaches)) (both-fine _ _ (read-fine .0) .1)
+  body-fine = all-fine (meshBodyCauses bs (length volumes) (length firsts) (length seconds) (length shares) (length reaches)) (both-fine _ _ (read-fine .0) .1)
 
   within : (1 ≤ cellsIn bs) × (cellsIn bs ≤ runCells) × (facesIn bs ≤ runFaces)
-  unfolding countsWithin
   within =
-      let k = both-fine _ _ (head-fine .1 .1 .0) in
-      let c = both-true (leb 1 (cellsIn bs)) (leb (cellsIn bs) (min mostCells maxCells)) (need-fine 1 0 _ (k .0)) in
-      (leb-true _ _ (c .0), le-trans (leb-true _ _ (c .1)) cells, le-trans (leb-true _ _ (need-fine 1 1 _ (k .1))) faces)
+      let n = within-says (min mostCells maxCells) (min mostFaces maxFaces) (cellsIn bs) (facesIn bs) (head-fine .1 .1 .0) in
+      (n .0, le-trans (n .1) cells, le-trans (n .2) faces)
 
   run-head : meshHeadVerdict runCells runFaces bs ≡ fine
-  unfolding meshHeadVerdict countsWithin
-  run-head =
-      let c = need-met 1 0 (true-both (le-leb 1 (cellsIn bs) (within .0)) (le-leb (cellsIn bs) runCells (within .1))) in
-      fine-all (headCauses runCells runFaces bs)
-      (head-fine .0, (head-fine .1 .0, (past _ c ∙ need-met 1 1 (le-leb (facesIn bs) runFaces (within .2)), tt)))
+  unfolding meshHeadVerdict
+  run-head = fine-all (meshHeadCauses runCells runFaces bs)
+      (head-fine .0, (head-fine .1 .0, (within-met runCells runFaces (cellsIn bs) (facesIn bs) (within .0) (within .1) (within .2), tt)))
 
   run-body : meshBodyVerdict bs runCells runFaces runFaces runFaces runFaces ≡ fine
   unfolding meshBodyVerdict
-  run-body = fine-all (bodyCauses bs runCells runFaces runFaces runFaces runFaces) (
+  run-body = fine-all (meshBodyCauses bs runCells runFaces runFaces runFaces runFaces) (
     body-fine .0,
     (
       long-met 0 _ _ (within .1),

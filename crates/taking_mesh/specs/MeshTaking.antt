@@ -8,7 +8,7 @@ use Rattle.lists.specs.Table.{over}
 use Rattle.model.specs.Mesh.{Mesh, runCells, runFaces, ceiling}
 use Rattle.model.specs.Causes.{accepted, Verdict, _andThen_, taken, long, meshValues}
 use Rattle.record_heads.specs.Heads.{widthIn, cellsIn, facesIn, meshHeadVerdict}
-use Rattle.record_heads.specs.declared.Width.{Width}
+use Rattle.record_layouts.specs.declared.Width.{Width}
 use Rattle.record_reading.specs.Reading.{meshIn, meshBodyVerdict}
 use Rattle.record_reading.specs.Answers.{meshSaid}
 use Rattle.record_reading.specs.declared.MeshAnswer.{MeshAnswer}

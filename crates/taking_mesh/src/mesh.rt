@@ -4,7 +4,7 @@ use model::RUN_CELLS;
 use model::RUN_FACES;
 use model::needs::and_then;
 use model::needs::long;
-use record_heads::Width;
+use record_layouts::Width;
 use record_reading::MeshAnswer;
 use record_reading::MeshCounts;
 ghost use mathlib.Core.Path.{_≡_};

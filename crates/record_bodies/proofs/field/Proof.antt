@@ -1,10 +1,10 @@
 -- The masses are the column of the field's width.
-use mathlib.Core.Path.{_≡_, ap, _∙_}
+use mathlib.Core.Path.{ap, _∙_}
 use borrow.Author.Needs.{needs}
 use Rattle.lists.specs.Table.{over}
 use Rattle.record_sections.proofs.Bodies.{column-is, column-room}
-use Rattle.record_heads.specs.Layouts.{fieldKind}
-use Rattle.record_heads.proofs.Layouts.{field-mass, masses-at}
+use Rattle.record_layouts.specs.Layouts.{fieldKind}
+use Rattle.record_layouts.proofs.Layouts.{field-mass, masses-at}
 use Rattle.record_bodies.proofs.field.Statement.{statement}
 use Rattle.record_bodies.proofs.field.Tie as tie
 

@@ -9,8 +9,8 @@ use Rattle.lists.specs.Table.{table, over}
 use Rattle.record_bits.specs.Field.{bitsAt}
 use Rattle.record_sections.specs.Sections.{Section, columnIn}
 use Rattle.record_sections.proofs.Bodies.{Column, column-is, column-room}
-use Rattle.record_heads.specs.Layouts.{meshKind, endBits, shareBits, valueBits, faceBits, meshBody}
-use Rattle.record_heads.proofs.Layouts.{value-most, mesh-value, volumes-at, firsts-at, seconds-at, shares-at, reaches-at}
+use Rattle.record_layouts.specs.Layouts.{meshKind, endBits, shareBits, valueBits, faceBits, meshBody}
+use Rattle.record_layouts.proofs.Layouts.{value-most, mesh-value, volumes-at, firsts-at, seconds-at, shares-at, reaches-at}
 use Rattle.record_bodies.proofs.mesh.Statement.{statement}
 use Rattle.record_bodies.proofs.mesh.Tie as tie
 

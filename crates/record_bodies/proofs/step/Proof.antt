@@ -5,8 +5,8 @@ use native.Mathlib.Omega.{arith}
 use borrow.Author.Needs.{needs}
 use Rattle.lists.specs.Table.{over}
 use Rattle.record_sections.proofs.Bodies.{column-room}
-use Rattle.record_heads.specs.Layouts.{kindNumber, valueBits, fluxBits}
-use Rattle.record_heads.proofs.Layouts.{value-most, step-value, sizes-at}
+use Rattle.record_layouts.specs.Layouts.{kindNumber, valueBits, fluxBits}
+use Rattle.record_layouts.proofs.Layouts.{value-most, step-value, sizes-at}
 use Rattle.record_bodies.proofs.StepLaws.{fluxes-taken, outsides-taken, releases-ask, releases-taken}
 use Rattle.record_bodies.proofs.step.Statement.{statement}
 use Rattle.record_bodies.proofs.step.Tie as tie

@@ -7,7 +7,7 @@ use Rattle.model.specs.Answers.{said}
 use Rattle.model.specs.Causes.{fine, _andThen_, bytesLong, counts, meshTables, meshValues, fieldTable, fieldValues, saltGood}
 use Rattle.model.proofs.Verdicts.{refused-at, both-fine, past, out, both-are, refuses, passes}
 use Rattle.model.proofs.Accepted.{few, mesh-long, salt-asks-within}
-use Rattle.record_heads.specs.Layouts.{fieldKind, fieldLength}
+use Rattle.record_layouts.specs.Layouts.{fieldKind, fieldLength}
 use Rattle.record_causes.specs.Verdicts.{mostOf, fieldWriteVerdict}
 use Rattle.record_causes.proofs.Refusing.{most-within, bytes-said, values-said, past-first}
 use Rattle.record_causes.proofs.field.Statement.{statement}

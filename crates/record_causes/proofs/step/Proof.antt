@@ -7,10 +7,11 @@ use lib.ListN.{length}
 use Rattle.model.specs.Mesh.{Mesh, meshOf}
 use Rattle.model.specs.Answers.{said}
 use Rattle.model.specs.declared.Answer.the-variants.{Done}
-use Rattle.model.specs.Causes.{fine, _andThen_, long, bytesLong, counts, meshTables, outsideGood, fluxGood}
+use Rattle.model.specs.Causes.{fine, _andThen_, inTurn, counts, meshTables, outsideGood, fluxGood}
 use Rattle.model.proofs.Verdicts.{refused-at, both-fine, past, both-are, refuses, passes}
 use Rattle.model.proofs.Accepted.{counted, mesh-long}
-use Rattle.record_heads.specs.Layouts.{kindNumber, stepLength}
+use Rattle.record_layouts.specs.Layouts.{kindNumber}
+use Rattle.record_causes.specs.Verdicts.{stepRoomCauses}
 use Rattle.record_causes.proofs.Refusing.{bytes-said, values-said, water-long, step-groups}
 use Rattle.record_causes.proofs.step.Statement.{statement}
 use Rattle.record_causes.proofs.step.Tie as tie
@@ -35,10 +36,9 @@ start c = from-lent (tested c)
 lent : (c : tie.After-and-then3) → let s = start c in (counts (mesh s) andThen meshTables (mesh s)) ≡ fine
 lent c = passes (tested c .mesh-lent .ensures) (pair c .before .before .before .enum-told .given .1)
 
-tables : (c : tie.After-and-then3) → let s = start c in
-    said (c .and-then3 .result) ≡ (long 6 (s .args .faces) (length (s .args .fluxes .now)) andThen long 7 (s .args .faces) (length (s .args .outsides .now))
-    andThen bytesLong (stepLength (kindNumber (s .args .width) (s .args .kind)) (s .args .cells) (s .args .faces) (s .args .seconds .now)) (s .args .room)
-    andThen long 14 (s .args .cells) (length (s .args .releases .now)))
+tables : (c : tie.After-and-then3) → let s = start c in said (c .and-then3 .result)
+    ≡ inTurn (stepRoomCauses (mesh s) (kindNumber (s .args .width) (s .args .kind)) (s .args .fluxes .now) (s .args .outsides .now)
+    (s .args .releases .now) (s .args .room))
 tables c =
     let most = c .before .before in
     let space = most .before in
@@ -51,10 +51,8 @@ longs : (c : tie.After-and-then3) → c .and-then3 .result ≡ Done → let s = 
     (s .args .faces ≤ length (s .args .fluxes .now)) × (s .args .faces ≤ length (s .args .outsides .now)) × (s .args .cells ≤ length (s .args .releases .now))
 longs c e =
     let s = start c in
-    let space = bytesLong (stepLength (kindNumber (s .args .width) (s .args .kind)) (s .args .cells) (s .args .faces) (s .args .seconds .now)) (s .args .room)
-    in
-    water-long (s .args .faces) (length (s .args .fluxes .now)) (length (s .args .outsides .now)) (s .args .cells)
-    (length (s .args .releases .now)) space (passes (tables c) e)
+    water-long (s .args .width) (mesh s) (kindNumber (s .args .width) (s .args .kind)) (s .args .fluxes .now) (s .args .outsides .now)
+    (s .args .releases .now) (s .args .room) (passes (tables c) e)
 
 returns : tie.Need-returns
 returns c =

@@ -2,7 +2,7 @@ use mathlib.Core.Path.{_∙_}
 use native.Mathlib.Omega.{arith}
 use borrow.Author.Needs.{needs}
 use Rattle.record_bits.specs.Layout.{bytesFor}
-use Rattle.record_heads.specs.Layouts.{kindBits}
+use Rattle.record_layouts.specs.Layouts.{kindBits}
 use Rattle.record_heads.proofs.HeadLaws.{held}
 use Rattle.record_heads.proofs.kind.Statement.{statement}
 use Rattle.record_heads.proofs.kind.Tie as tie

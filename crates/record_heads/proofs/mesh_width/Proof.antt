@@ -1,13 +1,11 @@
 -- A kind of a mesh that is not the narrow one is the wide one.
-use mathlib.Core.Path.{_≡_, sym}
-use mathlib.Core.Bool.{true}
-use mathlib.Core.List.{List}
+use mathlib.Core.Path.{sym}
 use borrow.Author.Needs.{needs}
 use borrow.Author.Tests.{eqb-true, ne-eqb}
 use lib.Dec.{eqb}
 use Rattle.record_heads.proofs.HeadLaws.{other-true}
-use Rattle.record_heads.specs.declared.Width.the-variants.{Narrow, Wide}
-use Rattle.record_heads.specs.Layouts.{meshKind}
+use Rattle.record_layouts.specs.declared.Width.the-variants.{Narrow}
+use Rattle.record_layouts.specs.Layouts.{meshKind}
 use Rattle.record_heads.specs.Heads.{kindIn}
 use Rattle.record_heads.proofs.mesh_width.Statement.{statement}
 use Rattle.record_heads.proofs.mesh_width.Tie as tie

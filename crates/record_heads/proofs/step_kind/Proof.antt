@@ -1,10 +1,10 @@
 -- A kind of a step that is not the one with outfalls is the other.
-use mathlib.Core.Path.{sym, _∙_}
+use mathlib.Core.Path.{sym}
 use borrow.Author.Needs.{needs}
 use borrow.Author.Tests.{eqb-true, ne-eqb}
 use lib.Dec.{eqb}
 use Rattle.lists.proofs.Tests.{either-true}
-use Rattle.record_heads.specs.Layouts.{outfallKind}
+use Rattle.record_layouts.specs.Layouts.{outfallKind}
 use Rattle.record_heads.specs.Heads.{kindIn}
 use Rattle.record_heads.proofs.step_kind.Statement.{statement}
 use Rattle.record_heads.proofs.step_kind.Tie as tie

@@ -10,8 +10,8 @@ use Rattle.record_bits.proofs.Layouts.{bytes-hold}
 use Rattle.record_sections.specs.Sections.{Section, Values, shapeBits}
 use Rattle.record_sections.proofs.Columns.{Written, none, and, written-none, written-all}
 use Rattle.record_sections.proofs.Bodies.{column-small, column-written, head-written}
-use Rattle.record_heads.specs.Layouts.{fieldKind, kindBits, cellsBits, massBits, fieldHeadBits, fieldShape, fieldValue, fieldLength, fieldRecord}
-use Rattle.record_heads.proofs.Layouts.{mass-most, field-mass, field-some, field-most, field-kind-in, field-cells-in, masses-in}
+use Rattle.record_layouts.specs.Layouts.{fieldKind, kindBits, cellsBits, massBits, fieldHeadBits, fieldShape, fieldValue, fieldLength, fieldRecord}
+use Rattle.record_layouts.proofs.Layouts.{mass-most, field-mass, field-some, field-most, field-kind-in, field-cells-in, masses-in}
 use Rattle.record_putting.proofs.PutLaws.{Room, field-asks, column-asks}
 use Rattle.record_putting.proofs.field.Statement.{statement}
 use Rattle.record_putting.proofs.field.Tie as tie

@@ -13,8 +13,8 @@ use Rattle.record_bits.proofs.Layouts.{bytes-hold}
 use Rattle.record_sections.specs.Sections.{Section, Values, shapeBits}
 use Rattle.record_sections.proofs.Columns.{Written, none, and, written-none, written-all}
 use Rattle.record_sections.proofs.Bodies.{column-small, column-written, head-written}
-use Rattle.record_heads.specs.Layouts.{kindBits, cellsBits, facesBits, meshZeroBits, meshKind, valueBits, faceBits, meshHeadBits, meshShape, meshValue, meshLength, meshRecord}
-use Rattle.record_heads.proofs.Layouts.{value-most, mesh-value, mesh-some, mesh-most, mesh-kind-in, mesh-cells-in, mesh-faces-in, mesh-zeros-in, volumes-in, firsts-in, seconds-in, shares-in, reaches-in}
+use Rattle.record_layouts.specs.Layouts.{kindBits, cellsBits, facesBits, meshZeroBits, meshKind, valueBits, faceBits, meshHeadBits, meshShape, meshValue, meshLength, meshRecord}
+use Rattle.record_layouts.proofs.Layouts.{value-most, mesh-value, mesh-some, mesh-most, mesh-kind-in, mesh-cells-in, mesh-faces-in, mesh-zeros-in, volumes-in, firsts-in, seconds-in, shares-in, reaches-in}
 use Rattle.record_putting.proofs.PutLaws.{Room, field-asks, column-asks}
 use Rattle.record_putting.proofs.mesh.Statement.{statement}
 use Rattle.record_putting.proofs.mesh.Tie as tie

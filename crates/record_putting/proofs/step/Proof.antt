@@ -12,9 +12,8 @@ use Rattle.record_bits.proofs.Layouts.{bytes-hold}
 use Rattle.record_sections.specs.Sections.{Section, Values, shapeBits}
 use Rattle.record_sections.proofs.Columns.{Written, none, and, written-none, written-column, written-all}
 use Rattle.record_sections.proofs.Bodies.{Column, column-fits, column-small, column-written, head-written}
-use Rattle.record_heads.specs.Layouts.{kindNumber, valueBits, kindBits, facesBits, stepZeroBits, stepHeadBits, releaseBits, stepShape, stepValue, stepLength, stepRecord}
-use Rattle.record_heads.proofs.HeadLaws.{rim-le}
-use Rattle.record_heads.proofs.Layouts.{value-most, step-value, releasePlace, step-is, step-some, step-most, step-kind-in, step-faces-in, step-zeros-in, signs-in, sizes-in, outside-in}
+use Rattle.record_layouts.specs.Layouts.{kindNumber, valueBits, kindBits, facesBits, stepZeroBits, stepHeadBits, releaseBits, stepShape, stepValue, stepLength, stepRecord}
+use Rattle.record_layouts.proofs.Layouts.{rim-le, value-most, step-value, releasePlace, step-is, step-some, step-most, step-kind-in, step-faces-in, step-zeros-in, signs-in, sizes-in, outside-in}
 use Rattle.record_putting.proofs.PutLaws.{Room, field-asks, rooms, column-asks, releases-put, release-short, step-ends}
 use Rattle.record_putting.proofs.step.Statement.{statement}
 use Rattle.record_putting.proofs.step.Tie as tie

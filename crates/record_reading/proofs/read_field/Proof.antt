@@ -4,16 +4,15 @@ use mathlib.Core.Path.{_≡_, sym}
 use borrow.Author.Needs.{needs}
 use lib.ListN.{length}
 use Rattle.model.specs.Causes.{fine}
-use Rattle.model.proofs.Verdicts.{both-fine, refuses, passes}
+use Rattle.model.proofs.Verdicts.{refuses, passes}
 use Rattle.record_sections.specs.Sections.{shapeBits}
 use Rattle.record_sections.proofs.Bodies.{bodyOf}
-use Rattle.record_heads.specs.declared.Width.{Width}
-use Rattle.record_heads.specs.Layouts.{fieldKind, fieldBody}
+use Rattle.record_layouts.specs.declared.Width.{Width}
+use Rattle.record_layouts.specs.Layouts.{fieldKind, fieldBody}
 use Rattle.record_heads.specs.Heads.{kindIn}
-use Rattle.record_heads.proofs.HeadLaws.{field-head-says}
 use Rattle.record_reading.specs.Reading.{fieldRead}
 use Rattle.record_reading.proofs.BodyLaws.{fieldHeadBytes, field-room, field-filled}
-use Rattle.record_reading.proofs.ReadLaws.{field-refused, field-accepted}
+use Rattle.record_reading.proofs.ReadLaws.{field-read-says, field-refused, field-accepted}
 use Rattle.record_reading.proofs.read_field.Statement.{statement}
 use Rattle.record_reading.proofs.read_field.Tie as tie
 
@@ -21,12 +20,10 @@ use Rattle.record_reading.proofs.read_field.Tie as tie
 room : (w : Width) (cells : _) (bs : _) {m : _} → fieldRead w cells bs m ≡ fine
     → (fieldHeadBytes ≤ length bs) × ((8 * length (bodyOf fieldHeadBytes bs) < 2 ^ 64)
     × (shapeBits (fieldBody (fieldKind w) cells) ≤ 8 * length (bodyOf fieldHeadBytes bs)) × (cells ≤ m))
-unfolding fieldRead
-room w cells bs e = let a = both-fine _ _ e in let h = field-head-says w cells bs (a .0) in rw (← h .kind) (field-room cells bs (h .few-cells) (a .1))
+room w cells bs {m} e = let k = field-read-says w cells bs m e in rw (← k .head .kind) (field-room cells bs (k .head .few-cells) (k .tables))
 
 kind-is : (w : Width) (cells : _) (bs : _) (m : _) → fieldRead w cells bs m ≡ fine → fieldKind w ≡ kindIn bs
-unfolding fieldRead
-kind-is w cells bs m e = sym (field-head-says w cells bs (both-fine _ _ e .0) .kind)
+kind-is w cells bs m e = sym (field-read-says w cells bs m e .head .kind)
 
 returns : tie.Need-returns
 returns c =

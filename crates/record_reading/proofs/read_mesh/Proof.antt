@@ -29,7 +29,7 @@ room : (s : tie.Start) {n : MeshCounts} → comes s n → let bs = s .args .byte
     × MeshRoom (kindIn bs) (cellsIn bs) (facesIn bs) (bodyOf meshHeadBytes bs)
     (length (s .args .volumes .now)) (length (s .args .firsts .now)) (length (s .args .seconds .now)) (length (s .args .shares .now))
     (length (s .args .reaches .now))
-room s e = let k = says s e in mesh-room (s .args .bytes .now) (k .head .few-cells) (k .head .few-faces) (k .body-fine)
+room s e = let k = says s e in mesh-room (s .args .bytes .now) (k .head .few-cells) (k .head .few-faces) (k .tables)
 
 returns : tie.Need-returns
 returns c =

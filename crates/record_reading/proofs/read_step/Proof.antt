@@ -25,7 +25,7 @@ says s e = step-read-says _ _ _ _ _ _ _ _ e
 room : (s : tie.Start) {n : ℕ} → comes s n → let bs = s .args .bytes .now in
     (stepHeadBytes ≤ length bs) × StepRoom (kindIn bs) (s .args .cells) (s .args .faces) (s .args .seconds .now) (bodyOf stepHeadBytes bs)
     (length (s .args .fluxes .now)) (length (s .args .outsides .now)) (length (s .args .releases .now))
-room s e = let k = says s e in step-room _ _ _ (s .args .bytes .now) (k .head .few-cells) (k .head .few-faces) (k .head .lent) (k .body-fine)
+room s e = let k = says s e in step-room _ _ _ (s .args .bytes .now) (k .head .few-cells) (k .head .few-faces) (k .head .lent) (k .tables)
 
 -- the start, from where the tests were made
 abbrev start : tie.After-step → tie.Start

@@ -2,7 +2,6 @@
 use Prim.Native.Nat.{_≤_, _<_, _-_, _+_, _*_, _^_}
 use mathlib.Core.Path.{_≡_, refl, _∙_}
 use native.Mathlib.Omega.{arith}
-use borrow.Author.Needs.{needs}
 use lib.Dec.{eqb}
 use lib.ListN.{length, length-set}
 use Rattle.lists.proofs.Turns.{turn-within, turn-less, turn-in, turn-in-same, turn-next}

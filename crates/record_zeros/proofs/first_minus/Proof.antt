@@ -1,12 +1,11 @@
 -- The faces passed have no minus of size 0.
-use Prim.Native.Nat.{ℕ, _≤_, _<_, _-_, _+_, _*_, _^_}
+use Prim.Native.Nat.{_≤_, _<_, _-_, _+_, _*_, _^_}
 use lib.ListN.{length}
-use mathlib.Core.Path.{_≡_, sym, _∙_}
-use mathlib.Core.Bool.{false}
+use mathlib.Core.Path.{sym, _∙_}
 use native.Mathlib.Omega.{arith}
 use borrow.Author.Needs.{needs}
 use borrow.Author.Count.{below-more}
-use Rattle.record_heads.specs.Layouts.{stepHeadBits, signBits}
+use Rattle.record_layouts.specs.Layouts.{stepHeadBits, signBits}
 use Rattle.record_zeros.specs.Scans.{NoMinus}
 use Rattle.record_zeros.proofs.ZeroLaws.{face-room, minus-at}
 use Rattle.record_zeros.proofs.first_minus.Statement.{statement}

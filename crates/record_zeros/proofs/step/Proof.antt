@@ -1,7 +1,7 @@
 -- Head, fluxes, filling: a bit found in one is the first of all, since those before it are as they should be.
 use Prim.Native.Nat.{_+_, _*_, _≤_}
 use mathlib.Core.Path.{_∙_}
-use Rattle.record_heads.specs.Layouts.{stepHeadBits, signBits}
+use Rattle.record_layouts.specs.Layouts.{stepHeadBits, signBits}
 use native.Mathlib.Omega.{arith}
 use borrow.Author.Needs.{needs}
 use Rattle.record_zeros.proofs.ZeroLaws.{face-room, step-ruled, fluxes-good, all-good, sign-bad, head-hit, middle-hit, tail-hit, no-hit}

@@ -7,9 +7,9 @@ use borrow.Author.Needs.{needs}
 use borrow.Author.Tests.{le-ltb}
 use lib.Dec.{ltb}
 use Rattle.lists.proofs.Tests.{Same, same, other, same?}
-use Rattle.record_heads.specs.Layouts.{waterKind, outfallKind, massWidth, massBits, releaseBits}
-use Rattle.record_heads.specs.declared.Width.{Width}
-use Rattle.record_heads.specs.declared.Width.the-variants.{Narrow, Wide}
+use Rattle.record_layouts.specs.Layouts.{waterKind, outfallKind, massWidth, massBits, releaseBits}
+use Rattle.record_layouts.specs.declared.Width.{Width}
+use Rattle.record_layouts.specs.declared.Width.the-variants.{Narrow, Wide}
 use Rattle.record_causes.proofs.releases.release_fits.Statement.{statement}
 use Rattle.record_causes.proofs.releases.release_fits.Tie as tie
 

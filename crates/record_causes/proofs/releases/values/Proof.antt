@@ -6,7 +6,7 @@ use borrow.Author.Tests.{not-true, not-false}
 use lib.ListN.{getD}
 use Rattle.model.specs.Causes.{fine, each}
 use Rattle.model.proofs.Verdicts.{scan-start, scan-pass, scan-hit, scan-end}
-use Rattle.record_heads.specs.Layouts.{kindNumber}
+use Rattle.record_layouts.specs.Layouts.{kindNumber}
 use Rattle.record_causes.specs.Verdicts.{releaseFits}
 use Rattle.record_causes.proofs.releases.values.Statement.{statement}
 use Rattle.record_causes.proofs.releases.values.Tie as tie

@@ -2,13 +2,13 @@
 use mathlib.Core.Path.{_≡_, sym}
 use native.Mathlib.Omega.{arith}
 use borrow.Author.Needs.{needs}
-use Rattle.model.specs.Causes.{_andThen_, long}
+use Rattle.model.specs.Causes.{inTurn}
 use Rattle.model.specs.Answers.{said}
 use Rattle.model.proofs.Verdicts.{past, out, refuses, passes}
-use Rattle.record_heads.specs.Layouts.{meshKind, meshBits, meshLength}
-use Rattle.record_heads.proofs.Layouts.{mesh-most, mesh-some}
-use Rattle.record_heads.specs.Heads.{kindIn, cellsIn, facesIn, hasLength}
-use Rattle.record_reading.specs.Reading.{meshBodyVerdict, meshBitGood}
+use Rattle.record_layouts.specs.Layouts.{meshKind, meshBits, meshLength}
+use Rattle.record_layouts.proofs.Layouts.{mesh-most, mesh-some}
+use Rattle.record_heads.specs.Heads.{kindIn, cellsIn, facesIn}
+use Rattle.record_reading.specs.Reading.{meshTableCauses, meshBodyVerdict, meshBitGood}
 use Rattle.record_bits.proofs.Layouts.{bytes-hold, bytes-most}
 use Rattle.record_reading.proofs.ReadLaws.{mesh-tables-say}
 use Rattle.record_reading.proofs.verdicts.mesh_body.Statement.{statement}
@@ -26,9 +26,8 @@ bytes-for-requires c κs =
 
 -- the length and the tables
 lent : (c : tie.After-then-long5) → let s = c .before .before .before .before .before .before .before .before .before in let bs = s .args .bytes .now in
-    said (c .then-long5 .result) ≡ (hasLength bs (meshLength (kindIn bs) (cellsIn bs) (facesIn bs)) andThen long 0 (cellsIn bs) (s .args .volumes)
-    andThen long 1 (facesIn bs) (s .args .firsts)
-    andThen long 2 (facesIn bs) (s .args .seconds) andThen long 3 (facesIn bs) (s .args .shares) andThen long 4 (facesIn bs) (s .args .reaches))
+    said (c .then-long5 .result)
+    ≡ inTurn (meshTableCauses bs (s .args .volumes) (s .args .firsts) (s .args .seconds) (s .args .shares) (s .args .reaches))
 unfolding meshLength
 lent c =
     let d = c .before .before .before in

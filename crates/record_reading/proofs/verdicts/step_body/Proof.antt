@@ -3,15 +3,15 @@ use Prim.Native.Nat.{ℕ, _≤_}
 use mathlib.Core.Path.{_≡_, refl, sym, ap, _∙_}
 use native.Mathlib.Omega.{arith}
 use borrow.Author.Needs.{needs}
-use Rattle.model.specs.Causes.{_andThen_, long}
+use Rattle.model.specs.Causes.{inTurn}
 use Rattle.model.specs.Answers.{said}
 use Rattle.model.proofs.Verdicts.{past, out, both-are, refuses, passes}
 use Rattle.record_bits.specs.Layout.{bytesFor}
-use Rattle.record_heads.specs.Layouts.{valueBits, stepBits, stepLength}
+use Rattle.record_layouts.specs.Layouts.{valueBits, stepBits, stepLength}
 use Rattle.record_heads.specs.Heads.{kindIn, hasLength}
-use Rattle.record_reading.specs.Reading.{stepBodyVerdict, stepBitGood}
+use Rattle.record_reading.specs.Reading.{stepTableCauses, stepBodyVerdict, stepBitGood}
 use Rattle.record_bits.proofs.Layouts.{bytes-hold, bytes-most}
-use Rattle.record_heads.proofs.Layouts.{step-value, value-most, stepMost, step-some, step-most}
+use Rattle.record_layouts.proofs.Layouts.{step-value, value-most, stepMost, step-some, step-most}
 use Rattle.record_reading.proofs.ReadLaws.{step-tables-say}
 use Rattle.record_reading.proofs.verdicts.step_body.Statement.{statement}
 use Rattle.record_reading.proofs.verdicts.step_body.Tie as tie
@@ -35,9 +35,9 @@ known c = c .before .before .before .before .before
 
 -- the length and the tables
 lent : (c : tie.After-then-long3) → let s = start (known c) in
-    said (c .then-long3 .result) ≡ (hasLength (s .args .bytes .now)
-    (stepLength (kindIn (s .args .bytes .now)) (s .args .cells) (s .args .faces) (s .args .seconds .now))
-    andThen long 6 (s .args .faces) (s .args .fluxes) andThen long 7 (s .args .faces) (s .args .outsides) andThen long 14 (s .args .cells) (s .args .releases))
+    said (c .then-long3 .result)
+    ≡ inTurn (stepTableCauses (s .args .cells) (s .args .faces) (s .args .seconds .now) (s .args .bytes .now)
+    (s .args .fluxes) (s .args .outsides) (s .args .releases))
 unfolding stepLength
 lent c =
     let n = c .before .before .before in
@@ -58,7 +58,7 @@ step-requires c κs =
     let n = told .before .before in
     let s = start (known n) in
     let k = kindIn (s .args .bytes .now) in
-    let t = step-tables-say k (s .args .cells) (s .args .faces) (s .args .seconds .now) (s .args .bytes .now) _ _ _
+    let t = step-tables-say (s .args .cells) (s .args .faces) (s .args .seconds .now) (s .args .bytes .now) _ _ _
     (passes (lent n) (told .enum-told .given .1)) in
     let e : c .value-width .result ≡ valueBits k = c .value-width .ensures ∙ sym (step-value (s .args .width) (s .args .kind)) ∙ ap valueBits (s .pre .0) in
     rw e (omega (

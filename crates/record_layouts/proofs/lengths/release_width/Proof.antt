@@ -1,11 +1,11 @@
 use mathlib.Core.Path.{_≡_, refl, sym, _∙_}
 use borrow.Author.Needs.{needs}
-use Rattle.record_heads.specs.declared.Width.{Width}
-use Rattle.record_heads.specs.declared.Width.the-variants.{Narrow, Wide}
-use Rattle.record_heads.specs.declared.StepKind.the-variants.{Water, Outfalls}
-use Rattle.record_heads.specs.Layouts.{kindNumber, massWidth, massBits, releaseBits}
-use Rattle.record_heads.proofs.lengths.release_width.Statement.{statement}
-use Rattle.record_heads.proofs.lengths.release_width.Tie as tie
+use Rattle.record_layouts.specs.declared.Width.{Width}
+use Rattle.record_layouts.specs.declared.Width.the-variants.{Narrow, Wide}
+use Rattle.record_layouts.specs.declared.StepKind.the-variants.{Water, Outfalls}
+use Rattle.record_layouts.specs.Layouts.{kindNumber, massWidth, massBits, releaseBits}
+use Rattle.record_layouts.proofs.lengths.release_width.Statement.{statement}
+use Rattle.record_layouts.proofs.lengths.release_width.Tie as tie
 
 none : (w : Width) → releaseBits (kindNumber w Water) ≡ 0
 unfolding releaseBits

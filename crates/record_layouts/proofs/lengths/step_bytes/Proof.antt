@@ -1,9 +1,9 @@
 use native.Mathlib.Omega.{arith}
 use borrow.Author.Needs.{needs}
-use Rattle.record_heads.specs.Layouts.{kindNumber, stepLength}
-use Rattle.record_heads.proofs.Layouts.{step-most}
-use Rattle.record_heads.proofs.lengths.step_bytes.Statement.{statement}
-use Rattle.record_heads.proofs.lengths.step_bytes.Tie as tie
+use Rattle.record_layouts.specs.Layouts.{kindNumber, stepLength}
+use Rattle.record_layouts.proofs.Layouts.{step-most}
+use Rattle.record_layouts.proofs.lengths.step_bytes.Statement.{statement}
+use Rattle.record_layouts.proofs.lengths.step_bytes.Tie as tie
 
 bytes-for-requires : tie.Need-bytes-for-requires
 bytes-for-requires c κs =

@@ -6,7 +6,7 @@ ghost use mathlib.Core.Path.{_≡_};
 ghost use Prim.Native.Nat.{_+_, _*_, _^_, _≤_, _<_};
 ghost use lib.ListN.{length};
 ghost use Rattle.model.specs.Mesh.{maxCells, maxFaces};
-ghost use Rattle.record_heads.specs.Layouts.{meshKind, fieldKind, kindNumber, outsideBits, valueOf, massWidth, releaseBits, meshBits, stepBits, meshLength, fieldLength, stepLength};
+ghost use Rattle.record_layouts.specs.Layouts.{meshKind, fieldKind, kindNumber, outsideBits, valueOf, massWidth, releaseBits, meshBits, stepBits, meshLength, fieldLength, stepLength};
 
 // A head in bytes.
 pub const MESH_HEAD: usize = 4;

@@ -1,15 +1,14 @@
 -- No sum leaves 64 bits: each width is at most the wide one's, and the counts are bounded.
-use Prim.Native.Nat.{_+_, _*_, _≤_}
+use Prim.Native.Nat.{_≤_}
 use mathlib.Core.Path.{_≡_, sym, _∙_}
 use native.Mathlib.Nat.{mul-le-mul}
 use native.Mathlib.Omega.{arith}
 use borrow.Author.Needs.{needs}
-use Rattle.record_heads.specs.declared.Width.the-variants.{Wide}
-use Rattle.record_heads.specs.Layouts.{kindNumber, valueOf, valueBits, rimFaces}
-use Rattle.record_heads.proofs.HeadLaws.{rim-le}
-use Rattle.record_heads.proofs.Layouts.{value-of-most, step-value, releases-most, step-is}
-use Rattle.record_heads.proofs.lengths.step_bits.Statement.{statement}
-use Rattle.record_heads.proofs.lengths.step_bits.Tie as tie
+use Rattle.record_layouts.specs.declared.Width.the-variants.{Wide}
+use Rattle.record_layouts.specs.Layouts.{kindNumber, valueOf, valueBits}
+use Rattle.record_layouts.proofs.Layouts.{rim-le, value-of-most, step-value, releases-most, step-is}
+use Rattle.record_layouts.proofs.lengths.step_bits.Statement.{statement}
+use Rattle.record_layouts.proofs.lengths.step_bits.Tie as tie
 
 small : (c : tie.After-value-width) → c .value-width .result ≤ valueOf Wide
 small c = rw (c .value-width .ensures) (value-of-most (c .before .before .before .args .width))

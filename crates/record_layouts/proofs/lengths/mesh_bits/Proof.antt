@@ -4,11 +4,11 @@ use mathlib.Core.Path.{_≡_, sym, _∙_}
 use native.Mathlib.Nat.{mul-le-mul}
 use native.Mathlib.Omega.{arith}
 use borrow.Author.Needs.{needs}
-use Rattle.record_heads.specs.declared.Width.the-variants.{Wide}
-use Rattle.record_heads.specs.Layouts.{meshKind, valueOf, valueBits}
-use Rattle.record_heads.proofs.Layouts.{value-of-most, mesh-value}
-use Rattle.record_heads.proofs.lengths.mesh_bits.Statement.{statement}
-use Rattle.record_heads.proofs.lengths.mesh_bits.Tie as tie
+use Rattle.record_layouts.specs.declared.Width.the-variants.{Wide}
+use Rattle.record_layouts.specs.Layouts.{meshKind, valueOf, valueBits}
+use Rattle.record_layouts.proofs.Layouts.{value-of-most, mesh-value}
+use Rattle.record_layouts.proofs.lengths.mesh_bits.Statement.{statement}
+use Rattle.record_layouts.proofs.lengths.mesh_bits.Tie as tie
 
 small : (c : tie.After-value-width) → c .value-width .result ≤ valueOf Wide
 small c = rw (c .value-width .ensures) (value-of-most (c .before .args .width))

@@ -10,10 +10,10 @@ use Rattle.signed.specs.Sign.{size, isNegative}
 use Rattle.model.specs.Mesh.{Mesh, volume, first, second, share, reach, rim}
 use Rattle.record_bits.specs.Layout.{bytesFor}
 use Rattle.record_sections.specs.Sections.{Section, per, perThat, once, those, marked, shapeBits, Values, always, values, recordOf}
-use Rattle.record_heads.specs.declared.Width.{Width}
-use Rattle.record_heads.specs.declared.Width.the-variants.{Narrow, Wide}
-use Rattle.record_heads.specs.declared.StepKind.{StepKind}
-use Rattle.record_heads.specs.declared.StepKind.the-variants.{Water, Outfalls}
+use Rattle.record_layouts.specs.declared.Width.{Width}
+use Rattle.record_layouts.specs.declared.Width.the-variants.{Narrow, Wide}
+use Rattle.record_layouts.specs.declared.StepKind.{StepKind}
+use Rattle.record_layouts.specs.declared.StepKind.the-variants.{Water, Outfalls}
 
 -- The kinds. Document 02, S-10: kinds 5 to 8 are kinds 1 to 4 with wider fields; the mesh record fixes the width of the records after it.
 abbrev pub ofWidth : Width → ℕ → ℕ

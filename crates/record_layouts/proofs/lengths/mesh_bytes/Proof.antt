@@ -1,9 +1,9 @@
 use native.Mathlib.Omega.{arith}
 use borrow.Author.Needs.{needs}
-use Rattle.record_heads.specs.Layouts.{meshKind, meshLength}
-use Rattle.record_heads.proofs.Layouts.{mesh-most}
-use Rattle.record_heads.proofs.lengths.mesh_bytes.Statement.{statement}
-use Rattle.record_heads.proofs.lengths.mesh_bytes.Tie as tie
+use Rattle.record_layouts.specs.Layouts.{meshKind, meshLength}
+use Rattle.record_layouts.proofs.Layouts.{mesh-most}
+use Rattle.record_layouts.proofs.lengths.mesh_bytes.Statement.{statement}
+use Rattle.record_layouts.proofs.lengths.mesh_bytes.Tie as tie
 
 bytes-for-requires : tie.Need-bytes-for-requires
 bytes-for-requires c κs =

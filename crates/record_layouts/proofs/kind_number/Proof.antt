@@ -1,7 +1,6 @@
 use borrow.Author.Needs.{needs}
-use mathlib.Core.Path.{_∙_}
-use Rattle.record_heads.proofs.kind_number.Statement.{statement}
-use Rattle.record_heads.proofs.kind_number.Tie as tie
+use Rattle.record_layouts.proofs.kind_number.Statement.{statement}
+use Rattle.record_layouts.proofs.kind_number.Tie as tie
 
 returns : tie.Need-returns
 returns c = rw (c .before .enum-told .given .1) (c .of-width .ensures)

@@ -4,11 +4,11 @@ use mathlib.Core.Path.{_≡_, sym, _∙_}
 use native.Mathlib.Nat.{mul-le-mul}
 use native.Mathlib.Omega.{arith}
 use borrow.Author.Needs.{needs}
-use Rattle.record_heads.specs.declared.Width.the-variants.{Wide}
-use Rattle.record_heads.specs.Layouts.{fieldKind, massWidth, massBits, fieldBits, fieldLength}
-use Rattle.record_heads.proofs.Layouts.{mass-of-most, field-mass}
-use Rattle.record_heads.proofs.lengths.field_bytes.Statement.{statement}
-use Rattle.record_heads.proofs.lengths.field_bytes.Tie as tie
+use Rattle.record_layouts.specs.declared.Width.the-variants.{Wide}
+use Rattle.record_layouts.specs.Layouts.{fieldKind, massWidth, massBits, fieldBits, fieldLength}
+use Rattle.record_layouts.proofs.Layouts.{mass-of-most, field-mass}
+use Rattle.record_layouts.proofs.lengths.field_bytes.Statement.{statement}
+use Rattle.record_layouts.proofs.lengths.field_bytes.Tie as tie
 
 small : (c : tie.After-mass-width) → c .mass-width .result ≤ massWidth Wide
 small c = rw (c .mass-width .ensures) (mass-of-most (c .before .args .width))

@@ -8,13 +8,17 @@ use native.Mathlib.Omega.{arith}
 use lib.Dec.{eqb}
 use Rattle.model.specs.Mesh.{maxCells, maxFaces}
 use Rattle.record_sections.specs.Sections.{place}
+use Rattle.record_sections.proofs.Columns.{those-le}
 use Rattle.record_sections.proofs.Bodies.{Column, column-after}
-use Rattle.record_heads.specs.declared.Width.{Width}
-use Rattle.record_heads.specs.declared.Width.the-variants.{Narrow, Wide}
-use Rattle.record_heads.specs.declared.StepKind.{StepKind}
-use Rattle.record_heads.specs.declared.StepKind.the-variants.{Water, Outfalls}
-use Rattle.record_heads.specs.Layouts.{meshKind, fieldKind, kindNumber, widthOf, valueOf, massWidth, outfallKind, kindBits, cellsBits, facesBits, meshZeroBits, stepZeroBits, endBits, shareBits, signBits, outsideBits, valueBits, massBits, releaseBits, meshHeadBits, fieldHeadBits, stepHeadBits, faceBits, fluxBits, rimFaces, meshHead, meshBody, meshShape, fieldHead, fieldBody, fieldShape, stepHead, stepBody, stepShape, meshBits, fieldBits, stepBits}
-use Rattle.record_heads.proofs.HeadLaws.{rim-le}
+use Rattle.record_layouts.specs.declared.Width.{Width}
+use Rattle.record_layouts.specs.declared.Width.the-variants.{Narrow, Wide}
+use Rattle.record_layouts.specs.declared.StepKind.{StepKind}
+use Rattle.record_layouts.specs.declared.StepKind.the-variants.{Water, Outfalls}
+use Rattle.record_layouts.specs.Layouts.{meshKind, fieldKind, kindNumber, widthOf, valueOf, massWidth, outfallKind, kindBits, cellsBits, facesBits, meshZeroBits, stepZeroBits, endBits, shareBits, signBits, outsideBits, valueBits, massBits, releaseBits, meshHeadBits, fieldHeadBits, stepHeadBits, faceBits, fluxBits, isRim, rimFaces, meshHead, meshBody, meshShape, fieldHead, fieldBody, fieldShape, stepHead, stepBody, stepShape, meshBits, fieldBits, stepBits}
+
+-- no more faces are at the rim than there are
+pub rim-le : (seconds : List ℕ) (n : ℕ) → rimFaces seconds n ≤ n
+rim-le seconds n = those-le (isRim seconds) n
 
 -- where a step's outside values begin, where its releases do, and the most bits that it has
 abbrev pub rimPlace : (kind faces : ℕ) → ℕ

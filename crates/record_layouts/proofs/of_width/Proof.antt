@@ -1,6 +1,6 @@
 use borrow.Author.Needs.{needs}
-use Rattle.record_heads.proofs.of_width.Statement.{statement}
-use Rattle.record_heads.proofs.of_width.Tie as tie
+use Rattle.record_layouts.proofs.of_width.Statement.{statement}
+use Rattle.record_layouts.proofs.of_width.Tie as tie
 
 returns : tie.Need-returns
 returns c = rw (c .enum-told .given .1)
