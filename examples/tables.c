@@ -18,7 +18,7 @@ static const struct tables channel = {{100, 100, 100}, {0, 0, 1, 2}, {LAGOON_RIM
                                       {100000, 0, 0}, {-50, 50, 50, 50}, {1000, 0, 0, 0}, {0, 20000, 0}};
 
 #define MESH(t) t.volumes, CELLS, t.firsts, FACES, t.seconds, FACES, t.shares, FACES, t.reaches, FACES
-#define WATER(t) t.masses, CELLS, t.fluxes, FACES, t.outsides, FACES
+#define SALT_AND_WATER(t) t.masses, CELLS, t.fluxes, FACES, t.outsides, FACES
 
 static void print_answer(const char *what, uint64_t answer, const uint64_t *found, size_t many)
 {
@@ -54,19 +54,19 @@ int main(void)
     uint64_t next[CELLS], work[LAGOON_WORK_ENTRIES(CELLS, FACES)], crossed[3], answer;
     int64_t moved[FACES];
 
-    answer = lagoon_table_plain_step(CELLS, FACES, MESH(channel), WATER(channel), next, CELLS, moved, FACES, work,
+    answer = lagoon_table_plain_step(CELLS, FACES, MESH(channel), SALT_AND_WATER(channel), next, CELLS, moved, FACES, work,
                                      LAGOON_WORK_ENTRIES(CELLS, FACES), channel.releases, CELLS, crossed, 3);
     print_answer("in, out and released by the plain step", answer, crossed, 3);
     print_masses("masses", next, CELLS);
-    answer = lagoon_table_step(CELLS, FACES, MESH(channel), WATER(channel), next, CELLS, moved, FACES, work,
+    answer = lagoon_table_step(CELLS, FACES, MESH(channel), SALT_AND_WATER(channel), next, CELLS, moved, FACES, work,
                                LAGOON_WORK_ENTRIES(CELLS, FACES), channel.releases, CELLS, crossed, 3);
     print_answer("in, out and released by the corrected step", answer, crossed, 3);
     print_masses("masses", next, CELLS);
 
-    answer = lagoon_table_judge(CELLS, FACES, MESH(channel), WATER(channel), next, CELLS, moved, FACES, channel.releases, CELLS, crossed, 3);
+    answer = lagoon_table_judge(CELLS, FACES, MESH(channel), SALT_AND_WATER(channel), next, CELLS, moved, FACES, channel.releases, CELLS, crossed, 3);
     print_answer("the same as a claim", answer, crossed, 3);
     moved[0] -= 1;
-    answer = lagoon_table_judge(CELLS, FACES, MESH(channel), WATER(channel), next, CELLS, moved, FACES, channel.releases, CELLS, crossed, 3);
+    answer = lagoon_table_judge(CELLS, FACES, MESH(channel), SALT_AND_WATER(channel), next, CELLS, moved, FACES, channel.releases, CELLS, crossed, 3);
     print_answer("with a unit more from the sea", answer, crossed, 3);
     write_and_read();
     return 0;

@@ -119,18 +119,14 @@ def outcome(name, words):
     return 0, list(map(int, first[1:]))
 
 
-def as_from_c(name, told):
-    """The arguments of a call of a script where one from C can have no others: document 01's limits, numbers of 32 bits, and any width but 0
-    for the wide records."""
-    fitting = {**told, **{word: LIMITS[word] for word in LIMITS if word in told}, **{word: min(told[word], MOST_SHORT) for word in SHORT if word in told}}
-    if "width" in told and name != "write_step":
-        fitting["width"] = script.TOLD_WIDE if told["width"] else script.TOLD_NARROW
-    return fitting
+def as_from_c(told):
+    """The arguments of a call of a script where one from C can have no others: document 01's limits, and numbers of 32 bits."""
+    return {**told, **{word: LIMITS[word] for word in LIMITS if word in told}, **{word: min(told[word], MOST_SHORT) for word in SHORT if word in told}}
 
 
 def kind_from_c(told, turn):
     """The number of a step's kind, which says the width too: 4 or 8 with releases; else 3 or 7, or another number below 5 or from 5 on."""
-    wide = told["width"] == script.TOLD_WIDE
+    wide = told["width"] != script.TOLD_NARROW
     if told["kind"] == right_lagoon.OUTFALLS:
         return right_lagoon.of_width(right_lagoon.OUTFALLS, wide)
     return ((3, 3, 2, 0), (7, 7, 5, 6, GREATEST))[wide][turn % (4 + wide)]
@@ -321,7 +317,7 @@ class Beside:
         called = self.of_a_script[name]
         names = ON_TABLES[called][1].split()
         told = dict(zip(names, given))
-        fitting = as_from_c(name, told)
+        fitting = as_from_c(told)
         if fitting != told:
             given, after = list(fitting.values()), copied(fitting.values())
             words = script.line(script.Engine(self.lagoon), name, after)

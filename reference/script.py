@@ -55,7 +55,7 @@ NUMBER_OF = {name: number for number, (name, _) in CALLS.items()}
 MOST_NUMBERS = 120_000          # a call has fewer, its own number not counted
 ROOM = {"t": 24_576, "s": 24_576, "b": 65_536, "p": 8_192, "q": 8_192}
 WORD = 1 << 64
-TOLD_NARROW, TOLD_WIDE = 0, 1   # the width that a call is told (document 02, S-10); any other number is narrow too
+TOLD_NARROW, TOLD_WIDE = 0, 1   # the width that a call is told (document 02, S-10); any other number is wide too
 SKIPPED = re.compile(rb"(?:[ \t\r\n]+|#[^\n]*)*")
 SPELLED = re.compile(rb"(-?)([0-9]*)")
 ENDED = re.compile(rb"[ \t\r\n#]|\Z")
@@ -272,12 +272,12 @@ class Engine:
 
     def field_length(self, width, cells, record):
         L = self.lagoon
-        L.field_head(record, cells, L.LIBRARY_LIMITS, width == TOLD_WIDE)
-        return (L.field_length(cells, width == TOLD_WIDE),)
+        L.field_head(record, cells, L.LIBRARY_LIMITS, width != TOLD_NARROW)
+        return (L.field_length(cells, width != TOLD_NARROW),)
 
     def step_length(self, width, cells, faces, seconds, record):
         L = self.lagoon
-        kind = L.step_head(record, cells, faces, seconds, L.LIBRARY_LIMITS, width == TOLD_WIDE)
+        kind = L.step_head(record, cells, faces, seconds, L.LIBRARY_LIMITS, width != TOLD_NARROW)
         return (L.step_length(kind, cells, faces, seconds),)
 
     def read_mesh(self, most_cells, most_faces, record, *tables):
@@ -286,13 +286,13 @@ class Engine:
 
     def read_field(self, width, cells, record, masses):
         L = self.lagoon
-        masses[:cells] = L.read_field(record, cells, lengths={L.MASSES: len(masses)}, wide=width == TOLD_WIDE)
+        masses[:cells] = L.read_field(record, cells, lengths={L.MASSES: len(masses)}, wide=width != TOLD_NARROW)
         return ()
 
     def read_step(self, width, cells, faces, seconds, record, fluxes, outsides, releases):
         L = self.lagoon
         lent = {L.FLUXES: len(fluxes), L.OUTSIDES: len(outsides), L.RELEASES: len(releases)}
-        read = L.read_step(record, cells, faces, seconds, lengths=lent, wide=width == TOLD_WIDE)
+        read = L.read_step(record, cells, faces, seconds, lengths=lent, wide=width != TOLD_NARROW)
         fluxes[:faces], outsides[:faces], releases[:cells] = read.fluxes, read.outsides, read.releases
         return (read.kind,)
 
@@ -302,18 +302,18 @@ class Engine:
 
     def write_mesh(self, width, cells, faces, *lent):
         *tables, room = lent
-        return self.put(self.lagoon.write_mesh(cells, faces, dict(enumerate(tables)), len(room), width == TOLD_WIDE), room)
+        return self.put(self.lagoon.write_mesh(cells, faces, dict(enumerate(tables)), len(room), width != TOLD_NARROW), room)
 
     def write_field(self, width, cells, faces, *lent):
         *tables, room = lent
-        return self.put(self.lagoon.write_field(cells, faces, dict(enumerate(tables)), len(room), width == TOLD_WIDE), room)
+        return self.put(self.lagoon.write_field(cells, faces, dict(enumerate(tables)), len(room), width != TOLD_NARROW), room)
 
     def write_step(self, width, kind, cells, faces, *lent):
         L = self.lagoon
         *mesh, fluxes, outsides, room, releases = lent
         tables = {**dict(enumerate(mesh)), L.FLUXES: fluxes, L.OUTSIDES: outsides, L.RELEASES: releases}
         told = L.OUTFALLS if kind == L.OUTFALLS else L.WATER
-        return self.put(L.write_step(told, cells, faces, tables, len(room), width == TOLD_WIDE), room)
+        return self.put(L.write_step(told, cells, faces, tables, len(room), width != TOLD_NARROW), room)
 
     def number_at(self, record, bit, width):
         spelled = self.lagoon.number_at(record, bit, width)
@@ -341,7 +341,7 @@ class Engine:
 
     def take_field(self, width, cells, record, volumes, masses):
         L = self.lagoon
-        read = L.read_field(record, cells, lengths={L.MASSES: L.RUN_LIMITS[0]}, wide=width == TOLD_WIDE)
+        read = L.read_field(record, cells, lengths={L.MASSES: L.RUN_LIMITS[0]}, wide=width != TOLD_NARROW)
         L.judge_lengths({L.MASSES: len(masses)}, {L.MASSES: cells})
         total = self.total(cells, volumes, read)
         masses[:cells] = read
@@ -352,7 +352,7 @@ class Engine:
         *mesh, masses = lent
         most_cells, most_faces = L.RUN_LIMITS
         room = {L.FLUXES: most_faces, L.OUTSIDES: most_faces, L.RELEASES: most_cells}
-        _, fluxes, outsides, releases = L.read_step(record, cells, faces, mesh[L.SECONDS], lengths=room, wide=width == TOLD_WIDE)
+        _, fluxes, outsides, releases = L.read_step(record, cells, faces, mesh[L.SECONDS], lengths=room, wide=width != TOLD_NARROW)
         following, moved, work = [0] * most_cells, [0] * most_faces, [0] * (4 * most_cells + most_faces)
         entered, gone, released = self.step(cells, faces, *mesh, masses, fluxes, outsides, following, moved, work, releases)
         masses[:cells] = following[:cells]

@@ -164,7 +164,7 @@ class Drivers(unittest.TestCase):
                     subprocess.run(["gcc", "-g", watch, f"-DFAULT={fault}", f"-I{HERE.parent / 'include'}", "call.c",
                                     str(HERE / "call_driver.c"), "-o", "driver"], cwd=folder, check=True)
                     driver = engines.Driver(f"{folder}/driver")
-                    same = driver(*case) == right and driver.finish() == ""
+                    same = (driver(*case), driver.finish()) == (right, "")
                     self.assertEqual(same, fault == 0, f"{watch}: fault {fault} is {'not ' * same}seen")
 
     def test_faults_of_all_calls_seen(self):
@@ -181,7 +181,7 @@ class Drivers(unittest.TestCase):
                 subprocess.run(["gcc", "-g", "-w", f"-DFAULT={fault}", f"-I{HERE.parent / 'include'}", "-I.", "call.c", "others.c",
                                 str(HERE / "calls_driver.c"), "-o", "driver"], cwd=folder, check=True)
                 driver = engines.CallsDriver(f"{folder}/driver")
-                same = driver(from_c.stream(number, call, given), len(right)) == right and driver.finish() == ""
+                same = (driver(from_c.stream(number, call, given), len(right)), driver.finish()) == (right, "")
                 self.assertEqual(same, fault == 0, f"fault {fault} is {'not ' * same}seen")
 
 

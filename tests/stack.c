@@ -80,7 +80,7 @@ static int64_t moved[MOST_FACES];
 static uint64_t nothing[1]; /* lent for numbers that nobody asks for */
 
 #define MESH(t) t.volumes, MOST_CELLS, t.firsts, MOST_FACES, t.seconds, MOST_FACES, t.shares, MOST_FACES, t.reaches, MOST_FACES
-#define WATER(t) t.masses, MOST_CELLS, t.fluxes, MOST_FACES, t.outsides, MOST_FACES
+#define SALT_AND_WATER(t) t.masses, MOST_CELLS, t.fluxes, MOST_FACES, t.outsides, MOST_FACES
 #define RECORDS mesh, mesh_length, field, field_length, step, step_length
 
 static void fill_tables(void)
@@ -120,13 +120,13 @@ static uint64_t judge_records(void)
 
 static uint64_t take_table_step(void)
 {
-    return lagoon_table_step(MOST_CELLS, MOST_FACES, MESH(whole), WATER(whole), next_masses, MOST_CELLS, moved, MOST_FACES, work,
+    return lagoon_table_step(MOST_CELLS, MOST_FACES, MESH(whole), SALT_AND_WATER(whole), next_masses, MOST_CELLS, moved, MOST_FACES, work,
                              LAGOON_WORK_ENTRIES(MOST_CELLS, MOST_FACES), whole.releases, MOST_CELLS, nothing, 0);
 }
 
 static uint64_t judge_tables(void)
 {
-    return lagoon_table_judge(MOST_CELLS, MOST_FACES, MESH(whole), WATER(whole), next_masses, MOST_CELLS, moved, MOST_FACES, whole.releases,
+    return lagoon_table_judge(MOST_CELLS, MOST_FACES, MESH(whole), SALT_AND_WATER(whole), next_masses, MOST_CELLS, moved, MOST_FACES, whole.releases,
                               MOST_CELLS, nothing, 0);
 }
 

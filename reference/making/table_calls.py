@@ -111,7 +111,7 @@ def write_step(rng, large, kinds):
         kinds.append("release at an edge")
     kinds.append(f"written as kind {kind}")
     width = told(rng, lent.lag, kinds)
-    need = lagoon.step_length(lagoon.of_width(kind, width == TOLD_WIDE), lent.cells, lent.faces, lent.tables[SECONDS])
+    need = lagoon.step_length(lagoon.of_width(kind, width != TOLD_NARROW), lent.cells, lent.faces, lent.tables[SECONDS])
     room = room_for(rng, need if need <= 60_000 else 64, kinds)
     return (width, kind, lent.cells, lent.faces, *(lent.tables[position] for position in (*MESH_TABLES, FLUXES, OUTSIDES)), room,
             lent.tables[RELEASES])
@@ -120,7 +120,7 @@ def writer(positions, length):
     def make(rng, large, kinds):
         lent = tables_for(rng, positions, large, kinds)
         width = told(rng, lent.lag, kinds)
-        need = length(lent, width == TOLD_WIDE)
+        need = length(lent, width != TOLD_NARROW)
         room = room_for(rng, need if need <= 60_000 else 64, kinds)
         return (width, lent.cells, lent.faces, *(lent.tables[position] for position in positions), room)
     return make

@@ -67,12 +67,12 @@ pub fn length(said: LengthAnswer) {
     }
 }
 
-// The width that a script names: 1 for the wide kinds, or any other number for the narrow ones.
+// The width that a script names, as from C: 0 for the narrow kinds, any other number for the wide ones.
 pub fn width(named: usize) -> Width {
-    if named == 1 {
-        Width::Wide
-    } else {
+    if named == 0 {
         Width::Narrow
+    } else {
+        Width::Wide
     }
 }
 

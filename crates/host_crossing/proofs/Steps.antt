@@ -16,13 +16,13 @@ use Rattle.model.specs.StepTaken.{takenSaid}
 use Rattle.taking.specs.Taking.{stepIn, printedOf, StepTaking}
 use Rattle.host_answer.specs.Number.{numberOf}
 use Rattle.host_answer.proofs.Small.{small-and, small-giving, small-number}
-use Rattle.host_taking.specs.Taken.{fieldTested, fieldIn, FieldTaking}
+use Rattle.host_taking.specs.Taken.{fieldTested, fieldIn, stepTested, FieldTaking}
 use Rattle.host_taking.specs.declared.FieldCounts.{FieldCounts}
 use Rattle.host_taking.specs.declared.FieldTaken.{FieldTaken}
 use Rattle.host_taking.specs.declared.FieldTaken.the-variants.{Taken}
 use Rattle.host_taking.proofs.Held.{tested-fine as taken-fine, all-as}
 use Rattle.host_taking.proofs.Small.{field-tested-small, step-judged-small}
-use Rattle.host_crossing.specs.Crossing.{stepTested, stepFound}
+use Rattle.host_crossing.specs.Crossing.{stepFound}
 
 module _ (mesh field step : List ℕ) where
   pub step-untaken : (r : Refusal) → fieldTested mesh field ≡ told r → takenSaid (step-taken.Refused r) ≡ stepFound mesh field step

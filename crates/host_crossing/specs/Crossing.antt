@@ -2,20 +2,15 @@
 -- The records stay as they are, and no next field is written, so there is no room to ask for.
 use Prim.Native.Nat.{ℕ}
 use mathlib.Core.List.{List, [], _∷_}
-use Rattle.model.specs.Causes.{Outcome, accepted, Verdict, _andThen_}
-use Rattle.record_heads.specs.Heads.{widthIn}
+use Rattle.model.specs.Causes.{Outcome, accepted, _andThen_}
 use Rattle.record_reading.specs.Reading.{meshIn}
 use Rattle.model.specs.declared.Printed.{Printed}
-use Rattle.taking.specs.Taking.{stepIn, stepJudged, printedOf}
-use Rattle.host_taking.specs.Taken.{fieldTested, fieldIn}
+use Rattle.taking.specs.Taking.{stepIn, printedOf}
+use Rattle.host_taking.specs.Taken.{fieldIn, stepTested}
 
 module _ (mesh field step : List ℕ) where
-  -- the three records in this order, each as the run judges it
-  abbrev pub stepTested : Verdict
-  stepTested = fieldTested mesh field andThen stepJudged (widthIn mesh) (meshIn mesh) (fieldIn mesh field) step
-
   abbrev pub stepFound : Outcome Printed
-  stepFound = stepTested andThen accepted (printedOf (meshIn mesh) (fieldIn mesh field) (stepIn (meshIn mesh) step))
+  stepFound = stepTested mesh field step andThen accepted (printedOf (meshIn mesh) (fieldIn mesh field) (stepIn (meshIn mesh) step))
 
 -- in-mass, out-mass and document 02's released mass
 abbrev pub crossedIn : Printed → List ℕ

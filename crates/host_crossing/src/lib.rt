@@ -10,7 +10,8 @@ ghost use mathlib.Core.Path.{_≡_};
 ghost use Rattle.model.specs.StepTaken.{takenSaid};
 ghost use Rattle.host_answer.specs.Number.{numberOf};
 ghost use Rattle.host_answer.specs.Found.{Answered};
-ghost use Rattle.host_crossing.specs.Crossing.{stepTested, stepFound, crossedIn};
+ghost use Rattle.host_taking.specs.Taken.{stepTested};
+ghost use Rattle.host_crossing.specs.Crossing.{stepFound, crossedIn};
 
 // The three records in their order; the step is made on tables of its own.
 fn crossed(mesh: &[u8], field: &[u8], step: &[u8]) -> StepTaken

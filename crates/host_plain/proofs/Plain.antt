@@ -27,7 +27,7 @@ use Rattle.taking.proofs.StepLaws.{fluxes-part, outsides-part, releases-part}
 use Rattle.host_answer.specs.Number.{numberOf, refusalNumber}
 use Rattle.host_answer.proofs.Answers.{refusal-of}
 use Rattle.host_answer.proofs.Small.{small-and, small-need, small-giving, small-number}
-use Rattle.host_taking.specs.Taken.{fieldTested, fieldIn, FieldTaking}
+use Rattle.host_taking.specs.Taken.{fieldTested, fieldIn, stepTested, FieldTaking}
 use Rattle.host_taking.specs.declared.FieldCounts.{FieldCounts}
 use Rattle.host_taking.specs.declared.FieldTaken.{FieldTaken}
 use Rattle.host_taking.specs.declared.FieldTaken.the-variants.{Taken}
@@ -36,7 +36,7 @@ use Rattle.host_taking.proofs.Small.{field-tested-small, step-judged-small}
 use Rattle.host_next.specs.Next.{withRoom}
 use Rattle.host_next.proofs.Next.{MeshPassed, written-refused, written-past}
 use Rattle.host_next.proofs.Read.{unread, read-fine}
-use Rattle.host_plain.specs.Plain.{PlainIn, PlainOn, PlainTaking, PlainPromise, plainTested}
+use Rattle.host_plain.specs.Plain.{PlainIn, PlainOn, PlainTaking, PlainPromise}
 
 pub lent : (M : Mesh) (masses : List ℕ) (k : Call) → verdict M masses k ≡ fine → MeshPassed M
 lent M masses k e =
@@ -90,14 +90,14 @@ module _ (mesh field step bytes : List ℕ) where
     pub refused-number : {r : Refusal} → a ≡ Refused r → {n : ℕ} → n ≡ refusalNumber (number (r .cause)) (r .place) → PlainPromise mesh field step bytes n
         bytes′
     refused-number {r = r} d e = record {
-      number = e ∙ sym (ap numberOf (refused-of (withRoom (plainTested mesh field step) (widthIn mesh) (meshIn mesh .cells) (length bytes)) _
+      number = e ∙ sym (ap numberOf (refused-of (withRoom (stepTested mesh field step) (widthIn mesh) (meshIn mesh .cells) (length bytes)) _
           (number (r .cause)) (r .place) (sym (ap stepSaid d) ∙ p .answer)));
       next-field = p .bytes-after;
     }
 
     pub stepped-number : {x : Crossed} → a ≡ Stepped x → PlainPromise mesh field step bytes 0 bytes′
     stepped-number d = record {
-      number = sym (ap numberOf (accepted-of (withRoom (plainTested mesh field step) (widthIn mesh) (meshIn mesh .cells) (length bytes)) _ _
+      number = sym (ap numberOf (accepted-of (withRoom (stepTested mesh field step) (widthIn mesh) (meshIn mesh .cells) (length bytes)) _ _
           (sym (ap stepSaid d) ∙ p .answer) .0));
       next-field = p .bytes-after;
     }

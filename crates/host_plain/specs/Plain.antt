@@ -5,7 +5,7 @@ use mathlib.Core.List.{List}
 use lib.IntN.{ℤ}
 use lib.ListN.{length}
 use Rattle.model.specs.Mesh.{Mesh}
-use Rattle.model.specs.Causes.{Verdict, _andThen_, verdict}
+use Rattle.model.specs.Causes.{verdict}
 use Rattle.model.specs.Calls.{plain}
 use Rattle.transport.specs.declared.StepAnswer.{StepAnswer}
 use Rattle.record_heads.specs.Heads.{widthIn}
@@ -13,7 +13,7 @@ use Rattle.record_layouts.specs.declared.Width.{Width}
 use Rattle.record_reading.specs.Reading.{meshIn}
 use Rattle.taking.specs.Taking.{ownTables, stepIn, stepJudged}
 use Rattle.host_answer.specs.Number.{numberOf}
-use Rattle.host_taking.specs.Taken.{fieldTested, fieldIn}
+use Rattle.host_taking.specs.Taken.{fieldIn, stepTested}
 use Rattle.host_next.specs.Next.{withRoom, recordOver, nextBy, StepWritten}
 
 -- on tables, on a mesh and a field that have been read, and on records
@@ -25,15 +25,11 @@ abbrev pub PlainOn : Width → Mesh → List ℕ → List ℕ → List ℕ → S
 PlainOn w M masses step = StepWritten plain M masses (stepIn M step) (stepJudged w M masses step) w
 
 module _ (mesh field step : List ℕ) where
-  -- the three records in this order, each as the run judges it
-  abbrev pub plainTested : Verdict
-  plainTested = fieldTested mesh field andThen stepJudged (widthIn mesh) (meshIn mesh) (fieldIn mesh field) step
-
   abbrev pub PlainTaking : List ℕ → StepAnswer → List ℕ → Type 0
-  PlainTaking = StepWritten plain (meshIn mesh) (fieldIn mesh field) (stepIn (meshIn mesh) step) plainTested (widthIn mesh)
+  PlainTaking = StepWritten plain (meshIn mesh) (fieldIn mesh field) (stepIn (meshIn mesh) step) (stepTested mesh field step) (widthIn mesh)
 
   -- The promise: the number, and the bytes afterwards.
   pub record PlainPromise (bytes : List ℕ) (r : ℕ) (bytes′ : List ℕ) : Type 0 where
-    pub number : r ≡ numberOf (withRoom plainTested (widthIn mesh) (meshIn mesh .cells) (length bytes))
-    pub next-field : bytes′ ≡ recordOver plainTested (widthIn mesh) (meshIn mesh .cells)
+    pub number : r ≡ numberOf (withRoom (stepTested mesh field step) (widthIn mesh) (meshIn mesh .cells) (length bytes))
+    pub next-field : bytes′ ≡ recordOver (stepTested mesh field step) (widthIn mesh) (meshIn mesh .cells)
         (nextBy plain (meshIn mesh) (fieldIn mesh field) (stepIn (meshIn mesh) step)) bytes

@@ -1,5 +1,5 @@
--- Document 01, "Tables lent to a step": the host's records of a mesh and of a field, in this order, each as the run judges it. Document 02, S-10: the
--- mesh record fixes the width of the field record.
+-- Document 01, "Tables lent to a step": the host's records of a mesh, of a field and of a step, in this order, each as the run judges it. Document 02,
+-- S-10: the mesh record fixes the width of the two after it.
 use Prim.Native.Nat.{ℕ, _≤_}
 use mathlib.Core.Path.{_≡_}
 use mathlib.Core.List.{List}
@@ -11,19 +11,32 @@ use Rattle.model.specs.Answers.{told}
 use Rattle.record_heads.specs.Heads.{widthIn}
 use Rattle.record_reading.specs.Reading.{meshIn, massesIn}
 use Rattle.taking_mesh.specs.MeshTaking.{meshJudgedInRun}
-use Rattle.taking.specs.Taking.{fieldJudged}
+use Rattle.taking.specs.Taking.{fieldJudged, stepJudged}
 use Rattle.host_taking.specs.declared.FieldCounts.{FieldCounts}
 use Rattle.host_taking.specs.declared.FieldTaken.{FieldTaken}
 use Rattle.host_taking.specs.declared.FieldTaken.the-variants.{Taken, Refused}
 
 module _ (mesh field : List ℕ) where
-  abbrev pub fieldTested : Verdict
-  fieldTested = meshJudgedInRun mesh andThen fieldJudged (widthIn mesh) (meshIn mesh .cells) (meshIn mesh .volumes) field runCells
-
-  -- what the field record holds, and its total
+  -- what the field record holds
   abbrev pub fieldIn : List ℕ
   fieldIn = massesIn field (meshIn mesh .cells)
 
+  -- what is found of the field record on an accepted mesh, and with the mesh record before it
+  abbrev pub fieldAlone : Verdict
+  fieldAlone = fieldJudged (widthIn mesh) (meshIn mesh .cells) (meshIn mesh .volumes) field runCells
+
+  abbrev pub fieldTested : Verdict
+  fieldTested = meshJudgedInRun mesh andThen fieldAlone
+
+  -- and so of the step record
+  module _ (step : List ℕ) where
+    abbrev pub stepAlone : Verdict
+    stepAlone = stepJudged (widthIn mesh) (meshIn mesh) fieldIn step
+
+    abbrev pub stepTested : Verdict
+    stepTested = fieldTested andThen stepAlone
+
+  -- the total of the field
   abbrev pub totalIn : ℕ
   totalIn = total (cellsOnly (meshIn mesh .cells) (meshIn mesh .volumes)) (massIn fieldIn)
 

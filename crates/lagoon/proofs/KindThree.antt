@@ -12,13 +12,15 @@ use Rattle.record_layouts.specs.declared.Width.{Width}
 use Rattle.record_reading.specs.Reading.{meshIn, massesIn}
 use Rattle.taking.specs.Taking.{stepJudged}
 use Rattle.taking.proofs.KindThree.{judged-same, next-same}
-use Rattle.lagoon.specs.Host.{meshTested, fieldTested, numberOf, hostVerdict, hostBytes}
+use Rattle.host_answer.specs.Number.{numberOf}
+use Rattle.host_taking.specs.Taken.{fieldTested}
+use Rattle.lagoon.specs.Host.{hostVerdict, hostBytes}
 use Rattle.lagoon.specs.KindThree.{hostVerdict01, nextRecord01, HostAsBefore}
 
 module _ (w : Width) (mesh field step : List ℕ) (e : kindIn step ≡ waterKind w) where
   verdict-same : (room : ℕ) → hostVerdict mesh field step room ≡ hostVerdict01 mesh field step room
   unfolding hostVerdict
-  verdict-same room = ap (λ (v : Verdict). meshTested mesh field step andThen fieldTested mesh field step andThen v
+  verdict-same room = ap (λ (v : Verdict). fieldTested mesh field andThen v
       andThen bytesLong (fieldLength (fieldKind (widthIn mesh)) (meshIn mesh .cells)) room)
       (judged-same w (widthIn mesh) (meshIn mesh) (massesIn field (meshIn mesh .cells)) step e)
 

@@ -11,12 +11,14 @@ use Rattle.record_heads.specs.Heads.{kindIn, widthIn}
 use Rattle.record_layouts.specs.declared.Width.{Width}
 use Rattle.record_reading.specs.Reading.{meshIn, massesIn}
 use Rattle.taking.specs.KindThree.{step01, judged01}
-use Rattle.lagoon.specs.Host.{meshTested, fieldTested, numberOf, HostPromise}
+use Rattle.host_answer.specs.Number.{numberOf}
+use Rattle.host_taking.specs.Taken.{fieldTested}
+use Rattle.lagoon.specs.Host.{HostPromise}
 
 module _ (mesh field step : List ℕ) where
   -- what document 01 has the call find, and the bytes that it leaves
   abbrev pub hostVerdict01 : ℕ → Verdict
-  hostVerdict01 room = meshTested mesh field step andThen fieldTested mesh field step
+  hostVerdict01 room = fieldTested mesh field
       andThen judged01 (widthIn mesh) (meshIn mesh) (massesIn field (meshIn mesh .cells)) step
       andThen bytesLong (fieldLength (fieldKind (widthIn mesh)) (meshIn mesh .cells)) room
 

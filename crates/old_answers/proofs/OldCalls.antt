@@ -16,7 +16,7 @@ use Rattle.record_layouts.specs.declared.StepKind.the-variants.{Water, Outfalls
 use Rattle.record_reading.specs.Reading.{meshIn, massesIn, outsidesIn, releasesIn, meshBodyVerdict, stepBodyVerdict, meshRead, stepRead}
 use Rattle.record_writing.specs.Writing.{StepWriting, meshWriteVerdict, fieldWriteVerdict, stepWriteVerdict}
 use Rattle.record_writing.specs.declared.WriteAnswer.{WriteAnswer}
-use Rattle.lagoon.specs.Host.{numberOf}
+use Rattle.host_answer.specs.Number.{numberOf}
 use Rattle.run_printed.proofs.Prints.{prints}
 use Rattle.old_answers.specs.Before.{oldFieldJudged, oldStepWriting}
 use Rattle.old_answers.specs.OldCalls.{OldReading, OldWriting, OldTaking}

@@ -16,6 +16,7 @@ use Rattle.record_sections.specs.Sections.{Section, per, perThat, once, shapeBi
 use Rattle.record_layouts.specs.Layouts.{isRim, meshValue, fieldValue, stepValue}
 use Rattle.record_heads.specs.Heads.{kindIn, cellsIn, facesIn, stepFacesIn, hasLength}
 use Rattle.record_zeros.specs.Zeros.{zeroBitGood, minusZero}
+use Rattle.record_causes.specs.Verdicts.{noField}
 use Rattle.record_writing.specs.Writing.{Writing}
 use Rattle.record_writing.specs.declared.WriteAnswer.{WriteAnswer}
 use Rattle.taking.specs.Taking.{ownTables}
@@ -126,8 +127,8 @@ module _ (M : Mesh) where
       (counts M andThen meshTables M andThen long 6 (M .faces) (length fluxes) andThen long 7 (M .faces) (length outsides)
       andThen bytesLong (lengthOf (oldStepShape kind (M .cells) (M .faces) (M .seconds))) (length bytes) andThen long 14 (M .cells) (length releases)
       andThen meshValues oldCeiling M andThen each 18 (M .cells) (λ c. ltb (getD releases c 0) (2 ^ oldReleaseBits kind))
-      andThen each 7 (M .faces) (outsideGood M [] (waterOf fluxes outsides releases))
-      andThen each 8 (M .faces) (fluxGood oldCeiling M [] (waterOf fluxes outsides releases)))
+      andThen each 7 (M .faces) (outsideGood M noField (waterOf fluxes outsides releases))
+      andThen each 8 (M .faces) (fluxGood oldCeiling M noField (waterOf fluxes outsides releases)))
       (lengthOf (oldStepShape kind (M .cells) (M .faces) (M .seconds)))
       (recordOf (oldStepShape kind (M .cells) (M .faces) (M .seconds)) (stepValue kind (M .faces) fluxes outsides releases)) bytes
 

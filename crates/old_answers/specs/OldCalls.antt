@@ -30,7 +30,8 @@ use Rattle.record_writing.specs.declared.WriteAnswer.{WriteAnswer}
 use Rattle.taking_mesh.specs.MeshTaking.{MeshKept, MeshTaking}
 use Rattle.taking.specs.Taking.{FieldTaking, Stepping, StepTaking}
 use Rattle.model.specs.declared.StepTaken.{StepTaken}
-use Rattle.lagoon.specs.Host.{HostPromise, numberOf}
+use Rattle.lagoon.specs.Host.{HostPromise}
+use Rattle.host_answer.specs.Number.{numberOf}
 use Rattle.run_printed.specs.Program.{Prints}
 use Rattle.old_answers.specs.Before.{fluxesBy, oldShapeIn, oldMeshIn, oldMassesIn, oldStepShapeIn, oldStepIn, oldMeshHead, oldMeshRead, oldFieldRead, oldStepRead, oldFieldNeeds, oldStepNeeds}
 use Rattle.old_answers.specs.Before.{oldMeshWriting, oldFieldWriting, oldStepWriting, oldMeshJudged, oldFieldJudged, oldStepJudged, oldHostVerdict, oldHostBytes}

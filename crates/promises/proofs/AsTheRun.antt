@@ -16,10 +16,10 @@ use Rattle.model.proofs.Accepted.{field-fit, field-accepted}
 use Rattle.model.proofs.Agree.{mesh-values-agree, field-values-agree, verdict-agree}
 use Rattle.record_heads.specs.Heads.{widthIn, cellsIn, facesIn}
 use Rattle.record_reading.specs.Reading.{volumesIn, firstsIn, secondsIn, sharesIn, reachesIn, meshIn, massesIn, outsidesIn, releasesIn}
-use Rattle.taking_mesh.specs.MeshTaking.{meshJudged}
+use Rattle.taking_mesh.specs.MeshTaking.{meshJudged, meshJudgedInRun}
 use Rattle.taking.specs.Taking.{fieldJudged, stepIn, stepRecordFound, stepJudged}
 use Rattle.taking_mesh.proofs.MeshLaws.{limits, values-left}
-use Rattle.lagoon.specs.Host.{meshTested, fieldTested, stepTested}
+use Rattle.host_taking.specs.Taken.{fieldAlone, stepAlone}
 use Rattle.promises.proofs.Counted.{outsides-same, releases-same, found-same}
 
 -- a table read into a longer one: its length, and its counted entries
@@ -40,7 +40,7 @@ module _ (mesh field step volumes firsts seconds shares reaches masses : List �
     (lv : length volumes ≡ runCells) (lf : length firsts ≡ runFaces) (ls : length seconds ≡ runFaces) (lw : length shares ≡ runFaces)
     (lk : length reaches ≡ runFaces)
     (lm : length masses ≡ runCells) where
-  pub mesh-as-the-run : meshJudged mesh (length volumes) (length firsts) (length seconds) (length shares) (length reaches) ≡ meshTested mesh field step
+  pub mesh-as-the-run : meshJudged mesh (length volumes) (length firsts) (length seconds) (length shares) (length reaches) ≡ meshJudgedInRun mesh
   mesh-as-the-run = rw (lv, lf, ls, lw, lk)
 
   -- what they hold of an accepted mesh, and of a field on it
@@ -52,7 +52,7 @@ module _ (mesh field step volumes firsts seconds shares reaches masses : List �
   abbrev pub lentField : List ℕ
   lentField = over (massesIn field (cellsIn mesh)) masses
 
-  module _ (mesh-fine : meshTested mesh field step ≡ fine) where
+  module _ (mesh-fine : meshJudgedInRun mesh ≡ fine) where
     within : (cellsIn mesh ≤ runCells) × (facesIn mesh ≤ runFaces)
     unfolding meshJudged
     within = let l = limits mesh (both-fine _ _ (both-fine _ _ mesh-fine .0) .0) in (l .few-cells, l .few-faces)
@@ -126,7 +126,7 @@ module _ (mesh field step volumes firsts seconds shares reaches masses : List �
     unfolding meshTables
     cells-tables = rw (enough 0 volumes-long)
 
-    pub field-as-the-run : fieldJudged (widthIn mesh) (cellsIn mesh) (over (volumesIn mesh) volumes) field (length masses) ≡ fieldTested mesh field step
+    pub field-as-the-run : fieldJudged (widthIn mesh) (cellsIn mesh) (over (volumesIn mesh) volumes) field (length masses) ≡ fieldAlone mesh field
     unfolding fieldJudged meshFieldVerdict counts fieldTable
     field-as-the-run = rw (
       lm,
@@ -136,7 +136,7 @@ module _ (mesh field step volumes firsts seconds shares reaches masses : List �
     )
 
     -- and so is a field on it
-    pub lent-field-fine : fieldTested mesh field step ≡ fine → fieldVerdict lent lentField ≡ fine
+    pub lent-field-fine : fieldAlone mesh field ≡ fine → fieldVerdict lent lentField ≡ fine
     unfolding fieldJudged meshFieldVerdict massesIn
     lent-field-fine e =
         let salt : fieldValues (cellsOnly (cellsIn mesh) (volumesIn mesh)) (massesIn field (cellsIn mesh)) ≡ fine = both-fine _ _ (both-fine _ _ e .1) .1 in
@@ -172,7 +172,7 @@ module _ (mesh field step volumes firsts seconds shares reaches masses : List �
     unfolding stepTables
     call-lent = rw (outsides-are, releases-are)
 
-    pub step-as-the-run : stepJudged (widthIn mesh) lent lentField step ≡ stepTested mesh field step
+    pub step-as-the-run : stepJudged (widthIn mesh) lent lentField step ≡ stepAlone mesh field step
     unfolding stepJudged stepRecordFound
     step-as-the-run = rw (
       found-same step (cellsIn mesh) (facesIn mesh) (secondsIn mesh) (over (secondsIn mesh) seconds) seconds-same (widthIn mesh) (seconds-long .0)

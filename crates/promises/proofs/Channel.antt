@@ -185,14 +185,14 @@ unfolding figures
 wide-back = refl
 
 third-made : StepContract channel (byHost third) after
-third-made = (mesh-holds Wide channel mesh-fine large-fine, field-holds Wide channel mesh-fine large-fine after after-fine, third-kept)
+third-made = ((mesh-holds Wide channel mesh-fine large-fine, field-holds Wide channel mesh-fine large-fine after after-fine), third-kept)
 
 pub made : StepsMade channel before calls
 unfolding _andThen_
 made = (
   first-kept,
   (
-    (mesh-holds Narrow channel mesh-fine values-fine, field-holds Narrow channel mesh-fine values-fine between between-fine, second-kept),
+    ((mesh-holds Narrow channel mesh-fine values-fine, field-holds Narrow channel mesh-fine values-fine between between-fine), second-kept),
     (subst (λ (field : List ℕ). StepContract channel (byHost third) field) (sym read-back) third-made, tt),
   ),
 )

@@ -1,5 +1,5 @@
 -- Entries past the counts mean nothing: of tables that agree below the counts a step record has the same length, bits and values, and a
--- step on tables cut to their counts, as records hold them, agrees with the step on the whole tables.
+-- step on tables trimmed to their counts, as records hold them, agrees with the step on the whole tables.
 use Prim.Native.Nat.{ℕ, _*_, _≤_, _<_}
 use mathlib.Core.Path.{_≡_, refl}
 use mathlib.Core.Bool.{cond}
@@ -20,7 +20,7 @@ use Rattle.record_layouts.specs.Layouts.{outsideBits, rimFaces, isRim, stepLeng
 use Rattle.record_heads.specs.Heads.{stepHeadVerdict}
 use Rattle.record_layouts.specs.declared.Width.{Width}
 use Rattle.record_reading.specs.Reading.{outsidesIn, outsidePlace, stepShapeIn, releasesIn, stepBitGood, stepBodyVerdict}
-use Rattle.promises.specs.Held.{cut, cutField}
+use Rattle.promises.specs.Held.{trimmed, trimmedField}
 
 -- a step record on seconds that agree below the faces
 module _ (step : List ℕ) (cells faces : ℕ) (seconds other : List ℕ) (same : (f : ℕ) → f < faces → getD other f 0 ≡ getD seconds f 0) where
@@ -55,8 +55,8 @@ module _ (step : List ℕ) (cells faces : ℕ) (seconds other : List ℕ) (same 
     each-cong 12 (8 * length step) (stepBitGood step cells faces other) (stepBitGood step cells faces seconds) (λ i h. bit-same i),
   )
 
-pub cut-agrees : (M : Mesh) (field : List ℕ) (k : Call) → AgreeCall M (cut M) field (cutField M field) k k
-cut-agrees M field k = record {
+pub trimmed-agrees : (M : Mesh) (field : List ℕ) (k : Call) → AgreeCall M (trimmed M) field (trimmedField M field) k k
+trimmed-agrees M field k = record {
   mesh-agrees = record {
     cells-same = refl;
     faces-same = refl;

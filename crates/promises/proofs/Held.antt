@@ -9,7 +9,7 @@ use Rattle.model.specs.Mesh.{Mesh, volume, reach, maxCells, maxFaces, ceiling}
 use Rattle.model.specs.Ceilings.{MeshSmall}
 use Rattle.model.specs.Causes.{fine, counts, meshValues, meshVerdict, fieldValues, fieldVerdict}
 use Rattle.model.proofs.Verdicts.{both-fine}
-use Rattle.model.proofs.Ceilings.{old-meshes, small-of}
+use Rattle.model.proofs.Ceilings.{old-meshes}
 use Rattle.record_layouts.specs.Layouts.{meshKind, fieldKind, meshRecord, fieldRecord}
 use Rattle.record_heads.specs.Heads.{widthIn}
 use Rattle.record_layouts.specs.declared.Width.{Width}
@@ -20,16 +20,10 @@ use Rattle.record_writing.specs.Writing.{mostOf}
 use Rattle.record_writing.proofs.Accepting.{mesh-passed}
 use Rattle.record_writing.proofs.RoundTrip.{cells-read-back, faces-read-back, mesh-read-back, volumes-read-back, firsts-read-back, seconds-read-back, shares-read-back, reaches-read-back, field-read-back, masses-read-back}
 use Rattle.taking_mesh.proofs.MeshLaws.{mesh-small}
-use Rattle.promises.specs.Held.{cut, HoldsMesh, HoldsField}
+use Rattle.promises.specs.Held.{trimmed, HoldsMesh, HoldsField}
 
--- V and K within the old ceilings, cut to the counts or not, and of a mesh that a record holds
-pub cut-small : (M : Mesh) → MeshSmall M → MeshSmall (cut M)
-cut-small M s = record {
-  small-volumes = λ c h. rw (getD-table (M .cells) (volume M) 0 c h) (s .small-volumes c h);
-  small-reaches = λ f l. rw (getD-table (M .faces) (reach M) 0 f l) (s .small-reaches f l);
-}
-
-whole-small : (M : Mesh) → MeshSmall (cut M) → MeshSmall M
+-- V and K within the old ceilings, of a mesh that a record holds
+whole-small : (M : Mesh) → MeshSmall (trimmed M) → MeshSmall M
 whole-small M s = record {
   small-volumes = λ c h. rw (getD-table (M .cells) (volume M) 0 c h) at (s .small-volumes c h);
   small-reaches = λ f l. rw (getD-table (M .faces) (reach M) 0 f l) at (s .small-reaches f l);
@@ -50,22 +44,18 @@ module _ (M : Mesh) (mesh-fine : meshVerdict M ≡ fine) where
   unfolding meshVerdict
   passes = both-fine _ _ mesh-fine .1
 
--- a mesh that a record of a width holds is within its ceilings; cut to the counts it stays so
+-- a mesh that a record of a width holds is within its ceilings
 pub holds-within : (w : Width) (M : Mesh) → meshVerdict M ≡ fine → (bs : List ℕ) → HoldsMesh w M bs → meshValues (mostOf w) M ≡ fine
 holds-within Narrow M e bs h =
     sym (old-meshes M (whole-small M (rw (h .mesh-held) at (mesh-small bs (sym (width-held Narrow M bs h)))))) ∙ passes M e
 holds-within Wide M e bs h = passes M e
-
-pub cut-within : (w : Width) (M : Mesh) → meshValues (mostOf w) M ≡ fine → meshValues ceiling (cut M) ≡ fine → meshValues (mostOf w) (cut M) ≡ fine
-cut-within Narrow M e d = sym (old-meshes (cut M) (cut-small M (small-of M e))) ∙ d
-cut-within Wide M e d = d
 
 -- a mesh within the ceilings of a width, which records of that width hold
 module _ (w : Width) (M : Mesh) (mesh-fine : meshVerdict M ≡ fine) (fits : meshValues (mostOf w) M ≡ fine) where
   abbrev inside : counts M ≡ fine
   inside = within M mesh-fine
 
-  mesh-is : meshIn (meshRecord (meshKind w) M) ≡ cut M
+  mesh-is : meshIn (meshRecord (meshKind w) M) ≡ trimmed M
   mesh-is =
       rw (
         cells-read-back w M inside fits,

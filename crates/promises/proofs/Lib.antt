@@ -1,8 +1,11 @@
 pub mod Held
 pub mod Counted
 pub mod OnTables
+pub mod Numbers
+pub mod FromC
 pub mod OnTaking
 pub mod OnRecords
+pub mod Hosts
 pub mod Steps
 pub mod Stores
 pub mod AsTheRun

@@ -3,7 +3,7 @@ use Prim.Native.Nat.{ℕ}
 use mathlib.Core.Path.{_≡_, refl, sym, _∙_}
 use mathlib.Core.List.{List}
 use Rattle.model.specs.Mesh.{Mesh}
-use Rattle.model.specs.Causes.{accepted, refused, fine, inputOf, meshVerdict}
+use Rattle.model.specs.Causes.{Outcome, accepted, refused, fine, Call, inputOf, meshVerdict}
 use Rattle.model.specs.Calls.{Bounded, Left, Scheme, judged, lentMasses, nextTable, movedTable, workTable, stepOnTables}
 use Rattle.model.proofs.Verdicts.{refused-of}
 use Rattle.model.proofs.Accepted.{counted, mesh-fit}
@@ -15,31 +15,37 @@ use Rattle.judging.specs.Promise.{JudgePromise}
 use Rattle.plain.specs.Made.{Made}
 use Rattle.promises.proofs.Held.{within, passes}
 
-module _ (s : Scheme) (M : Mesh) (field : List ℕ) (m : Made) where
+-- what such a call comes to
+module _ (s : Scheme) (M : Mesh) (field past : List ℕ) (k : Call) (o : Outcome Left) (comes : stepOnTables s M k (lentMasses M past field) ≡ o) where
   abbrev lent : List ℕ
-  lent = lentMasses M (m .past) field
+  lent = lentMasses M past field
 
-  module _ (p : StepPromise s M lent (m .tables) (m .answer) (m .next) (m .moved) (m .work)) where
-    comes : stepOnTables s M (m .tables) lent ≡ leftBy (stepSaid (m .answer)) (m .next)
-    comes = promised-comes s M lent (m .tables) (m .answer) (m .next) (m .moved) (m .work) p
+  -- accepted: budget, bounds and an accepted field
+  pub tables-owe : Keeping s → meshVerdict M ≡ fine → (l : Left) → o ≡ accepted l → Fair M (Bounded (inputOf M field k) (l .field)) field l
+  tables-owe keeping mesh-fine l e = fair-agree M M field lent k k (field-agrees M k field lent (lent-same M past field))
+      (counted M (within M mesh-fine) .few-cells) (mesh-fit M (passes M mesh-fine)) l (tables-fair s keeping M k lent l (comes ∙ e))
 
-    -- accepted: budget, bounds and an accepted field
-    pub made-fair : Keeping s → meshVerdict M ≡ fine → (l : Left) → leftBy (stepSaid (m .answer)) (m .next) ≡ accepted l
-        → Fair M (Bounded (inputOf M field (m .tables)) (l .field)) field l
-    made-fair keeping mesh-fine l e = fair-agree M M field lent (m .tables) (m .tables) (field-agrees M (m .tables) field lent (lent-same M (m .past) field))
-        (counted M (within M mesh-fine) .few-cells) (mesh-fit M (passes M mesh-fine)) l (tables-fair s keeping M (m .tables) lent l (comes ∙ e))
+  pub found-refused : (i j : ℕ) → o ≡ refused i j → s .finds M lent k ≡ refused i j
+  unfolding stepOnTables
+  found-refused i j e = refused-of (s .finds M lent k) _ i j (sym (comes ∙ e))
 
-    -- refused: every table as it was
-    found-refused : (i j : ℕ) → leftBy (stepSaid (m .answer)) (m .next) ≡ refused i j → s .finds M lent (m .tables) ≡ refused i j
-    unfolding stepOnTables
-    found-refused i j e = refused-of (s .finds M lent (m .tables)) _ i j (sym (comes ∙ e))
+-- its contract
+module _ (s : Scheme) (M : Mesh) (field : List ℕ) (m : Made)
+    (p : StepPromise s M (lentMasses M (m .past) field) (m .tables) (m .answer) (m .next) (m .moved) (m .work)) where
+  comes : stepOnTables s M (m .tables) (lentMasses M (m .past) field) ≡ leftBy (stepSaid (m .answer)) (m .next)
+  comes = promised-comes s M (lentMasses M (m .past) field) (m .tables) (m .answer) (m .next) (m .moved) (m .work) p
 
-    pub made-refused : (i j : ℕ) → leftBy (stepSaid (m .answer)) (m .next) ≡ refused i j
-        → (m .next ≡ m .tables .nexts) × (m .moved ≡ m .tables .moveds) × (m .work ≡ m .tables .work)
-    unfolding nextTable movedTable workTable
-    made-refused i j e =
-        let r = found-refused i j e in
-        (p .next-masses ∙ rw r, p .moved-masses ∙ rw r, p .work-after ∙ rw r)
+  pub made-fair : Keeping s → meshVerdict M ≡ fine → (l : Left) → leftBy (stepSaid (m .answer)) (m .next) ≡ accepted l
+      → Fair M (Bounded (inputOf M field (m .tables)) (l .field)) field l
+  made-fair = tables-owe s M field (m .past) (m .tables) (leftBy (stepSaid (m .answer)) (m .next)) comes
+
+  -- refused: every table as it was
+  pub made-refused : (i j : ℕ) → leftBy (stepSaid (m .answer)) (m .next) ≡ refused i j
+      → (m .next ≡ m .tables .nexts) × (m .moved ≡ m .tables .moveds) × (m .work ≡ m .tables .work)
+  unfolding nextTable movedTable workTable
+  made-refused i j e =
+      let r = found-refused s M field (m .past) (m .tables) (leftBy (stepSaid (m .answer)) (m .next)) comes i j e in
+      (p .next-masses ∙ rw r, p .moved-masses ∙ rw r, p .work-after ∙ rw r)
 
 -- A judging is a step on tables that writes no moved and no work: beside what it leaves, those tables as the scheme has them.
 abbrev pub asStep : Mesh → List ℕ → Made → Made

@@ -20,12 +20,11 @@ use Rattle.record_heads.specs.Heads.{widthIn, cellsIn, facesIn}
 use Rattle.record_layouts.specs.declared.Width.{Width}
 use Rattle.record_reading.specs.Reading.{volumesIn, firstsIn, secondsIn, sharesIn, reachesIn, massesIn, countsIn}
 use Rattle.record_reading.specs.declared.MeshCounts.{MeshCounts}
-use Rattle.taking_mesh.specs.MeshTaking.{meshJudged}
+use Rattle.taking_mesh.specs.MeshTaking.{meshJudged, meshJudgedInRun}
 use Rattle.model.specs.declared.Printed.{Printed}
 use Rattle.model.specs.declared.StepTaken.{StepTaken}
 use Rattle.model.specs.StepTaken.{takenSaid}
 use Rattle.taking.specs.Taking.{fieldJudged, stepIn, printedOf, stepJudged, StepTaking}
-use Rattle.lagoon.specs.Host.{meshTested}
 use Rattle.run_printed.specs.Program.{StepsPrint, no-byte, step-ends, step-goes-on, FieldPrints, field-refused, field-accepted, mesh-refused, mesh-accepted}
 use Rattle.promises.specs.Steps.{runLeft, StepsMade}
 use Rattle.promises.specs.Run.{runSteps, FieldDemanded, RunMakesList}
@@ -86,7 +85,7 @@ faces-long : length faceZeros ≡ runFaces
 faces-long = length-table runFaces (λ i. 0)
 
 -- The mesh of a record that the run accepts, as its tables hold it, and a field on it.
-module _ (bs : List ℕ) (mesh-tested : meshTested bs [] [] ≡ fine) where
+module _ (bs : List ℕ) (mesh-tested : meshJudgedInRun bs ≡ fine) where
   abbrev held : Mesh
   held = meshOf (cellsIn bs) (facesIn bs) (over (volumesIn bs) cellZeros) (over (firstsIn bs) faceZeros) (over (secondsIn bs) faceZeros)
       (over (sharesIn bs) faceZeros)
@@ -130,7 +129,7 @@ run-makes-list input out (mesh-refused bs volumes firsts seconds shares reaches 
 run-makes-list input out (mesh-accepted bs volumes firsts seconds shares reaches counts g t p) =
     let found = accepted-of (meshJudged bs (length cellZeros) (length faceZeros) (length faceZeros) (length faceZeros) (length faceZeros)) (countsIn bs) counts
     (t .answer) in
-    let tested : meshTested bs [] [] ≡ fine = rw (cells-long, faces-long) at (found .0) in
+    let tested : meshJudgedInRun bs ≡ fine = rw (cells-long, faces-long) at (found .0) in
     let v : volumes ≡ over (volumesIn bs) cellZeros = t .volumes-after ∙ rw (found .0) in
     let f : firsts ≡ over (firstsIn bs) faceZeros = t .firsts-after ∙ rw (found .0) in
     let s : seconds ≡ over (secondsIn bs) faceZeros = t .seconds-after ∙ rw (found .0) in

@@ -9,21 +9,21 @@ use Rattle.model.specs.Calls.{massIn}
 use Rattle.record_layouts.specs.declared.Width.{Width}
 use Rattle.record_reading.specs.Reading.{meshIn, massesIn, meshRead, fieldRead}
 
--- a mesh and a field with their tables cut to the counts
-abbrev pub cut : Mesh → Mesh
-cut M = meshOf (M .cells) (M .faces) (table (M .cells) (volume M)) (table (M .faces) (first M)) (table (M .faces) (second M)) (table (M .faces) (share M))
+-- a mesh and a field with their tables trimmed to the counts
+abbrev pub trimmed : Mesh → Mesh
+trimmed M = meshOf (M .cells) (M .faces) (table (M .cells) (volume M)) (table (M .faces) (first M)) (table (M .faces) (second M)) (table (M .faces) (share M))
     (table (M .faces) (reach M))
 
-abbrev pub cutField : Mesh → List ℕ → List ℕ
-cutField M field = table (M .cells) (massIn field)
+abbrev pub trimmedField : Mesh → List ℕ → List ℕ
+trimmedField M field = table (M .cells) (massIn field)
 
 -- A record of this width holds a mesh: reading accepts it, into tables of its counts, and what is read are the counted entries.
 pub record HoldsMesh (w : Width) (M : Mesh) (bs : List ℕ) : Type 0 where
   pub mesh-read : meshRead maxCells maxFaces bs (M .cells) (M .faces) (M .faces) (M .faces) (M .faces)
       ≡ accepted (record { cells = M .cells; faces = M .faces; width = w })
-  pub mesh-held : meshIn bs ≡ cut M
+  pub mesh-held : meshIn bs ≡ trimmed M
 
 -- and so a field on it
 pub record HoldsField (w : Width) (M : Mesh) (field bs : List ℕ) : Type 0 where
   pub field-read : fieldRead w (M .cells) bs (M .cells) ≡ fine
-  pub field-held : massesIn bs (M .cells) ≡ cutField M field
+  pub field-held : massesIn bs (M .cells) ≡ trimmedField M field

@@ -37,11 +37,11 @@ module _ (volumes marks : List ℕ) (cells : ℕ) (masses masses′ : List ℕ) 
   unfolding cellBefore
   same-order = ranked-alike comesBefore (rankedAt volumes masses) (isOpen marks) (rankedAt volumes masses′) cells same-ranked
 
-  same-entries : openEntries volumes masses marks cells ≡ openEntries volumes masses′ marks cells
+  pub same-entries : openEntries volumes masses marks cells ≡ openEntries volumes masses′ marks cells
   unfolding entriesOf
   same-entries = rw (first-ranked volumes masses marks cells, same-order, ← first-ranked volumes masses′ marks cells) refl
 
-  same-verdict : publicVerdict volumes masses marks cells ≡ publicVerdict volumes masses′ marks cells
+  pub same-verdict : publicVerdict volumes masses marks cells ≡ publicVerdict volumes masses′ marks cells
   unfolding publicVerdict
   same-verdict = let t = same-tests s in rw (t .0, t .1)
 

@@ -28,14 +28,14 @@ module _ (volumes marks : List ℕ) (cells : ℕ) (masses masses′ : List ℕ) 
       go true e = rw (s .agree c h e)
       go false e = refl
 
-  same-text : (places page : ℕ) → publicText volumes masses marks places cells page ≡ publicText volumes masses′ marks places cells page
+  pub same-text : (places page : ℕ) → publicText volumes masses marks places cells page ≡ publicText volumes masses′ marks places cells page
   unfolding publicText
   same-text places page =
       pieces-cong (cellsOn cells page) (λ i. lineIf volumes masses (isOpen marks) places (page * pageCells + i))
       (λ i. lineIf volumes masses′ (isOpen marks) places (page * pageCells + i))
       (λ i h. same-line places (page * pageCells + i) (cell-there cells page i h))
 
-  same-verdict : (page room : ℕ) → publicVerdict volumes masses marks cells page room ≡ publicVerdict volumes masses′ marks cells page room
+  pub same-verdict : (page room : ℕ) → publicVerdict volumes masses marks cells page room ≡ publicVerdict volumes masses′ marks cells page room
   unfolding publicVerdict verdictWith
   same-verdict page room = let t = same-tests s in rw (t .0, t .1)
 

@@ -31,8 +31,10 @@ use Rattle.record_writing.proofs.WidthLaws.{field-fits}
 use Rattle.record_writing.proofs.Back.{field-record-length, masses-back}
 use Rattle.taking_mesh.proofs.MeshLaws.{mesh-small}
 use Rattle.taking.specs.Taking.{stepIn}
-use Rattle.lagoon.specs.Host.{causeStep, numberOf, hostVerdict, hostBytes}
-use Rattle.lagoon.proofs.Small.{Parts, taken-apart}
+use Rattle.lagoon.specs.Host.{hostVerdict, hostBytes}
+use Rattle.lagoon.proofs.Small.{taken-apart}
+use Rattle.host_answer.specs.Number.{causeStep, numberOf}
+use Rattle.host_answer.proofs.Small.{Parts}
 use Rattle.renumbered.specs.Renumbered.{renumberedField}
 use Rattle.renumbered.proofs.TwoSteps.{fine-values}
 use Rattle.renumbered_calls.specs.Anew.{meshAnew, fieldAnew, stepAnew, Reads, Held}

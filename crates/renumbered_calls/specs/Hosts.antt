@@ -9,7 +9,8 @@ use Rattle.lists.specs.Renumbering.{Renumbering}
 use Rattle.lists.specs.Table.{over}
 use Rattle.record_layouts.specs.Layouts.{fieldKind, fieldLength}
 use Rattle.record_heads.specs.Heads.{widthIn, cellsIn, facesIn}
-use Rattle.lagoon.specs.Host.{causeStep, HostPromise}
+use Rattle.lagoon.specs.Host.{HostPromise}
+use Rattle.host_answer.specs.Number.{causeStep}
 use Rattle.renumbered_calls.specs.Anew.{meshAnew, fieldAnew, stepAnew, Reads, Held}
 
 module _ (mesh : List ℕ) (cell : Renumbering (cellsIn mesh)) (face : Renumbering (facesIn mesh)) (turns : ℕ → Bool) where

@@ -1,7 +1,8 @@
 use mathlib.Core.Path.{ap, _∙_}
 use borrow.Author.Needs.{needs}
 use lib.ListN.{length}
-use Rattle.lagoon.specs.Host.{numberOf, hostBytes}
+use Rattle.host_answer.specs.Number.{numberOf}
+use Rattle.lagoon.specs.Host.{hostBytes}
 use Rattle.lagoon.proofs.Small.{number-fits}
 use Rattle.lagoon.proofs.lagoon_step.Statement.{statement}
 use Rattle.lagoon.proofs.lagoon_step.Tie as tie
