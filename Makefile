@@ -14,7 +14,7 @@ export TMPDIR := $(shell tools/scratch.sh)
 
 help:
 	@echo 'make run        the channel session of document 01: six lines (the first time it proves what it builds, some minutes)'
-	@echo 'make test       the gate: tests, proofs, must-fail edits, programs; its last line is "N passed, M failed"'
+	@echo 'make test       the gate: proofs, must-fail edits, programs, tests; its last line is "N passed, M failed"'
 	@echo 'make quick      the tests without comparisons and proofs, in two lanes: under a minute once the programs are proved'
 	@echo 'make lib        the C library: target/lib/liblagoon.a and liblagoon.so; the header is include/lagoon.h'
 	@echo 'make install    headers, library, the command lagoon, manual pages, examples and papers to PREFIX=$(PREFIX) (DESTDIR= before it)'
@@ -34,7 +34,7 @@ run:
 	    tools/prove.sh run target/run.log rt check run && { [ -z "$$made" ] || echo "$$made" >&2; }
 	@target/bin/run < tests/sessions/channel.in
 
-# the gate: tests, proofs, must-fail edits, programs
+# the gate: proofs, must-fail edits, programs, and tests beside them
 test:
 	.ci/run
 
