@@ -98,25 +98,27 @@ size-at-requires : tie.Need-size-at-requires Inv-loop μ-loop
 size-at-requires c κs = turn-in (c .before .loop-test .taken) (search needs)
 
 mul-first : tie.Need-mul-first Inv-loop μ-loop
-mul-first c = let t = c .before .before in let s = t .before .before .before .before .before .before in
+mul-first c = let t = turn c in let s = begun t in
     turn-bytes (t .loop-test .taken) (s .pre .0 .1) (s .good .1 .0 .1)
 
 read-first : tie.Need-shared-slice-read-first Inv-loop μ-loop
 read-first c = turn-in (c .before .before .before .loop-test .taken) (search needs)
 
 mul-second : tie.Need-mul-second Inv-loop μ-loop
-mul-second c = let t = c .before .before .before in let s = t .before .before .before .before .before .before in
+mul-second c = let t = c .before .before .before in let s = begun t in
     turn-bytes (t .loop-test .taken) (s .pre .0 .2) (s .good .1 .1 .0 .1)
 
 read-second : tie.Need-shared-slice-read-second Inv-loop μ-loop
 read-second c = turn-in (c .before .before .before .before .loop-test .taken) (search needs)
 
 add-f : tie.Need-add-f Inv-loop μ-loop
-add-f c = let t = c .before .before .before .before .before .before .before .before .before .before .before .before .before .before in let s =
-    t .before .before .before .before .before .before in turn-next (t .loop-test .taken) (s .pre .0 .1) (s .good .1 .0 .0)
+add-f c =
+    let t = turn (read (entered (c .before .before .before))) in
+    let s = begun t in
+    turn-next (t .loop-test .taken) (s .pre .0 .1) (s .good .1 .0 .0)
 
 loop-less : tie.Need-loop-less Inv-loop μ-loop
-loop-less c = turn-less (c .before .before .before .before .before .before .before .before .before .before .before .before .before .before .loop-test .taken)
+loop-less c = turn-less (turn (read (entered (c .before .before .before))) .loop-test .taken)
 
 pub gather-spec : {M : Type 1} → statement M
 gather-spec =
