@@ -1,12 +1,10 @@
 -- The causes first; past them each part is cut by one call.
-use mathlib.Core.Path.{_≡_, _∙_}
+use mathlib.Core.Path.{_≡_}
 use borrow.Author.Needs.{needs}
 use Rattle.model.specs.Causes.{fine, counts}
-use Rattle.model.proofs.Verdicts.{refuses, passes}
 use Rattle.cutting_parts.specs.Cut.{Tables, tablesOf, Lagoon, lagoonOf}
 use Rattle.cutting_parts.specs.Refusals.{cutTables, cutVerdict}
-use Rattle.cutting_causes.proofs.Groups.{lengths-first}
-use Rattle.cutting.proofs.Promised.{cuttable, room-0, room-1, promise-done, promise-refused, counts-are}
+use Rattle.cutting.proofs.Promised.{cuttable, room-0, room-1, found-fine, promise-done, promise-refused}
 use Rattle.cutting.proofs.cut.Statement.{statement}
 use Rattle.cutting.proofs.cut.Tie as tie
 
@@ -59,34 +57,33 @@ filled-1 c = middle-1 c .before .before .before .before .before .before .before 
 abbrev left-0 : tie.After-slice-known32 → tie.After-slice-known24
 left-0 c = asked-1 (filled-1 c .before)
 
-found-fine : (c : tie.After-enum-told) → let s = start (c .before .before) in cutVerdict (whole s) (s .args .labels .now) (lent-0 s) (lent-1 s) ≡ fine
+fine-past : (c : tie.After-enum-told) → let s = start (c .before .before) in cutVerdict (whole s) (s .args .labels .now) (lent-0 s) (lent-1 s) ≡ fine
 unfolding counts cutTables
-found-fine c =
+fine-past c =
     let v = c .before .before in
     let s = start v in
-    lengths-first (whole s) (s .args .labels .now) (lent-0 s) (lent-1 s) ∙ passes (v .verdict .ensures) (c .enum-told .given .1)
+    found-fine (whole s) (s .args .labels .now) (lent-0 s) (lent-1 s) _ (v .verdict .ensures) (c .enum-told .given .1)
 
 returns : tie.Need-returns
 unfolding counts cutTables
 returns c =
     let v = c .before .before .before in
     let s = start v in
-    promise-refused (whole s) (s .args .labels .now) (lent-0 s) (lent-1 s) _
-    (lengths-first (whole s) (s .args .labels .now) (lent-0 s) (lent-1 s) ∙ refuses (v .verdict .ensures) (c .before .a .given .1))
+    promise-refused (whole s) (s .args .labels .now) (lent-0 s) (lent-1 s) _ (v .verdict .ensures) _ (c .before .a .given .1)
 
 part-requires : tie.Need-part-requires
 part-requires c κs =
     let t = asked-0 c in
     let s = start (t .before .before) in
-    cuttable (whole s) (s .args .labels .now) (lent-0 s) (lent-1 s) (found-fine t) (lent-0 s)
-    (room-0 (whole s) (s .args .labels .now) (lent-0 s) (lent-1 s) (found-fine t))
+    cuttable (whole s) (s .args .labels .now) (lent-0 s) (lent-1 s) (fine-past t) (lent-0 s)
+    (room-0 (whole s) (s .args .labels .now) (lent-0 s) (lent-1 s) (fine-past t))
 
 part-requires-2 : tie.Need-part-requires-2
 part-requires-2 c κs =
     let t = told-0 (filled-0 (asked-1 c)) in
     let s = start (t .before .before) in
-    cuttable (whole s) (s .args .labels .now) (lent-0 s) (lent-1 s) (found-fine t) (lent-1 s)
-    (room-1 (whole s) (s .args .labels .now) (lent-0 s) (lent-1 s) (found-fine t))
+    cuttable (whole s) (s .args .labels .now) (lent-0 s) (lent-1 s) (fine-past t) (lent-1 s)
+    (room-1 (whole s) (s .args .labels .now) (lent-0 s) (lent-1 s) (fine-past t))
 
 -- each table is as long as it was: what was left of it stands right after its part was cut
 same-length : tie.Need-same-length
@@ -148,10 +145,7 @@ returns-2 c =
     let p = filled-0 (left-0 c) in
     let t = told-0 p in
     let s = start (t .before .before) in
-    let part-0 = p .part .ensures in
-    let part-1 = filled-1 c .part2 .ensures in
-    promise-done (whole s) (s .args .labels .now) (lent-0 s) (lent-1 s) (found-fine t) _ _ _
-    (counts-are (part-0 .cells-are) (part-0 .faces-are) (part-1 .cells-are) (part-1 .faces-are)) (part-0 .tables-are) (part-1 .tables-are)
+    promise-done (whole s) (s .args .labels .now) (lent-0 s) (lent-1 s) (fine-past t) _ _ _ _ (p .part .ensures) (filled-1 c .part2 .ensures)
 
 pub cut-spec : {M : Type 1} → statement M
 cut-spec = tie.close (tie.spec (search needs) (search needs) returns (search needs) part-requires part-requires-2
