@@ -5,9 +5,10 @@ use calls_arguments::parts;
 use calls_arguments::show;
 use calls_numerals::Token;
 use calls_script::faults;
+use calls_script::faults::Fault;
 use calls_script::input;
-use calls_script::input::Fault;
 use calls_script::input::Input;
+use calls_script::wants;
 
 // The number of each call.
 const COUNTS_WITHIN: u64 = 1;
@@ -228,10 +229,10 @@ fn calls(chunk: &mut [u8], words: &mut [u64]) {
         if call == 0 {
             return;
         }
-        let told = input::arguments(shape(call), later(call), chunk, words, here);
+        let told = wants::arguments(shape(call), later(call), chunk, words, here);
         let fault = told.fault;
         at = told.input;
-        if input::is_fault(fault) {
+        if faults::is_fault(fault) {
             faults::bad(fault, at);
             return;
         }

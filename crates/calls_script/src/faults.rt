@@ -1,7 +1,26 @@
-// What is printed of a script that cannot be read on.
-use crate::input::Fault;
+// What can be wrong with a script, and what is printed then.
 use crate::input::Input;
 use calls_arguments::show;
+
+// What is wrong with a script.
+pub enum Fault {
+    Nothing,
+    Strange,
+    TooLarge,
+    NoCall,
+    Sign,
+    LongTable,
+    LongCall,
+    Cut,
+}
+
+pub fn is_fault(fault: Fault) -> bool {
+    if let Fault::Nothing = fault {
+        false
+    } else {
+        true
+    }
+}
 
 fn reason(fault: Fault) {
     match fault {

@@ -2,8 +2,8 @@ use Prim.Native.Nat.{_≤_, _-_}
 use mathlib.Core.Path.{_≡_}
 use lib.ListN.{length}
 use borrow.Author.Needs.{needs}
-use Rattle.calls_script.proofs.input.arguments.Statement.{statement}
-use Rattle.calls_script.proofs.input.arguments.Tie as tie
+use Rattle.calls_script.proofs.wants.arguments.Statement.{statement}
+use Rattle.calls_script.proofs.wants.arguments.Tie as tie
 
 -- the tables keep their lengths, and each turn takes one more number of the room for a call
 abbrev Inv-loop : tie.InvT-loop
