@@ -1,5 +1,6 @@
 /* Calls on tables: the channel of document 01, and the first step of it, corrected and plain. What the corrected step moved is judged as
- * another model's claim, and with a unit more; and the mesh is written as a record and read back. No record is needed to make a step. */
+ * another model's claim, and with a unit more; the channel is cut in two; and the mesh is written as a record and read back. No record is
+ * needed to make a step. */
 #include <inttypes.h>
 #include <stdio.h>
 
@@ -19,6 +20,7 @@ static const struct tables channel = {{100, 100, 100}, {0, 0, 1, 2}, {LAGOON_RIM
 
 #define MESH(t) t.volumes, CELLS, t.firsts, FACES, t.seconds, FACES, t.shares, FACES, t.reaches, FACES
 #define SALT_AND_WATER(t) t.masses, CELLS, t.fluxes, FACES, t.outsides, FACES
+#define ALL(t) MESH(t), SALT_AND_WATER(t), t.releases, CELLS
 
 static void print_answer(const char *what, uint64_t answer, const uint64_t *found, size_t many)
 {
@@ -30,12 +32,26 @@ static void print_answer(const char *what, uint64_t answer, const uint64_t *foun
     printf("\n");
 }
 
-static void print_masses(const char *what, const uint64_t *masses, size_t cells)
+static void print_table(const char *what, const uint64_t *table, size_t entries)
 {
     printf("  %s:", what);
-    for (size_t cell = 0; cell < cells; cell++)
-        printf(" %" PRIu64, masses[cell]);
+    for (size_t i = 0; i < entries; i++)
+        printf(" %" PRIu64, table[i]);
     printf("\n");
+}
+
+/* Each part's tables are as long as the whole's; of them its own counts are filled. */
+static void cut_in_two(void)
+{
+    static const uint64_t labels[CELLS] = {0, 1, 1}, alike[CELLS] = {0, 0, 0};
+    static struct tables part_0, part_1;
+    uint64_t counts[4] = {0, 0, 0, 0};
+    uint64_t answer = lagoon_table_cut(CELLS, FACES, ALL(channel), labels, CELLS, ALL(part_0), ALL(part_1), counts, 4);
+    print_answer("cells and faces of both parts, cut after the first cell", answer, counts, 4);
+    print_table("outside values of part 0", part_0.outsides, counts[1]);
+    print_table("outside values of part 1", part_1.outsides, counts[3]);
+    answer = lagoon_table_cut(CELLS, FACES, ALL(channel), alike, CELLS, ALL(part_0), ALL(part_1), counts, 4);
+    print_answer("with every cell in part 0", answer, counts, 4);
 }
 
 static void write_and_read(void)
@@ -57,17 +73,18 @@ int main(void)
     answer = lagoon_table_plain_step(CELLS, FACES, MESH(channel), SALT_AND_WATER(channel), next, CELLS, moved, FACES, work,
                                      LAGOON_WORK_ENTRIES(CELLS, FACES), channel.releases, CELLS, crossed, 3);
     print_answer("in, out and released by the plain step", answer, crossed, 3);
-    print_masses("masses", next, CELLS);
+    print_table("masses", next, CELLS);
     answer = lagoon_table_step(CELLS, FACES, MESH(channel), SALT_AND_WATER(channel), next, CELLS, moved, FACES, work,
                                LAGOON_WORK_ENTRIES(CELLS, FACES), channel.releases, CELLS, crossed, 3);
     print_answer("in, out and released by the corrected step", answer, crossed, 3);
-    print_masses("masses", next, CELLS);
+    print_table("masses", next, CELLS);
 
     answer = lagoon_table_judge(CELLS, FACES, MESH(channel), SALT_AND_WATER(channel), next, CELLS, moved, FACES, channel.releases, CELLS, crossed, 3);
     print_answer("the same as a claim", answer, crossed, 3);
     moved[0] -= 1;
     answer = lagoon_table_judge(CELLS, FACES, MESH(channel), SALT_AND_WATER(channel), next, CELLS, moved, FACES, channel.releases, CELLS, crossed, 3);
     print_answer("with a unit more from the sea", answer, crossed, 3);
+    cut_in_two();
     write_and_read();
     return 0;
 }

@@ -4,7 +4,7 @@
  *   2  records: their layout and lengths
  *   3  calls on records       lagoon_step, lagoon_plain_step, lagoon_check, lagoon_crossing, lagoon_judge
  *   4  tables: their positions and lengths
- *   5  calls on tables        lagoon_table_step, lagoon_table_plain_step, lagoon_table_judge
+ *   5  calls on tables        lagoon_table_step, lagoon_table_plain_step, lagoon_table_judge, lagoon_table_cut
  *   6  records and tables     lagoon_read_mesh, .. _field, .. _step, lagoon_write_mesh, .. _field, .. _step
  *   7  pages and boards       lagoon_total, lagoon_board, lagoon_page, lagoon_public_page, lagoon_public_board, each on records and on tables
  *   8  period and charge      lagoon_add, lagoon_charge
@@ -74,8 +74,8 @@ enum lagoon_cause {
     LAGOON_RATIO = 20,        /* both distances are 0, or their ratio below 1/256 or not below 1; place 0 */
     LAGOON_MOVED = 21,        /* a claimed mass of size above 1,099,511,627,776, not 0 at a still face, or at the rim not its water's; place: the face */
     LAGOON_BOUNDS = 22,       /* by a claim: a next mass below 0, or a next concentration outside its neighbourhood's bounds; place: the cell */
-    LAGOON_LABEL = 23,        /* in cutting, which this library does not do: a label other than 0 and 1; place: the cell */
-    LAGOON_PART = 24,         /* likewise: a part without cells; place: the label */
+    LAGOON_LABEL = 23,        /* in cutting: a label other than 0 and 1; place: the cell */
+    LAGOON_PART = 24,         /* in cutting: a part without cells; place: the label */
     LAGOON_BANDS = 25,        /* no bands or more than 8, ends that do not rise to 2^40, a price or remainder too large; place 0, or the band */
     LAGOON_PERIOD = 26,       /* in charging, a total above the last end; in adding, one past 2^40; place 0; or the face */
     LAGOON_MARK = 27          /* a mark other than 0 and 1; place: the cell */
@@ -226,7 +226,7 @@ enum lagoon_position {
     LAGOON_AT_PAGE = 12,    /* bytes of a page */
     LAGOON_AT_STORE = 13,   /* LAGOON_STORE_ENTRIES(cells, fields) */
     LAGOON_AT_RELEASES = 14, /* cells: the mass released into each */
-    LAGOON_AT_LABELS = 15,  /* cells: 0 or 1 (of cutting, which this library does not do) */
+    LAGOON_AT_LABELS = 15,  /* cells: 0 or 1, the part that each is cut into */
     LAGOON_AT_TOTALS = 16,  /* faces: what moved outward over the rim in a period */
     LAGOON_AT_ENDS = 17,    /* bands */
     LAGOON_AT_PRICES = 18,  /* bands: cents per million mass units */
@@ -262,6 +262,24 @@ uint64_t lagoon_table_judge(uint64_t cells, uint64_t faces, const uint64_t *volu
                             const int64_t *fluxes, size_t fluxes_len, const uint64_t *outsides, size_t outsides_len, uint64_t *next,
                             size_t next_len, const int64_t *claim, size_t claim_len, const uint64_t *releases, size_t releases_len,
                             uint64_t *found, size_t found_len);
+
+/* A lagoon cut in two by a label for each cell: mesh, masses, water and releases of part 0 and of part 1, cells and faces in their old order. A
+ * face between the parts is at the rim of both, on the side of its second cell turned round; where water enters a part there, it brings the
+ * concentration across the cut, releases added. Every table of a part has as many entries as the whole's, and those past the part's own counts
+ * stay. found: cells and faces of part 0, then of part 1. Refuses by 1; 2, places 0 to 7, 14 and 15, whichever table of that position it is;
+ * 3, 4, 5; 23, 24; 6; 18; 7, 8; 9, 10. */
+uint64_t lagoon_table_cut(uint64_t cells, uint64_t faces, const uint64_t *volumes, size_t volumes_len, const uint64_t *firsts,
+                          size_t firsts_len, const uint64_t *seconds, size_t seconds_len, const uint64_t *shares, size_t shares_len,
+                          const uint64_t *reaches, size_t reaches_len, const uint64_t *masses, size_t masses_len, const int64_t *fluxes,
+                          size_t fluxes_len, const uint64_t *outsides, size_t outsides_len, const uint64_t *releases, size_t releases_len,
+                          const uint64_t *labels, size_t labels_len, uint64_t *volumes0, size_t volumes0_len, uint64_t *firsts0,
+                          size_t firsts0_len, uint64_t *seconds0, size_t seconds0_len, uint64_t *shares0, size_t shares0_len,
+                          uint64_t *reaches0, size_t reaches0_len, uint64_t *masses0, size_t masses0_len, int64_t *fluxes0,
+                          size_t fluxes0_len, uint64_t *outsides0, size_t outsides0_len, uint64_t *releases0, size_t releases0_len,
+                          uint64_t *volumes1, size_t volumes1_len, uint64_t *firsts1, size_t firsts1_len, uint64_t *seconds1,
+                          size_t seconds1_len, uint64_t *shares1, size_t shares1_len, uint64_t *reaches1, size_t reaches1_len,
+                          uint64_t *masses1, size_t masses1_len, int64_t *fluxes1, size_t fluxes1_len, uint64_t *outsides1,
+                          size_t outsides1_len, uint64_t *releases1, size_t releases1_len, uint64_t *found, size_t found_len);
 
 /* ---------------------------------------------------------------- 6  Records and tables */
 

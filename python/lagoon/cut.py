@@ -23,8 +23,8 @@ be stepped without the other, by plain steps: the corrected step on a part is an
 
 Units and names are carried along; a face at the cut without a name is called "cut" with its number in the whole.
 
-All cutting and stepping is done by the engine, through the program `calls`: the whole, and each part on the steps that are written for
-it. Next and moved masses of each part have to be those of the whole by the old numbers, negated at a turned face; if they are not, nothing is
+All cutting and stepping is done by the engine, through its library: the whole, and each part on the steps that are written for it. Next
+and moved masses of each part have to be those of the whole by the old numbers, negated at a turned face; if they are not, nothing is
 written. A step that the engine refuses changes no field: it is told, and left out of both parts.
 
 --map writes what went where, a row for each cell and face of a part: kind, old number, part, new number, turned.
@@ -152,7 +152,7 @@ class Cutter:
 
 
 class Cutting:
-    """A session's lagoon cut before each step, by the program `calls`."""
+    """A session's lagoon cut before each step, by the engine."""
 
     def __init__(self, session, labels, program):
         self.mesh = session.mesh
