@@ -15,7 +15,7 @@ ghost use Rattle.model.specs.Causes.{each};
 ghost use Rattle.model.specs.Claims.{boundsFit};
 ghost use Rattle.model.specs.Answers.{said};
 ghost use Rattle.check_flows.specs.Flows.{FacesFit, LongEnough};
-ghost use Rattle.judging_claims.specs.Tests.{holds as holdsOf, boundsAt, entry, Salted, Summed, Bordered, boundsVerdict};
+ghost use Rattle.judging_bounds.specs.Bounds.{holds as holdsOf, boundsAt, entry, Salted, Summed, Bordered, boundsVerdict};
 
 // One entry for each cell, and one at the rim's mark, as amounts are gathered.
 pub const ENDS: usize = model::MAX_CELLS + 1;

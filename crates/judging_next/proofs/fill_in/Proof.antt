@@ -1,9 +1,9 @@
 -- The gathered tables are what enters and what leaves; next masses are reckoned from them.
 use mathlib.Core.Path.{_∙_}
 use borrow.Author.Needs.{needs}
-use Rattle.judging_claims.proofs.Laws.{summed, affords-read, next-read}
-use Rattle.judging_claims.proofs.next.fill_in.Statement.{statement}
-use Rattle.judging_claims.proofs.next.fill_in.Tie as tie
+use Rattle.judging_bounds.proofs.Laws.{summed, affords-read, next-read}
+use Rattle.judging_next.proofs.fill_in.Statement.{statement}
+use Rattle.judging_next.proofs.fill_in.Tie as tie
 
 abbrev start : tie.After-gather → tie.Start
 start c = c .before .before .before .before .before .before .before .before .before .before .before

@@ -1,6 +1,6 @@
 // The next masses by a claim that has passed causes 21 and 22.
-use crate::bounds::ENDS;
-use crate::bounds::holds;
+use judging_bounds::ENDS;
+use judging_bounds::holds;
 use check_flows::gather;
 ghost use mathlib.Core.Path.{_≡_};
 ghost use Prim.Native.Nat.{_≤_, _<_, _+_};
@@ -8,7 +8,7 @@ ghost use lib.ListN.{length};
 ghost use Rattle.lists.specs.Table.{table, over};
 ghost use Rattle.model.specs.Mesh.{maxCells};
 ghost use Rattle.check_flows.specs.Flows.{inflow, outflow, FacesFit, LongEnough};
-ghost use Rattle.judging_claims.specs.Tests.{nextAt, entry, Affords, Salted, Summed};
+ghost use Rattle.judging_bounds.specs.Bounds.{nextAt, entry, Affords, Salted, Summed};
 
 // One cell's.
 fn next_of(

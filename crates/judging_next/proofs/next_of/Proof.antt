@@ -1,7 +1,7 @@
 use borrow.Author.Needs.{needs}
-use Rattle.judging_claims.proofs.Laws.{holds-asks, sum-fits}
-use Rattle.judging_claims.proofs.next.next_of.Statement.{statement}
-use Rattle.judging_claims.proofs.next.next_of.Tie as tie
+use Rattle.judging_bounds.proofs.Laws.{holds-asks, sum-fits}
+use Rattle.judging_next.proofs.next_of.Statement.{statement}
+use Rattle.judging_next.proofs.next_of.Tie as tie
 
 abbrev start : tie.After-holds → tie.Start
 start c = c .before .before .before .before .before

@@ -1,7 +1,7 @@
 use borrow.Author.Needs.{needs}
 use borrow.Author.Tests.{le-leb, lt-leb}
-use Rattle.judging_claims.proofs.bounds.bounds_fit.Statement.{statement}
-use Rattle.judging_claims.proofs.bounds.bounds_fit.Tie as tie
+use Rattle.judging_bounds.proofs.bounds_fit.Statement.{statement}
+use Rattle.judging_bounds.proofs.bounds_fit.Tie as tie
 
 returns : tie.Need-returns
 returns c = rw (lt-leb _ _ (c .if1 .taken))

@@ -1,9 +1,9 @@
 use Prim.Native.Nat.{_+_}
 use borrow.Author.Needs.{needs}
 use Rattle.model.specs.Mesh.{maxCells}
-use Rattle.judging_claims.proofs.Laws.{zeros}
-use Rattle.judging_claims.proofs.bounds.values.Statement.{statement}
-use Rattle.judging_claims.proofs.bounds.values.Tie as tie
+use Rattle.judging_bounds.proofs.Laws.{zeros}
+use Rattle.judging_bounds.proofs.values.Statement.{statement}
+use Rattle.judging_bounds.proofs.values.Tie as tie
 
 values-in-requires : tie.Need-values-in-requires
 values-in-requires c κs =

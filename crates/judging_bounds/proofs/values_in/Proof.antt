@@ -1,9 +1,9 @@
 -- The gathered tables are what enters and what leaves; 22 is read off them.
 use mathlib.Core.Path.{_∙_}
 use borrow.Author.Needs.{needs}
-use Rattle.judging_claims.proofs.Laws.{summed, bounds-read}
-use Rattle.judging_claims.proofs.bounds.values_in.Statement.{statement}
-use Rattle.judging_claims.proofs.bounds.values_in.Tie as tie
+use Rattle.judging_bounds.proofs.Laws.{summed, bounds-read}
+use Rattle.judging_bounds.proofs.values_in.Statement.{statement}
+use Rattle.judging_bounds.proofs.values_in.Tie as tie
 
 abbrev start : tie.After-gather → tie.Start
 start c = c .before .before .before .before .before .before .before .before .before .before .before

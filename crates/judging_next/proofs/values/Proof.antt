@@ -1,9 +1,9 @@
 use Prim.Native.Nat.{_+_}
 use borrow.Author.Needs.{needs}
 use Rattle.model.specs.Mesh.{maxCells}
-use Rattle.judging_claims.proofs.Laws.{zeros}
-use Rattle.judging_claims.proofs.next.values.Statement.{statement}
-use Rattle.judging_claims.proofs.next.values.Tie as tie
+use Rattle.judging_bounds.proofs.Laws.{zeros}
+use Rattle.judging_next.proofs.values.Statement.{statement}
+use Rattle.judging_next.proofs.values.Tie as tie
 
 fill-in-requires : tie.Need-fill-in-requires
 fill-in-requires c κs =

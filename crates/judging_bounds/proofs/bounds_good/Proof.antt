@@ -5,10 +5,10 @@ use borrow.Author.Tests.{not-true, not-false}
 use Rattle.lists.proofs.Turns.{turn-within, turn-less}
 use Rattle.model.specs.Causes.{fine, each}
 use Rattle.model.proofs.Verdicts.{scan-start, scan-pass, scan-hit, scan-end}
-use Rattle.judging_claims.specs.Tests.{boundsAt, entry}
-use Rattle.judging_claims.proofs.Laws.{cell-next}
-use Rattle.judging_claims.proofs.bounds.bounds_good.Statement.{statement}
-use Rattle.judging_claims.proofs.bounds.bounds_good.Tie as tie
+use Rattle.judging_bounds.specs.Bounds.{boundsAt, entry}
+use Rattle.judging_bounds.proofs.Laws.{cell-next}
+use Rattle.judging_bounds.proofs.bounds_good.Statement.{statement}
+use Rattle.judging_bounds.proofs.bounds_good.Tie as tie
 
 abbrev Inv-loop : tie.InvT-loop
 Inv-loop cells volumes masses releases work enters leaves c₀ c =

@@ -6,10 +6,10 @@ use lib.ListN.{length, length-set}
 use Rattle.lists.specs.Table.{table, over}
 use Rattle.lists.proofs.Turns.{turn-within, turn-less, turn-in, turn-in-same}
 use Rattle.lists.proofs.Tables.{over-start, over-step}
-use Rattle.judging_claims.specs.Tests.{nextAt, entry}
-use Rattle.judging_claims.proofs.Laws.{cell-next, cell-bytes}
-use Rattle.judging_claims.proofs.next.fill.Statement.{statement}
-use Rattle.judging_claims.proofs.next.fill.Tie as tie
+use Rattle.judging_bounds.specs.Bounds.{nextAt, entry}
+use Rattle.judging_bounds.proofs.Laws.{cell-next, cell-bytes}
+use Rattle.judging_next.proofs.fill.Statement.{statement}
+use Rattle.judging_next.proofs.fill.Tie as tie
 
 abbrev Inv-loop : tie.InvT-loop
 Inv-loop cells masses releases enters leaves next₀ c₀ next c =
