@@ -26,10 +26,10 @@ use Rattle.taking.specs.Taking.{stepIn, stepRecordFound, stepJudged}
 use Rattle.taking.proofs.KindThree.{judged-same}
 use Rattle.host_answer.specs.Number.{numberOf}
 use Rattle.host_answer.proofs.Answers.{answered-as}
-use Rattle.host_tables.specs.Steps.{crossed}
-use Rattle.host_taking.specs.Taken.{fieldTested, fieldIn, stepTested}
-use Rattle.host_next.specs.Next.{withRoom, recordOver, nextBy}
-use Rattle.host_judge.specs.Judge.{claimIn, claimJudged, claimTested}
+use Rattle.host_answer.specs.Steps.{crossed}
+use Rattle.host_tested.specs.Tested.{fieldTested, fieldIn, stepTested}
+use Rattle.host_record_promises.specs.Next.{withRoom, recordOver, nextBy}
+use Rattle.host_record_promises.specs.Judge.{claimIn, claimJudged, claimTested}
 use Rattle.host_kinds.specs.KindThree.{plainTested01, plainNext01, PlainAsBefore, claimVerdict01, claimNext01, claimCrossing01, claimTested01, JudgedAsBefore}
 use Rattle.host_kinds.proofs.Unreleased.{crossing-same, claim-next-same, low-same, claim-verdict-same}
 

@@ -20,11 +20,11 @@ use Rattle.taking.specs.Taking.{stepRecordFound}
 use Rattle.taking.specs.KindThree.{step01, judged01}
 use Rattle.host_answer.specs.Number.{numberOf}
 use Rattle.host_answer.specs.Found.{Answered}
-use Rattle.host_tables.specs.Steps.{crossed}
-use Rattle.host_taking.specs.Taken.{fieldTested, fieldIn}
-use Rattle.host_next.specs.Next.{withRoom, recordOver}
-use Rattle.host_plain.specs.Plain.{PlainPromise}
-use Rattle.host_judge.specs.Judge.{claimIn, JudgedFromC}
+use Rattle.host_answer.specs.Steps.{crossed}
+use Rattle.host_tested.specs.Tested.{fieldTested, fieldIn}
+use Rattle.host_record_promises.specs.Next.{withRoom, recordOver}
+use Rattle.host_record_promises.specs.Plain.{PlainPromise}
+use Rattle.host_record_promises.specs.Judge.{claimIn, JudgedFromC}
 
 -- THE PLAIN STEP: what is found is what document 01's step finds, and the next masses are its low-order ones.
 module _ (mesh field step : List ℕ) where

@@ -1,7 +1,7 @@
 // What a cutting answers a host program in C: both parts' counts as numbers that are found.
 use cutting::CutAnswer;
-use host_answer::fill4;
-use host_answer::number_of;
+use host_numbers::fill4;
+use host_numbers::number_of;
 ghost use Prim.Native.Nat.{_<_, _^_};
 ghost use Rattle.cutting.specs.Promise.{cutSaid};
 ghost use Rattle.host_answer.specs.Number.{numberOf};

@@ -29,7 +29,8 @@ use Rattle.model.proofs.Sizes.{mass-most, total-most}
 use Rattle.model.proofs.Claims.{claim-bounds}
 use Rattle.check_flows.specs.Flows.{inflow, outflow, FacesFit, LongEnough}
 use Rattle.step_carrying.specs.Carrying.{CarriedTo}
-use Rattle.judging_claims.specs.Tests.{claimAt, holds, nextAt, Salted, Bordered, Affords, boundsVerdict}
+use Rattle.judging_claims.specs.Tests.{claimAt}
+use Rattle.judging_bounds.specs.Bounds.{holds, nextAt, Salted, Bordered, Affords, boundsVerdict}
 use Rattle.transport.specs.Promise.{stepSaid}
 use Rattle.transport.specs.declared.Crossed as crossed
 use Rattle.transport.specs.declared.StepAnswer.{StepAnswer}

@@ -104,7 +104,7 @@ fn judged_in(
     if let Answer::Refused(r) = a {
         return StepAnswer::Refused(r);
     }
-    let b = judging_claims::bounds::values(
+    let b = judging_bounds::values(
         cells,
         faces,
         volumes,
@@ -224,7 +224,7 @@ pub fn judge(
     match answer {
         StepAnswer::Refused(refusal) => StepAnswer::Refused(refusal),
         StepAnswer::Stepped(crossed) => {
-            judging_claims::next::values(
+            judging_next::values(
                 cells,
                 faces,
                 volumes,

@@ -1,7 +1,4 @@
-// Document 02's S-11: causes 21 and 22 of moved masses that another model claims, and the next masses by them.
-pub mod bounds;
-pub mod next;
-
+// Document 02's S-11: cause 21 of moved masses that another model claims.
 use model::Answer;
 use model::Cause;
 use model::RIM;
