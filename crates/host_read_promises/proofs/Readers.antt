@@ -16,14 +16,14 @@ use Rattle.record_reading.specs.Answers.{meshSaid, stepReadSaid, MeshReading, F
 use Rattle.host_answer.specs.Number.{numberOf}
 use Rattle.host_answer.specs.Found.{alone, Answered}
 use Rattle.host_answer.proofs.Answers.{answered-as}
-use Rattle.host_read_promises.specs.Read.{countsFound, meshFinds, MeshFromC, FieldFromC, stepFinds, StepFromC}
+use Rattle.host_read_promises.specs.Read.{countsFound, meshFinds, MeshReadFromC, FieldReadFromC, stepFinds, StepReadFromC}
 
 pub mesh-from-c : {bs volumes firsts seconds shares reaches : List ℕ} {a : MeshAnswer} {volumes′ firsts′ seconds′ shares′ reaches′ found : List ℕ} {r : ℕ}
     {found′ : List ℕ}
     → MeshReading (meshRead maxCells maxFaces bs (length volumes) (length firsts) (length seconds) (length shares) (length reaches)) bs
     volumes firsts seconds shares reaches a volumes′ firsts′ seconds′ shares′ reaches′
     → Answered countsFound (meshSaid a) found r found′
-    → MeshFromC (meshFinds bs volumes firsts seconds shares reaches) bs volumes firsts seconds shares reaches found
+    → MeshReadFromC (meshFinds bs volumes firsts seconds shares reaches) bs volumes firsts seconds shares reaches found
     r volumes′ firsts′ seconds′ shares′ reaches′ found′
 mesh-from-c {found = found} h a = record {
   answer = answered-as countsFound found (h .answer) a;
@@ -35,14 +35,14 @@ mesh-from-c {found = found} h a = record {
 }
 
 pub field-named : {w v : Width} → w ≡ v → {cells : ℕ} {bs masses : List ℕ} {a : Answer} {masses′ : List ℕ} {r : ℕ}
-    → FieldReading (fieldRead w cells bs (length masses)) cells bs masses a masses′ → r ≡ numberOf (said a) → FieldFromC v cells bs masses r masses′
+    → FieldReading (fieldRead w cells bs (length masses)) cells bs masses a masses′ → r ≡ numberOf (said a) → FieldReadFromC v cells bs masses r masses′
 field-named e h n = rw (← e) (record { number = n ∙ ap numberOf (h .answer); masses-read = h .masses-read })
 
 pub step-named : {w v : Width} → w ≡ v → {cells faces : ℕ} {seconds bs : List ℕ} {fluxes : List ℤ} {outsides releases : List ℕ} {a : StepRead}
     {fluxes′ : List ℤ} {outsides′ releases′ found : List ℕ} {r : ℕ} {found′ : List ℕ}
     → StepReading w (stepFinds w cells faces seconds bs fluxes outsides releases) cells faces seconds bs fluxes outsides releases a fluxes′ outsides′ releases′
     → Answered alone (stepReadSaid w a) found r found′
-    → StepFromC (stepFinds v cells faces seconds bs fluxes outsides releases) cells faces seconds bs fluxes outsides releases
+    → StepReadFromC (stepFinds v cells faces seconds bs fluxes outsides releases) cells faces seconds bs fluxes outsides releases
     found r fluxes′ outsides′ releases′ found′
 step-named e h a = rw (← e) (record {
   answer = answered-as alone _ (h .answer) a;

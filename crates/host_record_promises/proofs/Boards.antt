@@ -22,7 +22,7 @@ use Rattle.host_taking.specs.declared.FieldTaken.{FieldTaken}
 use Rattle.host_taking.specs.declared.FieldTaken.the-variants.{Taken}
 use Rattle.host_taking.proofs.Held.{tested-fine, cells-as}
 use Rattle.host_tested.proofs.Small.{field-tested-small}
-use Rattle.host_record_promises.specs.Boards.{boardFound, publicFound}
+use Rattle.host_record_promises.specs.Boards.{boardFound, publicBoardFound}
 
 -- what is given after a part that is fine
 giving-past : {A : Type 0} {u : Verdict} (v : Verdict) (x : A) → u ≡ fine → (v andThen accepted x) ≡ (u andThen v andThen accepted x)
@@ -36,7 +36,7 @@ module _ (mesh field : List ℕ) {a : FieldTaken} {volumes masses : List ℕ} (t
       board-said _ _ _ _ _ _ _ (p .verdict-is) (p .used-is) (p .entries-are)
       ∙ giving-past _ _ (tested-fine mesh field (t .answer) d)
 
-  pub public-made : (marks : List ℕ) → PublicBoardIs (take (n .cells) volumes) (take (n .cells) masses) marks (n .cells) b → boardSaid b ≡ publicFound mesh
+  pub public-made : (marks : List ℕ) → PublicBoardIs (take (n .cells) volumes) (take (n .cells) masses) marks (n .cells) b → boardSaid b ≡ publicBoardFound mesh
       field marks
   public-made marks q =
       let p = cells-as mesh field t d (λ m vs ms. PublicBoardIs vs ms marks m b) q in
@@ -48,7 +48,7 @@ module _ (mesh field : List ℕ) {k i : ℕ} (e : fieldTested mesh field ≡ ref
   pub board-untaken : boardFound mesh field ≡ refused k i
   board-untaken = out _ (out _ e)
 
-  pub public-untaken : (marks : List ℕ) → publicFound mesh field marks ≡ refused k i
+  pub public-untaken : (marks : List ℕ) → publicBoardFound mesh field marks ≡ refused k i
   public-untaken marks = out _ (out _ e)
 
 -- the number fits
@@ -57,6 +57,6 @@ module _ (mesh field : List ℕ) where
   board-fits = small-number _ (small-giving _ (small-and (field-tested-small mesh field)
       (mesh-field-small (cellsOnly (meshIn mesh .cells) (meshIn mesh .volumes)) (fieldIn mesh field))))
 
-  pub public-fits : (marks : List ℕ) → numberOf (publicFound mesh field marks) < 2 ^ 64
+  pub public-fits : (marks : List ℕ) → numberOf (publicBoardFound mesh field marks) < 2 ^ 64
   public-fits marks = small-number _ (small-giving _ (small-and (field-tested-small mesh field)
       (public-small (meshIn mesh .volumes) (fieldIn mesh field) marks (meshIn mesh .cells))))

@@ -28,7 +28,7 @@ use Rattle.host_answer.specs.Number.{numberOf, refusalNumber}
 use Rattle.host_answer.proofs.Answers.{refusal-of}
 use Rattle.host_answer.proofs.Small.{small-and, small-need, small-giving, small-number}
 use Rattle.host_tested.specs.Tested.{fieldTested, fieldIn, stepTested}
-use Rattle.host_taking.specs.Taken.{FieldTaking}
+use Rattle.host_taking.specs.Taken.{RecordsTaking}
 use Rattle.host_taking.specs.declared.FieldCounts.{FieldCounts}
 use Rattle.host_taking.specs.declared.FieldTaken.{FieldTaken}
 use Rattle.host_taking.specs.declared.FieldTaken.the-variants.{Taken}
@@ -69,7 +69,7 @@ module _ (mesh field step bytes : List ℕ) where
   pub records-refused : {r : Refusal} → fieldTested mesh field ≡ told r → PlainTaking mesh field step bytes (Refused r) bytes
   records-refused {r = r} e = written-refused _ (widthIn mesh) (meshIn mesh .cells) _ bytes r (out _ e)
 
-  pub records-taken : {a : FieldTaken} {volumes firsts seconds shares reaches masses : List ℕ} (t : FieldTaking mesh field a volumes firsts seconds shares
+  pub records-taken : {a : FieldTaken} {volumes firsts seconds shares reaches masses : List ℕ} (t : RecordsTaking mesh field a volumes firsts seconds shares
       reaches masses)
       {n : FieldCounts} (d : a ≡ Taken n) {r : StepAnswer} {bytes′ : List ℕ}
       → PlainOn (n .width)

@@ -10,14 +10,14 @@ use Rattle.host_answer.specs.Number.{refusalNumber}
 use Rattle.host_answer.specs.Found.{filled, alone, Answered}
 use Rattle.host_answer.proofs.Answers.{answered-refused, answered-found}
 use Rattle.host_tested.specs.Tested.{fieldTested}
-use Rattle.host_taking.specs.Taken.{takenIn, takenSaid}
+use Rattle.host_taking.specs.Taken.{takenIn, fieldTakenSaid}
 use Rattle.host_taking.specs.declared.FieldCounts.{FieldCounts}
 use Rattle.host_taking.specs.declared.FieldTaken.{FieldTaken}
 use Rattle.host_taking.specs.declared.FieldTaken.the-variants.{Taken, Refused}
 use Rattle.host_taking.proofs.Held.{untaken, tested-fine, total-is}
 use Rattle.host_record_promises.specs.Cells.{totalFound}
 
-module _ (mesh field : List ℕ) {a : FieldTaken} (t : takenSaid a ≡ (fieldTested mesh field andThen accepted (takenIn mesh field))) (found : List ℕ) where
+module _ (mesh field : List ℕ) {a : FieldTaken} (t : fieldTakenSaid a ≡ (fieldTested mesh field andThen accepted (takenIn mesh field))) (found : List ℕ) where
   pub total-untaken : {q : Refusal} → a ≡ Refused q → {r : ℕ} → r ≡ refusalNumber (number (q .cause)) (q .place)
       → Answered alone (totalFound mesh field) found r found
   total-untaken d n = answered-refused alone found (out _ (untaken mesh field t d)) n

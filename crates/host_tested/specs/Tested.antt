@@ -31,5 +31,5 @@ module _ (mesh field : List ℕ) where
     stepTested = fieldTested andThen stepAlone
 
   -- the total of the field
-  abbrev pub totalIn : ℕ
-  totalIn = total (cellsOnly (meshIn mesh .cells) (meshIn mesh .volumes)) (massIn fieldIn)
+  abbrev pub totalHeld : ℕ
+  totalHeld = total (cellsOnly (meshIn mesh .cells) (meshIn mesh .volumes)) (massIn fieldIn)

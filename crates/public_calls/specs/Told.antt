@@ -16,7 +16,7 @@ use Rattle.host_field_promises.specs.Field.{PublicPageFromC}
 use Rattle.host_field_promises.specs.Board.{shownNumbers, PublicBoardFromC}
 use Rattle.host_tested.specs.Tested.{fieldIn}
 use Rattle.host_record_promises.specs.Cells.{PublicPromise}
-use Rattle.host_record_promises.specs.Boards.{publicFound}
+use Rattle.host_record_promises.specs.Boards.{publicBoardFound}
 
 -- ON TABLES
 module _ (volumes marks : List ℕ) (cells : ℕ) (masses masses′ : List ℕ) where
@@ -44,7 +44,7 @@ module _ (mesh marks field field′ : List ℕ) where
 
   abbrev pub RecordBoardTold : Type 0
   RecordBoardTold = RecordsAgree mesh marks field field′ → (found : List ℕ) (r r′ : ℕ) (told told′ : List ℕ)
-      → Answered shownNumbers (publicFound mesh field marks) found r told → Answered shownNumbers (publicFound mesh field′ marks) found r′ told′
+      → Answered shownNumbers (publicBoardFound mesh field marks) found r told → Answered shownNumbers (publicBoardFound mesh field′ marks) found r′ told′
       → (r ≡ r′) × (told ≡ told′)
 
 -- all four

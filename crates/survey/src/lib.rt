@@ -12,7 +12,7 @@ ghost use mathlib.Core.Bool.{true, false};
 ghost use Prim.Native.Nat.{_≤_};
 ghost use Rattle.model.specs.Causes.{refused, fine};
 ghost use Rattle.model.specs.Answers.{number};
-ghost use Rattle.survey.specs.Survey.{notAbove, foundBy, foundAfter, found, share as shareIs, shareOf, shareBy, faceShare};
+ghost use Rattle.survey.specs.Survey.{notAbove, stageSaid, foundAfter, found, share as shareIs, shareOf, shareBy, faceShare};
 
 // 1 / 256, the unit of a share.
 const PART: f64 = 0.00390625;
@@ -37,7 +37,7 @@ pub enum ShareAnswer {
 
 // The ratio of a face whose coordinates are allowed, or that a + b is 0.
 fn ratio_of(face: Face) -> Stage
-    ensures { λ r. ⌜ foundBy r ≡ foundAfter face fine ⌝ }
+    ensures { λ r. ⌜ stageSaid r ≡ foundAfter face fine ⌝ }
 {
     let a = first_side(face);
     let total = a + second_side(face);
@@ -49,7 +49,7 @@ fn ratio_of(face: Face) -> Stage
 
 // The middle stage: the coordinates are looked at in the order of their places.
 pub fn middle_stage(face: Face) -> Stage
-    ensures { λ r. ⌜ foundBy r ≡ found face ⌝ }
+    ensures { λ r. ⌜ stageSaid r ≡ found face ⌝ }
 {
     let values = coordinates_of(face);
     let mut i = 0;
