@@ -12,7 +12,7 @@ use Rattle.lists.specs.Fold.{sum}
 use Rattle.lists.specs.Table.{table, over}
 use Rattle.lists.specs.Marked.{count}
 use Rattle.lists.proofs.Tables.{is-table, over-start}
-use Rattle.model.specs.Causes.{fine, taken, cellsOnly}
+use Rattle.model.specs.Causes.{fine, granted, cellsOnly}
 use Rattle.model.specs.Answers.{said}
 use Rattle.model.specs.declared.Answer.{Answer}
 use Rattle.model.specs.declared.Answer.the-variants.{Done, Refused}
@@ -192,7 +192,7 @@ module _ (volumes masses : List ℕ) where
   unfolding isOpen
   without-marks n r b = record {
     verdict-is = b .verdict-is;
-    used-is = b .used-is ∙ ap (λ (k : ℕ). taken (boardVerdict volumes masses n) (min boardSize k) 0) (all-counted n);
+    used-is = b .used-is ∙ ap (λ (k : ℕ). granted (boardVerdict volumes masses n) (min boardSize k) 0) (all-counted n);
     entries-are = b .entries-are;
   }
 

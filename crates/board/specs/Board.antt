@@ -6,7 +6,7 @@ use mathlib.Core.List.{List, map}
 use lib.ListN.{length, getD, take, replicate}
 use Rattle.lists.specs.Table.{over}
 use Rattle.lists.specs.Marked.{count}
-use Rattle.model.specs.Causes.{Verdict, taken, meshFieldVerdict, cellsOnly}
+use Rattle.model.specs.Causes.{Verdict, granted, meshFieldVerdict, cellsOnly}
 use Rattle.model.specs.Answers.{said}
 use Rattle.board_order.specs.declared.Ranked.{Ranked}
 use Rattle.board_order.specs.Order.{maxRanked, rankedOf, unranked, comesBefore, inOrder}
@@ -74,11 +74,11 @@ Rankable volumes masses cells =
 -- what a board answers after a verdict: that, how many entries are used, and the entries; none after a refusal
 pub record BoardAfter (verdict : Verdict) (volumes masses : List ℕ) (visible : ℕ → Bool) (cells : ℕ) (r : BoardAnswer) : Type 0 where
   pub verdict-is : said (r .verdict) ≡ verdict
-  pub used-is : r .used ≡ taken verdict (min boardSize (count cells visible)) 0
-  pub entries-are : r .entries ≡ taken verdict (entriesOf volumes masses visible cells) (replicate boardSize unused)
+  pub used-is : r .used ≡ granted verdict (min boardSize (count cells visible)) 0
+  pub entries-are : r .entries ≡ granted verdict (entriesOf volumes masses visible cells) (replicate boardSize unused)
 
 -- what the growers' board answers
 pub record BoardIs (cells : ℕ) (volumes masses : List ℕ) (r : BoardAnswer) : Type 0 where
   pub verdict-is : said (r .verdict) ≡ boardVerdict volumes masses cells
-  pub used-is : r .used ≡ taken (boardVerdict volumes masses cells) (min boardSize cells) 0
-  pub entries-are : r .entries ≡ taken (boardVerdict volumes masses cells) (boardEntries volumes masses cells) (replicate boardSize unused)
+  pub used-is : r .used ≡ granted (boardVerdict volumes masses cells) (min boardSize cells) 0
+  pub entries-are : r .entries ≡ granted (boardVerdict volumes masses cells) (boardEntries volumes masses cells) (replicate boardSize unused)

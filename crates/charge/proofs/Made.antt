@@ -3,7 +3,7 @@ use Prim.Native.Nat.{ℕ, _+_, _*_, _/_, _%_, _<_}
 use mathlib.Core.Path.{_≡_, ap}
 use mathlib.Core.List.{List, [], _∷_}
 use native.Mathlib.Omega.{arith}
-use Rattle.model.specs.Causes.{taken}
+use Rattle.model.specs.Causes.{granted}
 use Rattle.model.proofs.Verdicts.{accepted-of}
 use Rattle.charge.specs.Charge.{priceUnits, chargeSum}
 use Rattle.charge.specs.Answers.{Bill, chargeVerdict, billOf, chargeSaid, ChargeIs}
@@ -18,7 +18,7 @@ divided s r cents left c l = rw (c, l) (omega arith, omega arith)
 -- one charge
 one : (m : Made) (remainder : ℕ) (a : ChargeAnswer) → ChargeIs (m .ends) (m .prices) (m .total) (m .bands) remainder a
     → (centsOf (chargeSaid a) * priceUnits + handedOn (chargeSaid a) remainder
-    ≡ taken (chargeSaid a) (chargeSum (m .ends) (m .prices) (m .bands) (m .total)) 0 + remainder)
+    ≡ granted (chargeSaid a) (chargeSum (m .ends) (m .prices) (m .bands) (m .total)) 0 + remainder)
     × (remainder < priceUnits → handedOn (chargeSaid a) remainder < priceUnits)
 unfolding billOf
 one m remainder (Charged c) e =

@@ -2,7 +2,7 @@
 use Prim.Native.Nat.{ℕ, _+_, _*_, _<_}
 use mathlib.Core.Path.{_≡_}
 use mathlib.Core.List.{List, [], _∷_}
-use Rattle.model.specs.Causes.{Outcome, accepted, refused, taken}
+use Rattle.model.specs.Causes.{Outcome, accepted, refused, granted}
 use Rattle.charge.specs.Charge.{priceUnits, chargeSum}
 use Rattle.charge.specs.Answers.{Bill, chargeSaid, ChargeIs}
 use Rattle.charge.specs.declared.ChargeAnswer.{ChargeAnswer}
@@ -26,7 +26,7 @@ handedOn (refused _ _) remainder = remainder
 
 -- the sum charged band by band, of an accepted charge
 abbrev pub sumOf : Made → ℕ
-sumOf m = taken (chargeSaid (m .answer)) (chargeSum (m .ends) (m .prices) (m .bands) (m .total)) 0
+sumOf m = granted (chargeSaid (m .answer)) (chargeSum (m .ends) (m .prices) (m .bands) (m .total)) 0
 
 -- Each call was given the remainder that the one before it handed on, and kept the contract of `charge`.
 abbrev pub KeptOn : ℕ → List Made → Type 0

@@ -13,7 +13,7 @@ use Rattle.lists.proofs.Tests.{cond-same}
 use Rattle.signed.specs.Sign.{forward}
 use Rattle.model.specs.Mesh.{Mesh, atRim}
 use Rattle.model.specs.Step.{outMass}
-use Rattle.model.specs.Causes.{fine, taken, Call, inputOf}
+use Rattle.model.specs.Causes.{fine, granted, Call, inputOf}
 use Rattle.model.specs.Calls.{Crossing, crossingOf, fieldAfter, goneBy, Scheme, corrected, plain, judged, stepAnswer, movedTable, totalOut}
 use Rattle.model.specs.declared.Answer.the-variants.{Done}
 use Rattle.model.proofs.Verdicts.{accepted-of}
@@ -61,18 +61,18 @@ nothing-out M = sum-cong (M .faces) (λ f. cond (atRim M f) 0 0) (λ f. 0) (λ f
 one-out : (s : Scheme) (keeping : Keeping s) (M : Mesh) (masses : List ℕ) (k : Call) (a : StepAnswer) (next : List ℕ) (moved : List ℤ)
     → stepSaid a ≡ stepAnswer s M k masses
     → (s .finds M masses k ≡ fine → (f : ℕ) → f < M .faces → getD moved f (pos 0) ≡ s .moves M masses k f)
-    → sum (M .faces) (λ f. cond (atRim M f) (taken (stepSaid a) (forward (getD moved f (pos 0))) 0) 0) ≡ goneBy (leftBy (stepSaid a) next)
+    → sum (M .faces) (λ f. cond (atRim M f) (granted (stepSaid a) (forward (getD moved f (pos 0))) 0) 0) ≡ goneBy (leftBy (stepSaid a) next)
 one-out s keeping M masses k (Stepped b) next moved e at = out-is s keeping M masses k b moved e at
 one-out s keeping M masses k (Refused r) next moved e at = nothing-out M
 
 by-step : (s : Scheme) → Keeping s → (M : Mesh) (m : Made) → StepPromise s M (m .masses) (m .tables) (m .answer) (m .next) (m .moved) (m .work)
-    → sum (M .faces) (λ f. cond (atRim M f) (taken (stepSaid (m .answer)) (forward (getD (m .moved) f (pos 0))) 0) 0)
+    → sum (M .faces) (λ f. cond (atRim M f) (granted (stepSaid (m .answer)) (forward (getD (m .moved) f (pos 0))) 0) 0)
     ≡ goneBy (leftBy (stepSaid (m .answer)) (m .next))
 by-step s keeping M m p = one-out s keeping M (m .masses) (m .tables) (m .answer) (m .next) (m .moved) (p .answer)
     (left-at s M (m .masses) (m .tables) (m .answer) (m .next) (m .moved) (m .work) p)
 
 by-way : (M : Mesh) (m : Made) (way : Way) → Promised M m way
-    → sum (M .faces) (λ f. cond (atRim M f) (taken (stepSaid (m .answer)) (forward (getD (m .moved) f (pos 0))) 0) 0)
+    → sum (M .faces) (λ f. cond (atRim M f) (granted (stepSaid (m .answer)) (forward (getD (m .moved) f (pos 0))) 0) 0)
     ≡ goneBy (leftBy (stepSaid (m .answer)) (m .next))
 by-way M m correcting p = by-step corrected corrected-keeping M m p
 by-way M m plainly p = by-step plain plain-keeping M m p
@@ -82,9 +82,9 @@ by-way M m asClaimed p =
 
 -- an entry after it
 one-entry : (M : Mesh) (m : Made) (totals : List ℕ) (a : StepAnswer)
-    → taken (stepSaid a) (AddPromise (M .seconds) (m .moved) totals (M .faces) Done (m .added)) (Unit {0})
+    → granted (stepSaid a) (AddPromise (M .seconds) (m .moved) totals (M .faces) Done (m .added)) (Unit {0})
     → (f : ℕ) → f < M .faces
-    → getD (taken (stepSaid a) (m .added) totals) f 0 ≡ getD totals f 0 + cond (atRim M f) (taken (stepSaid a) (forward (getD (m .moved) f (pos 0))) 0) 0
+    → getD (granted (stepSaid a) (m .added) totals) f 0 ≡ getD totals f 0 + cond (atRim M f) (granted (stepSaid a) (forward (getD (m .moved) f (pos 0))) 0) 0
 unfolding addedTotals gainAt gainOf
 one-entry M m totals (Stepped b) p f h =
     rw (p .totals-after, ← (p .answer)) (getD-over (M .faces) (λ f. getD totals f 0 + gainAt (M .seconds) (m .moved) f) totals 0 f h)
@@ -103,7 +103,7 @@ entries M totals (m ∷ ms) kept f h = omega (
   arith,
   one-entry M m totals (m .answer) (kept .1) f h,
   entries M (totalsAfter m totals) ms (kept .2) f h,
-  both-added (atRim M f) (taken (stepSaid (m .answer)) (forward (getD (m .moved) f (pos 0))) 0) (movedOut ms f),
+  both-added (atRim M f) (granted (stepSaid (m .answer)) (forward (getD (m .moved) f (pos 0))) 0) (movedOut ms f),
 )
 
 all-moved : (M : Mesh) (totals : List ℕ) (calls : List Made) → KeptOn M totals calls → (field : List ℕ)
@@ -111,7 +111,7 @@ all-moved : (M : Mesh) (totals : List ℕ) (calls : List Made) → KeptOn M tota
 unfolding movedOut totalOut
 all-moved M totals [] kept field = nothing-out M
 all-moved M totals (m ∷ ms) kept field =
-    let out : ℕ → ℕ = λ f. taken (stepSaid (m .answer)) (forward (getD (m .moved) f (pos 0))) 0 in
+    let out : ℕ → ℕ = λ f. granted (stepSaid (m .answer)) (forward (getD (m .moved) f (pos 0))) 0 in
     omega (
       arith,
       sum-cong (M .faces) (λ f. cond (atRim M f) (out f + movedOut ms f) 0) (λ f. cond (atRim M f) (out f) 0 + cond (atRim M f) (movedOut ms f) 0)

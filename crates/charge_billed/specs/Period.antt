@@ -8,7 +8,7 @@ use lib.ListN.{getD}
 use Rattle.lists.specs.Fold.{sum}
 use Rattle.signed.specs.Sign.{forward}
 use Rattle.model.specs.Mesh.{Mesh, atRim}
-use Rattle.model.specs.Causes.{Outcome, taken, Call}
+use Rattle.model.specs.Causes.{Outcome, granted, Call}
 use Rattle.model.specs.Calls.{Left, corrected, plain, totalOut}
 use Rattle.model.specs.declared.Answer.the-variants.{Done}
 use Rattle.transport.specs.Promise.{stepSaid, leftBy, StepPromise}
@@ -40,7 +40,7 @@ cameTo m field = leftBy (stepSaid (m .answer)) (m .next)
 
 -- the period totals after it: a refused step is not added
 abbrev pub totalsAfter : Made → List ℕ → List ℕ
-totalsAfter m totals = taken (stepSaid (m .answer)) (m .added) totals
+totalsAfter m totals = granted (stepSaid (m .answer)) (m .added) totals
 
 -- what each call promises; a judging leaves the claim as it was
 abbrev pub Promised : Mesh → Made → Way → Type 0
@@ -54,7 +54,7 @@ abbrev pub KeptOn : Mesh → List ℕ → List Made → Type 0
 KeptOn M totals [] = Unit {0}
 KeptOn M totals (m ∷ ms) =
     Promised M m (m .way)
-    × taken (stepSaid (m .answer)) (AddPromise (M .seconds) (m .moved) totals (M .faces) Done (m .added)) (Unit {0})
+    × granted (stepSaid (m .answer)) (AddPromise (M .seconds) (m .moved) totals (M .faces) Done (m .added)) (Unit {0})
     × KeptOn M (totalsAfter m totals) ms
 
 -- the totals at the period's end
@@ -65,7 +65,7 @@ lastTotals totals (m ∷ ms) = lastTotals (totalsAfter m totals) ms
 -- what the accepted steps moved outward over face f; inward mass is not set against it
 unfoldable pub movedOut : List Made → ℕ → ℕ
 movedOut [] f = 0
-movedOut (m ∷ ms) f = taken (stepSaid (m .answer)) (forward (getD (m .moved) f (pos 0))) 0 + movedOut ms f
+movedOut (m ∷ ms) f = granted (stepSaid (m .answer)) (forward (getD (m .moved) f (pos 0))) 0 + movedOut ms f
 
 -- What the ports are charged for: over each rim face what moved outward there, and nothing elsewhere. All rim faces together it is the out-mass
 -- of the accepted steps, as demand 3 counts it: the bill and the salt budget speak of the same salt. (The out-mass of a list of calls that have

@@ -9,7 +9,7 @@ use lib.ListN.{length, getD}
 use Rattle.lists.specs.Table.{table, over}
 use Rattle.signed.specs.Sign.{forward}
 use Rattle.model.specs.Mesh.{rim, maxFaces}
-use Rattle.model.specs.Causes.{Verdict, taken, inTurn, need, long, each}
+use Rattle.model.specs.Causes.{Verdict, granted, inTurn, need, long, each}
 use Rattle.model.specs.Answers.{said}
 use Rattle.model.specs.declared.Answer.{Answer}
 
@@ -49,4 +49,4 @@ module _ (seconds : List ℕ) (moved : List ℤ) where
       -- what an adding answers and leaves; a refusal changes nothing
       pub record AddPromise (r : Answer) (totals′ : List ℕ) : Type 0 where
         pub answer : said r ≡ addVerdict
-        pub totals-after : totals′ ≡ taken addVerdict addedTotals totals
+        pub totals-after : totals′ ≡ granted addVerdict addedTotals totals

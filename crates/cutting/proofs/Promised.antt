@@ -4,12 +4,12 @@ use mathlib.Core.Path.{_≡_, sym, ap, _∙_}
 use mathlib.Core.List.{List}
 use native.Mathlib.Omega.{arith}
 use Rattle.model.specs.Mesh.{ceiling}
-use Rattle.model.specs.Causes.{Outcome, accepted, Verdict, fine, taken, waterCauses, stepValues}
+use Rattle.model.specs.Causes.{Outcome, accepted, Verdict, fine, granted, waterCauses, stepValues}
 use Rattle.model.specs.Answers.{told}
 use Rattle.model.specs.declared.Refusal.{Refusal}
 use Rattle.model.proofs.Verdicts.{all-fine, out, past}
 use Rattle.model.proofs.Accepted.{counted, mesh-fit, raised-fit, mass-small, water-fit, flux-small}
-use Rattle.cutting_parts.specs.Cut.{Tables, Lagoon, meshIn, waterIn, stepInput, partTables}
+use Rattle.cutting_parts.specs.Cut.{Tables, Lagoon, wholeMesh, wholeWater, stepInput, partTables}
 use Rattle.cutting_parts.specs.Refusals.{Sizes, sizesOf, cutCauses, cutVerdict, cutAnswer}
 use Rattle.cutting_parts.specs.Parts.{TablesLong}
 use Rattle.cutting_parts.proofs.Parts.{tables-long, labels-long, lengths-fine}
@@ -25,8 +25,8 @@ module _ (L : Lagoon) (labels : List ℕ) (lent₀ lent₁ : Tables) (cut-fine :
   cuttable t room =
       let e = all-fine (cutCauses L labels lent₀ lent₁) cut-fine in
       let lengths = lengths-fine L labels lent₀ lent₁ cut-fine in
-      let fit = mesh-fit (meshIn L) (e .1 .1 .0) in
-      let water = all-fine (waterCauses ceiling (meshIn L) (L .tables .masses) (waterIn L)) (e .1 .1 .1 .1 .1 .1 .0) in
+      let fit = mesh-fit (wholeMesh L) (e .1 .1 .0) in
+      let water = all-fine (waterCauses ceiling (wholeMesh L) (L .tables .masses) (wholeWater L)) (e .1 .1 .1 .1 .1 .1 .0) in
       let whole = tables-long L labels lent₀ lent₁ lengths (L .tables) (λ P e. e .0) in
       let there = labels-long L labels lent₀ lent₁ lengths in
       record {
@@ -34,7 +34,7 @@ module _ (L : Lagoon) (labels : List ℕ) (lent₀ lent₁ : Tables) (cut-fine :
         whole = whole;
         room = room;
         joined = record {
-          few = counted (meshIn L) (e .0) .few-cells;
+          few = counted (wholeMesh L) (e .0) .few-cells;
           labels-long = there;
           firsts-long = whole .firsts-long;
           seconds-long = whole .seconds-long;
@@ -49,10 +49,10 @@ module _ (L : Lagoon) (labels : List ℕ) (lent₀ lent₁ : Tables) (cut-fine :
           small = λ c h. omega (
             arith,
             mass-small _ _ (fit .volume-some c h) (fit .volume-most c h)
-                (raised-fit (meshIn L) (L .tables .masses) (waterIn L) (e .1 .1 .1 .1 .1 .0) c h),
+                (raised-fit (wholeMesh L) (L .tables .masses) (wholeWater L) (e .1 .1 .1 .1 .1 .0) c h),
           );
         };
-        sizes = λ f h. omega (arith, flux-small (stepInput L) fit (water-fit (meshIn L) (L .tables .masses) (waterIn L) (water .0) (water .1 .0)) f h);
+        sizes = λ f h. omega (arith, flux-small (stepInput L) fit (water-fit (wholeMesh L) (L .tables .masses) (wholeWater L) (water .0) (water .1 .0)) f h);
       }
 
   pub room-0 : TablesLong L lent₀
@@ -67,8 +67,8 @@ module _ (L : Lagoon) (labels : List ℕ) (lent₀ lent₁ : Tables) (cut-fine :
   unfolding cutAnswer
   promise-done n after₀ after₁ e p q = record {
     answer = e ∙ sym (past _ cut-fine);
-    part-0 = p ∙ sym (ap (λ (v : Verdict). taken v (partTables L labels 0 lent₀) lent₀) cut-fine);
-    part-1 = q ∙ sym (ap (λ (v : Verdict). taken v (partTables L labels 1 lent₁) lent₁) cut-fine);
+    part-0 = p ∙ sym (ap (λ (v : Verdict). granted v (partTables L labels 0 lent₀) lent₀) cut-fine);
+    part-1 = q ∙ sym (ap (λ (v : Verdict). granted v (partTables L labels 1 lent₁) lent₁) cut-fine);
   }
 
 -- or nothing is
@@ -77,8 +77,8 @@ pub promise-refused : (L : Lagoon) (labels : List ℕ) (lent₀ lent₁ : Tables
 unfolding cutAnswer
 promise-refused L labels lent₀ lent₁ r e = record {
   answer = sym (out _ e);
-  part-0 = sym (ap (λ (v : Verdict). taken v (partTables L labels 0 lent₀) lent₀) e);
-  part-1 = sym (ap (λ (v : Verdict). taken v (partTables L labels 1 lent₁) lent₁) e);
+  part-0 = sym (ap (λ (v : Verdict). granted v (partTables L labels 0 lent₀) lent₀) e);
+  part-1 = sym (ap (λ (v : Verdict). granted v (partTables L labels 1 lent₁) lent₁) e);
 }
 
 pub counts-are : {a b c d e f g h : ℕ} → a ≡ e → b ≡ f → c ≡ g → d ≡ h

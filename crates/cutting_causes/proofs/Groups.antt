@@ -4,7 +4,7 @@ use mathlib.Core.Path.{_≡_, refl}
 use mathlib.Core.Bool.{Bool}
 use mathlib.Core.List.{List, [], _∷_}
 use Rattle.model.specs.Causes.{accepted, refused, Verdict, _andThen_, inTurn, need, each, counts}
-use Rattle.cutting_parts.specs.Cut.{Tables, Lagoon, meshIn}
+use Rattle.cutting_parts.specs.Cut.{Tables, Lagoon, wholeMesh}
 use Rattle.cutting_parts.specs.Refusals.{cutTables, cutVerdict}
 use Rattle.cutting_causes.specs.Lengths.{valuesFound}
 
@@ -28,6 +28,6 @@ group (refused k i) m l f r s = refl
 
 -- counts and lengths first, then the values
 pub lengths-first : (L : Lagoon) (labels : List ℕ) (lent₀ lent₁ : Tables)
-    → cutVerdict L labels lent₀ lent₁ ≡ ((counts (meshIn L) andThen cutTables L labels lent₀ lent₁) andThen valuesFound L labels)
+    → cutVerdict L labels lent₀ lent₁ ≡ ((counts (wholeMesh L) andThen cutTables L labels lent₀ lent₁) andThen valuesFound L labels)
 unfolding cutVerdict valuesFound
-lengths-first L labels lent₀ lent₁ = group (counts (meshIn L) andThen cutTables L labels lent₀ lent₁) _ _ _ _ _
+lengths-first L labels lent₀ lent₁ = group (counts (wholeMesh L) andThen cutTables L labels lent₀ lent₁) _ _ _ _ _

@@ -3,7 +3,7 @@ use Prim.Native.Nat.{ℕ}
 use mathlib.Core.List.{List, [], _∷_}
 use Rattle.model.specs.Mesh.{maxCells, maxFaces, ceiling}
 use Rattle.model.specs.Causes.{Verdict, _andThen_, inTurn, long, countsWithin, meshValues, fieldValues, raisedValues, stepValues}
-use Rattle.cutting_parts.specs.Cut.{Lagoon, meshIn, waterIn}
+use Rattle.cutting_parts.specs.Cut.{Lagoon, wholeMesh, wholeWater}
 use Rattle.cutting_parts.specs.Refusals.{labelValues}
 
 -- three tables of one position, by their lengths
@@ -11,11 +11,11 @@ abbrev pub three : (position wanted a b c : ℕ) → Verdict
 three position wanted a b c = inTurn (long position wanted a ∷ long position wanted b ∷ long position wanted c ∷ [])
 
 unfoldable pub valuesFound : Lagoon → List ℕ → Verdict
-valuesFound L labels = inTurn (meshValues ceiling (meshIn L)
+valuesFound L labels = inTurn (meshValues ceiling (wholeMesh L)
     ∷ labelValues L labels
-    ∷ fieldValues (meshIn L) (L .tables .masses)
-    ∷ raisedValues (meshIn L) (L .tables .masses) (waterIn L)
-    ∷ stepValues ceiling (meshIn L) (L .tables .masses) (waterIn L)
+    ∷ fieldValues (wholeMesh L) (L .tables .masses)
+    ∷ raisedValues (wholeMesh L) (L .tables .masses) (wholeWater L)
+    ∷ stepValues ceiling (wholeMesh L) (L .tables .masses) (wholeWater L)
     ∷ [])
 
 -- causes 1 and 2, of the lengths in the order of the positions: of each kind the whole's table and the parts', then the labels

@@ -16,7 +16,7 @@ use Rattle.model.specs.Accepted.{MeshFit}
 use Rattle.model.proofs.Raised.{raised-at}
 use Rattle.model.proofs.Rounded.{rounded-same}
 use Rattle.lists.specs.Marked.{count, old}
-use Rattle.cutting_parts.specs.Cut.{Tables, Lagoon, meshIn, waterIn, stepInput, inPart, firstIn, touches, newCell, isCut, isTurned, newFirst, newSecond, newShare, newReach, newFlux, newOutside, partOf}
+use Rattle.cutting_parts.specs.Cut.{Tables, Lagoon, wholeMesh, wholeWater, stepInput, inPart, firstIn, touches, newCell, isCut, isTurned, newFirst, newSecond, newShare, newReach, newFlux, newOutside, partOf}
 use Rattle.lists.proofs.Marked.{count-most, count-next, old-count, old-marked, picked-at}
 use Rattle.cutting_parts.proofs.Part.{Side, inside, overRim, atFirst, atSecond, PartMesh, PartStep}
 
@@ -25,10 +25,10 @@ module _ (L : Lagoon) (labels : List ℕ) (p : ℕ) (lent : Tables) where
   part = partOf L labels p lent
 
   abbrev M : Mesh
-  M = meshIn L
+  M = wholeMesh L
 
   abbrev N : Mesh
-  N = meshIn part
+  N = wholeMesh part
 
   -- the old numbers
   abbrev pub cell : ℕ → ℕ
@@ -44,8 +44,8 @@ module _ (L : Lagoon) (labels : List ℕ) (p : ℕ) (lent : Tables) where
   pub mass-is : (c : ℕ) → c < N .cells → getD (part .tables .masses) c 0 ≡ getD (L .tables .masses) (cell c) 0
   mass-is = picked-at (L .cells) (inPart L labels p) (λ c. getD (L .tables .masses) c 0) (lent .masses) 0
 
-  pub release-is : (c : ℕ) → c < N .cells → release (waterIn part) c ≡ release (waterIn L) (cell c)
-  release-is = picked-at (L .cells) (inPart L labels p) (release (waterIn L)) (lent .releases) 0
+  pub release-is : (c : ℕ) → c < N .cells → release (wholeWater part) c ≡ release (wholeWater L) (cell c)
+  release-is = picked-at (L .cells) (inPart L labels p) (release (wholeWater L)) (lent .releases) 0
 
   pub first-is : (f : ℕ) → f < N .faces → first N f ≡ newFirst L labels p (face f)
   first-is = picked-at (L .faces) (touches L labels p) (newFirst L labels p) (lent .firsts) 0

@@ -17,7 +17,7 @@ use Rattle.model.specs.Calls.{massIn, Crossing, stepAnswer, nextTable, movedTab
 use Rattle.model.proofs.Verdicts.{both-fine, all-fine, past, long-fine, each-fine}
 use Rattle.model.proofs.Accepted.{ready}
 use Rattle.lists.specs.Marked.{picked}
-use Rattle.cutting_parts.specs.Cut.{Tables, Lagoon, meshIn, stepOn, stepInput, partCells, isTurned, byCell, byFace, partOf}
+use Rattle.cutting_parts.specs.Cut.{Tables, Lagoon, wholeMesh, stepOn, stepInput, partCells, isTurned, byCell, byFace, partOf}
 use Rattle.cutting_parts.specs.Refusals.{partGood, labelCauses, labelValues, allLong, cutLengths, cutTables, cutCauses, cutVerdict}
 use Rattle.cutting_parts.specs.Parts.{plainAnswer, plainCrossing, plainNext, plainMoved, TablesLong, LentAtCounts, PartSteps, S12}
 use Rattle.cutting_parts.proofs.Part.{carried-part, updated-part}
@@ -69,16 +69,16 @@ module _ (L : Lagoon) (labels : List ℕ) (lent₀ lent₁ : Tables) (cut-fine :
       (each-fine 24 2 (partGood L labels) (all-fine (labelCauses L labels) (all-fine (cutCauses L labels lent₀ lent₁) cut-fine .1 .1 .1 .0) .1 .0) p h)
 
 module _ (L : Lagoon) (labels : List ℕ) (p : ℕ) (lent : Tables) (nexts : List ℕ) (moveds : List ℤ) (work : List ℕ)
-    (whole-fine : verdict (meshIn L) (L .tables .masses) (stepOn L nexts moveds work) ≡ fine)
+    (whole-fine : verdict (wholeMesh L) (L .tables .masses) (stepOn L nexts moveds work) ≡ fine)
     (some : 1 ≤ partCells L labels p) (lent-long : TablesLong L lent) where
   abbrev part : Lagoon
   part = partOf L labels p lent
 
   abbrev M : Mesh
-  M = meshIn L
+  M = wholeMesh L
 
   abbrev N : Mesh
-  N = meshIn part
+  N = wholeMesh part
 
   whole : Ready (stepInput L)
   whole = ready M (L .tables .masses) (stepOn L nexts moveds work) whole-fine
@@ -132,7 +132,7 @@ module _ (L : Lagoon) (labels : List ℕ) (p : ℕ) (lent : Tables) (nexts : Lis
 
 -- a plain step that is accepted has passed the causes
 plain-fine : (L : Lagoon) (nexts : List ℕ) (moveds : List ℤ) (work : List ℕ) (x : Crossing) → plainAnswer L nexts moveds work ≡ accepted x
-    → verdict (meshIn L) (L .tables .masses) (stepOn L nexts moveds work) ≡ fine
+    → verdict (wholeMesh L) (L .tables .masses) (stepOn L nexts moveds work) ≡ fine
 unfolding stepAnswer
 plain-fine L nexts moveds work x e = both-fine _ _ e .0
 

@@ -18,7 +18,7 @@ use Rattle.model.specs.Causes.{fine, _andThen_, long, spacingFit, outsideFit, f
 use Rattle.model.specs.Accepted.{Ready}
 use Rattle.model.proofs.Verdicts.{all-fine, fine-all, need-met, each-fine, fine-each}
 use Rattle.model.proofs.Accepted.{Passed, passed, ready, ends-pass, flux-few}
-use Rattle.cutting_parts.specs.Cut.{Tables, Lagoon, meshIn, stepOn, stepInput, inPart, touches, partCells, isTurned, byCell, byFace, partOf}
+use Rattle.cutting_parts.specs.Cut.{Tables, Lagoon, wholeMesh, stepOn, stepInput, inPart, touches, partCells, isTurned, byCell, byFace, partOf}
 use Rattle.cutting_parts.specs.Parts.{TablesLong, LentAtCounts}
 use Rattle.lists.proofs.Marked.{count-most, picked-long}
 use Rattle.cutting_parts.proofs.Part.{Side, inside, overRim, atFirst, atSecond, incoming-part, outgoing-part}
@@ -30,17 +30,17 @@ cut-outside true q h = le-leb q maxConcentration h
 cut-outside false q h = refl
 
 module _ (L : Lagoon) (labels : List ℕ) (p : ℕ) (lent : Tables) (nexts : List ℕ) (moveds : List ℤ) (work : List ℕ)
-    (whole-fine : verdict (meshIn L) (L .tables .masses) (stepOn L nexts moveds work) ≡ fine)
+    (whole-fine : verdict (wholeMesh L) (L .tables .masses) (stepOn L nexts moveds work) ≡ fine)
     (some : 1 ≤ partCells L labels p) (lent-long : TablesLong L lent)
     (nexts′ : List ℕ) (moveds′ : List ℤ) (work′ : List ℕ) (room : LentAtCounts L nexts′ moveds′ work′) where
   abbrev part : Lagoon
   part = partOf L labels p lent
 
   abbrev M : Mesh
-  M = meshIn L
+  M = wholeMesh L
 
   abbrev N : Mesh
-  N = meshIn part
+  N = wholeMesh part
 
   abbrev field : List ℕ
   field = L .tables .masses

@@ -47,19 +47,19 @@ abbrev pub lagoonOf : ℕ → ℕ → Tables → Lagoon
 lagoonOf cells faces tables = record { cells = cells; faces = faces; tables = tables }
 
 module _ (L : Lagoon) where
-  abbrev pub meshIn : Mesh
-  meshIn = let t = L .tables in meshOf (L .cells) (L .faces) (t .volumes) (t .firsts) (t .seconds) (t .shares) (t .reaches)
+  abbrev pub wholeMesh : Mesh
+  wholeMesh = let t = L .tables in meshOf (L .cells) (L .faces) (t .volumes) (t .firsts) (t .seconds) (t .shares) (t .reaches)
 
   -- a step on it, which is lent tables to be filled; cutting is lent none of them
   abbrev pub stepOn : (nexts : List ℕ) (moveds : List ℤ) (work : List ℕ) → Call
   stepOn nexts moveds work = let t = L .tables in callOf (t .fluxes) (t .outsides) nexts moveds work (t .releases)
 
-  abbrev pub waterIn : Call
-  waterIn = stepOn [] [] []
+  abbrev pub wholeWater : Call
+  wholeWater = stepOn [] [] []
 
   -- the raised field with its water
   abbrev pub stepInput : StepInput
-  stepInput = inputOf meshIn (L .tables .masses) waterIn
+  stepInput = inputOf wholeMesh (L .tables .masses) wholeWater
 
   module _ (labels : List ℕ) (p : ℕ) where
     -- the cells with label p
@@ -68,10 +68,10 @@ module _ (L : Lagoon) where
 
     -- and the faces that touch one of them, with their first cell or with their second
     abbrev pub firstIn : ℕ → Bool
-    firstIn f = inPart (first meshIn f)
+    firstIn f = inPart (first wholeMesh f)
 
     abbrev pub secondIn : ℕ → Bool
-    secondIn f = not (atRim meshIn f) && inPart (second meshIn f)
+    secondIn f = not (atRim wholeMesh f) && inPart (second wholeMesh f)
 
     abbrev pub touches : ℕ → Bool
     touches f = firstIn f || secondIn f
@@ -89,29 +89,29 @@ module _ (L : Lagoon) where
     -- Of a face that touches the part: whether it is a face between the parts; whether it is turned, being on the side of its second cell; the
     -- end that is in the part, and the other.
     abbrev pub isCut : ℕ → Bool
-    isCut f = not (atRim meshIn f) && not (firstIn f && secondIn f)
+    isCut f = not (atRim wholeMesh f) && not (firstIn f && secondIn f)
 
     abbrev pub isTurned : ℕ → Bool
     isTurned f = not (firstIn f)
 
     abbrev pub near : ℕ → ℕ
-    near f = cond (isTurned f) (second meshIn f) (first meshIn f)
+    near f = cond (isTurned f) (second wholeMesh f) (first wholeMesh f)
 
     abbrev pub across : ℕ → ℕ
-    across f = cond (isTurned f) (first meshIn f) (second meshIn f)
+    across f = cond (isTurned f) (first wholeMesh f) (second wholeMesh f)
 
     -- what the part has of it: a cut face is a rim face with s and K 0; turned, its second cell becomes first and U is negated
     abbrev pub newFirst : ℕ → ℕ
     newFirst f = newCell (near f)
 
     abbrev pub newSecond : ℕ → ℕ
-    newSecond f = cond (atRim meshIn f || isCut f) rim (newCell (across f))
+    newSecond f = cond (atRim wholeMesh f || isCut f) rim (newCell (across f))
 
     abbrev pub newShare : ℕ → ℕ
-    newShare f = cond (isCut f) 0 (share meshIn f)
+    newShare f = cond (isCut f) 0 (share wholeMesh f)
 
     abbrev pub newReach : ℕ → ℕ
-    newReach f = cond (isCut f) 0 (reach meshIn f)
+    newReach f = cond (isCut f) 0 (reach wholeMesh f)
 
     abbrev pub newFlux : ℕ → ℤ
     newFlux f = turn (isTurned f) (flux stepInput f)
@@ -130,7 +130,7 @@ module _ (L : Lagoon) where
     -- the part, in tables that are lent for it
     abbrev pub partTables : Tables → Tables
     partTables lent = tablesOf
-        (byCell (volume meshIn) (lent .volumes))
+        (byCell (volume wholeMesh) (lent .volumes))
         (byFace newFirst (lent .firsts))
         (byFace newSecond (lent .seconds))
         (byFace newShare (lent .shares))
@@ -138,7 +138,7 @@ module _ (L : Lagoon) where
         (byCell (λ c. getD (L .tables .masses) c 0) (lent .masses))
         (byFace newFlux (lent .fluxes))
         (byFace newOutside (lent .outsides))
-        (byCell (release waterIn) (lent .releases))
+        (byCell (release wholeWater) (lent .releases))
 
     abbrev pub partOf : Tables → Lagoon
     partOf lent = lagoonOf partCells partFaces (partTables lent)

@@ -7,22 +7,22 @@ use lib.IntN.{ℤ, pos}
 use Rattle.signed.specs.Sign.{turn}
 use Rattle.model.specs.Causes.{Outcome, accepted, fine, workEntries}
 use Rattle.model.specs.Calls.{massIn, Crossing, crossingOf, plain, stepAnswer, nextTable, movedTable}
-use Rattle.cutting_parts.specs.Cut.{Tables, Lagoon, meshIn, stepOn, isTurned, byCell, byFace, partOf}
+use Rattle.cutting_parts.specs.Cut.{Tables, Lagoon, wholeMesh, stepOn, isTurned, byCell, byFace, partOf}
 use Rattle.cutting_parts.specs.Refusals.{cutVerdict}
 
 -- what a plain step on a lagoon answers and leaves
 module _ (L : Lagoon) (nexts : List ℕ) (moveds : List ℤ) (work : List ℕ) where
   abbrev pub plainAnswer : Outcome Crossing
-  plainAnswer = stepAnswer plain (meshIn L) (stepOn L nexts moveds work) (L .tables .masses)
+  plainAnswer = stepAnswer plain (wholeMesh L) (stepOn L nexts moveds work) (L .tables .masses)
 
   abbrev pub plainCrossing : Crossing
-  plainCrossing = crossingOf (meshIn L) (L .tables .masses) (stepOn L nexts moveds work)
+  plainCrossing = crossingOf (wholeMesh L) (L .tables .masses) (stepOn L nexts moveds work)
 
   abbrev pub plainNext : List ℕ
-  plainNext = nextTable plain (meshIn L) (stepOn L nexts moveds work) (L .tables .masses)
+  plainNext = nextTable plain (wholeMesh L) (stepOn L nexts moveds work) (L .tables .masses)
 
   abbrev pub plainMoved : List ℤ
-  plainMoved = movedTable plain (meshIn L) (stepOn L nexts moveds work) (L .tables .masses)
+  plainMoved = movedTable plain (wholeMesh L) (stepOn L nexts moveds work) (L .tables .masses)
 
 -- the tables of a lagoon or a part, lent at the whole's counts
 pub record TablesLong (L : Lagoon) (t : Tables) : Type 0 where

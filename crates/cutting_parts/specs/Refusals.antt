@@ -5,8 +5,8 @@ use mathlib.Core.List.{List, [], _∷_}
 use lib.ListN.{length, getD}
 use lib.Dec.{leb}
 use Rattle.model.specs.Mesh.{ceiling}
-use Rattle.model.specs.Causes.{Outcome, accepted, Verdict, _andThen_, inTurn, taken, long, each, counts, meshValues, fieldValues, raisedValues, stepValues}
-use Rattle.cutting_parts.specs.Cut.{Tables, Lagoon, meshIn, waterIn, partCells, partFaces, partTables}
+use Rattle.model.specs.Causes.{Outcome, accepted, Verdict, _andThen_, inTurn, granted, long, each, counts, meshValues, fieldValues, raisedValues, stepValues}
+use Rattle.cutting_parts.specs.Cut.{Tables, Lagoon, wholeMesh, wholeWater, partCells, partFaces, partTables}
 
 -- the labels: 0 and 1
 abbrev pub parts : ℕ
@@ -67,13 +67,13 @@ module _ (L : Lagoon) (labels : List ℕ) where
 
     abbrev pub cutCauses : List Verdict
     cutCauses =
-        counts (meshIn L)
+        counts (wholeMesh L)
         ∷ cutTables
-        ∷ meshValues ceiling (meshIn L)
+        ∷ meshValues ceiling (wholeMesh L)
         ∷ labelValues
-        ∷ fieldValues (meshIn L) (L .tables .masses)
-        ∷ raisedValues (meshIn L) (L .tables .masses) (waterIn L)
-        ∷ stepValues ceiling (meshIn L) (L .tables .masses) (waterIn L)
+        ∷ fieldValues (wholeMesh L) (L .tables .masses)
+        ∷ raisedValues (wholeMesh L) (L .tables .masses) (wholeWater L)
+        ∷ stepValues ceiling (wholeMesh L) (L .tables .masses) (wholeWater L)
         ∷ []
 
     unfoldable pub cutVerdict : Verdict
@@ -85,4 +85,4 @@ module _ (L : Lagoon) (labels : List ℕ) where
 
     -- and the tables of part p are written, where nothing is refused
     abbrev pub cutInto : ℕ → Tables → Tables
-    cutInto p lent = taken cutVerdict (partTables L labels p lent) lent
+    cutInto p lent = granted cutVerdict (partTables L labels p lent) lent

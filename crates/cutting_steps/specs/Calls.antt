@@ -10,7 +10,7 @@ use Rattle.model.specs.Causes.{accepted}
 use Rattle.model.specs.Calls.{massIn, Crossing, plain}
 use Rattle.transport.specs.Promise.{stepSaid, StepPromise}
 use Rattle.transport.specs.declared.StepAnswer.{StepAnswer}
-use Rattle.cutting_parts.specs.Cut.{Tables, Lagoon, lagoonOf, meshIn, stepOn, isTurned, byCell, byFace}
+use Rattle.cutting_parts.specs.Cut.{Tables, Lagoon, lagoonOf, wholeMesh, stepOn, isTurned, byCell, byFace}
 use Rattle.cutting_parts.specs.Refusals.{Sizes}
 use Rattle.cutting_parts.specs.Parts.{plainCrossing, LentAtCounts}
 use Rattle.cutting.specs.Promise.{cutSaid, CutPromise}
@@ -29,7 +29,7 @@ pub record Stepped (L : Lagoon) (nexts : List ℕ) (moveds : List ℤ) (work : L
   pub next : List ℕ
   pub moved : List ℤ
   pub worked : List ℕ
-  pub promised : StepPromise plain (meshIn L) (L .tables .masses) (stepOn L nexts moveds work) answer next moved worked
+  pub promised : StepPromise plain (wholeMesh L) (L .tables .masses) (stepOn L nexts moveds work) answer next moved worked
 
 -- The step on part p of L, beside the whole's that left `next` and `moved`: accepted, with the whole's masses at the old numbers, a turned face's negated.
 pub record StepAgrees (L : Lagoon) (labels : List ℕ) (p : ℕ) (next : List ℕ) (moved : List ℤ) (part : Lagoon)

@@ -7,7 +7,7 @@ use native.Mathlib.Numerals.{add-one}
 use native.Mathlib.Omega.{arith}
 use lib.ListN.{length, set, getD, replicate, length-append}
 use Rattle.lists.specs.Marked.{count}
-use Rattle.model.specs.Causes.{accepted, refused, Verdict, fine, _andThen_, taken}
+use Rattle.model.specs.Causes.{accepted, refused, Verdict, fine, _andThen_, granted}
 use Rattle.model.specs.Answers.{said}
 use Rattle.model.specs.declared.Answer.{Answer}
 use Rattle.board.specs.Board.{boardSize, unused, boardVerdict, boardEntries, entriesOf, BoardAfter, BoardIs}
@@ -65,7 +65,7 @@ board-shown a x e = rw e
 abbrev shown : ℕ → List Entry → Shown
 shown used entries = record { used = used; entries = entries }
 
-pub board-said : (v w : Verdict) (used used′ : ℕ) (es es′ none : List Entry) → v ≡ w → used ≡ taken w used′ 0 → es ≡ taken w es′ none
+pub board-said : (v w : Verdict) (used used′ : ℕ) (es es′ none : List Entry) → v ≡ w → used ≡ granted w used′ 0 → es ≡ granted w es′ none
     → (v andThen accepted (shown used es)) ≡ (w andThen accepted (shown used′ es′))
 unfolding _andThen_
 board-said v (accepted t) used used′ es es′ none e u n = rw (e, u, n)

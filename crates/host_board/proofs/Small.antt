@@ -5,12 +5,12 @@ use native.Mathlib.Omega.{arith}
 use Rattle.model.specs.Mesh.{ceiling}
 use Rattle.model.specs.Causes.{cellsOnly, counts, meshTables, fieldTable, meshValues, fieldValues}
 use Rattle.public_marks.specs.Marks.{marksLong, marksGood}
-use Rattle.public_board.specs.Public.{publicVerdict}
+use Rattle.public_board.specs.Public.{publicBoardVerdict}
 use Rattle.host_answer.proofs.Small.{Small, small-need, small-each, small-after}
 use Rattle.host_answer.proofs.Tables.{few-of, counts-small, mesh-tables-small, mesh-values-small, field-table-small, field-values-small}
 
-pub public-small : (volumes masses marks : List ℕ) (cells : ℕ) → Small (publicVerdict volumes masses marks cells)
-unfolding publicVerdict
+pub public-small : (volumes masses marks : List ℕ) (cells : ℕ) → Small (publicBoardVerdict volumes masses marks cells)
+unfolding publicBoardVerdict
 public-small volumes masses marks cells =
     let M = cellsOnly cells volumes in
     small-after (counts M ∷ meshTables M ∷ fieldTable M masses ∷ marksLong marks cells ∷ meshValues ceiling M ∷ fieldValues M masses

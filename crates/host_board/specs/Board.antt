@@ -10,7 +10,7 @@ use Rattle.public_marks.specs.Marks.{isOpen}
 use Rattle.board.specs.Board.{boardSize, unused, boardVerdict, boardEntries}
 use Rattle.board.specs.declared.Entry.{Entry}
 use Rattle.board.specs.declared.BoardAnswer.{BoardAnswer}
-use Rattle.public_board.specs.Public.{openEntries, publicVerdict}
+use Rattle.public_board.specs.Public.{openEntries, publicBoardVerdict}
 use Rattle.host_answer.specs.Found.{Answered}
 
 -- the numbers of the first n entries
@@ -41,5 +41,5 @@ BoardFromC cells volumes masses = Answered shownNumbers
 
 abbrev pub PublicBoardFromC : (cells : ℕ) (volumes masses marks found : List ℕ) (r : ℕ) (found′ : List ℕ) → Type 0
 PublicBoardFromC cells volumes masses marks = Answered shownNumbers
-    (publicVerdict volumes masses marks cells
+    (publicBoardVerdict volumes masses marks cells
     andThen accepted (record { used = min boardSize (count cells (isOpen marks)); entries = openEntries volumes masses marks cells }))

@@ -21,7 +21,7 @@ use Rattle.host_taking.specs.declared.FieldTaken.{FieldTaken}
 use Rattle.host_taking.specs.declared.FieldTaken.the-variants.{Taken}
 use Rattle.host_taking.proofs.Held.{tested-fine, cells-as}
 use Rattle.host_taking.proofs.Small.{field-tested-small}
-use Rattle.host_boards.specs.Boards.{boardFound, publicFound}
+use Rattle.host_boards.specs.Boards.{boardFound, publicBoardFound}
 
 -- what is given after a part that is fine
 giving-past : {A : Type 0} {u : Verdict} (v : Verdict) (x : A) → u ≡ fine → (v andThen accepted x) ≡ (u andThen v andThen accepted x)
@@ -35,7 +35,7 @@ module _ (mesh field : List ℕ) {a : FieldTaken} {volumes masses : List ℕ} (t
       board-said _ _ _ _ _ _ _ (p .verdict-is) (p .used-is) (p .entries-are)
       ∙ giving-past _ _ (tested-fine mesh field (t .answer) d)
 
-  pub public-made : (marks : List ℕ) → PublicBoardIs (take (n .cells) volumes) (take (n .cells) masses) marks (n .cells) b → boardSaid b ≡ publicFound mesh
+  pub public-made : (marks : List ℕ) → PublicBoardIs (take (n .cells) volumes) (take (n .cells) masses) marks (n .cells) b → boardSaid b ≡ publicBoardFound mesh
       field marks
   public-made marks q =
       let p = cells-as mesh field t d (λ m vs ms. PublicBoardIs vs ms marks m b) q in
@@ -48,6 +48,6 @@ module _ (mesh field : List ℕ) where
   board-fits = small-number _ (small-giving _ (small-and (field-tested-small mesh field)
       (mesh-field-small (cellsOnly (meshIn mesh .cells) (meshIn mesh .volumes)) (fieldIn mesh field))))
 
-  pub public-fits : (marks : List ℕ) → numberOf (publicFound mesh field marks) < 2 ^ 64
+  pub public-fits : (marks : List ℕ) → numberOf (publicBoardFound mesh field marks) < 2 ^ 64
   public-fits marks = small-number _ (small-giving _ (small-and (field-tested-small mesh field)
       (public-small (meshIn mesh .volumes) (fieldIn mesh field) marks (meshIn mesh .cells))))

@@ -7,7 +7,7 @@ use Rattle.model.specs.Causes.{Outcome, accepted, _andThen_}
 use Rattle.record_reading.specs.Reading.{meshIn}
 use Rattle.public_marks.specs.Marks.{isOpen}
 use Rattle.board.specs.Board.{boardSize, boardVerdict, boardEntries}
-use Rattle.public_board.specs.Public.{openEntries, publicVerdict}
+use Rattle.public_board.specs.Public.{openEntries, publicBoardVerdict}
 use Rattle.host_board.specs.Board.{Shown}
 use Rattle.host_taking.specs.Taken.{fieldTested, fieldIn}
 
@@ -21,8 +21,8 @@ module _ (mesh field : List ℕ) where
       })
 
   -- and that of the public, ranked among the open cells only
-  abbrev pub publicFound : List ℕ → Outcome Shown
-  publicFound marks = fieldTested mesh field andThen publicVerdict (meshIn mesh .volumes) (fieldIn mesh field) marks (meshIn mesh .cells)
+  abbrev pub publicBoardFound : List ℕ → Outcome Shown
+  publicBoardFound marks = fieldTested mesh field andThen publicBoardVerdict (meshIn mesh .volumes) (fieldIn mesh field) marks (meshIn mesh .cells)
       andThen accepted (record {
         used = min boardSize (count (meshIn mesh .cells) (isOpen marks));
         entries = openEntries (meshIn mesh .volumes) (fieldIn mesh field) marks (meshIn mesh .cells);

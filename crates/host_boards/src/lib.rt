@@ -6,7 +6,7 @@ use host_taking::take_cells;
 use model::RUN_CELLS;
 ghost use Rattle.host_answer.specs.Found.{Answered};
 ghost use Rattle.host_board.specs.Board.{shownNumbers};
-ghost use Rattle.host_boards.specs.Boards.{boardFound, publicFound};
+ghost use Rattle.host_boards.specs.Boards.{boardFound, publicBoardFound};
 
 // The growers' board.
 #[no_mangle]
@@ -34,7 +34,7 @@ pub extern "C" fn lagoon_public_board(
     marks: &[u64],
     found: &mut [u64],
 ) -> u64
-    ensures { λ r. ⌜ Answered shownNumbers (publicFound (now (mesh .entry)) (now (field .entry)) (now (marks .entry)))
+    ensures { λ r. ⌜ Answered shownNumbers (publicBoardFound (now (mesh .entry)) (now (field .entry)) (now (marks .entry)))
         (now (found .entry)) r (now (found .exit)) ⌝ }
 {
     let mut volumes = [0u64; RUN_CELLS];

@@ -13,7 +13,7 @@ use Rattle.record_reading.specs.Reading.{meshIn}
 use Rattle.page.specs.Answers.{pageSaid, verdictWith, PageIs}
 use Rattle.page.specs.declared.PageAnswer.{PageAnswer}
 use Rattle.page.specs.declared.PageAnswer.the-variants as page-answer
-use Rattle.public_page.specs.Public.{publicVerdict, PublicPageIs}
+use Rattle.public_page.specs.Public.{publicPageVerdict, PublicPageIs}
 use Rattle.host_answer.specs.Number.{numberOf}
 use Rattle.host_answer.specs.Found.{alone, Answered}
 use Rattle.host_answer.proofs.Small.{Small, small-and, small-need, small-each, small-fine, small-giving, small-number}
@@ -25,7 +25,7 @@ use Rattle.host_taking.specs.declared.FieldTaken.{FieldTaken}
 use Rattle.host_taking.specs.declared.FieldTaken.the-variants.{Taken}
 use Rattle.host_taking.proofs.Held.{tested-fine, cells-as}
 use Rattle.host_taking.proofs.Small.{few, field-tested-small}
-use Rattle.host_cells.specs.Cells.{Printing, PrintedFromC, pageFound, pageLength, publicFound, publicIn, PageTaking, PublicTaking}
+use Rattle.host_cells.specs.Cells.{Printing, PrintedFromC, pageFound, pageLength, publicPageFound, publicIn, PageTaking, PublicTaking}
 
 pub printing-refused : {v : Verdict} (n : ℕ) (text bytes : List ℕ) (r : Refusal) → v ≡ told r → Printing v n text bytes (page-answer.Refused r) bytes
 printing-refused n text bytes r e = record { answer = sym (out _ e); bytes-after = rw e }
@@ -78,8 +78,8 @@ module _ (mesh field : List ℕ) (page : ℕ) (h : page < 2 ^ 32) where
   pub page-fits : (room : ℕ) → numberOf (pageFound mesh field page room andThen accepted (pageLength mesh field page)) < 2 ^ 64
   page-fits room = small-number _ (small-giving _ (small-and (field-tested-small mesh field) (with-small mesh field (small-fine tt) page room h)))
 
-  pub public-fits : (marks : List ℕ) (room : ℕ) → numberOf (publicFound mesh field marks page room andThen accepted (length (publicIn mesh field marks
+  pub public-fits : (marks : List ℕ) (room : ℕ) → numberOf (publicPageFound mesh field marks page room andThen accepted (length (publicIn mesh field marks
       page))) < 2 ^ 64
-  unfolding publicVerdict
+  unfolding publicPageVerdict
   public-fits marks room = small-number _ (small-giving _ (small-and (field-tested-small mesh field)
       (small-and (with-small mesh field (small-need 2 19 _ (omega arith)) page room h) (small-each 27 _ _ (omega (arith, few mesh .0))))))

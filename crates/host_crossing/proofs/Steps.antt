@@ -16,7 +16,7 @@ use Rattle.model.specs.StepTaken.{takenSaid}
 use Rattle.taking.specs.Taking.{stepIn, printedOf, StepTaking}
 use Rattle.host_answer.specs.Number.{numberOf}
 use Rattle.host_answer.proofs.Small.{small-and, small-giving, small-number}
-use Rattle.host_taking.specs.Taken.{fieldTested, fieldIn, stepTested, FieldTaking}
+use Rattle.host_taking.specs.Taken.{fieldTested, fieldIn, stepTested, RecordsTaking}
 use Rattle.host_taking.specs.declared.FieldCounts.{FieldCounts}
 use Rattle.host_taking.specs.declared.FieldTaken.{FieldTaken}
 use Rattle.host_taking.specs.declared.FieldTaken.the-variants.{Taken}
@@ -28,7 +28,7 @@ module _ (mesh field step : List ℕ) where
   pub step-untaken : (r : Refusal) → fieldTested mesh field ≡ told r → takenSaid (step-taken.Refused r) ≡ stepFound mesh field step
   step-untaken r e = sym (out _ (out _ e))
 
-  pub step-made : {a : FieldTaken} {volumes firsts seconds shares reaches masses : List ℕ} (t : FieldTaking mesh field a volumes firsts seconds shares
+  pub step-made : {a : FieldTaken} {volumes firsts seconds shares reaches masses : List ℕ} (t : RecordsTaking mesh field a volumes firsts seconds shares
       reaches masses) {n : FieldCounts} (d : a ≡ Taken n)
       {r : StepTaken} {masses′ : List ℕ}
       → StepTaking (n .width)

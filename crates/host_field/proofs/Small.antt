@@ -10,7 +10,7 @@ use Rattle.model.proofs.Verdicts.{all-fine}
 use Rattle.public_marks.specs.Marks.{marksLong}
 use Rattle.page.specs.Page.{restPlaces, pages, pageBytes}
 use Rattle.page.specs.Answers.{verdictWith}
-use Rattle.public_page.specs.Public.{publicVerdict}
+use Rattle.public_page.specs.Public.{publicPageVerdict}
 use Rattle.host_answer.specs.Number.{causeStep}
 use Rattle.host_answer.proofs.Small.{Small, small-then, small-need, small-each, small-after}
 use Rattle.host_answer.proofs.Tables.{few-of, counts-small, mesh-tables-small, mesh-values-small, field-table-small, field-values-small}
@@ -58,8 +58,9 @@ module _ (further : Verdict) (volumes masses : List ℕ) (cells page room : ℕ)
   unfolding verdictWith
   cells-few e = few-of (cellsOnly cells volumes) (all-fine pageCauses e .0) .0
 
-pub public-page-small : (volumes masses marks : List ℕ) (cells page room : ℕ) → page < causeStep → Small (publicVerdict volumes masses marks cells page room)
-unfolding publicVerdict
+pub public-page-small : (volumes masses marks : List ℕ) (cells page room : ℕ) → page < causeStep
+    → Small (publicPageVerdict volumes masses marks cells page room)
+unfolding publicPageVerdict
 public-page-small volumes masses marks cells page room h = small-then _ _
     (page-small (marksLong marks cells) volumes masses cells page room (small-need 2 19 _ (omega arith)) h)
     (λ e. small-each 27 cells _ (omega (arith, cells-few (marksLong marks cells) volumes masses cells page room e)))

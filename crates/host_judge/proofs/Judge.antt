@@ -29,7 +29,7 @@ use Rattle.host_tables.specs.Steps.{crossed}
 use Rattle.host_answer.proofs.Answers.{answered-as}
 use Rattle.host_answer.proofs.Tables.{claim-small}
 use Rattle.host_answer.proofs.Small.{Small, small-and, small-need, small-giving, small-number}
-use Rattle.host_taking.specs.Taken.{fieldTested, fieldIn, FieldTaking}
+use Rattle.host_taking.specs.Taken.{fieldTested, fieldIn, RecordsTaking}
 use Rattle.host_taking.specs.declared.FieldCounts.{FieldCounts}
 use Rattle.host_taking.specs.declared.FieldTaken.{FieldTaken}
 use Rattle.host_taking.specs.declared.FieldTaken.the-variants.{Taken}
@@ -69,7 +69,7 @@ module _ (mesh field step : List ℕ) (claim : List ℤ) (bytes : List ℕ) wher
   pub records-refused : {r : Refusal} → fieldTested mesh field ≡ told r → JudgedTaking mesh field step claim bytes (Refused r) bytes
   records-refused {r = r} e = written-refused _ (widthIn mesh) (meshIn mesh .cells) _ bytes r (out _ e)
 
-  pub records-taken : {a : FieldTaken} {volumes firsts seconds shares reaches masses : List ℕ} (t : FieldTaking mesh field a volumes firsts seconds shares
+  pub records-taken : {a : FieldTaken} {volumes firsts seconds shares reaches masses : List ℕ} (t : RecordsTaking mesh field a volumes firsts seconds shares
       reaches masses)
       {n : FieldCounts} (d : a ≡ Taken n) {r : StepAnswer} {bytes′ : List ℕ}
       → JudgedOn (n .width)

@@ -8,7 +8,7 @@ use lib.ListN.{length, getD}
 use Rattle.lists.specs.Table.{over}
 use Rattle.lists.proofs.Tables.{length-table, getD-table}
 use Rattle.model.specs.Mesh.{Mesh}
-use Rattle.model.specs.Causes.{accepted, refused, Verdict, fine, _andThen_, taken, verdict}
+use Rattle.model.specs.Causes.{accepted, refused, Verdict, fine, _andThen_, granted, verdict}
 use Rattle.model.specs.Claims.{claimVerdict, claimed}
 use Rattle.model.specs.Calls.{Crossing, crossingOf, plain, judged}
 use Rattle.model.proofs.Verdicts.{both-fine}
@@ -54,7 +54,7 @@ over-same v v′ w cells next next′ bytes e same = go (withRoom v w cells (len
     ∙ ap (λ (u : Verdict). recordOver u w cells next′ bytes) e
   where
     go : (u : Verdict) → withRoom v w cells (length bytes) ≡ u
-        → taken u (over (fieldRecord (fieldKind w) cells next) bytes) bytes ≡ taken u (over (fieldRecord (fieldKind w) cells next′) bytes) bytes
+        → granted u (over (fieldRecord (fieldKind w) cells next) bytes) bytes ≡ granted u (over (fieldRecord (fieldKind w) cells next′) bytes) bytes
     go (accepted t) q = ap (λ (xs : List ℕ). over (fieldRecord (fieldKind w) cells xs) bytes) (same (both-fine _ _ q .0))
     go (refused i j) q = refl
 

@@ -31,7 +31,7 @@ use Rattle.record_writing.specs.declared.WriteAnswer.{WriteAnswer}
 use Rattle.record_writing.specs.declared.WriteAnswer.the-variants as write
 use Rattle.model.proofs.Parts.{PartRead, read-part}
 use Rattle.taking_mesh.proofs.MeshLaws.{mesh-small}
-use Rattle.host_taking.specs.Taken.{FieldTaking}
+use Rattle.host_taking.specs.Taken.{RecordsTaking}
 use Rattle.host_taking.specs.declared.FieldCounts.{FieldCounts}
 use Rattle.host_taking.specs.declared.FieldTaken.{FieldTaken}
 use Rattle.host_taking.specs.declared.FieldTaken.the-variants.{Taken}
@@ -130,7 +130,7 @@ record-within bs = go (widthIn bs) refl
     go Wide e = refl
 
 pub within-taken : (mesh field : List ℕ) {a : FieldTaken} {volumes firsts seconds shares reaches masses : List ℕ}
-    (t : FieldTaking mesh field a volumes firsts seconds shares reaches masses) {n : FieldCounts} (d : a ≡ Taken n)
+    (t : RecordsTaking mesh field a volumes firsts seconds shares reaches masses) {n : FieldCounts} (d : a ≡ Taken n)
     → meshValues (mostOf (n .width)) (meshOf (n .cells) (n .faces) (take (n .cells) volumes) (take (n .faces) firsts) (take (n .faces) seconds)
     (take (n .faces) shares) (take (n .faces) reaches))
     ≡ meshValues ceiling (meshOf (n .cells) (n .faces) (take (n .cells) volumes) (take (n .faces) firsts) (take (n .faces) seconds) (take (n .faces)

@@ -7,7 +7,7 @@ use lib.ListN.{length}
 use Rattle.lists.specs.Table.{table, over}
 use Rattle.model.specs.Mesh.{Mesh, updated}
 use Rattle.model.specs.Step.{mass}
-use Rattle.model.specs.Causes.{accepted, Verdict, _andThen_, taken, Call, inputOf, bytesLong}
+use Rattle.model.specs.Causes.{accepted, Verdict, _andThen_, granted, Call, inputOf, bytesLong}
 use Rattle.model.specs.Calls.{Crossing, Scheme, crossingOf}
 use Rattle.transport.specs.Promise.{stepSaid}
 use Rattle.transport.specs.declared.StepAnswer.{StepAnswer}
@@ -20,7 +20,7 @@ module _ (v : Verdict) (w : Width) (cells : ℕ) where
   withRoom room = v andThen bytesLong (fieldLength (fieldKind w) cells) room
 
   abbrev pub recordOver : List ℕ → List ℕ → List ℕ
-  recordOver next bytes = taken (withRoom (length bytes)) (over (fieldRecord (fieldKind w) cells next) bytes) bytes
+  recordOver next bytes = granted (withRoom (length bytes)) (over (fieldRecord (fieldKind w) cells next) bytes) bytes
 
 -- a step of which v is found before the room
 pub record NextWritten (v : Verdict) (x : Crossing) (w : Width) (cells : ℕ) (next : List ℕ) (bytes : List ℕ) (r : StepAnswer) (bytes′ : List ℕ) : Type 0 where

@@ -3,7 +3,7 @@ use Prim.Native.Nat.{ℕ}
 use mathlib.Core.Path.{_≡_}
 use mathlib.Core.List.{List, [], _∷_}
 use lib.IntN.{ℤ}
-use Rattle.model.specs.Causes.{accepted, _andThen_, taken}
+use Rattle.model.specs.Causes.{accepted, _andThen_, granted}
 use Rattle.charge_totals.specs.Totals.{addVerdict, addedTotals}
 use Rattle.charge.specs.Answers.{Bill, chargeVerdict, billOf}
 use Rattle.host_answer.specs.Number.{numberOf}
@@ -12,7 +12,7 @@ use Rattle.host_answer.specs.Found.{Answered}
 -- a refusal leaves the totals as they were
 pub record AddFromC (seconds : List ℕ) (moved : List ℤ) (totals : List ℕ) (faces : ℕ) (r : ℕ) (totals′ : List ℕ) : Type 0 where
   pub number : r ≡ numberOf (addVerdict seconds moved totals faces)
-  pub totals-after : totals′ ≡ taken (addVerdict seconds moved totals faces) (addedTotals seconds moved totals faces) totals
+  pub totals-after : totals′ ≡ granted (addVerdict seconds moved totals faces) (addedTotals seconds moved totals faces) totals
 
 -- cents, then the new remainder
 abbrev pub billed : Bill → List ℕ

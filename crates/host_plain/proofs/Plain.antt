@@ -27,7 +27,7 @@ use Rattle.taking.proofs.StepLaws.{fluxes-part, outsides-part, releases-part}
 use Rattle.host_answer.specs.Number.{numberOf, refusalNumber}
 use Rattle.host_answer.proofs.Answers.{refusal-of}
 use Rattle.host_answer.proofs.Small.{small-and, small-need, small-giving, small-number}
-use Rattle.host_taking.specs.Taken.{fieldTested, fieldIn, stepTested, FieldTaking}
+use Rattle.host_taking.specs.Taken.{fieldTested, fieldIn, stepTested, RecordsTaking}
 use Rattle.host_taking.specs.declared.FieldCounts.{FieldCounts}
 use Rattle.host_taking.specs.declared.FieldTaken.{FieldTaken}
 use Rattle.host_taking.specs.declared.FieldTaken.the-variants.{Taken}
@@ -68,7 +68,7 @@ module _ (mesh field step bytes : List ℕ) where
   pub records-refused : {r : Refusal} → fieldTested mesh field ≡ told r → PlainTaking mesh field step bytes (Refused r) bytes
   records-refused {r = r} e = written-refused _ (widthIn mesh) (meshIn mesh .cells) _ bytes r (out _ e)
 
-  pub records-taken : {a : FieldTaken} {volumes firsts seconds shares reaches masses : List ℕ} (t : FieldTaking mesh field a volumes firsts seconds shares
+  pub records-taken : {a : FieldTaken} {volumes firsts seconds shares reaches masses : List ℕ} (t : RecordsTaking mesh field a volumes firsts seconds shares
       reaches masses)
       {n : FieldCounts} (d : a ≡ Taken n) {r : StepAnswer} {bytes′ : List ℕ}
       → PlainOn (n .width)

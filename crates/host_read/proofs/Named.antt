@@ -8,13 +8,13 @@ use Rattle.record_reading.specs.declared.StepRead.{StepRead}
 use Rattle.record_reading.specs.Answers.{stepReadSaid, StepReading}
 use Rattle.host_answer.specs.Found.{alone, Answered}
 use Rattle.host_answer.proofs.Answers.{answered-as}
-use Rattle.host_read.specs.Read.{stepFinds, StepFromC}
+use Rattle.host_read.specs.Read.{stepFinds, StepReadFromC}
 
 pub step-named : {w v : Width} → w ≡ v → {cells faces : ℕ} {seconds bs : List ℕ} {fluxes : List ℤ} {outsides releases : List ℕ} {a : StepRead}
     {fluxes′ : List ℤ} {outsides′ releases′ found : List ℕ} {r : ℕ} {found′ : List ℕ}
     → StepReading w (stepFinds w cells faces seconds bs fluxes outsides releases) cells faces seconds bs fluxes outsides releases a fluxes′ outsides′ releases′
     → Answered alone (stepReadSaid w a) found r found′
-    → StepFromC (stepFinds v cells faces seconds bs fluxes outsides releases) cells faces seconds bs fluxes outsides releases
+    → StepReadFromC (stepFinds v cells faces seconds bs fluxes outsides releases) cells faces seconds bs fluxes outsides releases
     found r fluxes′ outsides′ releases′ found′
 step-named e h a = rw (← e) (record {
   answer = answered-as alone _ (h .answer) a;

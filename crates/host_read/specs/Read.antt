@@ -9,7 +9,7 @@ use lib.IntN.{ℤ}
 use lib.ListN.{length}
 use Rattle.lists.specs.Table.{over}
 use Rattle.model.specs.Mesh.{maxCells, maxFaces}
-use Rattle.model.specs.Causes.{Outcome, taken}
+use Rattle.model.specs.Causes.{Outcome, granted}
 use Rattle.record_heads.specs.declared.Width.{Width}
 use Rattle.record_heads.specs.declared.Width.the-variants.{Narrow, Wide}
 use Rattle.record_reading.specs.declared.MeshCounts.{MeshCounts}
@@ -33,26 +33,26 @@ abbrev pub meshFinds : (bs volumes firsts seconds shares reaches : List ℕ) →
 meshFinds bs volumes firsts seconds shares reaches = meshRead maxCells maxFaces bs (length volumes) (length firsts) (length seconds) (length shares)
     (length reaches)
 
-pub record MeshFromC (o : Outcome MeshCounts) (bs volumes firsts seconds shares reaches found : List ℕ) (r : ℕ)
+pub record MeshReadFromC (o : Outcome MeshCounts) (bs volumes firsts seconds shares reaches found : List ℕ) (r : ℕ)
     (volumes′ firsts′ seconds′ shares′ reaches′ found′ : List ℕ) : Type 0 where
   pub answer : Answered countsFound o found r found′
-  pub volumes-read : volumes′ ≡ taken o (over (volumesIn bs) volumes) volumes
-  pub firsts-read : firsts′ ≡ taken o (over (firstsIn bs) firsts) firsts
-  pub seconds-read : seconds′ ≡ taken o (over (secondsIn bs) seconds) seconds
-  pub shares-read : shares′ ≡ taken o (over (sharesIn bs) shares) shares
-  pub reaches-read : reaches′ ≡ taken o (over (reachesIn bs) reaches) reaches
+  pub volumes-read : volumes′ ≡ granted o (over (volumesIn bs) volumes) volumes
+  pub firsts-read : firsts′ ≡ granted o (over (firstsIn bs) firsts) firsts
+  pub seconds-read : seconds′ ≡ granted o (over (secondsIn bs) seconds) seconds
+  pub shares-read : shares′ ≡ granted o (over (sharesIn bs) shares) shares
+  pub reaches-read : reaches′ ≡ granted o (over (reachesIn bs) reaches) reaches
 
-pub record FieldFromC (w : Width) (cells : ℕ) (bs masses : List ℕ) (r : ℕ) (masses′ : List ℕ) : Type 0 where
+pub record FieldReadFromC (w : Width) (cells : ℕ) (bs masses : List ℕ) (r : ℕ) (masses′ : List ℕ) : Type 0 where
   pub number : r ≡ numberOf (fieldRead w cells bs (length masses))
-  pub masses-read : masses′ ≡ taken (fieldRead w cells bs (length masses)) (over (massesIn bs cells) masses) masses
+  pub masses-read : masses′ ≡ granted (fieldRead w cells bs (length masses)) (over (massesIn bs cells) masses) masses
 
 -- and that of a step
 abbrev pub stepFinds : Width → (cells faces : ℕ) (seconds bs : List ℕ) (fluxes : List ℤ) (outsides releases : List ℕ) → Outcome ℕ
 stepFinds w cells faces seconds bs fluxes outsides releases = stepRead w cells faces seconds bs (length fluxes) (length outsides) (length releases)
 
-pub record StepFromC (o : Outcome ℕ) (cells faces : ℕ) (seconds bs : List ℕ) (fluxes : List ℤ) (outsides releases found : List ℕ)
+pub record StepReadFromC (o : Outcome ℕ) (cells faces : ℕ) (seconds bs : List ℕ) (fluxes : List ℤ) (outsides releases found : List ℕ)
     (r : ℕ) (fluxes′ : List ℤ) (outsides′ releases′ found′ : List ℕ) : Type 0 where
   pub answer : Answered alone o found r found′
-  pub fluxes-read : fluxes′ ≡ taken o (over (fluxesIn bs faces) fluxes) fluxes
-  pub outsides-read : outsides′ ≡ taken o (over (outsidesIn bs faces seconds) outsides) outsides
-  pub releases-read : releases′ ≡ taken o (over (releasesIn bs cells faces seconds) releases) releases
+  pub fluxes-read : fluxes′ ≡ granted o (over (fluxesIn bs faces) fluxes) fluxes
+  pub outsides-read : outsides′ ≡ granted o (over (outsidesIn bs faces seconds) outsides) outsides
+  pub releases-read : releases′ ≡ granted o (over (releasesIn bs cells faces seconds) releases) releases

@@ -11,7 +11,7 @@ ghost use Prim.Native.Nat.{_<_, _^_};
 ghost use Rattle.record_reading.specs.Answers.{meshSaid, stepReadSaid};
 ghost use Rattle.host_answer.specs.Number.{numberOf};
 ghost use Rattle.host_answer.specs.Found.{alone, Answered};
-ghost use Rattle.host_read.specs.Read.{widthNumber, widthNamed, countsFound, meshFinds, MeshFromC, FieldFromC, stepFinds, StepFromC};
+ghost use Rattle.host_read.specs.Read.{widthNumber, widthNamed, countsFound, meshFinds, MeshReadFromC, FieldReadFromC, stepFinds, StepReadFromC};
 
 // The number of a width: 0 narrow, 1 wide.
 pub fn width_number(width: Width) -> u64
@@ -64,7 +64,7 @@ pub extern "C" fn lagoon_read_mesh(
     reaches: &mut [u64],
     found: &mut [u64],
 ) -> u64
-    ensures { λ r. ⌜ MeshFromC
+    ensures { λ r. ⌜ MeshReadFromC
         (meshFinds (now (bytes .entry)) (now (volumes .entry)) (now (firsts .entry)) (now (seconds .entry)) (now (shares .entry)) (now (reaches .entry)))
         (now (bytes .entry))
         (now (volumes .entry)) (now (firsts .entry)) (now (seconds .entry)) (now (shares .entry)) (now (reaches .entry)) (now (found .entry))
@@ -92,7 +92,7 @@ pub extern "C" fn lagoon_read_field(
     bytes: &[u8],
     masses: &mut [u64],
 ) -> u64
-    ensures { λ r. ⌜ FieldFromC (widthNamed width) cells (now (bytes .entry)) (now (masses .entry)) r (now (masses .exit)) ⌝ }
+    ensures { λ r. ⌜ FieldReadFromC (widthNamed width) cells (now (bytes .entry)) (now (masses .entry)) r (now (masses .exit)) ⌝ }
 {
     let answer = record_reading::read_field(width_named(width), cells, bytes, masses);
     answer_number(answer)
@@ -125,7 +125,7 @@ pub extern "C" fn lagoon_read_step(
     releases: &mut [u64],
     found: &mut [u64],
 ) -> u64
-    ensures { λ r. ⌜ StepFromC
+    ensures { λ r. ⌜ StepReadFromC
         (stepFinds (widthNamed width) cells faces (now (seconds .entry)) (now (bytes .entry)) (now (fluxes .entry)) (now (outsides .entry))
         (now (releases .entry)))
         cells faces (now (seconds .entry)) (now (bytes .entry)) (now (fluxes .entry)) (now (outsides .entry)) (now (releases .entry)) (now (found .entry))

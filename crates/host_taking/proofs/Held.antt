@@ -11,7 +11,7 @@ use Rattle.model.proofs.Verdicts.{refused-of, accepted-of}
 use Rattle.record_heads.specs.Heads.{widthIn}
 use Rattle.record_heads.specs.declared.Width.{Width}
 use Rattle.record_reading.specs.Reading.{meshIn}
-use Rattle.host_taking.specs.Taken.{fieldTested, fieldIn, takenIn, takenSaid, Front, Held, FieldTaking, CellsTaking}
+use Rattle.host_taking.specs.Taken.{fieldTested, fieldIn, takenIn, fieldTakenSaid, Front, TablesHeld, RecordsTaking, CellsTaking}
 use Rattle.host_taking.specs.declared.FieldCounts.{FieldCounts}
 use Rattle.host_taking.specs.declared.FieldTaken.{FieldTaken}
 use Rattle.host_taking.specs.declared.FieldTaken.the-variants as taken
@@ -23,13 +23,13 @@ front-fits {ys = ys} e f = rw e (f .fits)
 front-long : {n m : ℕ} {xs ys : List ℕ} → n ≡ m → Front m xs ys → n ≡ length (take n ys)
 front-long {n = n} {ys = ys} e f = sym (length-take-le n ys (front-fits e f))
 
-module _ (mesh field : List ℕ) {a : FieldTaken} (q : takenSaid a ≡ (fieldTested mesh field andThen accepted (takenIn mesh field))) where
+module _ (mesh field : List ℕ) {a : FieldTaken} (q : fieldTakenSaid a ≡ (fieldTested mesh field andThen accepted (takenIn mesh field))) where
   pub untaken : {r : Refusal} → a ≡ taken.Refused r → fieldTested mesh field ≡ told r
-  untaken {r = r} d = refused-of (fieldTested mesh field) (takenIn mesh field) (number (r .cause)) (r .place) (sym (ap takenSaid d) ∙ q)
+  untaken {r = r} d = refused-of (fieldTested mesh field) (takenIn mesh field) (number (r .cause)) (r .place) (sym (ap fieldTakenSaid d) ∙ q)
 
   module _ {n : FieldCounts} (d : a ≡ taken.Taken n) where
     is-taken : (fieldTested mesh field ≡ fine) × (n ≡ takenIn mesh field)
-    is-taken = accepted-of (fieldTested mesh field) (takenIn mesh field) n (sym (ap takenSaid d) ∙ q)
+    is-taken = accepted-of (fieldTested mesh field) (takenIn mesh field) n (sym (ap fieldTakenSaid d) ∙ q)
 
     pub tested-fine : fieldTested mesh field ≡ fine
     tested-fine = is-taken .0
@@ -85,8 +85,8 @@ pub record Lendable (n : FieldCounts) (volumes firsts seconds shares reaches mas
 
 -- of a call on the whole mesh
 module _ (mesh field : List ℕ) {a : FieldTaken} {volumes firsts seconds shares reaches masses : List ℕ}
-    (t : FieldTaking mesh field a volumes firsts seconds shares reaches masses) {n : FieldCounts} (d : a ≡ taken.Taken n) where
-  pub held : Held mesh field volumes firsts seconds shares reaches masses
+    (t : RecordsTaking mesh field a volumes firsts seconds shares reaches masses) {n : FieldCounts} (d : a ≡ taken.Taken n) where
+  pub held : TablesHeld mesh field volumes firsts seconds shares reaches masses
   held = t .tables (tested-fine mesh field (t .answer) d)
 
   pub lendable : Lendable n volumes firsts seconds shares reaches masses

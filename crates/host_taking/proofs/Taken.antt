@@ -22,7 +22,7 @@ use Rattle.model.proofs.Parts.{PartRead, read-part, part-long}
 use Rattle.taking_mesh.specs.MeshTaking.{meshRecordFound, meshJudged, meshJudgedInRun, MeshTaking}
 use Rattle.taking_mesh.proofs.MeshLaws.{MeshIsRead, limits}
 use Rattle.taking.specs.Taking.{fieldJudged, FieldTaking as FieldKept}
-use Rattle.host_taking.specs.Taken.{fieldTested, fieldIn, totalIn, takenIn, Front, FieldTaking}
+use Rattle.host_taking.specs.Taken.{fieldTested, fieldIn, totalHeld, takenIn, Front, RecordsTaking}
 use Rattle.host_taking.specs.declared.FieldCounts.{FieldCounts}
 use Rattle.host_taking.specs.declared.FieldTaken.the-variants.{Taken, Refused}
 
@@ -44,7 +44,7 @@ module _ (mesh field : List ℕ) {volumes firsts seconds shares reaches : List �
   abbrev judged : Verdict
   judged = fieldJudged (widthIn mesh) (cellsIn mesh) (volumesIn mesh) field runCells
 
-  pub mesh-refused : {r : Refusal} → a ≡ mesh-answer.Refused r → (masses : List ℕ) → FieldTaking mesh field (Refused r) volumes′ firsts′ seconds′ shares′
+  pub mesh-refused : {r : Refusal} → a ≡ mesh-answer.Refused r → (masses : List ℕ) → RecordsTaking mesh field (Refused r) volumes′ firsts′ seconds′ shares′
       reaches′ masses
   mesh-refused {r = r} d masses =
       let v : fieldTested mesh field ≡ refused (number (r .cause)) (r .place) =
@@ -89,18 +89,18 @@ module _ (mesh field : List ℕ) {volumes firsts seconds shares reaches : List �
           let x : FieldKept (n .width) (n .cells) (volumesIn mesh) field masses b masses′ = rw (mesh-read .volumes-part .part) at u in
           rw (mesh-fine .1) at x
 
-      field-said : totalSaid b ≡ (judged andThen accepted (totalIn mesh field))
+      field-said : totalSaid b ≡ (judged andThen accepted (totalHeld mesh field))
       field-said = let q = kept .answer in rw lm at q
 
-      pub field-refused : {r : Refusal} → b ≡ total-answer.Refused r → FieldTaking mesh field (Refused r) volumes′ firsts′ seconds′ shares′ reaches′ masses′
+      pub field-refused : {r : Refusal} → b ≡ total-answer.Refused r → RecordsTaking mesh field (Refused r) volumes′ firsts′ seconds′ shares′ reaches′ masses′
       field-refused {r = r} f =
           let v : fieldTested mesh field ≡ refused (number (r .cause)) (r .place) =
-          past judged (mesh-fine .0) ∙ refused-of judged (totalIn mesh field) (number (r .cause)) (r .place) (sym (ap totalSaid f) ∙ field-said) in
+          past judged (mesh-fine .0) ∙ refused-of judged (totalHeld mesh field) (number (r .cause)) (r .place) (sym (ap totalSaid f) ∙ field-said) in
           record { answer = sym (out _ v); tables = λ e. unfine v e }
 
       module _ {total : ℕ} (f : b ≡ total-answer.Total total) where
-        field-fine : (judged ≡ fine) × (total ≡ totalIn mesh field)
-        field-fine = accepted-of judged (totalIn mesh field) total (sym (ap totalSaid f) ∙ field-said)
+        field-fine : (judged ≡ fine) × (total ≡ totalHeld mesh field)
+        field-fine = accepted-of judged (totalHeld mesh field) total (sym (ap totalSaid f) ∙ field-said)
 
         room : cellsIn mesh ≤ runCells
         unfolding fieldJudged
@@ -115,7 +115,7 @@ module _ (mesh field : List ℕ) {volumes firsts seconds shares reaches : List �
         counts-are : _≡_ {A = FieldCounts} (record { cells = n .cells; faces = n .faces; width = n .width; total = total }) (takenIn mesh field)
         counts-are = rw (mesh-fine .1, field-fine .1)
 
-        pub field-taken : FieldTaking mesh field (Taken (record { cells = n .cells; faces = n .faces; width = n .width; total = total })) volumes′ firsts′
+        pub field-taken : RecordsTaking mesh field (Taken (record { cells = n .cells; faces = n .faces; width = n .width; total = total })) volumes′ firsts′
             seconds′ shares′ reaches′ masses′
         field-taken =
             let v : fieldTested mesh field ≡ fine = past judged (mesh-fine .0) ∙ field-fine .0 in

@@ -37,16 +37,16 @@ module _ (mesh field : List ℕ) where
     stepTested = fieldTested andThen stepAlone
 
   -- the total of the field
-  abbrev pub totalIn : ℕ
-  totalIn = total (cellsOnly (meshIn mesh .cells) (meshIn mesh .volumes)) (massIn fieldIn)
+  abbrev pub totalHeld : ℕ
+  totalHeld = total (cellsOnly (meshIn mesh .cells) (meshIn mesh .volumes)) (massIn fieldIn)
 
   abbrev pub takenIn : FieldCounts
-  takenIn = record { cells = meshIn mesh .cells; faces = meshIn mesh .faces; width = widthIn mesh; total = totalIn }
+  takenIn = record { cells = meshIn mesh .cells; faces = meshIn mesh .faces; width = widthIn mesh; total = totalHeld }
 
 -- the counts, the width and the total, or number and place
-abbrev pub takenSaid : FieldTaken → Outcome FieldCounts
-takenSaid (Taken n) = accepted n
-takenSaid (Refused r) = told r
+abbrev pub fieldTakenSaid : FieldTaken → Outcome FieldCounts
+fieldTakenSaid (Taken n) = accepted n
+fieldTakenSaid (Refused r) = told r
 
 -- a table whose first n entries are xs
 pub record Front (n : ℕ) (xs ys : List ℕ) : Type 0 where
@@ -54,7 +54,7 @@ pub record Front (n : ℕ) (xs ys : List ℕ) : Type 0 where
   pub part : take n ys ≡ xs
 
 -- tables whose counted parts are the mesh and the field of the records
-pub record Held (mesh field volumes firsts seconds shares reaches masses : List ℕ) : Type 0 where
+pub record TablesHeld (mesh field volumes firsts seconds shares reaches masses : List ℕ) : Type 0 where
   pub volumes-held : Front (meshIn mesh .cells) (meshIn mesh .volumes) volumes
   pub firsts-held : Front (meshIn mesh .faces) (meshIn mesh .firsts) firsts
   pub seconds-held : Front (meshIn mesh .faces) (meshIn mesh .seconds) seconds
@@ -63,12 +63,12 @@ pub record Held (mesh field volumes firsts seconds shares reaches masses : List 
   pub masses-held : Front (meshIn mesh .cells) (fieldIn mesh field) masses
 
 -- The answer, and after acceptance the tables, which are a call's own: nobody looks at them after a refusal.
-pub record FieldTaking (mesh field : List ℕ) (r : FieldTaken) (volumes firsts seconds shares reaches masses : List ℕ) : Type 0 where
-  pub answer : takenSaid r ≡ (fieldTested mesh field andThen accepted (takenIn mesh field))
-  pub tables : fieldTested mesh field ≡ fine → Held mesh field volumes firsts seconds shares reaches masses
+pub record RecordsTaking (mesh field : List ℕ) (r : FieldTaken) (volumes firsts seconds shares reaches masses : List ℕ) : Type 0 where
+  pub answer : fieldTakenSaid r ≡ (fieldTested mesh field andThen accepted (takenIn mesh field))
+  pub tables : fieldTested mesh field ≡ fine → TablesHeld mesh field volumes firsts seconds shares reaches masses
 
 -- the same of a call that looks at cells alone
 pub record CellsTaking (mesh field : List ℕ) (r : FieldTaken) (volumes masses : List ℕ) : Type 0 where
-  pub answer : takenSaid r ≡ (fieldTested mesh field andThen accepted (takenIn mesh field))
+  pub answer : fieldTakenSaid r ≡ (fieldTested mesh field andThen accepted (takenIn mesh field))
   pub volumes-held : fieldTested mesh field ≡ fine → Front (meshIn mesh .cells) (meshIn mesh .volumes) volumes
   pub masses-held : fieldTested mesh field ≡ fine → Front (meshIn mesh .cells) (fieldIn mesh field) masses

@@ -8,7 +8,7 @@ use lib.IntN.{ℤ}
 use lib.ListN.{length}
 use Rattle.lists.specs.Table.{over}
 use Rattle.model.specs.Mesh.{Mesh}
-use Rattle.model.specs.Causes.{accepted, Verdict, _andThen_, taken}
+use Rattle.model.specs.Causes.{accepted, Verdict, _andThen_, granted}
 use Rattle.record_heads.specs.Layouts.{meshKind, fieldKind, outfallKind, meshRecord, fieldRecord, stepRecord, meshLength, fieldLength, stepLength}
 use Rattle.record_heads.specs.declared.Width.{Width}
 use Rattle.record_heads.specs.declared.Width.the-variants.{Narrow, Wide}
@@ -24,16 +24,16 @@ kindNamed named = cond (eqb named (outfallKind Narrow) || eqb named (outfallKind
 -- a writer that finds v, of a record of n bytes; a refused writing leaves all bytes
 pub record WriteFromC (v : Verdict) (n : ℕ) (written bytes found : List ℕ) (r : ℕ) (bytes′ found′ : List ℕ) : Type 0 where
   pub answer : Answered alone (v andThen accepted n) found r found′
-  pub bytes-written : bytes′ ≡ taken v (over written bytes) bytes
+  pub bytes-written : bytes′ ≡ granted v (over written bytes) bytes
 
 module _ (w : Width) (M : Mesh) where
-  abbrev pub MeshFromC : (bytes found : List ℕ) (r : ℕ) (bytes′ found′ : List ℕ) → Type 0
-  MeshFromC bytes = WriteFromC (meshWriteVerdict w M (length bytes)) (meshLength (meshKind w) (M .cells) (M .faces)) (meshRecord (meshKind w) M) bytes
+  abbrev pub MeshWriteFromC : (bytes found : List ℕ) (r : ℕ) (bytes′ found′ : List ℕ) → Type 0
+  MeshWriteFromC bytes = WriteFromC (meshWriteVerdict w M (length bytes)) (meshLength (meshKind w) (M .cells) (M .faces)) (meshRecord (meshKind w) M) bytes
 
-  abbrev pub FieldFromC : (masses bytes found : List ℕ) (r : ℕ) (bytes′ found′ : List ℕ) → Type 0
-  FieldFromC masses bytes = WriteFromC (fieldWriteVerdict w M masses (length bytes)) (fieldLength (fieldKind w) (M .cells))
+  abbrev pub FieldWriteFromC : (masses bytes found : List ℕ) (r : ℕ) (bytes′ found′ : List ℕ) → Type 0
+  FieldWriteFromC masses bytes = WriteFromC (fieldWriteVerdict w M masses (length bytes)) (fieldLength (fieldKind w) (M .cells))
       (fieldRecord (fieldKind w) (M .cells) masses) bytes
 
-  abbrev pub StepFromC : (kind : ℕ) (fluxes : List ℤ) (outsides releases bytes found : List ℕ) (r : ℕ) (bytes′ found′ : List ℕ) → Type 0
-  StepFromC kind fluxes outsides releases bytes = WriteFromC (stepWriteVerdict w M kind fluxes outsides releases (length bytes))
+  abbrev pub StepWriteFromC : (kind : ℕ) (fluxes : List ℤ) (outsides releases bytes found : List ℕ) (r : ℕ) (bytes′ found′ : List ℕ) → Type 0
+  StepWriteFromC kind fluxes outsides releases bytes = WriteFromC (stepWriteVerdict w M kind fluxes outsides releases (length bytes))
       (stepLength kind (M .cells) (M .faces) (M .seconds)) (stepRecord kind (M .cells) (M .faces) (M .seconds) fluxes outsides releases) bytes

@@ -13,7 +13,7 @@ ghost use Rattle.record_writing.specs.Writing.{writeSaid};
 ghost use Rattle.host_answer.specs.Number.{numberOf};
 ghost use Rattle.host_answer.specs.Found.{alone, Answered};
 ghost use Rattle.host_read.specs.Read.{widthNamed};
-ghost use Rattle.host_write.specs.Write.{kindNamed, MeshFromC, FieldFromC, StepFromC};
+ghost use Rattle.host_write.specs.Write.{kindNamed, MeshWriteFromC, FieldWriteFromC, StepWriteFromC};
 
 // The answer of a writer: found is the length.
 fn answered(answer: WriteAnswer, found: &mut [u64]) -> u64
@@ -43,7 +43,7 @@ pub extern "C" fn lagoon_write_mesh(
     bytes: &mut [u8],
     found: &mut [u64],
 ) -> u64
-    ensures { λ r. ⌜ MeshFromC (widthNamed width)
+    ensures { λ r. ⌜ MeshWriteFromC (widthNamed width)
         (meshOf cells faces (now (volumes .entry)) (now (firsts .entry)) (now (seconds .entry)) (now (shares .entry)) (now (reaches .entry)))
         (now (bytes .entry)) (now (found .entry)) r (now (bytes .exit)) (now (found .exit)) ⌝ }
 {
@@ -76,7 +76,7 @@ pub extern "C" fn lagoon_write_field(
     bytes: &mut [u8],
     found: &mut [u64],
 ) -> u64
-    ensures { λ r. ⌜ FieldFromC (widthNamed width)
+    ensures { λ r. ⌜ FieldWriteFromC (widthNamed width)
         (meshOf cells faces (now (volumes .entry)) (now (firsts .entry)) (now (seconds .entry)) (now (shares .entry)) (now (reaches .entry)))
         (now (masses .entry)) (now (bytes .entry)) (now (found .entry)) r (now (bytes .exit)) (now (found .exit)) ⌝ }
 {
@@ -135,7 +135,7 @@ pub extern "C" fn lagoon_write_step(
     bytes: &mut [u8],
     found: &mut [u64],
 ) -> u64
-    ensures { λ r. ⌜ StepFromC (widthOf kind)
+    ensures { λ r. ⌜ StepWriteFromC (widthOf kind)
         (meshOf cells faces (now (volumes .entry)) (now (firsts .entry)) (now (seconds .entry)) (now (shares .entry)) (now (reaches .entry)))
         (kindNumber (widthOf kind) (kindNamed kind)) (now (fluxes .entry)) (now (outsides .entry)) (now (releases .entry)) (now (bytes .entry))
         (now (found .entry))

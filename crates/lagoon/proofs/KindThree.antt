@@ -4,7 +4,7 @@ use mathlib.Core.Path.{_≡_, refl, ap, _∙_}
 use mathlib.Core.List.{List}
 use lib.ListN.{length}
 use Rattle.lists.specs.Table.{over}
-use Rattle.model.specs.Causes.{accepted, refused, Verdict, fine, _andThen_, taken, bytesLong}
+use Rattle.model.specs.Causes.{accepted, refused, Verdict, fine, _andThen_, granted, bytesLong}
 use Rattle.model.proofs.Verdicts.{both-fine}
 use Rattle.record_heads.specs.Layouts.{fieldKind, waterKind, fieldRecord, fieldLength}
 use Rattle.record_heads.specs.Heads.{kindIn, widthIn}
@@ -29,7 +29,7 @@ module _ (w : Width) (mesh field step : List ℕ) (e : kindIn step ≡ waterKind
   step-fine room q = both-fine _ _ (both-fine _ _ q .0) .1
 
   bytes-same : (bytes : List ℕ) (v : Verdict) → hostVerdict mesh field step (length bytes) ≡ v → hostBytes mesh field step bytes
-      ≡ taken v (over (nextRecord01 mesh field step) bytes) bytes
+      ≡ granted v (over (nextRecord01 mesh field step) bytes) bytes
   unfolding hostBytes
   bytes-same bytes (accepted t) q = rw q (ap (λ (xs : List ℕ). over (fieldRecord (fieldKind (widthIn mesh)) (meshIn mesh .cells) xs) bytes)
       (next-same w (widthIn mesh) (meshIn mesh) (massesIn field (meshIn mesh .cells)) step e (step-fine (length bytes) q)))
@@ -39,5 +39,5 @@ pub host-as-before : HostAsBefore
 host-as-before w mesh field step bytes e r bytes′ p = (
   p .number ∙ ap numberOf (verdict-same w mesh field step e (length bytes)),
   p .next-field ∙ bytes-same w mesh field step e bytes (hostVerdict mesh field step (length bytes)) refl
-      ∙ ap (λ (v : Verdict). taken v (over (nextRecord01 mesh field step) bytes) bytes) (verdict-same w mesh field step e (length bytes)),
+      ∙ ap (λ (v : Verdict). granted v (over (nextRecord01 mesh field step) bytes) bytes) (verdict-same w mesh field step e (length bytes)),
 )

@@ -6,7 +6,7 @@ use lib.ListN.{length}
 use Rattle.lists.specs.Table.{table, over}
 use Rattle.model.specs.Mesh.{Mesh, runCells}
 use Rattle.model.specs.Step.{StepInput, next}
-use Rattle.model.specs.Causes.{Verdict, _andThen_, taken, inputOf, bytesLong}
+use Rattle.model.specs.Causes.{Verdict, _andThen_, granted, inputOf, bytesLong}
 use Rattle.model.specs.Answers.{said}
 use Rattle.model.specs.declared.Answer.{Answer}
 use Rattle.record_heads.specs.Layouts.{fieldKind, fieldRecord, fieldLength}
@@ -19,7 +19,7 @@ use Rattle.lagoon.specs.Host.{hostInput, hostVerdict}
 -- a call of which v is found, with the next field of the step S in a record of this width
 pub record Comes (v : Verdict) (w : Width) (S : StepInput) (bytes : List ℕ) (r : Answer) (bytes′ : List ℕ) : Type 0 where
   pub answer : said r ≡ v
-  pub bytes-after : bytes′ ≡ taken v (over (fieldRecord (fieldKind w) (S .mesh .cells) (table (S .mesh .cells) (next S))) bytes) bytes
+  pub bytes-after : bytes′ ≡ granted v (over (fieldRecord (fieldKind w) (S .mesh .cells) (table (S .mesh .cells) (next S))) bytes) bytes
 
 -- from the field record on, on a mesh that has been read
 module _ (M : Mesh) (field step : List ℕ) where

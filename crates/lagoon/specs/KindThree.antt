@@ -5,7 +5,7 @@ use mathlib.Core.List.{List}
 use lib.ListN.{length}
 use Rattle.lists.specs.Table.{table, over}
 use Rattle.model.specs.Step.{next}
-use Rattle.model.specs.Causes.{Verdict, _andThen_, taken, bytesLong}
+use Rattle.model.specs.Causes.{Verdict, _andThen_, granted, bytesLong}
 use Rattle.record_heads.specs.Layouts.{fieldKind, waterKind, fieldRecord, fieldLength}
 use Rattle.record_heads.specs.Heads.{kindIn, widthIn}
 use Rattle.record_heads.specs.declared.Width.{Width}
@@ -27,7 +27,7 @@ module _ (mesh field step : List ℕ) where
       (table (meshIn mesh .cells) (next (step01 (meshIn mesh) (massesIn field (meshIn mesh .cells)) step)))
 
   abbrev pub hostBytes01 : List ℕ → List ℕ
-  hostBytes01 bytes = taken (hostVerdict01 (length bytes)) (over nextRecord01 bytes) bytes
+  hostBytes01 bytes = granted (hostVerdict01 (length bytes)) (over nextRecord01 bytes) bytes
 
 abbrev pub HostAsBefore : Type 0
 HostAsBefore = (w : Width) (mesh field step bytes : List ℕ) → kindIn step ≡ waterKind w → (r : ℕ) (bytes′ : List ℕ) → HostPromise mesh field step bytes r bytes′

@@ -16,7 +16,7 @@ use Rattle.lists.proofs.Tables.{table-cong}
 use Rattle.model.specs.Mesh.{Mesh, first, second, rim, entering, leaving, incoming, outgoing, total, ceiling}
 use Rattle.model.specs.Step.{StepInput, carried, lo, hi, moved, next, inMass, outMass}
 use Rattle.model.specs.Alike.{straight, AlikeEnds, AlikeMesh, Alike, AlikeCall, AgreeMesh, Agree, AgreeCall}
-use Rattle.model.specs.Causes.{accepted, refused, Verdict, fine, taken, each, Call, inputOf, meshTables, fieldTable, stepTables, meshValues, volumeGood, endsGood, spacingGood, fieldValues, fieldVerdict, verdict}
+use Rattle.model.specs.Causes.{accepted, refused, Verdict, fine, granted, each, Call, inputOf, meshTables, fieldTable, stepTables, meshValues, volumeGood, endsGood, spacingGood, fieldValues, fieldVerdict, verdict}
 use Rattle.model.specs.Calls.{massIn, Bounded, Left, crossingOf, corrected, stepAnswer, nextTable, movedTable}
 use Rattle.model.specs.Accepted.{MeshFit}
 use Rattle.model.proofs.Accepted.{ready}
@@ -180,11 +180,11 @@ module _ (M M′ : Mesh) (field field′ : List ℕ) (k k′ : Call) (a : AgreeC
         (mesh-values-agree M M′ m)
 
     -- what an accepted call makes of the stages is the same; a refused one makes nothing of them
-    after-agree : {A : Type 0} (x x′ y y′ : A) → (verdict M field k ≡ fine → x′ ≡ x) → y′ ≡ y → taken (verdict M′ field′ k′) x′ y′
-        ≡ taken (verdict M field k) x y
+    after-agree : {A : Type 0} (x x′ y y′ : A) → (verdict M field k ≡ fine → x′ ≡ x) → y′ ≡ y → granted (verdict M′ field′ k′) x′ y′
+        ≡ granted (verdict M field k) x y
     after-agree x x′ y y′ d q = rw (verdict-agree, q) (go (verdict M field k) refl)
       where
-        go : (v : Verdict) → verdict M field k ≡ v → taken v x′ y ≡ taken v x y
+        go : (v : Verdict) → verdict M field k ≡ v → granted v x′ y ≡ granted v x y
         go (accepted t) e = d e
         go (refused i j) e = refl
 

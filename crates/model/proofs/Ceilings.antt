@@ -11,7 +11,7 @@ use Rattle.signed.specs.Sign.{size}
 use Rattle.lists.proofs.Tests.{Same, same, other, same?}
 use Rattle.model.specs.Mesh.{Mesh, volume, second, share, reach, rim, maxShare, ceiling, oldCeiling}
 use Rattle.model.specs.Step.{flux}
-use Rattle.model.specs.Causes.{Verdict, fine, _andThen_, accepted, taken, between, volumeFits, spacingFit, fluxFit, Call, inputOf, endsGood, volumeGood, spacingGood, meshValues, fluxGood, stepValues, verdict}
+use Rattle.model.specs.Causes.{Verdict, fine, _andThen_, accepted, granted, between, volumeFits, spacingFit, fluxFit, Call, inputOf, endsGood, volumeGood, spacingGood, meshValues, fluxGood, stepValues, verdict}
 use Rattle.model.specs.Calls.{Scheme, corrected, plain, crossingOf, stepAnswer, nextTable, movedTable, workTable}
 use Rattle.model.specs.Ceilings.{MeshSmall, StepSmall, judgedBefore, OldAnswers, OldMeshes, OldSteps}
 use Rattle.model.proofs.Accepted.{volumes-within, spaced-within}

@@ -8,7 +8,7 @@ use lib.ListN.{length, take, drop}
 use lib.Seq.{take-at, length-take-le}
 use Rattle.lists.specs.Table.{table, over}
 use Rattle.lists.proofs.Tables.{length-table, over-table, length-over}
-use Rattle.model.specs.Causes.{Outcome, accepted, fine, taken, long}
+use Rattle.model.specs.Causes.{Outcome, accepted, fine, granted, long}
 use Rattle.model.proofs.Verdicts.{need-met}
 
 -- a table that is long enough is not refused by 2
@@ -24,7 +24,7 @@ pub part-of : {A : Type 0} (n : ℕ) (f : ℕ → A) (ys : List A) → take n (o
 part-of n f ys = rw (over-table n f ys) (take-at (table n f) (drop n ys) n (length-table n f))
 
 pub read-part : {A B : Type 0} {b : B} {v : Outcome B} (n : ℕ) (f : ℕ → A) (ys ys′ : List A) → v ≡ accepted b → n ≤ length ys → ys′
-    ≡ taken v (over (table n f) ys) ys → PartRead n (table n f) ys′
+    ≡ granted v (over (table n f) ys) ys → PartRead n (table n f) ys′
 read-part n f ys ys′ e l q =
     let z : ys′ ≡ over (table n f) ys = rw e at q in
     record { fits = rw z (omega (arith, length-over n f ys l)); part = rw z (part-of n f ys) }

@@ -13,7 +13,7 @@ use Rattle.lists.proofs.Tables.{table-cong}
 use Rattle.model.specs.Mesh.{Mesh, volume, maxConcentration, ceiling}
 use Rattle.model.specs.Step.{StepInput, mass, releasedMass, next, moved, inMass, outMass}
 use Rattle.model.specs.Alike.{Agree}
-use Rattle.model.specs.Causes.{accepted, refused, Verdict, fine, _andThen_, inTurn, taken, Call, inputOf, release, lengths01, stepTables, fieldValues, saltGood, raisedGood, raisedValues, stepValues, verdict}
+use Rattle.model.specs.Causes.{accepted, refused, Verdict, fine, _andThen_, inTurn, granted, Call, inputOf, release, lengths01, stepTables, fieldValues, saltGood, raisedGood, raisedValues, stepValues, verdict}
 use Rattle.model.specs.Calls.{crossingOf, stepAnswer, nextTable, movedTable, workTable}
 use Rattle.model.specs.Accepted.{Ready}
 use Rattle.model.specs.Unreleased.{unraised, verdict01, AsBefore, Unreleased}
@@ -67,10 +67,10 @@ module _ (M : Mesh) (field : List ℕ) (k : Call) (long : M .cells ≤ length (k
   released-none = sum-cong (M .cells) (release k) (λ c. 0) none ∙ sum-zeros (M .cells)
 
   -- what an accepted call makes is the same, and a refused one makes nothing
-  after-same : {A : Type 0} (x x′ y : A) → (Ready S → x ≡ x′) → taken (verdict M field k) x y ≡ taken (verdict01 M field k) x′ y
+  after-same : {A : Type 0} (x x′ y : A) → (Ready S → x ≡ x′) → granted (verdict M field k) x y ≡ granted (verdict01 M field k) x′ y
   after-same x x′ y same = go (verdict M field k) refl ∙ rw verdict-same
     where
-      go : (v : Verdict) → verdict M field k ≡ v → taken v x y ≡ taken v x′ y
+      go : (v : Verdict) → verdict M field k ≡ v → granted v x y ≡ granted v x′ y
       go (accepted t) e = same (ready M field k e)
       go (refused i j) e = refl
 

@@ -8,7 +8,7 @@ use lib.IntN.{ℤ}
 use Rattle.lists.specs.Table.{table, over}
 use Rattle.model.specs.Mesh.{Mesh, volume, updated, total}
 use Rattle.model.specs.Step.{StepInput, mass, lo, hi, carried, moved, inMass, outMass, releasedMass}
-use Rattle.model.specs.Causes.{Outcome, accepted, refused, Verdict, taken, fine, _andThen_, Call, inputOf, workLength, fieldVerdict, verdict}
+use Rattle.model.specs.Causes.{Outcome, accepted, refused, Verdict, granted, fine, _andThen_, Call, inputOf, workLength, fieldVerdict, verdict}
 use Rattle.model.specs.Claims.{claimed, claimVerdict}
 
 -- the mass that a field has in cell c
@@ -76,13 +76,13 @@ module _ (s : Scheme) (M : Mesh) (k : Call) (field : List ℕ) where
 
   -- "Tables lent to a step": after acceptance the results in the counted parts of next masses and moved, zeros in that of work
   unfoldable pub nextTable : List ℕ
-  nextTable = taken (s .finds M field k) (over (table (M .cells) (updated M (mass (inputOf M field k)) (s .moves M field k))) (k .nexts)) (k .nexts)
+  nextTable = granted (s .finds M field k) (over (table (M .cells) (updated M (mass (inputOf M field k)) (s .moves M field k))) (k .nexts)) (k .nexts)
 
   unfoldable pub movedTable : List ℤ
-  movedTable = taken (s .finds M field k) (over (table (M .faces) (s .moves M field k)) (k .moveds)) (k .moveds)
+  movedTable = granted (s .finds M field k) (over (table (M .faces) (s .moves M field k)) (k .moveds)) (k .moveds)
 
   unfoldable pub workTable : List ℕ
-  workTable = taken (s .finds M field k) (over (table (workLength M) (λ i. 0)) (k .work)) (k .work)
+  workTable = granted (s .finds M field k) (over (table (workLength M) (λ i. 0)) (k .work)) (k .work)
 
   -- the same call as one of a list
   unfoldable pub stepOnTables : Outcome Left

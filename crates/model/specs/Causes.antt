@@ -37,9 +37,9 @@ inTurn [] = fine
 inTurn (v ∷ vs) = firstOf v vs
 
 -- x after acceptance, y after a refusal
-abbrev pub taken {ℓ} : {A : Type 0} {B : Type ℓ} → Outcome A → B → B → B
-taken (accepted _) x y = x
-taken (refused _ _) x y = y
+abbrev pub granted {ℓ} : {A : Type 0} {B : Type ℓ} → Outcome A → B → B → B
+granted (accepted _) x y = x
+granted (refused _ _) x y = y
 
 unfoldable pub need : ℕ → ℕ → Bool → Verdict
 need cause place good = cond good fine (refused cause place)

@@ -6,7 +6,7 @@ use lib.ListN.{length}
 use Rattle.lists.specs.Table.{table, over}
 use Rattle.model.specs.Mesh.{Mesh, ceiling}
 use Rattle.model.specs.Step.{StepInput, roundedInput, next, moved, inMass, outMass}
-use Rattle.model.specs.Causes.{accepted, Verdict, _andThen_, inTurn, taken, Call, release, workLength, lengths01, counts, meshTables, fieldTable, meshValues, fieldValues, stepValues}
+use Rattle.model.specs.Causes.{accepted, Verdict, _andThen_, inTurn, granted, Call, release, workLength, lengths01, counts, meshTables, fieldTable, meshValues, fieldValues, stepValues}
 use Rattle.model.specs.Calls.{corrected, stepAnswer, nextTable, movedTable, workTable}
 
 module _ (M : Mesh) (field : List ℕ) (k : Call) where
@@ -23,9 +23,9 @@ module _ (M : Mesh) (field : List ℕ) (k : Call) where
   pub record AsBefore : Type 0 where
     pub same-answer : stepAnswer corrected M k field ≡ (verdict01
         andThen accepted (record { entered = inMass unraised; gone = outMass unraised; released = 0 }))
-    pub same-next : nextTable corrected M k field ≡ taken verdict01 (over (table (M .cells) (next unraised)) (k .nexts)) (k .nexts)
-    pub same-moved : movedTable corrected M k field ≡ taken verdict01 (over (table (M .faces) (moved unraised)) (k .moveds)) (k .moveds)
-    pub same-work : workTable corrected M k field ≡ taken verdict01 (over (table (workLength M) (λ i. 0)) (k .work)) (k .work)
+    pub same-next : nextTable corrected M k field ≡ granted verdict01 (over (table (M .cells) (next unraised)) (k .nexts)) (k .nexts)
+    pub same-moved : movedTable corrected M k field ≡ granted verdict01 (over (table (M .faces) (moved unraised)) (k .moveds)) (k .moveds)
+    pub same-work : workTable corrected M k field ≡ granted verdict01 (over (table (workLength M) (λ i. 0)) (k .work)) (k .work)
 
 abbrev pub Unreleased : Type 0
 Unreleased = (M : Mesh) (field : List ℕ) (k : Call) → M .cells ≤ length (k .releases) → ((c : ℕ) → c < M .cells → release k c ≡ 0) → AsBefore M field k

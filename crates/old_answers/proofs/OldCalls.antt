@@ -20,7 +20,7 @@ use Rattle.host_answer.specs.Number.{numberOf}
 use Rattle.run_printed.proofs.Prints.{prints}
 use Rattle.old_answers.specs.Before.{oldFieldJudged, oldStepWriting}
 use Rattle.old_answers.specs.OldCalls.{OldReading, OldWriting, OldTaking}
-use Rattle.old_answers.proofs.Outcomes.{same-after, taken-then, filled}
+use Rattle.old_answers.proofs.Outcomes.{same-after, granted-then, filled}
 use Rattle.old_answers.proofs.Records.{mesh-found, read-kind-one, mesh-narrow, mesh-in, mesh-measured, old-field-read, old-masses, field-needs, step-found, read-shape, old-fluxes, step-needs}
 use Rattle.old_answers.proofs.Taken.{kept-same, judged-kind-one, mesh-judged, field-judged, judged-masses, step-judged, judged-step-in, stepping-same, host-verdict, host-bytes}
 use Rattle.old_answers.proofs.Runs.{run-same}
@@ -40,11 +40,11 @@ old-reading = record {
       (λ h. mesh-in bs (one h))
       (record {
         answer = c .answer;
-        volumes-after = c .volumes-read ∙ taken-then u _ _ _;
-        firsts-after = c .firsts-read ∙ taken-then u _ _ _;
-        seconds-after = c .seconds-read ∙ taken-then u _ _ _;
-        shares-after = c .shares-read ∙ taken-then u _ _ _;
-        reaches-after = c .reaches-read ∙ taken-then u _ _ _;
+        volumes-after = c .volumes-read ∙ granted-then u _ _ _;
+        firsts-after = c .firsts-read ∙ granted-then u _ _ _;
+        seconds-after = c .seconds-read ∙ granted-then u _ _ _;
+        shares-after = c .shares-read ∙ granted-then u _ _ _;
+        reaches-after = c .reaches-read ∙ granted-then u _ _ _;
       });
   field-read = λ cells {bs} {masses} c.
       let e = old-field-read cells bs (length masses) in
@@ -55,9 +55,9 @@ old-reading = record {
       let e = step-found cells faces seconds bs (length fluxes) (length outsides) (length releases) in
       let shape = read-shape cells faces seconds bs (length fluxes) (length outsides) (length releases) in (
         c .answer ∙ ap (λ (v : Verdict). v andThen accepted (kindIn bs)) e,
-        filled fluxes e (old-fluxes cells faces seconds bs (length fluxes) (length outsides) (length releases)) (c .fluxes-read ∙ taken-then u _ _ _),
-        filled outsides e (λ h. ap (λ (S : List Section). columnIn bs S 2 0) (shape h)) (c .outsides-read ∙ taken-then u _ _ _),
-        filled releases e (λ h. ap (λ (S : List Section). columnIn bs S 3 0) (shape h)) (c .releases-read ∙ taken-then u _ _ _),
+        filled fluxes e (old-fluxes cells faces seconds bs (length fluxes) (length outsides) (length releases)) (c .fluxes-read ∙ granted-then u _ _ _),
+        filled outsides e (λ h. ap (λ (S : List Section). columnIn bs S 2 0) (shape h)) (c .outsides-read ∙ granted-then u _ _ _),
+        filled releases e (λ h. ap (λ (S : List Section). columnIn bs S 3 0) (shape h)) (c .releases-read ∙ granted-then u _ _ _),
       );
 }
 

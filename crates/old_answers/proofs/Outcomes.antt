@@ -4,21 +4,21 @@ use mathlib.Core.List.{List}
 use native.Mathlib.Omega.{arith}
 use Prim.Native.Nat.{ℕ}
 use Rattle.lists.specs.Table.{over}
-use Rattle.model.specs.Causes.{Outcome, accepted, refused, Verdict, fine, _andThen_, taken}
+use Rattle.model.specs.Causes.{Outcome, accepted, refused, Verdict, fine, _andThen_, granted}
 
 pub same-after : {A : Type 0} (v : Verdict) (x y : Outcome A) → (v ≡ fine → x ≡ y) → (v andThen x) ≡ (v andThen y)
 unfolding _andThen_
 same-after (accepted _) x y h = h refl
 same-after (refused i j) x y h = refl
 
-same-taken : {B : Type 0} (v : Verdict) (x y z : B) → (v ≡ fine → x ≡ y) → taken v x z ≡ taken v y z
-same-taken (accepted _) x y z h = h refl
-same-taken (refused i j) x y z h = refl
+same-granted : {B : Type 0} (v : Verdict) (x y z : B) → (v ≡ fine → x ≡ y) → granted v x z ≡ granted v y z
+same-granted (accepted _) x y z h = h refl
+same-granted (refused i j) x y z h = refl
 
-pub taken-then : {A B : Type 0} (v : Verdict) (a : A) (x z : B) → taken (v andThen accepted a) x z ≡ taken v x z
+pub granted-then : {A B : Type 0} (v : Verdict) (a : A) (x z : B) → granted (v andThen accepted a) x z ≡ granted v x z
 unfolding _andThen_
-taken-then (accepted _) a x z = refl
-taken-then (refused i j) a x z = refl
+granted-then (accepted _) a x z = refl
+granted-then (refused i j) a x z = refl
 
 -- two answers with a value that are the same, found the same
 pub same-found : {A : Type 0} (v w : Verdict) (x y : A) → (v andThen accepted x) ≡ (w andThen accepted y) → v ≡ w
@@ -29,7 +29,7 @@ same-found (refused i j) (accepted _) x y e = let z : _≡_ {A = ℕ} 0 1 = cc i
 same-found (refused i j) (refused k l) x y e = cc
 
 -- a table after u, by a v that is the same and by values that are the same where it passes
-pub filled : {B : Type 0} {u v : Verdict} {new old t′ : List B} (t : List B) → u ≡ v → (v ≡ fine → new ≡ old) → t′ ≡ taken u (over new t) t → t′
-    ≡ taken v (over old t) t
+pub filled : {B : Type 0} {u v : Verdict} {new old t′ : List B} (t : List B) → u ≡ v → (v ≡ fine → new ≡ old) → t′ ≡ granted u (over new t) t → t′
+    ≡ granted v (over old t) t
 filled {u = u} {v = v} {new = new} {old = old} t e h q =
-    q ∙ ap (λ (x : Verdict). taken x (over new t) t) e ∙ same-taken v (over new t) (over old t) t (λ f. ap (λ l. over l t) (h f))
+    q ∙ ap (λ (x : Verdict). granted x (over new t) t) e ∙ same-granted v (over new t) (over old t) t (λ f. ap (λ l. over l t) (h f))

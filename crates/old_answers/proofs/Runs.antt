@@ -10,7 +10,7 @@ use Rattle.lists.specs.Table.{table}
 use Rattle.lists.proofs.Tables.{getD-over, getD-table}
 use Rattle.model.specs.Mesh.{Mesh, runCells, runFaces, total}
 use Rattle.model.specs.Step.{next}
-use Rattle.model.specs.Causes.{Outcome, accepted, refused, Verdict, fine, _andThen_, taken, Call, cellsOnly, inputOf}
+use Rattle.model.specs.Causes.{Outcome, accepted, refused, Verdict, fine, _andThen_, granted, Call, cellsOnly, inputOf}
 use Rattle.model.specs.Calls.{massIn}
 use Rattle.model.specs.Ceilings.{MeshSmall}
 use Rattle.record_bits.specs.Field.{bitAt, bitsAt}
@@ -43,7 +43,7 @@ record-same head needs also input e = ap (λ (o : Outcome ℕ). take (length (ta
 module _ (M : Mesh) (s : MeshSmall M) where
   board-same : (masses : List ℕ) → boardPrinted M masses ≡ oldBoardPrinted M masses
   unfolding boardPrinted oldBoardPrinted
-  board-same masses = ap (λ (v : Verdict). taken v (boardLines (map (entryAt (M .volumes) masses) (listed (M .volumes) masses (M .cells)))) [])
+  board-same masses = ap (λ (v : Verdict). granted v (boardLines (map (entryAt (M .volumes) masses) (listed (M .volumes) masses (M .cells)))) [])
       (cells-verdict (M .cells) (M .volumes) (s .small-volumes) masses)
 
   said-same : (masses bs : List ℕ) → stepComesTo Narrow M masses bs ≡ oldStepSaid M masses bs

@@ -11,7 +11,7 @@ use Rattle.lists.specs.Table.{table, over}
 use Rattle.signed.specs.Sign.{withSign}
 use Rattle.model.specs.Mesh.{Mesh, meshOf, maxCells, maxFaces, runCells, runFaces, oldCeiling}
 use Rattle.model.specs.Step.{next}
-use Rattle.model.specs.Causes.{Outcome, accepted, Verdict, _andThen_, inTurn, taken, need, each, between, countsWithin, long, bytesLong, Call, waterOf, cellsOnly, inputOf, counts, meshTables, meshValues, fieldTable, fieldValues, outsideGood, fluxGood, causesWithin}
+use Rattle.model.specs.Causes.{Outcome, accepted, Verdict, _andThen_, inTurn, granted, need, each, between, countsWithin, long, bytesLong, Call, waterOf, cellsOnly, inputOf, counts, meshTables, meshValues, fieldTable, fieldValues, outsideGood, fluxGood, causesWithin}
 use Rattle.record_sections.specs.Sections.{Section, per, perThat, once, shapeBits, lengthOf, width, valueIn, columnIn, recordOf}
 use Rattle.record_heads.specs.Layouts.{isRim, meshValue, fieldValue, stepValue}
 use Rattle.record_heads.specs.Heads.{kindIn, cellsIn, facesIn, stepFacesIn, hasLength}
@@ -168,4 +168,4 @@ module _ (mesh field step : List ℕ) where
       (inputOf (oldMeshIn mesh) (oldMassesIn field (cellsIn mesh)) (oldStepIn (oldMeshIn mesh) step)))))
 
   unfoldable pub oldHostBytes : List ℕ → List ℕ
-  oldHostBytes bytes = taken (oldHostVerdict (length bytes)) (over oldNextRecord bytes) bytes
+  oldHostBytes bytes = granted (oldHostVerdict (length bytes)) (over oldNextRecord bytes) bytes

@@ -4,7 +4,7 @@ use mathlib.Core.Bool.{cond}
 use mathlib.Core.List.{List, [], _∷_, _++_, map}
 use lib.ListN.{length}
 use Rattle.model.specs.Mesh.{Mesh, total, runCells, runFaces}
-use Rattle.model.specs.Causes.{Outcome, accepted, refused, Verdict, _andThen_, taken, cellsOnly}
+use Rattle.model.specs.Causes.{Outcome, accepted, refused, Verdict, _andThen_, granted, cellsOnly}
 use Rattle.model.specs.Calls.{massIn}
 use Rattle.board.specs.Board.{entryAt, listed}
 use Rattle.taking.specs.Taking.{printedOf, massesAfter}
@@ -27,7 +27,7 @@ module _ (M : Mesh) where
 
   -- the board
   unfoldable pub oldBoardPrinted : List ℕ → List ℕ
-  oldBoardPrinted masses = taken (oldCellsVerdict (M .cells) (M .volumes) masses)
+  oldBoardPrinted masses = granted (oldCellsVerdict (M .cells) (M .volumes) masses)
       (boardLines (map (entryAt (M .volumes) masses) (listed (M .volumes) masses (M .cells)))) []
 
   -- the steps until no byte is left, or one is refused by 11 or 13; then the board

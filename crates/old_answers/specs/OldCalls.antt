@@ -9,7 +9,7 @@ use lib.ListN.{length, getD}
 use lib.IntN.{ℤ}
 use Rattle.lists.specs.Table.{over}
 use Rattle.model.specs.Mesh.{Mesh, total, oldCeiling}
-use Rattle.model.specs.Causes.{accepted, Verdict, _andThen_, taken, cellsOnly}
+use Rattle.model.specs.Causes.{accepted, Verdict, _andThen_, granted, cellsOnly}
 use Rattle.model.specs.Calls.{massIn}
 use Rattle.model.specs.Answers.{said}
 use Rattle.model.specs.Ceilings.{MeshSmall}
@@ -39,7 +39,7 @@ use Rattle.old_answers.specs.BeforeRun.{oldPrinted}
 
 -- a table of which the counted part is written after v, as a reading and a taking leave theirs
 abbrev pub Filled : {B : Type 0} → Verdict → List B → List B → List B → Type 0
-Filled v new t t′ = t′ ≡ taken v (over new t) t
+Filled v new t t′ = t′ ≡ granted v (over new t) t
 
 pub record OldReading : Type 0 where
   -- mesh_length, field_length and step_length

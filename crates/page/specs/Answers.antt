@@ -6,7 +6,7 @@ use lib.Dec.{ltb}
 use lib.ListN.{length}
 use Rattle.lists.specs.Table.{over}
 use Rattle.model.specs.Mesh.{ceiling}
-use Rattle.model.specs.Causes.{Outcome, accepted, Verdict, fine, _andThen_, taken, long, need, cellsOnly, counts, meshTables, fieldTable, meshValues, fieldValues}
+use Rattle.model.specs.Causes.{Outcome, accepted, Verdict, fine, _andThen_, granted, long, need, cellsOnly, counts, meshTables, fieldTable, meshValues, fieldValues}
 use Rattle.model.specs.Answers.{told}
 use Rattle.page.specs.Page.{restPlaces, pages, pageBytes, pageText}
 use Rattle.page.specs.declared.PageAnswer.{PageAnswer}
@@ -37,5 +37,5 @@ pageSaid (Refused r) = told r
 -- The answer is the page's length; the page stands over the first bytes lent. A refusal leaves all.
 pub record PageIs (volumes masses : List ℕ) (cells page : ℕ) (bytes : List ℕ) (r : PageAnswer) (bytes′ : List ℕ) : Type 0 where
   pub answer : pageSaid r ≡ (pageVerdict volumes masses cells page (length bytes) andThen accepted (pageBytes (restPlaces cells volumes) cells page))
-  pub bytes-after : bytes′ ≡ taken (pageVerdict volumes masses cells page (length bytes))
+  pub bytes-after : bytes′ ≡ granted (pageVerdict volumes masses cells page (length bytes))
       (over (pageText volumes masses (restPlaces cells volumes) cells page) bytes) bytes

@@ -7,7 +7,7 @@ use native.Mathlib.Omega.{arith}
 use Rattle.lists.proofs.Tables.{getD-table}
 use Rattle.model.specs.Mesh.{Mesh, volume}
 use Rattle.model.specs.Step.{rounded, mass, concentration, low}
-use Rattle.model.specs.Causes.{Outcome, accepted, refused, taken, fine, Call, release, inputOf, verdict}
+use Rattle.model.specs.Causes.{Outcome, accepted, refused, granted, fine, Call, release, inputOf, verdict}
 use Rattle.model.specs.Calls.{massIn, Left, fieldAfter, plain, lentMasses, stepOnTables, afterAll, EachStep}
 use Rattle.model.specs.Accepted.{Sound}
 use Rattle.model.proofs.Raised.{raised-at}
@@ -120,7 +120,7 @@ module _ (M : Mesh) {K : Type 0} (past : K → List ℕ) (tables : K → Call) (
 
   after-one : (k : K) (field : List ℕ) (x : Fractions) (n : ℕ) → AllCloser M n field x
       → (o : Outcome Left) → ((l : Left) → o ≡ accepted l → AsPlain k field l)
-      → AllCloser M (taken o 1 0 + n) (fieldAfter o field) (taken o (unroundedStep M (tables k) x) x)
+      → AllCloser M (granted o 1 0 + n) (fieldAfter o field) (granted o (unroundedStep M (tables k) x) x)
   after-one k field x n a (accepted l) e = subst (λ (j : ℕ). AllCloser M j (l .field) (unroundedStep M (tables k) x)) (omega arith)
       (call-closer M (past k) (tables k) field l (e l refl) n x (record { some = a .some; each = λ c h. weaker (a .each c h) }))
   after-one k field x n a (refused i j) e = subst (λ (j : ℕ). AllCloser M j field x) (omega arith) a
@@ -133,9 +133,9 @@ module _ (M : Mesh) {K : Type 0} (past : K → List ℕ) (tables : K → Call) (
   grows (k ∷ ks) field p x n a =
       let o = comes k field in
       let left = fieldAfter o field in
-      let y = taken o (unroundedStep M (tables k) x) x in
+      let y = granted o (unroundedStep M (tables k) x) x in
       subst (λ (j : ℕ). AllCloser M j (afterAll comes left ks) (unrounded y left ks)) (omega arith)
-      (grows ks left (p .1) y (taken o 1 0 + n) (after-one k field x n a o (p .0)))
+      (grows ks left (p .1) y (granted o 1 0 + n) (after-one k field x n a o (p .0)))
 
   -- without error, the first accepted call brings one below 1
   begins : (ks : List K) (field : List ℕ) → AllPlain field ks → (x : Fractions) → AllWithin M 0 field x → 1 ≤ accepts field ks
@@ -148,9 +148,9 @@ module _ (M : Mesh) {K : Type 0} (past : K → List ℕ) (tables : K → Call) (
           → (AllPlain field ks → 1 ≤ accepts field ks
           → AllCloser M (accepts field ks) (afterAll comes field ks) (unrounded x field ks))
           → ((l : Left) → o ≡ accepted l → AsPlain k field l) → AllPlain (fieldAfter o field) ks
-          → 1 ≤ taken o 1 0 + accepts (fieldAfter o field) ks
-          → AllCloser M (taken o 1 0 + accepts (fieldAfter o field) ks) (afterAll comes (fieldAfter o field) ks)
-          (unrounded (taken o (unroundedStep M (tables k) x) x) (fieldAfter o field) ks)
+          → 1 ≤ granted o 1 0 + accepts (fieldAfter o field) ks
+          → AllCloser M (granted o 1 0 + accepts (fieldAfter o field) ks) (afterAll comes (fieldAfter o field) ks)
+          (unrounded (granted o (unroundedStep M (tables k) x) x) (fieldAfter o field) ks)
       go (accepted l) later e q h =
           subst (λ (j : ℕ). AllCloser M j (afterAll comes (l .field) ks) (unrounded (unroundedStep M (tables k) x) (l .field) ks)) (omega arith)
           (grows ks (l .field) q (unroundedStep M (tables k) x) 1 (call-closer M (past k) (tables k) field l (e l refl) 0 x w))

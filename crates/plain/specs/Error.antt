@@ -4,7 +4,7 @@ use mathlib.Core.Path.{_≡_}
 use mathlib.Core.List.{List, [], _∷_}
 use Rattle.model.specs.Mesh.{Mesh, volume, incoming, outgoing}
 use Rattle.model.specs.Step.{mass, concentration, carried, low}
-use Rattle.model.specs.Causes.{Outcome, taken, fine, Call, inputOf, verdict}
+use Rattle.model.specs.Causes.{Outcome, granted, fine, Call, inputOf, verdict}
 use Rattle.model.specs.Calls.{massIn, Left, fieldAfter, plain, lentMasses, stepOnTables, afterAll}
 use Rattle.plain.specs.Unrounded.{Fractions, wholeMasses, inParts, unroundedInput, unroundedStep}
 
@@ -28,12 +28,12 @@ module _ (M : Mesh) {K : Type 0} (tables : K → Call) (comes : K → List ℕ �
   -- n: how many of them are accepted
   unfoldable pub acceptedOf : List ℕ → List K → ℕ
   acceptedOf field [] = 0
-  acceptedOf field (k ∷ ks) = taken (comes k field) 1 0 + acceptedOf (fieldAfter (comes k field) field) ks
+  acceptedOf field (k ∷ ks) = granted (comes k field) 1 0 + acceptedOf (fieldAfter (comes k field) field) ks
 
   -- the unrounded steps of those that are accepted; they are tested by no causes of their own
   unfoldable pub unroundedAfter : Fractions → List ℕ → List K → Fractions
   unroundedAfter x field [] = x
-  unroundedAfter x field (k ∷ ks) = unroundedAfter (taken (comes k field) (unroundedStep M (tables k) x) x) (fieldAfter (comes k field) field) ks
+  unroundedAfter x field (k ∷ ks) = unroundedAfter (granted (comes k field) (unroundedStep M (tables k) x) x) (fieldAfter (comes k field) field) ks
 
   -- m/V of the field after all calls, and the same of the unrounded masses
   abbrev pub ErrorBelow : List ℕ → List K → Type 0

@@ -10,7 +10,7 @@ use Rattle.lists.specs.Table.{table, over}
 use Rattle.lists.proofs.Tables.{length-table, getD-table, table-cong}
 use Rattle.model.specs.Mesh.{Mesh, second, updated}
 use Rattle.model.specs.Step.{StepInput, mass, releasedMass}
-use Rattle.model.specs.Causes.{accepted, refused, Verdict, fine, _andThen_, taken, Call, inputOf, meshValues, meshVerdict}
+use Rattle.model.specs.Causes.{accepted, refused, Verdict, fine, _andThen_, granted, Call, inputOf, meshValues, meshVerdict}
 use Rattle.model.specs.Calls.{massIn, Bounded, Left, crossingOf, Scheme}
 use Rattle.model.proofs.Verdicts.{accepted-of, refused-of}
 use Rattle.model.proofs.Accepted.{counted, mesh-fit}
@@ -110,7 +110,7 @@ module _ (s : Scheme) (keeping : Keeping s) (M : Mesh) (mesh-fine : meshVerdict 
   -- what was found, as the number says it; where it is nothing the scheme finds nothing, and the bytes are the next field record
   module _ (v : Verdict) (says : hostSaid (m .number) ≡ v)
       (finds : v ≡ fine → s .finds (meshIn (m .mesh)) (massesIn (m .field) (meshIn (m .mesh) .cells)) (callIn (meshIn (m .mesh))) ≡ fine)
-      (bytes-are : m .bytes ≡ taken v (over (fieldRecord (fieldKind (widthIn (m .mesh))) (meshIn (m .mesh) .cells)
+      (bytes-are : m .bytes ≡ granted v (over (fieldRecord (fieldKind (widthIn (m .mesh))) (meshIn (m .mesh) .cells)
       (nextBy s (meshIn (m .mesh)) (massesIn (m .field) (meshIn (m .mesh) .cells)) (callIn (meshIn (m .mesh))))) (m .room)) (m .room)) where
     module _ (ok : v ≡ fine) where
       found : s .finds (trimmed M) (trimmedField M field) k ≡ fine

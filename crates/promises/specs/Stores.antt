@@ -7,7 +7,7 @@ use mathlib.Core.List.{List, [], _∷_, _++_}
 use lib.ListN.{take, replicate}
 use Rattle.lists.specs.Table.{table, over}
 use Rattle.model.specs.Mesh.{Mesh}
-use Rattle.model.specs.Causes.{Outcome, accepted, fine, taken, _andThen_, meshVerdict, fieldVerdict}
+use Rattle.model.specs.Causes.{Outcome, accepted, fine, granted, _andThen_, meshVerdict, fieldVerdict}
 use Rattle.model.specs.Answers.{said}
 use Rattle.model.specs.declared.Answer.{Answer}
 use Rattle.model.specs.Calls.{massIn, lentMasses, Deed, givenBack, storeOnly, stepping, lastField, EachCall, Ledger}
@@ -53,11 +53,11 @@ module _ (M : Mesh) where
   -- after a return the field is what was kept; a refused one leaves the table as it was.
   abbrev pub CallOwed : ListCall → List ℕ → Outcome Deed → Type 0
   CallOwed (aStep call) field o = StepOwed M call field (cameTo M call field)
-  CallOwed (byKeep m) field o = taken o
+  CallOwed (byKeep m) field o = granted o
       (fieldsIn (M .cells) (m .written) ≡ fieldsIn (M .cells) (m .store) ++ (record { name = m .name; masses = table (M .cells) (massIn field) } ∷ []))
       (m .written ≡ m .store)
-  CallOwed (byDrop m) field o = taken o (fieldsIn (M .cells) (m .written) ≡ without (m .name) (fieldsIn (M .cells) (m .store))) (m .written ≡ m .store)
-  CallOwed (byReturn m) field o = taken o (m .written ≡ heldUnder (m .name) (fieldsIn (M .cells) (m .store)) ++ m .past)
+  CallOwed (byDrop m) field o = granted o (fieldsIn (M .cells) (m .written) ≡ without (m .name) (fieldsIn (M .cells) (m .store))) (m .written ≡ m .store)
+  CallOwed (byReturn m) field o = granted o (m .written ≡ heldUnder (m .name) (fieldsIn (M .cells) (m .store)) ++ m .past)
       (m .written ≡ lentMasses M (m .past) field)
 
 -- DEMAND 3 with calls on stores: from any accepted mesh and first field, after any list of steps, keeps, drops and returns, whichever of them

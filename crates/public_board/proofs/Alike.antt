@@ -10,8 +10,8 @@ use Rattle.public_marks.specs.Marks.{isOpen, SameInOpen}
 use Rattle.public_marks.proofs.Judged.{same-tests}
 use Rattle.board.specs.Board.{boardSize, shown, entryOf, entryAt, rankedAt, cellBefore, listedOf, entriesOf}
 use Rattle.board.specs.declared.Entry.{Entry}
-use Rattle.public_board.specs.Public.{openEntries, publicVerdict}
-use Rattle.public_board.specs.Alike.{NothingTold}
+use Rattle.public_board.specs.Public.{openEntries, publicBoardVerdict}
+use Rattle.public_board.specs.Alike.{BoardTellsNothing}
 
 module _ (volumes masses : List ℕ) where
   -- entries are what is shown of ranked cells
@@ -41,11 +41,11 @@ module _ (volumes marks : List ℕ) (cells : ℕ) (masses masses′ : List ℕ) 
   unfolding entriesOf
   same-entries = rw (first-ranked volumes masses marks cells, same-order, ← first-ranked volumes masses′ marks cells) refl
 
-  pub same-verdict : publicVerdict volumes masses marks cells ≡ publicVerdict volumes masses′ marks cells
-  unfolding publicVerdict
+  pub same-verdict : publicBoardVerdict volumes masses marks cells ≡ publicBoardVerdict volumes masses′ marks cells
+  unfolding publicBoardVerdict
   same-verdict = let t = same-tests s in rw (t .0, t .1)
 
-pub nothing-told : NothingTold
+pub nothing-told : BoardTellsNothing
 nothing-told volumes marks cells masses masses′ s r r′ p p′ =
     let v = same-verdict volumes marks cells masses masses′ s in
     let t = same-entries volumes marks cells masses masses′ s in

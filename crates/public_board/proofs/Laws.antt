@@ -13,7 +13,7 @@ use Rattle.public_marks.specs.Marks.{isOpen, marksLong, marksGood}
 use Rattle.board.specs.Board.{boardSize, cellBefore, Rankable}
 use Rattle.board.specs.declared.BoardAnswer.{BoardAnswer}
 use Rattle.board.proofs.Listed.{rank-asks, listed-ordered, unlisted-after}
-use Rattle.public_board.specs.Public.{openListed, openEntries, publicVerdict, PublicBoardIs}
+use Rattle.public_board.specs.Public.{openListed, openEntries, publicBoardVerdict, PublicBoardIs}
 
 in-order : (l k m f g : Verdict) → l ≡ fine → (l andThen k andThen m andThen f andThen g) ≡ (k andThen (l andThen m andThen f) andThen g)
 in-order l k m f g e = rw (past k e, past m e) (ap (λ (v : Verdict). v andThen g) (andThen-assoc k m f))
@@ -22,18 +22,18 @@ module _ (volumes masses marks : List ℕ) (cells : ℕ) where
   -- THE TESTS as the call makes them: first what is lent, then the marks' table, then all of the field and the marks
   pub judged-out : {k i : ℕ} → (counts (cellsOnly cells volumes) andThen meshTables (cellsOnly cells volumes)
       andThen fieldTable (cellsOnly cells volumes) masses) ≡ refused k i
-      → publicVerdict volumes masses marks cells ≡ refused k i
-  unfolding publicVerdict
+      → publicBoardVerdict volumes masses marks cells ≡ refused k i
+  unfolding publicBoardVerdict
   judged-out e = refused-at [] (_ ∷ _ ∷ _ ∷ _ ∷ []) tt e
 
   pub judged-on : (counts (cellsOnly cells volumes) andThen meshTables (cellsOnly cells volumes) andThen fieldTable (cellsOnly cells volumes) masses) ≡ fine
-      → publicVerdict volumes masses marks cells ≡ (marksLong marks cells andThen meshFieldVerdict (cellsOnly cells volumes) masses
+      → publicBoardVerdict volumes masses marks cells ≡ (marksLong marks cells andThen meshFieldVerdict (cellsOnly cells volumes) masses
       andThen marksGood marks cells)
-  unfolding publicVerdict meshFieldVerdict
+  unfolding publicBoardVerdict meshFieldVerdict
   judged-on e = in-order _ _ _ _ _ e
 
-  pub asks : publicVerdict volumes masses marks cells ≡ fine → Rankable volumes masses cells
-  unfolding publicVerdict meshFieldVerdict
+  pub asks : publicBoardVerdict volumes masses marks cells ≡ fine → Rankable volumes masses cells
+  unfolding publicBoardVerdict meshFieldVerdict
   asks e =
       let M = cellsOnly cells volumes in
       let p = all-fine (counts M ∷ meshTables M ∷ fieldTable M masses ∷ marksLong marks cells ∷ meshValues ceiling M ∷ fieldValues M masses

@@ -17,8 +17,8 @@ module _ (volumes masses marks : List ℕ) (cells : ℕ) where
   openEntries = entriesOf volumes masses (isOpen marks) cells
 
   -- the board's causes, with the marks' table among the tables and 27 at the end
-  unfoldable pub publicVerdict : Verdict
-  publicVerdict =
+  unfoldable pub publicBoardVerdict : Verdict
+  publicBoardVerdict =
       counts (cellsOnly cells volumes)
       andThen meshTables (cellsOnly cells volumes)
       andThen fieldTable (cellsOnly cells volumes) masses
@@ -29,4 +29,4 @@ module _ (volumes masses marks : List ℕ) (cells : ℕ) where
 
   -- what the public board answers: the growers' board, had the withheld cells not been there
   abbrev pub PublicBoardIs : BoardAnswer → Type 0
-  PublicBoardIs = BoardAfter publicVerdict volumes masses (isOpen marks) cells
+  PublicBoardIs = BoardAfter publicBoardVerdict volumes masses (isOpen marks) cells

@@ -8,11 +8,11 @@ use public_marks::marks_good;
 use public_marks::marks_long;
 ghost use mathlib.Core.Path.{_≡_};
 ghost use Rattle.model.specs.Answers.{said};
-ghost use Rattle.public_board.specs.Public.{publicVerdict, PublicBoardIs};
+ghost use Rattle.public_board.specs.Public.{publicBoardVerdict, PublicBoardIs};
 
 // What the public board is refused for.
 fn judge(cells: usize, volumes: &[u64], masses: &[u64], marks: &[u64]) -> Answer
-    ensures { λ r. ⌜ said r ≡ publicVerdict (now (volumes .entry)) (now (masses .entry)) (now (marks .entry)) cells ⌝ }
+    ensures { λ r. ⌜ said r ≡ publicBoardVerdict (now (volumes .entry)) (now (masses .entry)) (now (marks .entry)) cells ⌝ }
 {
     let none = &volumes[..0];
     let tables = check_lent::field_lent(cells, 0, volumes, none, none, none, none, masses);

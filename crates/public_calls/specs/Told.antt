@@ -16,7 +16,7 @@ use Rattle.host_field.specs.Field.{PublicPageFromC}
 use Rattle.host_board.specs.Board.{shownNumbers, PublicBoardFromC}
 use Rattle.host_taking.specs.Taken.{fieldIn}
 use Rattle.host_cells.specs.Cells.{PublicPromise}
-use Rattle.host_boards.specs.Boards.{publicFound}
+use Rattle.host_boards.specs.Boards.{publicBoardFound}
 
 -- ON TABLES
 module _ (volumes marks : List ℕ) (cells : ℕ) (masses masses′ : List ℕ) where
@@ -44,7 +44,7 @@ module _ (mesh marks field field′ : List ℕ) where
 
   abbrev pub RecordBoardTold : Type 0
   RecordBoardTold = RecordsAgree mesh marks field field′ → (found : List ℕ) (r r′ : ℕ) (told told′ : List ℕ)
-      → Answered shownNumbers (publicFound mesh field marks) found r told → Answered shownNumbers (publicFound mesh field′ marks) found r′ told′
+      → Answered shownNumbers (publicBoardFound mesh field marks) found r told → Answered shownNumbers (publicBoardFound mesh field′ marks) found r′ told′
       → (r ≡ r′) × (told ≡ told′)
 
 -- all four

@@ -11,8 +11,8 @@ use Rattle.public_marks.proofs.Judged.{same-tests}
 use Rattle.page.specs.Page.{restPlaces, pageCells, cellsOn, lineOf, lineIf}
 use Rattle.page.specs.Answers.{verdictWith}
 use Rattle.page.proofs.Laws.{cell-there}
-use Rattle.public_page.specs.Public.{publicText, publicVerdict}
-use Rattle.public_page.specs.Alike.{NothingTold}
+use Rattle.public_page.specs.Public.{publicText, publicPageVerdict}
+use Rattle.public_page.specs.Alike.{PageTellsNothing}
 
 pieces-cong : (n : ℕ) (f g : ℕ → List ℕ) → ((i : ℕ) → i < n → f i ≡ g i) → pieces n f ≡ pieces n g
 unfolding pieces
@@ -35,11 +35,11 @@ module _ (volumes marks : List ℕ) (cells : ℕ) (masses masses′ : List ℕ) 
       (λ i. lineIf volumes masses′ (isOpen marks) places (page * pageCells + i))
       (λ i h. same-line places (page * pageCells + i) (cell-there cells page i h))
 
-  pub same-verdict : (page room : ℕ) → publicVerdict volumes masses marks cells page room ≡ publicVerdict volumes masses′ marks cells page room
-  unfolding publicVerdict verdictWith
+  pub same-verdict : (page room : ℕ) → publicPageVerdict volumes masses marks cells page room ≡ publicPageVerdict volumes masses′ marks cells page room
+  unfolding publicPageVerdict verdictWith
   same-verdict page room = let t = same-tests s in rw (t .0, t .1)
 
-pub nothing-told : NothingTold
+pub nothing-told : PageTellsNothing
 nothing-told volumes marks cells masses masses′ s page bytes r r′ after after′ p p′ =
     let v = same-verdict volumes marks cells masses masses′ s page (length bytes) in
     let t = same-text volumes marks cells masses masses′ s (restPlaces cells volumes) page in

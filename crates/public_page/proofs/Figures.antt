@@ -9,11 +9,11 @@ use Rattle.text.specs.Lines.{pieces}
 use Rattle.public_marks.specs.Marks.{isOpen, markGood}
 use Rattle.page.specs.Page.{narrowPlaces, widePlaces, restPlaces, cellLine, massLine, pages, cellsOn, pageBytes, lineOf, lineIf, pageMass, pageText}
 use Rattle.page.specs.Answers.{verdictWith}
-use Rattle.public_page.specs.Public.{publicText, publicVerdict}
+use Rattle.public_page.specs.Public.{publicText, publicPageVerdict}
 
 everything : Unit {0}
 unfolding greatest _andThen_ need each countsWithin counts meshTables volumeGood meshValues fieldTable saltGood fieldValues
-    pieces isOpen markGood restPlaces pages cellsOn pageBytes lineOf lineIf verdictWith publicText publicVerdict
+    pieces isOpen markGood restPlaces pages cellsOn pageBytes lineOf lineIf verdictWith publicText publicPageVerdict
 everything = tt
 
 -- THE CHANNEL
@@ -54,31 +54,31 @@ unfolding everything
 wide = append-nil (cellLine widePlaces 0 1000 99)
 
 -- REFUSED: bytes one short of the whole page, mass line included, however many cells are withheld
-pub enough : publicVerdict volumes masses (1 ∷ 1 ∷ 1 ∷ []) 3 0 72 ≡ fine
+pub enough : publicPageVerdict volumes masses (1 ∷ 1 ∷ 1 ∷ []) 3 0 72 ≡ fine
 unfolding everything
 enough = refl
 
-pub one-short : publicVerdict volumes masses (1 ∷ 1 ∷ 1 ∷ []) 3 0 71 ≡ refused 2 12
+pub one-short : publicPageVerdict volumes masses (1 ∷ 1 ∷ 1 ∷ []) 3 0 71 ≡ refused 2 12
 unfolding everything
 one-short = refl
 
-pub wide-enough : publicVerdict (100 ∷ 4096 ∷ []) (0 ∷ 0 ∷ []) (0 ∷ 1 ∷ []) 2 0 57 ≡ fine
+pub wide-enough : publicPageVerdict (100 ∷ 4096 ∷ []) (0 ∷ 0 ∷ []) (0 ∷ 1 ∷ []) 2 0 57 ≡ fine
 unfolding everything
 wide-enough = refl
 
-pub wide-short : publicVerdict (100 ∷ 4096 ∷ []) (0 ∷ 0 ∷ []) (0 ∷ 1 ∷ []) 2 0 56 ≡ refused 2 12
+pub wide-short : publicPageVerdict (100 ∷ 4096 ∷ []) (0 ∷ 0 ∷ []) (0 ∷ 1 ∷ []) 2 0 56 ≡ refused 2 12
 unfolding everything
 wide-short = refl
 
 -- the marks' table before 3, the page before another mark
-pub marks-short : publicVerdict (0 ∷ 0 ∷ 0 ∷ []) masses (1 ∷ 1 ∷ []) 3 0 72 ≡ refused 2 19
+pub marks-short : publicPageVerdict (0 ∷ 0 ∷ 0 ∷ []) masses (1 ∷ 1 ∷ []) 3 0 72 ≡ refused 2 19
 unfolding everything
 marks-short = refl
 
-pub beyond-first : publicVerdict volumes masses (2 ∷ 2 ∷ 2 ∷ []) 3 1 0 ≡ refused 14 1
+pub beyond-first : publicPageVerdict volumes masses (2 ∷ 2 ∷ 2 ∷ []) 3 1 0 ≡ refused 14 1
 unfolding everything
 beyond-first = refl
 
-pub another-mark : publicVerdict volumes masses (1 ∷ 0 ∷ 2 ∷ []) 3 0 72 ≡ refused 27 2
+pub another-mark : publicPageVerdict volumes masses (1 ∷ 0 ∷ 2 ∷ []) 3 0 72 ≡ refused 27 2
 unfolding everything
 another-mark = refl

@@ -20,16 +20,16 @@ use Rattle.page.specs.Answers.{verdictWith}
 use Rattle.page.specs.declared.PageAnswer.the-variants.{Printed, Refused}
 use Rattle.page.proofs.Laws.{page-begins, cells-end, bytes-needed, PagePassed, page-passed, few-cells, figures-fit, put-asks}
 use Rattle.page.proofs.Printed.{each-length}
-use Rattle.public_page.specs.Public.{publicText, publicVerdict, PublicPageIs}
+use Rattle.public_page.specs.Public.{publicText, publicPageVerdict, PublicPageIs}
 
 -- WHAT IS ACCEPTED HERE is accepted as a whole page
 module _ (volumes masses marks : List ℕ) (cells page room : ℕ) where
-  pub passed : publicVerdict volumes masses marks cells page room ≡ fine → PagePassed volumes masses cells page room
-  unfolding publicVerdict
+  pub passed : publicPageVerdict volumes masses marks cells page room ≡ fine → PagePassed volumes masses cells page room
+  unfolding publicPageVerdict
   passed e = page-passed (marksLong marks cells) volumes masses cells page room
       (both-fine (verdictWith (marksLong marks cells) volumes masses cells page room) (marksGood marks cells) e .0)
 
-  module _ (e : publicVerdict volumes masses marks cells page room ≡ fine) where
+  module _ (e : publicPageVerdict volumes masses marks cells page room ≡ fine) where
     -- the cells of the page are there
     pub begins : page * pageCells < cells
     begins = page-begins cells page (passed e .there)
@@ -61,12 +61,12 @@ either-most false w xs e = omega arith
 
 -- WHAT THE CALL ANSWERS, refused and accepted
 module _ (volumes masses marks : List ℕ) (cells page : ℕ) (bytes : List ℕ) where
-  pub public-refused : {r : Refusal} → publicVerdict volumes masses marks cells page (length bytes) ≡ told r
+  pub public-refused : {r : Refusal} → publicPageVerdict volumes masses marks cells page (length bytes) ≡ told r
       → PublicPageIs volumes masses marks cells page bytes (Refused r) bytes
   unfolding _andThen_
   public-refused e = record { answer = rw e; bytes-after = rw e }
 
-  text-fits : publicVerdict volumes masses marks cells page (length bytes) ≡ fine
+  text-fits : publicPageVerdict volumes masses marks cells page (length bytes) ≡ fine
       → length (publicText volumes masses marks (restPlaces cells volumes) cells page) ≤ length bytes
   unfolding publicText lineIf
   text-fits e =
@@ -85,7 +85,7 @@ module _ (volumes masses marks : List ℕ) (cells page : ℕ) (bytes : List ℕ)
         one-mul (lineBytes (restPlaces cells volumes)),
       )
 
-  pub public-accepted : {n count : ℕ} {bytes′ : List ℕ} → publicVerdict volumes masses marks cells page (length bytes) ≡ fine → count ≡ cellsOn cells page
+  pub public-accepted : {n count : ℕ} {bytes′ : List ℕ} → publicPageVerdict volumes masses marks cells page (length bytes) ≡ fine → count ≡ cellsOn cells page
       → Puts bytes 0 (pieces count (λ i. lineIf volumes masses (isOpen marks) (restPlaces cells volumes) (page * pageCells + i))) n bytes′
       → PublicPageIs volumes masses marks cells page bytes (Printed n) bytes′
   unfolding _andThen_ publicText

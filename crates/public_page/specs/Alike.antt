@@ -8,8 +8,8 @@ use Rattle.page.specs.declared.PageAnswer.{PageAnswer}
 use Rattle.public_page.specs.Public.{PublicPageIs}
 
 -- Two calls of `public_page` as they were made, for the same page and lent the same bytes: answers, refusals included, and bytes are equal.
-abbrev pub NothingTold : Type 0
-NothingTold = (volumes marks : List ℕ) (cells : ℕ) (masses masses′ : List ℕ) → SameInOpen volumes marks cells masses masses′
+abbrev pub PageTellsNothing : Type 0
+PageTellsNothing = (volumes marks : List ℕ) (cells : ℕ) (masses masses′ : List ℕ) → SameInOpen volumes marks cells masses masses′
     → (page : ℕ) (bytes : List ℕ) (r r′ : PageAnswer) (after after′ : List ℕ)
     → PublicPageIs volumes masses marks cells page bytes r after → PublicPageIs volumes masses′ marks cells page bytes r′ after′
     → (pageSaid r ≡ pageSaid r′) × (after ≡ after′)

@@ -10,7 +10,7 @@ use public_marks::marks_good;
 use public_marks::marks_long;
 ghost use mathlib.Core.Path.{_≡_};
 ghost use Rattle.model.specs.Answers.{said};
-ghost use Rattle.public_page.specs.Public.{publicVerdict, PublicPageIs};
+ghost use Rattle.public_page.specs.Public.{publicPageVerdict, PublicPageIs};
 
 // What printing a public page into so many bytes is refused for. The marks are read only where the cells are few and the table is long enough.
 fn judge_public(
@@ -21,7 +21,7 @@ fn judge_public(
     room: usize,
     marks: &[u64],
 ) -> Answer
-    ensures { λ r. ⌜ said r ≡ publicVerdict (now (volumes .entry)) (now (masses .entry)) (now (marks .entry)) cells page room ⌝ }
+    ensures { λ r. ⌜ said r ≡ publicPageVerdict (now (volumes .entry)) (now (masses .entry)) (now (marks .entry)) cells page room ⌝ }
 {
     let marked = marks_long(cells, marks);
     let whole = judge(cells, volumes, masses, page, room, marked);

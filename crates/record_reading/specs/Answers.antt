@@ -4,7 +4,7 @@ use mathlib.Core.Path.{_≡_}
 use mathlib.Core.List.{List}
 use lib.IntN.{ℤ}
 use Rattle.lists.specs.Table.{over}
-use Rattle.model.specs.Causes.{Outcome, accepted, Verdict, taken}
+use Rattle.model.specs.Causes.{Outcome, accepted, Verdict, granted}
 use Rattle.model.specs.Answers.{told, said}
 use Rattle.model.specs.declared.Answer.{Answer}
 use Rattle.record_heads.specs.declared.Width.{Width}
@@ -30,19 +30,19 @@ stepReadSaid w (step.Refused r) = told r
 pub record MeshReading (o : Outcome MeshCounts) (bs volumes firsts seconds shares reaches : List ℕ) (r : MeshAnswer)
     (volumes′ firsts′ seconds′ shares′ reaches′ : List ℕ) : Type 0 where
   pub answer : meshSaid r ≡ o
-  pub volumes-read : volumes′ ≡ taken o (over (volumesIn bs) volumes) volumes
-  pub firsts-read : firsts′ ≡ taken o (over (firstsIn bs) firsts) firsts
-  pub seconds-read : seconds′ ≡ taken o (over (secondsIn bs) seconds) seconds
-  pub shares-read : shares′ ≡ taken o (over (sharesIn bs) shares) shares
-  pub reaches-read : reaches′ ≡ taken o (over (reachesIn bs) reaches) reaches
+  pub volumes-read : volumes′ ≡ granted o (over (volumesIn bs) volumes) volumes
+  pub firsts-read : firsts′ ≡ granted o (over (firstsIn bs) firsts) firsts
+  pub seconds-read : seconds′ ≡ granted o (over (secondsIn bs) seconds) seconds
+  pub shares-read : shares′ ≡ granted o (over (sharesIn bs) shares) shares
+  pub reaches-read : reaches′ ≡ granted o (over (reachesIn bs) reaches) reaches
 
 pub record FieldReading (o : Verdict) (cells : ℕ) (bs masses : List ℕ) (r : Answer) (masses′ : List ℕ) : Type 0 where
   pub answer : said r ≡ o
-  pub masses-read : masses′ ≡ taken o (over (massesIn bs cells) masses) masses
+  pub masses-read : masses′ ≡ granted o (over (massesIn bs cells) masses) masses
 
 pub record StepReading (w : Width) (o : Outcome ℕ) (cells faces : ℕ) (seconds bs : List ℕ) (fluxes : List ℤ) (outsides releases : List ℕ)
     (r : StepRead) (fluxes′ : List ℤ) (outsides′ releases′ : List ℕ) : Type 0 where
   pub answer : stepReadSaid w r ≡ o
-  pub fluxes-read : fluxes′ ≡ taken o (over (fluxesIn bs faces) fluxes) fluxes
-  pub outsides-read : outsides′ ≡ taken o (over (outsidesIn bs faces seconds) outsides) outsides
-  pub releases-read : releases′ ≡ taken o (over (releasesIn bs cells faces seconds) releases) releases
+  pub fluxes-read : fluxes′ ≡ granted o (over (fluxesIn bs faces) fluxes) fluxes
+  pub outsides-read : outsides′ ≡ granted o (over (outsidesIn bs faces seconds) outsides) outsides
+  pub releases-read : releases′ ≡ granted o (over (releasesIn bs cells faces seconds) releases) releases

@@ -7,7 +7,7 @@ use lib.IntN.{ℤ}
 use Rattle.lists.specs.Table.{over}
 use Rattle.model.specs.Mesh.{Mesh}
 use Rattle.model.specs.Answers.{told}
-use Rattle.model.specs.Causes.{Outcome, accepted, Verdict, _andThen_, taken}
+use Rattle.model.specs.Causes.{Outcome, accepted, Verdict, _andThen_, granted}
 use Rattle.record_heads.specs.Layouts.{meshKind, fieldKind, meshRecord, fieldRecord, stepRecord, meshLength, fieldLength, stepLength}
 use Rattle.record_heads.specs.declared.Width.{Width}
 pub use Rattle.record_causes.specs.Verdicts.{releaseFits, releasesFit, mostOf}
@@ -23,7 +23,7 @@ writeSaid (write.Refused r) = told r
 -- Writing answers the length and leaves the bytes past it; a refused writing leaves all.
 pub record Writing (v : Verdict) (n : ℕ) (written bytes : List ℕ) (r : WriteAnswer) (bytes′ : List ℕ) : Type 0 where
   pub answer : writeSaid r ≡ (v andThen accepted n)
-  pub bytes-written : bytes′ ≡ taken v (over written bytes) bytes
+  pub bytes-written : bytes′ ≡ granted v (over written bytes) bytes
 
 -- What each writer promises: its answer, and the bytes afterwards.
 module _ (w : Width) (M : Mesh) where

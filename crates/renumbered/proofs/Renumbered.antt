@@ -15,22 +15,22 @@ use Rattle.lists.proofs.Renumbered.{length-carried, getD-carried, over-carried}
 use Rattle.signed.specs.Sign.{turn}
 use Rattle.model.specs.Mesh.{Mesh, volume, first, second, reach, atRim, rim, updated}
 use Rattle.model.specs.Step.{mass}
-use Rattle.model.specs.Causes.{fine, taken, Call, release, inputOf, meshTables, meshVerdict, fieldTable, stepTables}
+use Rattle.model.specs.Causes.{fine, granted, Call, release, inputOf, meshTables, meshVerdict, fieldTable, stepTables}
 use Rattle.model.specs.Calls.{massIn, Scheme, corrected, plain, nextTable, movedTable}
 use Rattle.model.specs.Alike.{Facing, straight, turned, AlikeMesh}
 use Rattle.renumbered.specs.Renumbered.{amountIn, isTurned, byCell, amountByFace, newFirst, newSecond, newShare, renumberedMesh, renumberedField, renumberedCall, SameRoom, CarriedAlong, S9}
 use Rattle.renumbered.proofs.Schemes.{Numberless, corrected-numberless, plain-numberless}
-use Rattle.renumbered.proofs.TwoSteps.{lent, Meshes, Calls, mesh-passes, calls-lent, answer-same, moves-same, masses-same, taken-same}
+use Rattle.renumbered.proofs.TwoSteps.{lent, Meshes, Calls, mesh-passes, calls-lent, answer-same, moves-same, masses-same, granted-same}
 
 -- what a step leaves, and what an accepted one leaves in the counted entries
 pub next-is : (s : Scheme) (M : Mesh) (k : Call) (field : List ℕ)
-    → nextTable s M k field ≡ taken (s .finds M field k) (over (table (M .cells) (updated M (mass (inputOf M field k)) (s .moves M field k))) (k .nexts))
+    → nextTable s M k field ≡ granted (s .finds M field k) (over (table (M .cells) (updated M (mass (inputOf M field k)) (s .moves M field k))) (k .nexts))
     (k .nexts)
 unfolding nextTable
 next-is s M k field = refl
 
 pub moved-is : (s : Scheme) (M : Mesh) (k : Call) (field : List ℕ)
-    → movedTable s M k field ≡ taken (s .finds M field k) (over (table (M .faces) (s .moves M field k)) (k .moveds)) (k .moveds)
+    → movedTable s M k field ≡ granted (s .finds M field k) (over (table (M .faces) (s .moves M field k)) (k .moveds)) (k .moveds)
 unfolding movedTable
 moved-is s M k field = refl
 
@@ -127,11 +127,12 @@ module _ (M : Mesh) (mesh-fine : meshVerdict M ≡ fine) (cell : Renumbering (M 
     carries : CarriedAlong M cell face turns s field k nexts moveds work
     carries = record { answer = answer-same both s blind; next-masses = next-masses; moved-masses = moved-masses }
       where
-        next-masses : nextTable s M′ k′ field′ ≡ taken (s .finds M field k) (byCell M cell face turns (massIn (nextTable s M k field)) nexts) nexts
-        next-masses = next-is s M′ k′ field′ ∙ taken-same both s blind _ _ nexts next-carried
+        next-masses : nextTable s M′ k′ field′ ≡ granted (s .finds M field k) (byCell M cell face turns (massIn (nextTable s M k field)) nexts) nexts
+        next-masses = next-is s M′ k′ field′ ∙ granted-same both s blind _ _ nexts next-carried
 
-        moved-masses : movedTable s M′ k′ field′ ≡ taken (s .finds M field k) (amountByFace M cell face turns (amountIn (movedTable s M k field)) moveds) moveds
-        moved-masses = moved-is s M′ k′ field′ ∙ taken-same both s blind _ _ moveds moved-carried
+        moved-masses : movedTable s M′ k′ field′
+            ≡ granted (s .finds M field k) (amountByFace M cell face turns (amountIn (movedTable s M k field)) moveds) moveds
+        moved-masses = moved-is s M′ k′ field′ ∙ granted-same both s blind _ _ moveds moved-carried
 
 pub s9 : (s : Scheme) → Numberless s → S9 s
 s9 s blind M mesh-fine cell face turns =

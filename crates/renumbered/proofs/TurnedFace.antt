@@ -15,14 +15,14 @@ use Rattle.lists.proofs.Tables.{getD-set, getD-over, over-set, table-cong}
 use Rattle.signed.specs.Sign.{turn}
 use Rattle.model.specs.Mesh.{Mesh, first, second, share, rim, updated}
 use Rattle.model.specs.Step.{mass}
-use Rattle.model.specs.Causes.{fine, taken, Call, inputOf, meshTables, meshVerdict, fieldTable, stepTables}
+use Rattle.model.specs.Causes.{fine, granted, Call, inputOf, meshTables, meshVerdict, fieldTable, stepTables}
 use Rattle.model.specs.Calls.{Scheme, corrected, plain, nextTable, movedTable}
 use Rattle.model.specs.Alike.{Facing, straight, turned, AlikeMesh}
 use Rattle.model.proofs.Agree.{whole}
 use Rattle.renumbered.specs.Renumbered.{amountIn}
 use Rattle.renumbered.specs.Turned.{turnedMesh, turnedCall, TurnsRound, S9Turned}
 use Rattle.renumbered.proofs.Schemes.{Numberless, corrected-numberless, plain-numberless}
-use Rattle.renumbered.proofs.TwoSteps.{lent, Meshes, Calls, mesh-passes, calls-lent, answer-same, moves-same, masses-same, taken-same}
+use Rattle.renumbered.proofs.TwoSteps.{lent, Meshes, Calls, mesh-passes, calls-lent, answer-same, moves-same, masses-same, granted-same}
 use Rattle.renumbered.proofs.Renumbered.{next-is, moved-is}
 
 module _ (M : Mesh) (mesh-fine : meshVerdict M ≡ fine) (g : ℕ) (inside : g < M .faces) (interior : second M g ≢ rim) where
@@ -109,11 +109,11 @@ module _ (M : Mesh) (mesh-fine : meshVerdict M ≡ fine) (g : ℕ) (inside : g <
     turns-round = record { answer = answer-same both s blind; next-masses = next-masses; moved-masses = moved-masses }
       where
         next-masses : nextTable s M′ k′ field ≡ nextTable s M k field
-        next-masses = next-is s M′ k′ field ∙ taken-same both s blind _ _ (k .nexts) next-kept ∙ sym (next-is s M k field)
+        next-masses = next-is s M′ k′ field ∙ granted-same both s blind _ _ (k .nexts) next-kept ∙ sym (next-is s M k field)
 
         moved-masses : movedTable s M′ k′ field
-            ≡ taken (s .finds M field k) (set (movedTable s M k field) g (negℤ (amountIn (movedTable s M k field) g))) (k .moveds)
-        moved-masses = moved-is s M′ k′ field ∙ taken-same both s blind _ _ (k .moveds) moved-negated
+            ≡ granted (s .finds M field k) (set (movedTable s M k field) g (negℤ (amountIn (movedTable s M k field) g))) (k .moveds)
+        moved-masses = moved-is s M′ k′ field ∙ granted-same both s blind _ _ (k .moveds) moved-negated
 
 pub s9-turned : (s : Scheme) → Numberless s → S9Turned s
 s9-turned s blind M mesh-fine g inside interior = (mesh-passes (meshes M mesh-fine g inside interior), turns-round M mesh-fine g inside interior s blind)

@@ -9,7 +9,7 @@ use Rattle.lists.specs.Renumbering.{Renumbering}
 use Rattle.signed.specs.Sign.{turn}
 use Rattle.model.specs.Mesh.{Mesh, rim, updated, ceiling}
 use Rattle.model.specs.Step.{mass}
-use Rattle.model.specs.Causes.{accepted, refused, Verdict, fine, _andThen_, taken, Call, inputOf, counts, meshTables, meshValues, meshVerdict, fieldTable, stepTables, verdict}
+use Rattle.model.specs.Causes.{accepted, refused, Verdict, fine, _andThen_, granted, Call, inputOf, counts, meshTables, meshValues, meshVerdict, fieldTable, stepTables, verdict}
 use Rattle.model.specs.Calls.{Crossing, Scheme, stepAnswer}
 use Rattle.model.specs.Accepted.{MeshLent, CallLent, MeshFit}
 use Rattle.model.specs.Alike.{AlikeMesh, AlikeCall}
@@ -48,10 +48,10 @@ unfolding verdict _andThen_
 led M field k i j e = rw e
 
 -- a place changes nothing of what is taken
-taken-shown : {A : Type 0} (p : Bool) (v : Verdict) (x y : A) → taken (withPlace p v) x y ≡ taken v x y
-taken-shown true v x y = refl
-taken-shown false (accepted t) x y = refl
-taken-shown false (refused i j) x y = refl
+granted-shown : {A : Type 0} (p : Bool) (v : Verdict) (x y : A) → granted (withPlace p v) x y ≡ granted v x y
+granted-shown true v x y = refl
+granted-shown false (accepted t) x y = refl
+granted-shown false (refused i j) x y = refl
 
 -- an accepted mesh and one that is alike, in tables of the same lengths; places are shown (p) where every number is kept
 pub record Meshes (p : Bool) (M M′ : Mesh) (cell : Renumbering (M .cells)) (face : Renumbering (M .faces)) (turns : ℕ → Bool) : Type 0 where
@@ -130,10 +130,10 @@ module _ {p : Bool} {M M′ : Mesh} {cell : Renumbering (M .cells)} {face : Renu
       (crossing-alike M M′ cell face turns field field′ k k′ (calls-alike e) (few M (m .mesh-fine)) (fit M (m .mesh-fine))))
 
   -- what stands in a table afterwards
-  pub taken-same : {A : Type 0} (x x′ y : A) → (s .finds M field k ≡ fine → x′ ≡ x) → taken (s .finds M′ field′ k′) x′ y ≡ taken (s .finds M field k) x y
-  taken-same x x′ y d =
-      sym (taken-shown p (s .finds M′ field′ k′) x′ y) ∙ rw found-same (taken-shown p (s .finds M field k) x′ y) ∙ go (s .finds M field k) refl
+  pub granted-same : {A : Type 0} (x x′ y : A) → (s .finds M field k ≡ fine → x′ ≡ x) → granted (s .finds M′ field′ k′) x′ y ≡ granted (s .finds M field k) x y
+  granted-same x x′ y d =
+      sym (granted-shown p (s .finds M′ field′ k′) x′ y) ∙ rw found-same (granted-shown p (s .finds M field k) x′ y) ∙ go (s .finds M field k) refl
     where
-      go : (v : Verdict) → s .finds M field k ≡ v → taken v x′ y ≡ taken v x y
+      go : (v : Verdict) → s .finds M field k ≡ v → granted v x′ y ≡ granted v x y
       go (accepted t) e = d e
       go (refused i j) e = refl

@@ -9,7 +9,7 @@ use lib.IntN.{ℤ, pos}
 use Rattle.lists.specs.Renumbering.{Renumbering, carriedAlong}
 use Rattle.signed.specs.Sign.{turn}
 use Rattle.model.specs.Mesh.{Mesh, meshOf, volume, first, second, share, reach, atRim, rim}
-use Rattle.model.specs.Causes.{Call, callOf, release, fine, taken, meshVerdict}
+use Rattle.model.specs.Causes.{Call, callOf, release, fine, granted, meshVerdict}
 use Rattle.model.specs.Calls.{massIn, Scheme, stepAnswer, nextTable, movedTable}
 use Rattle.model.specs.Alike.{unplaced}
 
@@ -70,9 +70,9 @@ module _ (M : Mesh) (cell : Renumbering (M .cells)) (face : Renumbering (M .face
     -- What the second office's step gives: the first's answer, where a refusal may have another place, and its masses and moved masses, carried along.
     pub record CarriedAlong : Type 0 where
       pub answer : unplaced (stepAnswer s renumberedMesh k′ field′) ≡ unplaced (stepAnswer s M k field)
-      pub next-masses : nextTable s renumberedMesh k′ field′ ≡ taken (s .finds M field k) (byCell (massIn (nextTable s M k field)) nexts) nexts
+      pub next-masses : nextTable s renumberedMesh k′ field′ ≡ granted (s .finds M field k) (byCell (massIn (nextTable s M k field)) nexts) nexts
       pub moved-masses : movedTable s renumberedMesh k′ field′
-          ≡ taken (s .finds M field k) (amountByFace (amountIn (movedTable s M k field)) moveds) moveds
+          ≡ granted (s .finds M field k) (amountByFace (amountIn (movedTable s M k field)) moveds) moveds
 
   pub record Renumbers (s : Scheme) : Type 0 where
     pub mesh-accepted : meshVerdict renumberedMesh ≡ fine

@@ -6,7 +6,7 @@ use mathlib.Core.List.{List}
 use lib.ListN.{set}
 use lib.IntN.{negℤ}
 use Rattle.model.specs.Mesh.{Mesh, meshOf, first, second, share, rim}
-use Rattle.model.specs.Causes.{Call, callOf, fine, taken, meshVerdict}
+use Rattle.model.specs.Causes.{Call, callOf, fine, granted, meshVerdict}
 use Rattle.model.specs.Calls.{Scheme, stepAnswer, nextTable, movedTable}
 use Rattle.renumbered.specs.Renumbered.{amountIn}
 
@@ -24,7 +24,7 @@ module _ (M : Mesh) (g : ℕ) where
     pub answer : stepAnswer s turnedMesh (turnedCall k) field ≡ stepAnswer s M k field
     pub next-masses : nextTable s turnedMesh (turnedCall k) field ≡ nextTable s M k field
     pub moved-masses : movedTable s turnedMesh (turnedCall k) field
-        ≡ taken (s .finds M field k) (set (movedTable s M k field) g (negℤ (amountIn (movedTable s M k field) g))) (k .moveds)
+        ≡ granted (s .finds M field k) (set (movedTable s M k field) g (negℤ (amountIn (movedTable s M k field) g))) (k .moveds)
 
 abbrev pub S9Turned : Scheme → Type 0
 S9Turned s = (M : Mesh) → meshVerdict M ≡ fine → (g : ℕ) → g < M .faces → second M g ≢ rim

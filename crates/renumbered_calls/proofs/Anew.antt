@@ -44,7 +44,7 @@ use Rattle.taking.specs.Taking.{stepIn, stepRecordFound}
 use Rattle.renumbered.specs.Renumbered.{amountIn, isTurned, newSecond}
 use Rattle.renumbered.proofs.TwoSteps.{fine-counts, fine-values}
 use Rattle.renumbered.proofs.Renumbered.{alike, s9-corrected}
-use Rattle.renumbered_calls.specs.Anew.{newMesh, meshAnew, newField, fieldAnew, newCall, stepAnew, Reads, Held}
+use Rattle.renumbered_calls.specs.Anew.{newMesh, meshAnew, newField, fieldAnew, newCall, stepAnew, Reads, HeldAnew}
 use Rattle.renumbered_calls.proofs.Judged.{found, mesh-fine, few, masses-long}
 
 -- a list is the table of its entries
@@ -303,7 +303,7 @@ module _ (mesh : List ℕ) (cell : Renumbering (cellsIn mesh)) (face : Renumberi
       (small .1) (small .1) (small .0)
       (λ i. rw step-kind-is (step-bits-good (kindIn step) (M .cells) (M .faces) seconds′ (k′ .fluxes) (k′ .outsides) (k′ .releases) step-anew-fits i))) .0
 
-  pub held : Held mesh cell face turns field step
+  pub held : HeldAnew mesh cell face turns field step
   held = record {
     reads-anew = record {
       mesh-accepted = mesh-judged;

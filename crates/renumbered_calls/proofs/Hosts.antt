@@ -14,7 +14,7 @@ use Rattle.lists.specs.Table.{table, over}
 use Rattle.lists.proofs.Tables.{length-table, getD-table}
 use Rattle.model.specs.Mesh.{Mesh, ceiling}
 use Rattle.model.specs.Step.{StepInput, next}
-use Rattle.model.specs.Causes.{accepted, refused, Verdict, fine, taken, bytesLong, inputOf, verdict}
+use Rattle.model.specs.Causes.{accepted, refused, Verdict, fine, granted, bytesLong, inputOf, verdict}
 use Rattle.model.specs.Alike.{unplaced}
 use Rattle.model.proofs.Verdicts.{both-fine}
 use Rattle.model.proofs.Accepted.{ready, hi-most, volumes-within}
@@ -37,7 +37,7 @@ use Rattle.host_answer.specs.Number.{causeStep, numberOf}
 use Rattle.host_answer.proofs.Small.{Parts}
 use Rattle.renumbered.specs.Renumbered.{renumberedField}
 use Rattle.renumbered.proofs.TwoSteps.{fine-values}
-use Rattle.renumbered_calls.specs.Anew.{meshAnew, fieldAnew, stepAnew, Reads, Held}
+use Rattle.renumbered_calls.specs.Anew.{meshAnew, fieldAnew, stepAnew, Reads, HeldAnew}
 use Rattle.renumbered_calls.specs.Hosts.{TwoHosts}
 use Rattle.renumbered_calls.proofs.Judged.{mesh-fine, judged, judged-is, few, judged-alike, as-held, next-anew}
 use Rattle.renumbered_calls.proofs.Anew.{exact, held}
@@ -73,7 +73,7 @@ module _ (mesh : List ℕ) (cell : Renumbering (cellsIn mesh)) (face : Renumberi
   abbrev n : ℕ
   n = cellsIn mesh
 
-  h : Held mesh cell face turns field step
+  h : HeldAnew mesh cell face turns field step
   h = held mesh cell face turns field step reads
 
   abbrev w : Width
@@ -147,7 +147,7 @@ module _ (mesh : List ℕ) (cell : Renumbering (cellsIn mesh)) (face : Renumberi
   unfolding hostBytes
   bytes-kept c p e = go v′ (found-alike ∙ ap unplaced e) _
     where
-      go : (u : Verdict) → unplaced u ≡ refused c 0 → (x : List ℕ) → taken u x lent′ ≡ lent′
+      go : (u : Verdict) → unplaced u ≡ refused c 0 → (x : List ℕ) → granted u x lent′ ≡ lent′
       go (accepted t) d x = let z : _≡_ {A = ℕ} 0 1 = cc in absurd (omega arith)
       go (refused i j) d x = refl
 

@@ -26,7 +26,7 @@ use Rattle.renumbered.specs.Renumbered.{isTurned, renumberedField}
 use Rattle.renumbered.proofs.Schemes.{corrected-numberless}
 use Rattle.renumbered.proofs.TwoSteps.{Calls, verdict-same, masses-same}
 use Rattle.renumbered.proofs.Renumbered.{alike, both}
-use Rattle.renumbered_calls.specs.Anew.{newMesh, meshAnew, newField, fieldAnew, newCall, stepAnew, Reads, Held}
+use Rattle.renumbered_calls.specs.Anew.{newMesh, meshAnew, newField, fieldAnew, newCall, stepAnew, Reads, HeldAnew}
 use Rattle.renumbered_calls.proofs.Salt.{salt-left}
 
 -- the three records, judged one after another as the host judges them
@@ -68,7 +68,7 @@ module _ (mesh field step : List ℕ) (reads : Reads mesh field step) where
   )
 
 module _ (mesh : List ℕ) (cell : Renumbering (cellsIn mesh)) (face : Renumbering (facesIn mesh)) (turns : ℕ → Bool) (field step : List ℕ)
-    (reads : Reads mesh field step) (held : Held mesh cell face turns field step) where
+    (reads : Reads mesh field step) (held : HeldAnew mesh cell face turns field step) where
   abbrev M₀ : Mesh
   M₀ = meshIn mesh
 

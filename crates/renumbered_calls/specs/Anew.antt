@@ -43,7 +43,8 @@ module _ (mesh : List ℕ) (cell : Renumbering (cellsIn mesh)) (face : Renumberi
       stepRecord (kindIn step) (cellsIn mesh) (facesIn mesh) (newMesh .seconds) (k .fluxes) (k .outsides) (k .releases)
 
 -- The second office's records read too, have the kinds of the first's, and hold the same lagoon, numbered anew.
-pub record Held (mesh : List ℕ) (cell : Renumbering (cellsIn mesh)) (face : Renumbering (facesIn mesh)) (turns : ℕ → Bool) (field step : List ℕ) : Type 0 where
+pub record HeldAnew (mesh : List ℕ) (cell : Renumbering (cellsIn mesh)) (face : Renumbering (facesIn mesh)) (turns : ℕ → Bool)
+    (field step : List ℕ) : Type 0 where
   pub reads-anew : Reads (meshAnew mesh cell face turns) (fieldAnew mesh cell face turns field) (stepAnew mesh cell face turns step)
   pub mesh-kind : kindIn (meshAnew mesh cell face turns) ≡ kindIn mesh
   pub field-kind : kindIn (fieldAnew mesh cell face turns field) ≡ kindIn field

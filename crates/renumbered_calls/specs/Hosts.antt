@@ -11,13 +11,13 @@ use Rattle.record_heads.specs.Layouts.{fieldKind, fieldLength}
 use Rattle.record_heads.specs.Heads.{widthIn, cellsIn, facesIn}
 use Rattle.lagoon.specs.Host.{HostPromise}
 use Rattle.host_answer.specs.Number.{causeStep}
-use Rattle.renumbered_calls.specs.Anew.{meshAnew, fieldAnew, stepAnew, Reads, Held}
+use Rattle.renumbered_calls.specs.Anew.{meshAnew, fieldAnew, stepAnew, Reads, HeldAnew}
 
 module _ (mesh : List ℕ) (cell : Renumbering (cellsIn mesh)) (face : Renumbering (facesIn mesh)) (turns : ℕ → Bool) where
   -- Two calls, with numbers r and r′. The second's records hold the first's lagoon, numbered anew. Their causes are the same; where the first
   -- is accepted, so that its bytes hold a next field record afterwards, the second's hold that record numbered anew, over what was lent.
   pub record HostsAgree (field step lent′ after after′ : List ℕ) (r r′ : ℕ) : Type 0 where
-    pub anew-held : Held mesh cell face turns field step
+    pub anew-held : HeldAnew mesh cell face turns field step
     pub cause-same : r′ / causeStep ≡ r / causeStep
     pub next-field : after′ ≡ cond (eqb r 0)
         (over (fieldAnew mesh cell face turns (take (fieldLength (fieldKind (widthIn mesh)) (cellsIn mesh)) after)) lent′) lent′

@@ -9,7 +9,7 @@ use lib.IntN.{ℤ, negℤ}
 use lib.ListN.{set}
 use Rattle.lists.specs.Renumbering.{Renumbering}
 use Rattle.model.specs.Mesh.{Mesh, second, rim}
-use Rattle.model.specs.Causes.{fine, taken, Call, meshVerdict}
+use Rattle.model.specs.Causes.{fine, granted, Call, meshVerdict}
 use Rattle.model.specs.Calls.{massIn, Scheme}
 use Rattle.model.specs.Alike.{unplaced}
 use Rattle.transport.specs.Promise.{stepSaid, StepPromise}
@@ -36,8 +36,8 @@ module _ (s : Scheme) (M : Mesh) (cell : Renumbering (M .cells)) (face : Renumbe
   -- the second answers as the first but for the place; where it is accepted it leaves the first's masses and moved masses, carried along
   pub record Agrees (a : First) (b : Second) : Type 0 where
     pub answers : unplaced (stepSaid (b .answer)) ≡ unplaced (stepSaid (a .answer))
-    pub next-masses : b .next ≡ taken (stepSaid (a .answer)) (byCell M cell face turns (massIn (a .next)) nexts) nexts
-    pub moved-masses : b .moved ≡ taken (stepSaid (a .answer)) (amountByFace M cell face turns (amountIn (a .moved)) moveds) moveds
+    pub next-masses : b .next ≡ granted (stepSaid (a .answer)) (byCell M cell face turns (massIn (a .next)) nexts) nexts
+    pub moved-masses : b .moved ≡ granted (stepSaid (a .answer)) (amountByFace M cell face turns (amountIn (a .moved)) moveds) moveds
 
 abbrev pub TwoCalls : Scheme → Type 0
 TwoCalls s = (M : Mesh) → meshVerdict M ≡ fine → (cell : Renumbering (M .cells)) (face : Renumbering (M .faces)) (turns : ℕ → Bool)
@@ -50,7 +50,7 @@ pub record TurnedAgrees (s : Scheme) (M : Mesh) (g : ℕ) (field : List ℕ) (k 
     (a : Called s M field k) (b : Called s (turnedMesh M g) field (turnedCall M g k)) : Type 0 where
   pub answers : stepSaid (b .answer) ≡ stepSaid (a .answer)
   pub next-masses : b .next ≡ a .next
-  pub moved-masses : b .moved ≡ taken (stepSaid (a .answer)) (set (a .moved) g (negℤ (amountIn (a .moved) g))) (k .moveds)
+  pub moved-masses : b .moved ≡ granted (stepSaid (a .answer)) (set (a .moved) g (negℤ (amountIn (a .moved) g))) (k .moveds)
 
 abbrev pub TurnedCalls : Scheme → Type 0
 TurnedCalls s = (M : Mesh) → meshVerdict M ≡ fine → (g : ℕ) → g < M .faces → second M g ≢ rim → (field : List ℕ) (k : Call)

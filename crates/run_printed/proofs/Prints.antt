@@ -10,7 +10,7 @@ use lib.Seq.{take-add, take-at}
 use Rattle.lists.specs.Table.{table, over}
 use Rattle.lists.proofs.Tables.{length-table}
 use Rattle.model.specs.Mesh.{Mesh, meshOf, runCells, runFaces}
-use Rattle.model.specs.Causes.{Outcome, accepted, refused, Verdict, taken}
+use Rattle.model.specs.Causes.{Outcome, accepted, refused, Verdict, granted}
 use Rattle.record_bits.specs.Layout.{bytesFor}
 use Rattle.record_heads.specs.Layouts.{stepHeadBits}
 use Rattle.record_heads.specs.Heads.{stepNeeds}
@@ -75,8 +75,8 @@ module _ (M : Mesh) where
 
   -- the entries used are those of the cells listed
   entries-used : (masses : List ℕ) (v : Verdict)
-      → boardLines (take (taken v (min boardSize cells) 0) (taken v (boardEntries volumes masses cells) (replicate boardSize unused)))
-      ≡ taken v (boardLines (map (entryAt volumes masses) (listed volumes masses cells))) []
+      → boardLines (take (granted v (min boardSize cells) 0) (granted v (boardEntries volumes masses cells) (replicate boardSize unused)))
+      ≡ granted v (boardLines (map (entryAt volumes masses) (listed volumes masses cells))) []
   unfolding entriesOf over boardLines
   entries-used masses (accepted u) =
       let used = map (entryAt volumes masses) (listed volumes masses cells) in
@@ -88,7 +88,7 @@ module _ (M : Mesh) where
   unfolding boardPrinted
   board-printed {masses} p =
       entries-printed (p .lines) ∙ ap (λ (n : ℕ). boardLines (take n (p .answer .entries))) (p .board .used-is)
-      ∙ ap (λ (es : List Entry). boardLines (take (taken (boardVerdict volumes masses cells) (min boardSize cells) 0) es)) (p .board .entries-are)
+      ∙ ap (λ (es : List Entry). boardLines (take (granted (boardVerdict volumes masses cells) (min boardSize cells) 0) es)) (p .board .entries-are)
       ∙ entries-used masses (boardVerdict volumes masses cells)
 
 module _ (w : Width) (M : Mesh) where

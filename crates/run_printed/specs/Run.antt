@@ -5,7 +5,7 @@ use mathlib.Core.List.{List, [], _∷_, _++_, map}
 use lib.ListN.{length, take, drop}
 use Rattle.lists.specs.Table.{table, over}
 use Rattle.model.specs.Mesh.{Mesh, meshOf, total, runCells, runFaces}
-use Rattle.model.specs.Causes.{Outcome, accepted, refused, _andThen_, taken, cellsOnly}
+use Rattle.model.specs.Causes.{Outcome, accepted, refused, _andThen_, granted, cellsOnly}
 use Rattle.model.specs.Calls.{massIn}
 use Rattle.record_bits.specs.Layout.{bytesFor}
 use Rattle.record_heads.specs.Layouts.{meshHeadBits, fieldHeadBits, stepHeadBits}
@@ -51,7 +51,7 @@ boardLines (e ∷ es) = boardLine (e .cell) (e .q) (e .rest) ++ boardLines es
 
 module _ (M : Mesh) where
   unfoldable pub boardPrinted : List ℕ → List ℕ
-  boardPrinted masses = taken (boardVerdict (M .volumes) masses (M .cells))
+  boardPrinted masses = granted (boardVerdict (M .volumes) masses (M .cells))
       (boardLines (map (entryAt (M .volumes) masses) (listed (M .volumes) masses (M .cells)))) []
 
 module _ (w : Width) (M : Mesh) where

@@ -9,16 +9,16 @@ use borrow.Author.Tests.{eq-eqb, leb-true, ne-eqb}
 use lib.Dec.{eqb, leb}
 use lib.ListN.{length, getD, set, length-set}
 use lib.Seq.{getD-set-other}
-use Rattle.step_cell.specs.Work.{ofCell, filled, pick, Filling}
+use Rattle.step_cell.specs.Work.{ofCell, cellFilled, pick, Filling}
 use Rattle.step_cell.proofs.Slots.{slot-set}
 
 module _ (w : List ℕ) (a p l g n : ℕ) where
-  pub length-filled : length (filled w a p l g n) ≡ length w
-  unfolding filled
+  pub length-filled : length (cellFilled w a p l g n) ≡ length w
+  unfolding cellFilled
   length-filled = simp length-set
 
-  filled-kept : (k : ℕ) → 4 * (a + 1) ≤ k → getD (filled w a p l g n) k 0 ≡ getD w k 0
-  unfolding filled
+  filled-kept : (k : ℕ) → 4 * (a + 1) ≤ k → getD (cellFilled w a p l g n) k 0 ≡ getD w k 0
+  unfolding cellFilled
   filled-kept k h =
       getD-set-other (set (set (set w (4 * a + 0) p) (4 * a + 1) l) (4 * a + 2) g) (4 * a + 3) k n 0 (λ (e : k ≡ 4 * a + 3). omega arith)
       ∙ getD-set-other (set (set w (4 * a + 0) p) (4 * a + 1) l) (4 * a + 2) k g 0 (λ (e : k ≡ 4 * a + 2). omega arith)
@@ -44,8 +44,8 @@ module _ (w : List ℕ) (a p l g n : ℕ) where
     g-long : 4 * a + 3 < length with-g
     g-long = simp length-set h
 
-    filled-at : (c j : ℕ) → leb j 3 ≡ true → ofCell (filled w a p l g n) c j ≡ cond (eqb a c) (pick j p l g n) (ofCell w c j)
-    unfolding filled
+    filled-at : (c j : ℕ) → leb j 3 ≡ true → ofCell (cellFilled w a p l g n) c j ≡ cond (eqb a c) (pick j p l g n) (ofCell w c j)
+    unfolding cellFilled
     filled-at c zero t =
         slot-set with-g a 3 n c 0 refl refl g-long
         ∙ slot-set with-l a 2 g c 0 refl refl l-long
@@ -69,13 +69,13 @@ module _ (w : List ℕ) (p l g n : ℕ → ℕ) where
   pub filling-start : Filling w p l g n 0 w
   filling-start = record { same-length = refl; at = below-none _; kept = λ k h. refl }
 
-  pub filling-turn : (i : ℕ) (work work′ : List ℕ) → 4 * i + 3 < length w → Filling w p l g n i work → work′ ≡ filled work i (p i) (l i) (g i) (n i)
+  pub filling-turn : (i : ℕ) (work work′ : List ℕ) → 4 * i + 3 < length w → Filling w p l g n i work → work′ ≡ cellFilled work i (p i) (l i) (g i) (n i)
       → Filling w p l g n (i + 1) work′
   filling-turn i work work′ h s e =
       let long : 4 * i + 3 < length work = rw (s .same-length) h in
       rw e (record {
         same-length = length-filled work i (p i) (l i) (g i) (n i) ∙ s .same-length;
-        at = below-more (λ c. (j : ℕ) → leb j 3 ≡ true → ofCell (filled work i (p i) (l i) (g i) (n i)) c j ≡ pick j (p c) (l c) (g c) (n c)) i
+        at = below-more (λ c. (j : ℕ) → leb j 3 ≡ true → ofCell (cellFilled work i (p i) (l i) (g i) (n i)) c j ≡ pick j (p c) (l c) (g c) (n c)) i
             (λ c m j t. filled-at work i (p i) (l i) (g i) (n i) long c j t ∙ rw (ne-eqb i c (λ (d : i ≡ c). omega arith)) (s .at c m j t))
             (λ j t. filled-at work i (p i) (l i) (g i) (n i) long i j t ∙ rw (eq-eqb i i refl));
         kept = λ k m. filled-kept work i (p i) (l i) (g i) (n i) k m ∙ s .kept k (omega arith);

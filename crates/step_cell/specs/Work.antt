@@ -28,8 +28,8 @@ abbrev pub enteringIn : List ℕ → ℕ → ℕ
 enteringIn w c = ofCell w c 0 / overQ
 
 -- the four entries of cell c written
-unfoldable pub filled : List ℕ → ℕ → ℕ → ℕ → ℕ → ℕ → List ℕ
-filled w c p l g n = set (set (set (set w (4 * c + 0) p) (4 * c + 1) l) (4 * c + 2) g) (4 * c + 3) n
+unfoldable pub cellFilled : List ℕ → ℕ → ℕ → ℕ → ℕ → ℕ → List ℕ
+cellFilled w c p l g n = set (set (set (set w (4 * c + 0) p) (4 * c + 1) l) (4 * c + 2) g) (4 * c + 3) n
 
 abbrev pub pick : ℕ → ℕ → ℕ → ℕ → ℕ → ℕ
 pick zero p l g n = p
@@ -54,7 +54,7 @@ widenedAcross w l k z a b =
 
 -- Low-order q of document 02, S-5, and stage 3, G and L, of one cell: its entries are then q, L, G and 0
 unfoldable pub allowancesOf : List ℕ → ℕ → ℕ → ℕ → List ℕ
-allowancesOf w c volume low = filled w c (low / volume) (low - volume * ofCell w c 1) (volume * ofCell w c 2 + volume - 1 - low) 0
+allowancesOf w c volume low = cellFilled w c (low / volume) (low - volume * ofCell w c 1) (volume * ofCell w c 2 + volume - 1 - low) 0
 
 -- what keeps them in range: the low-order mass is within the bounds
 pub record CellAsks (volume low least most : ℕ) : Type 0 where

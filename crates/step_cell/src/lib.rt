@@ -4,7 +4,7 @@ ghost use Prim.Native.Nat.{_<_, _+_, _*_, min, max};
 ghost use lib.ListN.{length};
 ghost use Rattle.lists.specs.Table.{table};
 ghost use Rattle.model.specs.Mesh.{maxCells};
-ghost use Rattle.step_cell.specs.Work.{ofCell, filled, widened, allowancesOf, CellAsks};
+ghost use Rattle.step_cell.specs.Work.{ofCell, cellFilled, widened, allowancesOf, CellAsks};
 
 // In passes 1 and 2: the cell's concentration, and the least and the greatest in its neighbourhood.
 pub const Q: usize = 0;
@@ -40,7 +40,7 @@ pub fn greatest_of(a: u64, b: u64) -> u64
 // The four entries of a cell written.
 pub fn fill(work: &mut [u64], c: usize, p: u64, l: u64, g: u64, n: u64)
     requires { ⌜ (4 * c + 3 < length (now work)) × (c < maxCells) ⌝ }
-    ensures { λ _. ⌜ now (work .exit) ≡ filled (now (work .entry)) c p l g n ⌝ }
+    ensures { λ _. ⌜ now (work .exit) ≡ cellFilled (now (work .entry)) c p l g n ⌝ }
 {
     let at = 4 * c;
     work[at + P] = p;

@@ -7,7 +7,7 @@ use borrow.Author.Count.{below-none, below-more}
 use lib.ListN.{length, getD, set}
 use lib.Seq.{getD-set-same, getD-set-other}
 use Rattle.model.specs.Step.{rounded}
-use Rattle.step_cell.specs.Work.{filled}
+use Rattle.step_cell.specs.Work.{cellFilled}
 use Rattle.step_cell.proofs.Filling.{filling-start, filling-turn}
 use Rattle.step_raising.specs.Raising.{Concentrations}
 
@@ -23,7 +23,7 @@ module _ (volumes masses w : List ℕ) where
   concentrations-start next = record { next-at = below-none _; filling = filling-start w q q q (λ c. 0) }
 
   pub concentrations-turn : (i : ℕ) (next work next′ work′ : List ℕ) → i < length next → 4 * i + 3 < length w → Concentrations volumes masses w i next work
-      → next′ ≡ set next i (getD masses i 0) → work′ ≡ filled work i (level i) (level i) (level i) 0 → Concentrations volumes masses w (i + 1) next′ work′
+      → next′ ≡ set next i (getD masses i 0) → work′ ≡ cellFilled work i (level i) (level i) (level i) 0 → Concentrations volumes masses w (i + 1) next′ work′
   unfolding rounded
   concentrations-turn i next work next′ work′ h k s e d = record {
     next-at = rw e (below-more (λ c. getD (set next i (getD masses i 0)) c 0 ≡ getD masses c 0) i

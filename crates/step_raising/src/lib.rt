@@ -5,7 +5,7 @@ ghost use Prim.Native.Nat.{ℕ, _≤_, _<_, _+_, _*_, _/_, _^_};
 ghost use lib.ListN.{length, getD, set};
 ghost use Rattle.model.specs.Mesh.{maxCells};
 ghost use Rattle.model.specs.Step.{raised};
-ghost use Rattle.step_cell.specs.Work.{filled};
+ghost use Rattle.step_cell.specs.Work.{cellFilled};
 ghost use Rattle.step_raising.specs.Raising.{Concentrations};
 
 // What a cell holds before all stages: its mass and what is released into it.
@@ -21,7 +21,7 @@ fn raised_mass(mass: u64, release: u64) -> u64
 fn start_cell(c: usize, mass: u64, volume: u64, next: &mut [u64], work: &mut [u64])
     requires { ⌜ (1 ≤ volume) × (c < length (now next)) × (4 * c + 3 < length (now work)) × (c < maxCells) ⌝ }
     ensures { λ _. ⌜ now (next .exit) ≡ set (now (next .entry)) c mass ⌝ }
-    ensures { λ _. ⌜ now (work .exit) ≡ filled (now (work .entry)) c (mass / volume) (mass / volume) (mass / volume) 0 ⌝ }
+    ensures { λ _. ⌜ now (work .exit) ≡ cellFilled (now (work .entry)) c (mass / volume) (mass / volume) (mass / volume) 0 ⌝ }
 {
     next[c] = mass;
     let q = mass / volume;

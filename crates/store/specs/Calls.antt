@@ -5,7 +5,7 @@ use mathlib.Core.List.{List, [], _∷_, _++_}
 use lib.ListN.{length, replicate}
 use Rattle.lists.specs.Table.{over}
 use Rattle.model.specs.Mesh.{Mesh, ceiling}
-use Rattle.model.specs.Causes.{Verdict, inTurn, taken, long, cellsOnly, counts, meshTables, meshValues, fieldTable, fieldValues}
+use Rattle.model.specs.Causes.{Verdict, inTurn, granted, long, cellsOnly, counts, meshTables, meshValues, fieldTable, fieldValues}
 use Rattle.model.specs.Answers.{said}
 use Rattle.model.specs.declared.Answer.{Answer}
 use Rattle.store_kept.specs.Store.{keptField, fieldsIn, storeOf, heldUnder, without}
@@ -26,7 +26,7 @@ module _ (cells : ℕ) (store : List ℕ) where
 
     -- What was behind the field moves down over it, and as many entries as it had read 0 at the end.
     unfoldable pub dropStore : List ℕ
-    dropStore = taken dropVerdict (over (storeOf (without name (fieldsIn cells store)) ++ replicate (cells + 1) 0) store) store
+    dropStore = granted dropVerdict (over (storeOf (without name (fieldsIn cells store)) ++ replicate (cells + 1) 0) store) store
 
 -- Keeping and return are lent cells, volumes, masses, store and name.
 module _ (cells : ℕ) (volumes masses store : List ℕ) where
@@ -50,7 +50,7 @@ module _ (cells : ℕ) (volumes masses store : List ℕ) where
 
     -- It stands after all others.
     unfoldable pub keepStore : List ℕ
-    keepStore = taken keepVerdict (over (storeOf (fieldsIn cells store ++ (keptField cells masses name ∷ []))) store) store
+    keepStore = granted keepVerdict (over (storeOf (fieldsIn cells store ++ (keptField cells masses name ∷ []))) store) store
 
     -- A return does not test the masses that it fills; it judges the kept ones by 6, after 17.
     abbrev pub returnCauses : List Verdict
@@ -60,7 +60,7 @@ module _ (cells : ℕ) (volumes masses store : List ℕ) where
     returnVerdict = inTurn returnCauses
 
     unfoldable pub returnMasses : List ℕ
-    returnMasses = taken returnVerdict (over (heldUnder name (fieldsIn cells store)) masses) masses
+    returnMasses = granted returnVerdict (over (heldUnder name (fieldsIn cells store)) masses) masses
 
 -- What the three calls promise of their answers and of the tables that they write, for all input.
 pub record KeepPromise (cells : ℕ) (volumes masses store : List ℕ) (name : ℕ) (r : Answer) (store′ : List ℕ) : Type 0 where

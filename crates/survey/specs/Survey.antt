@@ -122,10 +122,10 @@ unfoldable pub faceShare : Face → Outcome ℕ
 faceShare f = shareFound (found f)
 
 -- The number and the values of each case of both answers; those of a refused middle stage are 19 and 20 by `shareFound`.
-abbrev pub foundBy : Stage → Found
-foundBy (Ratio r) = ratioIs r
-foundBy (Bad c) = badAt (c .place) (c .value)
-foundBy Nothing = nothing
+abbrev pub stageSaid : Stage → Found
+stageSaid (Ratio r) = ratioIs r
+stageSaid (Bad c) = badAt (c .place) (c .value)
+stageSaid Nothing = nothing
 
 abbrev pub shareBy : ShareAnswer → Outcome ℕ
 shareBy (Share k) = accepted k

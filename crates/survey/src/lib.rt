@@ -6,7 +6,7 @@ ghost use mathlib.Core.Bool.{true, false};
 ghost use Prim.Native.Nat.{_≤_};
 ghost use Rattle.model.specs.Causes.{refused, fine};
 ghost use Rattle.model.specs.Answers.{number};
-ghost use Rattle.survey.specs.Survey.{sizeOf, way, middleOf, dot, normal, firstSide, secondSide, coordinates, allowed, notAbove, foundBy, foundAfter, found, share as shareIs, shareOf, shareBy, faceShare};
+ghost use Rattle.survey.specs.Survey.{sizeOf, way, middleOf, dot, normal, firstSide, secondSide, coordinates, allowed, notAbove, stageSaid, foundAfter, found, share as shareIs, shareOf, shareBy, faceShare};
 
 // Largest size of a coordinate.
 pub const MAX_COORDINATE: f64 = 1000000.0;
@@ -143,7 +143,7 @@ fn coordinates_of(face: Face) -> [f64; COORDINATES]
 
 // The ratio of a face whose coordinates are allowed, or that a + b is 0.
 fn ratio_of(face: Face) -> Stage
-    ensures { λ r. ⌜ foundBy r ≡ foundAfter face fine ⌝ }
+    ensures { λ r. ⌜ stageSaid r ≡ foundAfter face fine ⌝ }
 {
     let a = first_side(face);
     let total = a + second_side(face);
@@ -155,7 +155,7 @@ fn ratio_of(face: Face) -> Stage
 
 // The middle stage: the coordinates are looked at in the order of their places.
 pub fn middle_stage(face: Face) -> Stage
-    ensures { λ r. ⌜ foundBy r ≡ found face ⌝ }
+    ensures { λ r. ⌜ stageSaid r ≡ found face ⌝ }
 {
     let values = coordinates_of(face);
     let mut i = 0;

@@ -10,7 +10,7 @@ use Rattle.lists.proofs.Sums.{sum-cong}
 use Rattle.lists.proofs.Tables.{length-table, getD-table}
 use Rattle.model.specs.Mesh.{Mesh, total}
 use Rattle.model.specs.Step.{StepInput, next, inMass, outMass}
-use Rattle.model.specs.Causes.{accepted, refused, Verdict, fine, _andThen_, taken, inputOf, verdict}
+use Rattle.model.specs.Causes.{accepted, refused, Verdict, fine, _andThen_, granted, inputOf, verdict}
 use Rattle.model.specs.Calls.{Crossing, crossingOf, stepAnswer, nextTable}
 use Rattle.model.specs.Unreleased.{verdict01}
 use Rattle.model.proofs.Verdicts.{both-fine}
@@ -99,11 +99,11 @@ module _ (w told : Width) (M : Mesh) (masses bs : List ℕ) (e : kindIn bs ≡ w
         rw (i, o, r, total-same)
 
   -- what an accepted call makes is the same, and a refused one makes nothing
-  made-same : {A : Type 0} (x y z : A) → (stepJudged told M masses bs ≡ fine → x ≡ y) → taken (stepJudged told M masses bs) x z
-      ≡ taken (judged01 told M masses bs) y z
-  made-same x y z f = go (stepJudged told M masses bs) refl ∙ ap (λ (v : Verdict). taken v y z) judged-same
+  made-same : {A : Type 0} (x y z : A) → (stepJudged told M masses bs ≡ fine → x ≡ y) → granted (stepJudged told M masses bs) x z
+      ≡ granted (judged01 told M masses bs) y z
+  made-same x y z f = go (stepJudged told M masses bs) refl ∙ ap (λ (v : Verdict). granted v y z) judged-same
     where
-      go : (v : Verdict) → stepJudged told M masses bs ≡ v → taken v x z ≡ taken v y z
+      go : (v : Verdict) → stepJudged told M masses bs ≡ v → granted v x z ≡ granted v y z
       go (accepted t) q = f q
       go (refused i j) q = refl
 

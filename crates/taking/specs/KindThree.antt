@@ -5,7 +5,7 @@ use Prim.Native.Nat.{ℕ}
 use Rattle.lists.specs.Table.{table, over}
 use Rattle.model.specs.Mesh.{Mesh, total}
 use Rattle.model.specs.Step.{StepInput, next, inMass, outMass}
-use Rattle.model.specs.Causes.{accepted, Verdict, _andThen_, taken}
+use Rattle.model.specs.Causes.{accepted, Verdict, _andThen_, granted}
 use Rattle.model.specs.Unreleased.{unraised, verdict01, AsBefore}
 use Rattle.record_heads.specs.Layouts.{waterKind}
 use Rattle.record_heads.specs.Heads.{kindIn}
@@ -33,7 +33,7 @@ module _ (told : Width) (M : Mesh) (masses bs : List ℕ) where
 
   pub record StepTaking01 (r : StepTaken) (masses′ : List ℕ) : Type 0 where
     pub answer : takenSaid r ≡ (judged01 andThen accepted (printed01 M masses bs))
-    pub masses-after : masses′ ≡ taken judged01 (over (table (M .cells) (next (step01 M masses bs))) masses) masses
+    pub masses-after : masses′ ≡ granted judged01 (over (table (M .cells) (next (step01 M masses bs))) masses) masses
 
 abbrev pub TakenAsBefore : Type 0
 TakenAsBefore = (w told : Width) (M : Mesh) (masses bs : List ℕ) → kindIn bs ≡ waterKind w → (r : StepTaken) (masses′ : List ℕ)

@@ -8,7 +8,7 @@ use lib.IntN.{ℤ, pos}
 use Rattle.lists.specs.Table.{table, over}
 use Rattle.model.specs.Mesh.{Mesh, total, runCells, runFaces}
 use Rattle.model.specs.Step.{next, inMass, outMass, releasedMass}
-use Rattle.model.specs.Causes.{accepted, Verdict, _andThen_, taken, long, Call, callOf, workEntries, cellsOnly, inputOf, meshFieldVerdict, verdict}
+use Rattle.model.specs.Causes.{accepted, Verdict, _andThen_, granted, long, Call, callOf, workEntries, cellsOnly, inputOf, meshFieldVerdict, verdict}
 use Rattle.model.specs.Calls.{massIn}
 use Rattle.checks.specs.Total.{totalSaid}
 use Rattle.checks.specs.declared.TotalAnswer.{TotalAnswer}
@@ -28,7 +28,7 @@ fieldJudged w cells volumes bs masses = fieldRead w cells bs runCells andThen lo
 -- "The board and the run", step 0: the total of the first field is printed.
 pub record FieldTaking (w : Width) (cells : ℕ) (volumes bs masses : List ℕ) (r : TotalAnswer) (masses′ : List ℕ) : Type 0 where
   pub answer : totalSaid r ≡ (fieldJudged w cells volumes bs (length masses) andThen accepted (total (cellsOnly cells volumes) (massIn (massesIn bs cells))))
-  pub masses-after : masses′ ≡ taken (fieldJudged w cells volumes bs (length masses)) (over (massesIn bs cells) masses) masses
+  pub masses-after : masses′ ≡ granted (fieldJudged w cells volumes bs (length masses)) (over (massesIn bs cells) masses) masses
 
 -- A STEP.
 
@@ -62,7 +62,7 @@ module _ (M : Mesh) (masses : List ℕ) where
 
   -- "A list of steps": the field after a step of which v is found
   abbrev pub massesAfter : Verdict → Call → List ℕ
-  massesAfter v k = taken v (over (table (M .cells) (next (inputOf M masses k))) masses) masses
+  massesAfter v k = granted v (over (table (M .cells) (next (inputOf M masses k))) masses) masses
 
   pub record Stepping (v : Verdict) (k : Call) (r : StepTaken) (masses′ : List ℕ) : Type 0 where
     pub answer : takenSaid r ≡ (v andThen accepted (printedOf k))

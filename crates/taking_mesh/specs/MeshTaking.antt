@@ -6,7 +6,7 @@ use mathlib.Core.List.{List}
 use lib.ListN.{length}
 use Rattle.lists.specs.Table.{over}
 use Rattle.model.specs.Mesh.{Mesh, runCells, runFaces, ceiling}
-use Rattle.model.specs.Causes.{accepted, Verdict, _andThen_, taken, long, meshValues}
+use Rattle.model.specs.Causes.{accepted, Verdict, _andThen_, granted, long, meshValues}
 use Rattle.record_heads.specs.Heads.{widthIn, cellsIn, facesIn, meshHeadVerdict}
 use Rattle.record_heads.specs.declared.Width.{Width}
 use Rattle.record_reading.specs.Reading.{meshIn, meshBodyVerdict}
@@ -37,11 +37,11 @@ meshJudgedInRun bs = meshJudged bs runCells runFaces runFaces runFaces runFaces
 pub record MeshKept (v : Verdict) (w : Width) (M : Mesh) (volumes firsts seconds shares reaches : List ℕ) (r : MeshAnswer)
     (volumes′ firsts′ seconds′ shares′ reaches′ : List ℕ) : Type 0 where
   pub answer : meshSaid r ≡ (v andThen accepted (record { cells = M .cells; faces = M .faces; width = w }))
-  pub volumes-after : volumes′ ≡ taken v (over (M .volumes) volumes) volumes
-  pub firsts-after : firsts′ ≡ taken v (over (M .firsts) firsts) firsts
-  pub seconds-after : seconds′ ≡ taken v (over (M .seconds) seconds) seconds
-  pub shares-after : shares′ ≡ taken v (over (M .shares) shares) shares
-  pub reaches-after : reaches′ ≡ taken v (over (M .reaches) reaches) reaches
+  pub volumes-after : volumes′ ≡ granted v (over (M .volumes) volumes) volumes
+  pub firsts-after : firsts′ ≡ granted v (over (M .firsts) firsts) firsts
+  pub seconds-after : seconds′ ≡ granted v (over (M .seconds) seconds) seconds
+  pub shares-after : shares′ ≡ granted v (over (M .shares) shares) shares
+  pub reaches-after : reaches′ ≡ granted v (over (M .reaches) reaches) reaches
 
 abbrev pub MeshTaking : List ℕ → List ℕ → List ℕ → List ℕ → List ℕ → List ℕ → MeshAnswer → List ℕ → List ℕ → List ℕ → List ℕ → List ℕ → Type 0
 MeshTaking bs volumes firsts seconds shares reaches =

@@ -6,7 +6,7 @@ use Rattle.model.specs.Answers.{said}
 use Rattle.model.proofs.Verdicts.{out, past, refuses, passes}
 use Rattle.public_marks.specs.Marks.{marksLong}
 use Rattle.page.specs.Answers.{verdictWith}
-use Rattle.public_page.specs.Public.{publicVerdict}
+use Rattle.public_page.specs.Public.{publicPageVerdict}
 use Rattle.public_page.proofs.judge_public.Statement.{statement}
 use Rattle.public_page.proofs.judge_public.Tie as tie
 
@@ -18,11 +18,11 @@ whole c =
     c .judge .ensures ∙ ap (λ (v : Verdict). verdictWith v (s .volumes .now) (s .masses .now) (s .cells) (s .page) (s .room)) (c .before .marks-long .ensures)
 
 returns : tie.Need-returns
-unfolding publicVerdict
+unfolding publicPageVerdict
 returns c = sym (out _ (refuses (whole (c .before .before .before)) (c .before .whole .given .1)))
 
 returns-2 : tie.Need-returns-2
-unfolding publicVerdict
+unfolding publicPageVerdict
 returns-2 c =
     let told = c .before in
     c .marks-good .ensures ∙ sym (past _ (passes (whole (told .before .before)) (told .enum-told .given .1)))

@@ -1,6 +1,6 @@
 use mathlib.Core.Path.{refl}
 use lib.ListN.{length-set}
-use Rattle.step_cell.specs.Work.{filled}
+use Rattle.step_cell.specs.Work.{cellFilled}
 use Rattle.step_cell.proofs.Places.{base-fits, slot-fits, slot-bytes, slot-in}
 use Rattle.step_cell.proofs.fill.Statement.{statement}
 use Rattle.step_cell.proofs.fill.Tie as tie
@@ -9,7 +9,7 @@ same-length : tie.Need-same-length
 same-length c = simp length-set
 
 returns : tie.Need-returns
-unfolding filled
+unfolding cellFilled
 returns c = refl
 
 pub fill-spec : {M : Type 1} → statement M
