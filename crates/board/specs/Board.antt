@@ -17,7 +17,7 @@ use Rattle.board.specs.declared.BoardAnswer.{BoardAnswer}
 abbrev pub boardSize : ℕ
 boardSize = 8
 
--- An entry: q is m / V rounded down, the rest m − qV.
+-- An entry: q is m / V rounded down, the rest m − qV, never cut off, since qV is at most m.
 unfoldable pub entryOf : ℕ → ℕ → ℕ → Entry
 entryOf cell volume mass = record { cell = cell; q = mass / volume; rest = mass - mass / volume * volume }
 
