@@ -378,7 +378,7 @@ uint64_t lagoon_charge(uint64_t total, uint64_t bands, const uint64_t *ends, siz
 
 /* ---------------------------------------------------------------- 9  Fields kept by name */
 
-/* A store keeps fields of one mesh under names 1 to 65,535: an entry for how many there are, then of each its name and its masses. A table
+/* A store has named fields of one mesh, the names from 1 to 65,535: an entry for how many there are, then of each its name and its masses. A table
  * whose first entry is 0 is an empty store. Whoever lends it with another number of cells reads it wrongly. */
 #define LAGOON_STORE_ENTRIES(cells, fields) (1 + (size_t)(fields) * ((size_t)(cells) + 1))
 

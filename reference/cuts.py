@@ -1,7 +1,7 @@
 #!/usr/bin/env python3
 """Document 02's S-12 through the real calls: a lagoon is cut, the plain step is made of the whole and of each part, on what the cutting left,
-and each part's next and moved masses have to be the whole's at the old numbers, a turned face's negated. A lagoon that is refused is refused
-by both calls alike.
+and what each part's tables then hold, next and moved, has to stand in the whole's by the old numbers, negated for a face that was turned.
+A lagoon that is refused is refused by both calls alike.
 
     cuts.py --script CALLS --cases 400 --seed 1     random lagoons, labels and steps: each part agrees with the whole
     cuts.py --slips                                 the reference cuts, with each slip of a cutting in turn: a part has to differ

@@ -703,7 +703,7 @@ def middle_stage(coordinates):
     return ("ratio", a / (a + b)) if a + b != 0 else ("nothing",)
 
 def share_of(ratio):
-    """The largest whole k with k/256 not above the ratio, by exact fractions."""
+    """k of k/256 ≤ ratio < (k + 1)/256, by exact fractions."""
     return math.floor(256 * Fraction(ratio))
 
 def face_share(coordinates):

@@ -1,8 +1,8 @@
 #!/usr/bin/env python3
 """Document 02's S-8: plain steps beside the same steps with q not rounded, in exact fractions, on random lists with refused steps among them.
 
-After n accepted plain steps every cell's m/V has to differ by less than n from e/V, where e is its mass by the unrounded steps, started
-from the same masses and given the same releases; a refused step changes neither. Of the unrounded steps it is seen that their total
+After n accepted plain steps every cell's m/V has to differ by less than n from e/V, where e is its mass by the unrounded steps, which
+begin with the same masses and have the same releases added; a refused step changes neither. Of the unrounded steps it is seen that their total
 follows in-mass, released mass and out-mass exactly, and that no mass falls below 0. The largest errors are printed as shares of n.
 
     unrounded.py --lists 200 --seed 1                  fixed lists, the same each time

@@ -16,7 +16,7 @@ over a face is not set against what leaves.
 
 All tables are CSV with a heading:
 
-  tariff      end, price: 1 to 8 bands; ends from 1, each above the one before, the last one 1099511627776; a price is
+  tariff      end, price: 1 to 8 bands; rising ends, the first at least 1 and the last 1099511627776; a price is
               0 to 1,000,000 cents per million units of mass
   ports       port, face: a row for each rim face that a port pays for, by name or number
   remainders  face, remainder: what the last period handed on, in millionths of a cent, below 1,000,000; a face without

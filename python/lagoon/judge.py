@@ -19,7 +19,7 @@ are CSV with a heading, in one of two forms:
 Steps count from 1, as the run counts them, and go up. A mass is a whole number, positive from the first cell to the second and outward
 at the rim; 50000.0 and 5e4 are whole too. A face that is not named, or has no figure, moves 0. Columns time and date are not read.
 
-A claim is accepted where no size is above 1,099,511,627,776, faces without water move 0, rim faces move what their water carries
+A claim is accepted where every size is at most 1,099,511,627,776, faces without water move 0, rim faces move what their water carries
 (stage 1, on the field with its releases), no next mass is below 0, and every next q is within the bounds of its neighbourhood. The next
 masses are then the field for the next step. A refused claim, and a step that the engine itself would refuse, leave the field as it is;
 so does a step without a claim, unless --engine makes it. Verdict, place, in-mass, out-mass and masses are those of the proved call

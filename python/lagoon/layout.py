@@ -19,7 +19,7 @@ MINUS_ZERO = "-0"               # a minus with size 0, which a record can say an
 
 class Widths(namedtuple("Widths", "mesh field step outfalls value mass")):
     """One width of records: its four kinds, a step with releases being the last, the bits of V, K and the size of U, and those of masses
-    and releases. The mesh record fixes the width of the records after it."""
+    and releases. Field and step records have the width of their mesh record."""
 
     __slots__ = ()
     flux = property(lambda widths: 1 + widths.value)

@@ -25,7 +25,7 @@ gainOf second moved = cond (eqb second rim) (forward moved) 0
 unfoldable pub gainFit : (entry gain : ℕ) → Bool
 gainFit entry gain = eqb gain 0 || leb (entry + gain) maxTotal
 
--- Causes 1 and 2, of so many faces and tables of such lengths. The totals are the table at position 16, one entry per face.
+-- Causes 1 and 2, of so many faces and tables of such lengths. The totals, an entry for each face, have position 16.
 abbrev pub lentCauses : (faces seconds moved totals : ℕ) → List Verdict
 lentCauses faces seconds moved totals = need 1 1 (leb faces maxFaces) ∷ long 2 faces seconds ∷ long 9 faces moved ∷ long 16 faces totals ∷ []
 

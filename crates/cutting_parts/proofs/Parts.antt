@@ -1,4 +1,4 @@
--- S-12: where the cutting and the whole's plain step are accepted, so is each part's, with the whole's next and moved masses.
+-- S-12: neither the cutting refused nor the plain step of the whole: then nor is that of a part, and its next and moved masses are the whole's.
 use Prim.Native.Nat.{ℕ, _≤_, _<_}
 use mathlib.Core.Path.{_≡_, sym, ap, _∙_}
 use mathlib.Core.List.{List}

@@ -54,7 +54,7 @@ module _ (L : Lagoon) (labels : List ℕ) (next : List ℕ) (moved : List ℤ) w
   PartSteps p lent = (nexts : List ℕ) (moveds : List ℤ) (work : List ℕ) → LentAtCounts L nexts moveds work
       → StepsAsWhole L labels p lent next moved nexts moveds work
 
--- S-12: where the cutting and the whole's plain step are accepted
+-- S-12: where neither the cutting nor the plain step of the whole is refused
 abbrev pub S12 : Type 0
 S12 = (L : Lagoon) (labels : List ℕ) (lent₀ lent₁ : Tables) → cutVerdict L labels lent₀ lent₁ ≡ fine
     → (nexts : List ℕ) (moveds : List ℤ) (work : List ℕ) (x : Crossing) → plainAnswer L nexts moveds work ≡ accepted x

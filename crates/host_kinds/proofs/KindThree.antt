@@ -1,29 +1,23 @@
 -- The host's plain step and judging on a record of kind 3 or 7: a release has no bits there, and no bits spell 0.
-use Prim.Native.Nat.{ℕ, _≤_, _<_}
+use Prim.Native.Nat.{ℕ}
 use mathlib.Core.Path.{_≡_, refl, sym, ap, _∙_}
 use mathlib.Core.List.{List}
-use native.Mathlib.Omega.{arith}
 use lib.IntN.{ℤ}
-use lib.ListN.{length, getD}
+use lib.ListN.{length}
 use Rattle.lists.specs.Table.{over}
-use Rattle.lists.proofs.Tables.{length-table, getD-table}
 use Rattle.model.specs.Mesh.{Mesh}
-use Rattle.model.specs.Causes.{accepted, refused, Verdict, fine, _andThen_, granted, verdict}
-use Rattle.model.specs.Claims.{claimVerdict, claimed}
+use Rattle.model.specs.Causes.{accepted, refused, Verdict, fine, _andThen_, granted}
+use Rattle.model.specs.Claims.{claimVerdict}
 use Rattle.model.specs.Calls.{Crossing, crossingOf, plain, judged}
 use Rattle.model.proofs.Verdicts.{both-fine}
 use Rattle.model.proofs.Accepted.{ready}
-use Rattle.model.proofs.Lists.{Keeping}
 use Rattle.model.proofs.Claims.{judged-keeping}
-use Rattle.record_bits.specs.Field.{bitsAt}
-use Rattle.record_sections.specs.Sections.{place, entryIn}
-use Rattle.record_layouts.specs.Layouts.{fieldKind, fieldRecord, waterKind, releaseBits, stepShape}
+use Rattle.record_layouts.specs.Layouts.{fieldKind, fieldRecord, waterKind}
 use Rattle.record_heads.specs.Heads.{kindIn, widthIn}
 use Rattle.record_layouts.specs.declared.Width.{Width}
-use Rattle.record_layouts.specs.declared.Width.the-variants.{Narrow, Wide}
-use Rattle.record_reading.specs.Reading.{meshIn, stepShapeIn, releasesIn}
+use Rattle.record_reading.specs.Reading.{meshIn}
 use Rattle.taking.specs.Taking.{stepIn, stepRecordFound, stepJudged}
-use Rattle.taking.proofs.KindThree.{judged-same}
+use Rattle.taking.proofs.KindThree.{all-there, none, judged-same}
 use Rattle.host_answer.specs.Number.{numberOf}
 use Rattle.host_answer.proofs.Answers.{answered-as}
 use Rattle.host_answer.specs.Steps.{crossed}
@@ -32,20 +26,6 @@ use Rattle.host_record_promises.specs.Next.{withRoom, recordOver, nextBy}
 use Rattle.host_record_promises.specs.Judge.{claimIn, claimJudged, claimTested}
 use Rattle.host_kinds.specs.KindThree.{plainTested01, plainNext01, PlainAsBefore, claimVerdict01, claimNext01, claimCrossing01, claimTested01, JudgedAsBefore}
 use Rattle.host_kinds.proofs.Unreleased.{crossing-same, claim-next-same, low-same, claim-verdict-same}
-
-no-bits : (bs : List ℕ) (at : ℕ) (w : Width) (kind : ℕ) → kind ≡ waterKind w → bitsAt bs at (releaseBits kind) ≡ 0
-unfolding bitsAt releaseBits
-no-bits bs at Narrow kind e = rw e
-no-bits bs at Wide kind e = rw e
-
-module _ (M : Mesh) (bs : List ℕ) where
-  all-there : M .cells ≤ length (releasesIn bs (M .cells) (M .faces) (M .seconds))
-  unfolding releasesIn
-  all-there = omega (arith, length-table (M .cells) (entryIn bs (stepShapeIn bs (M .cells) (M .faces) (M .seconds)) 3 0))
-
-  none : (w : Width) → kindIn bs ≡ waterKind w → (c : ℕ) → c < M .cells → getD (releasesIn bs (M .cells) (M .faces) (M .seconds)) c 0 ≡ 0
-  unfolding releasesIn
-  none w e c h = getD-table (M .cells) _ 0 c h ∙ no-bits bs (place (stepShape (kindIn bs) (M .cells) (M .faces) (M .seconds)) 3 0 c) w (kindIn bs) e
 
 -- a record over the bytes by the same verdict, where the next masses are the same once nothing is found
 over-same : (v v′ : Verdict) (w : Width) (cells : ℕ) (next next′ bytes : List ℕ) → v ≡ v′ → (v ≡ fine → next ≡ next′)

@@ -1,35 +1,24 @@
 -- Releases of 0 change nothing of a plain step and nothing of a claim: 14 and 18 find nothing, and the raised field agrees with the field.
-use Prim.Native.Nat.{ℕ, _+_, _/_, _≤_, _<_}
+use Prim.Native.Nat.{ℕ, _≤_, _<_}
 use mathlib.Core.Path.{_≡_, refl, sym, ap, _∙_}
 use mathlib.Core.List.{List}
-use native.Mathlib.Nat.{add-zero}
 use borrow.Author.Tests.{le-leb}
-use lib.Dec.{leb}
-use lib.IntN.{ℤ}
-use lib.ListN.{length, getD}
+use lib.ListN.{length}
 use Rattle.lists.specs.Table.{table}
-use Rattle.lists.proofs.Sums.{sum-cong, sum-zeros}
 use Rattle.lists.proofs.Tables.{table-cong}
-use Rattle.model.specs.Mesh.{Mesh, volume, updated, maxConcentration, ceiling}
-use Rattle.model.specs.Step.{StepInput, mass, carried, low, inMass, outMass, releasedMass}
+use Rattle.model.specs.Mesh.{Mesh, updated, ceiling}
+use Rattle.model.specs.Step.{StepInput, mass, carried, low}
 use Rattle.model.specs.Alike.{Agree}
 use Rattle.model.specs.Accepted.{MeshFit}
-use Rattle.model.specs.Causes.{accepted, refused, Verdict, fine, _andThen_, inTurn, Call, inputOf, release, lengthsToMoved, counts, meshTables, meshValues, fieldTable, fieldValues, saltGood, raisedGood, raisedValues, stepValues}
+use Rattle.model.specs.Causes.{accepted, refused, Verdict, fine, _andThen_, inTurn, Call, inputOf, release, lengthsToMoved, counts, meshTables, meshValues, fieldTable, fieldValues, stepValues}
 use Rattle.model.specs.Claims.{claimed, claimTables, claimGood, boundsGood, amountsVerdict, unworkedVerdict, claimVerdict}
 use Rattle.model.specs.Calls.{crossingOf}
 use Rattle.model.specs.Unreleased.{unraised}
-use Rattle.model.proofs.Verdicts.{both-fine, need-met, each-fine, fine-each, each-cong}
+use Rattle.model.proofs.Verdicts.{both-fine, need-met, each-cong}
 use Rattle.model.proofs.Accepted.{counted, mesh-fit}
-use Rattle.model.proofs.Agree.{same-mesh, lo-agree, hi-agree, carried-agree, in-agree, out-agree, incoming-agree, outgoing-agree}
-use Rattle.model.proofs.Raised.{raised-at}
-use Rattle.model.proofs.Rounded.{rounded-same}
+use Rattle.model.proofs.Agree.{lo-agree, hi-agree, carried-agree, in-agree, out-agree, incoming-agree, outgoing-agree}
+use Rattle.model.proofs.Unreleased.{idle, raised-idle, unraised-mass, agrees, released-none}
 use Rattle.host_kinds.specs.KindThree.{claimVerdict01, claimNext01, claimCrossing01}
-
--- a test that finds nothing wherever those before it find nothing can be left out
-idle : (v w : Verdict) → (v ≡ fine → w ≡ fine) → (v andThen w) ≡ v
-unfolding _andThen_
-idle (accepted t) w h = h refl
-idle (refused i j) w h = refl
 
 -- two parts, of which the second is the same where the first finds nothing
 second-same : (v w w′ : Verdict) → (v ≡ fine → w ≡ w′) → (v andThen w) ≡ (v andThen w′)
@@ -44,27 +33,9 @@ module _ (M : Mesh) (field : List ℕ) (k : Call) (long : M .cells ≤ length (k
   abbrev S₀ : StepInput
   S₀ = unraised M field k
 
-  raised-idle : fieldValues M field ≡ fine → raisedValues M field k ≡ fine
-  unfolding fieldValues saltGood raisedValues raisedGood
-  raised-idle e = fine-each 18 (M .cells) (raisedGood M field k)
-      (λ c h. ap (λ (m : ℕ). leb (m / volume M c) maxConcentration) (rw (none c h) (add-zero (getD field c 0)))
-      ∙ each-fine 6 (M .cells) (saltGood M field) e c h)
-
-  unraised-mass : (c : ℕ) → c < M .cells → mass S₀ c ≡ mass S c
-  unraised-mass c h = sym (raised-at (M .cells) field (k .releases) c h ∙ rw (none c h) (add-zero (getD field c 0)))
-
-  agrees : Agree S S₀
-  agrees = record {
-    mesh-agrees = same-mesh M;
-    masses = unraised-mass;
-    q-agrees = λ c h. rounded-same M M _ _ c c refl (unraised-mass c h);
-    fluxes = λ f l. refl;
-    outsides = λ f l. refl;
-  }
-
-  pub released-none : releasedMass (M .cells) (k .releases) ≡ 0
-  unfolding releasedMass
-  released-none = sum-cong (M .cells) (release k) (λ c. 0) none ∙ sum-zeros (M .cells)
+  -- the raised field agrees with the field
+  abbrev alike : Agree S S₀
+  alike = agrees M field k long none
 
   -- 1 to 10 of a claim, without 14 and 18
   lengths-same : claimTables M field k ≡ inTurn (lengthsToMoved (M .cells) (M .faces) k)
@@ -77,32 +48,34 @@ module _ (M : Mesh) (field : List ℕ) (k : Call) (long : M .cells ≤ length (k
 
   unworked-same : unworkedVerdict M field k ≡ worked
   unfolding unworkedVerdict
-  unworked-same = rw lengths-same (ap (λ (v : Verdict). v andThen stepValues ceiling M field k) (idle _ _ (λ e. raised-idle (both-fine _ _ e .1))))
+  unworked-same = rw lengths-same (ap (λ (v : Verdict). v andThen stepValues ceiling M field k)
+      (idle _ _ (λ e. raised-idle M field k long none (both-fine _ _ e .1))))
 
   module _ (few : M .cells ≤ 4095) (fit : MeshFit M) where
     pub crossing-same : crossingOf M field k ≡ claimCrossing01 M field k
-    crossing-same = rw (sym (in-agree S S₀ few fit agrees), sym (out-agree S S₀ few fit agrees), released-none)
+    crossing-same = rw (sym (in-agree S S₀ few fit alike), sym (out-agree S S₀ few fit alike), released-none M field k long none)
 
     -- 21 and 22
     amounts-same : amountsVerdict S (claimed k) ≡ amountsVerdict S₀ (claimed k)
     unfolding amountsVerdict claimGood boundsGood
     amounts-same = rw (
-      each-cong 21 (M .faces) (claimGood S (claimed k)) (claimGood S₀ (claimed k)) (λ f l. rw (sym (carried-agree S S₀ few fit agrees f l))),
+      each-cong 21 (M .faces) (claimGood S (claimed k)) (claimGood S₀ (claimed k)) (λ f l. rw (sym (carried-agree S S₀ few fit alike f l))),
       each-cong 22 (M .cells) (boundsGood S (claimed k)) (boundsGood S₀ (claimed k))
-          (λ c h. rw (sym (lo-agree S S₀ few fit agrees c h), sym (hi-agree S S₀ few fit agrees c h), sym (unraised-mass c h))),
+          (λ c h. rw (sym (lo-agree S S₀ few fit alike c h), sym (hi-agree S S₀ few fit alike c h), sym (unraised-mass M field k long none c h))),
     )
 
     -- the next masses of a claim, and of a plain step
     pub claim-next-same : table (M .cells) (updated M (mass S) (claimed k)) ≡ claimNext01 M field k
     unfolding updated
-    claim-next-same = table-cong 0 (M .cells) (updated M (mass S) (claimed k)) (updated M (mass S₀) (claimed k)) (λ c h. rw (sym (unraised-mass c h)))
+    claim-next-same = table-cong 0 (M .cells) (updated M (mass S) (claimed k)) (updated M (mass S₀) (claimed k))
+        (λ c h. rw (sym (unraised-mass M field k long none c h)))
 
     pub low-same : table (M .cells) (updated M (mass S) (carried S)) ≡ table (M .cells) (low S₀)
     unfolding updated low
     low-same = table-cong 0 (M .cells) (updated M (mass S) (carried S)) (low S₀) (λ c h. rw (
-      sym (unraised-mass c h),
-      sym (incoming-agree M M refl (λ f l. (refl, refl)) (carried S) (carried S₀) (carried-agree S S₀ few fit agrees) c),
-      sym (outgoing-agree M M refl (λ f l. (refl, refl)) (carried S) (carried S₀) (carried-agree S S₀ few fit agrees) c),
+      sym (unraised-mass M field k long none c h),
+      sym (incoming-agree M M refl (λ f l. (refl, refl)) (carried S) (carried S₀) (carried-agree S S₀ few fit alike) c),
+      sym (outgoing-agree M M refl (λ f l. (refl, refl)) (carried S) (carried S₀) (carried-agree S S₀ few fit alike) c),
     ))
 
   -- past 1 and 5 the mesh is fit

@@ -35,7 +35,8 @@ module _ (mesh field step : List ℕ) where
   plainNext01 = table (meshIn mesh .cells) (low (step01 (meshIn mesh) (fieldIn mesh field) step))
 
 abbrev pub PlainAsBefore : Type 0
-PlainAsBefore = (w : Width) (mesh field step bytes : List ℕ) → kindIn step ≡ waterKind w → (r : ℕ) (bytes′ : List ℕ) → PlainPromise mesh field step bytes r bytes′
+PlainAsBefore = (w : Width) (mesh field step bytes : List ℕ) → kindIn step ≡ waterKind w
+    → (r : ℕ) (bytes′ : List ℕ) → PlainPromise mesh field step bytes r bytes′
     → (r ≡ numberOf (withRoom (plainTested01 mesh field step) (widthIn mesh) (meshIn mesh .cells) (length bytes)))
     × (bytes′ ≡ recordOver (plainTested01 mesh field step) (widthIn mesh) (meshIn mesh .cells) (plainNext01 mesh field step) bytes)
 

@@ -1,6 +1,6 @@
 // The boards of a field in records, for a host program in C.
-use host_numbers::number_of;
 use host_board::answered;
+use host_numbers::number_of;
 use host_taking::FieldTaken;
 use host_taking::take_cells;
 use model::RUN_CELLS;

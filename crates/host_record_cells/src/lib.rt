@@ -1,7 +1,7 @@
 // The total and the pages of a field in records, for a host program in C.
+use host_field::page_answered;
 use host_numbers::fill1;
 use host_numbers::number_of;
-use host_field::page_answered;
 use host_taking::FieldTaken;
 use host_taking::take_cells;
 use model::RUN_CELLS;

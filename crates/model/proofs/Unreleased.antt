@@ -24,7 +24,7 @@ use Rattle.model.proofs.Raised.{raised-at}
 use Rattle.model.proofs.Rounded.{rounded-same}
 
 -- a test that finds nothing wherever those before it find nothing can be left out
-idle : (v w : Verdict) → (v ≡ fine → w ≡ fine) → (v andThen w) ≡ v
+pub idle : (v w : Verdict) → (v ≡ fine → w ≡ fine) → (v andThen w) ≡ v
 unfolding _andThen_
 idle (accepted t) w h = h refl
 idle (refused i j) w h = refl
@@ -40,7 +40,7 @@ module _ (M : Mesh) (field : List ℕ) (k : Call) (long : M .cells ≤ length (k
   unfolding stepTables
   lengths-same = idle _ _ (λ e. need-met 2 14 (le-leb (M .cells) (length (k .releases)) long))
 
-  raised-idle : fieldValues M field ≡ fine → raisedValues M field k ≡ fine
+  pub raised-idle : fieldValues M field ≡ fine → raisedValues M field k ≡ fine
   unfolding fieldValues saltGood raisedValues raisedGood
   raised-idle e = fine-each 18 (M .cells) (raisedGood M field k)
       (λ c h. ap (λ (m : ℕ). leb (m / volume M c) maxConcentration) (rw (none c h) (add-zero (getD field c 0)))
@@ -50,10 +50,10 @@ module _ (M : Mesh) (field : List ℕ) (k : Call) (long : M .cells ≤ length (k
   unfolding verdict
   verdict-same = rw lengths-same (ap (λ (v : Verdict). v andThen stepValues ceiling M field k) (idle _ _ (λ e. raised-idle (both-fine _ _ e .1))))
 
-  unraised-mass : (c : ℕ) → c < M .cells → mass S₀ c ≡ mass S c
+  pub unraised-mass : (c : ℕ) → c < M .cells → mass S₀ c ≡ mass S c
   unraised-mass c h = sym (raised-at (M .cells) field (k .releases) c h ∙ rw (none c h) (add-zero (getD field c 0)))
 
-  agrees : Agree S S₀
+  pub agrees : Agree S S₀
   agrees = record {
     mesh-agrees = same-mesh M;
     masses = unraised-mass;
@@ -62,7 +62,7 @@ module _ (M : Mesh) (field : List ℕ) (k : Call) (long : M .cells ≤ length (k
     outsides = λ f l. refl;
   }
 
-  released-none : releasedMass (M .cells) (k .releases) ≡ 0
+  pub released-none : releasedMass (M .cells) (k .releases) ≡ 0
   unfolding releasedMass
   released-none = sum-cong (M .cells) (release k) (λ c. 0) none ∙ sum-zeros (M .cells)
 

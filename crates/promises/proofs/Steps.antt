@@ -64,6 +64,6 @@ module _ (M : Mesh) (mesh-fine : meshVerdict M ≡ fine) where
 pub demand-3 : Demand3
 demand-3 M mesh-fine field field-fine calls made = claim-law M (cameTo M) (StepContract M) (StepOwed M) (owes M mesh-fine) field field-fine calls made
 
--- Beside it, the lines of "Figures by hand" marked P, gathered in one list and proved together.
+-- Beside it, "Figures by hand": all lines marked P, in one record.
 pub figures-by-hand : Figures
 figures-by-hand = figures

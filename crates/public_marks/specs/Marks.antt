@@ -1,4 +1,4 @@
--- Document 02, S-14: a mark per cell, 0 open or 1 withheld, in the table at position 19.
+-- Document 02, S-14: the marks, position 19. A cell marked 0 is open, one marked 1 is withheld.
 use Prim.Native.Nat.{ℕ, _<_}
 use mathlib.Core.Path.{_≡_}
 use mathlib.Core.Bool.{Bool, true}

@@ -7,7 +7,7 @@ use Rattle.page.specs.Answers.{pageSaid}
 use Rattle.page.specs.declared.PageAnswer.{PageAnswer}
 use Rattle.public_page.specs.Public.{PublicPageIs}
 
--- Two calls of `public_page` as they were made, for the same page and lent the same bytes: answers, refusals included, and bytes are equal.
+-- Two calls of `public_page` as they were made, with one page number and equal bytes lent: answers, refusals included, and bytes are equal.
 abbrev pub PageTellsNothing : Type 0
 PageTellsNothing = (volumes marks : List ℕ) (cells : ℕ) (masses masses′ : List ℕ) → SameInOpen volumes marks cells masses masses′
     → (page : ℕ) (bytes : List ℕ) (r r′ : PageAnswer) (after after′ : List ℕ)

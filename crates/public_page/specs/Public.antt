@@ -16,7 +16,7 @@ module _ (volumes masses marks : List ℕ) where
   unfoldable pub publicText : (places cells page : ℕ) → List ℕ
   publicText places cells page = pieces (cellsOn cells page) (λ i. lineIf volumes masses (isOpen marks) places (page * pageCells + i))
 
-  -- S-1's causes, with the marks' table among the tables and 27 at the end. It is lent bytes for the whole page, mass line included.
+  -- S-1's causes, with the marks' table among the tables and 27 at the end. The bytes lent have to hold what the growers read, the mass too.
   unfoldable pub publicPageVerdict : (cells page room : ℕ) → Verdict
   publicPageVerdict cells page room = verdictWith (marksLong marks cells) volumes masses cells page room andThen marksGood marks cells
 

@@ -11,7 +11,7 @@ use Rattle.model.specs.Calls.{Scheme, stepAnswer, nextTable, movedTable}
 use Rattle.renumbered.specs.Renumbered.{amountIn}
 
 module _ (M : Mesh) (g : ℕ) where
-  -- its ends exchanged, s taken from the other side, U negated
+  -- its ends exchanged, s taken from the other side (it is at most 255 by cause 5), U negated
   abbrev pub turnedMesh : Mesh
   turnedMesh = meshOf (M .cells) (M .faces) (M .volumes) (set (M .firsts) g (second M g)) (set (M .seconds) g (first M g))
       (set (M .shares) g (256 - share M g)) (M .reaches)

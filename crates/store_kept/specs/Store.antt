@@ -18,11 +18,11 @@ pub record Kept : Type 0 where
 abbrev pub keptField : ℕ → List ℕ → ℕ → Kept
 keptField cells masses name = record { name = name; masses = take cells masses }
 
--- The table: the count of fields,
+-- The first entry: how many fields there are.
 abbrev pub count : List ℕ → ℕ
 count store = getD store 0 0
 
--- then each field's name and its masses, in the order kept. n fields that stand one after another in a list of entries:
+-- Behind it the fields stand one after another, the earliest first, each with its name in front of its masses. n of them in a list of entries:
 module _ (cells : ℕ) where
   unfoldable pub fieldsFrom : ℕ → List ℕ → List Kept
   fieldsFrom zero entries = []

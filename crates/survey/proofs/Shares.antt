@@ -1,4 +1,4 @@
--- The share of a ratio is the largest whole k with k / 256 not above it, 1 to 255.
+-- The share of a ratio, 1 to 255: k of them are not above it, of 256, and k + 1 are.
 use Prim.Native.Nat.{ℕ, zero, suc, _+_, _*_, _≤_}
 use mathlib.Core.Path.{_≡_, refl, sym, ap, _∙_}
 use mathlib.Core.Bool.{Bool, true, false, not, cond, _&&_, true≢false}
@@ -85,7 +85,7 @@ module _ (r : Float) (some : notAbove 1 r ≡ true) (part : notAbove 256 r ≡ f
   unfolding share
   share-range = let p = largest-good (λ k. notAbove k r) 255 (omega arith) some in (p .1, p .2)
 
--- AN ACCEPTED CALL, by the contract of `face_share`: its k is the largest whole one with k / 256 not above the face's ratio, 1 to 255.
+-- AN ACCEPTED CALL, by the contract of `face_share`: its k, 1 to 255, is that of the face's ratio: k / 256 is not above it, and (k + 1) / 256 is.
 pub record IsShare (r : Float) (k : ℕ) : Type 0 where
   pub not-above : notAbove k r ≡ true
   pub largest-one : (j : ℕ) → notAbove j r ≡ true → j ≤ k

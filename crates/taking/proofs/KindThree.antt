@@ -32,11 +32,11 @@ no-bits bs at Narrow kind e = rw e
 no-bits bs at Wide kind e = rw e
 
 module _ (M : Mesh) (bs : List ℕ) where
-  all-there : M .cells ≤ length (releasesIn bs (M .cells) (M .faces) (M .seconds))
+  pub all-there : M .cells ≤ length (releasesIn bs (M .cells) (M .faces) (M .seconds))
   unfolding releasesIn
   all-there = omega (arith, length-table (M .cells) (entryIn bs (stepShapeIn bs (M .cells) (M .faces) (M .seconds)) 3 0))
 
-  none : (w : Width) → kindIn bs ≡ waterKind w → (c : ℕ) → c < M .cells → getD (releasesIn bs (M .cells) (M .faces) (M .seconds)) c 0 ≡ 0
+  pub none : (w : Width) → kindIn bs ≡ waterKind w → (c : ℕ) → c < M .cells → getD (releasesIn bs (M .cells) (M .faces) (M .seconds)) c 0 ≡ 0
   unfolding releasesIn
   none w e c h = getD-table (M .cells) _ 0 c h ∙ no-bits bs (place (stepShape (kindIn bs) (M .cells) (M .faces) (M .seconds)) 3 0 c) w (kindIn bs) e
 

@@ -16,7 +16,7 @@ newline = 10
 unfoldable pub word : ℕ → ℕ → List ℕ
 word n after = digits mostDigits n ++ (after ∷ [])
 
--- The same right-aligned: spaces in front, as many as the number leaves of so many columns.
+-- The same right-aligned: spaces in front, as many as the number leaves of so many columns; none where it has more digits.
 unfoldable pub column : ℕ → ℕ → ℕ → List ℕ
 column width n after = replicate (width - length (digits mostDigits n)) space ++ word n after
 
