@@ -20,7 +20,7 @@ abbrev pub boundsAt : (volumes masses releases work : List ℕ) → (enters leav
 boundsAt volumes masses releases work enters leaves c =
     boundsFit (getD volumes c 0) (ofCell work c 1) (ofCell work c 2) (holds masses releases c) (enters c) (leaves c)
 
--- and the mass after it
+-- and the mass after it; by 22 what leaves is there, so that nothing is cut off
 abbrev pub nextAt : (masses releases : List ℕ) → (enters leaves : ℕ → ℕ) → ℕ → ℕ
 nextAt masses releases enters leaves c = holds masses releases c + enters c - leaves c
 
