@@ -6,6 +6,7 @@ use model::needs::and_then;
 use model::needs::between;
 use model::needs::long;
 use model::needs::need;
+use model::positions;
 ghost use mathlib.Core.Path.{_≡_};
 ghost use Prim.Native.Nat.{suc, _+_, _-_, _*_, _≤_, _<_, min};
 ghost use mathlib.Core.Bool.{true, not, _&&_, _||_};
@@ -26,11 +27,6 @@ pub const LAST_END: u64 = 1099511627776;
 pub const MAX_PRICE: u64 = 1000000;
 
 pub const PRICE_UNITS: u64 = 1000000;
-
-// The positions of ends and prices among the tables of cause 2.
-const ENDS_TABLE: u64 = 17;
-
-const PRICES_TABLE: u64 = 18;
 
 // Whole cents, and what is left of the division.
 pub struct Billed {
@@ -117,8 +113,8 @@ fn lent(bands: usize, ends: usize, prices: usize, remainder: u64) -> Answer
     ensures { λ r. ⌜ said r ≡ inTurn (billCauses bands ends prices remainder) ⌝ }
 {
     let a = need(Cause::Bands, 0, between(1, MAX_BANDS, bands as u64));
-    let b = and_then(a, long(ENDS_TABLE, bands, ends));
-    let c = and_then(b, long(PRICES_TABLE, bands, prices));
+    let b = and_then(a, long(positions::ENDS, bands, ends));
+    let c = and_then(b, long(positions::PRICES, bands, prices));
     and_then(c, need(Cause::Bands, 0, remainder < PRICE_UNITS))
 }
 

@@ -7,6 +7,7 @@ use model::Refusal;
 use model::needs::and_then;
 use model::needs::long;
 use model::needs::need;
+use model::positions;
 use signed::is_negative_at;
 use signed::size_at;
 ghost use mathlib.Core.Path.{_≡_};
@@ -19,13 +20,6 @@ ghost use Rattle.charge_totals.specs.Totals.{lentCauses, gainFit, gainAt
 
 // The largest period total.
 pub const MAX_TOTAL: u64 = 1099511627776;
-
-// The positions of seconds, moved masses and period totals among the tables of cause 2.
-const SECONDS_TABLE: u64 = 2;
-
-const MOVED_TABLE: u64 = 9;
-
-const TOTALS_TABLE: u64 = 16;
 
 // The place of the faces in cause 1.
 const FACES_PLACE: u64 = 1;
@@ -80,9 +74,9 @@ fn lent(faces: usize, seconds: usize, moved: usize, totals: usize) -> Answer
     ensures { λ r. ⌜ said r ≡ inTurn (lentCauses faces seconds moved totals) ⌝ }
 {
     let a = need(Cause::Limits, FACES_PLACE, faces <= MAX_FACES);
-    let b = and_then(a, long(SECONDS_TABLE, faces, seconds));
-    let c = and_then(b, long(MOVED_TABLE, faces, moved));
-    and_then(c, long(TOTALS_TABLE, faces, totals))
+    let b = and_then(a, long(positions::SECONDS, faces, seconds));
+    let c = and_then(b, long(positions::MOVED, faces, moved));
+    and_then(c, long(positions::TOTALS, faces, totals))
 }
 
 // An entry with what it gains.

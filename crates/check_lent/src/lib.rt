@@ -5,6 +5,7 @@ use model::needs::and_then;
 use model::needs::between;
 use model::needs::long;
 use model::needs::need;
+use model::positions;
 ghost use mathlib.Core.Path.{_≡_};
 ghost use Prim.Native.Nat.{_≤_};
 ghost use Rattle.model.specs.Mesh.{meshOf, maxCells, maxFaces};
@@ -42,11 +43,11 @@ pub fn mesh_lent(
         ) ⌝ }
 {
     let a = counts_within(model::MAX_CELLS, model::MAX_FACES, cells, faces);
-    let b = long(0, cells, volumes.len());
-    let b = and_then(b, long(1, faces, firsts.len()));
-    let b = and_then(b, long(2, faces, seconds.len()));
-    let b = and_then(b, long(3, faces, shares.len()));
-    let b = and_then(b, long(4, faces, reaches.len()));
+    let b = long(positions::VOLUMES, cells, volumes.len());
+    let b = and_then(b, long(positions::FIRSTS, faces, firsts.len()));
+    let b = and_then(b, long(positions::SECONDS, faces, seconds.len()));
+    let b = and_then(b, long(positions::SHARES, faces, shares.len()));
+    let b = and_then(b, long(positions::REACHES, faces, reaches.len()));
     and_then(a, b)
 }
 
@@ -64,11 +65,12 @@ pub fn field_lent(
     ensures { λ r. ⌜ said r ≡ (
         counts (meshOf cells faces (now (volumes .entry)) (now (firsts .entry)) (now (seconds .entry)) (now (shares .entry)) (now (reaches .entry)))
         andThen meshTables (meshOf cells faces (now (volumes .entry)) (now (firsts .entry)) (now (seconds .entry)) (now (shares .entry)) (now (reaches .entry)))
-        andThen fieldTable (meshOf cells faces (now (volumes .entry)) (now (firsts .entry)) (now (seconds .entry)) (now (shares .entry)) (now (reaches .entry))) (now (masses .entry))
+        andThen fieldTable (meshOf cells faces (now (volumes .entry)) (now (firsts .entry)) (now (seconds .entry)) (now (shares .entry))
+        (now (reaches .entry))) (now (masses .entry))
         ) ⌝ }
 {
     let a = mesh_lent(cells, faces, volumes, firsts, seconds, shares, reaches);
-    and_then(a, long(5, cells, masses.len()))
+    and_then(a, long(positions::MASSES, cells, masses.len()))
 }
 
 // The tables that a step is lent besides. The counts are within their limits, so that the length of work is a number.
@@ -87,12 +89,12 @@ pub fn step_lent(
         (callOf (now (fluxes .entry)) (now (outsides .entry)) (now (next .entry)) (now (moved .entry)) (now (work .entry)) (now (releases .entry))) ⌝ }
 {
     let wanted = model::work_length(cells, faces);
-    let a = long(6, faces, fluxes.len());
-    let a = and_then(a, long(7, faces, outsides.len()));
-    let a = and_then(a, long(8, cells, next.len()));
-    let a = and_then(a, long(9, faces, moved.len()));
-    let a = and_then(a, long(10, wanted, work.len()));
-    and_then(a, long(14, cells, releases.len()))
+    let a = long(positions::FLUXES, faces, fluxes.len());
+    let a = and_then(a, long(positions::OUTSIDES, faces, outsides.len()));
+    let a = and_then(a, long(positions::NEXT, cells, next.len()));
+    let a = and_then(a, long(positions::MOVED, faces, moved.len()));
+    let a = and_then(a, long(positions::WORK, wanted, work.len()));
+    and_then(a, long(positions::RELEASES, cells, releases.len()))
 }
 
 // The tables that a judging is lent besides: those of a step but for work.
@@ -108,9 +110,9 @@ pub fn claim_lent(
     ensures { λ r. ⌜ said r ≡ claimLong cells faces
         (claimOf (now (fluxes .entry)) (now (outsides .entry)) (now (next .entry)) (now (claim .entry)) (now (releases .entry))) ⌝ }
 {
-    let b = long(6, faces, fluxes.len());
-    let b = and_then(b, long(7, faces, outsides.len()));
-    let b = and_then(b, long(8, cells, next.len()));
-    let b = and_then(b, long(9, faces, claim.len()));
-    and_then(b, long(14, cells, releases.len()))
+    let b = long(positions::FLUXES, faces, fluxes.len());
+    let b = and_then(b, long(positions::OUTSIDES, faces, outsides.len()));
+    let b = and_then(b, long(positions::NEXT, cells, next.len()));
+    let b = and_then(b, long(positions::MOVED, faces, claim.len()));
+    and_then(b, long(positions::RELEASES, cells, releases.len()))
 }

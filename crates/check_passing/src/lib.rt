@@ -135,7 +135,8 @@ fn count_face(
 ) -> bool
     requires { ⌜ (cells ≤ maxCells) × (length (now sums) ≡ maxCells + 1) ⌝ }
     requires { ⌜ ((c : ℕ) → c ≤ rim → getD (now sums) c 0 + (half + 1) * ceiling < 2 ^ 64) ⌝ }
-    ensures { λ r. ⌜ (r ≡ true → FaceFine cells first second share reach inward size outside × (now (sums .exit) ≡ counted (now (sums .entry)) inward first second size)) ⌝ }
+    ensures { λ r. ⌜ (r ≡ true → FaceFine cells first second share reach inward size outside
+        × (now (sums .exit) ≡ counted (now (sums .entry)) inward first second size)) ⌝ }
 {
     if !face_fits(cells, first, second, share, reach, inward, size, outside) {
         return false;
@@ -163,7 +164,8 @@ fn faces_fit(
     requires { ⌜ TablesLong faces (now firsts) (now seconds) (now shares) (now reaches) (now fluxes) (now outsides) ⌝ }
     requires { ⌜ now sums ≡ table (maxCells + 1) (λ c. 0) ⌝ }
     ensures { λ r. ⌜ (r ≡ true
-        → FacesFine cells faces (now (firsts .entry)) (now (seconds .entry)) (now (shares .entry)) (now (reaches .entry)) (now (fluxes .entry)) (now (outsides .entry))
+        → FacesFine cells faces (now (firsts .entry)) (now (seconds .entry)) (now (shares .entry)) (now (reaches .entry)) (now (fluxes .entry))
+        (now (outsides .entry))
         × (now (sums .exit) ≡ table (maxCells + 1) (countedBelow faces (now (firsts .entry)) (now (seconds .entry)) (now (fluxes .entry))))) ⌝ }
 {
     let mut f = 0;
@@ -233,7 +235,8 @@ fn pass_in(
     requires { ⌜ (cells ≤ maxCells) × (faces ≤ maxFaces) × (cells ≤ length (now volumes)) ⌝ }
     requires { ⌜ TablesLong faces (now firsts) (now seconds) (now shares) (now reaches) (now fluxes) (now outsides) ⌝ }
     requires { ⌜ now sums ≡ table (maxCells + 1) (λ c. 0) ⌝ }
-    ensures { λ r. ⌜ (r ≡ true → FacesPass cells faces (now (volumes .entry)) (now (firsts .entry)) (now (seconds .entry)) (now (shares .entry)) (now (reaches .entry))
+    ensures { λ r. ⌜ (r ≡ true → FacesPass cells faces (now (volumes .entry)) (now (firsts .entry)) (now (seconds .entry)) (now (shares .entry))
+        (now (reaches .entry))
         (now (fluxes .entry)) (now (outsides .entry))) ⌝ }
 {
     if !faces_fit(
@@ -266,7 +269,8 @@ pub fn pass(
 ) -> bool
     requires { ⌜ (cells ≤ maxCells) × (faces ≤ maxFaces) × (cells ≤ length (now volumes)) ⌝ }
     requires { ⌜ TablesLong faces (now firsts) (now seconds) (now shares) (now reaches) (now fluxes) (now outsides) ⌝ }
-    ensures { λ r. ⌜ (r ≡ true → FacesPass cells faces (now (volumes .entry)) (now (firsts .entry)) (now (seconds .entry)) (now (shares .entry)) (now (reaches .entry))
+    ensures { λ r. ⌜ (r ≡ true → FacesPass cells faces (now (volumes .entry)) (now (firsts .entry)) (now (seconds .entry)) (now (shares .entry))
+        (now (reaches .entry))
         (now (fluxes .entry)) (now (outsides .entry))) ⌝ }
 {
     let mut sums = [0u64; ENDS];

@@ -102,8 +102,10 @@ fn faces_fit(
 ) -> bool
     requires { ⌜ (faces ≤ length (now seconds)) × (faces ≤ length (now reaches)) × (faces ≤ length (now fluxes)) × (faces ≤ length (now outsides)) ⌝ }
     ensures { λ r. ⌜ (r ≡ true
-        → (each 7 faces (λ f. outsideFit (getD (now (seconds .entry)) f 0) (isNegative (getD (now (fluxes .entry)) f (pos 0))) (getD (now (outsides .entry)) f 0)) ≡ fine)
-        × (each 8 faces (λ f. fluxFit most (getD (now (seconds .entry)) f 0) (getD (now (reaches .entry)) f 0) (sizeOf (getD (now (fluxes .entry)) f (pos 0)))) ≡ fine)) ⌝ }
+        → (each 7 faces (λ f. outsideFit (getD (now (seconds .entry)) f 0) (isNegative (getD (now (fluxes .entry)) f (pos 0)))
+        (getD (now (outsides .entry)) f 0)) ≡ fine)
+        × (each 8 faces (λ f. fluxFit most (getD (now (seconds .entry)) f 0) (getD (now (reaches .entry)) f 0)
+        (sizeOf (getD (now (fluxes .entry)) f (pos 0)))) ≡ fine)) ⌝ }
 {
     let mut f = 0;
     while f < faces {
@@ -134,7 +136,8 @@ pub fn values(
         × (faces ≤ length (now outsides)) ⌝ }
     ensures { λ r. ⌜ said r ≡ (
         each 7 faces (λ f. outsideFit (getD (now (seconds .entry)) f 0) (isNegative (getD (now (fluxes .entry)) f (pos 0))) (getD (now (outsides .entry)) f 0))
-        andThen each 8 faces (λ f. fluxFit most (getD (now (seconds .entry)) f 0) (getD (now (reaches .entry)) f 0) (sizeOf (getD (now (fluxes .entry)) f (pos 0))))
+        andThen each 8 faces (λ f. fluxFit most (getD (now (seconds .entry)) f 0) (getD (now (reaches .entry)) f 0)
+        (sizeOf (getD (now (fluxes .entry)) f (pos 0))))
         ) ⌝ }
 {
     if faces_fit(faces, seconds, reaches, fluxes, outsides, most) {

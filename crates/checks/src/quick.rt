@@ -29,7 +29,8 @@ fn cell_fits(volume: u64, mass: u64, release: u64) -> bool
 // The same of all cells.
 fn cells_fit(cells: usize, volumes: &[u64], masses: &[u64], releases: &[u64]) -> bool
     requires { ⌜ (cells ≤ length (now volumes)) × (cells ≤ length (now masses)) × (cells ≤ length (now releases)) ⌝ }
-    ensures { λ r. ⌜ (r ≡ true → (c : ℕ) → c < cells → CellFine (getD (now (volumes .entry)) c 0) (getD (now (masses .entry)) c 0) (getD (now (releases .entry)) c 0)) ⌝ }
+    ensures { λ r. ⌜ (r ≡ true → (c : ℕ) → c < cells → CellFine (getD (now (volumes .entry)) c 0) (getD (now (masses .entry)) c 0)
+        (getD (now (releases .entry)) c 0)) ⌝ }
 {
     let mut c = 0;
     while c < cells {

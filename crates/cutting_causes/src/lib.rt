@@ -6,6 +6,7 @@ use model::Cause;
 use model::needs::and_then;
 use model::needs::long;
 use model::needs::need;
+use model::positions;
 ghost use mathlib.Core.Path.{_≡_};
 ghost use mathlib.Core.List.{[], _∷_};
 ghost use Prim.Native.Nat.{_≤_};
@@ -64,16 +65,16 @@ pub fn lengths(
     ensures { λ x. ⌜ said x ≡ lengthsFound cells faces v v0 v1 f f0 f1 s s0 s1 h h0 h1 k k0 k1 m m0 m1 u u0 u1 o o0 o1 r r0 r1 labels ⌝ }
 {
     let counts = check_lent::counts_within(model::MAX_CELLS, model::MAX_FACES, cells, faces);
-    let x = all_long(0, cells, v, v0, v1);
-    let x = and_then(x, all_long(1, faces, f, f0, f1));
-    let x = and_then(x, all_long(2, faces, s, s0, s1));
-    let x = and_then(x, all_long(3, faces, h, h0, h1));
-    let x = and_then(x, all_long(4, faces, k, k0, k1));
-    let x = and_then(x, all_long(5, cells, m, m0, m1));
-    let x = and_then(x, all_long(6, faces, u, u0, u1));
-    let x = and_then(x, all_long(7, faces, o, o0, o1));
-    let x = and_then(x, all_long(14, cells, r, r0, r1));
-    let x = and_then(x, long(15, cells, labels));
+    let x = all_long(positions::VOLUMES, cells, v, v0, v1);
+    let x = and_then(x, all_long(positions::FIRSTS, faces, f, f0, f1));
+    let x = and_then(x, all_long(positions::SECONDS, faces, s, s0, s1));
+    let x = and_then(x, all_long(positions::SHARES, faces, h, h0, h1));
+    let x = and_then(x, all_long(positions::REACHES, faces, k, k0, k1));
+    let x = and_then(x, all_long(positions::MASSES, cells, m, m0, m1));
+    let x = and_then(x, all_long(positions::FLUXES, faces, u, u0, u1));
+    let x = and_then(x, all_long(positions::OUTSIDES, faces, o, o0, o1));
+    let x = and_then(x, all_long(positions::RELEASES, cells, r, r0, r1));
+    let x = and_then(x, long(positions::LABELS, cells, labels));
     and_then(counts, x)
 }
 
@@ -103,8 +104,11 @@ pub fn values(
     releases: &[u64],
     labels: &[u64],
 ) -> Answer
-    requires { ⌜ StepLent (meshOf cells faces (now volumes) (now firsts) (now seconds) (now shares) (now reaches)) (now masses) (waterOf (now fluxes) (now outsides) (now releases)) × (cells ≤ length (now labels)) ⌝ }
-    ensures { λ r. ⌜ said r ≡ valuesFound (lagoonOf cells faces (tablesOf (now (volumes .entry)) (now (firsts .entry)) (now (seconds .entry)) (now (shares .entry)) (now (reaches .entry)) (now (masses .entry)) (now (fluxes .entry)) (now (outsides .entry)) (now (releases .entry)))) (now (labels .entry)) ⌝ }
+    requires { ⌜ StepLent (meshOf cells faces (now volumes) (now firsts) (now seconds) (now shares) (now reaches)) (now masses)
+        (waterOf (now fluxes) (now outsides) (now releases)) × (cells ≤ length (now labels)) ⌝ }
+    ensures { λ r. ⌜ said r ≡ valuesFound (lagoonOf cells faces
+        (tablesOf (now (volumes .entry)) (now (firsts .entry)) (now (seconds .entry)) (now (shares .entry)) (now (reaches .entry)) (now (masses .entry))
+        (now (fluxes .entry)) (now (outsides .entry)) (now (releases .entry)))) (now (labels .entry)) ⌝ }
 {
     let x = check_mesh::values(
         cells,
@@ -166,8 +170,11 @@ pub fn verdict(
     r0: usize,
     r1: usize,
 ) -> Answer
-    ensures { λ x. ⌜ said x ≡ (lengthsFound cells faces (length (now (volumes .entry))) v0 v1 (length (now (firsts .entry))) f0 f1 (length (now (seconds .entry))) s0 s1 (length (now (shares .entry))) h0 h1 (length (now (reaches .entry))) k0 k1 (length (now (masses .entry))) m0 m1 (length (now (fluxes .entry))) u0 u1 (length (now (outsides .entry))) o0 o1 (length (now (releases .entry))) r0 r1 (length (now (labels .entry)))
-        andThen valuesFound (lagoonOf cells faces (tablesOf (now (volumes .entry)) (now (firsts .entry)) (now (seconds .entry)) (now (shares .entry)) (now (reaches .entry)) (now (masses .entry)) (now (fluxes .entry)) (now (outsides .entry)) (now (releases .entry)))) (now (labels .entry))) ⌝ }
+    ensures { λ x. ⌜ said x ≡ (lengthsFound cells faces (length (now (volumes .entry))) v0 v1 (length (now (firsts .entry))) f0 f1
+        (length (now (seconds .entry))) s0 s1 (length (now (shares .entry))) h0 h1 (length (now (reaches .entry))) k0 k1 (length (now (masses .entry))) m0 m1
+        (length (now (fluxes .entry))) u0 u1 (length (now (outsides .entry))) o0 o1 (length (now (releases .entry))) r0 r1 (length (now (labels .entry)))
+        andThen valuesFound (lagoonOf cells faces (tablesOf (now (volumes .entry)) (now (firsts .entry)) (now (seconds .entry)) (now (shares .entry))
+        (now (reaches .entry)) (now (masses .entry)) (now (fluxes .entry)) (now (outsides .entry)) (now (releases .entry)))) (now (labels .entry))) ⌝ }
 {
     let a = lengths(
         cells,

@@ -76,7 +76,8 @@ pub fn outsides(
     ensures { λ r. ⌜ r ≡ count faces (touchingAt (now (labels .entry)) part (now (firsts .entry)) (now (seconds .entry))) ⌝ }
     ensures { λ _. ⌜ now (out .exit) ≡ over (picked faces (touchingAt (now (labels .entry)) part (now (firsts .entry)) (now (seconds .entry)))
         (newOutsideAt (now (labels .entry)) part (now (firsts .entry)) (now (seconds .entry))
-        (rounded (now (volumes .entry)) (raised cells (now (masses .entry)) (now (releases .entry)))) (now (amounts .entry)) (now (values .entry)))) (now (out .entry)) ⌝ }
+        (rounded (now (volumes .entry)) (raised cells (now (masses .entry)) (now (releases .entry)))) (now (amounts .entry)) (now (values .entry))))
+        (now (out .entry)) ⌝ }
 {
     let mut table = [0u64; ENDS];
     concentrations(cells, volumes, masses, releases, &mut table);

@@ -36,11 +36,18 @@ pub fn part(
     part_outsides: &mut [u64],
     part_releases: &mut [u64],
 ) -> PartCounts
-    requires { ⌜ Cuttable (lagoonOf cells faces (tablesOf (now volumes) (now firsts) (now seconds) (now shares) (now reaches) (now masses) (now fluxes) (now outsides) (now releases))) (now labels)
-        (tablesOf (now «part_volumes») (now «part_firsts») (now «part_seconds») (now «part_shares») (now «part_reaches») (now «part_masses») (now «part_fluxes») (now «part_outsides») (now «part_releases»)) ⌝ }
-    ensures { λ r. ⌜ PartFilled (lagoonOf cells faces (tablesOf (now (volumes .entry)) (now (firsts .entry)) (now (seconds .entry)) (now (shares .entry)) (now (reaches .entry)) (now (masses .entry)) (now (fluxes .entry)) (now (outsides .entry)) (now (releases .entry)))) (now (labels .entry)) part
-        (tablesOf (now («part_volumes» .entry)) (now («part_firsts» .entry)) (now («part_seconds» .entry)) (now («part_shares» .entry)) (now («part_reaches» .entry)) (now («part_masses» .entry)) (now («part_fluxes» .entry)) (now («part_outsides» .entry)) (now («part_releases» .entry)))
-        r (tablesOf (now («part_volumes» .exit)) (now («part_firsts» .exit)) (now («part_seconds» .exit)) (now («part_shares» .exit)) (now («part_reaches» .exit)) (now («part_masses» .exit)) (now («part_fluxes» .exit)) (now («part_outsides» .exit)) (now («part_releases» .exit))) ⌝ }
+    requires { ⌜ Cuttable (lagoonOf cells faces (tablesOf (now volumes) (now firsts) (now seconds) (now shares) (now reaches) (now masses) (now fluxes)
+        (now outsides) (now releases))) (now labels)
+        (tablesOf (now «part_volumes») (now «part_firsts») (now «part_seconds») (now «part_shares») (now «part_reaches») (now «part_masses»)
+        (now «part_fluxes») (now «part_outsides») (now «part_releases»)) ⌝ }
+    ensures { λ r. ⌜ PartFilled (lagoonOf cells faces (tablesOf (now (volumes .entry)) (now (firsts .entry)) (now (seconds .entry)) (now (shares .entry))
+        (now (reaches .entry)) (now (masses .entry)) (now (fluxes .entry)) (now (outsides .entry)) (now (releases .entry)))) (now (labels .entry)) part
+        (tablesOf (now («part_volumes» .entry)) (now («part_firsts» .entry)) (now («part_seconds» .entry)) (now («part_shares» .entry))
+        (now («part_reaches» .entry)) (now («part_masses» .entry)) (now («part_fluxes» .entry)) (now («part_outsides» .entry))
+        (now («part_releases» .entry)))
+        r (tablesOf (now («part_volumes» .exit)) (now («part_firsts» .exit)) (now («part_seconds» .exit)) (now («part_shares» .exit))
+        (now («part_reaches» .exit)) (now («part_masses» .exit)) (now («part_fluxes» .exit)) (now («part_outsides» .exit)) (now («part_releases» .exit)))
+        ⌝ }
 {
     let own_cells = by_cell(cells, part, labels, volumes, part_volumes);
     by_cell(cells, part, labels, masses, part_masses);

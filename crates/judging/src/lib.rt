@@ -39,7 +39,8 @@ fn first_passes(
     work: &mut [u64],
 ) -> Carried
     ghost { StepInput }
-    requires { λ S. ⌜ inputFrom cells faces (now volumes) (now firsts) (now seconds) (now shares) (now reaches) (now masses) (now fluxes) (now outsides) (now releases) ≡ S ⌝ }
+    requires { λ S. ⌜ inputFrom cells faces (now volumes) (now firsts) (now seconds) (now shares) (now reaches) (now masses) (now fluxes) (now outsides)
+        (now releases) ≡ S ⌝ }
     requires { λ S. ⌜ Ready S × (cells ≤ length (now masses)) × (cells ≤ length (now releases)) ⌝ }
     requires { λ S. ⌜ (length (now low) ≡ cells) × (length (now carried) ≡ faces) × (length (now work) ≡ 4 * cells + faces) ⌝ }
     ensures { λ S r. ⌜ CarriedTo S faces (r .entered) (r .gone) (now (low .exit)) (now (carried .exit)) (now (work .exit)) ⌝ }
@@ -79,7 +80,8 @@ fn judged_in(
     work: &mut [u64],
 ) -> StepAnswer
     ghost { StepInput }
-    requires { λ S. ⌜ inputFrom cells faces (now volumes) (now firsts) (now seconds) (now shares) (now reaches) (now masses) (now fluxes) (now outsides) (now releases) ≡ S ⌝ }
+    requires { λ S. ⌜ inputFrom cells faces (now volumes) (now firsts) (now seconds) (now shares) (now reaches) (now masses) (now fluxes) (now outsides)
+        (now releases) ≡ S ⌝ }
     requires { λ S. ⌜ Ready S × (cells ≤ length (now masses)) × (cells ≤ length (now releases)) × (faces ≤ length (now claim)) ⌝ }
     requires { λ S. ⌜ (length (now low) ≡ cells) × (length (now carried) ≡ faces) × (length (now work) ≡ 4 * cells + faces) ⌝ }
     ensures { λ S r. ⌜ stepSaid r ≡ amountsAnswer S (now (claim .entry)) (now (releases .entry)) ⌝ }
@@ -141,7 +143,8 @@ fn judged(
     releases: &[u64],
 ) -> StepAnswer
     ghost { StepInput }
-    requires { λ S. ⌜ inputFrom cells faces (now volumes) (now firsts) (now seconds) (now shares) (now reaches) (now masses) (now fluxes) (now outsides) (now releases) ≡ S ⌝ }
+    requires { λ S. ⌜ inputFrom cells faces (now volumes) (now firsts) (now seconds) (now shares) (now reaches) (now masses) (now fluxes) (now outsides)
+        (now releases) ≡ S ⌝ }
     requires { λ S. ⌜ Ready S × (cells ≤ length (now masses)) × (cells ≤ length (now releases)) × (faces ≤ length (now claim)) ⌝ }
     ensures { λ S r. ⌜ stepSaid r ≡ amountsAnswer S (now (claim .entry)) (now (releases .entry)) ⌝ }
 {

@@ -40,7 +40,8 @@ fn fill(
     requires { ⌜ cells ≤ length (now next) ⌝ }
     requires { ⌜ Salted cells (now masses) (now releases) × Summed cells (now enters) (now leaves) ⌝ }
     requires { ⌜ Affords cells (now masses) (now releases) (entry (now enters)) (entry (now leaves)) ⌝ }
-    ensures { λ _. ⌜ now (next .exit) ≡ over (table cells (nextAt (now (masses .entry)) (now (releases .entry)) (entry (now (enters .entry))) (entry (now (leaves .entry)))))
+    ensures { λ _. ⌜ now (next .exit) ≡ over (table cells (nextAt (now (masses .entry)) (now (releases .entry)) (entry (now (enters .entry)))
+        (entry (now (leaves .entry)))))
         (now (next .entry)) ⌝ }
 {
     let mut c = 0;
@@ -69,10 +70,12 @@ fn fill_in(
     requires { ⌜ LongEnough faces (now firsts) (now seconds) (now claim) cells (now volumes) ⌝ }
     requires { ⌜ FacesFit faces (now firsts) (now seconds) (now claim) ⌝ }
     requires { ⌜ Salted cells (now masses) (now releases) ⌝ }
-    requires { ⌜ Affords cells (now masses) (now releases) (inflow faces (now firsts) (now seconds) (now claim)) (outflow faces (now firsts) (now seconds) (now claim)) ⌝ }
+    requires { ⌜ Affords cells (now masses) (now releases) (inflow faces (now firsts) (now seconds) (now claim))
+        (outflow faces (now firsts) (now seconds) (now claim)) ⌝ }
     requires { ⌜ (now enters ≡ table (maxCells + 1) (λ c. 0)) × (now leaves ≡ table (maxCells + 1) (λ c. 0)) ⌝ }
     ensures { λ _. ⌜ now (next .exit) ≡ over (table cells (nextAt (now (masses .entry)) (now (releases .entry))
-        (inflow faces (now (firsts .entry)) (now (seconds .entry)) (now (claim .entry))) (outflow faces (now (firsts .entry)) (now (seconds .entry)) (now (claim .entry)))))
+        (inflow faces (now (firsts .entry)) (now (seconds .entry)) (now (claim .entry)))
+        (outflow faces (now (firsts .entry)) (now (seconds .entry)) (now (claim .entry)))))
         (now (next .entry)) ⌝ }
 {
     gather(faces, firsts, seconds, claim, enters, leaves);
@@ -95,9 +98,11 @@ pub fn values(
     requires { ⌜ LongEnough faces (now firsts) (now seconds) (now claim) cells (now volumes) ⌝ }
     requires { ⌜ FacesFit faces (now firsts) (now seconds) (now claim) ⌝ }
     requires { ⌜ Salted cells (now masses) (now releases) ⌝ }
-    requires { ⌜ Affords cells (now masses) (now releases) (inflow faces (now firsts) (now seconds) (now claim)) (outflow faces (now firsts) (now seconds) (now claim)) ⌝ }
+    requires { ⌜ Affords cells (now masses) (now releases) (inflow faces (now firsts) (now seconds) (now claim))
+        (outflow faces (now firsts) (now seconds) (now claim)) ⌝ }
     ensures { λ _. ⌜ now (next .exit) ≡ over (table cells (nextAt (now (masses .entry)) (now (releases .entry))
-        (inflow faces (now (firsts .entry)) (now (seconds .entry)) (now (claim .entry))) (outflow faces (now (firsts .entry)) (now (seconds .entry)) (now (claim .entry)))))
+        (inflow faces (now (firsts .entry)) (now (seconds .entry)) (now (claim .entry)))
+        (outflow faces (now (firsts .entry)) (now (seconds .entry)) (now (claim .entry)))))
         (now (next .entry)) ⌝ }
 {
     let mut enters = [0u64; ENDS];

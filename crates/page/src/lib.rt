@@ -7,6 +7,7 @@ use model::Refusal;
 use model::needs::and_then;
 use model::needs::long;
 use model::needs::need;
+use model::positions;
 use page_lines::PAGE_CELLS;
 use page_lines::cells_on;
 use page_lines::lines;
@@ -25,9 +26,6 @@ ghost use Rattle.text.specs.Digits.{mostDigits};
 ghost use Rattle.text.specs.Lines.{Puts};
 ghost use Rattle.page.specs.Page.{pageCells, massPlaces, pageText, pages as pagesOf, pageBytes};
 ghost use Rattle.page.specs.Answers.{verdictWith, PageIs};
-
-// The position of the page's bytes among the tables of cause 2.
-const PAGE_TABLE: u64 = 12;
 
 // How many bytes the page has.
 pub enum PageAnswer {
@@ -91,7 +89,7 @@ pub fn judge(
         return Answer::Refused(r);
     }
     let places = rest_places(cells, volumes);
-    let space = long(PAGE_TABLE, page_bytes(places, cells, page), room);
+    let space = long(positions::PAGE, page_bytes(places, cells, page), room);
     let given = and_then(space, further);
     let field = and_then(given, check_cells(cells, volumes, masses));
     and_then(field, need(Cause::Page, page, page < pages(cells) as u64))

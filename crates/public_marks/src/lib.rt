@@ -3,6 +3,7 @@ use model::Answer;
 use model::Cause;
 use model::Refusal;
 use model::needs::long;
+use model::positions;
 ghost use mathlib.Core.Path.{_≡_};
 ghost use lib.ListN.{getD};
 ghost use Rattle.model.specs.Answers.{said};
@@ -12,9 +13,6 @@ ghost use Rattle.public_marks.specs.Marks.{isOpen, marksLong, marksGood}
 const OPEN: u64 = 0;
 
 const WITHHELD: u64 = 1;
-
-// The position of the marks among the tables of cause 2.
-const MARKS_TABLE: u64 = 19;
 
 // The mark of a cell; a table that is too short has been refused before a mark decides anything.
 fn mark_at(marks: &[u64], c: usize) -> u64
@@ -36,7 +34,7 @@ pub fn is_open(marks: &[u64], c: usize) -> bool
 pub fn marks_long(cells: usize, marks: &[u64]) -> Answer
     ensures { λ r. ⌜ said r ≡ marksLong (now (marks .entry)) cells ⌝ }
 {
-    long(MARKS_TABLE, cells, marks.len())
+    long(positions::MARKS, cells, marks.len())
 }
 
 // Cause 27.

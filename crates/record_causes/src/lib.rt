@@ -4,6 +4,7 @@ mod releases;
 use model::Answer;
 use model::needs::and_then;
 use model::needs::long;
+use model::positions;
 use record_layouts::StepKind;
 use record_layouts::Width;
 use record_layouts::lengths;
@@ -12,12 +13,6 @@ ghost use Rattle.model.specs.Mesh.{meshOf};
 ghost use Rattle.model.specs.Answers.{said};
 ghost use Rattle.record_layouts.specs.Layouts.{kindNumber};
 ghost use Rattle.record_causes.specs.Verdicts.{mostOf, meshWriteVerdict, fieldWriteVerdict, stepWriteVerdict};
-
-// The position of the record's bytes among the tables of cause 2.
-const RECORD_BYTES: u64 = 11;
-
-// The position of the releases.
-const RELEASES: u64 = 14;
 
 // The ceiling of volumes, reaches and fluxes over the rim in records of a width.
 fn most_of(width: Width) -> u64
@@ -49,7 +44,11 @@ pub fn mesh(
     if let Answer::Refused(r) = lent {
         return Answer::Refused(r);
     }
-    let space = long(RECORD_BYTES, lengths::mesh_bytes(width, cells, faces), room);
+    let space = long(
+        positions::RECORD,
+        lengths::mesh_bytes(width, cells, faces),
+        room,
+    );
     let values = check_mesh::values(
         cells,
         faces,
@@ -93,7 +92,7 @@ pub fn field(
     if let Answer::Refused(r) = lent {
         return Answer::Refused(r);
     }
-    let space = long(RECORD_BYTES, lengths::field_bytes(width, cells), room);
+    let space = long(positions::RECORD, lengths::field_bytes(width, cells), room);
     let values = check_mesh::values(
         cells,
         faces,
@@ -135,14 +134,17 @@ pub fn step(
     if let Answer::Refused(r) = lent {
         return Answer::Refused(r);
     }
-    let water = and_then(long(6, faces, fluxes.len()), long(7, faces, outsides.len()));
+    let water = and_then(
+        long(positions::FLUXES, faces, fluxes.len()),
+        long(positions::OUTSIDES, faces, outsides.len()),
+    );
     let space = long(
-        RECORD_BYTES,
+        positions::RECORD,
         lengths::step_bytes(width, kind, cells, faces, seconds),
         room,
     );
     let most = and_then(water, space);
-    let tables = and_then(most, long(RELEASES, cells, releases.len()));
+    let tables = and_then(most, long(positions::RELEASES, cells, releases.len()));
     if let Answer::Refused(r) = tables {
         return Answer::Refused(r);
     }

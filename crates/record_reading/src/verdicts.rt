@@ -7,6 +7,7 @@ use model::Cause;
 use model::needs::and_then;
 use model::needs::long;
 use model::needs::need;
+use model::positions;
 use record_layouts::StepKind;
 use record_layouts::Width;
 use record_layouts::lengths;
@@ -20,9 +21,6 @@ ghost use Rattle.record_layouts.specs.Layouts.{meshKind, fieldKind, kindNumber}
 ghost use Rattle.record_heads.specs.Heads.{kindIn, cellsIn, facesIn};
 ghost use Rattle.record_reading.specs.Reading.{meshBodyVerdict, fieldBodyVerdict, stepBodyVerdict, meshRead, fieldRead, stepRead};
 ghost use Rattle.record_reading.specs.Answers.{meshSaid, stepReadSaid};
-
-// The position of the releases among the tables of cause 2.
-const RELEASES: u64 = 14;
 
 // After other tests, whether a table has as many entries as wanted.
 fn then_long(a: Answer, position: u64, wanted: usize, has: usize) -> Answer
@@ -48,11 +46,11 @@ fn mesh_body(
 {
     let end = lengths::mesh_bits(width, cells, faces);
     let a = need(Cause::Length, 0, bytes.len() == record_bits::bytes_for(end));
-    let b = then_long(a, 0, cells, volumes);
-    let d = then_long(b, 1, faces, firsts);
-    let e = then_long(d, 2, faces, seconds);
-    let f = then_long(e, 3, faces, shares);
-    let g = then_long(f, 4, faces, reaches);
+    let b = then_long(a, positions::VOLUMES, cells, volumes);
+    let d = then_long(b, positions::FIRSTS, faces, firsts);
+    let e = then_long(d, positions::SECONDS, faces, seconds);
+    let f = then_long(e, positions::SHARES, faces, shares);
+    let g = then_long(f, positions::REACHES, faces, reaches);
     if let Answer::Refused(r) = g {
         return Answer::Refused(r);
     }
@@ -68,7 +66,7 @@ fn field_body(width: Width, cells: usize, bytes: &[u8], masses: usize) -> Answer
         0,
         bytes.len() == lengths::field_bytes(width, cells),
     );
-    then_long(a, 5, cells, masses)
+    then_long(a, positions::MASSES, cells, masses)
 }
 
 fn step_body(
@@ -87,9 +85,9 @@ fn step_body(
 {
     let end = lengths::step_bits(width, kind, cells, faces, seconds);
     let a = need(Cause::Length, 0, bytes.len() == record_bits::bytes_for(end));
-    let b = then_long(a, 6, faces, fluxes);
-    let d = then_long(b, 7, faces, outsides);
-    let e = then_long(d, RELEASES, cells, releases);
+    let b = then_long(a, positions::FLUXES, faces, fluxes);
+    let d = then_long(b, positions::OUTSIDES, faces, outsides);
+    let e = then_long(d, positions::RELEASES, cells, releases);
     if let Answer::Refused(r) = e {
         return Answer::Refused(r);
     }

@@ -54,7 +54,8 @@ fn once(buffer: &mut [u8], at: usize, to: usize) -> Got
 // Bytes read into buffer[from..to], until there are none. Answers where they end.
 fn bytes(buffer: &mut [u8], from: usize, to: usize) -> Got
     requires { ⌜ (from ≤ to) × (to ≤ length (now buffer)) ⌝ }
-    ensures { λ r. ⌜ Counts (r .count) (now (buffer .exit)) × (from ≤ r .count) × (r .count ≤ to) × (take from (now (buffer .exit)) ≡ take from (now (buffer .entry))) ⌝ }
+    ensures { λ r. ⌜ Counts (r .count) (now (buffer .exit)) × (from ≤ r .count) × (r .count ≤ to)
+        × (take from (now (buffer .exit)) ≡ take from (now (buffer .entry))) ⌝ }
 {
     let mut at = from;
     while at < to {
@@ -133,7 +134,8 @@ pub fn field(width: Width, cells: usize, buffer: &mut [u8]) -> Got
 
 pub fn step(width: Width, cells: usize, faces: usize, seconds: &[u64], buffer: &mut [u8]) -> Got
     requires { do ⌜ (← ⟦RECORD⟧) ≤ length (now buffer) ⌝ }
-    ensures { λ r. ⌜ Counts (r .count) (now (buffer .exit)) × Asked (bytesFor stepHeadBits) (stepNeeds width cells faces (now (seconds .entry))) (now (buffer .exit)) (r .count) ⌝ }
+    ensures { λ r. ⌜ Counts (r .count) (now (buffer .exit)) × Asked (bytesFor stepHeadBits) (stepNeeds width cells faces (now (seconds .entry)))
+        (now (buffer .exit)) (r .count) ⌝ }
 {
     let head = bytes(buffer, 0, STEP_HEAD);
     if head.failed {

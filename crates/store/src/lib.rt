@@ -2,12 +2,10 @@
 use model::Answer;
 use model::needs::and_then;
 use model::needs::long;
+use model::positions;
 ghost use mathlib.Core.Path.{_≡_};
 ghost use Rattle.model.specs.Answers.{said};
 ghost use Rattle.store.specs.Calls.{openedVerdict, keepVerdict, KeepPromise, DropPromise, ReturnPromise};
-
-// The position of the store among the tables, for cause 2.
-const STORE: u64 = 13;
 
 // Causes 1, 2 and 3 of a call that is lent cells, volumes, masses and store.
 fn opened(cells: usize, volumes: &[u64], masses: &[u64], store: &[u64]) -> Answer
@@ -15,7 +13,7 @@ fn opened(cells: usize, volumes: &[u64], masses: &[u64], store: &[u64]) -> Answe
 {
     let none = &volumes[..0];
     let lent = check_lent::field_lent(cells, 0, volumes, none, none, none, none, masses);
-    let a = and_then(lent, long(STORE, 1, store.len()));
+    let a = and_then(lent, long(positions::STORE, 1, store.len()));
     if let Answer::Refused(r) = a {
         return Answer::Refused(r);
     }
@@ -54,7 +52,7 @@ pub fn drop(cells: usize, store: &mut [u64], name: u64) -> Answer
 {
     let a = and_then(
         check_lent::counts_within(model::MAX_CELLS, model::MAX_FACES, cells, 0),
-        long(STORE, 1, store.len()),
+        long(positions::STORE, 1, store.len()),
     );
     if let Answer::Refused(r) = a {
         return Answer::Refused(r);

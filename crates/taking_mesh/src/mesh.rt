@@ -4,6 +4,7 @@ use model::RUN_CELLS;
 use model::RUN_FACES;
 use model::needs::and_then;
 use model::needs::long;
+use model::positions;
 use record_layouts::Width;
 use record_reading::MeshAnswer;
 use record_reading::MeshCounts;
@@ -27,11 +28,11 @@ fn holds(
     ensures { λ r. ⌜ said r ≡ (longOf 0 cells volumes andThen longOf 1 faces firsts andThen longOf 2 faces seconds andThen longOf 3 faces shares
         andThen longOf 4 faces reaches) ⌝ }
 {
-    let a = long(0, cells, volumes);
-    let b = and_then(a, long(1, faces, firsts));
-    let c = and_then(b, long(2, faces, seconds));
-    let d = and_then(c, long(3, faces, shares));
-    and_then(d, long(4, faces, reaches))
+    let a = long(positions::VOLUMES, cells, volumes);
+    let b = and_then(a, long(positions::FIRSTS, faces, firsts));
+    let c = and_then(b, long(positions::SECONDS, faces, seconds));
+    let d = and_then(c, long(positions::SHARES, faces, shares));
+    and_then(d, long(positions::REACHES, faces, reaches))
 }
 
 // A mesh that has been read, judged by 3 to 5 and copied into the lent tables.
@@ -54,9 +55,11 @@ fn keep(
     ensures { λ r. ⌜ MeshKept
         (keptFound
         (meshOf cells faces (now (volumes .entry)) (now (firsts .entry)) (now (seconds .entry)) (now (shares .entry)) (now (reaches .entry)))
-        (meshOf cells faces (now («read_volumes» .entry)) (now («read_firsts» .entry)) (now («read_seconds» .entry)) (now («read_shares» .entry)) (now («read_reaches» .entry))))
+        (meshOf cells faces (now («read_volumes» .entry)) (now («read_firsts» .entry)) (now («read_seconds» .entry)) (now («read_shares» .entry))
+        (now («read_reaches» .entry))))
         width
-        (meshOf cells faces (now («read_volumes» .entry)) (now («read_firsts» .entry)) (now («read_seconds» .entry)) (now («read_shares» .entry)) (now («read_reaches» .entry)))
+        (meshOf cells faces (now («read_volumes» .entry)) (now («read_firsts» .entry)) (now («read_seconds» .entry)) (now («read_shares» .entry))
+        (now («read_reaches» .entry)))
         (now (volumes .entry)) (now (firsts .entry)) (now (seconds .entry)) (now (shares .entry)) (now (reaches .entry)) r
         (now (volumes .exit)) (now (firsts .exit)) (now (seconds .exit)) (now (shares .exit)) (now (reaches .exit)) ⌝ }
 {

@@ -2,11 +2,9 @@
 use checks::TotalAnswer;
 use model::Answer;
 use model::RUN_CELLS;
+use model::positions;
 use record_layouts::Width;
 ghost use Rattle.taking.specs.Taking.{FieldTaking};
-
-// Document 01's position of the table of masses.
-const MASSES: u64 = 5;
 
 // A field on these cells, and its total.
 pub fn take_field(
@@ -20,7 +18,7 @@ pub fn take_field(
 {
     let mut read = [0u64; RUN_CELLS];
     let answer = record_reading::read_field(width, cells, bytes, &mut read);
-    let lent = model::needs::long(MASSES, cells, masses.len());
+    let lent = model::needs::long(positions::MASSES, cells, masses.len());
     let found = model::needs::and_then(answer, lent);
     if let Answer::Refused(refusal) = found {
         return TotalAnswer::Refused(refusal);

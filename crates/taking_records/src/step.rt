@@ -25,7 +25,8 @@ fn stepped(
     outsides: &[u64],
     releases: &[u64],
 ) -> StepTaken
-    ensures { λ r. ⌜ SteppedIn (meshOf cells faces (now (volumes .entry)) (now (firsts .entry)) (now (seconds .entry)) (now (shares .entry)) (now (reaches .entry)))
+    ensures { λ r. ⌜ SteppedIn (meshOf cells faces (now (volumes .entry)) (now (firsts .entry)) (now (seconds .entry)) (now (shares .entry))
+        (now (reaches .entry)))
         (now (masses .entry)) (now (fluxes .entry)) (now (outsides .entry)) (now (releases .entry)) r (now (masses .exit)) ⌝ }
 {
     let mut next = [0u64; RUN_CELLS];
@@ -74,7 +75,8 @@ pub fn take_step(
     reaches: &[u64],
     masses: &mut [u64],
 ) -> StepTaken
-    ensures { λ r. ⌜ StepTaking width (meshOf cells faces (now (volumes .entry)) (now (firsts .entry)) (now (seconds .entry)) (now (shares .entry)) (now (reaches .entry)))
+    ensures { λ r. ⌜ StepTaking width (meshOf cells faces (now (volumes .entry)) (now (firsts .entry)) (now (seconds .entry)) (now (shares .entry))
+        (now (reaches .entry)))
         (now (masses .entry)) (now (bytes .entry)) r (now (masses .exit)) ⌝ }
 {
     let mut fluxes = [0i64; RUN_FACES];
