@@ -1,6 +1,6 @@
 -- Document 02, S-7: the share of a face from four survey points, in the logic's account of IEEE 754 (`lib.Ieee`).
 use Prim.Native.Nat.{ℕ, zero, suc, _*_}
-use mathlib.Core.Bool.{Bool, not, cond, _&&_}
+use mathlib.Core.Bool.{Bool, false, not, cond, _&&_}
 use lib.Dec.{leb}
 use lib.ListN.{getD}
 use lib.Ieee.{Float, nan, inf, fin, up, down, eq}
