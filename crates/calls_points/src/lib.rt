@@ -1,9 +1,9 @@
 // The calls on survey points. A coordinate is written as the bit pattern of its 64-bit float.
 use calls_arguments::parts::number;
 use calls_arguments::show;
-use survey::Face;
-use survey::Point;
 use survey::Stage;
+use survey_points::Face;
+use survey_points::Point;
 
 // The value of a pattern's sign bit.
 const SIGN: u64 = 9223372036854775808;

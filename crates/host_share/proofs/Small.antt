@@ -4,8 +4,9 @@ use mathlib.Core.Bool.{Bool, true, false, not, cond, _&&_}
 use native.Mathlib.Omega.{arith}
 use lib.Ieee.{Float, eq}
 use Rattle.model.specs.Causes.{Outcome, accepted, refused, Verdict}
-use Rattle.survey.specs.declared.Face.{Face}
-use Rattle.survey.specs.Survey.{ratioIs, nothing, plus, none, firstSide, secondSide, ratio, foundAfter, coordinatesVerdict, found, notAbove, share, shareOf, shareFound, faceShare}
+use Rattle.survey_points.specs.declared.Face.{Face}
+use Rattle.survey_points.specs.Points.{plus, none, firstSide, secondSide, ratio}
+use Rattle.survey.specs.Survey.{ratioIs, nothing, foundAfter, coordinatesVerdict, found, notAbove, share, shareOf, shareFound, faceShare}
 use Rattle.host_answer.proofs.Small.{Small, small-fine, small-each}
 
 no-ratio : {A : Type 0} → Small {A = A} (refused 20 0)

@@ -2,7 +2,7 @@
 use Prim.Native.Nat.{ℕ, _+_, _*_}
 use mathlib.Core.List.{List}
 use lib.Ieee.{Float}
-use Rattle.survey.specs.declared.Face.{Face}
+use Rattle.survey_points.specs.declared.Face.{Face}
 use Rattle.survey.specs.Survey.{faceShare}
 use Rattle.host_answer.specs.Found.{alone, Answered}
 

@@ -1,9 +1,9 @@
 // A share from survey points, and the version, for a host program in C.
 use host_answer::fill1;
 use host_answer::number_of;
-use survey::Face;
-use survey::Point;
 use survey::ShareAnswer;
+use survey_points::Face;
+use survey_points::Point;
 ghost use mathlib.Core.Path.{_≡_};
 ghost use Prim.Native.Nat.{_<_, _^_};
 ghost use Rattle.survey.specs.Survey.{shareBy};

@@ -5,9 +5,10 @@ use mathlib.Core.Bool.{true, false}
 use lib.IntN.{pos, negsuc}
 use lib.Ieee.{Float, nan, inf, fin, add, sub, mul, div, eq}
 use Rattle.model.specs.Causes.{accepted, refused, _andThen_, need, each}
-use Rattle.survey.specs.Survey.{none, half, sizeOf, way, middleOf, dot, normal, firstSide, secondSide, ratio, allowed, coordinatesVerdict, badAt, found, largest, notAbove, share, shareOf, faceShare}
-use Rattle.survey.specs.declared.Point.{Point}
-use Rattle.survey.specs.declared.Face.{Face}
+use Rattle.survey_points.specs.Points.{none, half, sizeOf, way, middleOf, dot, normal, firstSide, secondSide, ratio, allowed}
+use Rattle.survey.specs.Survey.{coordinatesVerdict, badAt, found, largest, notAbove, share, shareOf, faceShare}
+use Rattle.survey_points.specs.declared.Point.{Point}
+use Rattle.survey_points.specs.declared.Face.{Face}
 
 everything : Unit {0}
 unfolding add sub mul div eq sizeOf way middleOf dot normal firstSide secondSide ratio allowed _andThen_ need each coordinatesVerdict found largest notAbove

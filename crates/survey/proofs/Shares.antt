@@ -11,8 +11,9 @@ use lib.Ieee.{Float, nan, inf, fin, up, down, eq}
 use Rattle.lists.proofs.Tests.{Same, same, other, same?}
 use Rattle.lists.proofs.Tests.{both-true}
 use Rattle.model.specs.Causes.{accepted, refused, Verdict}
-use Rattle.survey.specs.Survey.{largest, notAbove, share, shareOf, ratio, ratioIs, nothing, found, foundAfter, shareFound, faceShare, shareBy, coordinatesVerdict, firstSide, secondSide, plus, none}
-use Rattle.survey.specs.declared.Face.{Face}
+use Rattle.survey_points.specs.Points.{ratio, firstSide, secondSide, plus, none}
+use Rattle.survey.specs.Survey.{largest, notAbove, share, shareOf, ratioIs, nothing, found, foundAfter, shareFound, faceShare, shareBy, coordinatesVerdict}
+use Rattle.survey_points.specs.declared.Face.{Face}
 use Rattle.survey.specs.declared.ShareAnswer.the-variants.{Share}
 
 -- what holds of a number holds of those below it

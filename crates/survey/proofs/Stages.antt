@@ -7,8 +7,9 @@ use lib.ListN.{getD}
 use lib.Ieee.{Float, nan}
 use Rattle.model.specs.Causes.{accepted, refused, fine, each}
 use Rattle.model.proofs.Verdicts.{scan-pass, scan-hit, scan-end}
-use Rattle.survey.specs.Survey.{coordinates, allowed, coordinatesVerdict, badAt, foundAfter, found, notAbove, share, shareOf}
-use Rattle.survey.specs.declared.Face.{Face}
+use Rattle.survey_points.specs.Points.{coordinates, allowed}
+use Rattle.survey.specs.Survey.{coordinatesVerdict, badAt, foundAfter, found, notAbove, share, shareOf}
+use Rattle.survey_points.specs.declared.Face.{Face}
 
 -- the coordinates below i are allowed
 abbrev pub AllowedTo : Face → ℕ → Type 0

@@ -1,6 +1,6 @@
 use lib.Ieee.{ofBits}
 use borrow.Author.Needs.{needs}
-use Rattle.survey.specs.Survey.{ratio}
+use Rattle.survey_points.specs.Points.{ratio}
 use Rattle.survey.proofs.ratio_of.Statement.{statement}
 use Rattle.survey.proofs.ratio_of.Tie as tie
 

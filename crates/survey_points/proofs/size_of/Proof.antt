@@ -1,8 +1,8 @@
 use lib.Ieee.{ofBits}
 use borrow.Author.Needs.{needs}
-use Rattle.survey.proofs.Floats.{size-below, size-none, size-above}
-use Rattle.survey.proofs.size_of.Statement.{statement}
-use Rattle.survey.proofs.size_of.Tie as tie
+use Rattle.survey_points.proofs.Floats.{size-below, size-none, size-above}
+use Rattle.survey_points.proofs.size_of.Statement.{statement}
+use Rattle.survey_points.proofs.size_of.Tie as tie
 
 returns : tie.Need-returns
 unfolding ofBits

@@ -1,7 +1,7 @@
 use lib.Ieee.{ofBits, neg}
-use Rattle.survey.proofs.Floats.{within, beyond}
-use Rattle.survey.proofs.is_allowed.Statement.{statement}
-use Rattle.survey.proofs.is_allowed.Tie as tie
+use Rattle.survey_points.proofs.Floats.{within, beyond}
+use Rattle.survey_points.proofs.is_allowed.Statement.{statement}
+use Rattle.survey_points.proofs.is_allowed.Tie as tie
 
 returns : tie.Need-returns
 unfolding ofBits neg

@@ -1,8 +1,8 @@
 use mathlib.Core.Path.{refl}
 use lib.Ieee.{ofBits}
-use Rattle.survey.specs.Survey.{middleOf}
-use Rattle.survey.proofs.middle_of.Statement.{statement}
-use Rattle.survey.proofs.middle_of.Tie as tie
+use Rattle.survey_points.specs.Points.{middleOf}
+use Rattle.survey_points.proofs.middle_of.Statement.{statement}
+use Rattle.survey_points.proofs.middle_of.Tie as tie
 
 returns : tie.Need-returns
 unfolding middleOf ofBits

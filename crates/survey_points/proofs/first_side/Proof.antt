@@ -1,7 +1,7 @@
-use Rattle.survey.specs.Survey.{firstSide}
+use Rattle.survey_points.specs.Points.{firstSide}
 use borrow.Author.Needs.{needs}
-use Rattle.survey.proofs.first_side.Statement.{statement}
-use Rattle.survey.proofs.first_side.Tie as tie
+use Rattle.survey_points.proofs.first_side.Statement.{statement}
+use Rattle.survey_points.proofs.first_side.Tie as tie
 
 returns : tie.Need-returns
 unfolding firstSide

@@ -1,7 +1,7 @@
-use Rattle.survey.specs.Survey.{secondSide}
+use Rattle.survey_points.specs.Points.{secondSide}
 use borrow.Author.Needs.{needs}
-use Rattle.survey.proofs.second_side.Statement.{statement}
-use Rattle.survey.proofs.second_side.Tie as tie
+use Rattle.survey_points.proofs.second_side.Statement.{statement}
+use Rattle.survey_points.proofs.second_side.Tie as tie
 
 returns : tie.Need-returns
 unfolding secondSide
