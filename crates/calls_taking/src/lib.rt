@@ -14,7 +14,7 @@ pub fn lagoon_step(words: &[u64], records: &[u8]) {
     let mut next = [0u8; BYTES_ROOM];
     show::word(b"lagoon_step:");
     let n = bytes(table(words, 3), &mut next);
-    show::number(lagoon::lagoon_step(
+    show::number(lagoon_step::lagoon_step(
         octets(words, records, 0),
         octets(words, records, 1),
         octets(words, records, 2),
@@ -80,7 +80,7 @@ pub fn take_field(words: &[u64], records: &[u8]) {
     let mut masses = [0u64; ROOM];
     show::word(b"take_field:");
     let m = copy(table(words, 4), &mut masses);
-    calls_answers::total(taking::take_field(
+    calls_answers::total(taking_records::take_field(
         calls_answers::width(number(words, 0)),
         number(words, 1),
         octets(words, records, 2),
@@ -107,7 +107,7 @@ pub fn take_step(words: &[u64], records: &[u8]) {
     let mut masses = [0u64; ROOM];
     show::word(b"take_step:");
     let m = copy(table(words, 9), &mut masses);
-    taken(taking::take_step(
+    taken(taking_records::take_step(
         calls_answers::width(number(words, 0)),
         number(words, 1),
         number(words, 2),

@@ -82,3 +82,7 @@ refusal-fits {A = A} {k = k} {i = i} s e = small-number {A = A} (refused k i) (r
 -- and it is of one cause and one place
 pub taken-apart : {A : Type 0} {v : Outcome A} {k i : ℕ} → Small v → refused k i ≡ v → Parts k i
 taken-apart {A = A} {k = k} {i = i} s e = let t : Small {A = A} (refused k i) = rw e s in t .parts
+
+-- no two have the same number, so that a host can take it apart
+pub one-refusal : (cause place : ℕ) {k i : ℕ} → place < causeStep → i < causeStep → refusalNumber cause place ≡ refusalNumber k i → (cause ≡ k) × (place ≡ i)
+one-refusal cause place h l e = (omega (arith, e), omega (arith, e))

@@ -2,9 +2,9 @@
 use board::BOARD_SIZE;
 use board::BoardAnswer;
 use board::Entry;
-use host_answer::fill1;
-use host_answer::number_of;
-use host_answer::put;
+use host_numbers::fill1;
+use host_numbers::number_of;
+use host_numbers::put;
 use model::Answer;
 ghost use mathlib.Core.Path.{_≡_};
 ghost use mathlib.Core.List.{_∷_};
@@ -13,7 +13,7 @@ ghost use lib.ListN.{set};
 ghost use Rattle.board.specs.Board.{boardSize};
 ghost use Rattle.host_answer.specs.Number.{numberOf};
 ghost use Rattle.host_answer.specs.Found.{filled, Answered};
-ghost use Rattle.host_board.specs.Board.{entryNumbers, entriesPut, shownNumbers, boardSaid, BoardFromC, PublicBoardFromC};
+ghost use Rattle.host_field_promises.specs.Board.{entryNumbers, entriesPut, shownNumbers, boardSaid, BoardFromC, PublicBoardFromC};
 
 // Numbers of an entry: cell, q and rest.
 const PER_ENTRY: usize = 3;

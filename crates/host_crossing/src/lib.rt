@@ -1,6 +1,6 @@
 // A step on records that is made and not written, for a host program in C: what it finds, and what crosses the rim in it.
-use host_answer::fill3;
-use host_answer::number_of;
+use host_numbers::fill3;
+use host_numbers::number_of;
 use host_taking::FieldTaken;
 use host_taking::take_field;
 use model::RUN_CELLS;
@@ -10,8 +10,8 @@ ghost use mathlib.Core.Path.{_≡_};
 ghost use Rattle.model.specs.StepTaken.{takenSaid};
 ghost use Rattle.host_answer.specs.Number.{numberOf};
 ghost use Rattle.host_answer.specs.Found.{Answered};
-ghost use Rattle.host_taking.specs.Taken.{stepTested};
-ghost use Rattle.host_crossing.specs.Crossing.{stepFound, crossedIn};
+ghost use Rattle.host_tested.specs.Tested.{stepTested};
+ghost use Rattle.host_record_promises.specs.Crossing.{stepFound, crossedIn};
 
 // The three records in their order; the step is made on tables of its own.
 fn crossed(mesh: &[u8], field: &[u8], step: &[u8]) -> StepTaken
@@ -39,7 +39,7 @@ fn crossed(mesh: &[u8], field: &[u8], step: &[u8]) -> StepTaken
             let cells = counts.cells;
             let faces = counts.faces;
             let width = counts.width;
-            taking::take_step(
+            taking_records::take_step(
                 width,
                 cells,
                 faces,

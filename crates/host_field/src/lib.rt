@@ -1,14 +1,14 @@
 // What is made of a field, for a host program in C: its total, and the pages of the binder.
 use checks::TotalAnswer;
-use host_answer::fill1;
-use host_answer::number_of;
+use host_numbers::fill1;
+use host_numbers::number_of;
 use page::PageAnswer;
 ghost use Prim.Native.Nat.{_<_, _^_};
 ghost use Rattle.checks.specs.Total.{totalSaid};
 ghost use Rattle.page.specs.Answers.{pageSaid};
 ghost use Rattle.host_answer.specs.Number.{numberOf};
 ghost use Rattle.host_answer.specs.Found.{alone, Answered};
-ghost use Rattle.host_field.specs.Field.{TotalFromC, PageFromC, PublicPageFromC};
+ghost use Rattle.host_field_promises.specs.Field.{TotalFromC, PageFromC, PublicPageFromC};
 
 // The answer of a total: found is the total.
 pub fn total_answered(answer: TotalAnswer, found: &mut [u64]) -> u64

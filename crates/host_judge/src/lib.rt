@@ -12,7 +12,7 @@ ghost use mathlib.Core.Path.{_≡_};
 ghost use Rattle.model.specs.Mesh.{meshOf, ceiling};
 ghost use Rattle.model.specs.Causes.{meshValues};
 ghost use Rattle.record_writing.specs.Writing.{mostOf};
-ghost use Rattle.host_judge.specs.Judge.{JudgedIn, JudgedOn, JudgedTaking, JudgedFromC};
+ghost use Rattle.host_record_promises.specs.Judge.{JudgedIn, JudgedOn, JudgedTaking, JudgedFromC};
 
 // A claim judged on tables, with the next masses written as a record.
 fn written(

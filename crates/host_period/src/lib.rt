@@ -1,14 +1,14 @@
 // Adding and charging, and the calls on a store, for a host program in C.
 use charge::ChargeAnswer;
-use host_answer::answer_number;
-use host_answer::fill2;
-use host_answer::number_of;
+use host_numbers::answer_number;
+use host_numbers::fill2;
+use host_numbers::number_of;
 ghost use Prim.Native.Nat.{_<_, _^_};
 ghost use Rattle.charge.specs.Answers.{chargeSaid};
 ghost use Rattle.host_answer.specs.Number.{numberOf};
 ghost use Rattle.host_answer.specs.Found.{Answered};
-ghost use Rattle.host_period.specs.Period.{billed, AddFromC, ChargeFromC};
-ghost use Rattle.host_period.specs.Kept.{KeepFromC, DropFromC, ReturnFromC};
+ghost use Rattle.host_period_promises.specs.Period.{billed, AddFromC, ChargeFromC};
+ghost use Rattle.host_period_promises.specs.Kept.{KeepFromC, DropFromC, ReturnFromC};
 
 // Document 02's S-13: what a step moved outward over the rim, added to the totals of a period.
 #[no_mangle]

@@ -1,5 +1,5 @@
 // The plain step on records, for a host program in C.
-use host_answer::number_of;
+use host_numbers::number_of;
 use host_taking::FieldTaken;
 use host_taking::take_field;
 use model::RUN_CELLS;
@@ -13,7 +13,7 @@ ghost use mathlib.Core.Path.{_≡_};
 ghost use Rattle.model.specs.Mesh.{meshOf, ceiling};
 ghost use Rattle.model.specs.Causes.{meshValues};
 ghost use Rattle.record_writing.specs.Writing.{mostOf};
-ghost use Rattle.host_plain.specs.Plain.{PlainIn, PlainOn, PlainTaking, PlainPromise};
+ghost use Rattle.host_record_promises.specs.Plain.{PlainIn, PlainOn, PlainTaking, PlainPromise};
 
 // A plain step on tables, with the next masses written as a record.
 fn written(

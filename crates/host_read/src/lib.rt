@@ -1,8 +1,8 @@
 // The readers of records, for a host program in C.
-use host_answer::answer_number;
-use host_answer::fill1;
-use host_answer::fill3;
-use host_answer::number_of;
+use host_numbers::answer_number;
+use host_numbers::fill1;
+use host_numbers::fill3;
+use host_numbers::number_of;
 use record_heads::Width;
 use record_reading::MeshAnswer;
 use record_reading::StepRead;
@@ -11,7 +11,7 @@ ghost use Prim.Native.Nat.{_<_, _^_};
 ghost use Rattle.record_reading.specs.Answers.{meshSaid, stepReadSaid};
 ghost use Rattle.host_answer.specs.Number.{numberOf};
 ghost use Rattle.host_answer.specs.Found.{alone, Answered};
-ghost use Rattle.host_read.specs.Read.{widthNumber, widthNamed, countsFound, meshFinds, MeshFromC, FieldFromC, stepFinds, StepFromC};
+ghost use Rattle.host_read_promises.specs.Read.{widthNumber, widthNamed, countsFound, meshFinds, MeshFromC, FieldFromC, stepFinds, StepFromC};
 
 // The number of a width: 0 narrow, 1 wide.
 pub fn width_number(width: Width) -> u64

@@ -1,6 +1,6 @@
 // A share from survey points, and the version, for a host program in C.
-use host_answer::fill1;
-use host_answer::number_of;
+use host_numbers::fill1;
+use host_numbers::number_of;
 use survey::ShareAnswer;
 use survey_points::Face;
 use survey_points::Point;

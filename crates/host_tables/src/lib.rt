@@ -1,6 +1,6 @@
 // The steps on lent tables, for a host program in C: each is the engine's call of that name, with its answer as numbers.
-use host_answer::fill3;
-use host_answer::number_of;
+use host_numbers::fill3;
+use host_numbers::number_of;
 use transport::StepAnswer;
 ghost use Prim.Native.Nat.{_<_, _^_};
 ghost use Rattle.model.specs.Mesh.{meshOf};
@@ -10,7 +10,7 @@ ghost use Rattle.model.specs.Calls.{corrected, plain};
 ghost use Rattle.transport.specs.Promise.{stepSaid};
 ghost use Rattle.host_answer.specs.Number.{numberOf};
 ghost use Rattle.host_answer.specs.Found.{Answered};
-ghost use Rattle.host_tables.specs.Steps.{crossed, StepFromC, JudgeFromC};
+ghost use Rattle.host_answer.specs.Steps.{crossed, StepFromC, JudgeFromC};
 
 // A step's answer: found are in-mass, out-mass and released mass.
 pub fn answered(answer: StepAnswer, found: &mut [u64]) -> u64

@@ -11,7 +11,8 @@ use Rattle.model.proofs.Verdicts.{refused-of, accepted-of}
 use Rattle.record_heads.specs.Heads.{widthIn}
 use Rattle.record_heads.specs.declared.Width.{Width}
 use Rattle.record_reading.specs.Reading.{meshIn}
-use Rattle.host_taking.specs.Taken.{fieldTested, fieldIn, takenIn, takenSaid, Front, Held, FieldTaking, CellsTaking}
+use Rattle.host_tested.specs.Tested.{fieldTested, fieldIn}
+use Rattle.host_taking.specs.Taken.{takenIn, takenSaid, Front, Held, FieldTaking, CellsTaking}
 use Rattle.host_taking.specs.declared.FieldCounts.{FieldCounts}
 use Rattle.host_taking.specs.declared.FieldTaken.{FieldTaken}
 use Rattle.host_taking.specs.declared.FieldTaken.the-variants as taken

@@ -22,7 +22,8 @@ use Rattle.model.proofs.Parts.{PartRead, read-part, part-long}
 use Rattle.taking_mesh.specs.MeshTaking.{meshRecordFound, meshJudged, meshJudgedInRun, MeshTaking}
 use Rattle.taking_mesh.proofs.MeshLaws.{MeshIsRead, limits}
 use Rattle.taking.specs.Taking.{fieldJudged, FieldTaking as FieldKept}
-use Rattle.host_taking.specs.Taken.{fieldTested, fieldIn, totalIn, takenIn, Front, FieldTaking}
+use Rattle.host_tested.specs.Tested.{fieldTested, fieldIn, totalIn}
+use Rattle.host_taking.specs.Taken.{takenIn, Front, FieldTaking}
 use Rattle.host_taking.specs.declared.FieldCounts.{FieldCounts}
 use Rattle.host_taking.specs.declared.FieldTaken.the-variants.{Taken, Refused}
 

@@ -1,47 +1,21 @@
--- Document 01, "Tables lent to a step": the host's records of a mesh, of a field and of a step, in this order, each as the run judges it. Document 02,
--- S-10: the mesh record fixes the width of the two after it.
+-- A mesh record and a field record taken into tables of a call's own: the answer, and what the tables hold after acceptance. What is found of the records is
+-- host_tested's.
 use Prim.Native.Nat.{ℕ, _≤_}
 use mathlib.Core.Path.{_≡_}
 use mathlib.Core.List.{List}
 use lib.ListN.{length, take}
-use Rattle.model.specs.Mesh.{total, runCells}
-use Rattle.model.specs.Causes.{Outcome, accepted, Verdict, fine, _andThen_, cellsOnly}
-use Rattle.model.specs.Calls.{massIn}
+use Rattle.model.specs.Causes.{Outcome, accepted, fine, _andThen_}
 use Rattle.model.specs.Answers.{told}
 use Rattle.record_heads.specs.Heads.{widthIn}
-use Rattle.record_reading.specs.Reading.{meshIn, massesIn}
-use Rattle.taking_mesh.specs.MeshTaking.{meshJudgedInRun}
-use Rattle.taking.specs.Taking.{fieldJudged, stepJudged}
+use Rattle.record_reading.specs.Reading.{meshIn}
+use Rattle.host_tested.specs.Tested.{fieldTested, fieldIn, totalIn}
 use Rattle.host_taking.specs.declared.FieldCounts.{FieldCounts}
 use Rattle.host_taking.specs.declared.FieldTaken.{FieldTaken}
 use Rattle.host_taking.specs.declared.FieldTaken.the-variants.{Taken, Refused}
 
 module _ (mesh field : List ℕ) where
-  -- what the field record holds
-  abbrev pub fieldIn : List ℕ
-  fieldIn = massesIn field (meshIn mesh .cells)
-
-  -- what is found of the field record on an accepted mesh, and with the mesh record before it
-  abbrev pub fieldAlone : Verdict
-  fieldAlone = fieldJudged (widthIn mesh) (meshIn mesh .cells) (meshIn mesh .volumes) field runCells
-
-  abbrev pub fieldTested : Verdict
-  fieldTested = meshJudgedInRun mesh andThen fieldAlone
-
-  -- and so of the step record
-  module _ (step : List ℕ) where
-    abbrev pub stepAlone : Verdict
-    stepAlone = stepJudged (widthIn mesh) (meshIn mesh) fieldIn step
-
-    abbrev pub stepTested : Verdict
-    stepTested = fieldTested andThen stepAlone
-
-  -- the total of the field
-  abbrev pub totalIn : ℕ
-  totalIn = total (cellsOnly (meshIn mesh .cells) (meshIn mesh .volumes)) (massIn fieldIn)
-
   abbrev pub takenIn : FieldCounts
-  takenIn = record { cells = meshIn mesh .cells; faces = meshIn mesh .faces; width = widthIn mesh; total = totalIn }
+  takenIn = record { cells = meshIn mesh .cells; faces = meshIn mesh .faces; width = widthIn mesh; total = totalIn mesh field }
 
 -- the counts, the width and the total, or number and place
 abbrev pub takenSaid : FieldTaken → Outcome FieldCounts

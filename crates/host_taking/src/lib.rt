@@ -44,7 +44,7 @@ pub fn take_field(
         MeshAnswer::Read(counts) => {
             let cells = counts.cells;
             let width = counts.width;
-            let b = taking::take_field(width, cells, field, &volumes[..cells], masses);
+            let b = taking_records::take_field(width, cells, field, &volumes[..cells], masses);
             match b {
                 TotalAnswer::Refused(refusal) => FieldTaken::Refused(refusal),
                 TotalAnswer::Total(total) => FieldTaken::Taken(FieldCounts {

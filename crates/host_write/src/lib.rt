@@ -1,6 +1,6 @@
 // The writers of records, for a host program in C.
-use host_answer::fill1;
-use host_answer::number_of;
+use host_numbers::fill1;
+use host_numbers::number_of;
 use host_read::width_named;
 use record_heads::StepKind;
 use record_heads::Width;
@@ -12,8 +12,16 @@ ghost use Rattle.record_heads.specs.Layouts.{widthOf, kindNumber};
 ghost use Rattle.record_writing.specs.Writing.{writeSaid};
 ghost use Rattle.host_answer.specs.Number.{numberOf};
 ghost use Rattle.host_answer.specs.Found.{alone, Answered};
-ghost use Rattle.host_read.specs.Read.{widthNamed};
-ghost use Rattle.host_write.specs.Write.{kindNamed, MeshFromC, FieldFromC, StepFromC};
+ghost use Rattle.host_read_promises.specs.Read.{widthNamed};
+ghost use Rattle.host_read_promises.specs.Write.{kindNamed, MeshFromC, FieldFromC, StepFromC};
+
+// The kinds of a step that hold releases.
+const OUTFALLS: u64 = 4;
+
+const WIDE_OUTFALLS: u64 = 8;
+
+// From this kind on records are wide.
+const FIRST_WIDE: u64 = 5;
 
 // The answer of a writer: found is the length.
 fn answered(answer: WriteAnswer, found: &mut [u64]) -> u64
@@ -99,20 +107,20 @@ pub extern "C" fn lagoon_write_field(
 fn width_of(kind: u64) -> Width
     ensures { λ r. ⌜ r ≡ widthOf kind ⌝ }
 {
-    if 5 <= kind {
+    if FIRST_WIDE <= kind {
         return Width::Wide;
     }
     Width::Narrow
 }
 
-// The kind of a step that a host names by its number: 4 and 8 hold releases, any other number is of one that holds none.
+// The kind of a step that a host names by its number: any number but the two of OUTFALLS is of one that holds no releases.
 fn kind_named(named: u64) -> StepKind
     ensures { λ r. ⌜ r ≡ kindNamed named ⌝ }
 {
-    if named == 4 {
+    if named == OUTFALLS {
         return StepKind::Outfalls;
     }
-    if named == 8 {
+    if named == WIDE_OUTFALLS {
         return StepKind::Outfalls;
     }
     StepKind::Water

@@ -13,7 +13,7 @@ use Rattle.record_reading.specs.Reading.{meshIn, massesIn}
 use Rattle.taking.specs.Taking.{stepJudged}
 use Rattle.taking.proofs.KindThree.{judged-same, next-same}
 use Rattle.host_answer.specs.Number.{numberOf}
-use Rattle.host_taking.specs.Taken.{fieldTested}
+use Rattle.host_tested.specs.Tested.{fieldTested}
 use Rattle.lagoon.specs.Host.{hostVerdict, hostBytes}
 use Rattle.lagoon.specs.KindThree.{hostVerdict01, nextRecord01, HostAsBefore}
 

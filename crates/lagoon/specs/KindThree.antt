@@ -12,7 +12,7 @@ use Rattle.record_heads.specs.declared.Width.{Width}
 use Rattle.record_reading.specs.Reading.{meshIn, massesIn}
 use Rattle.taking.specs.KindThree.{step01, judged01}
 use Rattle.host_answer.specs.Number.{numberOf}
-use Rattle.host_taking.specs.Taken.{fieldTested}
+use Rattle.host_tested.specs.Tested.{fieldTested}
 use Rattle.lagoon.specs.Host.{HostPromise}
 
 module _ (mesh field step : List ℕ) where

@@ -19,7 +19,7 @@ use Rattle.record_reading.specs.Reading.{volumesIn, firstsIn, secondsIn, shares
 use Rattle.taking_mesh.specs.MeshTaking.{meshJudged, meshJudgedInRun}
 use Rattle.taking.specs.Taking.{fieldJudged, stepIn, stepRecordFound, stepJudged}
 use Rattle.taking_mesh.proofs.MeshLaws.{limits, values-left}
-use Rattle.host_taking.specs.Taken.{fieldAlone, stepAlone}
+use Rattle.host_tested.specs.Tested.{fieldAlone, stepAlone}
 use Rattle.promises.proofs.Counted.{outsides-same, releases-same, found-same}
 
 -- a table read into a longer one: its length, and its counted entries

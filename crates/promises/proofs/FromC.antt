@@ -9,7 +9,7 @@ use Rattle.model.proofs.Verdicts.{accepted-of}
 use Rattle.model.proofs.Lists.{Fair, Keeping}
 use Rattle.host_answer.specs.Found.{Answered}
 use Rattle.host_answer.proofs.Small.{Small}
-use Rattle.host_tables.specs.Steps.{crossed, StepFromC}
+use Rattle.host_answer.specs.Steps.{crossed, StepFromC}
 use Rattle.promises.specs.Steps.{TableMade, hostSaid, tableLeft, Told}
 use Rattle.promises.proofs.Numbers.{said-giving}
 use Rattle.promises.proofs.OnTables.{tables-owe, found-refused}

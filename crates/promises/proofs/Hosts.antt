@@ -20,12 +20,12 @@ use Rattle.lagoon.proofs.Small.{host-small}
 use Rattle.host_answer.specs.Found.{filled}
 use Rattle.host_answer.proofs.Small.{Small, small-and, small-need}
 use Rattle.host_answer.proofs.Tables.{claim-small}
-use Rattle.host_tables.specs.Steps.{crossed}
-use Rattle.host_taking.specs.Taken.{fieldIn, stepTested}
-use Rattle.host_taking.proofs.Small.{field-tested-small, step-record-small, step-judged-small}
-use Rattle.host_next.specs.Next.{withRoom}
-use Rattle.host_plain.specs.Plain.{PlainPromise}
-use Rattle.host_judge.specs.Judge.{claimOn, claimIn, claimJudged, claimTested, JudgedFromC}
+use Rattle.host_answer.specs.Steps.{crossed}
+use Rattle.host_tested.specs.Tested.{fieldIn, stepTested}
+use Rattle.host_tested.proofs.Small.{field-tested-small, step-record-small, step-judged-small}
+use Rattle.host_record_promises.specs.Next.{withRoom}
+use Rattle.host_record_promises.specs.Plain.{PlainPromise}
+use Rattle.host_record_promises.specs.Judge.{claimOn, claimIn, claimJudged, claimTested, JudgedFromC}
 use Rattle.promises.specs.Held.{trimmed}
 use Rattle.promises.specs.Steps.{HostMade, ClaimMade, hostSaid, waterIn, hostLeft, Brought, NextHeld, Told}
 use Rattle.promises.proofs.Numbers.{said-of, said-giving}

@@ -22,7 +22,7 @@ use Rattle.record_heads.specs.declared.Width.{Width}
 use Rattle.record_writing.specs.Writing.{mostOf}
 use Rattle.record_reading.specs.Reading.{meshIn, massesIn, outsidesIn, releasesIn}
 use Rattle.record_writing.proofs.Back.{field-record-length}
-use Rattle.host_next.specs.Next.{nextBy}
+use Rattle.host_record_promises.specs.Next.{nextBy}
 use Rattle.promises.specs.Held.{trimmed, trimmedField, HoldsField}
 use Rattle.promises.specs.Steps.{HostMade, hostSaid, nextRecord, Brought, NextHeld}
 use Rattle.promises.proofs.Counted.{outsides-same, releases-same, trimmed-agrees}

@@ -23,9 +23,9 @@ use Rattle.taking.specs.Taking.{StepTaking}
 use Rattle.lagoon.specs.Host.{HostPromise}
 use Rattle.host_answer.specs.Number.{causeStep}
 use Rattle.host_answer.specs.Found.{filled}
-use Rattle.host_tables.specs.Steps.{crossed, StepFromC, JudgeFromC}
-use Rattle.host_plain.specs.Plain.{PlainPromise}
-use Rattle.host_judge.specs.Judge.{JudgedFromC}
+use Rattle.host_answer.specs.Steps.{crossed, StepFromC, JudgeFromC}
+use Rattle.host_record_promises.specs.Plain.{PlainPromise}
+use Rattle.host_record_promises.specs.Judge.{JudgedFromC}
 use Rattle.promises.specs.Held.{HoldsMesh, HoldsField}
 
 -- THE CALLS, as they were made: what was lent besides mesh and field, of any values and of any length; what was answered; and what then stood

@@ -16,7 +16,7 @@ use Rattle.public_page.proofs.Alike.{same-text, same-verdict}
 use Rattle.public_board.proofs.Alike.{same-entries, same-verdict as same-board-verdict}
 use Rattle.host_answer.specs.Number.{numberOf}
 use Rattle.host_answer.specs.Found.{foundBy, Answered}
-use Rattle.host_taking.specs.Taken.{fieldTested, fieldIn}
+use Rattle.host_tested.specs.Tested.{fieldTested, fieldIn}
 use Rattle.public_calls.specs.Told.{TablePageTold, TableBoardTold, RecordsAgree, RecordPageTold, RecordBoardTold, NothingToldToC}
 
 -- two calls that come to the same answer the same

@@ -12,11 +12,11 @@ use Rattle.record_reading.specs.Reading.{meshIn}
 use Rattle.taking.specs.Taking.{fieldJudged}
 use Rattle.public_marks.specs.Marks.{isOpen, SameInOpen}
 use Rattle.host_answer.specs.Found.{Answered}
-use Rattle.host_field.specs.Field.{PublicPageFromC}
-use Rattle.host_board.specs.Board.{shownNumbers, PublicBoardFromC}
-use Rattle.host_taking.specs.Taken.{fieldIn}
-use Rattle.host_cells.specs.Cells.{PublicPromise}
-use Rattle.host_boards.specs.Boards.{publicFound}
+use Rattle.host_field_promises.specs.Field.{PublicPageFromC}
+use Rattle.host_field_promises.specs.Board.{shownNumbers, PublicBoardFromC}
+use Rattle.host_tested.specs.Tested.{fieldIn}
+use Rattle.host_record_promises.specs.Cells.{PublicPromise}
+use Rattle.host_record_promises.specs.Boards.{publicFound}
 
 -- ON TABLES
 module _ (volumes marks : List ℕ) (cells : ℕ) (masses masses′ : List ℕ) where

@@ -37,7 +37,7 @@ fn step_once(
     if got == 0 {
         return Next::Board;
     }
-    let taken = taking::take_step(
+    let taken = taking_records::take_step(
         width,
         cells,
         faces,
@@ -117,7 +117,7 @@ fn run_on(
         return;
     }
     let got = read.count;
-    let answer = taking::take_field(width, cells, &buffer[..got], volumes, &mut masses);
+    let answer = taking_records::take_field(width, cells, &buffer[..got], volumes, &mut masses);
     let TotalAnswer::Total(total) = answer else {
         if let TotalAnswer::Refused(refusal) = answer {
             run_session::print(run_session::refused_field_line(refusal));

@@ -2,8 +2,8 @@ use mathlib.Core.Path.{ap}
 use borrow.Author.Needs.{needs}
 use Rattle.model.specs.Answers.{said}
 use Rattle.host_answer.proofs.Answers.{refusal-of, answered-refused, answered-found}
-use Rattle.host_board.specs.Board.{shownNumbers}
-use Rattle.host_board.proofs.Fills.{board-refused, board-shown}
+use Rattle.host_field_promises.specs.Board.{shownNumbers}
+use Rattle.host_field_promises.proofs.Boards.{board-refused, board-shown}
 use Rattle.host_board.proofs.answered.Statement.{statement}
 use Rattle.host_board.proofs.answered.Tie as tie
 

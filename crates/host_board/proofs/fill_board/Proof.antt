@@ -1,5 +1,5 @@
 use borrow.Author.Needs.{needs}
-use Rattle.host_board.proofs.Fills.{entries-fill}
+use Rattle.host_field_promises.proofs.Boards.{entries-fill}
 use Rattle.host_board.proofs.fill_board.Statement.{statement}
 use Rattle.host_board.proofs.fill_board.Tie as tie
 

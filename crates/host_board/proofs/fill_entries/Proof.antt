@@ -5,8 +5,8 @@ use native.Mathlib.Omega.{arith}
 use borrow.Author.Needs.{needs}
 use lib.ListN.{length, length-set}
 use Rattle.board.specs.Board.{boardSize}
-use Rattle.host_board.specs.Board.{entriesPut}
-use Rattle.host_board.proofs.Fills.{entries-start, entries-step, entries-done}
+use Rattle.host_field_promises.specs.Board.{entriesPut}
+use Rattle.host_field_promises.proofs.Boards.{entries-start, entries-step, entries-done}
 use Rattle.host_board.proofs.fill_entries.Statement.{statement}
 use Rattle.host_board.proofs.fill_entries.Tie as tie
 

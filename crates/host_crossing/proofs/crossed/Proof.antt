@@ -1,7 +1,7 @@
 -- `crossed`: the counted parts of the tables are the mesh and the field that the records hold.
 use borrow.Author.Needs.{needs}
 use Rattle.host_taking.proofs.Held.{untaken, lendable}
-use Rattle.host_crossing.proofs.Steps.{step-untaken, step-made}
+use Rattle.host_record_promises.proofs.Crossings.{step-untaken, step-made}
 use Rattle.host_crossing.proofs.crossed.Statement.{statement}
 use Rattle.host_crossing.proofs.crossed.Tie as tie
 

@@ -3,7 +3,7 @@ use borrow.Author.Needs.{needs}
 use Rattle.model.specs.StepTaken.{takenSaid}
 use Rattle.host_answer.specs.Number.{numberOf}
 use Rattle.host_answer.proofs.Answers.{refusal-of}
-use Rattle.host_crossing.proofs.Steps.{found-fits, tested-refused, tested-fine}
+use Rattle.host_record_promises.proofs.Crossings.{found-fits, tested-refused, tested-fine}
 use Rattle.host_crossing.proofs.lagoon_check.Statement.{statement}
 use Rattle.host_crossing.proofs.lagoon_check.Tie as tie
 

@@ -1,9 +1,9 @@
 use mathlib.Core.Path.{sym, ap, _∙_}
 use borrow.Author.Needs.{needs}
 use Rattle.model.specs.StepTaken.{takenSaid}
-use Rattle.host_answer.proofs.Answers.{refusal-of, answered-refused, answered-found}
-use Rattle.host_crossing.specs.Crossing.{crossedIn}
-use Rattle.host_crossing.proofs.Steps.{found-fits}
+use Rattle.host_answer.proofs.Answers.{refusal-of, answered-refused}
+use Rattle.host_record_promises.specs.Crossing.{crossedIn}
+use Rattle.host_record_promises.proofs.Crossings.{found-fits, crossing-found}
 use Rattle.host_crossing.proofs.lagoon_crossing.Statement.{statement}
 use Rattle.host_crossing.proofs.lagoon_crossing.Tie as tie
 
@@ -24,9 +24,10 @@ returns c =
 
 returns-2 : tie.Need-returns-2
 returns-2 c =
+    let a = (start-from-known-told2 (c .before .before .before .before)) .args in
     let q = c .before .before .before .before .before .before .before .crossed .ensures in
-    answered-found crossedIn ((start-from-known-told2 (c .before .before .before .before)) .args .found .now)
-    (sym q ∙ ap takenSaid (c .before .before .before .before .before .a2 .given .1)) (c .before .before .fill3 .ensures)
+    crossing-found (a .mesh .now) (a .field .now) (a .step .now) q (c .before .before .before .before .before .a2 .given .1) (a .found .now)
+    (c .before .before .fill3 .ensures)
 
 pub lagoon-crossing-spec : {M : Type 1} → statement M
 lagoon-crossing-spec =

@@ -1,10 +1,10 @@
 use native.Mathlib.Omega.{arith}
 use borrow.Author.Needs.{needs}
-use Rattle.host_answer.specs.Found.{alone}
-use Rattle.host_answer.proofs.Answers.{fits-as, answered-as}
+use Rattle.host_answer.proofs.Answers.{fits-as}
 use Rattle.model.specs.Causes.{fine}
 use Rattle.host_answer.proofs.Small.{small-fine, small-giving}
-use Rattle.host_field.proofs.Small.{page-small}
+use Rattle.host_field_promises.proofs.PageSmall.{page-small}
+use Rattle.host_field_promises.proofs.Fields.{page-from-c}
 use Rattle.host_field.proofs.lagoon_table_page.Statement.{statement}
 use Rattle.host_field.proofs.lagoon_table_page.Tie as tie
 
@@ -15,9 +15,7 @@ page-answered-requires c κs =
     fits-as (d .page .ensures .answer) (small-giving _ (page-small fine _ _ _ _ _ (small-fine tt) (omega (arith, s .fits .page .fits))))
 
 returns : tie.Need-returns
-returns c =
-    let h = c .before .before .before .before .before .before .page .ensures in
-    record { answer = answered-as alone _ (h .answer) (c .before .before .page-answered .ensures); bytes-after = h .bytes-after }
+returns c = page-from-c _ _ _ (c .before .before .before .before .before .before .page .ensures) (c .before .before .page-answered .ensures)
 
 pub lagoon-table-page-spec : {M : Type 1} → statement M
 lagoon-table-page-spec = tie.close (tie.spec (search needs) page-answered-requires (search needs) (search needs) returns)

@@ -1,9 +1,9 @@
 use native.Mathlib.Omega.{arith}
 use borrow.Author.Needs.{needs}
-use Rattle.host_answer.specs.Found.{alone}
-use Rattle.host_answer.proofs.Answers.{fits-as, answered-as}
+use Rattle.host_answer.proofs.Answers.{fits-as}
 use Rattle.host_answer.proofs.Small.{small-giving}
-use Rattle.host_field.proofs.Small.{public-page-small}
+use Rattle.host_field_promises.proofs.PageSmall.{public-page-small}
+use Rattle.host_field_promises.proofs.Fields.{public-page-from-c}
 use Rattle.host_field.proofs.lagoon_table_public_page.Statement.{statement}
 use Rattle.host_field.proofs.lagoon_table_public_page.Tie as tie
 
@@ -14,9 +14,7 @@ page-answered-requires c κs =
     fits-as (d .public-page .ensures .answer) (small-giving _ (public-page-small _ _ _ _ _ _ (omega (arith, s .fits .page .fits))))
 
 returns : tie.Need-returns
-returns c =
-    let h = c .before .before .before .before .before .before .public-page .ensures in
-    record { answer = answered-as alone _ (h .answer) (c .before .before .page-answered .ensures); bytes-after = h .bytes-after }
+returns c = public-page-from-c _ _ _ (c .before .before .before .before .before .before .public-page .ensures) (c .before .before .page-answered .ensures)
 
 pub lagoon-table-public-page-spec : {M : Type 1} → statement M
 lagoon-table-public-page-spec = tie.close (tie.spec (search needs) page-answered-requires (search needs) (search needs) returns)

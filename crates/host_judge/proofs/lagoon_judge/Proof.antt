@@ -1,5 +1,5 @@
 use borrow.Author.Needs.{needs}
-use Rattle.host_judge.proofs.Judge.{number-fits, judged-number}
+use Rattle.host_record_promises.proofs.Judge.{number-fits, judged-number}
 use Rattle.host_judge.proofs.lagoon_judge.Statement.{statement}
 use Rattle.host_judge.proofs.lagoon_judge.Tie as tie
 

@@ -1,8 +1,8 @@
 -- `on_records`: the counted parts of the tables are the mesh and the field that the records hold.
 use borrow.Author.Needs.{needs}
 use Rattle.host_taking.proofs.Held.{untaken, lendable}
-use Rattle.host_next.proofs.Next.{within-taken}
-use Rattle.host_judge.proofs.Judge.{records-refused, records-taken}
+use Rattle.host_record_promises.proofs.Next.{within-taken}
+use Rattle.host_record_promises.proofs.Judge.{records-refused, records-taken}
 use Rattle.host_judge.proofs.on_records.Statement.{statement}
 use Rattle.host_judge.proofs.on_records.Tie as tie
 

@@ -6,9 +6,9 @@ use Rattle.model.specs.Calls.{judged}
 use Rattle.model.proofs.Claims.{judged-keeping}
 use Rattle.taking.specs.Taking.{blank}
 use Rattle.model.proofs.Parts.{part-long}
-use Rattle.host_next.proofs.Next.{step-refused, next-part, no-room, written as record-written}
-use Rattle.host_judge.specs.Judge.{claimOn}
-use Rattle.host_judge.proofs.Judge.{lent}
+use Rattle.host_record_promises.proofs.Next.{step-refused, next-part, no-room, written as record-written}
+use Rattle.host_record_promises.specs.Judge.{claimOn}
+use Rattle.host_record_promises.proofs.Judge.{lent}
 use Rattle.host_judge.proofs.written.Statement.{statement}
 use Rattle.host_judge.proofs.written.Tie as tie
 

@@ -1,7 +1,7 @@
 use mathlib.Core.Path.{ap}
 use borrow.Author.Needs.{needs}
 use Rattle.charge.specs.Answers.{chargeSaid}
-use Rattle.host_period.specs.Period.{billed}
+use Rattle.host_period_promises.specs.Period.{billed}
 use Rattle.host_answer.proofs.Answers.{refusal-of, answered-refused, answered-found}
 use Rattle.host_period.proofs.charged.Statement.{statement}
 use Rattle.host_period.proofs.charged.Tie as tie

@@ -1,5 +1,5 @@
 use borrow.Author.Needs.{needs}
-use Rattle.host_plain.proofs.Plain.{number-fits, refused-number, stepped-number}
+use Rattle.host_record_promises.proofs.Plain.{number-fits, refused-number, stepped-number}
 use Rattle.host_plain.proofs.lagoon_plain_step.Statement.{statement}
 use Rattle.host_plain.proofs.lagoon_plain_step.Tie as tie
 

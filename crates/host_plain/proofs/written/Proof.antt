@@ -6,8 +6,8 @@ use Rattle.model.specs.Calls.{plain}
 use Rattle.model.proofs.Lists.{plain-keeping}
 use Rattle.taking.specs.Taking.{ownTables, blank}
 use Rattle.model.proofs.Parts.{part-long}
-use Rattle.host_next.proofs.Next.{step-refused, next-part, no-room, written as record-written}
-use Rattle.host_plain.proofs.Plain.{lent}
+use Rattle.host_record_promises.proofs.Next.{step-refused, next-part, no-room, written as record-written}
+use Rattle.host_record_promises.proofs.Plain.{lent}
 use Rattle.host_plain.proofs.written.Statement.{statement}
 use Rattle.host_plain.proofs.written.Tie as tie
 

@@ -1,7 +1,7 @@
 use borrow.Author.Needs.{needs}
-use Rattle.host_answer.proofs.Answers.{fits-as, answered-as}
-use Rattle.host_read.specs.Read.{countsFound}
-use Rattle.host_read.proofs.Small.{mesh-read-small}
+use Rattle.host_answer.proofs.Answers.{fits-as}
+use Rattle.host_read_promises.proofs.Readers.{mesh-from-c}
+use Rattle.host_read_promises.proofs.ReadSmall.{mesh-read-small}
 use Rattle.host_read.proofs.lagoon_read_mesh.Statement.{statement}
 use Rattle.host_read.proofs.lagoon_read_mesh.Tie as tie
 
@@ -17,14 +17,7 @@ mesh-answered-requires c κs = fits-as (called (c .before) .read-mesh .ensures .
 returns : tie.Need-returns
 returns c =
     let h = called (c .before .before .before .before) .read-mesh .ensures in
-    record {
-      answer = answered-as countsFound _ (h .answer) (c .before .before .mesh-answered .ensures);
-      volumes-read = h .volumes-read;
-      firsts-read = h .firsts-read;
-      seconds-read = h .seconds-read;
-      shares-read = h .shares-read;
-      reaches-read = h .reaches-read;
-    }
+    mesh-from-c h (c .before .before .mesh-answered .ensures)
 
 pub lagoon-read-mesh-spec : {M : Type 1} → statement M
 lagoon-read-mesh-spec =

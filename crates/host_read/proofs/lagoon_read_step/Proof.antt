@@ -1,7 +1,7 @@
 use borrow.Author.Needs.{needs}
 use Rattle.host_answer.proofs.Answers.{fits-as}
-use Rattle.host_read.proofs.Named.{step-named}
-use Rattle.host_read.proofs.Small.{step-read-small}
+use Rattle.host_read_promises.proofs.Readers.{step-named}
+use Rattle.host_read_promises.proofs.ReadSmall.{step-read-small}
 use Rattle.host_read.proofs.lagoon_read_step.Statement.{statement}
 use Rattle.host_read.proofs.lagoon_read_step.Tie as tie
 

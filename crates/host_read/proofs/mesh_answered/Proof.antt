@@ -1,7 +1,7 @@
 use mathlib.Core.Path.{ap}
 use borrow.Author.Needs.{needs}
 use Rattle.record_reading.specs.Answers.{meshSaid}
-use Rattle.host_read.specs.Read.{countsFound}
+use Rattle.host_read_promises.specs.Read.{countsFound}
 use Rattle.host_answer.proofs.Answers.{refusal-of, answered-refused, answered-found}
 use Rattle.host_read.proofs.mesh_answered.Statement.{statement}
 use Rattle.host_read.proofs.mesh_answered.Tie as tie

@@ -1,7 +1,7 @@
 use mathlib.Core.Path.{ap}
 use borrow.Author.Needs.{needs}
 use Rattle.transport.specs.Promise.{stepSaid}
-use Rattle.host_tables.specs.Steps.{crossed}
+use Rattle.host_answer.specs.Steps.{crossed}
 use Rattle.host_answer.proofs.Answers.{refusal-of, answered-refused, answered-found}
 use Rattle.host_tables.proofs.answered.Statement.{statement}
 use Rattle.host_tables.proofs.answered.Tie as tie

@@ -1,7 +1,8 @@
 use borrow.Author.Needs.{needs}
-use Rattle.host_answer.proofs.Answers.{fits-as, answered-as}
+use Rattle.model.specs.Calls.{corrected}
+use Rattle.host_answer.proofs.Answers.{fits-as}
 use Rattle.host_answer.proofs.Tables.{step-answer-small}
-use Rattle.host_tables.specs.Steps.{crossed}
+use Rattle.host_answer.proofs.Steps.{step-from-c}
 use Rattle.host_tables.proofs.lagoon_table_step.Statement.{statement}
 use Rattle.host_tables.proofs.lagoon_table_step.Tie as tie
 
@@ -14,12 +15,7 @@ answered-requires c κs = fits-as (called (c .before) .step .ensures .answer) (s
 returns : tie.Need-returns
 returns c =
     let h = called (c .before .before .before .before) .step .ensures in
-    record {
-      answer = answered-as crossed _ (h .answer) (c .before .before .answered .ensures);
-      next-masses = h .next-masses;
-      moved-masses = h .moved-masses;
-      work-after = h .work-after;
-    }
+    step-from-c (c .before .before .answered .ensures) corrected (h .answer) (h .next-masses) (h .moved-masses) (h .work-after)
 
 pub lagoon-table-step-spec : {M : Type 1} → statement M
 lagoon-table-step-spec = tie.close (tie.spec (search needs) answered-requires (search needs) (search needs) (search needs) (search needs) returns)

@@ -1,8 +1,8 @@
 use borrow.Author.Needs.{needs}
 use Rattle.host_answer.proofs.Answers.{fits-as}
 use Rattle.host_answer.proofs.Small.{small-giving}
-use Rattle.host_write.proofs.Small.{field-write-small}
-use Rattle.host_write.proofs.Named.{field-named}
+use Rattle.host_read_promises.proofs.WriteSmall.{field-write-small}
+use Rattle.host_read_promises.proofs.Writers.{field-named}
 use Rattle.host_write.proofs.lagoon_write_field.Statement.{statement}
 use Rattle.host_write.proofs.lagoon_write_field.Tie as tie
 

@@ -1,8 +1,8 @@
 use borrow.Author.Needs.{needs}
 use Rattle.host_answer.proofs.Answers.{fits-as}
 use Rattle.host_answer.proofs.Small.{small-giving}
-use Rattle.host_write.proofs.Small.{mesh-write-small}
-use Rattle.host_write.proofs.Named.{mesh-named}
+use Rattle.host_read_promises.proofs.WriteSmall.{mesh-write-small}
+use Rattle.host_read_promises.proofs.Writers.{mesh-named}
 use Rattle.host_write.proofs.lagoon_write_mesh.Statement.{statement}
 use Rattle.host_write.proofs.lagoon_write_mesh.Tie as tie
 

@@ -1,8 +1,8 @@
 use borrow.Author.Needs.{needs}
 use Rattle.host_answer.proofs.Answers.{fits-as}
 use Rattle.host_answer.proofs.Small.{small-giving}
-use Rattle.host_write.proofs.Small.{step-write-small}
-use Rattle.host_write.proofs.Named.{step-named}
+use Rattle.host_read_promises.proofs.WriteSmall.{step-write-small}
+use Rattle.host_read_promises.proofs.Writers.{step-named}
 use Rattle.host_write.proofs.lagoon_write_step.Statement.{statement}
 use Rattle.host_write.proofs.lagoon_write_step.Tie as tie
 

@@ -1,0 +1,4 @@
+pub mod PageSmall
+pub mod BoardSmall
+pub mod Boards
+pub mod Fields

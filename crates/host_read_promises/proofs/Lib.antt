@@ -1,0 +1,4 @@
+pub mod ReadSmall
+pub mod Readers
+pub mod WriteSmall
+pub mod Writers

@@ -1,0 +1,1 @@
+// What is found of a host's records: definitions and laws alone.

@@ -1,0 +1,92 @@
+-- `take_step`: the counted parts of the call's own tables are the fluxes, outside values and releases that were read.
+use mathlib.Core.Path.{refl}
+use borrow.Author.Needs.{needs}
+use Rattle.model.specs.Mesh.{Mesh, meshOf}
+use Rattle.model.proofs.Parts.{part-long}
+use Rattle.taking.proofs.StepLaws.{step-unread, fluxes-part, outsides-part, releases-part, step-took}
+use Rattle.taking_records.proofs.step.take_step.Statement.{statement}
+use Rattle.taking_records.proofs.step.take_step.Tie as tie
+
+abbrev mesh : tie.Start → Mesh
+mesh s = meshOf (s .args .cells) (s .args .faces) (s .args .volumes .now) (s .args .firsts .now) (s .args .seconds .now) (s .args .shares .now)
+    (s .args .reaches .now)
+
+abbrev start : tie.After-slice-known → tie.Start
+start c = c .before .before .before .before .before .before .before
+
+abbrev begun : tie.After-read-step → tie.Start
+begun c = start (c .before .before .before .before)
+
+-- where the record has been read, from where it is known to be accepted
+abbrev reading : tie.After-enum-told → tie.After-read-step
+reading c = c .before .before .before .before .before
+
+returns : tie.Need-returns
+returns c =
+    let r = c .before .before .before .before .before .before in
+    let s = begun r in
+    step-unread (s .args .width) (mesh s) (s .args .masses .now) (r .read-step .ensures) refl refl refl (c .before .read .given .1)
+
+array-share-prefix-fluxes : tie.Need-array-share-prefix-fluxes
+array-share-prefix-fluxes c =
+    let t = c .before in
+    let s = begun (reading t) in
+    fluxes-part (s .args .width) (mesh s) (s .args .masses .now) (reading t .read-step .ensures) (t .enum-told .given .1) .fits
+
+slice-aggregate-stepped : tie.Need-slice-aggregate-stepped
+slice-aggregate-stepped c =
+    let t = c .before .before in
+    let s = begun (reading t) in
+    part-long (fluxes-part (s .args .width) (mesh s) (s .args .masses .now) (reading t .read-step .ensures) (t .enum-told .given .1))
+
+array-share-prefix-outsides : tie.Need-array-share-prefix-outsides
+array-share-prefix-outsides c =
+    let t = c .before .before in
+    let s = begun (reading t) in
+    outsides-part (s .args .width) (mesh s) (s .args .masses .now) (reading t .read-step .ensures) (t .enum-told .given .1) .fits
+
+slice-aggregate-stepped-2 : tie.Need-slice-aggregate-stepped-2
+slice-aggregate-stepped-2 c =
+    let t = c .before .before .before in
+    let s = begun (reading t) in
+    part-long (outsides-part (s .args .width) (mesh s) (s .args .masses .now) (reading t .read-step .ensures) (t .enum-told .given .1))
+
+array-share-prefix-releases : tie.Need-array-share-prefix-releases
+array-share-prefix-releases c =
+    let t = c .before .before .before in
+    let s = begun (reading t) in
+    releases-part (s .args .width) (mesh s) (s .args .masses .now) (reading t .read-step .ensures) (t .enum-told .given .1) .fits
+
+slice-aggregate-stepped-3 : tie.Need-slice-aggregate-stepped-3
+slice-aggregate-stepped-3 c =
+    let t = c .before .before .before .before in
+    let s = begun (reading t) in
+    part-long (releases-part (s .args .width) (mesh s) (s .args .masses .now) (reading t .read-step .ensures) (t .enum-told .given .1))
+
+returns-2 : tie.Need-returns-2
+returns-2 c =
+    let u = c .before .before in
+    let t = u .before .before .before .before .before in
+    let s = begun (reading t) in
+    step-took (s .args .width) (mesh s) (s .args .masses .now) (reading t .read-step .ensures) refl refl refl (t .enum-told .given .1) (u .stepped .ensures)
+
+pub take-step-spec : {M : Type 1} → statement M
+take-step-spec =
+    tie.close
+    (tie.spec
+    (search needs)
+    (search needs)
+    (search needs)
+    (search needs)
+    (search needs)
+    returns
+    (search needs)
+    array-share-prefix-fluxes
+    slice-aggregate-stepped
+    array-share-prefix-outsides
+    slice-aggregate-stepped-2
+    array-share-prefix-releases
+    slice-aggregate-stepped-3
+    (search needs)
+    (λ c. c .before .masses .given)
+    returns-2)

@@ -1,0 +1,109 @@
+// A step record.
+use model::Printed;
+use model::RUN_CELLS;
+use model::RUN_FACES;
+use model::RUN_WORK;
+use model::StepTaken;
+use record_heads::Width;
+use record_reading::StepRead;
+use transport::StepAnswer;
+ghost use Rattle.model.specs.Mesh.{meshOf};
+ghost use Rattle.taking.specs.Taking.{StepTaking};
+ghost use Rattle.taking.specs.Inner.{SteppedIn};
+
+// A step through water that has been read: the masses become the next ones, unless it is refused.
+fn stepped(
+    cells: usize,
+    faces: usize,
+    volumes: &[u64],
+    firsts: &[u64],
+    seconds: &[u64],
+    shares: &[u64],
+    reaches: &[u64],
+    masses: &mut [u64],
+    fluxes: &[i64],
+    outsides: &[u64],
+    releases: &[u64],
+) -> StepTaken
+    ensures { λ r. ⌜ SteppedIn (meshOf cells faces (now (volumes .entry)) (now (firsts .entry)) (now (seconds .entry)) (now (shares .entry)) (now (reaches .entry)))
+        (now (masses .entry)) (now (fluxes .entry)) (now (outsides .entry)) (now (releases .entry)) r (now (masses .exit)) ⌝ }
+{
+    let mut next = [0u64; RUN_CELLS];
+    let mut moved = [0i64; RUN_FACES];
+    let mut work = [0u64; RUN_WORK];
+    let answer = transport::step(
+        cells,
+        faces,
+        volumes,
+        firsts,
+        seconds,
+        shares,
+        reaches,
+        masses,
+        fluxes,
+        outsides,
+        &mut next,
+        &mut moved,
+        &mut work,
+        releases,
+    );
+    match answer {
+        StepAnswer::Refused(refusal) => StepTaken::Refused(refusal),
+        StepAnswer::Stepped(crossing) => {
+            lists::copy(&next[..cells], masses);
+            StepTaken::Stepped(Printed {
+                entered: crossing.entered,
+                gone: crossing.gone,
+                total: checks::field::sum_of(cells, masses),
+                released: crossing.released,
+            })
+        }
+    }
+}
+
+// A step record on a mesh and a field, which are judged with it.
+pub fn take_step(
+    width: Width,
+    cells: usize,
+    faces: usize,
+    bytes: &[u8],
+    volumes: &[u64],
+    firsts: &[u64],
+    seconds: &[u64],
+    shares: &[u64],
+    reaches: &[u64],
+    masses: &mut [u64],
+) -> StepTaken
+    ensures { λ r. ⌜ StepTaking width (meshOf cells faces (now (volumes .entry)) (now (firsts .entry)) (now (seconds .entry)) (now (shares .entry)) (now (reaches .entry)))
+        (now (masses .entry)) (now (bytes .entry)) r (now (masses .exit)) ⌝ }
+{
+    let mut fluxes = [0i64; RUN_FACES];
+    let mut outsides = [0u64; RUN_FACES];
+    let mut releases = [0u64; RUN_CELLS];
+    let read = record_reading::read_step(
+        width,
+        cells,
+        faces,
+        seconds,
+        bytes,
+        &mut fluxes,
+        &mut outsides,
+        &mut releases,
+    );
+    if let StepRead::Refused(refusal) = read {
+        return StepTaken::Refused(refusal);
+    }
+    stepped(
+        cells,
+        faces,
+        volumes,
+        firsts,
+        seconds,
+        shares,
+        reaches,
+        masses,
+        &fluxes[..faces],
+        &outsides[..faces],
+        &releases[..cells],
+    )
+}
