@@ -74,13 +74,14 @@ static struct {
     uint64_t volumes[MOST_CELLS], firsts[MOST_FACES], seconds[MOST_FACES], shares[MOST_FACES], reaches[MOST_FACES], masses[MOST_CELLS],
         outsides[MOST_FACES], releases[MOST_CELLS];
     int64_t fluxes[MOST_FACES];
-} whole;
-static uint64_t next_masses[MOST_CELLS], work[LAGOON_WORK_ENTRIES(MOST_CELLS, MOST_FACES)];
+} whole, part_0, part_1;
+static uint64_t labels[MOST_CELLS], next_masses[MOST_CELLS], work[LAGOON_WORK_ENTRIES(MOST_CELLS, MOST_FACES)];
 static int64_t moved[MOST_FACES];
 static uint64_t nothing[1]; /* lent for numbers that nobody asks for */
 
 #define MESH(t) t.volumes, MOST_CELLS, t.firsts, MOST_FACES, t.seconds, MOST_FACES, t.shares, MOST_FACES, t.reaches, MOST_FACES
 #define SALT_AND_WATER(t) t.masses, MOST_CELLS, t.fluxes, MOST_FACES, t.outsides, MOST_FACES
+#define ALL(t) MESH(t), SALT_AND_WATER(t), t.releases, MOST_CELLS
 #define RECORDS mesh, mesh_length, field, field_length, step, step_length
 
 static void fill_tables(void)
@@ -92,6 +93,7 @@ static void fill_tables(void)
         whole.outsides[f] = f % 2 ? 0 : LAGOON_MAX_CONCENTRATION - f;
     }
     for (size_t c = 0; c < MOST_CELLS; c++) {
+        labels[c] = c % 2;
         whole.volumes[c] = LAGOON_MAX_VOLUME;
         whole.releases[c] = LAGOON_MAX_VOLUME - 1;
         whole.masses[c] = (uint64_t)LAGOON_MAX_VOLUME * LAGOON_MAX_CONCENTRATION;
@@ -128,6 +130,11 @@ static uint64_t judge_tables(void)
 {
     return lagoon_table_judge(MOST_CELLS, MOST_FACES, MESH(whole), SALT_AND_WATER(whole), next_masses, MOST_CELLS, moved, MOST_FACES, whole.releases,
                               MOST_CELLS, nothing, 0);
+}
+
+static uint64_t cut_tables(void)
+{
+    return lagoon_table_cut(MOST_CELLS, MOST_FACES, ALL(whole), labels, MOST_CELLS, ALL(part_0), ALL(part_1), nothing, 0);
 }
 
 static uint64_t (*called)(void);
@@ -171,6 +178,7 @@ int main(void)
     fill_tables();
     print_taken("lagoon_table_step", take_table_step); /* and what it moves is judged below */
     print_taken("lagoon_table_judge", judge_tables);
+    print_taken("lagoon_table_cut", cut_tables);
     print_taken("lagoon_plain_step", take_plain_step);
     print_taken("lagoon_crossing", look_at_crossing);
     print_taken("lagoon_judge", judge_records);
