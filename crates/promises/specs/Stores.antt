@@ -1,19 +1,30 @@
--- Document 02, S-4: lists of step calls and of calls on a store, as they were made. Demand 3 about every such list, whose budget starts anew
--- at each return; and that a kept field comes back.
-use Prim.Native.Nat.{ℕ, _+_}
+-- Document 02, S-4: lists of step calls and of calls on a store, as they were made, from Rattle or from C. Demand 3 about every such list, whose
+-- budget starts anew at each return; and that a kept field comes back.
+use Prim.Native.Nat.{ℕ, _+_, _<_}
 use mathlib.Core.Path.{_≡_}
 use mathlib.Core.Logic.{_≢_}
 use mathlib.Core.List.{List, [], _∷_, _++_}
 use lib.ListN.{take, replicate}
 use Rattle.lists.specs.Table.{table, over}
 use Rattle.model.specs.Mesh.{Mesh}
-use Rattle.model.specs.Causes.{Outcome, accepted, fine, granted, _andThen_, meshVerdict, fieldVerdict}
+use Rattle.model.specs.Causes.{Outcome, accepted, Verdict, fine, granted, _andThen_, meshVerdict, fieldVerdict}
 use Rattle.model.specs.Answers.{said}
 use Rattle.model.specs.declared.Answer.{Answer}
 use Rattle.model.specs.Calls.{massIn, lentMasses, Deed, givenBack, storeOnly, stepping, lastField, EachCall, Ledger}
 use Rattle.store_kept.specs.Store.{count, used, fieldsIn, heldUnder, without}
 use Rattle.store.specs.Calls.{KeepPromise, DropPromise, ReturnPromise}
-use Rattle.promises.specs.Steps.{StepCall, cameTo, StepContract, StepOwed}
+use Rattle.host_answer.specs.Number.{causeStep}
+use Rattle.host_period_promises.specs.Kept.{KeepFromC, DropFromC, ReturnFromC}
+use Rattle.promises.specs.Steps.{StepCall, hostSaid, cameTo, StepContract, StepOwed}
+
+-- What a call on a store answered: an answer, or from C (`lagoon_keep`, `lagoon_drop`, `lagoon_give_back`) a number; and what either says.
+pub data StoreAnswer : Type 0 where
+  anAnswer : Answer → StoreAnswer
+  aNumber : ℕ → StoreAnswer
+
+abbrev pub storeSaid : StoreAnswer → Verdict
+storeSaid (anAnswer a) = said a
+storeSaid (aNumber n) = hostSaid n
 
 -- A call on a store as it was made: what stood in the table of masses past the field (a drop is lent none), the store lent to it, of any values
 -- and of any length, and the name; its answer; and the table that it writes, afterwards: the store, or of a return the masses.
@@ -21,7 +32,7 @@ pub record StoreMade : Type 0 where
   pub past : List ℕ
   pub store : List ℕ
   pub name : ℕ
-  pub answer : Answer
+  pub answer : StoreAnswer
   pub written : List ℕ
 
 pub data ListCall : Type 0 where
@@ -34,16 +45,29 @@ module _ (M : Mesh) where
   -- what a call did, by its answer
   abbrev pub did : ListCall → List ℕ → Outcome Deed
   did (aStep call) field = stepping (cameTo M call field)
-  did (byKeep m) field = said (m .answer) andThen accepted storeOnly
-  did (byDrop m) field = said (m .answer) andThen accepted storeOnly
-  did (byReturn m) field = said (m .answer) andThen accepted (givenBack (m .written))
+  did (byKeep m) field = storeSaid (m .answer) andThen accepted storeOnly
+  did (byDrop m) field = storeSaid (m .answer) andThen accepted storeOnly
+  did (byReturn m) field = storeSaid (m .answer) andThen accepted (givenBack (m .written))
 
   -- The call was lent the mesh's cells and volumes and, as masses, the field, and kept its contract.
+  -- A name from C has 32 bits, so that the number tells it.
+  abbrev pub KeepMade : StoreMade → List ℕ → StoreAnswer → Type 0
+  KeepMade m lent (anAnswer a) = KeepPromise (M .cells) (M .volumes) lent (m .store) (m .name) a (m .written)
+  KeepMade m lent (aNumber n) = (m .name < causeStep) × KeepFromC (M .cells) (M .volumes) lent (m .store) (m .name) n (m .written)
+
+  abbrev pub DropMade : StoreMade → StoreAnswer → Type 0
+  DropMade m (anAnswer a) = DropPromise (M .cells) (m .store) (m .name) a (m .written)
+  DropMade m (aNumber n) = (m .name < causeStep) × DropFromC (M .cells) (m .store) (m .name) n (m .written)
+
+  abbrev pub ReturnMade : StoreMade → List ℕ → StoreAnswer → Type 0
+  ReturnMade m lent (anAnswer a) = ReturnPromise (M .cells) (M .volumes) lent (m .store) (m .name) a (m .written)
+  ReturnMade m lent (aNumber n) = (m .name < causeStep) × ReturnFromC (M .cells) (M .volumes) lent (m .store) (m .name) n (m .written)
+
   abbrev pub CallContract : ListCall → List ℕ → Type 0
   CallContract (aStep call) field = StepContract M call field
-  CallContract (byKeep m) field = KeepPromise (M .cells) (M .volumes) (lentMasses M (m .past) field) (m .store) (m .name) (m .answer) (m .written)
-  CallContract (byDrop m) field = DropPromise (M .cells) (m .store) (m .name) (m .answer) (m .written)
-  CallContract (byReturn m) field = ReturnPromise (M .cells) (M .volumes) (lentMasses M (m .past) field) (m .store) (m .name) (m .answer) (m .written)
+  CallContract (byKeep m) field = KeepMade m (lentMasses M (m .past) field) (m .answer)
+  CallContract (byDrop m) field = DropMade m (m .answer)
+  CallContract (byReturn m) field = ReturnMade m (lentMasses M (m .past) field) (m .answer)
 
   -- The calls ran one after another, each on the field as the last left it.
   abbrev pub CallsMade : List ℕ → List ListCall → Type 0
@@ -81,7 +105,7 @@ storeAfterAll store (call ∷ calls) = storeAfterAll (storeAfter store call) cal
 abbrev pub OnStore : ℕ → List ℕ → ListCall → Type 0
 OnStore name store (aStep call) = Unit {0}
 OnStore name store (byKeep m) = m .store ≡ store
-OnStore name store (byDrop m) = (m .store ≡ store) × (said (m .answer) ≡ fine → m .name ≢ name)
+OnStore name store (byDrop m) = (m .store ≡ store) × (storeSaid (m .answer) ≡ fine → m .name ≢ name)
 OnStore name store (byReturn m) = m .store ≡ store
 
 abbrev pub OneStore : ℕ → List ℕ → List ListCall → Type 0
@@ -91,16 +115,16 @@ OneStore name store (call ∷ calls) = OnStore name store call × OneStore name 
 -- A field comes back exactly as kept: after an accepted keep and any such list of calls, a return of the name is accepted, and leaves the
 -- masses that were kept.
 abbrev pub FieldReturns : Type 0
-FieldReturns = (M : Mesh) (field : List ℕ) (keep : StoreMade) → CallContract M (byKeep keep) field → said (keep .answer) ≡ fine
+FieldReturns = (M : Mesh) (field : List ℕ) (keep : StoreMade) → CallContract M (byKeep keep) field → storeSaid (keep .answer) ≡ fine
     → (calls : List ListCall) → CallsMade M field calls → OneStore (keep .name) (keep .written) calls
     → (back : StoreMade) → CallContract M (byReturn back) (lastField M (did M) field calls)
     → back .store ≡ storeAfterAll (keep .written) calls → back .name ≡ keep .name
-    → (said (back .answer) ≡ fine) × (back .written ≡ table (M .cells) (massIn field) ++ back .past)
+    → (storeSaid (back .answer) ≡ fine) × (back .written ≡ table (M .cells) (massIn field) ++ back .past)
 
 -- Dropping frees what keeping took: a drop of the name, next on the store, is accepted and leaves the store as it was before the keep, but for
 -- the freed entries, which are 0.
 abbrev pub KeepThenDrop : Type 0
-KeepThenDrop = (M : Mesh) (field : List ℕ) (keep : StoreMade) → CallContract M (byKeep keep) field → said (keep .answer) ≡ fine
+KeepThenDrop = (M : Mesh) (field : List ℕ) (keep : StoreMade) → CallContract M (byKeep keep) field → storeSaid (keep .answer) ≡ fine
     → (drop : StoreMade) (later : List ℕ) → CallContract M (byDrop drop) later → drop .store ≡ keep .written → drop .name ≡ keep .name
-    → (said (drop .answer) ≡ fine)
+    → (storeSaid (drop .answer) ≡ fine)
     × (drop .written ≡ over (take (used (M .cells) (count (keep .store))) (keep .store) ++ replicate (M .cells + 1) 0) (keep .store))
