@@ -5,17 +5,20 @@ mod board_lines;
 use checks::TotalAnswer;
 use model::RUN_CELLS;
 use model::RUN_FACES;
-use model::StepTaken;
+use model::RUN_WORK;
 use record_layouts::Width;
 use record_reading::MeshAnswer;
-use run_intake::RECORD;
-use run_session::Next;
+use run_session::LINES;
 ghost use Prim.Native.Nat.{_≤_};
 ghost use lib.ListN.{length};
 
-// Reads one step, takes it and prints its line. Where no byte is left, the board follows.
-fn step_once(
-    step: u64,
+// The bytes that are read at once: one of the longest records, or many of a small lagoon's.
+const AHEAD: usize = 16384;
+
+// The steps, one after another, until no byte is left or one is refused that ends the run; their lines, written together. Answers whether
+// nothing is lost, so that the board may follow. A proved loop has to end and nothing says that the input does, so the step number stops
+// it: at a step in each nanosecond after 584 years.
+fn steps_in(
     width: Width,
     cells: usize,
     faces: usize,
@@ -26,40 +29,76 @@ fn step_once(
     shares: &[u64],
     reaches: &[u64],
     masses: &mut [u64],
-) -> Next
+    fluxes: &mut [i64; RUN_FACES],
+    outsides: &mut [u64; RUN_FACES],
+    releases: &mut [u64; RUN_CELLS],
+    next: &mut [u64; RUN_CELLS],
+    moved: &mut [i64; RUN_FACES],
+    work: &mut [u64; RUN_WORK],
+    lines: &mut [u8; LINES],
+) -> bool
     requires { do ⌜ (← ⟦run_intake::RECORD⟧) ≤ length (now buffer) ⌝ }
 {
-    let read = run_intake::step(width, cells, faces, seconds, buffer);
-    if read.failed {
-        return Next::Nothing;
-    }
-    let got = read.count;
-    if got == 0 {
-        return Next::Board;
-    }
-    let taken = taking_records::take_step(
-        width,
-        cells,
-        faces,
-        &buffer[..got],
-        volumes,
-        firsts,
-        seconds,
-        shares,
-        reaches,
-        masses,
-    );
-    let StepTaken::Stepped(printed) = taken else {
-        if let StepTaken::Refused(refusal) = taken {
-            return run_session::print_refused(step, refusal);
+    let mut from = 0;
+    let mut to = 0;
+    let mut unwritten = 0;
+    let mut step: u64 = 0;
+    while step < u64::MAX {
+        step += 1;
+        let room = run_session::make_room(lines, unwritten);
+        if room.failed {
+            return false;
         }
-        return Next::Nothing;
-    };
-    run_session::print_stepped(step, printed)
+        let held = run_intake::step(
+            width,
+            cells,
+            faces,
+            seconds,
+            buffer,
+            from,
+            to,
+            lines,
+            room.count,
+        );
+        if held.failed {
+            return false;
+        }
+        unwritten = held.unwritten;
+        let start = held.from;
+        let end = held.end;
+        if start == end {
+            return run_session::write(lines, unwritten);
+        }
+        let taken = taking_records::take_step_in(
+            width,
+            cells,
+            faces,
+            &buffer[start..end],
+            volumes,
+            firsts,
+            seconds,
+            shares,
+            reaches,
+            masses,
+            fluxes,
+            outsides,
+            releases,
+            next,
+            moved,
+            work,
+        );
+        let told = run_session::tell(step, taken);
+        unwritten = run_session::add(told.line, lines, unwritten);
+        if told.last {
+            return run_session::write(lines, unwritten);
+        }
+        from = end;
+        to = held.to;
+    }
+    run_session::write(lines, unwritten)
 }
 
-// The steps, one after another. A proved loop has to end and nothing says that the input does, so the step number stops it: at a
-// step in each nanosecond after 584 years.
+// The same, with the tables of a step, which are made once, and room for the lines.
 fn steps(
     width: Width,
     cells: usize,
@@ -71,30 +110,35 @@ fn steps(
     shares: &[u64],
     reaches: &[u64],
     masses: &mut [u64],
-) -> Next
+) -> bool
     requires { do ⌜ (← ⟦run_intake::RECORD⟧) ≤ length (now buffer) ⌝ }
 {
-    let mut step: u64 = 0;
-    while step < u64::MAX {
-        step += 1;
-        let next = step_once(
-            step,
-            width,
-            cells,
-            faces,
-            buffer,
-            volumes,
-            firsts,
-            seconds,
-            shares,
-            reaches,
-            masses,
-        );
-        let Next::Step = next else {
-            return next;
-        };
-    }
-    Next::Board
+    let mut fluxes = [0i64; RUN_FACES];
+    let mut outsides = [0u64; RUN_FACES];
+    let mut releases = [0u64; RUN_CELLS];
+    let mut next = [0u64; RUN_CELLS];
+    let mut moved = [0i64; RUN_FACES];
+    let mut work = [0u64; RUN_WORK];
+    let mut lines = [0u8; LINES];
+    steps_in(
+        width,
+        cells,
+        faces,
+        buffer,
+        volumes,
+        firsts,
+        seconds,
+        shares,
+        reaches,
+        masses,
+        &mut fluxes,
+        &mut outsides,
+        &mut releases,
+        &mut next,
+        &mut moved,
+        &mut work,
+        &mut lines,
+    )
 }
 
 // Field, steps and board on an accepted mesh.
@@ -127,7 +171,7 @@ fn run_on(
     if !run_session::print(run_session::start_line(total)) {
         return;
     }
-    let next = steps(
+    let whole = steps(
         width,
         cells,
         faces,
@@ -139,14 +183,14 @@ fn run_on(
         reaches,
         &mut masses,
     );
-    if let Next::Board = next {
+    if whole {
         board_lines::print_board(cells, volumes, &masses);
     }
 }
 
 fn main() {
     run_session::greet();
-    let mut buffer = [0u8; RECORD];
+    let mut buffer = [0u8; AHEAD];
     let mut volumes = [0u64; RUN_CELLS];
     let mut firsts = [0u64; RUN_FACES];
     let mut seconds = [0u64; RUN_FACES];

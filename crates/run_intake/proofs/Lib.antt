@@ -1,2 +1,4 @@
 pub mod Room
 pub mod Front
+pub mod Moving
+pub mod Ahead

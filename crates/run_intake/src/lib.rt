@@ -1,4 +1,4 @@
-// Records read from standard input: a head, and then as many bytes as it asks for.
+// Records read from standard input: a head, and then as many bytes as it asks for. Steps are read ahead, as many bytes at once as come.
 use libc::STDIN_FILENO;
 use model::RUN_CELLS;
 use model::RUN_FACES;
@@ -10,14 +10,14 @@ use record_layouts::STEP_HEAD;
 use record_layouts::Width;
 use record_layouts::body::Body;
 ghost use mathlib.Core.Path.{_≡_};
-ghost use Prim.Native.Nat.{_+_, _≤_};
+ghost use Prim.Native.Nat.{_+_, _-_, _≤_, min};
 ghost use lib.ListN.{length, take};
 ghost use Rattle.io.specs.Counts.{Counts};
 ghost use Rattle.model.specs.Mesh.{runCells, runFaces};
 ghost use Rattle.record_bits.specs.Layout.{bytesFor};
 ghost use Rattle.record_layouts.specs.Layouts.{meshHeadBits, fieldHeadBits, stepHeadBits};
 ghost use Rattle.record_heads.specs.Heads.{lengthSaid, meshLengthSaid, bytesOf, meshNeeds, fieldNeeds, stepNeeds};
-ghost use Rattle.run_intake.specs.Intake.{recordBytes, stillNeeded, Asked};
+ghost use Rattle.run_intake.specs.Intake.{recordBytes, stillNeeded, Asked, held, Kept};
 
 // Most bits of a face in a step record: one at the rim, in the wide kinds.
 const RIM_FACE: usize = Body::SIGN + Body::WIDE_VALUE + Body::OUTSIDE;
@@ -51,14 +51,14 @@ fn once(buffer: &mut [u8], at: usize, to: usize) -> Got
     }
 }
 
-// Bytes read into buffer[from..to], until there are none. Answers where they end.
-fn bytes(buffer: &mut [u8], from: usize, to: usize) -> Got
-    requires { ⌜ (from ≤ to) × (to ≤ length (now buffer)) ⌝ }
+// Bytes read into buffer[from..to], until they reach `enough` or there are none. Answers where they end.
+fn bytes(buffer: &mut [u8], from: usize, enough: usize, to: usize) -> Got
+    requires { ⌜ (from ≤ to) × (enough ≤ to) × (to ≤ length (now buffer)) ⌝ }
     ensures { λ r. ⌜ Counts (r .count) (now (buffer .exit)) × (from ≤ r .count) × (r .count ≤ to)
         × (take from (now (buffer .exit)) ≡ take from (now (buffer .entry))) ⌝ }
 {
     let mut at = from;
-    while at < to {
+    while at < enough {
         let got = once(buffer, at, to);
         let end = got.count;
         if end == at {
@@ -93,7 +93,8 @@ fn rest(answer: LengthAnswer, got: usize, buffer: &mut [u8]) -> Got
         × (take got (now (buffer .exit)) ≡ take got (now (buffer .entry))) ⌝ }
 {
     let more = still_needed(answer, got);
-    bytes(buffer, got, got + more)
+    let end = got + more;
+    bytes(buffer, got, end, end)
 }
 
 // Of what the head of a mesh says, the bytes alone.
@@ -110,7 +111,7 @@ pub fn mesh(buffer: &mut [u8]) -> Got
     requires { do ⌜ (← ⟦RECORD⟧) ≤ length (now buffer) ⌝ }
     ensures { λ r. ⌜ Counts (r .count) (now (buffer .exit)) × Asked (bytesFor meshHeadBits) (meshNeeds runCells runFaces) (now (buffer .exit)) (r .count) ⌝ }
 {
-    let head = bytes(buffer, 0, MESH_HEAD);
+    let head = bytes(buffer, 0, MESH_HEAD, MESH_HEAD);
     if head.failed {
         return head;
     }
@@ -123,7 +124,7 @@ pub fn field(width: Width, cells: usize, buffer: &mut [u8]) -> Got
     requires { do ⌜ (← ⟦RECORD⟧) ≤ length (now buffer) ⌝ }
     ensures { λ r. ⌜ Counts (r .count) (now (buffer .exit)) × Asked (bytesFor fieldHeadBits) (fieldNeeds width cells) (now (buffer .exit)) (r .count) ⌝ }
 {
-    let head = bytes(buffer, 0, FIELD_HEAD);
+    let head = bytes(buffer, 0, FIELD_HEAD, FIELD_HEAD);
     if head.failed {
         return head;
     }
@@ -132,16 +133,96 @@ pub fn field(width: Width, cells: usize, buffer: &mut [u8]) -> Got
     rest(answer, got, buffer)
 }
 
-pub fn step(width: Width, cells: usize, faces: usize, seconds: &[u64], buffer: &mut [u8]) -> Got
-    requires { do ⌜ (← ⟦RECORD⟧) ≤ length (now buffer) ⌝ }
-    ensures { λ r. ⌜ Counts (r .count) (now (buffer .exit)) × Asked (bytesFor stepHeadBits) (stepNeeds width cells faces (now (seconds .entry)))
-        (now (buffer .exit)) (r .count) ⌝ }
+// What has come and is not yet taken, buffer[from..to], of which buffer[from..end] was asked for; how many bytes of the lines are not yet
+// written; and whether a read or a write failed.
+pub struct Held {
+    pub from: usize,
+    pub end: usize,
+    pub to: usize,
+    pub unwritten: usize,
+    pub failed: bool,
+}
+
+// What is held, moved to the front.
+fn move_down(buffer: &mut [u8], from: usize, to: usize)
+    requires { ⌜ (from ≤ to) × (to ≤ length (now buffer)) ⌝ }
+    ensures { λ _. ⌜ take (to - from) (now (buffer .exit)) ≡ held (now (buffer .entry)) from to ⌝ }
 {
-    let head = bytes(buffer, 0, STEP_HEAD);
+    let mut i = from;
+    while i < to {
+        buffer[i - from] = buffer[i];
+        i += 1;
+    }
+}
+
+// So many bytes of what is held, or all where no more come. A read may wait, so that the lines are written before it.
+fn hold(
+    wanted: usize,
+    buffer: &mut [u8],
+    from: usize,
+    to: usize,
+    lines: &[u8],
+    unwritten: usize,
+) -> Held
+    requires { ⌜ (from ≤ to) × (to ≤ length (now buffer)) × (wanted ≤ length (now buffer)) × (unwritten ≤ length (now lines)) ⌝ }
+    ensures { λ r. ⌜ Kept (now (buffer .entry)) from to unwritten (now (buffer .exit)) r × (r .end ≡ min (r .from + wanted) (r .to)) ⌝ }
+{
+    let kept = to - from;
+    if wanted <= kept {
+        return Held {
+            from: from,
+            end: from + wanted,
+            to: to,
+            unwritten: unwritten,
+            failed: false,
+        };
+    }
+    if !run_session::write(lines, unwritten) {
+        return Held {
+            from: from,
+            end: to,
+            to: to,
+            unwritten: unwritten,
+            failed: true,
+        };
+    }
+    move_down(buffer, from, to);
+    let got = bytes(buffer, kept, wanted, buffer.len());
+    let come = got.count;
+    Held {
+        from: 0,
+        end: lists::least(wanted, come),
+        to: come,
+        unwritten: 0,
+        failed: got.failed,
+    }
+}
+
+// A step record among what is held: its head, and then as many bytes as that asks for.
+pub fn step(
+    width: Width,
+    cells: usize,
+    faces: usize,
+    seconds: &[u64],
+    buffer: &mut [u8],
+    from: usize,
+    to: usize,
+    lines: &[u8],
+    unwritten: usize,
+) -> Held
+    requires { do ⌜ (from ≤ to) × (to ≤ length (now buffer)) × ((← ⟦RECORD⟧) ≤ length (now buffer)) × (unwritten ≤ length (now lines)) ⌝ }
+    ensures { λ r. ⌜ Kept (now (buffer .entry)) from to unwritten (now (buffer .exit)) r
+        × Asked (bytesFor stepHeadBits) (stepNeeds width cells faces (now (seconds .entry))) (held (now (buffer .exit)) (r .from) (r .end))
+        (r .end - r .from) ⌝ }
+{
+    let head = hold(STEP_HEAD, buffer, from, to, lines, unwritten);
     if head.failed {
         return head;
     }
-    let got = head.count;
-    let answer = record_heads::step_length(width, cells, faces, seconds, &buffer[..got]);
-    rest(answer, got, buffer)
+    let start = head.from;
+    let end = head.end;
+    let answer = record_heads::step_length(width, cells, faces, seconds, &buffer[start..end]);
+    let got = end - start;
+    let all = got + still_needed(answer, got);
+    hold(all, buffer, start, head.to, lines, head.unwritten)
 }

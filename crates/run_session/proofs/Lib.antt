@@ -1,1 +1,3 @@
 pub mod Endings
+pub mod Added
+pub mod Short

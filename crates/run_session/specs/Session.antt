@@ -1,7 +1,6 @@
 -- Document 01, "The board and the run": when a run ends, what a step prints and what follows it.
 use Prim.Native.Nat.{ℕ}
 use mathlib.Core.Bool.{Bool, true, false, not, _||_}
-use mathlib.Core.Path.{_≡_}
 use mathlib.Core.List.{List}
 use lib.Dec.{eqb}
 use Rattle.model.specs.Causes.{Outcome, accepted, refused}
@@ -12,8 +11,6 @@ use Rattle.model.specs.StepTaken.{takenSaid}
 use Rattle.model.specs.declared.Printed.{Printed}
 use Rattle.model.specs.declared.StepTaken.{StepTaken}
 use Rattle.run_lines.specs.Lines.{refusalLine, stepLine, refusedStepLine}
-use Rattle.run_session.specs.declared.printing.Next.{Next}
-use Rattle.run_session.specs.declared.printing.Next.the-variants.{Step, Board, Nothing}
 
 -- A refusal ends the run by causes 11 and 13 alone.
 abbrev pub endsBy : ℕ → Bool
@@ -46,8 +43,9 @@ goesOnAfter (refused cause place) = not (endsBy cause)
 abbrev pub goesOn : StepTaken → Bool
 goesOn taken = goesOnAfter (takenSaid taken)
 
--- What follows a step after which another may follow or not: that, or the board. Nothing may follow at any time, since any line can be lost.
-abbrev pub Follows : Next → Bool → Type 0
-Follows Step more = more ≡ true
-Follows Board more = more ≡ false
-Follows Nothing more = Unit
+-- The bytes of the longest line, and of all lines that are held before they are written.
+abbrev pub lineBytes : ℕ
+lineBytes = 105
+
+abbrev pub linesBytes : ℕ
+linesBytes = 4096

@@ -4,17 +4,26 @@ mod printing;
 use model::Cause;
 use model::Printed;
 use model::Refusal;
-pub use printing::Next;
+use model::StepTaken;
+pub use printing::LINES;
+pub use printing::add;
 pub use printing::greet;
+pub use printing::make_room;
 pub use printing::print;
-pub use printing::print_refused;
-pub use printing::print_stepped;
+pub use printing::write;
 use run_lines::Line;
 ghost use mathlib.Core.Path.{_≡_};
+ghost use mathlib.Core.Bool.{not};
 ghost use Rattle.model.specs.Causes.{accepted};
 ghost use Rattle.model.specs.Answers.{told};
 ghost use Rattle.run_lines.specs.Lines.{Holds, letterM, letterF};
-ghost use Rattle.run_session.specs.Session.{endsRun, refusedText, startText, stepText};
+ghost use Rattle.run_session.specs.Session.{endsRun, refusedText, startText, stepText, stepTakenLine, goesOn, goesOnAfter};
+
+// What is told of a step: its line, and whether it is the last.
+pub struct Told {
+    pub line: Line,
+    pub last: bool,
+}
 
 // Whether a refusal of a step ends the run: causes 11 and 13.
 pub fn ends(cause: Cause) -> bool
@@ -68,4 +77,35 @@ pub fn refused_step_line(step: u64, refusal: Refusal) -> Line
 {
     let cause = refusal.cause;
     run_lines::refused_step_line(step, model::number(cause), refusal.place)
+}
+
+// What is told of a step that was made: another may follow.
+fn told_stepped(step: u64, printed: Printed) -> Told
+    ensures { λ r. ⌜ Holds (r .line) (stepText step (accepted printed)) × (goesOnAfter (accepted printed) ≡ not (r .last)) ⌝ }
+{
+    Told {
+        line: stepped_line(step, printed),
+        last: false,
+    }
+}
+
+// What is told of a refused step, which may end the run.
+fn told_refused(step: u64, refusal: Refusal) -> Told
+    ensures { λ r. ⌜ Holds (r .line) (stepText step (told refusal)) × (goesOnAfter (told refusal) ≡ not (r .last)) ⌝ }
+{
+    let cause = refusal.cause;
+    Told {
+        line: refused_step_line(step, refusal),
+        last: ends(cause),
+    }
+}
+
+// What is told of a step.
+pub fn tell(step: u64, taken: StepTaken) -> Told
+    ensures { λ r. ⌜ Holds (r .line) (stepTakenLine step taken) × (goesOn taken ≡ not (r .last)) ⌝ }
+{
+    match taken {
+        StepTaken::Stepped(printed) => told_stepped(step, printed),
+        StepTaken::Refused(refusal) => told_refused(step, refusal),
+    }
 }

@@ -1,57 +1,70 @@
-// The run's lines on standard output.
-use crate::ends;
-use crate::refused_step_line;
-use crate::stepped_line;
+// The run's lines on standard output. Those of the steps are held one after another and written together.
 use libc::STDERR_FILENO;
 use libc::STDIN_FILENO;
 use libc::STDOUT_FILENO;
-use model::Printed;
-use model::Refusal;
+use run_lines::LINE;
 use run_lines::Line;
+ghost use mathlib.Core.Path.{_≡_};
+ghost use mathlib.Core.List.{_++_};
+ghost use Prim.Native.Nat.{_+_, _≤_};
+ghost use lib.ListN.{length, take};
 ghost use Rattle.io.specs.Counts.{Counts};
-ghost use Rattle.model.specs.Causes.{accepted};
-ghost use Rattle.model.specs.Answers.{told};
-ghost use Rattle.run_session.specs.Session.{goesOnAfter, Follows};
+ghost use Rattle.run_session.specs.Session.{lineBytes, linesBytes};
 
-// What follows a step: another, the board, or nothing, since something is lost.
-pub enum Next {
-    Step,
-    Board,
-    Nothing,
+// How many bytes of lines are held: no more than a pipe takes whole, so that a write that does not wait cuts no line in two.
+pub const LINES: usize = 4096;
+
+// How many bytes of lines are not yet written, and whether a write failed.
+pub struct Unwritten {
+    pub count: usize,
+    pub failed: bool,
 }
 
-// A line on standard output, or a word on standard error where it is lost.
-pub fn print(line: Line) -> bool
-    requires { ⌜ Counts (line .used) (line .bytes) ⌝ }
+// Lines on standard output, or a word on standard error where they are lost.
+pub fn write(lines: &[u8], count: usize) -> bool
+    requires { ⌜ count ≤ length (now lines) ⌝ }
 {
-    let bytes = line.bytes;
-    let used = line.used;
-    if io::write_all(STDOUT_FILENO, &bytes[..used]) {
+    if io::write_all(STDOUT_FILENO, &lines[..count]) {
         return true;
     }
     os::fail(b"run: standard output");
     false
 }
 
-// The line of an accepted step, after which another may follow.
-pub fn print_stepped(step: u64, printed: Printed) -> Next
-    ensures { λ r. ⌜ Follows r (goesOnAfter (accepted printed)) ⌝ }
+// A line by itself.
+pub fn print(line: Line) -> bool
+    requires { ⌜ Counts (line .used) (line .bytes) ⌝ }
 {
-    if print(stepped_line(step, printed)) {
-        return Next::Step;
-    }
-    Next::Nothing
+    let bytes = line.bytes;
+    let used = line.used;
+    write(&bytes, used)
 }
 
-// The line of a refused step, which may end the run.
-pub fn print_refused(step: u64, refusal: Refusal) -> Next
-    ensures { λ r. ⌜ Follows r (goesOnAfter (told refusal)) ⌝ }
+// Those held are written where one more might not fit.
+pub fn make_room(lines: &[u8; LINES], unwritten: usize) -> Unwritten
+    requires { ⌜ unwritten ≤ linesBytes ⌝ }
+    ensures { λ r. ⌜ (r .count + lineBytes ≤ linesBytes) × (r .count ≤ unwritten) ⌝ }
 {
-    if !print(refused_step_line(step, refusal)) {
-        return Next::Nothing;
+    if unwritten + LINE <= LINES {
+        return Unwritten {
+            count: unwritten,
+            failed: false,
+        };
     }
-    let cause = refusal.cause;
-    if ends(cause) { Next::Board } else { Next::Step }
+    Unwritten {
+        count: 0,
+        failed: !write(lines, unwritten),
+    }
+}
+
+// A line after those held. Answers where it ends.
+pub fn add(line: Line, lines: &mut [u8], unwritten: usize) -> usize
+    requires { ⌜ Counts (line .used) (line .bytes) × (unwritten + line .used ≤ length (now lines)) ⌝ }
+    ensures { λ r. ⌜ (r ≡ unwritten + line .used) × (take r (now (lines .exit)) ≡ take unwritten (now (lines .entry)) ++ take (line .used) (line .bytes)) ⌝ }
+{
+    let bytes = line.bytes;
+    let used = line.used;
+    text::append(lines, unwritten, &bytes[..used])
 }
 
 // A word to whoever gives arguments or sits at a terminal and does not know that a session is awaited.

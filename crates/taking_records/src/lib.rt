@@ -5,3 +5,4 @@ mod step;
 
 pub use field::take_field;
 pub use step::take_step;
+pub use step::take_step_in;

@@ -7,11 +7,15 @@ use model::StepTaken;
 use record_layouts::Width;
 use record_reading::StepRead;
 use transport::StepAnswer;
-ghost use Rattle.model.specs.Mesh.{meshOf};
+ghost use mathlib.Core.Path.{_≡_};
+ghost use lib.ListN.{length};
+ghost use Rattle.model.specs.Mesh.{meshOf, runCells, runFaces};
+ghost use Rattle.model.specs.Causes.{workEntries};
 ghost use Rattle.taking.specs.Taking.{StepTaking};
 ghost use Rattle.taking.specs.Inner.{SteppedIn};
 
-// A step through water that has been read: the masses become the next ones, unless it is refused.
+// A step through water that has been read: the masses become the next ones, unless it is refused. What the lent tables of results and work
+// hold is no matter, before or after.
 fn stepped(
     cells: usize,
     faces: usize,
@@ -23,15 +27,16 @@ fn stepped(
     masses: &mut [u64],
     fluxes: &[i64],
     outsides: &[u64],
-    releases: &[u64],
+    released: &[u64],
+    next: &mut [u64],
+    moved: &mut [i64],
+    work: &mut [u64],
 ) -> StepTaken
+    requires { ⌜ (length (now next) ≡ runCells) × (length (now moved) ≡ runFaces) × (length (now work) ≡ workEntries runCells runFaces) ⌝ }
     ensures { λ r. ⌜ SteppedIn (meshOf cells faces (now (volumes .entry)) (now (firsts .entry)) (now (seconds .entry)) (now (shares .entry))
         (now (reaches .entry)))
-        (now (masses .entry)) (now (fluxes .entry)) (now (outsides .entry)) (now (releases .entry)) r (now (masses .exit)) ⌝ }
+        (now (masses .entry)) (now (fluxes .entry)) (now (outsides .entry)) (now (released .entry)) r (now (masses .exit)) ⌝ }
 {
-    let mut next = [0u64; RUN_CELLS];
-    let mut moved = [0i64; RUN_FACES];
-    let mut work = [0u64; RUN_WORK];
     let answer = transport::step(
         cells,
         faces,
@@ -43,10 +48,10 @@ fn stepped(
         masses,
         fluxes,
         outsides,
-        &mut next,
-        &mut moved,
-        &mut work,
-        releases,
+        next,
+        moved,
+        work,
+        released,
     );
     match answer {
         StepAnswer::Refused(refusal) => StepTaken::Refused(refusal),
@@ -62,7 +67,63 @@ fn stepped(
     }
 }
 
-// A step record on a mesh and a field, which are judged with it.
+// A step record on a mesh and a field, which are judged with it, in lent tables as long as the run's limits, whose entries are no matter.
+pub fn take_step_in(
+    width: Width,
+    cells: usize,
+    faces: usize,
+    bytes: &[u8],
+    volumes: &[u64],
+    firsts: &[u64],
+    seconds: &[u64],
+    shares: &[u64],
+    reaches: &[u64],
+    masses: &mut [u64],
+    fluxes: &mut [i64],
+    outsides: &mut [u64],
+    releases: &mut [u64],
+    next: &mut [u64],
+    moved: &mut [i64],
+    work: &mut [u64],
+) -> StepTaken
+    requires { ⌜ (length (now fluxes) ≡ runFaces) × (length (now outsides) ≡ runFaces) × (length (now releases) ≡ runCells) ⌝ }
+    requires { ⌜ (length (now next) ≡ runCells) × (length (now moved) ≡ runFaces) × (length (now work) ≡ workEntries runCells runFaces) ⌝ }
+    ensures { λ r. ⌜ StepTaking width (meshOf cells faces (now (volumes .entry)) (now (firsts .entry)) (now (seconds .entry)) (now (shares .entry))
+        (now (reaches .entry)))
+        (now (masses .entry)) (now (bytes .entry)) r (now (masses .exit)) ⌝ }
+{
+    let read = record_reading::read_step(
+        width,
+        cells,
+        faces,
+        seconds,
+        bytes,
+        fluxes,
+        outsides,
+        releases,
+    );
+    if let StepRead::Refused(refusal) = read {
+        return StepTaken::Refused(refusal);
+    }
+    stepped(
+        cells,
+        faces,
+        volumes,
+        firsts,
+        seconds,
+        shares,
+        reaches,
+        masses,
+        &fluxes[..faces],
+        &outsides[..faces],
+        &releases[..cells],
+        next,
+        moved,
+        work,
+    )
+}
+
+// The same in tables of its own.
 pub fn take_step(
     width: Width,
     cells: usize,
@@ -82,30 +143,25 @@ pub fn take_step(
     let mut fluxes = [0i64; RUN_FACES];
     let mut outsides = [0u64; RUN_FACES];
     let mut releases = [0u64; RUN_CELLS];
-    let read = record_reading::read_step(
+    let mut next = [0u64; RUN_CELLS];
+    let mut moved = [0i64; RUN_FACES];
+    let mut work = [0u64; RUN_WORK];
+    take_step_in(
         width,
         cells,
         faces,
-        seconds,
         bytes,
-        &mut fluxes,
-        &mut outsides,
-        &mut releases,
-    );
-    if let StepRead::Refused(refusal) = read {
-        return StepTaken::Refused(refusal);
-    }
-    stepped(
-        cells,
-        faces,
         volumes,
         firsts,
         seconds,
         shares,
         reaches,
         masses,
-        &fluxes[..faces],
-        &outsides[..faces],
-        &releases[..cells],
+        &mut fluxes,
+        &mut outsides,
+        &mut releases,
+        &mut next,
+        &mut moved,
+        &mut work,
     )
 }

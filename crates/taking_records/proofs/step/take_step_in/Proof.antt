@@ -1,34 +1,30 @@
--- `take_step`: the counted parts of the call's own tables are the fluxes, outside values and releases that were read.
-use mathlib.Core.Path.{refl}
+-- `take_step_in`: the counted parts of the lent tables are the fluxes, outside values and releases that were read.
 use borrow.Author.Needs.{needs}
 use Rattle.model.specs.Mesh.{Mesh, meshOf}
 use Rattle.model.proofs.Parts.{part-long}
 use Rattle.taking.proofs.StepLaws.{step-unread, fluxes-part, outsides-part, releases-part, step-took}
-use Rattle.taking_records.proofs.step.take_step.Statement.{statement}
-use Rattle.taking_records.proofs.step.take_step.Tie as tie
+use Rattle.taking_records.proofs.step.take_step_in.Statement.{statement}
+use Rattle.taking_records.proofs.step.take_step_in.Tie as tie
 
 abbrev mesh : tie.Start → Mesh
 mesh s = meshOf (s .args .cells) (s .args .faces) (s .args .volumes .now) (s .args .firsts .now) (s .args .seconds .now) (s .args .shares .now)
     (s .args .reaches .now)
 
-abbrev start : tie.After-slice-known → tie.Start
-start c = c .before .before .before .before .before .before .before
-
 abbrev begun : tie.After-read-step → tie.Start
-begun c = start (c .before .before .before .before)
+begun c = c .before .before .before .before .before .before .before .before .before .before .before .before .before .before .before
 
 -- where the record has been read, from where it is known to be accepted
 abbrev reading : tie.After-enum-told → tie.After-read-step
-reading c = c .before .before .before .before .before
+reading c = c .before .before .before .before .before .before .before
 
 returns : tie.Need-returns
 returns c =
-    let r = c .before .before .before .before .before .before in
+    let r = c .before .before .before .before .before .before .before .before in
     let s = begun r in
-    step-unread (s .args .width) (mesh s) (s .args .masses .now) (r .read-step .ensures) refl refl refl (c .before .read .given .1)
+    step-unread (s .args .width) (mesh s) (s .args .masses .now) (r .read-step .ensures) (s .pre .0 .0) (s .pre .0 .1) (s .pre .0 .2) (c .before .read .given .1)
 
-array-share-prefix-fluxes : tie.Need-array-share-prefix-fluxes
-array-share-prefix-fluxes c =
+slice-reshare-prefix-stepped : tie.Need-slice-reshare-prefix-stepped
+slice-reshare-prefix-stepped c =
     let t = c .before in
     let s = begun (reading t) in
     fluxes-part (s .args .width) (mesh s) (s .args .masses .now) (reading t .read-step .ensures) (t .enum-told .given .1) .fits
@@ -39,8 +35,8 @@ slice-aggregate-stepped c =
     let s = begun (reading t) in
     part-long (fluxes-part (s .args .width) (mesh s) (s .args .masses .now) (reading t .read-step .ensures) (t .enum-told .given .1))
 
-array-share-prefix-outsides : tie.Need-array-share-prefix-outsides
-array-share-prefix-outsides c =
+slice-reshare-prefix-stepped-2 : tie.Need-slice-reshare-prefix-stepped-2
+slice-reshare-prefix-stepped-2 c =
     let t = c .before .before in
     let s = begun (reading t) in
     outsides-part (s .args .width) (mesh s) (s .args .masses .now) (reading t .read-step .ensures) (t .enum-told .given .1) .fits
@@ -51,8 +47,8 @@ slice-aggregate-stepped-2 c =
     let s = begun (reading t) in
     part-long (outsides-part (s .args .width) (mesh s) (s .args .masses .now) (reading t .read-step .ensures) (t .enum-told .given .1))
 
-array-share-prefix-releases : tie.Need-array-share-prefix-releases
-array-share-prefix-releases c =
+slice-reshare-prefix-stepped-3 : tie.Need-slice-reshare-prefix-stepped-3
+slice-reshare-prefix-stepped-3 c =
     let t = c .before .before .before in
     let s = begun (reading t) in
     releases-part (s .args .width) (mesh s) (s .args .masses .now) (reading t .read-step .ensures) (t .enum-told .given .1) .fits
@@ -65,13 +61,14 @@ slice-aggregate-stepped-3 c =
 
 returns-2 : tie.Need-returns-2
 returns-2 c =
-    let u = c .before .before in
-    let t = u .before .before .before .before .before in
+    let u = c .before .before .before .before .before .before .before in
+    let t = u .before .before .before .before .before .before .before .before in
     let s = begun (reading t) in
-    step-took (s .args .width) (mesh s) (s .args .masses .now) (reading t .read-step .ensures) refl refl refl (t .enum-told .given .1) (u .stepped .ensures)
+    step-took (s .args .width) (mesh s) (s .args .masses .now) (reading t .read-step .ensures) (s .pre .0 .0) (s .pre .0 .1) (s .pre .0 .2)
+    (t .enum-told .given .1) (u .stepped .ensures)
 
-pub take-step-spec : {M : Type 1} → statement M
-take-step-spec =
+pub take-step-in-spec : {M : Type 1} → statement M
+take-step-in-spec =
     tie.close
     (tie.spec
     (search needs)
@@ -81,12 +78,18 @@ take-step-spec =
     (search needs)
     returns
     (search needs)
-    array-share-prefix-fluxes
+    slice-reshare-prefix-stepped
     slice-aggregate-stepped
-    array-share-prefix-outsides
+    slice-reshare-prefix-stepped-2
     slice-aggregate-stepped-2
-    array-share-prefix-releases
+    slice-reshare-prefix-stepped-3
     slice-aggregate-stepped-3
     (search needs)
-    (λ c. c .before .masses .given)
+    (search needs)
+    (search needs)
+    (search needs)
+    (search needs)
+    (search needs)
+    (search needs)
+    (search needs)
     returns-2)
