@@ -32,12 +32,9 @@ room : (s : tie.Start) {n : MeshCounts} → comes s n → let bs = s .args .byte
     (length (s .args .reaches .now))
 room s e = let k = says s e in mesh-room (s .args .bytes .now) (k .head .few-cells) (k .head .few-faces) (k .tables)
 
--- the start from where the tests were made, and that place from where the body was read
+-- the start from where the tests were made
 abbrev start : tie.After-mesh → tie.Start
 start c = c .before .before .before .before .before .before .before
-
-abbrev tested : tie.After-mesh2 → tie.After-mesh
-tested c = c .before .before .before .before .before .before .before .before .before .before
 
 -- the tests that passed, from where the answer is known
 passed : (c : tie.After-mesh) {n : MeshCounts} → c .mesh .result ≡ mesh.Read n → comes (start c) n
@@ -66,12 +63,13 @@ filled c = c .before .before .before .before .before .before .before .before .be
 
 returns-2 : tie.Need-returns-2
 returns-2 c =
-    let f = filled c in
-    let t = tested f in
-    let e = passed t (f .before .before .before .before .before .before .before .before .a .given .1) in
-    let k = says (start t) e in
-    mesh-accepted e (mesh-filled (start t .args .bytes .now)
-    (rw (k .counts-are, mesh-kind-is (kindIn (start t .args .bytes .now)) (k .head .kind)) at (f .mesh2 .ensures)))
+    let body = c .before .before .before .before .before .before .before .before .before .before in
+    let told = body .before .before .before .before .before .before .before .before in
+    let t = told .before .before in
+    let s = start t in
+    let e = sym (t .mesh .ensures) ∙ ap meshSaid (told .a .given .1) in
+    mesh-accepted e (mesh-filled (s .args .bytes .now)
+    (rw (says s e .counts-are, mesh-kind-is (kindIn (s .args .bytes .now)) (says s e .head .kind)) at (body .mesh2 .ensures)))
 
 -- the tables that were filled keep their lengths
 same-length : tie.Need-same-length
