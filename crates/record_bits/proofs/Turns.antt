@@ -4,6 +4,7 @@ use mathlib.Core.Path.{_≡_}
 use native.Mathlib.Omega.{arith}
 use mir.Val.{Fits}
 use mir.Syntax.{w64}
+use Rattle.record_bits.specs.Field.{widest}
 
 -- a field of w bits from bit `at` on, and the bytes that it touches
 module _ (at w : ℕ) (few : w ≤ 57) (some : 0 < w) where
@@ -37,7 +38,7 @@ module _ (at w : ℕ) (few : w ≤ 57) (some : 0 < w) where
     turns-few = omega arith
 
 -- `done` bits of it are written, and n more are: up to the end of a byte, or all that are left
-module _ (at w done n : ℕ) (turn : done < w) (few : w ≤ 40) (e : n ≡ min (8 - (at + done) % 8) (w - done)) where
+module _ (at w done n : ℕ) (turn : done < w) (few : w ≤ widest) (e : n ≡ min (8 - (at + done) % 8) (w - done)) where
   pub piece-fits : n ≤ w - done
   piece-fits = omega arith
 

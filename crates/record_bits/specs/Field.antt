@@ -11,3 +11,7 @@ bitAt bs i = getD bs (i / 8) 0 / 2 ^ (7 - i % 8) % 2
 unfoldable pub bitsAt : List ℕ → ℕ → ℕ → ℕ
 bitsAt bs at zero = 0
 bitsAt bs at (suc w) = 2 * bitsAt bs at w + bitAt bs (at + w)
+
+-- the widest field of a record
+abbrev pub widest : ℕ
+widest = 40

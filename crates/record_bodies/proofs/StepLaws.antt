@@ -10,7 +10,7 @@ use lib.ListN.{length}
 use Rattle.lists.specs.Table.{table}
 use Rattle.lists.proofs.Tables.{table-cong}
 use Rattle.signed.specs.Sign.{withSign}
-use Rattle.record_bits.specs.Field.{bitsAt}
+use Rattle.record_bits.specs.Field.{bitsAt, widest}
 use Rattle.record_sections.specs.Sections.{shapeBits, place, valueIn, columnIn}
 use Rattle.record_sections.proofs.Bodies.{column-is, column-room}
 use Rattle.record_layouts.specs.Layouts.{valueBits, fluxBits, outsideBits, releaseBits, isRim, rimFaces, stepBody}
@@ -40,7 +40,7 @@ module _ (body : List ℕ) (kind cells faces : ℕ) (seconds : List ℕ) where
   -- the releases, at the place and of the width that the code reckons
   module _ {p w : ℕ} (e : p ≡ faces * fluxBits kind + rimFaces seconds faces * outsideBits) (d : w ≡ releaseBits kind) where
     pub releases-ask : {m : ℕ} → 8 * length body < 2 ^ 64 → shapeBits (stepBody kind cells faces seconds) ≤ 8 * length body → cells ≤ m
-        → ((8 * length body < 2 ^ 64) × (w ≤ 40) × (cells ≤ m)) × ((i : ℕ) → i < cells → p + i * w + w ≤ 8 * length body)
+        → ((8 * length body < 2 ^ 64) × (w ≤ widest) × (cells ≤ m)) × ((i : ℕ) → i < cells → p + i * w + w ≤ 8 * length body)
     releases-ask small holds long =
         rw d ((small, omega (arith, release-wide kind, mass-most kind), long), λ i l. column-room (releases-at kind cells faces seconds e) holds i l)
 

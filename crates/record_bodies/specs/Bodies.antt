@@ -9,13 +9,14 @@ use Rattle.lists.specs.Table.{table, over}
 use Rattle.signed.specs.Sign.{withSign}
 use Rattle.record_sections.specs.Sections.{Section, shapeBits, valueIn, columnIn}
 use Rattle.record_bits.specs.Field.{bitsAt}
-use Rattle.record_layouts.specs.Layouts.{endBits, shareBits, faceBits, outsideBits, meshBody, stepBody}
+use Rattle.record_layouts.specs.declared.Width.the-variants.{Wide}
+use Rattle.record_layouts.specs.Layouts.{endBits, shareBits, valueOf, faceOf, faceBits, outsideBits, meshBody, stepBody}
 
 -- The faces of a mesh from bit `first` on, K of `value` bits: a body holds n of them, and the tables can take them.
 pub record FacesRoom (value : ℕ) (body : List ℕ) (first n firsts seconds shares reaches : ℕ) : Type 0 where
-  pub narrow : value ≤ 16
+  pub narrow : value ≤ valueOf Wide
   pub small : 8 * length body < 2 ^ 64
-  pub holds : (f : ℕ) → f < n → first + f * (32 + value) + (32 + value) ≤ 8 * length body
+  pub holds : (f : ℕ) → f < n → first + f * faceOf value + faceOf value ≤ 8 * length body
   pub firsts-long : n ≤ firsts
   pub seconds-long : n ≤ seconds
   pub shares-long : n ≤ shares
@@ -23,10 +24,10 @@ pub record FacesRoom (value : ℕ) (body : List ℕ) (first n firsts seconds sha
 
 -- the tables hold n of them
 pub record FacesFilled (value : ℕ) (bs : List ℕ) (first n : ℕ) (firsts seconds shares reaches firsts′ seconds′ shares′ reaches′ : List ℕ) : Type 0 where
-  pub firsts-in : firsts′ ≡ over (table n (λ f. bitsAt bs (first + f * (32 + value)) endBits)) firsts
-  pub seconds-in : seconds′ ≡ over (table n (λ f. bitsAt bs (first + endBits + f * (32 + value)) endBits)) seconds
-  pub shares-in : shares′ ≡ over (table n (λ f. bitsAt bs (first + endBits + endBits + f * (32 + value)) shareBits)) shares
-  pub reaches-in : reaches′ ≡ over (table n (λ f. bitsAt bs (first + endBits + endBits + shareBits + f * (32 + value)) value)) reaches
+  pub firsts-in : firsts′ ≡ over (table n (λ f. bitsAt bs (first + f * faceOf value) endBits)) firsts
+  pub seconds-in : seconds′ ≡ over (table n (λ f. bitsAt bs (first + endBits + f * faceOf value) endBits)) seconds
+  pub shares-in : shares′ ≡ over (table n (λ f. bitsAt bs (first + endBits + endBits + f * faceOf value) shareBits)) shares
+  pub reaches-in : reaches′ ≡ over (table n (λ f. bitsAt bs (first + endBits + endBits + shareBits + f * faceOf value) value)) reaches
 
 -- a mesh's body holds what its tables are to take
 pub record MeshRoom (kind cells faces : ℕ) (body : List ℕ) (volumes firsts seconds shares reaches : ℕ) : Type 0 where

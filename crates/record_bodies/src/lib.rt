@@ -57,7 +57,8 @@ pub fn mesh(
     shares: &mut [u64],
     reaches: &mut [u64],
 )
-    requires { ⌜ MeshRoom (meshKind width) cells faces (now body) (length (now volumes)) (length (now firsts)) (length (now seconds)) (length (now shares)) (length (now reaches)) ⌝ }
+    requires { ⌜ MeshRoom (meshKind width) cells faces (now body)
+        (length (now volumes)) (length (now firsts)) (length (now seconds)) (length (now shares)) (length (now reaches)) ⌝ }
     ensures { λ _. ⌜ MeshFilled (now (body .entry)) (meshBody (meshKind width) cells faces) 0
         (now (volumes .entry)) (now (firsts .entry)) (now (seconds .entry)) (now (shares .entry)) (now (reaches .entry))
         (now (volumes .exit)) (now (firsts .exit)) (now (seconds .exit)) (now (shares .exit)) (now (reaches .exit)) ⌝ }

@@ -15,12 +15,12 @@ use Rattle.model.specs.Answers.{said}
 use Rattle.model.specs.declared.Answer.{Answer}
 use Rattle.model.specs.declared.Answer.the-variants.{Done}
 use Rattle.model.proofs.Verdicts.{all-fine, fine-all, need-fine, need-met, long-fine, passes}
-use Rattle.record_bits.specs.Field.{bitsAt}
+use Rattle.record_bits.specs.Field.{bitsAt, widest}
 use Rattle.record_bits.specs.Layout.{bytesFor}
 use Rattle.record_layouts.specs.Layouts.{fieldKind}
 use Rattle.record_layouts.specs.declared.Width.{Width}
 use Rattle.record_heads.specs.declared.MeshLength.{MeshLength}
-use Rattle.record_reader.specs.Numbers.{widest, furthest, numberAt, spelledNumber}
+use Rattle.record_reader.specs.Numbers.{furthest, numberAt, spelledNumber}
 use Rattle.record_heads.specs.Heads.{kindIn, cellsIn, facesIn, stepFacesIn, isMeshKind, isStepKind, meshHeadCauses, fieldHeadCauses, stepHeadCauses, meshHeadVerdict, fieldHeadVerdict, stepHeadVerdict, bytesOf}
 
 -- a field that the record holds is read as its bits spell

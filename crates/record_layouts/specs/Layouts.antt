@@ -99,8 +99,11 @@ fieldHeadBits = kindBits + cellsBits
 abbrev pub stepHeadBits : ℕ
 stepHeadBits = kindBits + facesBits + stepZeroBits
 
+abbrev pub faceOf : ℕ → ℕ
+faceOf value = endBits + endBits + shareBits + value
+
 abbrev pub faceBits : ℕ → ℕ
-faceBits kind = endBits + endBits + shareBits + valueBits kind
+faceBits kind = faceOf (valueBits kind)
 
 abbrev pub fluxBits : ℕ → ℕ
 fluxBits kind = signBits + valueBits kind

@@ -22,7 +22,7 @@ impl Body {
     pub const SHARE: usize = 8;
 
     // One face of a mesh, but for K.
-    pub const ENDS_AND_SHARE: usize = 32;
+    pub const ENDS_AND_SHARE: usize = 2 * Body::END + Body::SHARE;
 
     pub const SIGN: usize = 1;
 

@@ -9,11 +9,11 @@ ghost use Rattle.model.specs.Mesh.{maxCells, maxFaces};
 ghost use Rattle.record_layouts.specs.Layouts.{meshKind, fieldKind, kindNumber, outsideBits, valueOf, massWidth, releaseBits, meshBits, stepBits, meshLength, fieldLength, stepLength};
 
 // A head in bytes.
-pub const MESH_HEAD: usize = 4;
+pub const MESH_HEAD: usize = (crate::KIND + crate::CELLS + crate::FACES + crate::MESH_ZEROS) / 8;
 
-pub const FIELD_HEAD: usize = 2;
+pub const FIELD_HEAD: usize = (crate::KIND + crate::CELLS) / 8;
 
-pub const STEP_HEAD: usize = 4;
+pub const STEP_HEAD: usize = (crate::KIND + crate::FACES + crate::STEP_ZEROS) / 8;
 
 // The bits of V, of K and of the size of U.
 pub fn value_width(width: Width) -> usize

@@ -41,7 +41,8 @@ pub fn mesh(
 ) -> usize
     requires { ⌜ MeshWhole (meshKind width) (meshOf cells faces (now volumes) (now firsts) (now seconds) (now shares) (now reaches)) (now bytes) ⌝ }
     ensures { λ r. ⌜ Wrote (now (bytes .entry))
-        (meshRecord (meshKind width) (meshOf cells faces (now (volumes .entry)) (now (firsts .entry)) (now (seconds .entry)) (now (shares .entry)) (now (reaches .entry))))
+        (meshRecord (meshKind width) (meshOf cells faces
+        (now (volumes .entry)) (now (firsts .entry)) (now (seconds .entry)) (now (shares .entry)) (now (reaches .entry))))
         (meshLength (meshKind width) cells faces) (now (bytes .exit)) r ⌝ }
 {
     let kind = record_layouts::of_width(width, MESH_KIND);
@@ -88,7 +89,8 @@ fn put_masses(bytes: &mut [u8], width: Width, cells: usize, masses: &[u64])
 
 pub fn field(width: Width, cells: usize, masses: &[u64], bytes: &mut [u8]) -> usize
     requires { ⌜ FieldWhole (fieldKind width) cells (now masses) (now bytes) ⌝ }
-    ensures { λ r. ⌜ Wrote (now (bytes .entry)) (fieldRecord (fieldKind width) cells (now (masses .entry))) (fieldLength (fieldKind width) cells) (now (bytes .exit)) r ⌝ }
+    ensures { λ r. ⌜ Wrote (now (bytes .entry)) (fieldRecord (fieldKind width) cells (now (masses .entry)))
+        (fieldLength (fieldKind width) cells) (now (bytes .exit)) r ⌝ }
 {
     let kind = record_layouts::of_width(width, FIELD_KIND);
     let mass = lengths::mass_width(width);

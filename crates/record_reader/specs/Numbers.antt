@@ -4,15 +4,12 @@ use mathlib.Core.Bool.{Bool, true, false, _&&_}
 use mathlib.Core.List.{List}
 use lib.ListN.{length}
 use lib.Dec.{leb}
-use Rattle.record_bits.specs.Field.{bitsAt}
+use Rattle.record_bits.specs.Field.{bitsAt, widest}
 use Rattle.record_bits.specs.Layout.{bytesFor}
 use Rattle.record_reader.specs.declared.Spelled.{Spelled}
 use Rattle.record_reader.specs.declared.Spelled.the-variants.{Number, Past}
 
--- the widest field that is read at once, and the furthest bit that a reader goes to
-abbrev pub widest : ℕ
-widest = 40
-
+-- the furthest bit that a reader goes to
 abbrev pub furthest : ℕ
 furthest = 4294967296
 

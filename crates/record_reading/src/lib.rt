@@ -40,7 +40,8 @@ pub fn read_mesh(
 ) -> MeshAnswer
     ensures { λ r. ⌜ MeshReading
         (meshRead «most_cells» «most_faces» (now (bytes .entry))
-        (length (now (volumes .entry))) (length (now (firsts .entry))) (length (now (seconds .entry))) (length (now (shares .entry))) (length (now (reaches .entry))))
+        (length (now (volumes .entry))) (length (now (firsts .entry))) (length (now (seconds .entry)))
+        (length (now (shares .entry))) (length (now (reaches .entry))))
         (now (bytes .entry))
         (now (volumes .entry)) (now (firsts .entry)) (now (seconds .entry)) (now (shares .entry)) (now (reaches .entry))
         r

@@ -42,7 +42,8 @@ fn mesh_body(
     shares: usize,
     reaches: usize,
 ) -> Answer
-    requires { ⌜ (cells ≡ cellsIn (now bytes)) × (faces ≡ facesIn (now bytes)) × (cells ≤ maxCells) × (faces ≤ maxFaces) × (meshKind width ≡ kindIn (now bytes)) ⌝ }
+    requires { ⌜ (cells ≡ cellsIn (now bytes)) × (faces ≡ facesIn (now bytes)) × (cells ≤ maxCells) × (faces ≤ maxFaces)
+        × (meshKind width ≡ kindIn (now bytes)) ⌝ }
     ensures { λ r. ⌜ said r ≡ meshBodyVerdict (now (bytes .entry)) volumes firsts seconds shares reaches ⌝ }
 {
     let end = lengths::mesh_bits(width, cells, faces);

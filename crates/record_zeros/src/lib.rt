@@ -115,7 +115,8 @@ pub fn mesh(bytes: &[u8], end: usize) -> Answer
 // A size has so many bits.
 pub fn step(bytes: &[u8], faces: usize, end: usize, value: usize) -> Answer
     requires { ⌜ (8 * length (now bytes) < 2 ^ 64) × (stepHeadBits + faces * (signBits + value) ≤ end) × (end ≤ 8 * length (now bytes)) × (value ≤ 16) ⌝ }
-    ensures { λ r. ⌜ said r ≡ each 12 (8 * length (now (bytes .entry))) (λ i. zeroBitGood (now (bytes .entry)) stepZeroBits stepHeadBits end i && not (minusZero (now (bytes .entry)) value faces i)) ⌝ }
+    ensures { λ r. ⌜ said r ≡ each 12 (8 * length (now (bytes .entry)))
+        (λ i. zeroBitGood (now (bytes .entry)) stepZeroBits stepHeadBits end i && not (minusZero (now (bytes .entry)) value faces i)) ⌝ }
 {
     let head = 8 * lengths::STEP_HEAD;
     let a = first_set(bytes, head - record_layouts::STEP_ZEROS, head);

@@ -63,7 +63,8 @@ fn name_fits(name: u64, good: bool) -> bool
 // Causes 13, 15 and 16.
 pub fn is_new(cells: usize, store: &[u64], name: u64) -> Answer
     requires { ⌜ (1 ≤ length (now store)) × (cells ≤ maxCells) ⌝ }
-    ensures { λ r. ⌜ said r ≡ (countGood cells (now (store .entry)) andThen nameNew cells (now (store .entry)) name andThen roomLeft cells (now (store .entry)) name) ⌝ }
+    ensures { λ r. ⌜ said r ≡ (countGood cells (now (store .entry)) andThen nameNew cells (now (store .entry)) name
+        andThen roomLeft cells (now (store .entry)) name) ⌝ }
 {
     let a = need(Cause::Head, 1, count_fits(cells, store));
     if let Answer::Refused(r) = a {
@@ -99,7 +100,8 @@ pub fn is_kept(cells: usize, store: &[u64], name: u64) -> Answer
 // Where the masses kept under a name begin.
 pub fn masses_of(cells: usize, store: &[u64], name: u64) -> usize
     requires { ⌜ (cells ≤ maxCells) × (usedOf cells (count (now store)) ≤ length (now store)) × (isKept name (fieldsIn cells (now store)) ≡ true) ⌝ }
-    ensures { λ r. ⌜ (r + cells ≤ length (now (store .entry))) × (front cells (rest r (now (store .entry))) ≡ heldUnder name (fieldsIn cells (now (store .entry)))) ⌝ }
+    ensures { λ r. ⌜ (r + cells ≤ length (now (store .entry)))
+        × (front cells (rest r (now (store .entry))) ≡ heldUnder name (fieldsIn cells (now (store .entry)))) ⌝ }
 {
     let i = before(cells, store, name);
     used(cells, i) + 1

@@ -1,3 +1,4 @@
+-- The quotient rounded up, as the definition says it.
 use mathlib.Core.Path.{refl}
 use borrow.Author.Needs.{needs}
 use Rattle.page.specs.Page.{pages}

@@ -1,3 +1,4 @@
+-- The lesser of what is left and of a page: the contract of `least` is the definition.
 use borrow.Author.Needs.{needs}
 use Rattle.page_lines.specs.Lines.{cellsOn}
 use Rattle.page_lines.proofs.cells_on.Statement.{statement}

@@ -1,3 +1,4 @@
+-- A line for an open cell, none for a withheld one: each branch excludes the other case.
 use mathlib.Core.Path.{refl, sym, _∙_}
 use mathlib.Core.Bool.{true≢false}
 use borrow.Author.Needs.{needs}

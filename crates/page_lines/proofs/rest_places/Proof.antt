@@ -1,3 +1,4 @@
+-- The largest volume decides between the two widths of a rest, and both are few places.
 use native.Mathlib.Omega.{arith}
 use borrow.Author.Needs.{needs}
 use borrow.Author.Tests.{le-leb, lt-leb}

@@ -1,3 +1,4 @@
+-- Seven bits more and whole bytes of that, as the definition says it.
 use mathlib.Core.Path.{refl}
 use borrow.Author.Needs.{needs}
 use Rattle.record_bits.specs.Layout.{bytesFor}

@@ -1,3 +1,4 @@
+-- The bytes before make room for one more (`joined-room`), so that neither product nor sum wraps; then they spell one byte more (`bits-more`).
 use Prim.Native.Nat.{_+_}
 use native.Mathlib.Omega.{arith}
 use borrow.Author.Needs.{needs}

@@ -1,3 +1,4 @@
+-- A quotient and a remainder by powers of two, which are not 0.
 use borrow.Author.Needs.{needs}
 use lib.Pow.{pow-pos}
 use Rattle.record_bits.proofs.part.Statement.{statement}

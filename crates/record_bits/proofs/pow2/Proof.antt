@@ -1,3 +1,4 @@
+-- A shift of 1 by fewer than 64 bits loses nothing.
 use borrow.Author.Needs.{needs}
 use native.Mathlib.Nat.{one-mul, mod-eq-of-lt}
 use lib.Pow.{pow-lt}

@@ -1,3 +1,4 @@
+-- One byte is changed, and its bits are those of `put-byte`.
 use lib.ListN.{length-set}
 use Rattle.record_bits.proofs.Puts.{put-byte}
 use borrow.Author.Needs.{needs}

@@ -1,12 +1,12 @@
 -- Each column is read at its place of the body: `column-is` says that it is the section's.
-use Prim.Native.Nat.{ℕ, _+_, _*_, _≤_, _<_}
+use Prim.Native.Nat.{ℕ, _+_, _*_, _^_, _≤_, _<_}
 use mathlib.Core.Path.{_≡_, refl, sym, ap, _∙_}
 use mathlib.Core.List.{List}
 use native.Mathlib.Omega.{arith}
 use borrow.Author.Needs.{needs}
 use lib.ListN.{length}
 use Rattle.lists.specs.Table.{table, over}
-use Rattle.record_bits.specs.Field.{bitsAt}
+use Rattle.record_bits.specs.Field.{bitsAt, widest}
 use Rattle.record_sections.specs.Sections.{Section, columnIn}
 use Rattle.record_sections.proofs.Bodies.{Column, column-is, column-room}
 use Rattle.record_layouts.specs.Layouts.{meshKind, endBits, shareBits, valueBits, faceBits, meshBody}
@@ -21,13 +21,13 @@ abbrev shape : tie.Start → List Section
 shape s = meshBody (kind s) (s .args .cells) (s .args .faces)
 
 -- what a column asks of the body and of its table
-asks : (s : tie.Start) {k j n first stride w m : ℕ} → Column (shape s) k j n first stride w → w ≤ 40 → n ≤ m
-    → ((8 * length (s .args .body .now) < 18446744073709551616) × (w ≤ 40) × (n ≤ m))
+asks : (s : tie.Start) {k j n first stride w m : ℕ} → Column (shape s) k j n first stride w → w ≤ widest → n ≤ m
+    → ((8 * length (s .args .body .now) < 2 ^ 64) × (w ≤ widest) × (n ≤ m))
     × ((i : ℕ) → i < n → first + i * stride + w ≤ 8 * length (s .args .body .now))
 asks s c l e = ((omega (arith, s .pre .small), l, e), λ i h. column-room c (s .pre .holds) i h)
 
 -- the places do not wrap: the body holds what they reach
-within : (s : tie.Start) → s .args .cells * valueBits (kind s) + faceBits (kind s) < 18446744073709551616
+within : (s : tie.Start) → s .args .cells * valueBits (kind s) + faceBits (kind s) < 2 ^ 64
 within s = let p = s .pre in omega (arith, p .small, p .holds)
 
 taken : (s : tie.Start) {k j n first stride w : ℕ} → Column (shape s) k j n first stride w → (ys : List ℕ) {zs : List ℕ}
@@ -42,7 +42,7 @@ start c = c .before .before .before .before .before .before .before
 value-is : (c : tie.After-value-width) → c .value-width .result ≡ valueBits (kind (start c))
 value-is c = c .value-width .ensures ∙ sym (mesh-value (start c .args .width))
 
-value-small : (c : tie.After-value-width) → valueBits (kind (start c)) ≤ 40
+value-small : (c : tie.After-value-width) → valueBits (kind (start c)) ≤ widest
 value-small c = omega (arith, value-most (kind (start c)))
 
 read-column-requires : tie.Need-read-column-requires
@@ -74,17 +74,17 @@ read-faces-requires c κs =
 
 returns : tie.Need-returns
 returns c =
-    let p1 = c .before .before .before .before .before .before .before .before in
-    let p2 = p1 .before .before .before .before .before .before .before in
-    let v = p2 .before .before in
+    let faces = c .before .before .before .before .before .before .before .before in
+    let volumes = faces .before .before .before .before .before .before .before in
+    let v = volumes .before .before in
     let s = start v in
     let k = kind s in
     let n = s .args .cells in
     let f = s .args .faces in
     let at = n * valueBits k in
-    let read = rw (value-is v) at (p1 .read-faces .ensures) in
+    let read = rw (value-is v) at (faces .read-faces .ensures) in
     record {
-      volumes-full = taken s (volumes-at k n f) (s .args .volumes .now) (rw (value-is v) at (p2 .read-column .ensures));
+      volumes-full = taken s (volumes-at k n f) (s .args .volumes .now) (rw (value-is v) at (volumes .read-column .ensures));
       firsts-full = taken s (firsts-at k n f {p = at} refl) (s .args .firsts .now) (read .firsts-in);
       seconds-full = taken s (seconds-at k n f {p = at + endBits} refl) (s .args .seconds .now) (read .seconds-in);
       shares-full = taken s (shares-at k n f {p = at + endBits + endBits} refl) (s .args .shares .now) (read .shares-in);

@@ -7,6 +7,7 @@ use Rattle.lists.proofs.Turns.{turn-within, turn-less, turn-in, turn-in-same, t
 use Rattle.lists.proofs.Tables.{over-start, over-step}
 use Rattle.record_sections.proofs.Columns.{over-whole}
 use Rattle.record_sections.proofs.Turns.{place-small, offset-fits, place-fits}
+use Rattle.record_layouts.specs.Layouts.{faceOf}
 use Rattle.record_bodies.specs.Bodies.{FacesFilled}
 use Rattle.record_bodies.proofs.Rows.{row-is}
 use Rattle.record_bodies.proofs.read_faces.Statement.{statement}
@@ -25,11 +26,11 @@ start c = c .before .before .before .before .before .before .before
 
 -- the face is in the record
 face-in : (c : tie.In-loop Inv-loop μ-loop) → let s = start c in
-    s .args .first + c .before .loop .f * (32 + s .args .value) + (32 + s .args .value) ≤ 8 * length (s .args .body .now)
+    s .args .first + c .before .loop .f * faceOf (s .args .value) + faceOf (s .args .value) ≤ 8 * length (s .args .body .now)
 face-in c = start c .pre .holds (c .before .loop .f) (c .loop-test .taken)
 
 face-small : (c : tie.In-loop Inv-loop μ-loop) → let s = start c in
-    s .args .first + c .before .loop .f * (32 + s .args .value) + (32 + s .args .value) < 2 ^ 64
+    s .args .first + c .before .loop .f * faceOf (s .args .value) + faceOf (s .args .value) < 2 ^ 64
 face-small c = place-small (face-in c) (start c .pre .small)
 
 loop-holds : tie.Need-loop-holds Inv-loop μ-loop

@@ -1,3 +1,4 @@
+-- The lesser of each limit and the paper's, then cause 1 by the call that judges counts.
 use borrow.Author.Needs.{needs}
 use Rattle.record_heads.proofs.counts_within.Statement.{statement}
 use Rattle.record_heads.proofs.counts_within.Tie as tie

@@ -1,3 +1,4 @@
+-- A field that the record does not hold counts as 0, in the definition as in the code.
 use mathlib.Core.Path.{sym, ap, _∙_}
 use borrow.Author.Needs.{needs}
 use Rattle.record_reader.specs.Numbers.{spelledNumber}

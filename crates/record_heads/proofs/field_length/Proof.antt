@@ -1,3 +1,4 @@
+-- A head that passed says a count within the limits, so the length can be summed up.
 use mathlib.Core.Path.{sym}
 use borrow.Author.Needs.{needs}
 use Rattle.model.proofs.Verdicts.{past, out, refuses, passes}

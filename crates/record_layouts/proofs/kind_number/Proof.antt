@@ -1,3 +1,4 @@
+-- Each kind of a step by that of its narrow record.
 use borrow.Author.Needs.{needs}
 use Rattle.record_layouts.proofs.kind_number.Statement.{statement}
 use Rattle.record_layouts.proofs.kind_number.Tie as tie

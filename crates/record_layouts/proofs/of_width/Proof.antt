@@ -1,3 +1,4 @@
+-- Each width by its case of the definition.
 use borrow.Author.Needs.{needs}
 use Rattle.record_layouts.proofs.of_width.Statement.{statement}
 use Rattle.record_layouts.proofs.of_width.Tie as tie

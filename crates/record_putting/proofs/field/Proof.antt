@@ -1,18 +1,16 @@
 -- As the mesh is put: field by field of the head, then the column of masses.
 use Prim.Native.Nat.{ℕ, _+_, _*_}
-use mathlib.Core.Path.{_≡_, refl, sym, ap, _∙_}
+use mathlib.Core.Path.{_≡_, refl, sym, _∙_}
 use mathlib.Core.Bool.{Bool}
 use mathlib.Core.List.{List}
 use native.Mathlib.Omega.{arith}
 use borrow.Author.Needs.{needs}
-use Rattle.record_bits.specs.Layout.{bytesFor}
-use Rattle.record_bits.proofs.Layouts.{bytes-hold}
 use Rattle.record_sections.specs.Sections.{Section, Values, shapeBits}
-use Rattle.record_sections.proofs.Columns.{Written, none, and, written-none, written-all}
+use Rattle.record_sections.proofs.Columns.{Written, none, and, written-none}
 use Rattle.record_sections.proofs.Bodies.{column-small, column-written, head-written}
 use Rattle.record_layouts.specs.Layouts.{fieldKind, kindBits, cellsBits, massBits, fieldHeadBits, fieldShape, fieldValue, fieldLength, fieldRecord}
 use Rattle.record_layouts.proofs.Layouts.{mass-most, field-mass, field-some, field-most, field-kind-in, field-cells-in, masses-in}
-use Rattle.record_putting.proofs.PutLaws.{Room, field-asks, column-asks}
+use Rattle.record_putting.proofs.PutLaws.{Room, field-asks, column-asks, pad-asks, put-whole}
 use Rattle.record_putting.proofs.field.Statement.{statement}
 use Rattle.record_putting.proofs.field.Tie as tie
 
@@ -36,12 +34,9 @@ holds s =
     record {
       short = omega arith;
       some = field-some (kind s) (s .args .cells);
-      held = omega (arith, bytes-hold (shapeBits (shape s)), s .pre .enough);
+      enough = s .pre .enough;
       small = omega (arith, most);
     }
-
-ends : (s : tie.Start) → fieldHeadBits + s .args .cells * massBits (kind s) ≡ shapeBits (shape s)
-ends s = omega arith
 
 -- the start from where the first field of the head is put, and that place from each later one
 abbrev reckoned : tie.After-mass-width → tie.Start
@@ -56,6 +51,13 @@ start c = reckoned (from-mass c)
 -- the width of a mass is the kind's
 mass-is : (c : tie.After-mass-width) → c .mass-width .result ≡ massBits (kind (reckoned c))
 mass-is c = c .mass-width .ensures ∙ sym (field-mass (reckoned c .args .width))
+
+-- the bit after the last mass
+last : (s : tie.Start) {mass : ℕ} → mass ≡ massBits (kind s) → fieldHeadBits + s .args .cells * mass ≡ shapeBits (shape s)
+last s e = rw e (omega arith)
+
+ends : (c : tie.After-mass-width) → fieldHeadBits + reckoned c .args .cells * c .mass-width .result ≡ shapeBits (shape (reckoned c))
+ends c = last (reckoned c) (mass-is c)
 
 abbrev from-two : tie.After-write-bits2 → tie.After-write-bits
 from-two c = c .before .before .before .before
@@ -104,42 +106,30 @@ put-masses-requires c κs =
     rw (← field-mass (s .args .width)) (asked .0 .2, asked .1 .0, asked .1 .1)
 
 mul-pad : tie.Need-mul-pad
-mul-pad c =
-    let m = from-mass (from-three (c .before .before .before)) in
-    rw (mass-is m) (omega (arith, ends (reckoned m), holds (reckoned m) .small))
+mul-pad c = let m = from-mass (from-three (c .before .before .before)) in omega (arith, ends m, holds (reckoned m) .small)
 
 add-pad : tie.Need-add-pad
-add-pad c =
-    let m = from-mass (from-three (c .before .before .before)) in
-    rw (mass-is m) (omega (arith, ends (reckoned m), holds (reckoned m) .small))
+add-pad c = let m = from-mass (from-three (c .before .before .before)) in omega (arith, ends m, holds (reckoned m) .small)
 
 pad-requires : tie.Need-pad-requires
-unfolding fieldLength
 pad-requires c κs =
-    let p1 = c .before .before .before in
-    let s = start (from-three p1) in
-    rw (mass-is (from-mass (from-three p1)), ends s) (rw (three p1 .same-length) (s .pre .enough), omega (arith, holds s .small))
+    let put = c .before .before .before in
+    let f = from-three put in
+    pad-asks (holds (start f)) (three put) (ends (from-mass f))
 
 same-length : tie.Need-same-length
 same-length c =
-    let p1 = c .before .before in
-    let p2 = p1 .before .before .before .before in
-    p1 .pad .ensures .1 .same-length ∙ three p2 .same-length
+    let padded = c .before .before in
+    padded .pad .ensures .1 .same-length ∙ three (padded .before .before .before .before) .same-length
 
 returns : tie.Need-returns
 unfolding fieldLength fieldRecord
 returns c =
-    let p1 = c .before .before in
-    let p2 = p1 .before .before .before .before in
-    let f = from-three p2 in
-    let s = start f in
-    let e = ends s in
-    record {
-      takes = (rw (mass-is (from-mass f)) at (p1 .pad .ensures .0)) ∙ ap bytesFor e;
-      written = written-all (shape s) (value s) (three p2) refl e (rw e (omega (arith, bytes-hold (shapeBits (shape s))))) (s .pre .enough)
-          (λ j. omega (arith, f .before .before .before .before .slice-known .given j)) (λ j. omega (arith, c .slice-known5 .given j))
-          (rw (mass-is (from-mass f)) at (p1 .pad .ensures .1));
-    }
+    let padded = c .before .before in
+    let put = padded .before .before .before .before in
+    let f = from-three put in
+    put-whole (holds (start f)) (three put) (ends (from-mass f)) refl
+    (λ j. omega (arith, f .before .before .before .before .slice-known .given j)) (λ j. omega (arith, c .slice-known5 .given j)) (padded .pad .ensures)
 
 pub field-spec : {M : Type 1} → statement M
 field-spec = tie.close (tie.spec (search needs) (search needs) write-bits-requires write-bits-requires-2 put-masses-requires mul-pad add-pad pad-requires

@@ -1,21 +1,20 @@
 -- Head field by head field and column by column: each puts bits as the record has them (`head-written`, `column-written`), and when every
--- column is put the bytes hold the record (`written-all`).
+-- column is put the bytes hold the record (`put-whole`).
 use Prim.Native.Nat.{ℕ, _+_, _*_, _≤_}
-use mathlib.Core.Path.{_≡_, refl, sym, ap, _∙_}
+use mathlib.Core.Path.{_≡_, refl, sym, _∙_}
 use mathlib.Core.Bool.{Bool}
 use mathlib.Core.List.{List}
 use native.Mathlib.Nat.{mul-le-mul}
 use native.Mathlib.Omega.{arith}
 use borrow.Author.Needs.{needs}
-use Rattle.model.specs.Mesh.{Mesh, meshOf}
-use Rattle.record_bits.specs.Layout.{bytesFor}
-use Rattle.record_bits.proofs.Layouts.{bytes-hold}
+use Rattle.model.specs.Mesh.{Mesh, meshOf, maxCells}
 use Rattle.record_sections.specs.Sections.{Section, Values, shapeBits}
-use Rattle.record_sections.proofs.Columns.{Written, none, and, written-none, written-all}
+use Rattle.record_sections.proofs.Columns.{Written, none, and, written-none}
 use Rattle.record_sections.proofs.Bodies.{column-small, column-written, head-written}
-use Rattle.record_layouts.specs.Layouts.{kindBits, cellsBits, facesBits, meshZeroBits, meshKind, valueBits, faceBits, meshHeadBits, meshShape, meshValue, meshLength, meshRecord}
+use Rattle.record_layouts.specs.Layouts.{kindBits, cellsBits, facesBits, meshZeroBits, faceOf, meshKind, valueOf, valueBits, meshHeadBits, meshShape, meshValue, meshLength, meshRecord}
+use Rattle.record_layouts.specs.declared.Width.the-variants.{Wide}
 use Rattle.record_layouts.proofs.Layouts.{value-most, mesh-value, mesh-some, mesh-most, mesh-kind-in, mesh-cells-in, mesh-faces-in, mesh-zeros-in, volumes-in, firsts-in, seconds-in, shares-in, reaches-in}
-use Rattle.record_putting.proofs.PutLaws.{Room, field-asks, column-asks}
+use Rattle.record_putting.proofs.PutLaws.{Room, field-asks, column-asks, pad-asks, put-whole}
 use Rattle.record_putting.proofs.mesh.Statement.{statement}
 use Rattle.record_putting.proofs.mesh.Tie as tie
 
@@ -43,12 +42,9 @@ holds s =
     record {
       short = omega arith;
       some = mesh-some (kind s) (s .args .cells) (s .args .faces);
-      held = omega (arith, bytes-hold (shapeBits (shape s)), s .pre .enough);
+      enough = s .pre .enough;
       small = omega (arith, most);
     }
-
-ends : (s : tie.Start) → meshHeadBits + s .args .cells * valueBits (kind s) + s .args .faces * faceBits (kind s) ≡ shapeBits (shape s)
-ends s = omega arith
 
 abbrev Head : ℕ → ℕ → Bool
 Head = and (and (and (and none 0 0) 0 1) 0 2) 0 3
@@ -67,8 +63,17 @@ start c = reckoned (from-value c)
 value-is : (c : tie.After-value-width) → c .value-width .result ≡ valueBits (kind (reckoned c))
 value-is c = c .value-width .ensures ∙ sym (mesh-value (reckoned c .args .width))
 
-small : (s : tie.Start) → (valueBits (kind s) ≤ 16) × (s .args .cells * valueBits (kind s) ≤ 4095 * 16)
+small : (s : tie.Start) → (valueBits (kind s) ≤ valueOf Wide) × (s .args .cells * valueBits (kind s) ≤ maxCells * valueOf Wide)
 small s = (value-most (kind s), mul-le-mul (s .pre .few-cells) (value-most (kind s)))
+
+-- the bit after the last face
+last : (s : tie.Start) {w : ℕ} → w ≡ valueBits (kind s)
+    → meshHeadBits + s .args .cells * w + s .args .faces * faceOf w ≡ shapeBits (shape s)
+last s e = rw e (omega arith)
+
+ends : (c : tie.After-value-width) → let s = reckoned c in let w = c .value-width .result in
+    meshHeadBits + s .args .cells * w + s .args .faces * faceOf w ≡ shapeBits (shape s)
+ends c = last (reckoned c) (value-is c)
 
 add-face : tie.Need-add-face
 add-face c = rw (value-is c) (omega (arith, small (reckoned c)))
@@ -232,44 +237,30 @@ put-column-requires-5 c κs =
     (s .args .reaches .now) (omega (arith, small s)) (s .pre .lent .reaches-long) (λ i l. refl))
 
 mul-pad : tie.Need-mul-pad
-mul-pad c =
-    let v = from-value (from-nine (c .before .before .before)) in
-    let s = reckoned v in
-    rw (value-is v) (omega (arith, ends s, holds s .small))
+mul-pad c = let v = from-value (from-nine (c .before .before .before)) in omega (arith, ends v, holds (reckoned v) .small)
 
 add-pad : tie.Need-add-pad
-add-pad c =
-    let v = from-value (from-nine (c .before .before .before)) in
-    let s = reckoned v in
-    rw (value-is v) (omega (arith, ends s, holds s .small))
+add-pad c = let v = from-value (from-nine (c .before .before .before)) in omega (arith, ends v, holds (reckoned v) .small)
 
 pad-requires : tie.Need-pad-requires
-unfolding meshLength
 pad-requires c κs =
-    let p1 = c .before .before .before in
-    let s = start (from-nine p1) in
-    rw (value-is (from-value (from-nine p1)), ends s) (rw (nine p1 .same-length) (s .pre .enough), omega (arith, holds s .small))
+    let put = c .before .before .before in
+    let f = from-nine put in
+    pad-asks (holds (start f)) (nine put) (ends (from-value f))
 
 same-length : tie.Need-same-length
 same-length c =
-    let p1 = c .before .before in
-    let p2 = p1 .before .before .before .before in
-    p1 .pad .ensures .1 .same-length ∙ nine p2 .same-length
+    let padded = c .before .before in
+    padded .pad .ensures .1 .same-length ∙ nine (padded .before .before .before .before) .same-length
 
 returns : tie.Need-returns
 unfolding meshLength meshRecord
 returns c =
-    let p1 = c .before .before in
-    let p2 = p1 .before .before .before .before in
-    let f = from-nine p2 in
-    let s = start f in
-    let e = ends s in
-    record {
-      takes = (rw (value-is (from-value f)) at (p1 .pad .ensures .0)) ∙ ap bytesFor e;
-      written = written-all (shape s) (value s) (nine p2) refl e (rw e (omega (arith, bytes-hold (shapeBits (shape s))))) (s .pre .enough)
-          (λ j. omega (arith, f .before .before .before .before .slice-known .given j)) (λ j. omega (arith, c .slice-known11 .given j))
-          (rw (value-is (from-value f)) at (p1 .pad .ensures .1));
-    }
+    let padded = c .before .before in
+    let put = padded .before .before .before .before in
+    let f = from-nine put in
+    put-whole (holds (start f)) (nine put) (ends (from-value f)) refl
+    (λ j. omega (arith, f .before .before .before .before .slice-known .given j)) (λ j. omega (arith, c .slice-known11 .given j)) (padded .pad .ensures)
 
 pub mesh-spec : {M : Type 1} → statement M
 mesh-spec =

@@ -1,20 +1,20 @@
 -- As the mesh is put: field by field of the head, the columns of signs and of sizes, the outside values where there is a rim face, and the
 -- releases, whose column has no bits in kind 3.
 use Prim.Native.Nat.{ℕ, _+_, _*_, _≤_}
-use mathlib.Core.Path.{_≡_, refl, sym, ap, _∙_}
+use mathlib.Core.Path.{_≡_, refl, sym, _∙_}
 use mathlib.Core.Bool.{Bool}
 use mathlib.Core.List.{List}
 use native.Mathlib.Nat.{mul-le-mul}
 use native.Mathlib.Omega.{arith}
 use borrow.Author.Needs.{needs}
-use Rattle.record_bits.specs.Layout.{bytesFor}
-use Rattle.record_bits.proofs.Layouts.{bytes-hold}
+use Rattle.model.specs.Mesh.{maxFaces}
 use Rattle.record_sections.specs.Sections.{Section, Values, shapeBits}
-use Rattle.record_sections.proofs.Columns.{Written, none, and, written-none, written-column, written-all}
+use Rattle.record_sections.proofs.Columns.{Written, none, and, written-none, written-column}
 use Rattle.record_sections.proofs.Bodies.{Column, column-fits, column-small, column-written, head-written}
-use Rattle.record_layouts.specs.Layouts.{kindNumber, valueBits, kindBits, facesBits, stepZeroBits, stepHeadBits, releaseBits, stepShape, stepValue, stepLength, stepRecord}
+use Rattle.record_layouts.specs.Layouts.{kindNumber, valueOf, valueBits, kindBits, facesBits, stepZeroBits, stepHeadBits, releaseBits, stepShape, stepValue, stepLength, stepRecord}
+use Rattle.record_layouts.specs.declared.Width.the-variants.{Wide}
 use Rattle.record_layouts.proofs.Layouts.{rim-le, value-most, step-value, releasePlace, step-is, step-some, step-most, step-kind-in, step-faces-in, step-zeros-in, signs-in, sizes-in, outside-in}
-use Rattle.record_putting.proofs.PutLaws.{Room, field-asks, rooms, column-asks, releases-put, release-short, step-ends}
+use Rattle.record_putting.proofs.PutLaws.{Room, held, field-asks, rooms, column-asks, pad-asks, put-whole, releases-put, release-short, step-ends}
 use Rattle.record_putting.proofs.step.Statement.{statement}
 use Rattle.record_putting.proofs.step.Tie as tie
 
@@ -40,7 +40,7 @@ holds s =
     record {
       short = omega arith;
       some = omega (arith, step-some (kind s) m f q);
-      held = omega (arith, bytes-hold (shapeBits (shape s)), s .pre .enough);
+      enough = s .pre .enough;
       small = omega (arith, step-most (kind s) m f q (s .pre .few-cells) (s .pre .few-faces));
     }
 
@@ -67,7 +67,8 @@ start c = reckoned (from-value c)
 value-is : (c : tie.After-value-width) → c .value-width .result ≡ valueBits (kind (reckoned c))
 value-is c = c .value-width .ensures ∙ sym (step-value (reckoned c .args .width) (reckoned c .args .kind))
 
-small : (s : tie.Start) → (valueBits (kind s) ≤ 16) × (s .args .faces * valueBits (kind s) ≤ 8190 * 16) × (s .args .faces ≤ 8190)
+small : (s : tie.Start) → (valueBits (kind s) ≤ valueOf Wide) × (s .args .faces * valueBits (kind s) ≤ maxFaces * valueOf Wide)
+    × (s .args .faces ≤ maxFaces)
 small s = (value-most (kind s), mul-le-mul (s .pre .few-faces) (value-most (kind s)), s .pre .few-faces)
 
 add-flux : tie.Need-add-flux
@@ -220,7 +221,7 @@ put-marked-requires c κs =
         omega arith,
         s .pre .seconds-long,
         s .pre .outsides-long,
-        omega (arith, r .same-length, h .held, ends s),
+        omega (arith, r .same-length, held h, ends s),
         omega (arith, h .small, ends s),
       ),
       s .pre .outsides-fit,
@@ -241,32 +242,24 @@ add-pad : tie.Need-add-pad
 add-pad c = let k = from-seven (c .before .before .before) in omega (arith, end k, holds (start k) .small)
 
 pad-requires : tie.Need-pad-requires
-unfolding stepLength
 pad-requires c κs =
-    let p1 = c .before .before .before in
-    let k = from-seven p1 in
-    rw (end k) (rw (seven p1 .same-length) (start k .pre .enough), omega (arith, holds (start k) .small))
+    let put = c .before .before .before in
+    let k = from-seven put in
+    pad-asks (holds (start k)) (seven put) (end k)
 
 same-length : tie.Need-same-length
 same-length c =
-    let p1 = c .before .before in
-    let p2 = p1 .before .before .before .before in
-    p1 .pad .ensures .1 .same-length ∙ seven p2 .same-length
+    let padded = c .before .before in
+    padded .pad .ensures .1 .same-length ∙ seven (padded .before .before .before .before) .same-length
 
 returns : tie.Need-returns
 unfolding stepLength stepRecord
 returns c =
-    let p1 = c .before .before in
-    let p2 = p1 .before .before .before .before in
-    let k = from-seven p2 in
-    let n = k .before .before in
-    let s = start k in
-    let e = end k in
-    record {
-      takes = p1 .pad .ensures .0 ∙ ap bytesFor e;
-      written = written-all (shape s) (value s) (seven p2) refl e (rw e (omega (arith, bytes-hold (shapeBits (shape s))))) (s .pre .enough)
-          (λ j. omega (arith, n .before .before .before .slice-known .given j)) (λ j. omega (arith, c .slice-known9 .given j)) (p1 .pad .ensures .1);
-    }
+    let padded = c .before .before in
+    let put = padded .before .before .before .before in
+    let k = from-seven put in
+    put-whole (holds (start k)) (seven put) (end k) refl
+    (λ j. omega (arith, from-value k .before .before .slice-known .given j)) (λ j. omega (arith, c .slice-known9 .given j)) (padded .pad .ensures)
 
 pub step-spec : {M : Type 1} → statement M
 step-spec =

@@ -7,6 +7,7 @@ use Rattle.model.specs.Causes.{accepted}
 use Rattle.record_heads.specs.Heads.{kindIn, cellsIn, facesIn}
 use Rattle.record_sections.proofs.Bodies.{bodyOf}
 use Rattle.record_reading.specs.declared.MeshCounts.{MeshCounts}
+use Rattle.record_reading.specs.declared.MeshAnswer.the-variants as mesh
 use Rattle.record_reading.specs.Reading.{meshRead}
 use Rattle.record_reading.specs.Answers.{meshSaid}
 use Rattle.record_bodies.specs.Bodies.{MeshRoom}
@@ -31,59 +32,60 @@ room : (s : tie.Start) {n : MeshCounts} → comes s n → let bs = s .args .byte
     (length (s .args .reaches .now))
 room s e = let k = says s e in mesh-room (s .args .bytes .now) (k .head .few-cells) (k .head .few-faces) (k .tables)
 
+-- the start from where the tests were made
+abbrev start : tie.After-mesh → tie.Start
+start c = c .before .before .before .before .before .before .before
+
+-- the tests that passed, from where the answer is known
+passed : (c : tie.After-mesh) {n : MeshCounts} → c .mesh .result ≡ mesh.Read n → comes (start c) n
+passed c e = sym (c .mesh .ensures) ∙ ap meshSaid e
+
 returns : tie.Need-returns
-returns c =
-    let p1 = c .before .before in
-    let e = c .enum-told .given .1 in rw e (mesh-refused (sym (p1 .mesh .ensures) ∙ ap meshSaid e))
+returns c = let e = c .enum-told .given .1 in rw e (mesh-refused (sym (c .before .before .mesh .ensures) ∙ ap meshSaid e))
 
 sub-mesh : tie.Need-sub-mesh
-sub-mesh c =
-    let p1 = c .before in
-    let p2 = p1 .before .before in
-    let s = p2 .before .before .before .before .before .before .before in
-    room s (sym (p2 .mesh .ensures) ∙ ap meshSaid (p1 .a .given .1)) .0
+sub-mesh c = let told = c .before in let t = told .before .before in room (start t) (passed t (told .a .given .1)) .0
 
 part-mesh-start : tie.Need-part-mesh-start
-part-mesh-start c =
-    let p1 = c .before in
-    let p2 = p1 .before .before in
-    let s = p2 .before .before .before .before .before .before .before in
-    room s (sym (p2 .mesh .ensures) ∙ ap meshSaid (p1 .a .given .1)) .0
+part-mesh-start c = let told = c .before in let t = told .before .before in room (start t) (passed t (told .a .given .1)) .0
 
 mesh-requires-2 : tie.Need-mesh-requires-2
 mesh-requires-2 c κs =
-    let p1 = c .before .before .before .before .before .before .before in
-    let p2 = p1 .before .before in
-    let s = p2 .before .before .before .before .before .before .before in
-    let e = sym (p2 .mesh .ensures) ∙ ap meshSaid (p1 .a .given .1) in
-    rw (says s e .counts-are, mesh-kind-is (kindIn (s .args .bytes .now)) (says s e .head .kind)) (room s e .1)
+    let told = c .before .before .before .before .before .before .before in
+    let t = told .before .before in
+    let e = passed t (told .a .given .1) in
+    let k = says (start t) e in
+    rw (k .counts-are, mesh-kind-is (kindIn (start t .args .bytes .now)) (k .head .kind)) (room (start t) e .1)
+
+-- where the tables were filled, from the end
+abbrev filled : tie.After-slice-known10 → tie.After-mesh2
+filled c = c .before .before .before .before .before .before .before .before .before .before
 
 returns-2 : tie.Need-returns-2
 returns-2 c =
-    let p1 = c .before .before .before .before .before .before .before .before .before in
-    let p2 = p1 .before in
-    let p3 = p2 .before .before .before .before .before .before .before .before in
-    let p4 = p3 .before .before in
-    let s = p4 .before .before .before .before .before .before .before in
-    let e = sym (p4 .mesh .ensures) ∙ ap meshSaid (p3 .a .given .1) in
-    mesh-accepted e (mesh-filled (s .args .bytes .now) (rw (says s e .counts-are, mesh-kind-is (kindIn (s .args .bytes .now)) (says s e .head .kind)) at
-    (p2 .mesh2 .ensures)))
+    let body = c .before .before .before .before .before .before .before .before .before .before in
+    let told = body .before .before .before .before .before .before .before .before in
+    let t = told .before .before in
+    let s = start t in
+    let e = sym (t .mesh .ensures) ∙ ap meshSaid (told .a .given .1) in
+    mesh-accepted e (mesh-filled (s .args .bytes .now)
+    (rw (says s e .counts-are, mesh-kind-is (kindIn (s .args .bytes .now)) (says s e .head .kind)) at (body .mesh2 .ensures)))
 
 -- the tables that were filled keep their lengths
 same-length : tie.Need-same-length
-same-length c = c .before .before .before .before .before .before .before .before .before .before .mesh2 .kept .1 .1 .1 .1 .0
+same-length c = filled c .mesh2 .kept .1 .1 .1 .1 .0
 
 same-length-2 : tie.Need-same-length-2
-same-length-2 c = c .before .before .before .before .before .before .before .before .before .before .mesh2 .kept .1 .1 .1 .1 .1 .0
+same-length-2 c = filled c .mesh2 .kept .1 .1 .1 .1 .1 .0
 
 same-length-3 : tie.Need-same-length-3
-same-length-3 c = c .before .before .before .before .before .before .before .before .before .before .mesh2 .kept .1 .1 .1 .1 .1 .1 .0
+same-length-3 c = filled c .mesh2 .kept .1 .1 .1 .1 .1 .1 .0
 
 same-length-4 : tie.Need-same-length-4
-same-length-4 c = c .before .before .before .before .before .before .before .before .before .before .mesh2 .kept .1 .1 .1 .1 .1 .1 .1 .0
+same-length-4 c = filled c .mesh2 .kept .1 .1 .1 .1 .1 .1 .1 .0
 
 same-length-5 : tie.Need-same-length-5
-same-length-5 c = c .before .before .before .before .before .before .before .before .before .before .mesh2 .kept .1 .1 .1 .1 .1 .1 .1 .1 .0
+same-length-5 c = filled c .mesh2 .kept .1 .1 .1 .1 .1 .1 .1 .1 .0
 
 pub read-mesh-spec : {M : Type 1} → statement M
 read-mesh-spec =

@@ -1,3 +1,4 @@
+-- The place after a row that is there, or the same place where there is none.
 use native.Mathlib.Nat.{one-mul}
 use native.Mathlib.Omega.{arith}
 use borrow.Author.Needs.{needs}

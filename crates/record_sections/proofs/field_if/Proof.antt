@@ -1,3 +1,4 @@
+-- A row that is there is read, and one that is not reads 0: only the first asks room of the bytes.
 use native.Mathlib.Omega.{arith}
 use Rattle.record_sections.proofs.field_if.Statement.{statement}
 use Rattle.record_sections.proofs.field_if.Tie as tie

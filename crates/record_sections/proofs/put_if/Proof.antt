@@ -1,3 +1,4 @@
+-- A row that is there is put, and one that is not leaves all bytes: each branch excludes the other case.
 use mathlib.Core.Path.{refl, sym, _∙_}
 use mathlib.Core.Bool.{true≢false}
 use native.Mathlib.Omega.{arith}

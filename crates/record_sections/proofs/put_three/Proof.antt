@@ -1,3 +1,4 @@
+-- Three codes, each with its own part of the bits, by what the calls promise.
 use borrow.Author.Needs.{needs}
 use Rattle.record_sections.proofs.put_three.Statement.{statement}
 use Rattle.record_sections.proofs.put_three.Tie as tie

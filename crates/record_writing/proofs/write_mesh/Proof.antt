@@ -1,3 +1,4 @@
+-- No byte is touched before the causes have found nothing; what they have passed is all that putting the record asks for (`mesh-whole`).
 use borrow.Author.Needs.{needs}
 use Rattle.model.proofs.Verdicts.{refuses, passes}
 use Rattle.record_writing.proofs.WriteLaws.{writing-refused, writing-accepted, mesh-whole}

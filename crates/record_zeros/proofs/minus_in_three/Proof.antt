@@ -1,3 +1,4 @@
+-- The first of the three that is a minus with size 0 ends the search; the parts before it are none.
 use borrow.Author.Needs.{needs}
 use borrow.Author.Tests.{eq-eqb, ne-eqb}
 use Rattle.record_zeros.specs.Scans.{oneOfThree}

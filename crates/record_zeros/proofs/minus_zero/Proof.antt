@@ -1,3 +1,4 @@
+-- A sign and a size, read as one number, are a minus with size 0 where only the highest bit is set (`minus-code`).
 use borrow.Author.Needs.{needs}
 use Rattle.record_zeros.proofs.Minus.{minus-code}
 use Rattle.record_zeros.proofs.minus_zero.Statement.{statement}

@@ -1,3 +1,4 @@
+-- A test that does not hold is a refusal at its place.
 use mathlib.Core.Path.{refl, _∙_}
 use borrow.Author.Needs.{needs}
 use Rattle.model.proofs.Verdicts.{need-unmet}

@@ -1,3 +1,4 @@
+-- Past the end of the table there is nothing but 0.
 use Prim.Native.Nat.{_+_, _≤_}
 use mathlib.Core.Path.{sym}
 use native.Mathlib.Omega.{arith}

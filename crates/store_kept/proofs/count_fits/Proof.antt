@@ -1,3 +1,4 @@
+-- The count is compared by a division, and no product wraps (`count-test`).
 use Prim.Native.Nat.{_+_}
 use native.Mathlib.Omega.{arith}
 use borrow.Author.Needs.{needs}

@@ -1,3 +1,4 @@
+-- The test of a number between two others is the definition's.
 use mathlib.Core.Path.{sym, _∙_}
 use borrow.Author.Needs.{needs}
 use Rattle.store_kept.proofs.name_fits.Statement.{statement}

@@ -1,3 +1,4 @@
+-- One letter appended.
 use borrow.Author.Needs.{needs}
 use Rattle.text.specs.Lines.{mark}
 use Rattle.text.proofs.mark.Statement.{statement}

@@ -1,3 +1,4 @@
+-- A column as wide as the number is the number alone (`word-is`).
 use borrow.Author.Needs.{needs}
 use Rattle.text.proofs.Columns.{word-is}
 use Rattle.text.proofs.word.Statement.{statement}

@@ -1,3 +1,4 @@
+-- Kinds 3 and 7 have no bits for a release, kinds 4 and 8 those of a mass.
 use mathlib.Core.Path.{_≡_, refl, sym, _∙_}
 use borrow.Author.Needs.{needs}
 use Rattle.record_layouts.specs.declared.Width.{Width}

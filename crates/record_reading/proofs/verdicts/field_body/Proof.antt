@@ -1,3 +1,4 @@
+-- Length, then the table: the causes of the definition in its order, by the head's kind.
 use borrow.Author.Needs.{needs}
 use Rattle.record_reading.specs.Reading.{fieldBodyVerdict}
 use Rattle.record_reading.proofs.verdicts.field_body.Statement.{statement}

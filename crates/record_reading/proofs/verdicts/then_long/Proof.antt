@@ -1,3 +1,4 @@
+-- What was found before comes first, then the test of one table.
 use borrow.Author.Needs.{needs}
 use Rattle.record_reading.proofs.verdicts.then_long.Statement.{statement}
 use Rattle.record_reading.proofs.verdicts.then_long.Tie as tie
