@@ -29,6 +29,7 @@ use Rattle.record_layouts.specs.declared.Width.the-variants.{Narrow, Wide}
 use Rattle.record_layouts.specs.declared.StepKind.{StepKind}
 use Rattle.record_layouts.specs.declared.StepKind.the-variants.{Water, Outfalls}
 use Rattle.record_reading.specs.Reading.{meshIn, countsIn, volumesIn, firstsIn, secondsIn, sharesIn, reachesIn, massesIn, fluxesIn, outsidesIn, releasesIn, meshRead, fieldRead, stepRead}
+use Rattle.record_reading.specs.Meshes.{trimmed, overMesh}
 use Rattle.record_reading.specs.Answers.{meshSaid, stepReadSaid, MeshReading, FieldReading, StepReading}
 use Rattle.record_reading.specs.declared.MeshCounts.{MeshCounts}
 use Rattle.record_reading.specs.declared.MeshAnswer.{MeshAnswer}
@@ -96,6 +97,10 @@ module _ (w : Width) (M : Mesh) (within : counts M ≡ fine) (passes : meshValue
   pub reaches-read-back : reachesIn (meshRecord (meshKind w) M) ≡ table (M .faces) (reach M)
   reaches-read-back = reaches-back (meshKind w) M (mesh-fits w M within passes)
 
+  -- the whole of it: the counts, and each table cut to them
+  pub mesh-is-back : meshIn (meshRecord (meshKind w) M) ≡ trimmed M
+  mesh-is-back = rw (cells-read-back, faces-read-back, volumes-read-back, firsts-read-back, seconds-read-back, shares-read-back, reaches-read-back)
+
 -- A field on it.
 module _ (w : Width) (M : Mesh) (within : counts M ≡ fine) (passes : meshValues (mostOf w) M ≡ fine) (field : List ℕ) (salt : fieldValues M field ≡ fine) where
   pub field-read-back : (masses : ℕ) → M .cells ≤ masses → fieldRead w (M .cells) (fieldRecord (fieldKind w) (M .cells) field) masses ≡ fine
@@ -145,7 +150,8 @@ module _ (w : Width) (M : Mesh) (within : counts M ≡ fine) (passes : meshValue
   releases-read-back = releases-back (kindNumber w kind) (M .cells) (M .faces) (M .seconds) (k .fluxes) (k .outsides) (k .releases) fits
 
 -- A writing that answered a length: its causes found nothing, the length is the record's, and so are the bytes up to it.
-module _ {v : Verdict} {N : ℕ} {rec bytes bytes′ : List ℕ} {r : WriteAnswer} {n : ℕ} (done : Writing v N rec bytes r bytes′) (e : writeSaid r ≡ accepted n) where
+module _ {v : Verdict} {N : ℕ} {rec bytes bytes′ : List ℕ} {r : WriteAnswer} {n : ℕ} (done : Writing v N rec bytes r bytes′)
+    (e : writeSaid r ≡ accepted n) where
   wrote : (v ≡ fine) × (N ≡ n) × (bytes′ ≡ over rec bytes)
   unfolding _andThen_
   wrote =
@@ -167,9 +173,8 @@ pub mesh-joined : (w : Width) (M : Mesh) {bytes bytes′ : List ℕ} {r : WriteA
     (take n bytes′)
     volumes firsts seconds shares reaches a volumes′ firsts′ seconds′ shares′ reaches′
     → (meshSaid a ≡ accepted (record { cells = M .cells; faces = M .faces; width = w }))
-    × (volumes′ ≡ over (table (M .cells) (volume M)) volumes) × (firsts′ ≡ over (table (M .faces) (first M)) firsts)
-    × (seconds′ ≡ over (table (M .faces) (second M)) seconds)
-    × (shares′ ≡ over (table (M .faces) (share M)) shares) × (reaches′ ≡ over (table (M .faces) (reach M)) reaches)
+    × (meshOf (M .cells) (M .faces) volumes′ firsts′ seconds′ shares′ reaches′
+    ≡ overMesh (trimmed M) (meshOf (M .cells) (M .faces) volumes firsts seconds shares reaches))
 unfolding meshLength
 mesh-joined w M {bytes} {bytes′} {r} {n} done e mostCells mostFaces {volumes} {firsts} {seconds} {shares} {reaches} {a} {volumes′} {firsts′} {seconds′}
     {shares′} {reaches′} limits lv lf ls lw lk read =
@@ -181,14 +186,9 @@ mesh-joined w M {bytes} {bytes′} {r} {n} done e mostCells mostFaces {volumes} 
     lf ls lw lk in
     let same : MeshCounts = record { cells = M .cells; faces = M .faces; width = w } in
     let q : MeshReading (accepted same) (meshRecord (meshKind w) M) volumes firsts seconds shares reaches a volumes′ firsts′ seconds′ shares′ reaches′ =
-    rw back at (rw t at read) in (
-      q .answer,
-      q .volumes-read ∙ ap (λ xs. over xs volumes) (volumes-read-back w M c v),
-      q .firsts-read ∙ ap (λ xs. over xs firsts) (firsts-read-back w M c v),
-      q .seconds-read ∙ ap (λ xs. over xs seconds) (seconds-read-back w M c v),
-      q .shares-read ∙ ap (λ xs. over xs shares) (shares-read-back w M c v),
-      q .reaches-read ∙ ap (λ xs. over xs reaches) (reaches-read-back w M c v),
-    )
+    rw back at (rw t at read) in
+    let N : Mesh = meshOf (M .cells) (M .faces) volumes firsts seconds shares reaches in
+    (q .answer, rw (q .volumes-read, q .firsts-read, q .seconds-read, q .shares-read, q .reaches-read) (ap (λ (K : Mesh). overMesh K N) (mesh-is-back w M c v)))
 
 -- A field.
 pub field-joined : (w : Width) (M : Mesh) (field : List ℕ) {bytes bytes′ : List ℕ} {r : WriteAnswer} {n : ℕ} → FieldWriting w M field bytes r bytes′
