@@ -1,9 +1,10 @@
 #!/usr/bin/env python3
 """The run program where something is lost: after a failed write or read it says so on standard error and prints nothing more, no board
-either. And what it says to whoever gives arguments or sits at a terminal."""
+either. That whoever waits for a step's line before sending the next has it. And what it says to whoever gives arguments or sits at a terminal."""
 
 import os
 import pty
+import select
 import subprocess
 import sys
 import tempfile
@@ -88,6 +89,20 @@ class Lost(unittest.TestCase):
 
     def test_input_of_another_kind(self):
         self.assertEqual(run(ROOT / "tests"), ("", "run: standard input: Is a directory\n"))
+
+
+class Waiting(unittest.TestCase):
+    def test_line_before_the_next_record(self):
+        """Lines are written before a read that waits, also within a record."""
+        session, lines = CHANNEL.read_bytes(), CHANNEL.with_suffix(".out").read_bytes().splitlines(True)
+        with subprocess.Popen([ROOT / "target/bin/run"], stdin=subprocess.PIPE, stdout=subprocess.PIPE, bufsize=0) as running:
+            for sent, awaited in ((session[:-LAST_STEP], lines[:2]), (session[-LAST_STEP:-1], []), (session[-1:], lines[2:3])):
+                running.stdin.write(sent)
+                for line in awaited:
+                    self.assertTrue(select.select([running.stdout], [], [], 20)[0], "no line within 20 s")
+                    self.assertEqual(running.stdout.readline(), line)
+            running.stdin.close()
+            self.assertEqual(running.stdout.read(), b"".join(lines[3:]))
 
 
 class Hints(unittest.TestCase):
