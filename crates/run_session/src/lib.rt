@@ -100,12 +100,22 @@ fn told_refused(step: u64, refusal: Refusal) -> Told
     }
 }
 
-// What is told of a step.
-pub fn tell(step: u64, taken: StepTaken) -> Told
+// What is told of a step by its answer, whichever it is.
+fn told_by(step: u64, taken: StepTaken) -> Told
     ensures { λ r. ⌜ Holds (r .line) (stepTakenLine step taken) × (goesOn taken ≡ not (r .last)) ⌝ }
 {
     match taken {
         StepTaken::Stepped(printed) => told_stepped(step, printed),
         StepTaken::Refused(refusal) => told_refused(step, refusal),
     }
+}
+
+// What is told of a step: its figures are taken out, else its refusal is told.
+pub fn tell(step: u64, taken: StepTaken) -> Told
+    ensures { λ r. ⌜ Holds (r .line) (stepTakenLine step taken) × (goesOn taken ≡ not (r .last)) ⌝ }
+{
+    let StepTaken::Stepped(printed) = taken else {
+        return told_by(step, taken);
+    };
+    told_stepped(step, printed)
 }
