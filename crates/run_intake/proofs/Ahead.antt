@@ -9,7 +9,7 @@ use lib.ListN.{length, take, drop, length-take, length-drop}
 use lib.Seq.{take-take, length-take-le}
 use Rattle.lists.proofs.Tests.{Fits, fits, exceeds, fits?}
 use Rattle.model.specs.Causes.{Outcome}
-use Rattle.run_intake.specs.Intake.{stillNeeded, Asked, held, Kept}
+use Rattle.run_intake.specs.Intake.{stillNeeded, Asked, held, HeldAhead}
 use Rattle.run_intake.specs.declared.Held.{Held}
 
 -- of what is held the first bytes are those of the buffer
@@ -18,7 +18,7 @@ held-front n buffer from to h = take-take n (to - from) (drop from buffer) h
 
 -- nothing was read
 pub kept-same : (buffer : List ℕ) (from end to unwritten : ℕ) (failed : _) → from ≤ end → end ≤ to → to ≤ length buffer
-    → Kept buffer from to unwritten buffer (record { from = from; end = end; to = to; unwritten = unwritten; failed = failed })
+    → HeldAhead buffer from to unwritten buffer (record { from = from; end = end; to = to; unwritten = unwritten; failed = failed })
 kept-same buffer from end to unwritten failed h l m = record {
   begins = h;
   ends = l;
@@ -31,7 +31,7 @@ kept-same buffer from end to unwritten failed h l m = record {
 -- what was held moved to the front, and more after it
 pub kept-more : (before moved after : List ℕ) (from end to come unwritten : ℕ) (failed : _) → end ≤ come → come ≤ length after → to - from ≤ come
     → take (to - from) moved ≡ held before from to → take (to - from) after ≡ take (to - from) moved
-    → Kept before from to unwritten after (record { from = 0; end = end; to = come; unwritten = 0; failed = failed })
+    → HeldAhead before from to unwritten after (record { from = 0; end = end; to = come; unwritten = 0; failed = failed })
 kept-more before moved after from end to come unwritten failed h l k e f = record {
   begins = omega arith;
   ends = h;
@@ -45,7 +45,7 @@ held-long : (buffer : List ℕ) (from to : ℕ) → to ≤ length buffer → len
 held-long buffer from to h = length-take-le (to - from) (drop from buffer) (rw length-drop (omega arith))
 
 -- no fewer are held
-pub grown : {before after : List ℕ} {from to unwritten : ℕ} {r : Held} → to ≤ length before → Kept before from to unwritten after r
+pub grown : {before after : List ℕ} {from to unwritten : ℕ} {r : Held} → to ≤ length before → HeldAhead before from to unwritten after r
     → to - from ≤ r .to - r .from
 grown {before} {after} {from} {to} {unwritten} {r} h k =
     let same = ap length (k .front) in
@@ -54,12 +54,12 @@ grown {before} {after} {from} {to} {unwritten} {r} h k =
 
 -- asked once and again
 module _ {first second third : List ℕ} {from to unwritten : ℕ} {r s : Held} (h : to ≤ length first)
-    (k : Kept first from to unwritten second r) (l : Kept second (r .from) (r .to) (r .unwritten) third s) where
+    (k : HeldAhead first from to unwritten second r) (l : HeldAhead second (r .from) (r .to) (r .unwritten) third s) where
   lines-written : (b : Bool) → Fits (r .to - r .from) (to - from) b → to - from < s .to - s .from → s .unwritten ≡ 0
   lines-written true (fits m) n = l .lines-first (omega (arith, m, n))
   lines-written false (exceeds m) n = let none = k .lines-first (omega (arith, m)) in omega (arith, none, l .fewer)
 
-  pub kept-twice : Kept first from to unwritten third s
+  pub kept-twice : HeldAhead first from to unwritten third s
   kept-twice = record {
     begins = l .begins;
     ends = l .ends;

@@ -35,7 +35,7 @@ held buffer from to = take (to - from) (drop from buffer)
 
 -- After bytes were asked for, what was held is in front of what is held: none is lost, none comes twice or before another. And where any have
 -- come, no line is unwritten: whoever waits for it has it before more is awaited.
-pub record Kept (buffer : List ℕ) (from to unwritten : ℕ) (buffer′ : List ℕ) (r : Held) : Type 0 where
+pub record HeldAhead (buffer : List ℕ) (from to unwritten : ℕ) (buffer′ : List ℕ) (r : Held) : Type 0 where
   pub begins : r .from ≤ r .end
   pub ends : r .end ≤ r .to
   pub within : r .to ≤ length buffer′

@@ -17,7 +17,7 @@ ghost use Rattle.model.specs.Mesh.{runCells, runFaces};
 ghost use Rattle.record_bits.specs.Layout.{bytesFor};
 ghost use Rattle.record_layouts.specs.Layouts.{meshHeadBits, fieldHeadBits, stepHeadBits};
 ghost use Rattle.record_heads.specs.Heads.{lengthSaid, meshLengthSaid, bytesOf, meshNeeds, fieldNeeds, stepNeeds};
-ghost use Rattle.run_intake.specs.Intake.{recordBytes, stillNeeded, Asked, held, Kept};
+ghost use Rattle.run_intake.specs.Intake.{recordBytes, stillNeeded, Asked, held, HeldAhead};
 
 // Most bits of a face in a step record: one at the rim, in the wide kinds.
 const RIM_FACE: usize = Body::SIGN + Body::WIDE_VALUE + Body::OUTSIDE;
@@ -165,7 +165,7 @@ fn hold(
     unwritten: usize,
 ) -> Held
     requires { ⌜ (from ≤ to) × (to ≤ length (now buffer)) × (wanted ≤ length (now buffer)) × (unwritten ≤ length (now lines)) ⌝ }
-    ensures { λ r. ⌜ Kept (now (buffer .entry)) from to unwritten (now (buffer .exit)) r × (r .end ≡ min (r .from + wanted) (r .to)) ⌝ }
+    ensures { λ r. ⌜ HeldAhead (now (buffer .entry)) from to unwritten (now (buffer .exit)) r × (r .end ≡ min (r .from + wanted) (r .to)) ⌝ }
 {
     let kept = to - from;
     if wanted <= kept {
@@ -211,7 +211,7 @@ pub fn step(
     unwritten: usize,
 ) -> Held
     requires { do ⌜ (from ≤ to) × (to ≤ length (now buffer)) × ((← ⟦RECORD⟧) ≤ length (now buffer)) × (unwritten ≤ length (now lines)) ⌝ }
-    ensures { λ r. ⌜ Kept (now (buffer .entry)) from to unwritten (now (buffer .exit)) r
+    ensures { λ r. ⌜ HeldAhead (now (buffer .entry)) from to unwritten (now (buffer .exit)) r
         × Asked (bytesFor stepHeadBits) (stepNeeds width cells faces (now (seconds .entry))) (held (now (buffer .exit)) (r .from) (r .end))
         (r .end - r .from) ⌝ }
 {

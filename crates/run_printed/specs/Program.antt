@@ -1,7 +1,7 @@
 -- What the run program does, call by call. Each fact is the contract of the call that run/src, run_session/src or run_intake/src makes at
 -- that place; the order is the program's. Of reading and writing no contract can speak: it is taken here that a read gives the next bytes of
 -- the input, fewer only where it ends, and that a write prints what it is lent. Bytes of steps are read ahead and kept in their order, and
--- their lines are put one after another and written together: `Kept` of run_intake/specs/Intake.antt, `add` of run_session/src/printing.rt.
+-- their lines are put one after another and written together: `HeldAhead` of run_intake/specs/Intake.antt, `add` of run_session/src/printing.rt.
 use Prim.Native.Nat.{ℕ, _+_, _<_}
 use mathlib.Core.Path.{_≡_}
 use mathlib.Core.Bool.{true, false}
