@@ -38,12 +38,20 @@ pub extern "C" fn lagoon_table_cut(
     releases1: &mut [u64],
     found: &mut [u64],
 ) -> u64
-    ensures { λ r. ⌜ CutFromC (lagoonOf cells faces (tablesOf (now (volumes .entry)) (now (firsts .entry)) (now (seconds .entry)) (now (shares .entry)) (now (reaches .entry)) (now (masses .entry)) (now (fluxes .entry)) (now (outsides .entry)) (now (releases .entry)))) (now (labels .entry))
-        (tablesOf (now (volumes0 .entry)) (now (firsts0 .entry)) (now (seconds0 .entry)) (now (shares0 .entry)) (now (reaches0 .entry)) (now (masses0 .entry)) (now (fluxes0 .entry)) (now (outsides0 .entry)) (now (releases0 .entry)))
-        (tablesOf (now (volumes1 .entry)) (now (firsts1 .entry)) (now (seconds1 .entry)) (now (shares1 .entry)) (now (reaches1 .entry)) (now (masses1 .entry)) (now (fluxes1 .entry)) (now (outsides1 .entry)) (now (releases1 .entry)))
+    ensures { λ r. ⌜ CutFromC
+        (lagoonOf cells faces
+        (tablesOf (now (volumes .entry)) (now (firsts .entry)) (now (seconds .entry)) (now (shares .entry)) (now (reaches .entry))
+        (now (masses .entry)) (now (fluxes .entry)) (now (outsides .entry)) (now (releases .entry))))
+        (now (labels .entry))
+        (tablesOf (now (volumes0 .entry)) (now (firsts0 .entry)) (now (seconds0 .entry)) (now (shares0 .entry)) (now (reaches0 .entry))
+        (now (masses0 .entry)) (now (fluxes0 .entry)) (now (outsides0 .entry)) (now (releases0 .entry)))
+        (tablesOf (now (volumes1 .entry)) (now (firsts1 .entry)) (now (seconds1 .entry)) (now (shares1 .entry)) (now (reaches1 .entry))
+        (now (masses1 .entry)) (now (fluxes1 .entry)) (now (outsides1 .entry)) (now (releases1 .entry)))
         (now (found .entry)) r
-        (tablesOf (now (volumes0 .exit)) (now (firsts0 .exit)) (now (seconds0 .exit)) (now (shares0 .exit)) (now (reaches0 .exit)) (now (masses0 .exit)) (now (fluxes0 .exit)) (now (outsides0 .exit)) (now (releases0 .exit)))
-        (tablesOf (now (volumes1 .exit)) (now (firsts1 .exit)) (now (seconds1 .exit)) (now (shares1 .exit)) (now (reaches1 .exit)) (now (masses1 .exit)) (now (fluxes1 .exit)) (now (outsides1 .exit)) (now (releases1 .exit)))
+        (tablesOf (now (volumes0 .exit)) (now (firsts0 .exit)) (now (seconds0 .exit)) (now (shares0 .exit)) (now (reaches0 .exit))
+        (now (masses0 .exit)) (now (fluxes0 .exit)) (now (outsides0 .exit)) (now (releases0 .exit)))
+        (tablesOf (now (volumes1 .exit)) (now (firsts1 .exit)) (now (seconds1 .exit)) (now (shares1 .exit)) (now (reaches1 .exit))
+        (now (masses1 .exit)) (now (fluxes1 .exit)) (now (outsides1 .exit)) (now (releases1 .exit)))
         (now (found .exit)) ⌝ }
 {
     let answer = cutting::cut(
