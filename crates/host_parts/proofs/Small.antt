@@ -21,34 +21,18 @@ module _ (L : Lagoon) (labels : List ℕ) (lent₀ lent₁ : Tables) where
 
   tables-small : Small (cutTables L labels lent₀ lent₁)
   unfolding cutTables
-  tables-small = small-turn (cutLengths L labels lent₀ lent₁) (
-    all-long-small 0 _ (λ t. length (t .volumes)) (omega arith),
-    (
-      all-long-small 1 _ (λ t. length (t .firsts)) (omega arith),
-      (
-        all-long-small 2 _ (λ t. length (t .seconds)) (omega arith),
-        (
-          all-long-small 3 _ (λ t. length (t .shares)) (omega arith),
-          (
-            all-long-small 4 _ (λ t. length (t .reaches)) (omega arith),
-            (
-              all-long-small 5 _ (λ t. length (t .masses)) (omega arith),
-              (
-                all-long-small 6 _ (λ t. length (t .fluxes)) (omega arith),
-                (
-                  all-long-small 7 _ (λ t. length (t .outsides)) (omega arith),
-                  (
-                    all-long-small 14 _ (λ t. length (t .releases)) (omega arith),
-                    (small-need 2 15 _ (omega arith), tt),
-                  ),
-                ),
-              ),
-            ),
-          ),
-        ),
-      ),
-    ),
-  )
+  tables-small =
+      let volumes = all-long-small 0 (L .cells) (λ t. length (t .volumes)) (omega arith) in
+      let firsts = all-long-small 1 (L .faces) (λ t. length (t .firsts)) (omega arith) in
+      let seconds = all-long-small 2 (L .faces) (λ t. length (t .seconds)) (omega arith) in
+      let shares = all-long-small 3 (L .faces) (λ t. length (t .shares)) (omega arith) in
+      let reaches = all-long-small 4 (L .faces) (λ t. length (t .reaches)) (omega arith) in
+      let masses = all-long-small 5 (L .cells) (λ t. length (t .masses)) (omega arith) in
+      let fluxes = all-long-small 6 (L .faces) (λ t. length (t .fluxes)) (omega arith) in
+      let outsides = all-long-small 7 (L .faces) (λ t. length (t .outsides)) (omega arith) in
+      let releases = all-long-small 14 (L .cells) (λ t. length (t .releases)) (omega arith) in
+      small-turn (cutLengths L labels lent₀ lent₁)
+      (volumes, (firsts, (seconds, (shares, (reaches, (masses, (fluxes, (outsides, (releases, (small-need 2 15 _ (omega arith), tt))))))))))
 
   labels-small : counts (wholeMesh L) ≡ fine → Small (labelValues L labels)
   unfolding labelValues
@@ -59,22 +43,12 @@ module _ (L : Lagoon) (labels : List ℕ) (lent₀ lent₁ : Tables) where
   verdict-small = small-after (cutCauses L labels lent₀ lent₁) (
     counts-small (wholeMesh L),
     (λ e.
-        let few = few-of (wholeMesh L) e in (
-          tables-small,
-          (
-            mesh-values-small (wholeMesh L) few ceiling,
-            (
-              labels-small e,
-              (
-                field-values-small (wholeMesh L) few (L .tables .masses),
-                (
-                  raised-values-small (wholeMesh L) few (L .tables .masses) (wholeWater L),
-                  (step-values-small (wholeMesh L) few (L .tables .masses) (wholeWater L) ceiling, tt),
-                ),
-              ),
-            ),
-          ),
-        )),
+        let few = few-of (wholeMesh L) e in
+        let mesh = mesh-values-small (wholeMesh L) few ceiling in
+        let field = field-values-small (wholeMesh L) few (L .tables .masses) in
+        let raised = raised-values-small (wholeMesh L) few (L .tables .masses) (wholeWater L) in
+        let water = step-values-small (wholeMesh L) few (L .tables .masses) (wholeWater L) ceiling in
+        (tables-small, (mesh, (labels-small e, (field, (raised, (water, tt))))))),
   )
 
   pub cut-answer-small : Small (cutAnswer L labels lent₀ lent₁)
