@@ -1,6 +1,6 @@
 -- The host's plain step and judging on a record of kind 3 or 7: a release has no bits there, and no bits spell 0.
 use Prim.Native.Nat.{ℕ}
-use mathlib.Core.Path.{_≡_, refl, sym, ap, _∙_}
+use mathlib.Core.Path.{_≡_, refl, ap, _∙_}
 use mathlib.Core.List.{List}
 use lib.IntN.{ℤ}
 use lib.ListN.{length}
@@ -24,7 +24,7 @@ use Rattle.host_answer.specs.Steps.{crossed}
 use Rattle.host_tested.specs.Tested.{fieldTested, fieldIn, stepTested}
 use Rattle.host_record_promises.specs.Next.{withRoom, recordOver, nextBy}
 use Rattle.host_record_promises.specs.Judge.{claimIn, claimJudged, claimTested}
-use Rattle.host_kinds.specs.KindThree.{plainTested01, plainNext01, PlainAsBefore, claimVerdict01, claimNext01, claimCrossing01, claimTested01, JudgedAsBefore}
+use Rattle.host_kinds.specs.KindThree.{plainTested01, plainNext01, PlainAsBefore, claimNext01, claimCrossing01, claimTested01, JudgedAsBefore}
 use Rattle.host_kinds.proofs.Unreleased.{crossing-same, claim-next-same, low-same, claim-verdict-same}
 
 -- a record over the bytes by the same verdict, where the next masses are the same once nothing is found

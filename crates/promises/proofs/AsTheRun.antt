@@ -10,7 +10,7 @@ use Rattle.lists.specs.Table.{table, over}
 use Rattle.lists.proofs.Tables.{length-table, getD-table, length-over, getD-over}
 use Rattle.model.specs.Mesh.{Mesh, meshOf, runCells, runFaces}
 use Rattle.model.specs.Alike.{AgreeMesh, AgreeCall}
-use Rattle.model.specs.Causes.{fine, long, cellsOnly, counts, meshTables, meshValues, meshVerdict, fieldTable, fieldValues, fieldVerdict, stepTables, meshFieldVerdict}
+use Rattle.model.specs.Causes.{fine, long, cellsOnly, counts, meshTables, meshVerdict, fieldTable, fieldValues, fieldVerdict, stepTables, meshFieldVerdict}
 use Rattle.model.proofs.Verdicts.{both-fine, need-met}
 use Rattle.model.proofs.Accepted.{field-fit, field-accepted}
 use Rattle.model.proofs.Agree.{mesh-values-agree, field-values-agree, verdict-agree}

@@ -18,7 +18,7 @@ use Rattle.record_reading.specs.Reading.{meshIn}
 use Rattle.record_reading.specs.declared.MeshCounts.{MeshCounts}
 use Rattle.record_writing.specs.Writing.{mostOf}
 use Rattle.record_writing.proofs.Accepting.{mesh-passed}
-use Rattle.record_writing.proofs.RoundTrip.{cells-read-back, faces-read-back, mesh-read-back, volumes-read-back, firsts-read-back, seconds-read-back, shares-read-back, reaches-read-back, field-read-back, masses-read-back}
+use Rattle.record_writing.proofs.RoundTrip.{mesh-read-back, field-read-back, masses-read-back, mesh-is-back}
 use Rattle.taking_mesh.proofs.MeshLaws.{mesh-small}
 use Rattle.promises.specs.Held.{trimmed, HoldsMesh, HoldsField}
 
@@ -55,25 +55,13 @@ module _ (w : Width) (M : Mesh) (mesh-fine : meshVerdict M ≡ fine) (fits : mes
   abbrev inside : counts M ≡ fine
   inside = within M mesh-fine
 
-  mesh-is : meshIn (meshRecord (meshKind w) M) ≡ trimmed M
-  mesh-is =
-      rw (
-        cells-read-back w M inside fits,
-        faces-read-back w M inside fits,
-        volumes-read-back w M inside fits,
-        firsts-read-back w M inside fits,
-        seconds-read-back w M inside fits,
-        shares-read-back w M inside fits,
-        reaches-read-back w M inside fits,
-      )
-
   pub mesh-holds : HoldsMesh w M (meshRecord (meshKind w) M)
   unfolding counts
   mesh-holds = record {
     mesh-read = mesh-read-back w M inside fits maxCells maxFaces (M .cells) (M .faces) (M .faces) (M .faces) (M .faces)
         inside (omega arith) (omega arith) (omega arith)
         (omega arith) (omega arith);
-    mesh-held = mesh-is;
+    mesh-held = mesh-is-back w M inside fits;
   }
 
   module _ (field : List ℕ) (field-fine : fieldVerdict M field ≡ fine) where

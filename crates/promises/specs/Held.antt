@@ -3,17 +3,14 @@ use Prim.Native.Nat.{ℕ}
 use mathlib.Core.Path.{_≡_}
 use mathlib.Core.List.{List}
 use Rattle.lists.specs.Table.{table}
-use Rattle.model.specs.Mesh.{Mesh, meshOf, volume, first, second, share, reach, maxCells, maxFaces}
+use Rattle.model.specs.Mesh.{Mesh, maxCells, maxFaces}
 use Rattle.model.specs.Causes.{accepted, fine}
 use Rattle.model.specs.Calls.{massIn}
 use Rattle.record_layouts.specs.declared.Width.{Width}
 use Rattle.record_reading.specs.Reading.{meshIn, massesIn, meshRead, fieldRead}
+pub use Rattle.record_reading.specs.Meshes.{trimmed}
 
--- a mesh and a field with their tables trimmed to the counts
-abbrev pub trimmed : Mesh → Mesh
-trimmed M = meshOf (M .cells) (M .faces) (table (M .cells) (volume M)) (table (M .faces) (first M)) (table (M .faces) (second M)) (table (M .faces) (share M))
-    (table (M .faces) (reach M))
-
+-- a field with its table trimmed to the count, as a mesh is by `trimmed`
 abbrev pub trimmedField : Mesh → List ℕ → List ℕ
 trimmedField M field = table (M .cells) (massIn field)
 
