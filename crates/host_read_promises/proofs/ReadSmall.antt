@@ -9,7 +9,7 @@ use lib.Dec.{leb}
 use lib.ListN.{length}
 use Rattle.lists.proofs.Tests.{both-true}
 use Rattle.model.specs.Mesh.{maxCells, maxFaces}
-use Rattle.model.specs.Causes.{fine, _andThen_, countsWithin}
+use Rattle.model.specs.Causes.{fine, countsWithin}
 use Rattle.model.proofs.Verdicts.{both-fine, need-fine}
 use Rattle.record_bits.proofs.Fields.{bits-lt}
 use Rattle.record_bits.proofs.Layouts.{bytes-most}

@@ -1,7 +1,7 @@
 -- What taking a mesh and a field comes to, from what the calls that `take_field` makes promise.
 use Prim.Native.Nat.{ℕ, _≤_}
 use mathlib.Core.Path.{_≡_, refl, sym, ap, _∙_}
-use mathlib.Core.List.{List, [], _∷_}
+use mathlib.Core.List.{List}
 use native.Mathlib.Omega.{arith}
 use lib.ListN.{length, take}
 use Rattle.model.specs.Mesh.{total, runCells, runFaces}

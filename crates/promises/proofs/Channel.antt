@@ -8,7 +8,7 @@ use lib.ListN.{take, replicate}
 use Rattle.lists.specs.Table.{table, over}
 use Rattle.model.specs.Mesh.{ceiling, oldCeiling}
 use Rattle.model.specs.Step.{next, moved}
-use Rattle.model.specs.Causes.{_andThen_, fine, Call, meshVerdict, fieldVerdict, each, meshValues, callOf}
+use Rattle.model.specs.Causes.{_andThen_, fine, Call, meshVerdict, fieldVerdict, meshValues, callOf}
 use Rattle.model.specs.Calls.{lentMasses, crossingOf, corrected, afterAll, totalIn}
 use Rattle.model.proofs.Figures.{channel}
 use Rattle.model.proofs.Unfolded.{the-step}

@@ -14,7 +14,6 @@ use Rattle.record_layouts.specs.Layouts.{meshKind, fieldKind, meshRecord, field
 use Rattle.record_heads.specs.Heads.{widthIn}
 use Rattle.record_layouts.specs.declared.Width.{Width}
 use Rattle.record_layouts.specs.declared.Width.the-variants.{Narrow, Wide}
-use Rattle.record_reading.specs.Reading.{meshIn}
 use Rattle.record_reading.specs.declared.MeshCounts.{MeshCounts}
 use Rattle.record_writing.specs.Writing.{mostOf}
 use Rattle.record_writing.proofs.Accepting.{mesh-passed}

@@ -12,7 +12,7 @@ use Rattle.lists.proofs.Tables.{length-table, length-over, getD-over}
 use Rattle.lists.proofs.Sums.{sum-cong}
 use Rattle.model.specs.Mesh.{Mesh, total, runCells, runFaces}
 use Rattle.model.specs.Step.{StepInput, next, inMass, outMass, releasedMass}
-use Rattle.model.specs.Causes.{accepted, Verdict, fine, _andThen_, each, long, Call, callOf, workEntries, inputOf, stepLengths, stepCauses, stepTables, raisedValues, raisedGood, stepValues, outsideGood, fluxGood, balanceGood, outflowGood, verdict}
+use Rattle.model.specs.Causes.{accepted, Verdict, fine, _andThen_, Call, callOf, workEntries, inputOf, stepLengths, stepCauses, stepTables, raisedValues, raisedGood, stepValues, outsideGood, fluxGood, balanceGood, outflowGood, verdict}
 use Rattle.model.specs.Answers.{number, told}
 use Rattle.model.specs.Calls.{Crossing, crossingOf, massIn, corrected, stepAnswer, nextTable}
 use Rattle.model.specs.declared.Refusal.{Refusal}

@@ -10,7 +10,7 @@ use lib.ListN.{length, take}
 use Rattle.lists.specs.Table.{over}
 use Rattle.lists.proofs.Tables.{length-table, getD-table}
 use Rattle.model.specs.Mesh.{Mesh, meshOf, runCells, runFaces, maxCells, maxFaces, ceiling, oldCeiling}
-use Rattle.model.specs.Causes.{accepted, refused, Verdict, fine, _andThen_, long, countsWithin, counts, meshTables, meshValues, meshVerdict}
+use Rattle.model.specs.Causes.{accepted, refused, Verdict, fine, _andThen_, countsWithin, counts, meshTables, meshValues, meshVerdict}
 use Rattle.model.specs.Ceilings.{MeshSmall}
 use Rattle.model.specs.Answers.{number}
 use Rattle.model.specs.declared.Refusal.{Refusal}
