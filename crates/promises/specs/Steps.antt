@@ -9,7 +9,7 @@ use lib.IntN.{ℤ}
 use lib.ListN.{take}
 use Rattle.model.specs.Mesh.{Mesh}
 use Rattle.model.specs.Causes.{Outcome, accepted, refused, Verdict, fine, _andThen_, Call, inputOf, meshVerdict, fieldVerdict, waterOf}
-use Rattle.model.specs.Calls.{Bounded, Left, crossingOf, corrected, plain, lentMasses, EachStep, Claim}
+use Rattle.model.specs.Calls.{Bounded, Left, crossingOf, corrected, plain, lentMasses, EachStep, ListClaim}
 use Rattle.transport.specs.Promise.{stepSaid, leftBy, StepPromise}
 use Rattle.judging.specs.Promise.{JudgePromise}
 use Rattle.plain.specs.Made.{Made}
@@ -199,4 +199,4 @@ module _ (M : Mesh) where
 -- DEMAND 3: from any accepted mesh and first field, after any list of step calls, whichever of them were refused.
 abbrev pub Demand3 : Type 0
 Demand3 = (M : Mesh) → meshVerdict M ≡ fine → (field : List ℕ) → fieldVerdict M field ≡ fine → (calls : List StepCall) → StepsMade M field calls
-    → Claim M (cameTo M) (StepOwed M) field calls
+    → ListClaim M (cameTo M) (StepOwed M) field calls
