@@ -6,6 +6,7 @@ use model::MAX_CELLS;
 use model::MAX_FACES;
 use std::num::wrapping_add_u64;
 use transport::StepAnswer;
+use transport::Way;
 ghost use Prim.Native.Nat.{_≤_, _<_};
 ghost use Rattle.model.specs.Mesh.{maxCells, maxFaces};
 ghost use Rattle.bench_step.specs.Bounds.{maxArgument, prime};
@@ -59,6 +60,7 @@ fn pair(
     sums: Sums,
 ) -> Sums {
     let there = transport::step(
+        Way::Corrected,
         cells,
         faces,
         volumes,
@@ -75,6 +77,7 @@ fn pair(
         releases,
     );
     let back = transport::step(
+        Way::Corrected,
         cells,
         faces,
         volumes,

@@ -6,7 +6,7 @@ use calls_arguments::parts::copy_amounts;
 use calls_arguments::parts::number;
 use calls_arguments::parts::table;
 use calls_arguments::show;
-use transport::StepAnswer;
+use transport::Way;
 
 pub fn counts_within(words: &[u64]) {
     show::word(b"counts_within:");
@@ -82,17 +82,17 @@ pub fn board(words: &[u64]) {
 
 pub fn step(words: &[u64], ints: &[i64]) {
     show::word(b"step:");
-    stepped(false, words, ints);
+    stepped(Way::Corrected, words, ints);
 }
 
 pub fn plain_step(words: &[u64], ints: &[i64]) {
     show::word(b"plain_step:");
-    stepped(true, words, ints);
+    stepped(Way::Plain, words, ints);
 }
 
-fn stepped(plainly: bool, words: &[u64], ints: &[i64]) {
+fn stepped(way: Way, words: &[u64], ints: &[i64]) {
     fill(
-        plainly,
+        way,
         number(words, 0),
         number(words, 1),
         table(words, 2),
@@ -110,63 +110,9 @@ fn stepped(plainly: bool, words: &[u64], ints: &[i64]) {
     );
 }
 
-// A step, plain or not.
-fn step_by(
-    plainly: bool,
-    cells: usize,
-    faces: usize,
-    volumes: &[u64],
-    firsts: &[u64],
-    seconds: &[u64],
-    shares: &[u64],
-    reaches: &[u64],
-    masses: &[u64],
-    fluxes: &[i64],
-    outsides: &[u64],
-    next: &mut [u64],
-    moved: &mut [i64],
-    work: &mut [u64],
-    releases: &[u64],
-) -> StepAnswer {
-    if plainly {
-        return transport::plain_step(
-            cells,
-            faces,
-            volumes,
-            firsts,
-            seconds,
-            shares,
-            reaches,
-            masses,
-            fluxes,
-            outsides,
-            next,
-            moved,
-            work,
-            releases,
-        );
-    }
-    transport::step(
-        cells,
-        faces,
-        volumes,
-        firsts,
-        seconds,
-        shares,
-        reaches,
-        masses,
-        fluxes,
-        outsides,
-        next,
-        moved,
-        work,
-        releases,
-    )
-}
-
 // A step that writes into arrays which hold the entries given.
 fn fill(
-    plainly: bool,
+    way: Way,
     cells: usize,
     faces: usize,
     volumes: &[u64],
@@ -188,8 +134,8 @@ fn fill(
     let n = copy(given_next, &mut next);
     let m = copy_amounts(given_moved, &mut moved);
     let w = copy(given_work, &mut work);
-    calls_answers::step(step_by(
-        plainly,
+    calls_answers::step(transport::step(
+        way,
         cells,
         faces,
         volumes,

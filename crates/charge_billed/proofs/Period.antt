@@ -1,4 +1,4 @@
--- From the contracts of `step`, `plain_step`, `judge` and `add` to the totals of a period.
+-- From the contracts of `step`, `judge` and `add` to the totals of a period.
 use Prim.Native.Nat.{ℕ, _+_, _<_}
 use mathlib.Core.Path.{_≡_, refl, sym, ap, _∙_}
 use mathlib.Core.Bool.{Bool, true, false, cond}
@@ -14,19 +14,20 @@ use Rattle.signed.specs.Sign.{forward}
 use Rattle.model.specs.Mesh.{Mesh, atRim}
 use Rattle.model.specs.Step.{outMass}
 use Rattle.model.specs.Causes.{fine, granted, Call, inputOf}
-use Rattle.model.specs.Calls.{Crossing, crossingOf, fieldAfter, goneBy, Scheme, corrected, plain, judged, stepAnswer, movedTable, totalOut}
+use Rattle.model.specs.Calls.{Crossing, crossingOf, fieldAfter, goneBy, Scheme, judged, stepAnswer, movedTable, totalOut}
 use Rattle.model.specs.declared.Answer.the-variants.{Done}
 use Rattle.model.proofs.Verdicts.{accepted-of}
 use Rattle.model.proofs.Budget.{outward}
 use Rattle.model.proofs.Next.{outward-is}
-use Rattle.model.proofs.Lists.{Keeping, corrected-keeping, plain-keeping}
+use Rattle.model.proofs.Lists.{Keeping}
 use Rattle.model.proofs.Claims.{judged-keeping}
-use Rattle.transport.specs.Promise.{stepSaid, leftBy, StepPromise}
+use Rattle.transport.specs.Promise.{schemeOf, stepSaid, leftBy, StepPromise}
 use Rattle.transport.specs.declared.Crossed as crossed
 use Rattle.transport.specs.declared.StepAnswer.{StepAnswer}
 use Rattle.transport.specs.declared.StepAnswer.the-variants.{Stepped, Refused}
+use Rattle.transport.proofs.Promises.{way-keeping}
 use Rattle.charge_totals.specs.Totals.{gainOf, gainAt, addedTotals, AddPromise}
-use Rattle.charge_billed.specs.Period.{Way, correcting, plainly, asClaimed, Made, Promised, cameTo, totalsAfter, KeptOn, lastTotals, movedOut, OverAPeriod}
+use Rattle.charge_billed.specs.Period.{Source, byStep, byJudge, Made, Promised, cameTo, totalsAfter, KeptOn, lastTotals, movedOut, OverAPeriod}
 
 -- AN ACCEPTED STEP, by any scheme that keeps what amounts owe: over the rim goes its out-mass
 module _ (s : Scheme) (keeping : Keeping s) (M : Mesh) (masses : List ℕ) (k : Call) (b : crossed.Crossed) (moved : List ℤ)
@@ -70,12 +71,11 @@ by-step : (s : Scheme) → Keeping s → (M : Mesh) (m : Made) → StepPromise s
 by-step s keeping M m p = one-out s keeping M (m .masses) (m .tables) (m .answer) (m .next) (m .moved) (p .answer)
     (left-at s M (m .masses) (m .tables) (m .answer) (m .next) (m .moved) (m .work) p)
 
-by-way : (M : Mesh) (m : Made) (way : Way) → Promised M m way
+by-source : (M : Mesh) (m : Made) (source : Source) → Promised M m source
     → sum (M .faces) (λ f. cond (atRim M f) (granted (stepSaid (m .answer)) (forward (getD (m .moved) f (pos 0))) 0) 0)
     ≡ goneBy (leftBy (stepSaid (m .answer)) (m .next))
-by-way M m correcting p = by-step corrected corrected-keeping M m p
-by-way M m plainly p = by-step plain plain-keeping M m p
-by-way M m asClaimed p =
+by-source M m (byStep way) p = by-step (schemeOf way) (way-keeping way) M m p
+by-source M m byJudge p =
     one-out judged judged-keeping M (m .masses) (m .tables) (m .answer) (m .next) (m .moved) (p .0 .answer)
     (λ e f h. ap (λ (xs : List ℤ). getD xs f (pos 0)) (p .1))
 
@@ -116,7 +116,7 @@ all-moved M totals (m ∷ ms) kept field =
       sum-cong (M .faces) (λ f. cond (atRim M f) (out f + movedOut ms f) 0) (λ f. cond (atRim M f) (out f) 0 + cond (atRim M f) (movedOut ms f) 0)
           (λ f h. both-added (atRim M f) (out f) (movedOut ms f)),
       sum-add (M .faces) (λ f. cond (atRim M f) (out f) 0) (λ f. cond (atRim M f) (movedOut ms f) 0),
-      by-way M m (m .way) (kept .0),
+      by-source M m (m .source) (kept .0),
       all-moved M (totalsAfter m totals) ms (kept .2) (fieldAfter (cameTo m field) field),
     )
 

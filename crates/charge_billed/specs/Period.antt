@@ -9,23 +9,23 @@ use Rattle.lists.specs.Fold.{sum}
 use Rattle.signed.specs.Sign.{forward}
 use Rattle.model.specs.Mesh.{Mesh, atRim}
 use Rattle.model.specs.Causes.{Outcome, granted, Call}
-use Rattle.model.specs.Calls.{Left, corrected, plain, totalOut}
+use Rattle.model.specs.Calls.{Left, totalOut}
 use Rattle.model.specs.declared.Answer.the-variants.{Done}
-use Rattle.transport.specs.Promise.{stepSaid, leftBy, StepPromise}
+use Rattle.transport.specs.Promise.{schemeOf, stepSaid, leftBy, StepPromise}
+use Rattle.transport.specs.declared.Way.{Way}
 use Rattle.transport.specs.declared.StepAnswer.{StepAnswer}
 use Rattle.judging.specs.Promise.{JudgePromise}
 use Rattle.charge_totals.specs.Totals.{AddPromise}
 
--- by `step`, by `plain_step`, or claimed by another model and judged by `judge` (S-11)
-pub data Way : Type 0 where
-  correcting : Way
-  plainly : Way
-  asClaimed : Way
+-- by `step`, corrected or plain, or claimed by another model and judged by `judge` (S-11)
+pub data Source : Type 0 where
+  byStep : Way → Source
+  byJudge : Source
 
 -- A call of one of these: the masses and the other tables lent to it, of any values and of any length; its answer; its next masses, moved and
 -- work afterwards; and the totals after it was added, if it was. Of a judging the claim is lent as moved, and work means nothing.
 pub record Made : Type 0 where
-  pub way : Way
+  pub source : Source
   pub masses : List ℕ
   pub tables : Call
   pub answer : StepAnswer
@@ -43,17 +43,16 @@ abbrev pub totalsAfter : Made → List ℕ → List ℕ
 totalsAfter m totals = granted (stepSaid (m .answer)) (m .added) totals
 
 -- what each call promises; a judging leaves the claim as it was
-abbrev pub Promised : Mesh → Made → Way → Type 0
-Promised M m correcting = StepPromise corrected M (m .masses) (m .tables) (m .answer) (m .next) (m .moved) (m .work)
-Promised M m plainly = StepPromise plain M (m .masses) (m .tables) (m .answer) (m .next) (m .moved) (m .work)
-Promised M m asClaimed = JudgePromise M (m .masses) (m .tables) (m .answer) (m .next) × (m .moved ≡ m .tables .moveds)
+abbrev pub Promised : Mesh → Made → Source → Type 0
+Promised M m (byStep way) = StepPromise (schemeOf way) M (m .masses) (m .tables) (m .answer) (m .next) (m .moved) (m .work)
+Promised M m byJudge = JudgePromise M (m .masses) (m .tables) (m .answer) (m .next) × (m .moved ≡ m .tables .moveds)
 
 -- Each step kept its contract; each accepted one was then added, by a call of `add` that was lent the same seconds, the moved masses as the step
 -- left them and the totals as the last adding left them, and that answered done. Nobody else writes the totals.
 abbrev pub KeptOn : Mesh → List ℕ → List Made → Type 0
 KeptOn M totals [] = Unit {0}
 KeptOn M totals (m ∷ ms) =
-    Promised M m (m .way)
+    Promised M m (m .source)
     × granted (stepSaid (m .answer)) (AddPromise (M .seconds) (m .moved) totals (M .faces) Done (m .added)) (Unit {0})
     × KeptOn M (totalsAfter m totals) ms
 

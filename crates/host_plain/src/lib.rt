@@ -9,6 +9,7 @@ use record_layouts::Width;
 use record_reading::StepRead;
 use record_writing::WriteAnswer;
 use transport::StepAnswer;
+use transport::Way;
 ghost use mathlib.Core.Path.{_≡_};
 ghost use Rattle.model.specs.Mesh.{meshOf, ceiling};
 ghost use Rattle.model.specs.Causes.{meshValues};
@@ -40,7 +41,8 @@ fn written(
     let mut next = [0u64; RUN_CELLS];
     let mut moved = [0i64; RUN_FACES];
     let mut work = [0u64; RUN_WORK];
-    let a = transport::plain_step(
+    let a = transport::step(
+        Way::Plain,
         cells,
         faces,
         volumes,

@@ -2,6 +2,7 @@
 use host_numbers::fill3;
 use host_numbers::number_of;
 use transport::StepAnswer;
+use transport::Way;
 ghost use Prim.Native.Nat.{_<_, _^_};
 ghost use Rattle.model.specs.Mesh.{meshOf};
 ghost use Rattle.model.specs.Causes.{callOf};
@@ -52,6 +53,7 @@ pub extern "C" fn lagoon_table_step(
         (now (found .entry)) r (now (next .exit)) (now (moved .exit)) (now (work .exit)) (now (found .exit)) ⌝ }
 {
     let answer = transport::step(
+        Way::Corrected,
         cells,
         faces,
         volumes,
@@ -95,7 +97,8 @@ pub extern "C" fn lagoon_table_plain_step(
         (callOf (now (fluxes .entry)) (now (outsides .entry)) (now (next .entry)) (now (moved .entry)) (now (work .entry)) (now (releases .entry)))
         (now (found .entry)) r (now (next .exit)) (now (moved .exit)) (now (work .exit)) (now (found .exit)) ⌝ }
 {
-    let answer = transport::plain_step(
+    let answer = transport::step(
+        Way::Plain,
         cells,
         faces,
         volumes,

@@ -9,6 +9,7 @@ use record_layouts::lengths;
 use record_reading::MeshAnswer;
 use record_reading::StepRead;
 use transport::StepAnswer;
+use transport::Way;
 ghost use mathlib.Core.Path.{_≡_};
 ghost use Rattle.model.specs.Mesh.{meshOf, ceiling};
 ghost use Rattle.model.specs.Causes.{callOf, meshValues};
@@ -44,6 +45,7 @@ pub fn put_step(
         (now (bytes .entry)) r (now (bytes .exit)) ⌝ }
 {
     let answer = transport::step(
+        Way::Corrected,
         cells,
         faces,
         volumes,

@@ -1,4 +1,4 @@
--- The contract of `plain_step`, call after call, gives S-8's error.
+-- The contract of a plain `step`, call after call, gives S-8's error.
 use Prim.Native.Nat.{ℕ}
 use mathlib.Core.Path.{_≡_, _∙_}
 use mathlib.Core.List.{List, [], _∷_}

@@ -9,7 +9,7 @@ use Rattle.plain.specs.Error.{ErrorBelow}
 use Rattle.transport.specs.Promise.{stepSaid, leftBy, StepPromise}
 use Rattle.transport.specs.declared.StepAnswer.{StepAnswer}
 
--- A call of `plain_step`, or of `step`, as it was made: what stood in its table of masses past the field, the other tables lent to it, its
+-- A call of `step`, plain or corrected, as it was made: what stood in its table of masses past the field, the other tables lent to it, its
 -- answer, and its next masses, moved and work afterwards.
 pub record Made : Type 0 where
   pub past : List ℕ
@@ -23,7 +23,7 @@ pub record Made : Type 0 where
 abbrev pub cameTo : Made → List ℕ → Outcome Left
 cameTo m field = leftBy (stepSaid (m .answer)) (m .next)
 
--- Each call was made on the field that the one before it had come to, and it kept the contract of `plain_step`.
+-- Each call was made on the field that the one before it had come to, and it kept the contract of a plain `step`.
 abbrev pub KeptOn : Mesh → List ℕ → List Made → Type 0
 KeptOn M = EachStep cameTo
     (λ m field. StepPromise plain M (lentMasses M (m .past) field) (m .tables) (m .answer) (m .next) (m .moved) (m .work))

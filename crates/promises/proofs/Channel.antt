@@ -24,6 +24,7 @@ use Rattle.taking_mesh.specs.MeshTaking.{meshRecordFound, meshJudged}
 use Rattle.taking.specs.Taking.{fieldJudged, blank, stepRecordFound, stepJudged}
 use Rattle.lagoon.specs.Host.{hostInput, hostVerdict, hostBytes, HostPromise}
 use Rattle.transport.specs.Promise.{StepPromise}
+use Rattle.transport.specs.declared.Way.the-variants.{Corrected}
 use Rattle.transport.specs.declared.StepAnswer.the-variants.{Stepped}
 use Rattle.plain.specs.Made.{Made}
 use Rattle.promises.specs.Steps.{HostMade, StepCall, byStep, byHost, waterIn, cameTo, StepContract, StepsMade}
@@ -100,7 +101,7 @@ third = record {
 }
 
 abbrev calls : List StepCall
-calls = byStep first ∷ byHost second ∷ byHost third ∷ []
+calls = byStep Corrected first ∷ byHost second ∷ byHost third ∷ []
 
 -- they keep their contracts: the call on tables,
 first-kept : StepPromise corrected channel (lentMasses channel (7 ∷ 7 ∷ []) before) water (first .answer) between (first .moved) (first .work)

@@ -9,8 +9,9 @@ use lib.IntN.{ℤ}
 use lib.ListN.{take}
 use Rattle.model.specs.Mesh.{Mesh}
 use Rattle.model.specs.Causes.{Outcome, accepted, refused, Verdict, fine, _andThen_, Call, inputOf, meshVerdict, fieldVerdict, waterOf}
-use Rattle.model.specs.Calls.{Bounded, Left, crossingOf, corrected, plain, lentMasses, EachStep, ListClaim}
-use Rattle.transport.specs.Promise.{stepSaid, leftBy, StepPromise}
+use Rattle.model.specs.Calls.{Bounded, Left, crossingOf, lentMasses, EachStep, ListClaim}
+use Rattle.transport.specs.Promise.{schemeOf, stepSaid, leftBy, StepPromise}
+use Rattle.transport.specs.declared.Way.{Way}
 use Rattle.judging.specs.Promise.{JudgePromise}
 use Rattle.plain.specs.Made.{Made}
 use Rattle.record_layouts.specs.Layouts.{fieldKind, fieldLength}
@@ -29,7 +30,7 @@ use Rattle.host_record_promises.specs.Judge.{JudgedFromC}
 use Rattle.promises.specs.Held.{HoldsMesh, HoldsField}
 
 -- THE CALLS, as they were made: what was lent besides mesh and field, of any values and of any length; what was answered; and what then stood
--- in the tables that the call writes. Of `step`, `plain_step` and `judge` that is `Made`; a claim is lent as moved, and of its call only the
+-- in the tables that the call writes. Of `step`, by its way, and of `judge` that is `Made`; a claim is lent as moved, and of its call only the
 -- next masses are written.
 
 -- `take_step`, the step of a run: the width that it was told, what stood in the table of masses past the field, the step record, the answer,
@@ -72,15 +73,13 @@ pub record TableMade : Type 0 where
   pub foundAfter : List ℕ
 
 pub data StepCall : Type 0 where
-  byStep : Made → StepCall
-  byPlainStep : Made → StepCall
+  byStep : Way → Made → StepCall
   byJudge : Made → StepCall
   byTakeStep : RunMade → StepCall
   byHost : HostMade → StepCall
   byHostPlain : HostMade → StepCall
   byHostJudge : ClaimMade → StepCall
-  byTableStep : TableMade → StepCall
-  byTablePlain : TableMade → StepCall
+  byTableStep : Way → TableMade → StepCall
   byTableJudge : TableMade → StepCall
 
 -- WHAT A CALL CAME TO, by its answer: a refusal, or the field that it left with what came in, went out and was released.
@@ -98,15 +97,13 @@ module _ (M : Mesh) where
   waterIn step = waterOf (fluxesIn step (M .faces)) (outsidesIn step (M .faces) (M .seconds)) (releasesIn step (M .cells) (M .faces) (M .seconds))
 
   abbrev pub waterBy : StepCall → Call
-  waterBy (byStep m) = m .tables
-  waterBy (byPlainStep m) = m .tables
+  waterBy (byStep way m) = m .tables
   waterBy (byJudge m) = m .tables
   waterBy (byTakeStep m) = waterIn (m .step)
   waterBy (byHost m) = waterIn (m .step)
   waterBy (byHostPlain m) = waterIn (m .step)
   waterBy (byHostJudge m) = waterIn (m .host .step)
-  waterBy (byTableStep m) = m .tables
-  waterBy (byTablePlain m) = m .tables
+  waterBy (byTableStep way m) = m .tables
   waterBy (byTableJudge m) = m .tables
 
   abbrev pub nextRecord : HostMade → List ℕ
@@ -123,15 +120,13 @@ module _ (M : Mesh) where
       hostSaid (m .number) andThen accepted (record { field = m .next; crossing = crossingOf M (lentMasses M (m .past) field) (m .tables) })
 
   abbrev pub cameTo : StepCall → List ℕ → Outcome Left
-  cameTo (byStep m) field = leftBy (stepSaid (m .answer)) (m .next)
-  cameTo (byPlainStep m) field = leftBy (stepSaid (m .answer)) (m .next)
+  cameTo (byStep way m) field = leftBy (stepSaid (m .answer)) (m .next)
   cameTo (byJudge m) field = leftBy (stepSaid (m .answer)) (m .next)
   cameTo (byTakeStep m) field = runLeft (takenSaid (m .answer)) (m .masses)
   cameTo (byHost m) field = hostLeft m field
   cameTo (byHostPlain m) field = hostLeft m field
   cameTo (byHostJudge m) field = hostLeft (m .host) field
-  cameTo (byTableStep m) field = tableLeft m field
-  cameTo (byTablePlain m) field = tableLeft m field
+  cameTo (byTableStep way m) field = tableLeft m field
   cameTo (byTableJudge m) field = tableLeft m field
 
   -- The call was lent the mesh and, as masses, the field, and kept its contract. Of a host's call the records hold them, whichever bytes they are.
@@ -139,18 +134,16 @@ module _ (M : Mesh) where
   Brought m field = HoldsMesh (m .width) M (m .mesh) × HoldsField (m .width) M field (m .field)
 
   abbrev pub StepContract : StepCall → List ℕ → Type 0
-  StepContract (byStep m) field = StepPromise corrected M (lentMasses M (m .past) field) (m .tables) (m .answer) (m .next) (m .moved) (m .work)
-  StepContract (byPlainStep m) field = StepPromise plain M (lentMasses M (m .past) field) (m .tables) (m .answer) (m .next) (m .moved) (m .work)
+  StepContract (byStep way m) field =
+      StepPromise (schemeOf way) M (lentMasses M (m .past) field) (m .tables) (m .answer) (m .next) (m .moved) (m .work)
   StepContract (byJudge m) field = JudgePromise M (lentMasses M (m .past) field) (m .tables) (m .answer) (m .next)
   StepContract (byTakeStep m) field = StepTaking (m .width) M (lentMasses M (m .past) field) (m .step) (m .answer) (m .masses)
   StepContract (byHost m) field = Brought m field × HostPromise (m .mesh) (m .field) (m .step) (m .room) (m .number) (m .bytes)
   StepContract (byHostPlain m) field = Brought m field × PlainPromise (m .mesh) (m .field) (m .step) (m .room) (m .number) (m .bytes)
   StepContract (byHostJudge m) field = Brought (m .host) field
       × JudgedFromC (m .host .mesh) (m .host .field) (m .host .step) (m .claim) (m .host .room) (m .found) (m .host .number) (m .host .bytes) (m .foundAfter)
-  StepContract (byTableStep m) field =
-      StepFromC corrected M (lentMasses M (m .past) field) (m .tables) (m .found) (m .number) (m .next) (m .moved) (m .work) (m .foundAfter)
-  StepContract (byTablePlain m) field =
-      StepFromC plain M (lentMasses M (m .past) field) (m .tables) (m .found) (m .number) (m .next) (m .moved) (m .work) (m .foundAfter)
+  StepContract (byTableStep way m) field =
+      StepFromC (schemeOf way) M (lentMasses M (m .past) field) (m .tables) (m .found) (m .number) (m .next) (m .moved) (m .work) (m .foundAfter)
   StepContract (byTableJudge m) field = JudgeFromC M (lentMasses M (m .past) field) (m .tables) (m .found) (m .number) (m .next) (m .foundAfter)
 
   -- The calls ran one after another, each on the field as the last left it.
@@ -166,29 +159,24 @@ module _ (M : Mesh) where
   Told found foundAfter l = foundAfter ≡ filled (crossed (l .crossing)) found
 
   abbrev pub Given : StepCall → Left → Type 0
-  Given (byStep m) l = Unit {0}
-  Given (byPlainStep m) l = Unit {0}
+  Given (byStep way m) l = Unit {0}
   Given (byJudge m) l = Unit {0}
   Given (byTakeStep m) l = Unit {0}
   Given (byHost m) l = NextHeld m l
   Given (byHostPlain m) l = NextHeld m l
   Given (byHostJudge m) l = NextHeld (m .host) l × Told (m .found) (m .foundAfter) l
-  Given (byTableStep m) l = Told (m .found) (m .foundAfter) l
-  Given (byTablePlain m) l = Told (m .found) (m .foundAfter) l
+  Given (byTableStep way m) l = Told (m .found) (m .foundAfter) l
   Given (byTableJudge m) l = Told (m .found) (m .foundAfter) l
 
   -- And of a refused one: what it was lent to write is as it was.
   abbrev pub Unwritten : StepCall → List ℕ → Type 0
-  Unwritten (byStep m) field = (m .next ≡ m .tables .nexts) × (m .moved ≡ m .tables .moveds) × (m .work ≡ m .tables .work)
-  Unwritten (byPlainStep m) field = (m .next ≡ m .tables .nexts) × (m .moved ≡ m .tables .moveds) × (m .work ≡ m .tables .work)
+  Unwritten (byStep way m) field = (m .next ≡ m .tables .nexts) × (m .moved ≡ m .tables .moveds) × (m .work ≡ m .tables .work)
   Unwritten (byJudge m) field = m .next ≡ m .tables .nexts
   Unwritten (byTakeStep m) field = m .masses ≡ lentMasses M (m .past) field
   Unwritten (byHost m) field = m .bytes ≡ m .room
   Unwritten (byHostPlain m) field = m .bytes ≡ m .room
   Unwritten (byHostJudge m) field = (m .host .bytes ≡ m .host .room) × (m .foundAfter ≡ m .found)
-  Unwritten (byTableStep m) field =
-      (m .next ≡ m .tables .nexts) × (m .moved ≡ m .tables .moveds) × (m .work ≡ m .tables .work) × (m .foundAfter ≡ m .found)
-  Unwritten (byTablePlain m) field =
+  Unwritten (byTableStep way m) field =
       (m .next ≡ m .tables .nexts) × (m .moved ≡ m .tables .moveds) × (m .work ≡ m .tables .work) × (m .foundAfter ≡ m .found)
   Unwritten (byTableJudge m) field = (m .next ≡ m .tables .nexts) × (m .foundAfter ≡ m .found)
 

@@ -7,6 +7,7 @@ use model::StepTaken;
 use record_layouts::Width;
 use record_reading::StepRead;
 use transport::StepAnswer;
+use transport::Way;
 ghost use mathlib.Core.Path.{_≡_};
 ghost use lib.ListN.{length};
 ghost use Rattle.model.specs.Mesh.{meshOf, runCells, runFaces};
@@ -38,6 +39,7 @@ fn stepped(
         (now (masses .entry)) (now (fluxes .entry)) (now (outsides .entry)) (now (released .entry)) r (now (masses .exit)) ⌝ }
 {
     let answer = transport::step(
+        Way::Corrected,
         cells,
         faces,
         volumes,

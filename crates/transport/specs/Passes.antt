@@ -1,21 +1,11 @@
 -- What all passes of a step come to: document 01, "One step", and "Tables lent to a step".
 use Prim.Native.Nat.{ℕ, _+_, _*_}
 use mathlib.Core.Path.{_≡_}
-use mathlib.Core.Bool.{Bool, cond}
 use mathlib.Core.List.{List}
 use lib.IntN.{ℤ}
 use Rattle.lists.specs.Table.{table, over}
 use Rattle.model.specs.Mesh.{updated}
-use Rattle.model.specs.Step.{StepInput, mass, carried, moved, inMass, outMass}
-use Rattle.model.specs.Causes.{inputOf, verdict}
-use Rattle.model.specs.Calls.{Scheme}
-
--- what a step moves, plain or not, and its scheme
-abbrev pub amountsBy : Bool → StepInput → ℕ → ℤ
-amountsBy plainly S = cond plainly (carried S) (moved S)
-
-abbrev pub schemeBy : Bool → Scheme
-schemeBy plainly = record { finds = verdict; moves = λ M field k. amountsBy plainly (inputOf M field k) }
+use Rattle.model.specs.Step.{StepInput, mass, inMass, outMass}
 
 -- after all passes of a scheme that moves the amounts x, on tables as long as the counts
 pub record Advanced (S : StepInput) (x : ℕ → ℤ) (entered gone : ℕ) (next₁ : List ℕ) (moved₁ : List ℤ) (work₁ : List ℕ) : Type 0 where

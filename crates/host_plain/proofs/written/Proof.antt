@@ -34,17 +34,17 @@ start-from-moved2 c = start-from-shared-slice-known6 (c .before .before .before 
 abbrev start-from-slice-known2 : tie.After-slice-known2 → tie.Start
 start-from-slice-known2 c = start-from-moved2 (c .before .before .before .before .before .before .before .before .before)
 
-abbrev plain-step-from-moved2 : tie.After-moved2 → tie.After-plain-step
-plain-step-from-moved2 c = c .before .before
+abbrev step-from-moved2 : tie.After-moved2 → tie.After-step
+step-from-moved2 c = c .before .before
 
-abbrev plain-step-from-slice-known2 : tie.After-slice-known2 → tie.After-plain-step
-plain-step-from-slice-known2 c = plain-step-from-moved2 (c .before .before .before .before .before .before .before .before .before)
+abbrev step-from-slice-known2 : tie.After-slice-known2 → tie.After-step
+step-from-slice-known2 c = step-from-moved2 (c .before .before .before .before .before .before .before .before .before)
 
 array-share-prefix-next : tie.Need-array-share-prefix-next
 unfolding blank
 array-share-prefix-next c =
     let s = (start-from-work2 (c .before .before .before)) in
-    let p = c .before .before .before .before .before .before .plain-step .ensures in
+    let p = c .before .before .before .before .before .before .step .ensures in
     next-part plain plain-keeping (s .args .width) (mesh s) (s .pre) (s .args .masses .now) (call s)
     (lent (mesh s) (s .args .masses .now) (call s)) (s .args .bytes .now) (p .answer) (p .next-masses) (c .before .a2 .given .1) .fits
 
@@ -52,7 +52,7 @@ slice-aggregate-write-field : tie.Need-slice-aggregate-write-field
 unfolding blank
 slice-aggregate-write-field c =
     let s = (start-from-work2 (c .before .before .before .before)) in
-    let p = c .before .before .before .before .before .before .before .plain-step .ensures in
+    let p = c .before .before .before .before .before .before .before .step .ensures in
     part-long (next-part plain plain-keeping (s .args .width) (mesh s) (s .pre) (s .args .masses .now) (call s)
     (lent (mesh s) (s .args .masses .now) (call s)) (s .args .bytes .now) (p .answer) (p .next-masses) (c .before .before .a2 .given .1))
 
@@ -60,7 +60,7 @@ returns : tie.Need-returns
 unfolding blank
 returns c =
     let s = (start-from-work2 (c .before .before .before)) in
-    let p = c .before .before .before .before .before .before .plain-step .ensures in
+    let p = c .before .before .before .before .before .before .step .ensures in
     step-refused plain plain-keeping (s .args .width) (mesh s) (s .pre) (s .args .masses .now) (call s)
     (lent (mesh s) (s .args .masses .now) (call s)) (s .args .bytes .now) (p .answer) (p .next-masses) (c .before .a .given .1)
 
@@ -68,7 +68,7 @@ returns-2 : tie.Need-returns-2
 unfolding blank
 returns-2 c =
     let s = (start-from-slice-known2 (c .before .before .before)) in
-    let p = (plain-step-from-slice-known2 (c .before .before .before)) .plain-step .ensures in
+    let p = (step-from-slice-known2 (c .before .before .before)) .step .ensures in
     no-room plain plain-keeping (s .args .width) (mesh s) (s .pre) (s .args .masses .now) (call s)
     (lent (mesh s) (s .args .masses .now) (call s)) (s .args .bytes .now) (p .answer) (p .next-masses)
     (c .before .before .before .before .before .before .before .before .before .a2 .given .1)
@@ -78,7 +78,7 @@ returns-3 : tie.Need-returns-3
 unfolding blank
 returns-3 c =
     let s = (start-from-slice-known2 (c .before .before)) in
-    let p = (plain-step-from-slice-known2 (c .before .before)) .plain-step .ensures in
+    let p = (step-from-slice-known2 (c .before .before)) .step .ensures in
     record-written plain plain-keeping (s .args .width) (mesh s) (s .pre) (s .args .masses .now) (call s)
     (lent (mesh s) (s .args .masses .now) (call s)) (s .args .bytes .now) (p .answer) (p .next-masses)
     (c .before .before .before .before .before .before .before .before .a2 .given .1) (c .before .before .before .before .write-field .ensures)
