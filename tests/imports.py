@@ -56,7 +56,7 @@ def dropped(text):
 
 
 def sources():
-    return sorted(path for kind in ("*.antt", "*.rt") for path in (ROOT / "crates").rglob(kind) if "must-fail" not in path.parts)
+    return sorted(path.relative_to(Path.cwd()) for kind in ("*.antt", "*.rt") for path in (ROOT / "crates").rglob(kind) if "must-fail" not in path.parts)
 
 
 def main():

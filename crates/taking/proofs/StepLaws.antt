@@ -180,6 +180,12 @@ module _ {M : Mesh} {masses : List ℕ} {fluxes : List ℤ} {outsides nexts : Li
         rw (i, o, h, l, sum-is d e) in
         record { answer = ap accepted q ∙ sym (past _ v); masses-after = rw v (masses-are d e) }
 
+-- what a step of which nothing is found has passed: its record, and the causes of the step
+pub step-says : (w : Width) (M : Mesh) (masses bs : List ℕ) → stepJudged w M masses bs ≡ fine
+    → (stepRecordFound w M bs ≡ fine) × (verdict M masses (stepIn M bs) ≡ fine)
+unfolding stepJudged
+step-says w M masses bs e = both-fine _ _ e
+
 -- the step of a record
 module _ (w : Width) (M : Mesh) (masses : List ℕ) {bs : List ℕ} {fluxes : List ℤ} {outsides releases : List ℕ} {a : StepRead} {fluxes′ : List ℤ}
     {outsides′ releases′ : List ℕ}

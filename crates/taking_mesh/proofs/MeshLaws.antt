@@ -10,7 +10,7 @@ use lib.ListN.{length, take}
 use Rattle.lists.specs.Table.{over}
 use Rattle.lists.proofs.Tables.{length-table, getD-table}
 use Rattle.model.specs.Mesh.{Mesh, meshOf, runCells, runFaces, maxCells, maxFaces, ceiling, oldCeiling}
-use Rattle.model.specs.Causes.{accepted, refused, Verdict, fine, _andThen_, countsWithin, counts, meshTables, meshValues, meshVerdict}
+use Rattle.model.specs.Causes.{accepted, refused, Verdict, fine, _andThen_, inTurn, countsWithin, counts, meshTables, meshValues, meshVerdict}
 use Rattle.model.specs.Ceilings.{MeshSmall}
 use Rattle.model.specs.Answers.{number}
 use Rattle.model.specs.declared.Refusal.{Refusal}
@@ -28,7 +28,7 @@ use Rattle.record_reading.specs.Answers.{meshSaid, MeshReading}
 use Rattle.record_reading.specs.declared.MeshAnswer.{MeshAnswer}
 use Rattle.record_reading.specs.declared.MeshAnswer.the-variants as mesh-answer
 use Rattle.record_reading.specs.declared.MeshCounts.{MeshCounts}
-use Rattle.taking_mesh.specs.MeshTaking.{meshRecordFound, meshJudged, MeshKept, MeshTaking}
+use Rattle.taking_mesh.specs.MeshTaking.{meshRecordFound, meshRoomCauses, meshJudgedCauses, meshJudged, MeshKept, MeshTaking}
 use Rattle.taking_mesh.specs.Inner.{MeshCut, keptFound}
 use Rattle.model.proofs.Parts.{PartRead, read-part, long-met}
 
@@ -66,6 +66,19 @@ room M volumes firsts seconds shares reaches c e =
       shares-room = omega (arith, c .shares-cut, l .shares-long);
       reaches-room = omega (arith, c .reaches-cut, l .reaches-long);
     }
+
+-- what a mesh of which nothing is found has passed
+pub record MeshSays (bs : List ℕ) (volumes firsts seconds shares reaches : ℕ) : Type 0 where
+  pub found : meshRecordFound bs ≡ fine
+  pub room : inTurn (meshRoomCauses bs volumes firsts seconds shares reaches) ≡ fine
+  pub values : meshValues ceiling (meshIn bs) ≡ fine
+
+pub mesh-says : (bs : List ℕ) (volumes firsts seconds shares reaches : ℕ) → meshJudged bs volumes firsts seconds shares reaches ≡ fine
+    → MeshSays bs volumes firsts seconds shares reaches
+unfolding meshJudged
+mesh-says bs volumes firsts seconds shares reaches e =
+    let p = all-fine (meshJudgedCauses bs volumes firsts seconds shares reaches) e in
+    record { found = p .0; room = p .1 .0; values = p .1 .1 .0 }
 
 -- a record that reading accepts
 pub record Limits (bs : List ℕ) : Type 0 where
