@@ -56,7 +56,7 @@ def dropped(text):
 
 
 def sources():
-    return sorted(path.relative_to(Path.cwd()) for kind in ("*.antt", "*.rt") for path in (ROOT / "crates").rglob(kind) if "must-fail" not in path.parts)
+    return sorted(path for kind in ("*.antt", "*.rt") for path in (ROOT / "crates").rglob(kind) if "must-fail" not in path.parts)
 
 
 def main():
@@ -67,7 +67,7 @@ def main():
         text = file.read_text()
         for line, lost in idle(text):
             count += len(lost)
-            print(f"{file}:{text.count(chr(10), 0, line.start()) + 1}: imported and not used: {', '.join(lost)}")
+            print(f"{file.relative_to(ROOT) if ROOT in file.parents else file}:{text.count(chr(10), 0, line.start()) + 1}: imported and not used: {', '.join(lost)}")
         if drop and dropped(text) != text:
             file.write_text(dropped(text))
     print(f"imports: {len(files)} files, {count} names that are used nowhere{', taken out' if drop else ''}")

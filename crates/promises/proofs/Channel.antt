@@ -26,7 +26,7 @@ use Rattle.lagoon.specs.Host.{hostInput, hostVerdict, hostBytes, HostPromise}
 use Rattle.transport.specs.Promise.{StepPromise}
 use Rattle.transport.specs.declared.Way.the-variants.{Corrected}
 use Rattle.transport.specs.declared.StepAnswer.the-variants.{Stepped}
-use Rattle.plain.specs.Made.{Made}
+use Rattle.transport.specs.Made.{Made}
 use Rattle.promises.specs.Steps.{HostMade, StepCall, byStep, byHost, waterIn, cameTo, StepContract, StepsMade}
 use Rattle.promises.proofs.Held.{mesh-holds, field-holds}
 

@@ -13,7 +13,7 @@ use Rattle.model.specs.Calls.{Bounded, Left, crossingOf, lentMasses, EachStep, 
 use Rattle.transport.specs.Promise.{schemeOf, stepSaid, leftBy, StepPromise}
 use Rattle.transport.specs.declared.Way.{Way}
 use Rattle.judging.specs.Promise.{JudgePromise}
-use Rattle.plain.specs.Made.{Made}
+use Rattle.transport.specs.Made.{Made}
 use Rattle.record_layouts.specs.Layouts.{fieldKind, fieldLength}
 use Rattle.record_layouts.specs.declared.Width.{Width}
 use Rattle.record_reading.specs.Reading.{massesIn, fluxesIn, outsidesIn, releasesIn}
