@@ -32,7 +32,7 @@ use Rattle.promises.proofs.Numbers.{said-of, said-giving}
 use Rattle.promises.proofs.OnRecords.{record-same, records-crossing, records-fair, records-refused}
 
 -- the step that a record holds is the same on a mesh trimmed to its counts
-step-same : (M : Mesh) (step : List ℕ) → stepIn (trimmed M) step ≡ stepIn M step
+pub step-same : (M : Mesh) (step : List ℕ) → stepIn (trimmed M) step ≡ stepIn M step
 step-same M step = record-same M step (ownTables (fluxesIn step (M .faces)))
 
 module _ (M : Mesh) (mesh-fine : meshVerdict M ≡ fine) (field : List ℕ) (m : HostMade) (brought : Brought M m field) where
@@ -40,7 +40,7 @@ module _ (M : Mesh) (mesh-fine : meshVerdict M ≡ fine) (field : List ℕ) (m :
     abbrev hostFound : Verdict
     hostFound = hostVerdict (m .mesh) (m .field) (m .step) (length (m .room))
 
-    host-says : hostSaid (m .number) ≡ hostFound
+    pub host-says : hostSaid (m .number) ≡ hostFound
     host-says = said-of hostFound (m .number) (p .number) (host-small (m .mesh) (m .field) (m .step) (length (m .room)))
 
     host-finds : hostFound ≡ fine
@@ -64,7 +64,7 @@ module _ (M : Mesh) (mesh-fine : meshVerdict M ≡ fine) (field : List ℕ) (m :
     abbrev plainFound : Verdict
     plainFound = withRoom (stepTested (m .mesh) (m .field) (m .step)) (widthIn (m .mesh)) (meshIn (m .mesh) .cells) (length (m .room))
 
-    plain-says : hostSaid (m .number) ≡ plainFound
+    pub plain-says : hostSaid (m .number) ≡ plainFound
     plain-says = said-of plainFound (m .number) (p .number) (small-and
         (small-and (field-tested-small (m .mesh) (m .field)) (step-judged-small (m .mesh) (m .step) (fieldIn (m .mesh) (m .field))))
         (small-need 2 11 _ (omega arith)))
