@@ -1,23 +1,24 @@
 -- A record within the run's limits is no longer than the longest step.
-use Prim.Native.Nat.{ℕ, _+_, _≤_}
+use Prim.Native.Nat.{ℕ, _+_, _≤_, _<_}
 use mathlib.Core.Path.{_≡_, refl, sym, _∙_}
 use mathlib.Core.List.{List}
 use native.Mathlib.Nat.{mul-le-mul, le-trans}
 use native.Mathlib.Omega.{arith}
-use borrow.Author.Tests.{leb-true}
+use borrow.Author.Tests.{leb-true, lt-leb}
 use lib.Dec.{leb}
+use lib.ListN.{length}
 use Rattle.lists.proofs.Tests.{both-true}
 use Rattle.model.specs.Mesh.{runCells, runFaces}
-use Rattle.model.specs.Causes.{accepted, countsWithin}
+use Rattle.model.specs.Causes.{accepted, countsWithin, need, _andThen_}
 use Rattle.model.proofs.Verdicts.{both-fine, need-fine}
 use Rattle.record_bits.specs.Layout.{bytesFor}
 use Rattle.record_bits.proofs.Layouts.{bytes-most}
-use Rattle.record_layouts.specs.Layouts.{fieldKind, valueBits, massBits, releaseBits, meshBits, fieldBits, stepBits, meshLength, fieldLength, stepLength}
-use Rattle.record_heads.specs.Heads.{kindIn, cellsIn, facesIn, meshHeadVerdict, meshMeasured, meshNeeds, fieldNeeds, stepNeeds}
+use Rattle.record_layouts.specs.Layouts.{fieldKind, stepHeadBits, valueBits, massBits, releaseBits, meshBits, fieldBits, stepBits, meshLength, fieldLength, stepLength}
+use Rattle.record_heads.specs.Heads.{kindIn, cellsIn, facesIn, meshHeadVerdict, meshMeasured, meshNeeds, fieldNeeds, stepNeeds, stepHeadVerdict}
 use Rattle.record_layouts.specs.declared.Width.{Width}
 use Rattle.record_heads.proofs.HeadLaws.{bytes-alone}
 use Rattle.record_layouts.proofs.Layouts.{rim-le, value-most, mass-most, release-wide}
-use Rattle.run_intake.specs.Intake.{recordBytes}
+use Rattle.run_intake.specs.Intake.{recordBytes, stillNeeded}
 
 -- the same in bytes, as the run's buffer has them
 abbrev pub longest : ℕ
@@ -68,6 +69,12 @@ step-in-room w cells faces seconds bs n k l e =
       mul-le-mul k (le-trans (release-wide (kindIn bs)) (mass-most (kindIn bs))),
       mul-le-mul l (value-most (kindIn bs)),
     ))
+
+-- a head that has not come whole asks for nothing
+pub no-head : (w : Width) (cells faces : ℕ) (seconds bs : List ℕ) (got : ℕ) → length bs < bytesFor stepHeadBits
+    → stillNeeded (stepNeeds w cells faces seconds bs) got ≡ 0
+unfolding stepNeeds stepHeadVerdict need _andThen_
+no-head w cells faces seconds bs got h = rw (lt-leb (bytesFor stepHeadBits) (length bs) h)
 
 pub room-left : (got more : ℕ) → (got ≤ recordBytes → got + more ≤ recordBytes) → got ≤ longest → got + more ≤ longest
 room-left got more h l = let q : got ≤ recordBytes = rw record-is l in rw record-is at (h q)

@@ -10,14 +10,15 @@ use record_layouts::STEP_HEAD;
 use record_layouts::Width;
 use record_layouts::body::Body;
 ghost use mathlib.Core.Path.{_≡_};
-ghost use Prim.Native.Nat.{_+_, _-_, _≤_, min};
+ghost use mathlib.Core.Bool.{true};
+ghost use Prim.Native.Nat.{_+_, _-_, _≤_, _<_};
 ghost use lib.ListN.{length, take};
 ghost use Rattle.io.specs.Counts.{Counts};
 ghost use Rattle.model.specs.Mesh.{runCells, runFaces};
 ghost use Rattle.record_bits.specs.Layout.{bytesFor};
 ghost use Rattle.record_layouts.specs.Layouts.{meshHeadBits, fieldHeadBits, stepHeadBits};
 ghost use Rattle.record_heads.specs.Heads.{lengthSaid, meshLengthSaid, bytesOf, meshNeeds, fieldNeeds, stepNeeds};
-ghost use Rattle.run_intake.specs.Intake.{recordBytes, stillNeeded, Asked, held, HeldAhead};
+ghost use Rattle.run_intake.specs.Intake.{recordBytes, stillNeeded, Asked, held, HeldAhead, SomeTaken, RecordTaken};
 
 // Most bits of a face in a step record: one at the rim, in the wide kinds.
 const RIM_FACE: usize = Body::SIGN + Body::WIDE_VALUE + Body::OUTSIDE;
@@ -55,7 +56,7 @@ fn once(buffer: &mut [u8], at: usize, to: usize) -> Got
 fn bytes(buffer: &mut [u8], from: usize, enough: usize, to: usize) -> Got
     requires { ⌜ (from ≤ to) × (enough ≤ to) × (to ≤ length (now buffer)) ⌝ }
     ensures { λ r. ⌜ Counts (r .count) (now (buffer .exit)) × (from ≤ r .count) × (r .count ≤ to)
-        × (take from (now (buffer .exit)) ≡ take from (now (buffer .entry))) ⌝ }
+        × (take from (now (buffer .exit)) ≡ take from (now (buffer .entry))) × (r .failed ≡ true → r .count < enough) ⌝ }
 {
     let mut at = from;
     while at < enough {
@@ -165,7 +166,8 @@ fn hold(
     unwritten: usize,
 ) -> Held
     requires { ⌜ (from ≤ to) × (to ≤ length (now buffer)) × (wanted ≤ length (now buffer)) × (unwritten ≤ length (now lines)) ⌝ }
-    ensures { λ r. ⌜ HeldAhead (now (buffer .entry)) from to unwritten (now (buffer .exit)) r × (r .end ≡ min (r .from + wanted) (r .to)) ⌝ }
+    ensures { λ r. ⌜ HeldAhead (now (buffer .entry)) from to unwritten (now (buffer .exit)) r
+        × SomeTaken wanted (now (buffer .entry)) from to unwritten (now (buffer .exit)) r ⌝ }
 {
     let kept = to - from;
     if wanted <= kept {
@@ -212,8 +214,8 @@ pub fn step(
 ) -> Held
     requires { do ⌜ (from ≤ to) × (to ≤ length (now buffer)) × ((← ⟦RECORD⟧) ≤ length (now buffer)) × (unwritten ≤ length (now lines)) ⌝ }
     ensures { λ r. ⌜ HeldAhead (now (buffer .entry)) from to unwritten (now (buffer .exit)) r
-        × Asked (bytesFor stepHeadBits) (stepNeeds width cells faces (now (seconds .entry))) (held (now (buffer .exit)) (r .from) (r .end))
-        (r .end - r .from) ⌝ }
+        × RecordTaken (bytesFor stepHeadBits) (stepNeeds width cells faces (now (seconds .entry))) (now (buffer .entry)) from to unwritten
+        (now (buffer .exit)) r ⌝ }
 {
     let head = hold(STEP_HEAD, buffer, from, to, lines, unwritten);
     if head.failed {

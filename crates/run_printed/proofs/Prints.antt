@@ -25,9 +25,9 @@ use Rattle.model.specs.declared.Printed.{Printed}
 use Rattle.model.specs.declared.StepTaken.{StepTaken}
 use Rattle.model.proofs.Verdicts.{accepted-of}
 use Rattle.run_lines.specs.Lines.{Holds, stepLine, boardLine}
-use Rattle.run_intake.specs.Intake.{stillNeeded}
+use Rattle.run_intake.specs.Intake.{stillNeeded, recordAt}
 use Rattle.run_session.specs.Session.{stepText, stepTakenLine, goesOn, goesOnAfter}
-use Rattle.run_printed.specs.Run.{recordAt, meshAt, fieldAt, stepAt, following, inTable, boardLines, boardPrinted, stepComesTo, fieldThen, stepsPrinted}
+use Rattle.run_printed.specs.Run.{meshAt, fieldAt, stepAt, following, inTable, boardLines, boardPrinted, stepComesTo, fieldThen, stepsPrinted}
 use Rattle.run_printed.specs.Run.{fromField, fieldPrinted, runMesh, fromMesh, printed}
 use Rattle.run_printed.specs.Program.{ReadIn, countedBytes, EntriesPrint, none, one, BoardPrints, StepsPrint, no-byte, step-ends, step-goes-on}
 use Rattle.run_printed.specs.Program.{FieldPrints, field-refused, field-accepted, Prints, mesh-refused, mesh-accepted}

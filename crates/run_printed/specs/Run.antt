@@ -2,7 +2,7 @@
 use Prim.Native.Nat.{ℕ, zero, suc, _+_}
 use mathlib.Core.Bool.{cond}
 use mathlib.Core.List.{List, [], _∷_, _++_, map}
-use lib.ListN.{length, take, drop}
+use lib.ListN.{length, drop}
 use Rattle.lists.specs.Table.{table, over}
 use Rattle.model.specs.Mesh.{Mesh, meshOf, total, runCells, runFaces}
 use Rattle.model.specs.Causes.{Outcome, accepted, refused, _andThen_, granted, cellsOnly}
@@ -19,17 +19,14 @@ use Rattle.taking_mesh.specs.MeshTaking.{meshJudgedInRun}
 use Rattle.taking.specs.Taking.{fieldJudged, stepJudged, stepIn, printedOf, massesAfter}
 use Rattle.model.specs.declared.Printed.{Printed}
 use Rattle.run_lines.specs.Lines.{letterM, letterF, refusalLine, stepLine, boardLine}
-use Rattle.run_intake.specs.Intake.{stillNeeded}
+use Rattle.run_intake.specs.Intake.{recordAt}
 use Rattle.run_session.specs.Session.{stepText, goesOnAfter}
 
 -- The run's tables are as long as its limits and 0 at first. Entries past the counts mean nothing.
 abbrev pub inTable : ℕ → List ℕ → List ℕ
 inTable n xs = over xs (table n (λ i. 0))
 
--- READING. A record is its head and as many bytes as that asks for; where the input ends before, what there is, which is cause 11.
-unfoldable pub recordAt : ℕ → (List ℕ → Outcome ℕ) → List ℕ → List ℕ
-recordAt head needs input = take (length (take head input) + stillNeeded (needs (take head input)) (length (take head input))) input
-
+-- READING: a record after another.
 abbrev pub meshAt : List ℕ → List ℕ
 meshAt input = recordAt (bytesFor meshHeadBits) (meshNeeds runCells runFaces) input
 

@@ -7,6 +7,7 @@ use model::Refusal;
 use model::StepTaken;
 pub use printing::LINES;
 pub use printing::add;
+pub use printing::flush;
 pub use printing::greet;
 pub use printing::make_room;
 pub use printing::print;

@@ -5,8 +5,10 @@ use libc::STDOUT_FILENO;
 use run_lines::LINE;
 use run_lines::Line;
 ghost use mathlib.Core.Path.{_≡_};
+ghost use mathlib.Core.Bool.{cond};
 ghost use mathlib.Core.List.{_++_};
 ghost use Prim.Native.Nat.{_+_, _≤_};
+ghost use lib.Dec.{leb};
 ghost use lib.ListN.{length, take};
 ghost use Rattle.io.specs.Counts.{Counts};
 ghost use Rattle.run_session.specs.Session.{lineBytes, linesBytes};
@@ -40,10 +42,26 @@ pub fn print(line: Line) -> bool
     write(&bytes, used)
 }
 
+// Those held, written. Answers what is left of them: none, or all where they are lost.
+pub fn flush(lines: &[u8], unwritten: usize) -> Unwritten
+    requires { ⌜ unwritten ≤ length (now lines) ⌝ }
+    ensures { λ r. ⌜ r .count ≡ cond (r .failed) unwritten 0 ⌝ }
+{
+    let lost = !write(lines, unwritten);
+    let mut left = 0;
+    if lost {
+        left = unwritten;
+    }
+    Unwritten {
+        count: left,
+        failed: lost,
+    }
+}
+
 // Those held are written where one more might not fit.
 pub fn make_room(lines: &[u8; LINES], unwritten: usize) -> Unwritten
     requires { ⌜ unwritten ≤ linesBytes ⌝ }
-    ensures { λ r. ⌜ (r .count + lineBytes ≤ linesBytes) × (r .count ≤ unwritten) ⌝ }
+    ensures { λ r. ⌜ (r .count + lineBytes ≤ linesBytes) × (r .count ≡ cond (leb (unwritten + lineBytes) linesBytes) unwritten 0) ⌝ }
 {
     if unwritten + LINE <= LINES {
         return Unwritten {

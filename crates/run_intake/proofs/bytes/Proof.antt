@@ -1,6 +1,7 @@
 -- The buffer keeps its length, and what has come ends within what is asked for.
 use Prim.Native.Nat.{_-_, _≤_}
-use mathlib.Core.Path.{_≡_, refl, _∙_}
+use mathlib.Core.Path.{_≡_, refl, sym, _∙_}
+use mathlib.Core.Bool.{true≢false}
 use native.Mathlib.Omega.{arith}
 use borrow.Author.Needs.{needs}
 use lib.ListN.{length, take}
@@ -22,8 +23,13 @@ returns : tie.Need-returns Inv-loop μ-loop
 returns c =
     let o = c .before .before .before in
     let l = o .before .before .before .loop in
-    let s = o .before .before .before .before .before in
-    (counts _ _ (search needs), search needs, search needs, shorter (s .args .from) (l .at) _ _ (l .inv .1) (o .once .ensures .2) ∙ l .inv .3)
+    let s = o .before .before .before .before .before in (
+      counts _ _ (search needs),
+      search needs,
+      search needs,
+      shorter (s .args .from) (l .at) _ _ (l .inv .1) (o .once .ensures .2) ∙ l .inv .3,
+      λ e. search needs,
+    )
 
 loop-again : tie.Need-loop-again Inv-loop μ-loop
 loop-again c =
@@ -33,7 +39,7 @@ loop-again c =
     (search needs, search needs, search needs, shorter (s .args .from) (l .at) _ _ (l .inv .1) (o .once .ensures .2) ∙ l .inv .3)
 
 returns-2 : tie.Need-returns-2 Inv-loop μ-loop
-returns-2 c = let l = c .before .loop in (counts _ _ (search needs), l .inv .1, search needs, l .inv .3)
+returns-2 c = let l = c .before .loop in (counts _ _ (search needs), l .inv .1, search needs, l .inv .3, λ e. absurd (true≢false (sym e)))
 
 pub bytes-spec : {M : Type 1} → statement M
 bytes-spec =
