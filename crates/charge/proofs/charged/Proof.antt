@@ -2,6 +2,8 @@
 use Prim.Native.Nat.{_*_, _≤_, _-_, zero-le, min}
 use mathlib.Core.Path.{_≡_, refl}
 use native.Mathlib.Omega.{arith}
+use mir.Val.{Fits}
+use mir.Syntax.{w64}
 use Rattle.lists.proofs.Turns.{turn-within, turn-less, turn-in, turn-next, turn-bytes}
 use Rattle.charge.specs.Charge.{maxPrice, beginOf, chargeSum}
 use Rattle.charge.proofs.Laws.{more-asks, sum-none, sum-next, to-next, sum-all}
@@ -15,33 +17,34 @@ Inv-loop total bands ends prices sum₀ from₀ i₀ sum from i =
 abbrev μ-loop : tie.MeasureT-loop
 μ-loop total bands ends prices sum₀ from₀ i₀ sum from i = bands - i
 
+abbrev start : tie.In-loop Inv-loop μ-loop → tie.Start Inv-loop μ-loop
+start t = t .before .before .before .before
+
+-- a band's place in bytes, of whichever table
+in-bytes : (t : tie.In-loop Inv-loop μ-loop) → Fits w64 (t .before .loop .i * 8)
+in-bytes t = turn-bytes (t .loop-test .taken) (start t .pre .0 .0) (start t .good .1 .1 .0 .1)
+
 loop-holds : tie.Need-loop-holds Inv-loop μ-loop
 loop-holds c = (zero-le, omega arith, sum-none _ _ _, omega arith)
 
-mul-lesser : tie.Need-mul-lesser Inv-loop μ-loop
-mul-lesser c = let s = c .before .before .before .before in turn-bytes (c .loop-test .taken) (s .pre .0 .0) (s .good .1 .1 .0 .1)
-
 read-lesser : tie.Need-shared-slice-read-lesser Inv-loop μ-loop
-read-lesser c = let t = c .before in turn-in (t .loop-test .taken) (t .before .before .before .before .pre .0 .0)
-
-mul-more : tie.Need-mul-more Inv-loop μ-loop
-mul-more c = let t = c .before .before in let s = t .before .before .before .before in turn-bytes (t .loop-test .taken) (s .pre .0 .1) (s .good .1 .1 .1 .0 .1)
+read-lesser c = let t = c .before in turn-in (t .loop-test .taken) (start t .pre .0 .0)
 
 read-more : tie.Need-shared-slice-read-more Inv-loop μ-loop
-read-more c = let t = c .before .before .before in turn-in (t .loop-test .taken) (t .before .before .before .before .pre .0 .1)
+read-more c = let t = c .before .before .before in turn-in (t .loop-test .taken) (start t .pre .0 .1)
 
 more-requires : tie.Need-more-requires Inv-loop μ-loop
 more-requires c κs =
     let t = c .before .before .before in
     let l = t .before .loop in
-    let s = t .before .before .before .before in
+    let s = start t in
     more-asks (s .args .ends .now) (s .args .prices .now) (s .args .bands) (s .pre .1) (l .i) (t .loop-test .taken) (s .pre .0 .2) (l .inv .1)
     (c .before .lesser .ensures) refl (l .inv .3)
 
 add-i : tie.Need-add-i Inv-loop μ-loop
 add-i c =
     let t = c .before .before .before .before in
-    let s = t .before .before .before .before in
+    let s = start t in
     turn-next (t .loop-test .taken) (s .pre .0 .0) (s .good .1 .1 .0 .0)
 
 loop-less : tie.Need-loop-less Inv-loop μ-loop
@@ -52,7 +55,7 @@ loop-again c =
     let to = c .before .before .lesser .ensures in
     let t = c .before .before .before .before in
     let l = t .before .loop in
-    let s = t .before .before .before .before .args in (
+    let s = start t .args in (
       turn-within (t .loop-test .taken),
       to-next (s .ends .now) (s .prices .now) (s .total) (l .i) to,
       sum-next (s .ends .now) (s .prices .now) (s .total) (l .i) (l .inv .1) to refl (l .inv .2) (c .more .ensures .0),
@@ -70,4 +73,5 @@ returns c =
 pub charged-spec : {M : Type 1} → statement M
 charged-spec =
     tie.close
-    (tie.spec Inv-loop μ-loop loop-holds mul-lesser read-lesser (λ c κs. tt) mul-more read-more more-requires add-i loop-less loop-again returns)
+    (tie.spec Inv-loop μ-loop loop-holds (λ c. in-bytes c) read-lesser (λ c κs. tt) (λ c. in-bytes (c .before .before)) read-more
+    more-requires add-i loop-less loop-again returns)

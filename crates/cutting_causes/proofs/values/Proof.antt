@@ -8,11 +8,12 @@ use Rattle.cutting_causes.proofs.Groups.{mesh-once}
 use Rattle.cutting_causes.proofs.values.Statement.{statement}
 use Rattle.cutting_causes.proofs.values.Tie as tie
 
+-- the start, past what is known of the lent tables
 abbrev start : tie.After-values → tie.Start
-start c = c .before .before .before .before .before .before .before .before .before .before
+start c = let lent = c .before .before .before .before .before in lent .before .before .before .before .before
 
 values-requires : tie.Need-values-requires
-values-requires c κs = shape-asks _ _ _ (c .before .before .before .before .before .before .before .before .before .pre .0)
+values-requires c κs = let lent = c .before .before .before .before in shape-asks _ _ _ (lent .before .before .before .before .before .pre .0)
 
 returns : tie.Need-returns
 unfolding valuesFound valuesVerdict labelValues labelGood partGood

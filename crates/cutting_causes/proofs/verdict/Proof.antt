@@ -6,8 +6,9 @@ use Rattle.cutting_causes.proofs.Asks.{step-lent}
 use Rattle.cutting_causes.proofs.verdict.Statement.{statement}
 use Rattle.cutting_causes.proofs.verdict.Tie as tie
 
+-- the start, past what is known of the lent tables
 abbrev start : tie.After-lengths → tie.Start
-start c = c .before .before .before .before .before .before .before .before .before .before
+start c = let lent = c .before .before .before .before .before in lent .before .before .before .before .before
 
 returns : tie.Need-returns
 returns c = sym (out _ (refuses (c .before .before .before .lengths .ensures) (c .before .a .given .1)))

@@ -1,7 +1,11 @@
 -- `on_field`: the counted parts of the tables are the step that the record holds.
+use Prim.Native.Nat.{ℕ}
 use mathlib.Core.Path.{refl}
+use mathlib.Core.List.{List}
 use borrow.Author.Needs.{needs}
+use lib.IntN.{ℤ}
 use Rattle.model.specs.Mesh.{Mesh, meshOf}
+use Rattle.model.specs.Causes.{Call}
 use Rattle.model.specs.Calls.{judged}
 use Rattle.model.proofs.Parts.{part-long}
 use Rattle.taking.proofs.StepLaws.{fluxes-part, outsides-part, releases-part}
@@ -14,6 +18,10 @@ abbrev mesh : tie.Start → Mesh
 mesh s =
     let a = s .args in
     meshOf (a .cells) (a .faces) (a .volumes .now) (a .firsts .now) (a .seconds .now) (a .shares .now) (a .reaches .now)
+
+-- the call that the claim makes of the tables read
+abbrev claimed : tie.Start → List ℤ → List ℕ → List ℕ → Call
+claimed s fluxes outsides releases = claimOn fluxes outsides releases (s .args .claim .now)
 
 -- from where the record is known to be read back to its reading, and from there to the start
 abbrev reading : tie.After-enum-told → tie.After-read-step
@@ -65,16 +73,16 @@ unfolding claimJudged
 returns c =
     let r = c .before .before .before .before .before .before in
     let s = start r in
-    on-unread judged (λ us os rs. claimOn us os rs (s .args .claim .now)) (s .args .width) (mesh s) (s .args .masses .now) (s .args .step .now) (s .args .bytes .now) (r .read-step .ensures) refl refl refl
-    (c .before .a .given .1)
+    on-unread judged (claimed s) (s .args .width) (mesh s) (s .args .masses .now) (s .args .step .now) (s .args .bytes .now) (r .read-step .ensures)
+    refl refl refl (c .before .a .given .1)
 
 returns-2 : tie.Need-returns-2
 unfolding claimJudged
 returns-2 c =
     let k = c .before .before .before .before .before .before .before in
     let s = start (reading k) in
-    on-read judged (λ us os rs. claimOn us os rs (s .args .claim .now)) (s .args .width) (mesh s) (s .args .masses .now) (s .args .step .now) (s .args .bytes .now) (reading k .read-step .ensures) refl refl refl
-    (k .enum-told .given .1) (c .before .before .written .ensures)
+    on-read judged (claimed s) (s .args .width) (mesh s) (s .args .masses .now) (s .args .step .now) (s .args .bytes .now) (reading k .read-step .ensures)
+    refl refl refl (k .enum-told .given .1) (c .before .before .written .ensures)
 
 pub on-field-spec : {M : Type 1} → statement M
 on-field-spec =

@@ -1,5 +1,9 @@
 -- `on_records`: the counted parts of the tables are the mesh and the field that the records hold.
+use Prim.Native.Nat.{ℕ}
+use mathlib.Core.List.{List}
 use borrow.Author.Needs.{needs}
+use lib.IntN.{ℤ}
+use Rattle.model.specs.Causes.{Call}
 use Rattle.model.specs.Calls.{judged}
 use Rattle.host_record_promises.specs.Judge.{claimOn, claimJudged}
 use Rattle.host_taking.proofs.Held.{untaken, lendable}
@@ -21,6 +25,10 @@ entered c = c .before .before .before .before .before .before
 abbrev start : tie.After-take-field → tie.Start
 start t = entered (t .before .before .before .before .before)
 
+-- the call that the claim makes of the tables read
+abbrev claimed : tie.Start → List ℤ → List ℕ → List ℕ → Call
+claimed s fluxes outsides releases = claimOn fluxes outsides releases (s .args .claim .now)
+
 on-field-requires : tie.Need-on-field-requires
 on-field-requires c κs =
     let k = c .before .before .before .before .before .before .before .before in
@@ -31,7 +39,7 @@ unfolding claimJudged
 returns c =
     let t = c .before .before .before .before .before .before .before .before .before in
     let a = start t .args in
-    records-refused judged (λ us os rs. claimOn us os rs (a .claim .now)) (a .mesh .now) (a .field .now) (a .step .now) (a .bytes .now)
+    records-refused judged (claimed (start t)) (a .mesh .now) (a .field .now) (a .step .now) (a .bytes .now)
     (untaken (a .mesh .now) (a .field .now) (t .take-field .ensures .answer) (c .before .a .given .1))
 
 returns-2 : tie.Need-returns-2
@@ -39,8 +47,8 @@ unfolding claimJudged
 returns-2 c =
     let k = counted (c .before .before) in
     let a = start (taking k) .args in
-    records-taken judged (λ us os rs. claimOn us os rs (a .claim .now)) (a .mesh .now) (a .field .now) (a .step .now) (a .bytes .now) (taking k .take-field .ensures) (k .a2 .given .1)
-    (c .before .before .on-field .ensures)
+    records-taken judged (claimed (start (taking k))) (a .mesh .now) (a .field .now) (a .step .now) (a .bytes .now) (taking k .take-field .ensures)
+    (k .a2 .given .1) (c .before .before .on-field .ensures)
 
 pub on-records-spec : {M : Type 1} → statement M
 on-records-spec =

@@ -20,77 +20,67 @@ mesh s =
 abbrev call : tie.Start → Call
 call s = claimOn (s .args .fluxes .now) (s .args .outsides .now) (s .args .releases .now) (s .args .claim .now)
 
-abbrev start-from-shared-slice-known8 : tie.After-shared-slice-known8 → tie.Start
-start-from-shared-slice-known8 c = c .before .before .before .before .before .before .before .before
+-- from where the step is known to be made back to the judging, and from there to the start
+abbrev judging : tie.After-a2 → tie.After-judge
+judging k = k .before .before .before
 
-abbrev start-from-shared-slice-known7 : tie.After-shared-slice-known7 → tie.Start
-start-from-shared-slice-known7 c = c .before .before .before .before .before .before .before
+abbrev entered : tie.After-shared-slice-known8 → tie.Start
+entered c = c .before .before .before .before .before .before .before .before
 
-abbrev start-from-next3 : tie.After-next3 → tie.Start
-start-from-next3 c = start-from-shared-slice-known7 (c .before .before .before .before .before .before .before .before .before)
-
-abbrev judge-from-next3 : tie.After-next3 → tie.After-judge
-judge-from-next3 c = c .before .before .before .before .before
+abbrev start : tie.After-judge → tie.Start
+start j = entered (j .before .before .before)
 
 array-share-prefix-next : tie.Need-array-share-prefix-next
 unfolding blank
 array-share-prefix-next c =
-    let s = (start-from-shared-slice-known8 (c .before .before .before .before .before .before .before)) in
-    let p = c .before .before .before .before .judge .ensures in
+    let k = c .before in
+    let s = start (judging k) in
+    let p = judging k .judge .ensures in
     next-part judged judged-keeping (s .args .width) (mesh s) (s .pre) (s .args .masses .now) (call s)
-    (lent (mesh s) (s .args .masses .now) (call s)) (s .args .bytes .now) (p .answer) (p .next-masses) (c .before .a2 .given .1) .fits
+    (lent (mesh s) (s .args .masses .now) (call s)) (s .args .bytes .now) (p .answer) (p .next-masses) (k .a2 .given .1) .fits
 
 slice-aggregate-write-field : tie.Need-slice-aggregate-write-field
 unfolding blank
 slice-aggregate-write-field c =
-    let s = (start-from-next3 c) in
-    let p = c .before .before .before .before .before .judge .ensures in
+    let k = c .before .before in
+    let s = start (judging k) in
+    let p = judging k .judge .ensures in
     part-long (next-part judged judged-keeping (s .args .width) (mesh s) (s .pre) (s .args .masses .now) (call s)
-    (lent (mesh s) (s .args .masses .now) (call s)) (s .args .bytes .now) (p .answer) (p .next-masses) (c .before .before .a2 .given .1))
+    (lent (mesh s) (s .args .masses .now) (call s)) (s .args .bytes .now) (p .answer) (p .next-masses) (k .a2 .given .1))
 
 returns : tie.Need-returns
 unfolding blank
 returns c =
-    let s = (start-from-shared-slice-known8 (c .before .before .before .before .before .before .before)) in
-    let p = c .before .before .before .before .judge .ensures in
+    let j = c .before .before .before .before in
+    let s = start j in
+    let p = j .judge .ensures in
     step-refused judged judged-keeping (s .args .width) (mesh s) (s .pre) (s .args .masses .now) (call s)
     (lent (mesh s) (s .args .masses .now) (call s)) (s .args .bytes .now) (p .answer) (p .next-masses) (c .before .a .given .1)
 
 returns-2 : tie.Need-returns-2
 unfolding blank
 returns-2 c =
-    let s = (start-from-next3 (c .before .before .before .before .before .before .before)) in
-    let p = (judge-from-next3 (c .before .before .before .before .before .before .before)) .judge .ensures in
+    let w = c .before .before .before .before .before in
+    let k = w .before .before .before .before in
+    let s = start (judging k) in
+    let p = judging k .judge .ensures in
     no-room judged judged-keeping (s .args .width) (mesh s) (s .pre) (s .args .masses .now) (call s)
-    (lent (mesh s) (s .args .masses .now) (call s)) (s .args .bytes .now) (p .answer) (p .next-masses)
-    (c .before .before .before .before .before .before .before .before .before .a2 .given .1)
-    (c .before .before .before .before .before .write-field .ensures) (c .before .b .given .1)
+    (lent (mesh s) (s .args .masses .now) (call s)) (s .args .bytes .now) (p .answer) (p .next-masses) (k .a2 .given .1) (w .write-field .ensures)
+    (c .before .b .given .1)
 
 returns-3 : tie.Need-returns-3
 unfolding blank
 returns-3 c =
-    let s = (start-from-next3 (c .before .before .before .before .before .before)) in
-    let p = (judge-from-next3 (c .before .before .before .before .before .before)) .judge .ensures in
+    let w = c .before .before .before .before in
+    let k = w .before .before .before .before in
+    let s = start (judging k) in
+    let p = judging k .judge .ensures in
     record-written judged judged-keeping (s .args .width) (mesh s) (s .pre) (s .args .masses .now) (call s)
-    (lent (mesh s) (s .args .masses .now) (call s)) (s .args .bytes .now) (p .answer) (p .next-masses)
-    (c .before .before .before .before .before .before .before .before .a2 .given .1) (c .before .before .before .before .write-field .ensures)
+    (lent (mesh s) (s .args .masses .now) (call s)) (s .args .bytes .now) (p .answer) (p .next-masses) (k .a2 .given .1) (w .write-field .ensures)
     (c .enum-told .given .1)
 
 pub written-spec : {M : Type 1} → statement M
 written-spec =
     tie.close
-    (tie.spec
-    (search needs)
-    (search needs)
-    (search needs)
-    (search needs)
-    array-share-prefix-next
-    slice-aggregate-write-field
-    (search needs)
-    (search needs)
-    (search needs)
-    returns
-    (search needs)
-    returns-2
-    (search needs)
-    returns-3)
+    (tie.spec (search needs) (search needs) (search needs) (search needs) array-share-prefix-next slice-aggregate-write-field
+    (search needs) (search needs) (search needs) returns (search needs) returns-2 (search needs) returns-3)

@@ -73,8 +73,8 @@ unfolding stepJudged
 returns-2 c =
     let k = c .before .before .before .before .before .before .before in
     let s = start (reading k) in
-    on-read plain ownTables (s .args .width) (mesh s) (s .args .masses .now) (s .args .step .now) (s .args .bytes .now) (reading k .read-step .ensures) refl refl refl
-    (k .enum-told .given .1) (c .before .before .written .ensures)
+    on-read plain ownTables (s .args .width) (mesh s) (s .args .masses .now) (s .args .step .now) (s .args .bytes .now) (reading k .read-step .ensures)
+    refl refl refl (k .enum-told .given .1) (c .before .before .written .ensures)
 
 pub on-field-spec : {M : Type 1} → statement M
 on-field-spec =

@@ -23,7 +23,8 @@ returns-2 : tie.Need-returns-2
 returns-2 c =
     let k = c .before .before .before .before .before .before .before in
     let a = start (taking k) .args in
-    public-made (a .mesh .now) (a .field .now) (a .page) (a .bytes .now) (taking k .take-cells .ensures) (k .a2 .given .1) (a .marks .now) (c .before .before .public-page .ensures)
+    public-made (a .mesh .now) (a .field .now) (a .page) (a .bytes .now) (taking k .take-cells .ensures) (k .a2 .given .1) (a .marks .now)
+    (c .before .before .public-page .ensures)
 
 pub public-page-of-spec : {M : Type 1} → statement M
 public-page-of-spec =

@@ -1,8 +1,10 @@
 -- Each turn puts the entry, or 0 at a cut face.
-use Prim.Native.Nat.{_-_, _≤_, zero-le}
+use Prim.Native.Nat.{_*_, _-_, _≤_, zero-le}
 use mathlib.Core.Path.{_≡_, sym}
 use native.Mathlib.Nat.{le-trans}
 use native.Mathlib.Omega.{arith}
+use mir.Val.{Fits}
+use mir.Syntax.{w64}
 use Rattle.lists.specs.Table.{over}
 use Rattle.lists.specs.Marked.{count, picked}
 use Rattle.lists.proofs.Turns.{turn-within, turn-less, turn-in, turn-next, turn-bytes}
@@ -21,6 +23,10 @@ abbrev μ-loop : tie.MeasureT-loop
 abbrev start : tie.In-loop Inv-loop μ-loop → tie.Start Inv-loop μ-loop
 start c = c .before .before .before .before .before .before .before
 
+-- a face's place in bytes, of whichever table
+in-bytes : (t : tie.In-loop Inv-loop μ-loop) → Fits w64 (t .before .loop .f * 8)
+in-bytes t = turn-bytes (t .loop-test .taken) (start t .pre .0 .0 .firsts-long) (start t .good .1 .1 .1 .0 .1)
+
 -- the turn, from where its face was found to touch the part or not, and from where its entry was kept
 abbrev begun : tie.After-touches Inv-loop μ-loop → tie.In-loop Inv-loop μ-loop
 begun c = c .before .before .before
@@ -34,33 +40,14 @@ found-before c = c .before .before .before
 abbrev ended : tie.After-loop Inv-loop μ-loop → tie.Start Inv-loop μ-loop
 ended c = c .before .before .before .before .before .before .before
 
-mul-first : tie.Need-mul-first Inv-loop μ-loop
-mul-first c = let s = start c in turn-bytes (c .loop-test .taken) (s .pre .0 .0 .firsts-long) (s .good .1 .1 .1 .0 .1)
-
-mul-second : tie.Need-mul-second Inv-loop μ-loop
-mul-second c = let t = c .before in let s = start t in turn-bytes (t .loop-test .taken) (s .pre .0 .0 .seconds-long) (s .good .1 .1 .1 .1 .0 .1)
-
 touches-requires : tie.Need-touches-requires Inv-loop μ-loop
 touches-requires c κs =
     let t = c .before .before in
     let s = start t in
     (s .pre .0 .0 .first-in (t .before .loop .f) (t .loop-test .taken), s .pre .0 .0 .second-in (t .before .loop .f) (t .loop-test .taken))
 
-mul-unless-cut : tie.Need-mul-unless-cut Inv-loop μ-loop
-mul-unless-cut c =
-    let t = begun (c) in
-    let s = start t in
-    let f = t .before .loop .f in
-    let h = t .loop-test .taken in
-    turn-bytes h (s .pre .1) (s .good .1 .1 .1 .1 .1 .0 .1)
-
 shared-slice-read-unless-cut : tie.Need-shared-slice-read-unless-cut Inv-loop μ-loop
-shared-slice-read-unless-cut c =
-    let t = begun (c .before) in
-    let s = start t in
-    let f = t .before .loop .f in
-    let h = t .loop-test .taken in
-    turn-in h (s .pre .1)
+shared-slice-read-unless-cut c = let t = begun (c .before) in turn-in (t .loop-test .taken) (start t .pre .1)
 
 unless-cut-requires : tie.Need-unless-cut-requires Inv-loop μ-loop
 unless-cut-requires c κs =
@@ -105,8 +92,8 @@ returns c =
 pub spacings-spec : {M : Type 1} → statement M
 spacings-spec =
     tie.close
-    (tie.spec Inv-loop μ-loop (λ c. (zero-le, sym (count-start _), picked-start _ _ _)) mul-first
+    (tie.spec Inv-loop μ-loop (λ c. (zero-le, sym (count-start _), picked-start _ _ _)) (λ c. in-bytes c)
     (λ c. let t = c .before in turn-in (t .loop-test .taken) (start t .pre .0 .0 .firsts-long))
-    mul-second (λ c. let t = c .before .before in turn-in (t .loop-test .taken) (start t .pre .0 .0 .seconds-long)) touches-requires
-    mul-unless-cut shared-slice-read-unless-cut unless-cut-requires keep-requires add-f (λ c. turn-less (begun (found (c .before .before)) .loop-test .taken))
-    loop-again same-length returns)
+    (λ c. in-bytes (c .before)) (λ c. let t = c .before .before in turn-in (t .loop-test .taken) (start t .pre .0 .0 .seconds-long)) touches-requires
+    (λ c. in-bytes (begun c)) shared-slice-read-unless-cut unless-cut-requires keep-requires add-f
+    (λ c. turn-less (begun (found (c .before .before)) .loop-test .taken)) loop-again same-length returns)

@@ -1,9 +1,11 @@
 -- Each turn writes the raised concentration of one cell.
-use Prim.Native.Nat.{_+_, _/_, _≤_, _-_, zero-le}
+use Prim.Native.Nat.{_+_, _*_, _/_, _≤_, _-_, zero-le}
 use mathlib.Core.Path.{_≡_}
 use native.Mathlib.Nat.{le-trans}
 use native.Mathlib.Omega.{arith}
 use lib.ListN.{getD}
+use mir.Val.{Fits}
+use mir.Syntax.{w64}
 use Rattle.lists.specs.Table.{table, over}
 use Rattle.lists.proofs.Tables.{over-start, over-step}
 use Rattle.lists.proofs.Turns.{turn-within, turn-less, turn-in, turn-in-same, turn-next, turn-bytes}
@@ -20,26 +22,18 @@ abbrev μ-loop : tie.MeasureT-loop
 abbrev start : tie.In-loop Inv-loop μ-loop → tie.Start Inv-loop μ-loop
 start c = c .before .before .before .before .before .before
 
+-- a cell's place in bytes, of whichever table
+in-bytes : (t : tie.In-loop Inv-loop μ-loop) → Fits w64 (t .before .loop .c * 8)
+in-bytes t = turn-bytes (t .loop-test .taken) (start t .pre .0 .0) (start t .good .1 .0 .1)
+
 abbrev ended : tie.After-loop Inv-loop μ-loop → tie.Start Inv-loop μ-loop
 ended c = c .before .before .before .before .before .before
 
 abbrev turned : tie.After-raised-concentration Inv-loop μ-loop → tie.In-loop Inv-loop μ-loop
 turned c = c .before .before .before .before
 
-mul-1 : tie.Need-mul-raised-concentration Inv-loop μ-loop
-mul-1 c = let s = start c in turn-bytes (c .loop-test .taken) (s .pre .0 .0) (s .good .1 .0 .1)
-
-mul-2 : tie.Need-mul-raised-concentration-2 Inv-loop μ-loop
-mul-2 c = let t = c .before in let s = start t in turn-bytes (t .loop-test .taken) (s .pre .0 .1) (s .good .1 .1 .0 .1)
-
-mul-3 : tie.Need-mul-raised-concentration-3 Inv-loop μ-loop
-mul-3 c = let t = c .before .before in let s = start t in turn-bytes (t .loop-test .taken) (s .pre .0 .2) (s .good .1 .1 .1 .0 .1)
-
 raised-concentration-requires : tie.Need-raised-concentration-requires Inv-loop μ-loop
 raised-concentration-requires c κs = let t = c .before .before .before in start t .pre .1 (t .before .loop .c) (t .loop-test .taken)
-
-mul-out : tie.Need-mul-out Inv-loop μ-loop
-mul-out c = let t = turned c in let s = start t in turn-bytes (t .loop-test .taken) (s .pre .0 .0) (s .good .1 .0 .1)
 
 slice-write-out : tie.Need-slice-write-out Inv-loop μ-loop
 slice-write-out c = let t = turned c in let s = start t in let l = t .before .loop in
@@ -70,7 +64,8 @@ returns c =
 pub concentrations-spec : {M : Type 1} → statement M
 concentrations-spec =
     tie.close
-    (tie.spec Inv-loop μ-loop (λ c. (zero-le, over-start _ _)) mul-1 (λ c. let t = c .before in turn-in (t .loop-test .taken) (start t .pre .0 .0))
-    mul-2 (λ c. let t = c .before .before in turn-in (t .loop-test .taken) (start t .pre .0 .1))
-    mul-3 (λ c. let t = c .before .before .before in turn-in (t .loop-test .taken) (start t .pre .0 .2))
-    raised-concentration-requires mul-out slice-write-out add-c (λ c. turn-less (turned c .loop-test .taken)) loop-again same-length returns)
+    (tie.spec Inv-loop μ-loop (λ c. (zero-le, over-start _ _)) (λ c. in-bytes c)
+    (λ c. let t = c .before in turn-in (t .loop-test .taken) (start t .pre .0 .0))
+    (λ c. in-bytes (c .before)) (λ c. let t = c .before .before in turn-in (t .loop-test .taken) (start t .pre .0 .1))
+    (λ c. in-bytes (c .before .before)) (λ c. let t = c .before .before .before in turn-in (t .loop-test .taken) (start t .pre .0 .2))
+    raised-concentration-requires (λ c. in-bytes (turned c)) slice-write-out add-c (λ c. turn-less (turned c .loop-test .taken)) loop-again same-length returns)
