@@ -1,6 +1,7 @@
 -- `take_mesh`: an unread mesh is refused as reading refuses it; a read one is the mesh of the counted parts, and `keep` has the rest.
 use mathlib.Core.Path.{refl}
 use borrow.Author.Needs.{needs}
+use Rattle.model.specs.Mesh.{meshOf, runCells, runFaces}
 use Rattle.model.proofs.Parts.{part-long}
 use Rattle.taking_mesh.proofs.MeshLaws.{mesh-unread, mesh-read, keep-asks, mesh-done}
 use Rattle.taking_mesh.proofs.mesh.take_mesh.Statement.{statement}
@@ -26,10 +27,10 @@ kept c = c .before .before .before .before .before .before .before .before .befo
 
 returns : tie.Need-returns
 returns c =
-    let a = (start (c .before .before .before .before .before .before .before)) .args in
-    mesh-unread (c .before .before .before .before .before .before .before .read-mesh .ensures) refl refl refl refl refl (c .enum-told .given .1)
-    (a .volumes .now)
-    (a .firsts .now) (a .seconds .now) (a .shares .now) (a .reaches .now)
+    let r = c .before .before .before .before .before .before .before in
+    let a = start r .args in
+    mesh-unread (r .read-mesh .ensures) refl refl refl refl refl (c .enum-told .given .1)
+    (meshOf runCells runFaces (a .volumes .now) (a .firsts .now) (a .seconds .now) (a .shares .now) (a .reaches .now))
 
 array-share-prefix-read-volumes : tie.Need-array-share-prefix-read-volumes
 array-share-prefix-read-volumes c = mesh-read (reading c .read-mesh .ensures) (c .before .answer .given .1) .volumes-part .fits
