@@ -1,7 +1,8 @@
 #!/usr/bin/env bash
 # Every file, name and quoted line that README.md, the pages of docs/ and the landing notes cite is there and every link leads somewhere, the
-# crates stand under the same headings everywhere, laws are cited where it is said, the causes are told alike, and every must-fail edit
-# is one that rt reads whole; and the tests do find what is wrong.
+# crates stand under the same headings everywhere, laws are cited where it is said, the causes are told alike, every imported name is used,
+# demand 3 rests on the definitions that are named, every sign in a definition is explained, and every must-fail edit is one that rt reads
+# whole; and the tests do find what is wrong.
 set -eu
 cd "$(dirname "$0")/.."
 python3 tests/cites.py README.md docs/*.md docs/landings/*.md
@@ -34,6 +35,14 @@ python3 tests/laws.py
 sed 's#`judging/proofs/Own.antt`, charge_billed#`judging/proofs/Laws.antt`, charge_billed#' docs/DESIGN.md > "$made/page.md"
 if python3 tests/laws.py "$made/page.md" > "$made/said" 2>&1; then echo "a file that cites no law is not found"; exit 1; fi
 
+python3 tests/rests.py
+sed 's#^| \[`model/specs/Claims.antt`\].*##' docs/PROMISES.md > "$made/page.md"
+if python3 tests/rests.py "$made/page.md" > "$made/said" 2>&1; then echo "a definition that demand 3 rests on and no row names is not found"; exit 1; fi
+
+python3 tests/notation.py
+sed 's/`quotZ a b`/a by b/' docs/NOTATION.md > "$made/page.md"
+if python3 tests/notation.py "$made/page.md" > "$made/said" 2>&1; then echo "a name that is not explained is not found"; exit 1; fi
+
 python3 tests/families.py
 sed 's/^step_portion: /step_portions: /' crates.txt > "$made/crates.txt"
 if python3 tests/families.py "$made/crates.txt" > "$made/said" 2>&1; then echo "a crate that docs/DESIGN.md does not have is not found"; exit 1; fi
@@ -56,6 +65,10 @@ other include/lagoon.h 's/a volume outside 1 to 65,535;/a volume outside 1 to 4,
 other include/lagoon.h '/^    LAGOON_PERIOD = 26/d'
 other python/lagoon/causes.py 's/"a wrong bit in a record"/"a record of the wrong kind"/'
 other include/lagoon.h 's/"record of the wrong length"/"a flux larger than its reach"/'
+
+python3 tests/imports.py
+sed '0,/^use /s//use lib.Nowhere.{_unused_, used-nowhere}\nuse /' crates/model/proofs/Turned.antt > "$made/Turned.antt"
+if python3 tests/imports.py "$made/Turned.antt" > "$made/said" 2>&1; then echo "an imported name that is used nowhere is not found"; exit 1; fi
 
 python3 tests/edits.py
 mkdir -p "$made/bits/must-fail"

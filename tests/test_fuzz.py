@@ -6,8 +6,9 @@
 
 import os
 import random
+import unittest
 
-from toolcase import CHANNEL, ROOT, command, equal, folder, forked, holds, refuses, run_all
+from toolcase import CHANNEL, ROOT, command, equal, folder, forked, holds, refuses
 
 from package import cli, layout, sessiontext
 
@@ -25,7 +26,8 @@ INPUTS = {
 # How each command is given its input; OUT is written. Of "said" the words go to standard output, or there are more lines than one.
 COMMANDS = {
     "survey": ("cells faces -o OUT",), "fluxes": ("lagoon water -o OUT", "lagoon water --packed -o OUT"), "check": ("text", "packed"),
-    "pack": ("text --field field -o OUT",), "unpack": ("packed -o OUT",), "run": ("text", "packed"), "budget": ("text --csv OUT", "packed --plain --field OUT"),
+    "pack": ("text --field field -o OUT",), "unpack": ("packed -o OUT",), "run": ("text", "packed"),
+            "budget": ("text --csv OUT", "packed --plain --field OUT"),
     "plot": ("text -o OUT", "packed --profile 0,last --panels -o OUT"), "map": ("text -o OUT",), "export": ("text --long -o OUT", "packed -o OUT"),
     "binder": ("text --public marks -o OUT", "packed --field field -o OUT"), "judge": ("text claims -o OUT",), "cut": ("text labels -o OUT OUT2",),
     "charge": ("text tariff ports --csv OUT",), "renumber": ("packed --seed 1 -o OUT",)}
@@ -90,74 +92,73 @@ class Folder:
         holds(status or not foreign, f"{told}: foreign input is not taken")
 
 
-def test_every_command():
-    rnd, tries, refused = random.Random(SEED), 0, 0
-    equal(set(COMMANDS), set(cli.COMMANDS), "commands")
-    with folder() as place:
-        at = Folder(place)
-        for name, forms in COMMANDS.items():
-            for form in forms:
-                words = at.words(name, form, None, None)
-                status, out, said = forked(words)
-                equal(status, 0, f"lagoon {name} {form} as it should be: {out[-300:]} {said}")
-                for bad in list(at.inputs):
-                    cases = [(what, data, True) for what, data in FOREIGN.items()]
-                    cases += [(f"damage {number}", damaged(rnd, INPUTS[bad]), False) for number in range(DAMAGED)]
-                    for what, data, foreign in cases:
-                        found = forked(at.words(name, form, bad, data))
-                        at.judge(name, form, f"{what} for {bad}", foreign, found)
-                        tries, refused = tries + 1, refused + bool(found[0])
-    holds(tries > 300 and refused > tries // 2, f"{refused} of {tries} refused")
+class Fuzz(unittest.TestCase):
+    def test_every_command(self):
+        rnd, tries, refused = random.Random(SEED), 0, 0
+        equal(set(COMMANDS), set(cli.COMMANDS), "commands")
+        with folder() as place:
+            at = Folder(place)
+            for name, forms in COMMANDS.items():
+                for form in forms:
+                    words = at.words(name, form, None, None)
+                    status, out, said = forked(words)
+                    equal(status, 0, f"lagoon {name} {form} as it should be: {out[-300:]} {said}")
+                    for bad in list(at.inputs):
+                        cases = [(what, data, True) for what, data in FOREIGN.items()]
+                        cases += [(f"damage {number}", damaged(rnd, INPUTS[bad]), False) for number in range(DAMAGED)]
+                        for what, data, foreign in cases:
+                            found = forked(at.words(name, form, bad, data))
+                            at.judge(name, form, f"{what} for {bad}", foreign, found)
+                            tries, refused = tries + 1, refused + bool(found[0])
+        holds(tries > 300 and refused > tries // 2, f"{refused} of {tries} refused")
 
-
-def test_nothing_is_written_over():
-    """Neither the input, nor the library or a program that is read, nor one output over another."""
-    with folder() as place:
-        at = Folder(place)
-        for name, forms in COMMANDS.items():
-            for form in (form for form in forms if "OUT" in form):
-                words = at.words(name, form, None, None)
-                for word, content in at.inputs.items():
-                    over = [os.path.join(place, word) if other == os.path.join(place, "OUT") else other for other in words]
+    def test_nothing_is_written_over(self):
+        """Neither the input, nor the library or a program that is read, nor one output over another."""
+        with folder() as place:
+            at = Folder(place)
+            for name, forms in COMMANDS.items():
+                for form in (form for form in forms if "OUT" in form):
+                    words = at.words(name, form, None, None)
+                    for word, content in at.inputs.items():
+                        over = [os.path.join(place, word) if other == os.path.join(place, "OUT") else other for other in words]
+                        status, out, said = forked(over)
+                        holds(status == 1 and b"is read: it cannot be written too\n" in said, f"{over}: {status} {said}")
+                        equal(at.read(word), content, f"{over}")
+        with folder() as place:
+            copies = {}
+            for option, program in (("--run", "run"), ("--calls", "calls"), ("--library", "liblagoon.so")):
+                copies[option] = os.path.join(place, program)
+                with open(ROOT / "target" / ("lib" if option == "--library" else "bin") / program, "rb") as original, open(copies[option], "wb") as copy:
+                    copy.write(original.read())
+                os.chmod(copies[option], 0o700)
+            for name, options in (("plot", ("--run", "--calls", "--library")), ("budget", ("--run", "--calls", "--library")),
+                                  ("binder", ("--run", "--calls", "--library")),
+                                  ("export", ("--run", "--library")), ("map", ("--run", "--library")), ("judge", ("--calls",)), ("charge", ("--calls",)),
+                                  ("cut", ("--calls",))):
+                for option in options:
+                    words = Folder(place).words(name, COMMANDS[name][0], None, None)
+                    over = [copies[option] if word == os.path.join(place, "OUT") else word for word in words] + [option, copies[option]]
                     status, out, said = forked(over)
-                    holds(status == 1 and b"is read: it cannot be written too\n" in said, f"{over}: {status} {said}")
-                    equal(at.read(word), content, f"{over}")
-    with folder() as place:
-        copies = {}
-        for option, program in (("--run", "run"), ("--calls", "calls"), ("--library", "liblagoon.so")):
-            copies[option] = os.path.join(place, program)
-            with open(ROOT / "target" / ("lib" if option == "--library" else "bin") / program, "rb") as original, open(copies[option], "wb") as copy:
-                copy.write(original.read())
-            os.chmod(copies[option], 0o700)
-        for name, options in (("plot", ("--run", "--calls", "--library")), ("budget", ("--run", "--calls", "--library")),
-                              ("binder", ("--run", "--calls", "--library")),
-                              ("export", ("--run", "--library")), ("map", ("--run", "--library")), ("judge", ("--calls",)), ("charge", ("--calls",)),
-                              ("cut", ("--calls",))):
-            for option in options:
-                words = Folder(place).words(name, COMMANDS[name][0], None, None)
-                over = [copies[option] if word == os.path.join(place, "OUT") else word for word in words] + [option, copies[option]]
-                status, out, said = forked(over)
-                holds(status == 1 and b"is read" in said, f"{over}: {status} {said}")
-    channel = ROOT / "examples" / "channel.txt"
-    refuses("cannot hold two outputs", "plot", channel, "-o", "target/one", "--csv", "target/../target/one")
-    refuses("is read: it cannot be written too", "budget", channel, "--field", ROOT / "target" / "bin" / "run")
-    refuses("is read: it cannot be written too", "budget", channel, "--field", ROOT / "target" / "lib" / "liblagoon.so")
+                    holds(status == 1 and b"is read" in said, f"{over}: {status} {said}")
+        channel = ROOT / "examples" / "channel.txt"
+        refuses("cannot hold two outputs", "plot", channel, "-o", "target/one", "--csv", "target/../target/one")
+        refuses("is read: it cannot be written too", "budget", channel, "--field", ROOT / "target" / "bin" / "run")
+        refuses("is read: it cannot be written too", "budget", channel, "--field", ROOT / "target" / "lib" / "liblagoon.so")
 
-
-def test_tools():
-    """The two programs beside the command, on pages that are none."""
-    with folder() as place:
-        page = os.path.join(place, "page.html")
-        with open(page, "wb") as file:
-            file.write("# Größe\n".encode("latin-1"))
-        refuses("is no UTF-8", "worked.py", "--check", page)
-        refuses("is no UTF-8", "worked.py", "--write", page)
-        refuses("would be written over", "paper.py", page, "-o", place)
-        with open(page, "rb") as file:
-            equal(file.read(), "# Größe\n".encode("latin-1"), "the page")
-        status, _, said = command("paper.py", page, "-o", os.path.join(place, "out"))
-        holds(status == 1 and said.count("\n") == 1, said)
+    def test_tools(self):
+        """The two programs beside the command, on pages that are none."""
+        with folder() as place:
+            page = os.path.join(place, "page.html")
+            with open(page, "wb") as file:
+                file.write("# Größe\n".encode("latin-1"))
+            refuses("is no UTF-8", "worked.py", "--check", page)
+            refuses("is no UTF-8", "worked.py", "--write", page)
+            refuses("would be written over", "paper.py", page, "-o", place)
+            with open(page, "rb") as file:
+                equal(file.read(), "# Größe\n".encode("latin-1"), "the page")
+            status, _, said = command("paper.py", page, "-o", os.path.join(place, "out"))
+            holds(status == 1 and said.count("\n") == 1, said)
 
 
 if __name__ == "__main__":
-    run_all(globals(), "every command on bad input")
+    unittest.main()

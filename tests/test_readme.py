@@ -6,8 +6,9 @@
 
 import re
 import subprocess
+import unittest
 
-from toolcase import ROOT, equal, holds, run_all
+from toolcase import ROOT, equal, holds
 
 MAKES = ("make lib",)           # what the tests have made before
 
@@ -24,26 +25,26 @@ def tree():
     return subprocess.run(["git", "status", "--porcelain"], cwd=ROOT, capture_output=True, check=False).stdout.decode()
 
 
-def test_the_commands():
-    found, before = [line for line in commands() if line not in MAKES], tree()
-    holds(len(found) > 8 and len(commands()) == len(found) + len(MAKES), f"{found}")
-    for line in found:
-        done = subprocess.run(["bash", "-c", line], cwd=ROOT, stdin=subprocess.DEVNULL, capture_output=True, check=False)
-        equal((done.returncode, done.stderr), (0, b""), line)
-        if line.startswith("bin/lagoon run"):
-            equal(done.stdout, (ROOT / "tests" / "sessions" / "channel.out").read_bytes(), line)
-        for path in re.findall(r"(?:-o|--field|--csv) (\S+)", line):
-            holds(path.startswith("target/mine/") and (ROOT / path).exists(), f"{line}: {path}")
-    equal(tree(), before, "git status after the commands")
+class Readme(unittest.TestCase):
+    def test_the_commands(self):
+        found, before = [line for line in commands() if line not in MAKES], tree()
+        holds(len(found) > 8 and len(commands()) == len(found) + len(MAKES), f"{found}")
+        for line in found:
+            done = subprocess.run(["bash", "-c", line], cwd=ROOT, stdin=subprocess.DEVNULL, capture_output=True, check=False)
+            equal((done.returncode, done.stderr), (0, b""), line)
+            if line.startswith("bin/lagoon run"):
+                equal(done.stdout, (ROOT / "tests" / "sessions" / "channel.out").read_bytes(), line)
+            for path in re.findall(r"(?:-o|--field|--csv) (\S+)", line):
+                holds(path.startswith("target/mine/") and (ROOT / path).exists(), f"{line}: {path}")
+        equal(tree(), before, "git status after the commands")
 
-
-def test_from_c():
-    (ROOT / "target" / "mine").mkdir(parents=True, exist_ok=True)
-    *_, compiled, host = commands("From C")
-    for line, printed in ((compiled, b""), (host, (ROOT / "tests" / "examples" / "host.out").read_bytes())):
-        done = subprocess.run(["bash", "-c", line], cwd=ROOT, stdin=subprocess.DEVNULL, capture_output=True, check=False)
-        equal((done.returncode, done.stdout, done.stderr), (0, printed, b""), line)
+    def test_from_c(self):
+        (ROOT / "target" / "mine").mkdir(parents=True, exist_ok=True)
+        *_, compiled, host = commands("From C")
+        for line, printed in ((compiled, b""), (host, (ROOT / "tests" / "examples" / "host.out").read_bytes())):
+            done = subprocess.run(["bash", "-c", line], cwd=ROOT, stdin=subprocess.DEVNULL, capture_output=True, check=False)
+            equal((done.returncode, done.stdout, done.stderr), (0, printed, b""), line)
 
 
 if __name__ == "__main__":
-    run_all(globals(), "README's commands")
+    unittest.main()

@@ -7,9 +7,10 @@
 import contextlib
 import io
 import sys
+import unittest
 from pathlib import Path
 
-from toolcase import ROOT, folder, holds, run_all
+from toolcase import ROOT, folder, holds
 
 sys.path.insert(0, str(ROOT / "tools"))
 
@@ -52,13 +53,14 @@ def said_of(page):
     return ""
 
 
-def test_wrong_figures():
-    holds(not said_of(PAGE), "the page as it is")
-    for old, new in WRONG:
-        holds(old in PAGE, f"'{old}' is not in the page")
-        holds(said_of(PAGE.replace(old, new)), f"'{new}' for '{old}' is not found")
-    print(f"{len(WRONG)} wrong figures, each found")
+class Worked(unittest.TestCase):
+    def test_wrong_figures(self):
+        holds(not said_of(PAGE), "the page as it is")
+        for old, new in WRONG:
+            holds(old in PAGE, f"'{old}' is not in the page")
+            holds(said_of(PAGE.replace(old, new)), f"'{new}' for '{old}' is not found")
+        print(f"{len(WRONG)} wrong figures, each found")
 
 
 if __name__ == "__main__":
-    run_all(globals(), "wrong figures")
+    unittest.main()

@@ -13,6 +13,7 @@ import termios
 import threading
 import time
 import traceback
+import unittest
 from pathlib import Path
 
 HERE = Path(__file__).resolve().parent
@@ -31,14 +32,16 @@ CHANNEL = (ROOT / "examples" / "channel.txt").read_text()
 TIDE = (ROOT / "examples" / "tide.txt").read_text()
 
 
+SHOWN = unittest.TestCase()     # how two values differ, in words, for what stands outside a test too
+SHOWN.maxDiff = None
+
+
 def equal(actual, expected, what):
-    if actual != expected:
-        raise AssertionError(f"{what}: expected {expected!r}, got {actual!r}")
+    SHOWN.assertEqual(actual, expected, what)
 
 
 def holds(claim, what):
-    if not claim:
-        raise AssertionError(what)
+    SHOWN.assertTrue(claim, what)
 
 
 def line_of(name, *arguments):
@@ -189,10 +192,3 @@ def session_of(data):
 
 def folder():
     return tempfile.TemporaryDirectory(dir=os.environ.get("TMPDIR"))
-
-
-def run_all(names, what):
-    tests = [value for name, value in names.items() if name.startswith("test_")]
-    for test in tests:
-        test()
-    print(f"{len(tests)} tests of {what} hold")

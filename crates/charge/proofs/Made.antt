@@ -1,7 +1,7 @@
 -- Over any charges that hand the remainder on, nothing is lost: the contract of `charge`, call after call.
 use Prim.Native.Nat.{ℕ, _+_, _*_, _/_, _%_, _<_}
 use mathlib.Core.Path.{_≡_, ap}
-use mathlib.Core.List.{List, [], _∷_}
+use mathlib.Core.List.{[], _∷_}
 use native.Mathlib.Omega.{arith}
 use Rattle.model.specs.Causes.{granted}
 use Rattle.model.proofs.Verdicts.{accepted-of}

@@ -8,13 +8,13 @@ use model::needs::long;
 use model::needs::need;
 use model::positions;
 ghost use mathlib.Core.Path.{_≡_};
-ghost use Prim.Native.Nat.{suc, _+_, _-_, _*_, _≤_, _<_, min};
+ghost use Prim.Native.Nat.{_+_, _-_, _*_, _≤_, _<_, min};
 ghost use mathlib.Core.Bool.{true, not, _&&_, _||_};
 ghost use lib.Dec.{eqb, leb, ltb};
-ghost use lib.ListN.{length, getD};
+ghost use lib.ListN.{length};
 ghost use Rattle.model.specs.Causes.{fine, inTurn, each};
 ghost use Rattle.model.specs.Answers.{said};
-ghost use Rattle.charge.specs.Charge.{maxBands, lastEnd, maxPrice, beginOf, chargeSum, bandGood};
+ghost use Rattle.charge.specs.Charge.{lastEnd, maxPrice, chargeSum, bandGood};
 ghost use Rattle.charge.specs.Answers.{billCauses, chargeVerdict, ChargeIs};
 
 // Most bands of a charge.

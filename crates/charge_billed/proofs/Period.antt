@@ -26,9 +26,8 @@ use Rattle.transport.specs.declared.Crossed as crossed
 use Rattle.transport.specs.declared.StepAnswer.{StepAnswer}
 use Rattle.transport.specs.declared.StepAnswer.the-variants.{Stepped, Refused}
 use Rattle.transport.proofs.Promises.{way-keeping}
-use Rattle.judging.specs.Promise.{JudgePromise}
-use Rattle.charge_totals.specs.Totals.{gainOf, gainAt, addVerdict, addedTotals, AddPromise}
-use Rattle.charge_billed.specs.Period.{Source, byStep, byJudge, Made, Promised, cameTo, totalsAfter, KeptOn, lastTotals, movedOut, PeriodTotals, OverAPeriod}
+use Rattle.charge_totals.specs.Totals.{gainOf, gainAt, addedTotals, AddPromise}
+use Rattle.charge_billed.specs.Period.{Source, byStep, byJudge, Made, Promised, cameTo, totalsAfter, KeptOn, lastTotals, movedOut, OverAPeriod}
 
 -- AN ACCEPTED STEP, by any scheme that keeps what amounts owe: over the rim goes its out-mass
 module _ (s : Scheme) (keeping : Keeping s) (M : Mesh) (masses : List ℕ) (k : Call) (b : crossed.Crossed) (moved : List ℤ)

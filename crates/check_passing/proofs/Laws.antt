@@ -1,24 +1,22 @@
 -- One face tested and counted, and what the sums say at the end.
-use Prim.Native.Nat.{ℕ, _+_, _*_, _/_, _%_, _^_, _≤_, _<_}
+use Prim.Native.Nat.{ℕ, _+_, _*_, _^_, _≤_, _<_}
 use mathlib.Core.Path.{_≡_, refl, sym, ap, _∙_}
 use mathlib.Core.Logic.{_≢_}
 use mathlib.Core.Bool.{Bool, true, false, cond, _&&_, _||_}
 use mathlib.Core.List.{List}
 use native.Mathlib.Omega.{arith}
-use borrow.Author.Count.{below-more}
 use borrow.Author.Tests.{lt-ltb, le-ltb, le-leb, eq-eqb, ne-eqb, ltb-true, leb-true, eqb-true}
 use lib.Dec.{eqb, leb, ltb}
 use lib.IntN.{ℤ, pos}
-use lib.ListN.{length, getD, set, replicate, length-set, length-replicate, getD-replicate}
-use Rattle.lists.specs.Fold.{sum}
+use lib.ListN.{length, getD, replicate, length-set, length-replicate, getD-replicate}
 use Rattle.lists.specs.Table.{table}
-use Rattle.lists.proofs.Tests.{Same, same, other, same?, cond-same, both-true}
+use Rattle.lists.proofs.Tests.{Same, same, same?, cond-same, both-true}
 use Rattle.lists.proofs.Sums.{sum-zero, sum-more}
 use Rattle.lists.proofs.Tables.{length-table, getD-table, is-table, table-cong, getD-set}
 use Rattle.signed.specs.Sign.{isNegative, size}
 use Rattle.signed.proofs.Laws.{forward-is, backward-is}
-use Rattle.model.specs.Mesh.{Mesh, rim, maxCells, maxFaces, maxShare, maxConcentration, maxRimFlux, ceiling, entering, leaving, incoming, outgoing}
-use Rattle.model.specs.Causes.{fine, each, facesOnly, between, endsFit, spacingFit, outsideFit, fluxFit}
+use Rattle.model.specs.Mesh.{rim, maxCells, maxFaces, maxShare, maxConcentration, maxRimFlux, ceiling, entering, leaving, incoming, outgoing}
+use Rattle.model.specs.Causes.{facesOnly, between, endsFit, spacingFit, fluxFit}
 use Rattle.model.proofs.Sizes.{incoming-most, outgoing-most}
 use Rattle.model.proofs.Verdicts.{fine-each}
 use Rattle.check_flows.specs.Flows.{inflow, outflow}

@@ -1,4 +1,4 @@
--- The causes of cutting in two groups: counts and lengths, and values.
+-- Document 02, S-12: the causes of cutting in two groups, counts and lengths, and values.
 use Prim.Native.Nat.{ℕ}
 use mathlib.Core.List.{List, [], _∷_}
 use Rattle.model.specs.Mesh.{maxCells, maxFaces, ceiling}

@@ -5,8 +5,7 @@ use mathlib.Core.List.{List, [], _∷_}
 use lib.IntN.{ℤ, pos, negsuc}
 use lib.ListN.{replicate}
 use Rattle.model.specs.Mesh.{rim}
-use Rattle.model.specs.Step.{raised}
-use Rattle.model.specs.Causes.{fine, refused, accepted, each, counts}
+use Rattle.model.specs.Causes.{fine, refused, accepted}
 use Rattle.model.proofs.Figures.{channel, channelCall}
 use Rattle.model.proofs.Unfolded.{the-step}
 use Rattle.lists.specs.Marked.{count, old, picked}

@@ -1,6 +1,5 @@
 -- Document 02, S-12, of single cells and faces: which cells have a label, which faces touch such a cell, and which of those are cut.
 use Prim.Native.Nat.{ℕ, _+_, _^_, _≤_, _<_}
-use mathlib.Core.Path.{_≡_}
 use mathlib.Core.Logic.{_≢_}
 use mathlib.Core.Bool.{Bool, not, cond, _&&_, _||_}
 use mathlib.Core.List.{List}

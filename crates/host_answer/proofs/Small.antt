@@ -1,6 +1,6 @@
 -- A refusal by a cause of the papers and a place below 2 ^ 32: its number fits into 64 bits, and a host can take it apart. What a call finds
 -- is put together of needs, scans and parts one after another, and so is the law that its refusals are of this kind.
-use Prim.Native.Nat.{ℕ, zero, suc, _+_, _*_, _^_, _≤_, _<_}
+use Prim.Native.Nat.{ℕ, zero, suc, _^_, _≤_, _<_}
 use mathlib.Core.Path.{_≡_, refl}
 use mathlib.Core.Bool.{Bool, true, false}
 use mathlib.Core.List.{List, [], _∷_}

@@ -1,5 +1,6 @@
--- The numbers that a call from C finds, in entries that the host lends for them: after acceptance at their front, as many as there is room for.
--- Entries past them stay, and all of them after a refusal, so that a host that does not ask lends none.
+-- Of the calls from C, which the papers leave to us: the numbers that a call finds, in entries that the host lends for them. After acceptance
+-- they stand at their front, as many as there is room for; entries past them stay, and all of them after a refusal, so that a host that
+-- does not ask lends none.
 use Prim.Native.Nat.{ℕ}
 use mathlib.Core.Path.{_≡_}
 use mathlib.Core.List.{List, [], _∷_}

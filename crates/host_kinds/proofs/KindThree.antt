@@ -16,7 +16,8 @@ use Rattle.record_layouts.specs.Layouts.{fieldKind, fieldRecord, waterKind}
 use Rattle.record_heads.specs.Heads.{kindIn, widthIn}
 use Rattle.record_layouts.specs.declared.Width.{Width}
 use Rattle.record_reading.specs.Reading.{meshIn}
-use Rattle.taking.specs.Taking.{stepIn, stepRecordFound, stepJudged}
+use Rattle.taking.specs.Taking.{stepIn, stepRecordFound}
+use Rattle.taking.proofs.StepLaws.{step-says}
 use Rattle.taking.proofs.KindThree.{all-there, none, judged-same}
 use Rattle.host_answer.specs.Number.{numberOf}
 use Rattle.host_answer.proofs.Answers.{answered-as}
@@ -58,9 +59,8 @@ module _ (w : Width) (mesh field step : List ℕ) (e : kindIn step ≡ waterKind
   plain-same = ap (λ (v : Verdict). fieldTested mesh field andThen v) (judged-same w (widthIn mesh) M masses step e)
 
   plain-next-same : stepTested mesh field step ≡ fine → nextBy plain M masses (stepIn M step) ≡ plainNext01 mesh field step
-  unfolding stepJudged
   plain-next-same ok =
-      let r = ready M masses (stepIn M step) (both-fine _ _ (both-fine _ _ ok .1) .1) in
+      let r = ready M masses (stepIn M step) (step-says (widthIn mesh) M masses step (both-fine _ _ ok .1) .1) in
       low-same M masses (stepIn M step) (all-there M step) (none M step w e) (r .counts-fit .few-cells) (r .fit)
 
   -- the judging

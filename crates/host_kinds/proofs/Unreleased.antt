@@ -1,7 +1,7 @@
 -- Releases of 0 change nothing of a plain step and nothing of a claim: 14 and 18 find nothing, and the raised field agrees with the field.
 use Prim.Native.Nat.{ℕ, _≤_, _<_}
 use mathlib.Core.Path.{_≡_, refl, sym, ap, _∙_}
-use mathlib.Core.List.{List}
+use mathlib.Core.List.{List, [], _∷_}
 use borrow.Author.Tests.{le-leb}
 use lib.ListN.{length}
 use Rattle.lists.specs.Table.{table}
@@ -14,7 +14,7 @@ use Rattle.model.specs.Causes.{accepted, refused, Verdict, fine, _andThen_, inT
 use Rattle.model.specs.Claims.{claimed, claimTables, claimGood, boundsGood, amountsVerdict, unworkedVerdict, claimVerdict}
 use Rattle.model.specs.Calls.{crossingOf}
 use Rattle.model.specs.Unreleased.{unraised}
-use Rattle.model.proofs.Verdicts.{both-fine, need-met, each-cong}
+use Rattle.model.proofs.Verdicts.{both-fine, all-fine, need-met, each-cong}
 use Rattle.model.proofs.Accepted.{counted, mesh-fit}
 use Rattle.model.proofs.Agree.{lo-agree, hi-agree, carried-agree, in-agree, out-agree, incoming-agree, outgoing-agree}
 use Rattle.model.proofs.Unreleased.{idle, raised-idle, unraised-mass, agrees, released-none}
@@ -42,9 +42,12 @@ module _ (M : Mesh) (field : List ℕ) (k : Call) (long : M .cells ≤ length (k
   unfolding claimTables
   lengths-same = idle _ _ (λ e. need-met 2 14 (le-leb (M .cells) (length (k .releases)) long))
 
+  abbrev workedCauses : List Verdict
+  workedCauses = counts M ∷ meshTables M ∷ fieldTable M field ∷ inTurn (lengthsToMoved (M .cells) (M .faces) k)
+      ∷ meshValues ceiling M ∷ fieldValues M field ∷ stepValues ceiling M field k ∷ []
+
   abbrev worked : Verdict
-  worked = counts M andThen meshTables M andThen fieldTable M field andThen inTurn (lengthsToMoved (M .cells) (M .faces) k)
-      andThen meshValues ceiling M andThen fieldValues M field andThen stepValues ceiling M field k
+  worked = inTurn workedCauses
 
   unworked-same : unworkedVerdict M field k ≡ worked
   unfolding unworkedVerdict
@@ -80,12 +83,10 @@ module _ (M : Mesh) (field : List ℕ) (k : Call) (long : M .cells ≤ length (k
 
   -- past 1 and 5 the mesh is fit
   worked-few : worked ≡ fine → M .cells ≤ 4095
-  worked-few e =
-      let c = both-fine _ _ (both-fine _ _ (both-fine _ _ (both-fine _ _ (both-fine _ _ (both-fine _ _ e .0) .0) .0) .0) .0) .0 in
-      counted M c .few-cells
+  worked-few e = counted M (all-fine workedCauses e .0) .few-cells
 
   worked-fit : worked ≡ fine → MeshFit M
-  worked-fit e = mesh-fit M (both-fine _ _ (both-fine _ _ (both-fine _ _ e .0) .0) .1)
+  worked-fit e = mesh-fit M (all-fine workedCauses e .1 .1 .1 .1 .0)
 
   pub claim-verdict-same : claimVerdict M field k ≡ claimVerdict01 M field k
   unfolding claimVerdict

@@ -4,20 +4,19 @@ use mathlib.Core.Path.{_≡_}
 use mathlib.Core.List.{List}
 use native.Mathlib.Nat.{mul-le-mul, le-of-lt, le-trans}
 use native.Mathlib.Omega.{arith}
-use borrow.Author.Tests.{eqb-true, leb-true}
-use lib.Dec.{leb}
+use borrow.Author.Tests.{eqb-true}
 use lib.ListN.{length}
-use Rattle.lists.proofs.Tests.{both-true}
 use Rattle.model.specs.Mesh.{maxCells, maxFaces}
-use Rattle.model.specs.Causes.{fine, _andThen_, countsWithin}
-use Rattle.model.proofs.Verdicts.{both-fine, need-fine}
+use Rattle.model.specs.Causes.{fine, countsWithin}
+use Rattle.model.proofs.Verdicts.{all-fine, need-fine}
 use Rattle.record_bits.proofs.Fields.{bits-lt}
 use Rattle.record_bits.proofs.Layouts.{bytes-most}
 use Rattle.record_layouts.specs.Layouts.{kindBits, cellsBits, facesBits, meshLength, stepLength, meshBits, stepBits}
 use Rattle.record_heads.specs.Heads.{kindIn, cellsIn, facesIn, meshHeadVerdict, fieldHeadVerdict, stepHeadVerdict}
+use Rattle.record_heads.proofs.HeadLaws.{step-head-says}
 use Rattle.record_layouts.specs.declared.Width.{Width}
 use Rattle.record_layouts.proofs.Layouts.{rim-le, value-most, mass-most, release-wide}
-use Rattle.record_reading.specs.Reading.{meshBodyVerdict, fieldBodyVerdict, stepBodyVerdict, meshRead, fieldRead, stepRead}
+use Rattle.record_reading.specs.Reading.{meshTableCauses, stepTableCauses, meshBodyVerdict, fieldBodyVerdict, stepBodyVerdict, meshRead, fieldRead, stepRead}
 use Rattle.host_answer.specs.Number.{causeStep}
 use Rattle.host_answer.proofs.Small.{Small, small-then, small-and, small-need, small-each, small-giving}
 
@@ -61,7 +60,7 @@ module _ (bs : List ℕ) where
       (small-need 2 4 _ (omega arith)))
       (λ e. small-each 12 (8 * length bs) _ (omega (
         arith,
-        mesh-bytes (eqb-true _ _ (need-fine 11 0 _ (both-fine _ _ (both-fine _ _ (both-fine _ _ (both-fine _ _ (both-fine _ _ e .0) .0) .0) .0) .0))),
+        mesh-bytes (eqb-true _ _ (need-fine 11 0 _ (all-fine (meshTableCauses bs volumes firsts seconds shares reaches) e .0))),
       )))
 
   pub mesh-read-small : (mostCells mostFaces volumes firsts seconds shares reaches : ℕ)
@@ -99,10 +98,7 @@ module _ (bs : List ℕ) where
         (small-need 2 2 _ (omega arith))
 
     step-few : stepHeadVerdict w cells faces seconds bs ≡ fine → (cells ≤ maxCells) × (faces ≤ maxFaces)
-    unfolding stepHeadVerdict countsWithin
-    step-few e =
-        let p = both-fine _ _ (both-fine _ _ (both-fine _ _ e .0) .1) in
-        (leb-true _ _ (both-true (leb 1 cells) (leb cells maxCells) (need-fine 1 0 _ (p .0)) .1), leb-true _ _ (need-fine 1 1 _ (p .1)))
+    step-few e = let h = step-head-says w cells faces seconds bs e in (h .few-cells, h .few-faces)
 
     step-body-small : cells ≤ maxCells → faces ≤ maxFaces → (fluxes outsides releases : ℕ)
         → Small (stepBodyVerdict cells faces seconds bs fluxes outsides releases)
@@ -112,7 +108,7 @@ module _ (bs : List ℕ) where
         (small-need 2 14 _ (omega arith)))
         (λ e. small-each 12 (8 * length bs) _ (omega (
           arith,
-          step-bytes few l (eqb-true _ _ (need-fine 11 0 _ (both-fine _ _ (both-fine _ _ (both-fine _ _ e .0) .0) .0))),
+          step-bytes few l (eqb-true _ _ (need-fine 11 0 _ (all-fine (stepTableCauses cells faces seconds bs fluxes outsides releases) e .0))),
         )))
 
     pub step-read-small : (fluxes outsides releases : ℕ) → Small (stepRead w cells faces seconds bs fluxes outsides releases)

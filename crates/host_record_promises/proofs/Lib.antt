@@ -1,5 +1,6 @@
 pub mod Next
 pub mod Read
+pub mod Records
 pub mod Plain
 pub mod Judge
 pub mod Crossings

@@ -1,6 +1,6 @@
 -- A step whose next masses are written: where nothing is found of it they are a field of the mesh, and the writer is left with nothing to refuse but
 -- too few bytes.
-use Prim.Native.Nat.{ℕ, _≤_}
+use Prim.Native.Nat.{ℕ}
 use mathlib.Core.Path.{_≡_, refl, sym, ap, _∙_}
 use mathlib.Core.List.{List}
 use native.Mathlib.Nat.{le-trans}

@@ -3,7 +3,7 @@ use Prim.Native.Nat.{ℕ}
 use mathlib.Core.Path.{_≡_, sym, ap, _∙_}
 use mathlib.Core.List.{List}
 use Rattle.model.specs.Causes.{accepted, _andThen_}
-use Rattle.model.specs.Answers.{number, told}
+use Rattle.model.specs.Answers.{number}
 use Rattle.model.specs.declared.Refusal.{Refusal}
 use Rattle.model.proofs.Verdicts.{past, out}
 use Rattle.host_answer.specs.Number.{refusalNumber}

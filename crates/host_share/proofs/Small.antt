@@ -1,5 +1,4 @@
 -- A share is refused by 19 at one of eight places, or by 20.
-use Prim.Native.Nat.{ℕ}
 use mathlib.Core.Bool.{Bool, true, false, not, cond, _&&_}
 use native.Mathlib.Omega.{arith}
 use lib.Ieee.{Float, eq}

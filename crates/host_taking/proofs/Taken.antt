@@ -8,7 +8,7 @@ use Rattle.model.specs.Mesh.{Mesh, total, runCells, runFaces}
 use Rattle.model.specs.Causes.{accepted, refused, Verdict, fine, _andThen_}
 use Rattle.model.specs.Answers.{number}
 use Rattle.model.specs.declared.Refusal.{Refusal}
-use Rattle.model.proofs.Verdicts.{both-fine, past, out, refused-of, accepted-of, long-fine}
+use Rattle.model.proofs.Verdicts.{past, out, refused-of, accepted-of}
 use Rattle.checks.specs.Total.{totalSaid}
 use Rattle.checks.specs.declared.TotalAnswer.{TotalAnswer}
 use Rattle.checks.specs.declared.TotalAnswer.the-variants as total-answer
@@ -22,6 +22,7 @@ use Rattle.model.proofs.Parts.{PartRead, read-part, part-long}
 use Rattle.taking_mesh.specs.MeshTaking.{meshJudgedInRun, MeshTaking}
 use Rattle.taking_mesh.proofs.MeshLaws.{MeshIsRead, taken-said, taken-fine, taken-read}
 use Rattle.taking.specs.Taking.{fieldJudged, FieldTaking as FieldKept}
+use Rattle.taking.proofs.FieldLaws.{field-says}
 use Rattle.host_tested.specs.Tested.{fieldTested, fieldIn, totalHeld}
 use Rattle.host_taking.specs.Taken.{takenIn, Front, RecordsTaking}
 use Rattle.host_taking.specs.declared.FieldCounts.{FieldCounts}
@@ -85,8 +86,7 @@ module _ (mesh field : List ℕ) {lent left : Mesh} {a : MeshAnswer} (t : MeshTa
         field-fine = accepted-of judged (totalHeld mesh field) total (sym (ap totalSaid f) ∙ field-said)
 
         room : cellsIn mesh ≤ runCells
-        unfolding fieldJudged
-        room = long-fine 5 _ _ (both-fine _ _ (both-fine _ _ (field-fine .0) .0) .1)
+        room = field-says (widthIn mesh) (cellsIn mesh) (volumesIn mesh) field runCells (field-fine .0) .room
 
         masses-part : PartRead (cellsIn mesh) (fieldIn mesh field) masses′
         unfolding massesIn

@@ -1,5 +1,5 @@
--- A mesh record and a field record taken into tables of a call's own: the answer, and what the tables hold after acceptance. What is found of the records is
--- host_tested's.
+-- Cited by inner contracts only: a mesh record and a field record taken into tables of a call's own, the answer, and what the tables hold after
+-- acceptance. What is found of the records is host_tested's.
 use Prim.Native.Nat.{ℕ, _≤_}
 use mathlib.Core.Path.{_≡_}
 use mathlib.Core.List.{List}

@@ -9,13 +9,13 @@ use borrow.Author.Tests.{eqb-true}
 use lib.ListN.{length}
 use Rattle.model.specs.Mesh.{runCells, runFaces, ceiling}
 use Rattle.model.specs.Causes.{countsWithin, cellsOnly}
-use Rattle.model.proofs.Verdicts.{both-fine, need-fine}
+use Rattle.model.proofs.Verdicts.{all-fine, need-fine}
 use Rattle.record_bits.proofs.Fields.{bits-lt}
 use Rattle.record_bits.proofs.Layouts.{bytes-most}
 use Rattle.record_layouts.specs.Layouts.{kindBits, cellsBits, facesBits, meshLength, stepLength, meshBits, stepBits}
 use Rattle.record_heads.specs.Heads.{kindIn, cellsIn, facesIn, widthIn, meshHeadVerdict, fieldHeadVerdict, stepHeadVerdict}
 use Rattle.record_layouts.proofs.Layouts.{rim-le, value-most, mass-most, release-wide}
-use Rattle.record_reading.specs.Reading.{meshBodyVerdict, fieldBodyVerdict, stepBodyVerdict, fieldRead, volumesIn, secondsIn, meshIn, massesIn}
+use Rattle.record_reading.specs.Reading.{meshTableCauses, stepTableCauses, meshBodyVerdict, fieldBodyVerdict, stepBodyVerdict, fieldRead, volumesIn, secondsIn, meshIn, massesIn}
 use Rattle.taking_mesh.specs.MeshTaking.{meshRecordFound, meshJudged, meshJudgedInRun}
 use Rattle.taking.specs.Taking.{fieldJudged, stepIn, stepRecordFound, stepJudged}
 use Rattle.host_answer.specs.Number.{causeStep}
@@ -68,8 +68,7 @@ mesh-body mesh = small-then _ _
     (small-need 2 4 _ (omega arith)))
     (λ e. small-each 12 (8 * length mesh) _ (omega (
       arith,
-      mesh-bytes mesh (eqb-true _ _ (need-fine 11 0 _
-          (both-fine _ _ (both-fine _ _ (both-fine _ _ (both-fine _ _ (both-fine _ _ e .0) .0) .0) .0) .0))),
+      mesh-bytes mesh (eqb-true _ _ (need-fine 11 0 _ (all-fine (meshTableCauses mesh runCells runFaces runFaces runFaces runFaces) e .0))),
     )))
 
 mesh-small : (mesh : List ℕ) → Small (meshJudgedInRun mesh)
@@ -115,7 +114,8 @@ module _ (mesh step : List ℕ) where
       (λ e. small-each 12 (8 * length step) _ (omega (
         arith,
         step-bytes step (secondsIn mesh) (kindIn step) (cellsIn mesh) (facesIn mesh) (few-cells mesh) (few-faces mesh)
-            (eqb-true _ _ (need-fine 11 0 _ (both-fine _ _ (both-fine _ _ (both-fine _ _ e .0) .0) .0))),
+            (eqb-true _ _ (need-fine 11 0 _
+            (all-fine (stepTableCauses (cellsIn mesh) (facesIn mesh) (secondsIn mesh) step runFaces runFaces runCells) e .0))),
       )))
 
   pub step-record-small : Small (stepRecordFound (widthIn mesh) (meshIn mesh) step)

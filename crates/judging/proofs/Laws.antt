@@ -1,5 +1,5 @@
 -- From the first passes of a step to causes 21 and 22 of a claim, and from these to the promise of the judging.
-use Prim.Native.Nat.{ℕ, _-_, _^_, _≤_, _<_}
+use Prim.Native.Nat.{ℕ, _^_, _≤_, _<_}
 use mathlib.Core.Path.{_≡_, refl, sym, ap, _∙_}
 use mathlib.Core.Bool.{not, _&&_, _||_}
 use mathlib.Core.List.{List}

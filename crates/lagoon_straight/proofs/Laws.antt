@@ -11,7 +11,7 @@ use lib.ListN.{length, take}
 use Rattle.lists.specs.Table.{table, over}
 use Rattle.model.specs.Mesh.{Mesh, meshOf, runCells, runFaces, maxCells, maxFaces, ceiling}
 use Rattle.model.specs.Step.{StepInput, next}
-use Rattle.model.specs.Causes.{fine, _andThen_, each, long, Call, callOf, inputOf, countsWithin, counts, meshLengths, meshTables, volumeGood, meshCauses, meshValues, fieldTable, saltGood, fieldValues, meshFieldVerdict, verdict, cellsOnly}
+use Rattle.model.specs.Causes.{fine, each, long, Call, callOf, inputOf, countsWithin, counts, meshLengths, meshTables, volumeGood, meshCauses, meshValues, fieldTable, saltGood, fieldValues, meshFieldVerdict, verdict, cellsOnly}
 use Rattle.model.specs.Calls.{corrected}
 use Rattle.model.specs.declared.Answer.{Answer}
 use Rattle.model.specs.declared.Answer.the-variants.{Done}

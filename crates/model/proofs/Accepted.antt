@@ -12,7 +12,7 @@ use lib.Dec.{eqb, leb, ltb}
 use Rattle.signed.specs.Sign.{size, isNegative}
 use Rattle.lists.proofs.Tests.{Same, same, other, same?, both-true, either-true}
 use Rattle.lists.proofs.Sums.{greatest-le}
-use Rattle.model.specs.Mesh.{Mesh, volume, first, second, share, reach, atRim, rim, incoming, outgoing, maxCells, maxFaces, maxVolume, maxShare, maxReach, maxConcentration, maxRimFlux, ceiling}
+use Rattle.model.specs.Mesh.{Mesh, volume, first, second, share, reach, atRim, rim, incoming, outgoing, maxCells, maxFaces, maxVolume, maxShare, maxConcentration, maxRimFlux, ceiling}
 use Rattle.model.specs.Step.{StepInput, raised, rounded, flux, outside, concentration, adjacent, hi}
 use Rattle.model.specs.Causes.{spacingFit, meshLengths, stepLengths, meshCauses, release, raisedGood, raisedValues, waterCauses, stepCauses, fine, _andThen_, each, between, Call, inputOf, countsWithin, counts, meshTables, volumeGood, endsGood, spacingGood, meshValues, fieldTable, fieldValues, saltGood, fieldVerdict, stepTables, outsideGood, fluxGood, balanceGood, outflowGood, stepValues, verdict, meshFieldVerdict}
 use Rattle.model.specs.Accepted.{Counted, MeshLent, CallLent, MeshFit, WaterFit, Ready, maxMass}

@@ -1,18 +1,17 @@
 -- Within the old ceilings a test by either ceiling says the same.
-use Prim.Native.Nat.{ℕ, _≤_, _<_}
-use mathlib.Core.Path.{_≡_, refl, sym, ap, _∙_}
-use mathlib.Core.Bool.{Bool, true, false, cond, _&&_}
+use Prim.Native.Nat.{ℕ, _≤_}
+use mathlib.Core.Path.{_≡_, refl, sym, _∙_}
+use mathlib.Core.Bool.{Bool, true, false, cond}
 use mathlib.Core.List.{List}
-use native.Mathlib.Nat.{le-trans}
 use native.Mathlib.Omega.{arith}
 use borrow.Author.Tests.{le-leb}
 use lib.Dec.{eqb, leb}
 use Rattle.signed.specs.Sign.{size}
-use Rattle.lists.proofs.Tests.{Same, same, other, same?}
-use Rattle.model.specs.Mesh.{Mesh, volume, second, share, reach, rim, maxShare, ceiling, oldCeiling}
+use Rattle.lists.proofs.Tests.{Same, same, same?}
+use Rattle.model.specs.Mesh.{Mesh, volume, second, share, reach, rim, ceiling, oldCeiling}
 use Rattle.model.specs.Step.{flux}
-use Rattle.model.specs.Causes.{Verdict, fine, _andThen_, accepted, granted, between, volumeFits, spacingFit, fluxFit, Call, inputOf, endsGood, volumeGood, spacingGood, meshValues, fluxGood, stepValues, verdict}
-use Rattle.model.specs.Calls.{Scheme, corrected, plain, crossingOf, stepAnswer, nextTable, movedTable, workTable}
+use Rattle.model.specs.Causes.{fine, volumeFits, spacingFit, fluxFit, Call, inputOf, volumeGood, spacingGood, meshValues, fluxGood, stepValues, verdict}
+use Rattle.model.specs.Calls.{Scheme, corrected, plain, stepAnswer, nextTable, movedTable, workTable}
 use Rattle.model.specs.Ceilings.{MeshSmall, StepSmall, judgedBefore, OldAnswers, OldMeshes, OldSteps}
 use Rattle.model.proofs.Accepted.{volumes-within, spaced-within}
 use Rattle.model.proofs.Agree.{each-agree}

@@ -8,11 +8,11 @@ use native.Mathlib.Nat.{add-zero}
 use native.Mathlib.Omega.{arith}
 use lib.IntN.{ℤ, pos, negsuc}
 use lib.ListN.{replicate}
-use Rattle.lists.specs.Table.{table, over}
+use Rattle.lists.specs.Table.{table}
 use Rattle.signed.specs.Sign.{isNegative}
 use Rattle.model.specs.Mesh.{Mesh, meshOf, second, rim, ceiling, oldCeiling}
-use Rattle.model.specs.Step.{StepInput, rounded, roundedInput, raised, releasedMass, flux, outside, outMass, next, moved, concentration, upwind, low, correction, lowConcentration, kept, lo, hi, maxLoss, giver, limited}
-use Rattle.model.specs.Causes.{Call, release, inputOf, fine, refused, each, counts, meshValues, fieldVerdict, verdict}
+use Rattle.model.specs.Step.{StepInput, roundedInput, releasedMass, flux, outside, outMass, next, moved, concentration, low, correction, lowConcentration, kept, lo, hi, maxLoss, limited}
+use Rattle.model.specs.Causes.{Call, release, inputOf, fine, refused, meshValues, fieldVerdict, verdict}
 use Rattle.model.specs.Calls.{massIn, corrected, stepOnTables, afterAll, totalIn, totalReleased}
 use Rattle.model.proofs.Accepted.{ready}
 use Rattle.model.proofs.Raised.{raised-at}

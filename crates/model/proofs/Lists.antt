@@ -12,7 +12,7 @@ use Rattle.lists.proofs.Tables.{length-table, getD-table, length-over, getD-ove
 use Rattle.model.specs.Mesh.{Mesh, updated, total}
 use Rattle.model.specs.Step.{StepInput, mass, inMass, outMass, releasedMass}
 use Rattle.model.specs.Causes.{Outcome, accepted, refused, fine, Call, inputOf, fieldVerdict, verdict}
-use Rattle.model.specs.Calls.{massIn, Bounded, Left, fieldAfter, enteredBy, goneBy, releasedBy, crossingOf, Scheme, corrected, plain, lentMasses, nextTable, stepOnTables, afterAll, totalIn, totalOut, totalReleased, EachStep, Claim, Deed, stepped, givenBack, storeOnly, stepping, fieldBy, Account, startsAt, accountBy, lastField, lastAccount, EachCall, Ledger}
+use Rattle.model.specs.Calls.{massIn, Bounded, Left, fieldAfter, enteredBy, goneBy, releasedBy, crossingOf, Scheme, corrected, plain, lentMasses, nextTable, stepOnTables, afterAll, totalIn, totalOut, totalReleased, EachStep, ListClaim, Deed, stepped, givenBack, storeOnly, stepping, fieldBy, Account, startsAt, accountBy, lastField, lastAccount, EachCall, Ledger}
 use Rattle.model.proofs.Verdicts.{both-fine}
 use Rattle.model.proofs.Next.{Keeps, amounts-budget, moved-keeps, carried-keeps}
 use Rattle.model.proofs.Raised.{raised-sum}
@@ -104,11 +104,11 @@ module _ (M : Mesh) {K : Type 0} (comes : K → List ℕ → Outcome Left) (C : 
   step-holds k field c g (accepted l) e = owes k field c g (accepted l) e .holds
   step-holds k field c g (refused i j) e = owes k field c g (refused i j) e
 
-  pub claim-law : (field : List ℕ) → fieldVerdict M field ≡ fine → (ks : List K) → EachStep comes C field ks → Claim M comes P field ks
+  pub list-claim : (field : List ℕ) → fieldVerdict M field ≡ fine → (ks : List K) → EachStep comes C field ks → ListClaim M comes P field ks
   unfolding afterAll totalIn totalOut totalReleased
-  claim-law field g [] c = record { budget = omega arith; each-call = tt; field-accepted = g }
-  claim-law field g (k ∷ ks) c =
-      let rest = claim-law (fieldAfter (comes k field) field) (step-accepted k field (c .0) g (comes k field) refl) ks (c .1) in
+  list-claim field g [] c = record { budget = omega arith; each-call = tt; field-accepted = g }
+  list-claim field g (k ∷ ks) c =
+      let rest = list-claim (fieldAfter (comes k field) field) (step-accepted k field (c .0) g (comes k field) refl) ks (c .1) in
       record {
         budget = omega (arith, step-closes k field (c .0) g (comes k field) refl, rest .budget);
         each-call = (step-holds k field (c .0) g (comes k field) refl, rest .each-call);

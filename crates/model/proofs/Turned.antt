@@ -2,12 +2,10 @@
 use Prim.Native.Nat.{ℕ}
 use mathlib.Core.Path.{_≡_}
 use native.Mathlib.Nat.{add-comm}
-use lib.Dec.{eqb}
 use lib.IntN.{ℤ, negℤ}
-use Rattle.signed.specs.Sign.{forward, backward}
 use Rattle.signed.proofs.Turns.{forward-turned, backward-turned}
 use Rattle.lists.proofs.Sums.{sum-cong}
-use Rattle.model.specs.Mesh.{Mesh, first, second, entering, leaving, incoming, outgoing}
+use Rattle.model.specs.Mesh.{Mesh, entering, leaving, incoming, outgoing}
 
 abbrev pub opposite : (ℕ → ℤ) → ℕ → ℤ
 opposite x f = negℤ (x f)

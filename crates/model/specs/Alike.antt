@@ -1,4 +1,4 @@
--- Steps on one lagoon that is numbered in two ways, with interior faces turned round in one of them; and steps that agree below their
+-- Document 02, S-9: steps on one lagoon that is numbered in two ways, with interior faces turned round in one of them; and steps that agree below their
 -- counts, the case in which every cell and face keeps its number. Entries past the counts mean nothing.
 use Prim.Native.Nat.{ℕ, _-_, _<_}
 use mathlib.Core.Path.{_≡_}

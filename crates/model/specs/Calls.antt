@@ -118,7 +118,7 @@ module _ {K : Type 0} (comes : K → List ℕ → Outcome Left) where
 
 -- Demand 3: the budget over all calls; what P says of each call, of the field lent to it and of what it comes to, as the bounds of a step that
 -- is accepted; and the field is an accepted one again.
-pub record Claim (M : Mesh) {K : Type 0} (comes : K → List ℕ → Outcome Left) (P : K → List ℕ → Outcome Left → Type 0)
+pub record ListClaim (M : Mesh) {K : Type 0} (comes : K → List ℕ → Outcome Left) (P : K → List ℕ → Outcome Left → Type 0)
     (field : List ℕ) (ks : List K) : Type 0 where
   pub budget : total M (massIn (afterAll comes field ks)) + totalOut comes field ks
       ≡ total M (massIn field) + totalIn comes field ks + totalReleased comes field ks

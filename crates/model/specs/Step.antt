@@ -1,4 +1,5 @@
--- Document 01, "One step": the five stages, in order, with document 02's S-6 before them and its S-5 between the second and the third.
+-- Document 01, "One step": the five stages, with document 02's S-6 before them and its S-5 between the second and the third. First what S-5
+-- and stage 4 say of any corrections, then the stages of one step in their order.
 use Prim.Native.Nat.{ℕ, _+_, _-_, _*_, _/_, min}
 use mathlib.Core.Bool.{Bool, cond, _||_}
 use mathlib.Core.List.{List}

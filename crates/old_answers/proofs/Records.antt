@@ -16,7 +16,7 @@ use Rattle.signed.proofs.Laws.{size-withSign}
 use Rattle.model.specs.Mesh.{oldCeiling}
 use Rattle.model.specs.Causes.{accepted, Verdict, fine, _andThen_}
 use Rattle.model.specs.Ceilings.{MeshSmall}
-use Rattle.model.proofs.Verdicts.{both-fine, need-fine}
+use Rattle.model.proofs.Verdicts.{both-fine, all-fine, need-fine}
 use Rattle.record_bits.specs.Layout.{bytesFor}
 use Rattle.record_bits.proofs.Fields.{bits-lt}
 use Rattle.record_sections.specs.Sections.{Section, place, lengthOf}
@@ -45,7 +45,7 @@ module _ (bs : List ℕ) (k : kindIn bs ≢ 5) where
 module _ (bs : List ℕ) where
   pub kind-one : (mostCells mostFaces : ℕ) → oldMeshHead mostCells mostFaces bs ≡ fine → kindIn bs ≡ 1
   unfolding oldMeshHead
-  kind-one mostCells mostFaces e = eqb-true (kindIn bs) 1 (need-fine 13 0 _ (both-fine _ _ (both-fine _ _ e .0) .1))
+  kind-one mostCells mostFaces e = eqb-true (kindIn bs) 1 (need-fine 13 0 _ (all-fine (_ ∷ _ ∷ _ ∷ []) e .1 .0))
 
   -- of kind 1
   module _ (e : kindIn bs ≡ 1) where
@@ -100,7 +100,7 @@ module _ (cells : ℕ) (bs : List ℕ) where
 
   kind-two : oldFieldHead cells bs ≡ fine → kindIn bs ≡ 2
   unfolding oldFieldHead
-  kind-two e = eqb-true (kindIn bs) 2 (need-fine 13 0 _ (both-fine _ _ (both-fine _ _ (both-fine _ _ e .0) .0) .1))
+  kind-two e = eqb-true (kindIn bs) 2 (need-fine 13 0 _ (all-fine (_ ∷ _ ∷ _ ∷ _ ∷ []) e .1 .0))
 
   field-shape : kindIn bs ≡ 2 → fieldShape (kindIn bs) cells ≡ oldFieldShape cells
   unfolding massBits
@@ -138,7 +138,7 @@ module _ (cells faces : ℕ) (seconds bs : List ℕ) where
 
   step-kind : oldStepHead cells faces seconds bs ≡ fine → (eqb (kindIn bs) 3 || eqb (kindIn bs) 4) ≡ true
   unfolding oldStepHead
-  step-kind e = need-fine 13 0 _ (both-fine _ _ (both-fine _ _ (both-fine _ _ (both-fine _ _ e .0) .0) .0) .1)
+  step-kind e = need-fine 13 0 _ (all-fine (_ ∷ _ ∷ _ ∷ _ ∷ _ ∷ []) e .1 .0)
 
   step-shape : oldStepHead cells faces seconds bs ≡ fine → stepShape (kindIn bs) cells faces seconds ≡ oldStepShapeIn bs cells faces seconds
   step-shape e = old-kinds (kindIn bs) (step-kind e) cells faces seconds .1

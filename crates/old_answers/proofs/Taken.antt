@@ -2,7 +2,7 @@
 use Prim.Native.Nat.{ℕ, _≤_, _<_}
 use mathlib.Core.Path.{_≡_, ap, _∙_}
 use mathlib.Core.Logic.{_≢_}
-use mathlib.Core.List.{List}
+use mathlib.Core.List.{List, [], _∷_}
 use native.Mathlib.Omega.{arith}
 use lib.ListN.{length, getD}
 use Rattle.lists.specs.Table.{table}
@@ -11,7 +11,7 @@ use Rattle.model.specs.Step.{next}
 use Rattle.model.specs.Causes.{accepted, Verdict, fine, _andThen_, granted, inTurn, Call, cellsOnly, inputOf, bytesLong, meshValues, meshFieldVerdict, causesWithin, verdict}
 use Rattle.model.specs.Calls.{stepAnswer}
 use Rattle.model.specs.Ceilings.{MeshSmall, StepSmall}
-use Rattle.model.proofs.Verdicts.{both-fine}
+use Rattle.model.proofs.Verdicts.{both-fine, all-fine}
 use Rattle.model.proofs.Ceilings.{old-meshes, old-steps}
 use Rattle.record_sections.specs.Sections.{Section}
 use Rattle.record_layouts.specs.Layouts.{fieldKind, massBits, fieldRecord, fieldLength}
@@ -43,7 +43,7 @@ kept-same {u} {v} {w} {M} {N} {lent} e d m c = record {
 module _ (bs : List ℕ) (volumes firsts seconds shares reaches : ℕ) where
   pub judged-kind-one : oldMeshJudged bs volumes firsts seconds shares reaches ≡ fine → kindIn bs ≡ 1
   unfolding oldMeshJudged
-  judged-kind-one e = read-kind-one bs _ _ _ _ _ _ _ (both-fine _ _ (both-fine _ _ e .0) .0)
+  judged-kind-one e = read-kind-one bs _ _ _ _ _ _ _ (all-fine (_ ∷ _ ∷ _ ∷ []) e .0)
 
   pub mesh-judged : kindIn bs ≢ 5 → meshJudged bs volumes firsts seconds shares reaches ≡ oldMeshJudged bs volumes firsts seconds shares reaches
   unfolding meshJudged meshRecordFound oldMeshJudged
@@ -67,7 +67,7 @@ module _ (cells : ℕ) (volumes : List ℕ) (s : Small cells volumes) where
 
 pub judged-masses : (cells : ℕ) (volumes bs : List ℕ) (masses : ℕ) → oldFieldJudged cells volumes bs masses ≡ fine → massesIn bs cells ≡ oldMassesIn bs cells
 unfolding oldFieldJudged
-judged-masses cells volumes bs masses e = old-masses cells bs runCells (both-fine _ _ (both-fine _ _ e .0) .0)
+judged-masses cells volumes bs masses e = old-masses cells bs runCells (all-fine (_ ∷ _ ∷ _ ∷ []) e .0)
 
 -- A STEP on a mesh within the old ceilings
 module _ (M : Mesh) (bs : List ℕ) where
@@ -113,7 +113,7 @@ chain-same : (v f f′ s s′ l l′ : Verdict) → (v ≡ fine → f ≡ f′) 
 chain-same v f f′ s s′ l l′ a b d =
     ap (λ (x : Verdict). x andThen s andThen l) (same-after v f f′ a)
     ∙ ap (λ (x : Verdict). x andThen l) (same-after (v andThen f′) s s′ (λ h. let p = both-fine _ _ h in b (p .0) (p .1)))
-    ∙ same-after (v andThen f′ andThen s′) l l′ (λ h. d (both-fine _ _ (both-fine _ _ h .0) .0))
+    ∙ same-after (v andThen f′ andThen s′) l l′ (λ h. d (all-fine (_ ∷ _ ∷ _ ∷ []) h .0))
 
 module _ (mesh field step : List ℕ) where
   abbrev cells : ℕ
@@ -138,15 +138,14 @@ module _ (mesh field step : List ℕ) where
       → fieldRecord (fieldKind (widthIn mesh)) cells (table cells (next (hostInput mesh field step))) ≡ oldNextRecord mesh field step
   unfolding oldHostVerdict fieldRecord massBits
   next-record room h =
-      let p = both-fine _ _ (both-fine _ _ h .0) in
-      let q = both-fine _ _ (p .0) in
-      let e = judged-kind-one mesh _ _ _ _ _ (q .0) in
+      let p = all-fine (_ ∷ _ ∷ _ ∷ _ ∷ []) h in
+      let e = judged-kind-one mesh _ _ _ _ _ (p .0) in
       ap (λ (w : Width). fieldRecord (fieldKind w) cells (table cells (next (hostInput mesh field step)))) (mesh-narrow mesh e)
       ∙ ap (λ (M : Mesh). fieldRecord 2 cells (table cells (next (inputOf M (massesIn field cells) (stepIn M step))))) (mesh-in mesh e)
       ∙ ap (λ (m : List ℕ). fieldRecord 2 cells (table cells (next (inputOf (oldMeshIn mesh) m (stepIn (oldMeshIn mesh) step)))))
-      (judged-masses cells _ field runCells (q .1))
+      (judged-masses cells _ field runCells (p .1 .0))
       ∙ ap (λ (c : Call). fieldRecord 2 cells (table cells (next (inputOf (oldMeshIn mesh) (oldMassesIn field cells) c))))
-      (judged-step-in (oldMeshIn mesh) step (oldMassesIn field cells) (p .1))
+      (judged-step-in (oldMeshIn mesh) step (oldMassesIn field cells) (p .1 .1 .0))
 
   pub host-bytes : kindIn mesh ≢ 5 → (bytes : List ℕ) {bytes′ : List ℕ} → bytes′ ≡ hostBytes mesh field step bytes → bytes′ ≡ oldHostBytes mesh field step bytes
   unfolding hostBytes oldHostBytes

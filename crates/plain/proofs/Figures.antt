@@ -5,8 +5,7 @@ use mathlib.Core.List.{List, [], _∷_}
 use lib.IntN.{pos, negsuc}
 use lib.ListN.{replicate}
 use Rattle.model.specs.Mesh.{Mesh, meshOf, rim}
-use Rattle.model.specs.Step.{rounded}
-use Rattle.model.specs.Causes.{Call, callOf, each}
+use Rattle.model.specs.Causes.{Call, callOf}
 use Rattle.model.specs.Calls.{afterAll}
 use Rattle.model.proofs.Figures.{channel, channelCall}
 use Rattle.model.proofs.Unfolded.{the-step}

@@ -7,7 +7,8 @@ use Rattle.model.specs.Causes.{accepted}
 use Rattle.model.specs.Calls.{Left, fieldAfter, plain, lentMasses, stepOnTables, EachStep}
 use Rattle.plain.proofs.Error.{error-of}
 use Rattle.transport.proofs.Promises.{promised-comes}
-use Rattle.plain.specs.Made.{Made, cameTo, KeptOn, ErrorOfCalls}
+use Rattle.transport.specs.Made.{Made}
+use Rattle.plain.specs.Made.{cameTo, KeptOn, ErrorOfCalls}
 
 as-plain : (M : Mesh) (field : List ℕ) (calls : List Made) → KeptOn M field calls
     → EachStep cameTo (λ m before. (l : Left) → cameTo m before ≡ accepted l → stepOnTables plain M (m .tables) (lentMasses M (m .past) before) ≡ accepted l)

@@ -1,25 +1,14 @@
 -- Document 02, S-8: the error, of plain calls as they were made and answered.
 use Prim.Native.Nat.{ℕ}
 use mathlib.Core.List.{List}
-use lib.IntN.{ℤ}
 use Rattle.model.specs.Mesh.{Mesh}
-use Rattle.model.specs.Causes.{Outcome, Call}
+use Rattle.model.specs.Causes.{Outcome}
 use Rattle.model.specs.Calls.{Left, plain, lentMasses, EachStep}
 use Rattle.plain.specs.Error.{ErrorBelow}
 use Rattle.transport.specs.Promise.{stepSaid, leftBy, StepPromise}
-use Rattle.transport.specs.declared.StepAnswer.{StepAnswer}
+use Rattle.transport.specs.Made.{Made}
 
--- A call of `step`, plain or corrected, as it was made: what stood in its table of masses past the field, the other tables lent to it, its
--- answer, and its next masses, moved and work afterwards.
-pub record Made : Type 0 where
-  pub past : List ℕ
-  pub tables : Call
-  pub answer : StepAnswer
-  pub next : List ℕ
-  pub moved : List ℤ
-  pub work : List ℕ
-
--- what it came to: the next masses it left, or its refusal
+-- What a call came to: the next masses it left, or its refusal
 abbrev pub cameTo : Made → List ℕ → Outcome Left
 cameTo m field = leftBy (stepSaid (m .answer)) (m .next)
 

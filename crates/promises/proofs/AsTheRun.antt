@@ -11,14 +11,15 @@ use Rattle.lists.proofs.Tables.{length-table, getD-table, length-over, getD-ove
 use Rattle.model.specs.Mesh.{Mesh, meshOf, runCells, runFaces}
 use Rattle.model.specs.Alike.{AgreeMesh, AgreeCall}
 use Rattle.model.specs.Causes.{fine, long, cellsOnly, counts, meshTables, meshVerdict, fieldTable, fieldValues, fieldVerdict, stepTables, meshFieldVerdict}
-use Rattle.model.proofs.Verdicts.{both-fine, need-met}
-use Rattle.model.proofs.Accepted.{field-fit, field-accepted}
+use Rattle.model.proofs.Verdicts.{need-met}
+use Rattle.model.proofs.Accepted.{field-fit, field-passed, field-accepted}
 use Rattle.model.proofs.Agree.{mesh-values-agree, field-values-agree, verdict-agree}
 use Rattle.record_heads.specs.Heads.{widthIn, cellsIn, facesIn}
 use Rattle.record_reading.specs.Reading.{volumesIn, firstsIn, secondsIn, sharesIn, reachesIn, meshIn, massesIn, outsidesIn, releasesIn}
 use Rattle.taking_mesh.specs.MeshTaking.{meshJudged, meshJudgedInRun}
 use Rattle.taking.specs.Taking.{fieldJudged, stepIn, stepRecordFound, stepJudged}
-use Rattle.taking_mesh.proofs.MeshLaws.{limits, values-left}
+use Rattle.taking_mesh.proofs.MeshLaws.{MeshSays, mesh-says, limits, values-left}
+use Rattle.taking.proofs.FieldLaws.{field-says}
 use Rattle.host_tested.specs.Tested.{fieldAlone, stepAlone}
 use Rattle.promises.proofs.Counted.{outsides-same, releases-same, found-same}
 
@@ -53,9 +54,11 @@ module _ (mesh field step volumes firsts seconds shares reaches masses : List �
   lentField = over (massesIn field (cellsIn mesh)) masses
 
   module _ (mesh-fine : meshJudgedInRun mesh ≡ fine) where
+    passed : MeshSays mesh runCells runFaces runFaces runFaces runFaces
+    passed = mesh-says mesh runCells runFaces runFaces runFaces runFaces mesh-fine
+
     within : (cellsIn mesh ≤ runCells) × (facesIn mesh ≤ runFaces)
-    unfolding meshJudged
-    within = let l = limits mesh (both-fine _ _ (both-fine _ _ mesh-fine .0) .0) in (l .few-cells, l .few-faces)
+    within = let l = limits mesh (passed .found) in (l .few-cells, l .few-faces)
 
     agrees : AgreeMesh (meshIn mesh) lent
     unfolding volumesIn firstsIn secondsIn sharesIn reachesIn
@@ -105,10 +108,9 @@ module _ (mesh field step volumes firsts seconds shares reaches masses : List �
 
     -- the mesh in the run's tables is an accepted one
     pub lent-fine : meshVerdict lent ≡ fine
-    unfolding meshVerdict counts meshJudged
+    unfolding meshVerdict counts
     lent-fine =
-        let p = both-fine _ _ mesh-fine in
-        let whole : meshVerdict (meshIn mesh) ≡ fine = values-left mesh (both-fine _ _ (p .0) .0) ∙ p .1 in
+        let whole : meshVerdict (meshIn mesh) ≡ fine = values-left mesh (passed .found) ∙ passed .values in
         rw (tables-same, mesh-values-agree (meshIn mesh) lent agrees) whole
 
     cells-agree : AgreeMesh (cellsOnly (cellsIn mesh) (volumesIn mesh)) (cellsOnly (cellsIn mesh) (over (volumesIn mesh) volumes))
@@ -137,9 +139,10 @@ module _ (mesh field step volumes firsts seconds shares reaches masses : List �
 
     -- and so is a field on it
     pub lent-field-fine : fieldAlone mesh field ≡ fine → fieldVerdict lent lentField ≡ fine
-    unfolding fieldJudged meshFieldVerdict massesIn
+    unfolding massesIn
     lent-field-fine e =
-        let salt : fieldValues (cellsOnly (cellsIn mesh) (volumesIn mesh)) (massesIn field (cellsIn mesh)) ≡ fine = both-fine _ _ (both-fine _ _ e .1) .1 in
+        let salt : fieldValues (cellsOnly (cellsIn mesh) (volumesIn mesh)) (massesIn field (cellsIn mesh)) ≡ fine =
+        field-passed (field-says (widthIn mesh) (cellsIn mesh) (volumesIn mesh) field runCells e .values) .field-fine in
         field-accepted lent lentField (masses-long .1)
         (λ c h. rw (held-same _ _ masses c h, agrees .volumes c h)
         (field-fit (cellsOnly (cellsIn mesh) (volumesIn mesh)) (massesIn field (cellsIn mesh)) salt c h))

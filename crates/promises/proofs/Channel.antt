@@ -8,7 +8,7 @@ use lib.ListN.{take, replicate}
 use Rattle.lists.specs.Table.{table, over}
 use Rattle.model.specs.Mesh.{ceiling, oldCeiling}
 use Rattle.model.specs.Step.{next, moved}
-use Rattle.model.specs.Causes.{_andThen_, fine, Call, meshVerdict, fieldVerdict, each, meshValues, callOf}
+use Rattle.model.specs.Causes.{_andThen_, fine, Call, meshVerdict, fieldVerdict, meshValues, callOf}
 use Rattle.model.specs.Calls.{lentMasses, crossingOf, corrected, afterAll, totalIn}
 use Rattle.model.proofs.Figures.{channel}
 use Rattle.model.proofs.Unfolded.{the-step}
@@ -26,7 +26,7 @@ use Rattle.lagoon.specs.Host.{hostInput, hostVerdict, hostBytes, HostPromise}
 use Rattle.transport.specs.Promise.{StepPromise}
 use Rattle.transport.specs.declared.Way.the-variants.{Corrected}
 use Rattle.transport.specs.declared.StepAnswer.the-variants.{Stepped}
-use Rattle.plain.specs.Made.{Made}
+use Rattle.transport.specs.Made.{Made}
 use Rattle.promises.specs.Steps.{HostMade, StepCall, byStep, byHost, waterIn, cameTo, StepContract, StepsMade}
 use Rattle.promises.proofs.Held.{mesh-holds, field-holds}
 

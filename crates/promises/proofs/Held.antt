@@ -2,19 +2,18 @@
 -- within the ceilings of its width.
 use Prim.Native.Nat.{ℕ}
 use mathlib.Core.Path.{_≡_, sym, ap, _∙_}
-use mathlib.Core.List.{List}
+use mathlib.Core.List.{List, [], _∷_}
 use native.Mathlib.Omega.{arith}
 use Rattle.lists.proofs.Tables.{getD-table}
 use Rattle.model.specs.Mesh.{Mesh, volume, reach, maxCells, maxFaces, ceiling}
 use Rattle.model.specs.Ceilings.{MeshSmall}
 use Rattle.model.specs.Causes.{fine, counts, meshValues, meshVerdict, fieldValues, fieldVerdict}
-use Rattle.model.proofs.Verdicts.{both-fine}
+use Rattle.model.proofs.Verdicts.{both-fine, all-fine}
 use Rattle.model.proofs.Ceilings.{old-meshes}
 use Rattle.record_layouts.specs.Layouts.{meshKind, fieldKind, meshRecord, fieldRecord}
 use Rattle.record_heads.specs.Heads.{widthIn}
 use Rattle.record_layouts.specs.declared.Width.{Width}
 use Rattle.record_layouts.specs.declared.Width.the-variants.{Narrow, Wide}
-use Rattle.record_reading.specs.Reading.{meshIn}
 use Rattle.record_reading.specs.declared.MeshCounts.{MeshCounts}
 use Rattle.record_writing.specs.Writing.{mostOf}
 use Rattle.record_writing.proofs.Accepting.{mesh-passed}
@@ -38,11 +37,11 @@ width-held w M bs h =
 module _ (M : Mesh) (mesh-fine : meshVerdict M ≡ fine) where
   pub within : counts M ≡ fine
   unfolding meshVerdict
-  within = both-fine _ _ (both-fine _ _ mesh-fine .0) .0
+  within = all-fine (counts M ∷ _ ∷ _ ∷ []) mesh-fine .0
 
   pub passes : meshValues ceiling M ≡ fine
   unfolding meshVerdict
-  passes = both-fine _ _ mesh-fine .1
+  passes = all-fine (counts M ∷ _ ∷ _ ∷ []) mesh-fine .1 .1 .0
 
 -- a mesh that a record of a width holds is within its ceilings
 pub holds-within : (w : Width) (M : Mesh) → meshVerdict M ≡ fine → (bs : List ℕ) → HoldsMesh w M bs → meshValues (mostOf w) M ≡ fine

@@ -1,7 +1,7 @@
 -- The host's three calls on records, each by its contract: the step, the plain step and the judging of another model's step.
 use Prim.Native.Nat.{ℕ}
 use mathlib.Core.Path.{_≡_, sym, ap, _∙_}
-use mathlib.Core.List.{List}
+use mathlib.Core.List.{List, [], _∷_}
 use native.Mathlib.Omega.{arith}
 use lib.ListN.{length}
 use Rattle.model.specs.Mesh.{Mesh}
@@ -9,19 +9,21 @@ use Rattle.model.specs.Step.{next}
 use Rattle.model.specs.Causes.{accepted, refused, Verdict, fine, _andThen_, Call, inputOf, meshVerdict, verdict}
 use Rattle.model.specs.Claims.{claimVerdict}
 use Rattle.model.specs.Calls.{Crossing, Bounded, Left, crossingOf, corrected, plain, judged}
-use Rattle.model.proofs.Verdicts.{both-fine, accepted-of}
+use Rattle.model.proofs.Verdicts.{both-fine, all-fine, accepted-of}
 use Rattle.model.proofs.Lists.{Fair, corrected-keeping, plain-keeping}
 use Rattle.model.proofs.Claims.{judged-keeping}
 use Rattle.record_heads.specs.Heads.{widthIn}
 use Rattle.record_reading.specs.Reading.{meshIn, massesIn, fluxesIn}
-use Rattle.taking.specs.Taking.{ownTables, stepIn, stepJudged}
+use Rattle.taking.specs.Taking.{ownTables, stepIn}
+use Rattle.taking.proofs.StepLaws.{step-says}
 use Rattle.lagoon.specs.Host.{hostVerdict, hostBytes, HostPromise}
 use Rattle.lagoon.proofs.Small.{host-small}
+use Rattle.lagoon.proofs.Stages.{host-says as host-passed}
 use Rattle.host_answer.specs.Found.{filled}
 use Rattle.host_answer.proofs.Small.{Small, small-and, small-need}
 use Rattle.host_answer.proofs.Tables.{claim-small}
 use Rattle.host_answer.specs.Steps.{crossed}
-use Rattle.host_tested.specs.Tested.{fieldIn, stepTested}
+use Rattle.host_tested.specs.Tested.{fieldTested, fieldIn, stepTested}
 use Rattle.host_tested.proofs.Small.{field-tested-small, step-record-small, step-judged-small}
 use Rattle.host_record_promises.specs.Next.{withRoom}
 use Rattle.host_record_promises.specs.Plain.{PlainPromise}
@@ -32,7 +34,7 @@ use Rattle.promises.proofs.Numbers.{said-of, said-giving}
 use Rattle.promises.proofs.OnRecords.{record-same, records-crossing, records-fair, records-refused}
 
 -- the step that a record holds is the same on a mesh trimmed to its counts
-step-same : (M : Mesh) (step : List ℕ) → stepIn (trimmed M) step ≡ stepIn M step
+pub step-same : (M : Mesh) (step : List ℕ) → stepIn (trimmed M) step ≡ stepIn M step
 step-same M step = record-same M step (ownTables (fluxesIn step (M .faces)))
 
 module _ (M : Mesh) (mesh-fine : meshVerdict M ≡ fine) (field : List ℕ) (m : HostMade) (brought : Brought M m field) where
@@ -40,13 +42,12 @@ module _ (M : Mesh) (mesh-fine : meshVerdict M ≡ fine) (field : List ℕ) (m :
     abbrev hostFound : Verdict
     hostFound = hostVerdict (m .mesh) (m .field) (m .step) (length (m .room))
 
-    host-says : hostSaid (m .number) ≡ hostFound
+    pub host-says : hostSaid (m .number) ≡ hostFound
     host-says = said-of hostFound (m .number) (p .number) (host-small (m .mesh) (m .field) (m .step) (length (m .room)))
 
     host-finds : hostFound ≡ fine
         → verdict (meshIn (m .mesh)) (massesIn (m .field) (meshIn (m .mesh) .cells)) (stepIn (meshIn (m .mesh)) (m .step)) ≡ fine
-    unfolding hostVerdict stepJudged
-    host-finds ok = both-fine _ _ (both-fine _ _ (both-fine _ _ ok .0) .1) .1
+    host-finds ok = step-says _ _ _ (m .step) (host-passed (m .mesh) (m .field) (m .step) (length (m .room)) ok .step-fine) .1
 
     pub host-fair : (l : Left) → hostLeft M m field ≡ accepted l
         → Fair M (Bounded (inputOf M field (waterIn M (m .step))) (l .field) × NextHeld M m l) field l
@@ -64,15 +65,14 @@ module _ (M : Mesh) (mesh-fine : meshVerdict M ≡ fine) (field : List ℕ) (m :
     abbrev plainFound : Verdict
     plainFound = withRoom (stepTested (m .mesh) (m .field) (m .step)) (widthIn (m .mesh)) (meshIn (m .mesh) .cells) (length (m .room))
 
-    plain-says : hostSaid (m .number) ≡ plainFound
+    pub plain-says : hostSaid (m .number) ≡ plainFound
     plain-says = said-of plainFound (m .number) (p .number) (small-and
         (small-and (field-tested-small (m .mesh) (m .field)) (step-judged-small (m .mesh) (m .step) (fieldIn (m .mesh) (m .field))))
         (small-need 2 11 _ (omega arith)))
 
     plain-finds : plainFound ≡ fine
         → verdict (meshIn (m .mesh)) (massesIn (m .field) (meshIn (m .mesh) .cells)) (stepIn (meshIn (m .mesh)) (m .step)) ≡ fine
-    unfolding stepJudged
-    plain-finds ok = both-fine _ _ (both-fine _ _ (both-fine _ _ ok .0) .1) .1
+    plain-finds ok = step-says _ _ _ (m .step) (all-fine (fieldTested (m .mesh) (m .field) ∷ _ ∷ _ ∷ []) ok .1 .0) .1
 
     pub plain-fair : (l : Left) → hostLeft M m field ≡ accepted l
         → Fair M (Bounded (inputOf M field (waterIn M (m .step))) (l .field) × NextHeld M m l) field l
@@ -115,7 +115,7 @@ module _ (M : Mesh) (mesh-fine : meshVerdict M ≡ fine) (field : List ℕ) (c :
   judged-finds : judgedFound ≡ fine
       → claimVerdict (meshIn (m .mesh)) (massesIn (m .field) (meshIn (m .mesh) .cells)) (callIn (meshIn (m .mesh))) ≡ fine
   unfolding claimJudged
-  judged-finds ok = both-fine _ _ (both-fine _ _ (both-fine _ _ ok .0) .1) .1
+  judged-finds ok = both-fine _ _ (all-fine (fieldTested (m .mesh) (m .field) ∷ _ ∷ _ ∷ []) ok .1 .0) .1
 
   -- what the host is told, where there is room for it
   judged-told : judgedFound ≡ fine → c .foundAfter ≡ filled (crossed (crossingOf M field (callIn M))) (c .found)

@@ -12,7 +12,7 @@ use Rattle.model.proofs.Lists.{Fair, Keeping, tables-fair, lent-same}
 use Rattle.transport.specs.Promise.{stepSaid, leftBy, StepPromise}
 use Rattle.transport.proofs.Promises.{promised-comes}
 use Rattle.judging.specs.Promise.{JudgePromise}
-use Rattle.plain.specs.Made.{Made}
+use Rattle.transport.specs.Made.{Made}
 use Rattle.promises.proofs.Held.{within, passes}
 
 -- what such a call comes to

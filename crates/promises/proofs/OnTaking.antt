@@ -11,7 +11,7 @@ use Rattle.model.specs.Step.{StepInput, releasedMass, moved, next}
 use Rattle.model.specs.Accepted.{Ready}
 use Rattle.model.specs.Causes.{accepted, refused, Verdict, fine, _andThen_, Call, inputOf, meshVerdict}
 use Rattle.model.specs.Calls.{massIn, Bounded, Left, crossingOf, lentMasses}
-use Rattle.model.proofs.Verdicts.{both-fine, accepted-of, refused-of}
+use Rattle.model.proofs.Verdicts.{accepted-of, refused-of}
 use Rattle.model.proofs.Accepted.{ready, counted, mesh-fit}
 use Rattle.model.proofs.Next.{moved-keeps}
 use Rattle.model.proofs.Lists.{Fair, amounts-fair, raised-total, lent-same}
@@ -19,6 +19,7 @@ use Rattle.model.proofs.Agree.{field-agrees, fair-agree}
 use Rattle.model.specs.declared.Printed.{Printed}
 use Rattle.model.specs.StepTaken.{takenSaid}
 use Rattle.taking.specs.Taking.{stepIn, printedOf, stepJudged, StepTaking}
+use Rattle.taking.proofs.StepLaws.{step-says}
 use Rattle.promises.specs.Steps.{RunMade, runLeft, waterIn}
 use Rattle.promises.proofs.Held.{within, passes}
 
@@ -51,8 +52,7 @@ module _ (M : Mesh) (field : List ℕ) (m : RunMade) where
 
     module _ (ok : stepJudged (m .width) M lent (m .step) ≡ fine) where
       step-ready : Ready S
-      unfolding stepJudged
-      step-ready = ready M lent k (both-fine _ _ ok .1)
+      step-ready = ready M lent k (step-says (m .width) M lent (m .step) ok .1)
 
       masses-are : m .masses ≡ over (table (M .cells) (next S)) lent
       masses-are = p .masses-after ∙ rw ok

@@ -1,5 +1,5 @@
 -- DEMAND 3, proved for every mesh, every first field and every list of step calls as they were made. Its parts are defined in
--- specs/Steps.antt and, for calls of any kind, in model/specs/Calls.antt (`Claim`).
+-- specs/Steps.antt and, for calls of any kind, in model/specs/Calls.antt (`ListClaim`).
 --
 -- In plain words: take any mesh that causes 1 to 5 accept, any first field that 2 and 6 accept, and any list of calls that were made one after
 -- another, each lent the mesh and the field as the one before it left them, and each keeping the contract of its function: `step`, corrected or
@@ -20,7 +20,7 @@ use mathlib.Core.List.{List}
 use Rattle.model.specs.Mesh.{Mesh}
 use Rattle.model.specs.Causes.{Outcome, accepted, refused, fine, meshVerdict, fieldVerdict}
 use Rattle.model.specs.Calls.{Left, judged, stepping}
-use Rattle.model.proofs.Lists.{Fair, Owes, claim-law}
+use Rattle.model.proofs.Lists.{Fair, Owes, list-claim}
 use Rattle.model.proofs.Claims.{judged-keeping}
 use Rattle.model.proofs.Figures.{Figures, figures}
 use Rattle.transport.specs.Promise.{schemeOf}
@@ -59,7 +59,7 @@ module _ (M : Mesh) (mesh-fine : meshVerdict M ≡ fine) where
   owes (byTableJudge m) field p g (refused i j) e = table-refused judged M field m (claim-small M _ (m .tables)) (p .answer) (p .next-masses) i j e
 
 pub demand-3 : Demand3
-demand-3 M mesh-fine field field-fine calls made = claim-law M (cameTo M) (StepContract M) (StepOwed M) (owes M mesh-fine) field field-fine calls made
+demand-3 M mesh-fine field field-fine calls made = list-claim M (cameTo M) (StepContract M) (StepOwed M) (owes M mesh-fine) field field-fine calls made
 
 -- Beside it, "Figures by hand": all lines marked P, in one record.
 pub figures-by-hand : Figures

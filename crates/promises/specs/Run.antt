@@ -5,7 +5,7 @@ use mathlib.Core.List.{List, [], _∷_}
 use lib.ListN.{drop}
 use Rattle.model.specs.Mesh.{Mesh}
 use Rattle.model.specs.Causes.{fine, meshVerdict, fieldVerdict}
-use Rattle.model.specs.Calls.{Claim}
+use Rattle.model.specs.Calls.{ListClaim}
 use Rattle.record_layouts.specs.declared.Width.{Width}
 use Rattle.model.specs.declared.StepTaken.{StepTaken}
 use Rattle.run_printed.specs.Program.{StepsPrint, no-byte, step-ends, step-goes-on, FieldPrints, field-refused, field-accepted, Prints, mesh-refused, mesh-accepted}
@@ -25,7 +25,7 @@ pub record Demanded (M : Mesh) (field : List ℕ) (calls : List StepCall) : Type
   pub mesh-fine : meshVerdict M ≡ fine
   pub field-fine : fieldVerdict M field ≡ fine
   pub made : StepsMade M field calls
-  pub claim : Claim M (cameTo M) (StepOwed M) field calls
+  pub claim : ListClaim M (cameTo M) (StepOwed M) field calls
 
 -- A run makes no step where its mesh or its field is refused.
 abbrev pub FieldDemanded : {w : Width} {M : Mesh} {input out : List ℕ} → FieldPrints w M input out → Type 0

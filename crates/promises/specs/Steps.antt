@@ -9,11 +9,11 @@ use lib.IntN.{ℤ}
 use lib.ListN.{take}
 use Rattle.model.specs.Mesh.{Mesh}
 use Rattle.model.specs.Causes.{Outcome, accepted, refused, Verdict, fine, _andThen_, Call, inputOf, meshVerdict, fieldVerdict, waterOf}
-use Rattle.model.specs.Calls.{Bounded, Left, crossingOf, lentMasses, EachStep, Claim}
+use Rattle.model.specs.Calls.{Bounded, Left, crossingOf, lentMasses, EachStep, ListClaim}
 use Rattle.transport.specs.Promise.{schemeOf, stepSaid, leftBy, StepPromise}
 use Rattle.transport.specs.declared.Way.{Way}
 use Rattle.judging.specs.Promise.{JudgePromise}
-use Rattle.plain.specs.Made.{Made}
+use Rattle.transport.specs.Made.{Made}
 use Rattle.record_layouts.specs.Layouts.{fieldKind, fieldLength}
 use Rattle.record_layouts.specs.declared.Width.{Width}
 use Rattle.record_reading.specs.Reading.{massesIn, fluxesIn, outsidesIn, releasesIn}
@@ -187,4 +187,4 @@ module _ (M : Mesh) where
 -- DEMAND 3: from any accepted mesh and first field, after any list of step calls, whichever of them were refused.
 abbrev pub Demand3 : Type 0
 Demand3 = (M : Mesh) → meshVerdict M ≡ fine → (field : List ℕ) → fieldVerdict M field ≡ fine → (calls : List StepCall) → StepsMade M field calls
-    → Claim M (cameTo M) (StepOwed M) field calls
+    → ListClaim M (cameTo M) (StepOwed M) field calls

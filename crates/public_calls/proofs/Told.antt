@@ -5,7 +5,7 @@ use mathlib.Core.Path.{_≡_, sym, ap, _∙_}
 use mathlib.Core.List.{List, [], _∷_}
 use lib.ListN.{length}
 use Rattle.model.specs.Mesh.{runCells, ceiling}
-use Rattle.model.specs.Causes.{Outcome, fine, _andThen_, cellsOnly, counts, meshTables, meshValues, fieldTable, fieldValues, fieldVerdict, meshFieldVerdict}
+use Rattle.model.specs.Causes.{Outcome, fine, cellsOnly, counts, meshTables, meshValues, fieldTable, fieldValues, fieldVerdict, meshFieldVerdict}
 use Rattle.model.proofs.Verdicts.{both-fine, past, all-fine}
 use Rattle.record_heads.specs.Heads.{widthIn}
 use Rattle.record_reading.specs.Reading.{meshIn}

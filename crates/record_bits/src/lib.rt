@@ -1,3 +1,4 @@
+// Packed fields of a record, read and written by whole bytes.
 use lists::least;
 ghost use mathlib.Core.Path.{_≡_};
 ghost use Prim.Native.Nat.{_≤_, _<_, _+_, _*_, _^_, _/_, _%_};

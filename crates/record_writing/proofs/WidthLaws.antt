@@ -10,7 +10,7 @@ use lib.ListN.{getD}
 use borrow.Author.Tests.{leb-true, ltb-true}
 use Rattle.lists.proofs.Tests.{Same, same, other, same?}
 use Rattle.signed.specs.Sign.{isNegative}
-use Rattle.model.specs.Mesh.{Mesh, volume, second, reach, atRim, rim, maxCells, maxFaces, maxConcentration, ceiling}
+use Rattle.model.specs.Mesh.{Mesh, volume, second, reach, atRim, rim, maxCells, maxFaces, maxConcentration}
 use Rattle.model.specs.Causes.{fine, each, Call, counts, meshValues, fieldValues, outsideGood, fluxGood}
 use Rattle.model.specs.Accepted.{MeshFit}
 use Rattle.model.proofs.Accepted.{volumes-within, spaced-within, fit-within, field-fit, outside-within, flux-within, counted}

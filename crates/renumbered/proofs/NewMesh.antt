@@ -1,11 +1,11 @@
 -- A mesh that is alike an accepted one passes causes 3 to 5: its ends are cells again, and s turned round is within its range.
-use Prim.Native.Nat.{ℕ, suc, _-_, _≤_, _<_}
+use Prim.Native.Nat.{ℕ, _-_, _≤_, _<_}
 use mathlib.Core.Path.{_≡_, refl, sym, ap, _∙_}
 use mathlib.Core.Logic.{_≢_}
-use mathlib.Core.Bool.{Bool, true, false, not, cond, _&&_, _||_}
+use mathlib.Core.Bool.{Bool, true, false, cond, _&&_}
 use native.Mathlib.Omega.{arith}
-use borrow.Author.Tests.{ne-eqb, leb-true, le-leb}
-use lib.Dec.{eqb, leb, ltb}
+use borrow.Author.Tests.{leb-true, le-leb}
+use lib.Dec.{eqb, leb}
 use Rattle.lists.specs.Renumbering.{Renumbering}
 use Rattle.lists.proofs.Tests.{Same, same, other, same?, both-true}
 use Rattle.model.specs.Mesh.{Mesh, first, second, share, reach, atRim, rim, maxShare, maxReach, ceiling}

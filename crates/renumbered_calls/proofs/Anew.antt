@@ -15,9 +15,9 @@ use Rattle.signed.proofs.Laws.{size-withSign}
 use Rattle.signed.proofs.Turns.{size-turn}
 use Rattle.model.specs.Mesh.{Mesh, volume, reach, atRim, runCells, runFaces, maxCells, maxFaces, ceiling, oldCeiling}
 use Rattle.model.specs.Ceilings.{MeshSmall}
-use Rattle.model.specs.Causes.{fine, _andThen_, long, countsWithin, counts, meshValues, meshVerdict, Call, release}
+use Rattle.model.specs.Causes.{fine, inTurn, countsWithin, counts, meshValues, meshVerdict, Call, release}
 use Rattle.model.specs.Calls.{massIn}
-use Rattle.model.proofs.Verdicts.{both-fine, need-fine, fine-all}
+use Rattle.model.proofs.Verdicts.{both-fine, fine-all}
 use Rattle.model.proofs.Accepted.{counted, mesh-fit}
 use Rattle.model.proofs.Ceilings.{old-meshes}
 use Rattle.model.proofs.AlikeFaces.{rim-same}
@@ -30,7 +30,7 @@ use Rattle.record_layouts.specs.Layouts.{meshKind, fieldKind, widthOf, kindBits
 use Rattle.record_heads.specs.Heads.{kindIn, widthIn, cellsIn, facesIn, meshHeadVerdict}
 use Rattle.record_layouts.specs.declared.Width.{Width}
 use Rattle.record_layouts.specs.declared.Width.the-variants.{Narrow, Wide}
-use Rattle.record_heads.proofs.HeadLaws.{step-head-says}
+use Rattle.record_heads.proofs.HeadLaws.{mesh-head-says, step-head-says}
 use Rattle.record_reading.specs.Reading.{meshIn, massesIn, fluxesIn, outsidesIn, releasesIn, minusIn, sizeIn, outsidePlace, meshRead, fieldRead, stepRead}
 use Rattle.record_writing.proofs.WidthLaws.{mesh-fits, field-fits}
 use Rattle.record_writing.specs.Writing.{mostOf}
@@ -38,8 +38,8 @@ use Rattle.record_reading.proofs.ReadLaws.{mesh-kind-is}
 use Rattle.record_writing.proofs.Accepting.{field-passed, field-reads, step-reads}
 use Rattle.record_writing.proofs.Back.{mesh-kind-back, field-kind-back, field-cells-back, field-record-length, masses-back, step-kind-back, step-faces-back, step-record-length, step-bits-good, fluxes-back, outsides-back, releases-back}
 use Rattle.record_writing.proofs.RoundTrip.{width-is, cells-read-back, faces-read-back, mesh-read-back, volumes-read-back, firsts-read-back, seconds-read-back, shares-read-back, reaches-read-back}
-use Rattle.taking_mesh.specs.MeshTaking.{meshRecordFound, meshJudged}
-use Rattle.taking_mesh.proofs.MeshLaws.{limits, mesh-cut, mesh-small}
+use Rattle.taking_mesh.specs.MeshTaking.{meshRecordFound, meshRoomCauses, meshJudged}
+use Rattle.taking_mesh.proofs.MeshLaws.{mesh-says, limits, mesh-cut, mesh-small}
 use Rattle.taking.specs.Taking.{stepIn, stepRecordFound}
 use Rattle.renumbered.specs.Renumbered.{amountIn, isTurned, newSecond}
 use Rattle.renumbered.proofs.TwoSteps.{fine-counts, fine-values}
@@ -132,8 +132,8 @@ module _ (mesh : List ℕ) (cell : Renumbering (cellsIn mesh)) (face : Renumberi
   width-anew = ap widthOf mesh-kind-anew ∙ width-is w
 
   mesh-kind-same : meshKind w ≡ kindIn mesh
-  unfolding meshRecordFound meshHeadVerdict
-  mesh-kind-same = mesh-kind-is (kindIn mesh) (need-fine 13 0 _ (both-fine _ _ (both-fine _ _ (both-fine _ _ (found mesh field step reads) .0) .0) .1))
+  unfolding meshRecordFound
+  mesh-kind-same = mesh-kind-is (kindIn mesh) (mesh-head-says runCells runFaces mesh (both-fine _ _ (found mesh field step reads) .0) .kind)
 
   mesh-found : meshRecordFound (meshAnew mesh cell face turns) ≡ fine
   unfolding meshRecordFound meshRead meshHeadVerdict
@@ -147,10 +147,9 @@ module _ (mesh : List ℕ) (cell : Renumbering (cellsIn mesh)) (face : Renumberi
   unfolding meshJudged
   mesh-judged = fine-all (_ ∷ _ ∷ _ ∷ []) (mesh-found, (room, (ap (meshValues ceiling) mesh-held ∙ values-anew, tt)))
     where
-      room : (long 0 (cellsIn (meshAnew mesh cell face turns)) runCells andThen long 1 (facesIn (meshAnew mesh cell face turns)) runFaces
-          andThen long 2 (facesIn (meshAnew mesh cell face turns)) runFaces andThen long 3 (facesIn (meshAnew mesh cell face turns)) runFaces
-          andThen long 4 (facesIn (meshAnew mesh cell face turns)) runFaces) ≡ fine
-      room = rw (cells-read-back w M′ within passes, faces-read-back w M′ within passes) (both-fine _ _ (both-fine _ _ (reads .mesh-accepted) .0) .1)
+      room : inTurn (meshRoomCauses (meshAnew mesh cell face turns) runCells runFaces runFaces runFaces runFaces) ≡ fine
+      room = rw (cells-read-back w M′ within passes, faces-read-back w M′ within passes)
+          (mesh-says mesh runCells runFaces runFaces runFaces runFaces (reads .mesh-accepted) .room)
 
   -- the field
   field-kind-is : kindIn field ≡ fieldKind w

@@ -20,7 +20,7 @@ use Rattle.model.proofs.AlikeCauses.{in-turn, field-values-alike}
 use Rattle.record_heads.specs.Heads.{widthIn, cellsIn, facesIn}
 use Rattle.record_reading.specs.Reading.{meshIn, massesIn}
 use Rattle.taking_mesh.specs.MeshTaking.{meshRecordFound, meshJudged}
-use Rattle.taking_mesh.proofs.MeshLaws.{limits, values-left}
+use Rattle.taking_mesh.proofs.MeshLaws.{mesh-says, limits, values-left}
 use Rattle.taking.specs.Taking.{fieldJudged, stepIn, stepJudged}
 use Rattle.renumbered.specs.Renumbered.{isTurned, renumberedField}
 use Rattle.renumbered.proofs.Schemes.{corrected-numberless}
@@ -43,12 +43,10 @@ module _ (mesh field step : List ℕ) (reads : Reads mesh field step) where
   m = massesIn field (cellsIn mesh)
 
   pub found : meshRecordFound mesh ≡ fine
-  unfolding meshJudged
-  found = both-fine _ _ (both-fine _ _ (reads .mesh-accepted) .0) .0
+  found = mesh-says mesh runCells runFaces runFaces runFaces runFaces (reads .mesh-accepted) .found
 
   pub mesh-fine : meshVerdict M ≡ fine
-  unfolding meshJudged
-  mesh-fine = values-left mesh found ∙ both-fine _ _ (reads .mesh-accepted) .1
+  mesh-fine = values-left mesh found ∙ mesh-says mesh runCells runFaces runFaces runFaces runFaces (reads .mesh-accepted) .values
 
   pub masses-long : length m ≡ M .cells
   unfolding massesIn

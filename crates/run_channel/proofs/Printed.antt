@@ -15,7 +15,7 @@ use Rattle.lists.proofs.Tables.{length-table}
 use Rattle.model.specs.Mesh.{Mesh, runCells, runFaces, rim, total, ceiling}
 use Rattle.model.specs.Step.{StepInput}
 use Rattle.model.specs.Step.{next, inMass, outMass, releasedMass}
-use Rattle.model.specs.Causes.{Outcome, accepted, Verdict, fine, inTurn, long, Call, inputOf, workEntries, _andThen_, need, each, counts, meshTables, meshValues}
+use Rattle.model.specs.Causes.{Outcome, accepted, Verdict, fine, inTurn, long, Call, inputOf, workEntries, _andThen_, need, counts, meshTables, meshValues}
 use Rattle.model.specs.Causes.{fieldTable, fieldValues, stepTables, raisedValues, stepValues, verdict}
 use Rattle.model.proofs.Figures.{channel, largeStrait}
 use Rattle.record_bits.specs.Field.{bitAt, bitsAt}

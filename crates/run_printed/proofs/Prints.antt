@@ -1,6 +1,6 @@
 -- The calls in the program's order print what the definition says. Each record read is the one at the front of the input, each answer is the
 -- outcome that the definition names there, and each line is its text; the steps by induction on what the program does.
-use Prim.Native.Nat.{ℕ, zero, suc, _+_, _-_, _≤_, _<_, min}
+use Prim.Native.Nat.{ℕ, zero, suc, _+_, _≤_, _<_, min}
 use mathlib.Core.Path.{_≡_, refl, sym, ap, _∙_}
 use mathlib.Core.Bool.{Bool, true, false, cond}
 use mathlib.Core.List.{List, [], _∷_, _++_, map}

@@ -10,7 +10,7 @@ use Rattle.model.specs.Mesh.{Mesh, total, runCells}
 use Rattle.model.specs.Step.{StepInput, next, inMass, outMass, releasedMass, moved}
 use Rattle.model.specs.Causes.{Outcome, accepted, refused, fine, inputOf, cellsOnly}
 use Rattle.model.specs.Calls.{massIn}
-use Rattle.model.proofs.Verdicts.{both-fine, accepted-of, refused-of}
+use Rattle.model.proofs.Verdicts.{accepted-of, refused-of}
 use Rattle.model.proofs.Accepted.{ready}
 use Rattle.model.proofs.Next.{amounts-budget, moved-keeps}
 use Rattle.model.proofs.Lists.{raised-total}
@@ -20,6 +20,7 @@ use Rattle.model.specs.declared.Printed.{Printed}
 use Rattle.model.specs.declared.StepTaken.{StepTaken}
 use Rattle.model.specs.StepTaken.{takenSaid}
 use Rattle.taking.specs.Taking.{stepIn, printedOf, stepJudged, StepTaking}
+use Rattle.taking.proofs.StepLaws.{step-says}
 use Rattle.run_printed.specs.Program.{StepsPrint, no-byte, step-ends, step-goes-on, FieldPrints, field-refused, field-accepted, mesh-refused, mesh-accepted}
 use Rattle.run_printed.specs.Totals.{answersOf, Close, FieldCloses, TotalsClose}
 
@@ -30,9 +31,9 @@ module _ (w : Width) (M : Mesh) (masses masses′ bs : List ℕ) (r : StepTaken)
   -- a step that is accepted: its budget, and the total of the masses that it leaves
   module _ (ok : stepJudged w M masses bs ≡ fine) where
     budget : total M (next S) + outMass S ≡ total M (massIn masses) + inMass S + releasedMass (M .cells) (stepIn M bs .releases)
-    unfolding stepJudged next
+    unfolding next
     budget =
-        let sound = ready M masses (stepIn M bs) (both-fine _ _ ok .1) .sound in
+        let sound = ready M masses (stepIn M bs) (step-says w M masses bs ok .1) .sound in
         omega (arith, amounts-budget S (moved S) (moved-keeps S sound) sound, raised-total M masses (stepIn M bs))
 
     left-total : total M (massIn masses′) ≡ total M (next S)

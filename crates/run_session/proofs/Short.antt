@@ -1,7 +1,6 @@
 -- The line of a step is no longer than the longest line, so that it fits where there is room for one.
 use Prim.Native.Nat.{ℕ, _≤_}
-use mathlib.Core.Path.{ap, _∙_}
-use mathlib.Core.List.{List}
+use mathlib.Core.Path.{ap}
 use native.Mathlib.Omega.{arith}
 use lib.ListN.{length, length-append}
 use Rattle.model.specs.Causes.{Outcome, accepted, refused}

@@ -1,6 +1,6 @@
 -- Document 01, "The board and the run": when a run ends, what a step prints and what follows it.
 use Prim.Native.Nat.{ℕ}
-use mathlib.Core.Bool.{Bool, true, false, not, _||_}
+use mathlib.Core.Bool.{Bool, true, not, _||_}
 use mathlib.Core.List.{List}
 use lib.Dec.{eqb}
 use Rattle.model.specs.Causes.{Outcome, accepted, refused}

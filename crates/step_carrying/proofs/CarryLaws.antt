@@ -1,5 +1,5 @@
 -- The second pass, face by face: carried masses, bounds and corrections.
-use Prim.Native.Nat.{ℕ, suc, _+_, _*_, _^_, _≤_, _<_, min, max}
+use Prim.Native.Nat.{ℕ, _+_, _*_, _^_, _≤_, _<_, min, max}
 use mathlib.Core.Path.{_≡_, refl, sym, ap, _∙_}
 use mathlib.Core.Logic.{_≢_}
 use mathlib.Core.Bool.{Bool, true, false, cond, _||_, true≢false}
@@ -15,7 +15,7 @@ use lib.Seq.{getD-set-same, getD-set-other}
 use Rattle.signed.specs.Sign.{size, isZero, isNegative, forward, backward, withSign}
 use Rattle.signed.proofs.Laws.{scale, withSign-of, isZero-size, size-withSign, forward-is, backward-is}
 use Rattle.lists.specs.Fold.{least, greatest}
-use Rattle.lists.proofs.Tests.{Same, same, other, same?}
+use Rattle.lists.proofs.Tests.{Same, other, same?}
 use Rattle.lists.proofs.Sums.{sum-zero, sum-more, sum-term, least-start, greatest-start, least-more, greatest-more}
 use Rattle.model.specs.Accepted.{Ready, maxCarried}
 use Rattle.model.specs.Mesh.{Mesh, rim, atRim, first, second, share, reach, incoming, outgoing, maxConcentration}

@@ -1,13 +1,12 @@
 -- A correction by its sign and its size, and in one number.
 use Prim.Native.Nat.{ℕ, zero, suc, _+_, _-_, _*_, _/_, _%_, _≤_}
 use mathlib.Core.Path.{_≡_, refl, sym, ap, _∙_}
-use mathlib.Core.Logic.{_≢_}
 use mathlib.Core.Bool.{Bool, true, false, not, cond}
 use native.Mathlib.Nat.{zero-mul, mul-zero, zero-div, mul-le-mul-left, mul-le-mul-right, div-le-of-le-mul, le-trans}
 use native.Mathlib.Omega.{arith}
 use borrow.Author.Tests.{ltb-true, ltb-false, lt-leb, le-leb}
 use lib.Dec.{leb, ltb}
-use lib.IntN.{ℤ, pos, negsuc, _-ℤ_, _*ℤ_}
+use lib.IntN.{ℤ, pos, _-ℤ_, _*ℤ_}
 use lib.Signed.{quotZ}
 use Rattle.signed.specs.Sign.{size, isNegative, withSign}
 use Rattle.signed.proofs.Laws.{size-zero, size-withSign, withSign-of, withSign-zero, mul-withSign, quot-withSign, diff-withSign}

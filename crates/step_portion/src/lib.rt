@@ -1,6 +1,6 @@
 // Document 02, S-10: the proportional part a·G/P for all 64-bit numbers, also where a·G takes more bits than a number has.
 ghost use mathlib.Core.Path.{_≡_};
-ghost use Prim.Native.Nat.{_≤_, _<_, _+_, _*_, _^_};
+ghost use Prim.Native.Nat.{_<_, _+_, _*_, _^_};
 ghost use Rattle.model.specs.Step.{portion as portionOf};
 
 // Below this two numbers have a product of 64 bits.

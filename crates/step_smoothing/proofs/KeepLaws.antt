@@ -9,15 +9,15 @@ use borrow.Author.Count.{below-none, below-more}
 use borrow.Author.Tests.{eq-eqb, ne-eqb, lt-ltb, le-ltb}
 use lib.Dec.{eqb, leb}
 use lib.IntN.{ℤ, pos}
-use lib.ListN.{length, getD, set, length-set}
+use lib.ListN.{length, set, length-set}
 use lib.Seq.{getD-set-same, getD-set-other}
-use Rattle.signed.specs.Sign.{isNegative, withSign}
+use Rattle.signed.specs.Sign.{withSign}
 use Rattle.signed.proofs.Laws.{negative-withSign, withSign-zero}
 use Rattle.lists.specs.Fold.{sum}
 use Rattle.lists.proofs.Tests.{Same, same, other, same?, own, cond-same}
 use Rattle.lists.proofs.Sums.{sum-zero, sum-more, sum-term, sum-mono}
 use Rattle.model.specs.Accepted.{maxCarried}
-use Rattle.model.specs.Mesh.{Mesh, rim, first, second, entering, leaving, incoming, outgoing}
+use Rattle.model.specs.Mesh.{Mesh, first, second, entering, leaving, incoming, outgoing}
 use Rattle.model.specs.Step.{receiver, giver, smooths, keptBy}
 use Rattle.model.proofs.Limit.{kept-either, kept-zero}
 use Rattle.model.proofs.Sizes.{outgoing-most}

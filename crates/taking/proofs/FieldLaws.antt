@@ -1,9 +1,8 @@
 -- What a field record comes to, from what the calls that `take_field` makes promise.
 use Prim.Native.Nat.{ℕ, _≤_}
 use mathlib.Core.Path.{_≡_, sym, ap, _∙_}
-use mathlib.Core.List.{List}
+use mathlib.Core.List.{List, [], _∷_}
 use native.Mathlib.Omega.{arith}
-use borrow.Author.Tests.{leb-true}
 use lib.ListN.{length, take}
 use Rattle.lists.specs.Table.{over}
 use Rattle.lists.specs.Fold.{sum}
@@ -15,15 +14,29 @@ use Rattle.model.specs.Calls.{massIn}
 use Rattle.model.specs.declared.Answer.{Answer}
 use Rattle.model.specs.declared.Answer.the-variants.{Done, Refused}
 use Rattle.model.specs.declared.Refusal.{Refusal}
-use Rattle.model.proofs.Verdicts.{both-fine, past, out, refused-of, accepted-of, need-fine}
+use Rattle.model.proofs.Verdicts.{all-fine, past, out, refused-of, accepted-of, long-fine}
 use Rattle.checks.specs.Total.{totalSaid}
 use Rattle.checks.specs.declared.TotalAnswer.{TotalAnswer}
 use Rattle.checks.specs.declared.TotalAnswer.the-variants as total-answer
-use Rattle.record_reading.specs.Reading.{massesIn, fieldBodyVerdict, fieldRead}
+use Rattle.record_reading.specs.Reading.{massesIn, fieldRead}
+use Rattle.record_reading.proofs.ReadLaws.{field-read-says}
 use Rattle.record_layouts.specs.declared.Width.{Width}
 use Rattle.record_reading.specs.Answers.{FieldReading}
-use Rattle.taking.specs.Taking.{fieldJudged, FieldTaking}
+use Rattle.taking.specs.Taking.{fieldJudgedCauses, fieldJudged, FieldTaking}
 use Rattle.model.proofs.Parts.{PartRead, read-part}
+
+-- what a field of which nothing is found has passed
+pub record FieldSays (w : Width) (cells : ℕ) (volumes bs : List ℕ) (masses : ℕ) : Type 0 where
+  pub reads : fieldRead w cells bs runCells ≡ fine
+  pub room : cells ≤ masses
+  pub values : meshFieldVerdict (cellsOnly cells volumes) (massesIn bs cells) ≡ fine
+
+pub field-says : (w : Width) (cells : ℕ) (volumes bs : List ℕ) (masses : ℕ) → fieldJudged w cells volumes bs masses ≡ fine
+    → FieldSays w cells volumes bs masses
+unfolding fieldJudged
+field-says w cells volumes bs masses e =
+    let p = all-fine (fieldJudgedCauses w cells volumes bs masses) e in
+    record { reads = p .0; room = long-fine 5 _ _ (p .1 .0); values = p .1 .1 .0 }
 
 module _ (w : Width) (volumes masses : List ℕ) {cells : ℕ} {bs own own′ : List ℕ} {a : Answer}
     (s : FieldReading (fieldRead w cells bs (length own)) cells bs own a own′) (run : length own ≡ runCells)
@@ -42,17 +55,18 @@ module _ (w : Width) (volumes masses : List ℕ) {cells : ℕ} {bs own own′ : 
     passed : (fieldRead w cells bs runCells andThen long 5 cells (length masses)) ≡ fine
     passed = sym found ∙ ap said d
 
+    parts : (fieldRead w cells bs runCells ≡ fine) × (long 5 cells (length masses) ≡ fine)
+    parts = let p = all-fine (_ ∷ _ ∷ []) passed in (p .0, p .1 .0)
+
     masses-room : cells ≤ length masses
-    masses-room = leb-true _ _ (need-fine 2 5 _ (both-fine _ _ passed .1))
+    masses-room = long-fine 5 _ _ (parts .1)
 
     own-room : cells ≤ length own
-    unfolding fieldRead fieldBodyVerdict
-    own-room = let n : cells ≤ runCells = leb-true _ _ (need-fine 2 5 _ (both-fine _ _ (both-fine _ _ (both-fine _ _ passed .0) .1) .1)) in
-        omega (arith, n, run)
+    own-room = omega (arith, field-read-says w cells bs runCells (parts .0) .tables .masses-long, run)
 
     pub masses-part : PartRead cells (massesIn bs cells) own′
     unfolding massesIn
-    masses-part = let v : fieldRead w cells bs (length own) ≡ fine = rw run (both-fine _ _ passed .0) in read-part cells _ own own′ v own-room (s .masses-read)
+    masses-part = let v : fieldRead w cells bs (length own) ≡ fine = rw run (parts .0) in read-part cells _ own own′ v own-room (s .masses-read)
 
     counted-long : length (massesIn bs cells) ≡ cells
     unfolding massesIn

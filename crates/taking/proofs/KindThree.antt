@@ -13,7 +13,6 @@ use Rattle.model.specs.Step.{StepInput, next, inMass, outMass}
 use Rattle.model.specs.Causes.{accepted, refused, Verdict, fine, _andThen_, granted, inputOf, verdict}
 use Rattle.model.specs.Calls.{Crossing, crossingOf, stepAnswer, nextTable}
 use Rattle.model.specs.Unreleased.{verdict01}
-use Rattle.model.proofs.Verdicts.{both-fine}
 use Rattle.model.proofs.Unreleased.{unreleased}
 use Rattle.record_bits.specs.Field.{bitsAt}
 use Rattle.record_sections.specs.Sections.{place, entryIn}
@@ -25,6 +24,7 @@ use Rattle.record_reading.specs.Reading.{stepShapeIn, releasesIn}
 use Rattle.model.specs.declared.Printed.{Printed}
 use Rattle.taking.specs.Taking.{stepIn, printedOf, stepRecordFound, stepJudged}
 use Rattle.taking.specs.KindThree.{KindThree, step01, judged01, printed01, TakenAsBefore}
+use Rattle.taking.proofs.StepLaws.{step-says}
 
 no-bits : (bs : List ℕ) (at : ℕ) (w : Width) (kind : ℕ) → kind ≡ waterKind w → bitsAt bs at (releaseBits kind) ≡ 0
 unfolding bitsAt releaseBits
@@ -74,8 +74,7 @@ module _ (w told : Width) (M : Mesh) (masses bs : List ℕ) (e : kindIn bs ≡ w
 
   module _ (ok : stepJudged told M masses bs ≡ fine) where
     found : verdict M masses (stepIn M bs) ≡ fine
-    unfolding stepJudged
-    found = both-fine _ _ ok .1
+    found = step-says told M masses bs ok .1
 
     pub next-same : table (M .cells) (next S) ≡ table (M .cells) (next S₀)
     unfolding nextTable next

@@ -12,7 +12,7 @@ use Rattle.lists.proofs.Tables.{length-table, length-over, getD-over}
 use Rattle.lists.proofs.Sums.{sum-cong}
 use Rattle.model.specs.Mesh.{Mesh, total, runCells, runFaces}
 use Rattle.model.specs.Step.{StepInput, next, inMass, outMass, releasedMass}
-use Rattle.model.specs.Causes.{accepted, Verdict, fine, _andThen_, each, long, Call, callOf, workEntries, inputOf, stepLengths, stepCauses, stepTables, raisedValues, raisedGood, stepValues, outsideGood, fluxGood, balanceGood, outflowGood, verdict}
+use Rattle.model.specs.Causes.{accepted, Verdict, fine, _andThen_, Call, callOf, workEntries, inputOf, stepLengths, stepCauses, stepTables, raisedValues, raisedGood, stepValues, outsideGood, fluxGood, balanceGood, outflowGood, verdict}
 use Rattle.model.specs.Answers.{number, told}
 use Rattle.model.specs.Calls.{Crossing, crossingOf, massIn, corrected, stepAnswer, nextTable}
 use Rattle.model.specs.declared.Refusal.{Refusal}
@@ -179,6 +179,12 @@ module _ {M : Mesh} {masses : List ℕ} {fluxes : List ℤ} {outsides nexts : Li
         (ownTables fluxes outsides releases)) =
         rw (i, o, h, l, sum-is d e) in
         record { answer = ap accepted q ∙ sym (past _ v); masses-after = rw v (masses-are d e) }
+
+-- what a step of which nothing is found has passed: its record, and the causes of the step
+pub step-says : (w : Width) (M : Mesh) (masses bs : List ℕ) → stepJudged w M masses bs ≡ fine
+    → (stepRecordFound w M bs ≡ fine) × (verdict M masses (stepIn M bs) ≡ fine)
+unfolding stepJudged
+step-says w M masses bs e = both-fine _ _ e
 
 -- the step of a record
 module _ (w : Width) (M : Mesh) (masses : List ℕ) {bs : List ℕ} {fluxes : List ℤ} {outsides releases : List ℕ} {a : StepRead} {fluxes′ : List ℤ}

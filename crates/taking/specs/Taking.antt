@@ -2,13 +2,13 @@
 -- by the causes of its values; a step is taken. A refusal leaves the lent masses as they were. Document 02, S-10: both are told the width.
 use Prim.Native.Nat.{ℕ}
 use mathlib.Core.Path.{_≡_}
-use mathlib.Core.List.{List}
+use mathlib.Core.List.{List, [], _∷_}
 use lib.ListN.{length, replicate}
 use lib.IntN.{ℤ, pos}
 use Rattle.lists.specs.Table.{table, over}
 use Rattle.model.specs.Mesh.{Mesh, total, runCells, runFaces}
 use Rattle.model.specs.Step.{next, inMass, outMass, releasedMass}
-use Rattle.model.specs.Causes.{accepted, Verdict, _andThen_, granted, long, Call, callOf, workEntries, cellsOnly, inputOf, meshFieldVerdict, verdict}
+use Rattle.model.specs.Causes.{accepted, Verdict, _andThen_, inTurn, granted, long, Call, callOf, workEntries, cellsOnly, inputOf, meshFieldVerdict, verdict}
 use Rattle.model.specs.Calls.{massIn}
 use Rattle.checks.specs.Total.{totalSaid}
 use Rattle.checks.specs.declared.TotalAnswer.{TotalAnswer}
@@ -21,9 +21,12 @@ use Rattle.model.specs.StepTaken.{takenSaid}
 
 -- A FIELD on so many cells of these volumes. It is read into a table of the call's own, of 1,023 entries; the lent one, of so many, has to
 -- hold it. Then come the causes that the total of a field has.
+abbrev pub fieldJudgedCauses : Width → ℕ → List ℕ → List ℕ → ℕ → List Verdict
+fieldJudgedCauses w cells volumes bs masses =
+    fieldRead w cells bs runCells ∷ long 5 cells masses ∷ meshFieldVerdict (cellsOnly cells volumes) (massesIn bs cells) ∷ []
+
 unfoldable pub fieldJudged : Width → ℕ → List ℕ → List ℕ → ℕ → Verdict
-fieldJudged w cells volumes bs masses = fieldRead w cells bs runCells andThen long 5 cells masses
-    andThen meshFieldVerdict (cellsOnly cells volumes) (massesIn bs cells)
+fieldJudged w cells volumes bs masses = inTurn (fieldJudgedCauses w cells volumes bs masses)
 
 -- "The board and the run", step 0: the total of the first field is printed.
 pub record FieldTaking (w : Width) (cells : ℕ) (volumes bs masses : List ℕ) (r : TotalAnswer) (masses′ : List ℕ) : Type 0 where

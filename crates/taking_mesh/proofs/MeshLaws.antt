@@ -11,7 +11,7 @@ use Rattle.lists.specs.Table.{over}
 use Rattle.lists.proofs.Tables.{length-table, getD-table}
 use Rattle.model.specs.Mesh.{Mesh, meshOf, runCells, runFaces, maxCells, maxFaces, ceiling, oldCeiling}
 use Rattle.model.specs.Accepted.{MeshLent}
-use Rattle.model.specs.Causes.{Outcome, accepted, refused, Verdict, fine, _andThen_, granted, long, countsWithin, counts, meshTables, meshValues, meshVerdict}
+use Rattle.model.specs.Causes.{Outcome, accepted, refused, Verdict, fine, _andThen_, granted, inTurn, countsWithin, counts, meshTables, meshValues, meshVerdict}
 use Rattle.model.specs.Ceilings.{MeshSmall}
 use Rattle.model.specs.Answers.{number}
 use Rattle.model.specs.declared.Refusal.{Refusal}
@@ -30,7 +30,7 @@ use Rattle.record_reading.specs.Answers.{meshSaid, MeshReading}
 use Rattle.record_reading.specs.declared.MeshAnswer.{MeshAnswer}
 use Rattle.record_reading.specs.declared.MeshAnswer.the-variants as mesh-answer
 use Rattle.record_reading.specs.declared.MeshCounts.{MeshCounts}
-use Rattle.taking_mesh.specs.MeshTaking.{meshRecordFound, meshJudged, meshJudgedInRun, MeshKept, MeshTaking}
+use Rattle.taking_mesh.specs.MeshTaking.{meshRecordFound, meshRoomCauses, meshJudgedCauses, meshJudged, meshJudgedInRun, MeshKept, MeshTaking}
 use Rattle.taking_mesh.specs.Inner.{MeshCut, keptFound}
 use Rattle.model.proofs.Parts.{PartRead, read-part, long-met}
 
@@ -63,6 +63,19 @@ room M lent c e =
       shares-room = omega (arith, c .shares-cut, l .shares-long);
       reaches-room = omega (arith, c .reaches-cut, l .reaches-long);
     }
+
+-- what a mesh of which nothing is found has passed
+pub record MeshSays (bs : List ℕ) (volumes firsts seconds shares reaches : ℕ) : Type 0 where
+  pub found : meshRecordFound bs ≡ fine
+  pub room : inTurn (meshRoomCauses bs volumes firsts seconds shares reaches) ≡ fine
+  pub values : meshValues ceiling (meshIn bs) ≡ fine
+
+pub mesh-says : (bs : List ℕ) (volumes firsts seconds shares reaches : ℕ) → meshJudged bs volumes firsts seconds shares reaches ≡ fine
+    → MeshSays bs volumes firsts seconds shares reaches
+unfolding meshJudged
+mesh-says bs volumes firsts seconds shares reaches e =
+    let p = all-fine (meshJudgedCauses bs volumes firsts seconds shares reaches) e in
+    record { found = p .0; room = p .1 .0; values = p .1 .1 .0 }
 
 -- a record that reading accepts
 pub record Limits (bs : List ℕ) : Type 0 where
@@ -279,8 +292,7 @@ module _ (bs : List ℕ) {lent left : Mesh} {a : MeshAnswer} (t : MeshTaking bs 
     taken-fine = accepted-of (meshJudgedInRun bs) (countsIn bs) n (sym (ap meshSaid d) ∙ taken-said)
 
     record-fine : meshRecordFound bs ≡ fine
-    unfolding meshJudged
-    record-fine = both-fine _ _ (both-fine _ _ (taken-fine .0) .0) .0
+    record-fine = mesh-says bs runCells runFaces runFaces runFaces runFaces (taken-fine .0) .found
 
     pub taken-read : MeshIsRead bs n (left .volumes) (left .firsts) (left .seconds) (left .shares) (left .reaches)
     taken-read =

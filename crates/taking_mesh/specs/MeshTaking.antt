@@ -2,10 +2,10 @@
 -- leaves every lent table as it was. Document 02, S-10: the answer says the width, which is that of the records after it.
 use Prim.Native.Nat.{ℕ}
 use mathlib.Core.Path.{_≡_}
-use mathlib.Core.List.{List}
+use mathlib.Core.List.{List, [], _∷_}
 use lib.ListN.{length}
 use Rattle.model.specs.Mesh.{Mesh, runCells, runFaces, ceiling}
-use Rattle.model.specs.Causes.{accepted, Verdict, _andThen_, granted, long, meshValues}
+use Rattle.model.specs.Causes.{accepted, Verdict, _andThen_, inTurn, granted, long, meshValues}
 use Rattle.record_heads.specs.Heads.{widthIn, cellsIn, facesIn, meshHeadVerdict}
 use Rattle.record_layouts.specs.declared.Width.{Width}
 use Rattle.record_reading.specs.Reading.{meshIn, meshBodyVerdict}
@@ -19,14 +19,17 @@ unfoldable pub meshRecordFound : List ℕ → Verdict
 meshRecordFound bs = meshHeadVerdict runCells runFaces bs andThen meshBodyVerdict bs runCells runFaces runFaces runFaces runFaces
 
 -- "Causes", 2: the lent tables, of so many entries, have to hold it. Then 3 to 5.
-unfoldable pub meshJudged : List ℕ → ℕ → ℕ → ℕ → ℕ → ℕ → Verdict
-meshJudged bs volumes firsts seconds shares reaches = meshRecordFound bs
-    andThen (long 0 (cellsIn bs) volumes
-    andThen long 1 (facesIn bs) firsts
-    andThen long 2 (facesIn bs) seconds
-    andThen long 3 (facesIn bs) shares
-    andThen long 4 (facesIn bs) reaches)
-    andThen meshValues ceiling (meshIn bs)
+module _ (bs : List ℕ) (volumes firsts seconds shares reaches : ℕ) where
+  abbrev pub meshRoomCauses : List Verdict
+  meshRoomCauses =
+      long 0 (cellsIn bs) volumes ∷ long 1 (facesIn bs) firsts ∷ long 2 (facesIn bs) seconds ∷ long 3 (facesIn bs) shares ∷ long 4 (facesIn bs) reaches
+      ∷ []
+
+  abbrev pub meshJudgedCauses : List Verdict
+  meshJudgedCauses = meshRecordFound bs ∷ inTurn meshRoomCauses ∷ meshValues ceiling (meshIn bs) ∷ []
+
+  unfoldable pub meshJudged : Verdict
+  meshJudged = inTurn meshJudgedCauses
 
 -- The run and the host lend tables as long as the limits.
 abbrev pub meshJudgedInRun : List ℕ → Verdict

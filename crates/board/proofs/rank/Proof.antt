@@ -1,7 +1,6 @@
 -- After c turns the ranking is that of the open cells below c.
 use Prim.Native.Nat.{_-_}
 use native.Mathlib.Omega.{arith}
-use borrow.Author.Needs.{needs}
 use Rattle.lists.proofs.Turns.{turn-less, turn-in, turn-next, turn-bytes}
 use Rattle.public_marks.specs.Marks.{isOpen}
 use Rattle.board.proofs.Listed.{RankedTo, none-ranked, one-more, all-ranked}

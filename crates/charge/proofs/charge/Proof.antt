@@ -1,8 +1,8 @@
 -- Refused, nothing is charged; else bands are in order, so that each part of the sum fits and cents and remainder are its quotient and rest.
-use mathlib.Core.Path.{ap, sym, _∙_}
+use mathlib.Core.Path.{sym}
 use native.Mathlib.Omega.{arith}
 use borrow.Author.Needs.{needs}
-use Rattle.model.proofs.Verdicts.{refuses, passes, out, past}
+use Rattle.model.proofs.Verdicts.{refuses, passes, out}
 use Rattle.charge.proofs.Laws.{charge-passed, billed}
 use Rattle.charge.proofs.charge.Statement.{statement}
 use Rattle.charge.proofs.charge.Tie as tie

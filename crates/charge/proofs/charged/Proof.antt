@@ -1,6 +1,6 @@
 -- After i turns the first i bands are charged, up to where the total or the last of them ends.
 use Prim.Native.Nat.{_*_, _≤_, _-_, zero-le, min}
-use mathlib.Core.Path.{_≡_, refl, sym}
+use mathlib.Core.Path.{_≡_, refl}
 use native.Mathlib.Omega.{arith}
 use Rattle.lists.proofs.Turns.{turn-within, turn-less, turn-in, turn-next, turn-bytes}
 use Rattle.charge.specs.Charge.{maxPrice, beginOf, chargeSum}

@@ -1,4 +1,3 @@
-use borrow.Author.Needs.{needs}
 use Rattle.charge_totals.proofs.lent.Statement.{statement}
 use Rattle.charge_totals.proofs.lent.Tie as tie
 

@@ -5,7 +5,7 @@ use borrow.Author.Needs.{needs}
 use lib.ListN.{length, getD, length-set}
 use Rattle.lists.specs.Table.{table, over}
 use Rattle.lists.proofs.Tables.{over-start, over-step}
-use Rattle.lists.proofs.Turns.{turn-within, turn-less, turn-in, turn-in-same, turn-next}
+use Rattle.lists.proofs.Turns.{turn-within, turn-in}
 use Rattle.charge_totals.specs.Totals.{gainAt}
 use Rattle.charge_totals.proofs.Laws.{turn-fits, turn-raised, all-raised}
 use Rattle.charge_totals.proofs.raise.Statement.{statement}

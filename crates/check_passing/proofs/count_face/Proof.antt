@@ -5,7 +5,6 @@ use mathlib.Core.Bool.{true≢false, cond}
 use native.Mathlib.Omega.{arith}
 use borrow.Author.Needs.{needs}
 use borrow.Author.Tests.{not-false}
-use lib.ListN.{getD}
 use Rattle.model.specs.Mesh.{maxCells, ceiling}
 use Rattle.check_passing.specs.Passing.{FaceFine, plus, counted}
 use Rattle.check_passing.proofs.Laws.{amount-most, ends-within, either-end, plus-asks, plus-asks-2}

@@ -1,5 +1,5 @@
 -- Each turn tests one face and counts its flux: the faces passed are fine, and the sums are theirs.
-use Prim.Native.Nat.{_+_, _-_, _*_, _≤_, _<_, zero-le}
+use Prim.Native.Nat.{_+_, _-_, _*_, _≤_, zero-le}
 use mathlib.Core.Path.{_≡_, refl, sym, ap, _∙_}
 use mathlib.Core.Bool.{true≢false}
 use native.Mathlib.Omega.{arith}

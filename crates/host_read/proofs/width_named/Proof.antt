@@ -1,4 +1,3 @@
-use borrow.Author.Needs.{needs}
 use borrow.Author.Tests.{ne-eqb}
 use Rattle.host_read.proofs.width_named.Statement.{statement}
 use Rattle.host_read.proofs.width_named.Tie as tie

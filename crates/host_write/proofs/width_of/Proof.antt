@@ -1,4 +1,3 @@
-use borrow.Author.Needs.{needs}
 use borrow.Author.Tests.{le-leb, lt-leb}
 use Rattle.host_write.proofs.width_of.Statement.{statement}
 use Rattle.host_write.proofs.width_of.Tie as tie

@@ -5,12 +5,16 @@ use Rattle.judging_bounds.proofs.Laws.{summed, bounds-read}
 use Rattle.judging_bounds.proofs.values_in.Statement.{statement}
 use Rattle.judging_bounds.proofs.values_in.Tie as tie
 
+-- the start, past what is known of the lent tables
+abbrev entered : tie.After-shared-slice-known6 → tie.Start
+entered c = c .before .before .before .before .before .before
+
 abbrev start : tie.After-gather → tie.Start
-start c = c .before .before .before .before .before .before .before .before .before .before .before
+start c = entered (c .before .before .before .before .before)
 
 gather-requires : tie.Need-gather-requires
 gather-requires c κs =
-    let s = c .before .before .before .before .before .before .before .before .before .before in
+    let s = entered (c .before .before .before .before) in
     ((s .pre .0 .1, s .pre .0 .3, s .pre .0 .4, s .pre .0 .5), (s .pre .1 .0, s .pre .1 .1 .1))
 
 bounds-good-requires : tie.Need-bounds-good-requires

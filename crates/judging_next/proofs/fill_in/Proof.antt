@@ -5,12 +5,16 @@ use Rattle.judging_bounds.proofs.Laws.{summed, affords-read, next-read}
 use Rattle.judging_next.proofs.fill_in.Statement.{statement}
 use Rattle.judging_next.proofs.fill_in.Tie as tie
 
+-- the start, past what is known of the lent tables
+abbrev entered : tie.After-slice-known → tie.Start
+entered c = c .before .before .before .before .before .before
+
 abbrev start : tie.After-gather → tie.Start
-start c = c .before .before .before .before .before .before .before .before .before .before .before
+start c = entered (c .before .before .before .before .before)
 
 gather-requires : tie.Need-gather-requires
 gather-requires c κs =
-    let s = c .before .before .before .before .before .before .before .before .before .before in
+    let s = entered (c .before .before .before .before) in
     let l = s .pre .1 .0 in
     ((l .1, l .3, l .4, l .5), (s .pre .1 .1 .0, s .pre .1 .1 .1 .1 .1))
 

@@ -1,7 +1,6 @@
 -- What is lent, then the bytes and a further table, then all of the field, whose tests of what is lent are passed by then, then the page.
 use mathlib.Core.Path.{refl, sym, ap, _∙_}
 use Prim.Native.Nat.{ℕ}
-use native.Mathlib.Omega.{arith}
 use borrow.Author.Needs.{needs}
 use lib.Dec.{ltb}
 use Rattle.model.specs.Causes.{long, need}

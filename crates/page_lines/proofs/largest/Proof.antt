@@ -1,5 +1,5 @@
 -- After c turns the largest of the first c volumes.
-use Prim.Native.Nat.{_≤_, _-_, max}
+use Prim.Native.Nat.{_≤_, _-_}
 use mathlib.Core.Path.{_≡_, refl, sym, _∙_}
 use native.Mathlib.Omega.{arith}
 use borrow.Author.Needs.{needs}

@@ -1,4 +1,3 @@
-use borrow.Author.Needs.{needs}
 use Rattle.public_marks.specs.Marks.{isOpen}
 use Rattle.public_marks.proofs.is_open.Statement.{statement}
 use Rattle.public_marks.proofs.is_open.Tie as tie

@@ -57,13 +57,17 @@ mesh-requires-2 c κs =
     let k = says (start t) e in
     rw (k .counts-are, mesh-kind-is (kindIn (start t .args .bytes .now)) (k .head .kind)) (room (start t) e .1)
 
--- where the tables were filled, from the end
+-- where the tables were filled, from the end: past what is left of the last three tables, and of the first two
+abbrev seconds-left : tie.After-slice-known10 → tie.After-seconds
+seconds-left c = c .before .before .before .before .before
+
 abbrev filled : tie.After-slice-known10 → tie.After-mesh2
-filled c = c .before .before .before .before .before .before .before .before .before .before
+filled c = seconds-left c .before .before .before .before .before
 
 returns-2 : tie.Need-returns-2
 returns-2 c =
-    let body = c .before .before .before .before .before .before .before .before .before .before in
+    let seconds = c .before .before .before .before .before in
+    let body = seconds .before .before .before .before .before in
     let told = body .before .before .before .before .before .before .before .before in
     let t = told .before .before in
     let s = start t in

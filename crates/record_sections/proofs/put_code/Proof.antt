@@ -1,5 +1,4 @@
 -- Below 2^width there is the size, and the sign is whether there is more.
-use Prim.Native.Nat.{_^_}
 use native.Mathlib.Nat.{mod-lt, lt-of-lt-of-le}
 use native.Mathlib.Omega.{arith}
 use borrow.Author.Needs.{needs}

@@ -2,7 +2,6 @@
 use Prim.Native.Nat.{_-_, _≤_}
 use native.Mathlib.Omega.{arith}
 use borrow.Author.Needs.{needs}
-use lib.ListN.{length}
 use Rattle.run_intake.proofs.Moving.{Moving, none-moved, one-moved, all-moved}
 use Rattle.run_intake.proofs.move_down.Statement.{statement}
 use Rattle.run_intake.proofs.move_down.Tie as tie

@@ -1,3 +1,4 @@
+-- Each turn fills a cell's entries with what its bounds allow to enter and to leave; the cells not yet come to keep theirs.
 use Prim.Native.Nat.{_≤_, _<_, _-_, _+_, _*_}
 use mathlib.Core.Path.{_≡_, _∙_}
 use native.Mathlib.Nat.{lt-of-lt-of-le}

@@ -1,3 +1,4 @@
+-- Each turn cuts a face's correction to what its two cells allow, and moves it: next and moved stay those of the faces passed (`limited-turn`).
 use Prim.Native.Nat.{_≤_, _<_, _-_}
 use mathlib.Core.Path.{_≡_, sym, _∙_}
 use native.Mathlib.Nat.{lt-of-lt-of-le}

@@ -1,3 +1,4 @@
+-- Each turn leaves a face's correction as the smoothing has it; the faces not yet come to keep theirs (`keep-turn`).
 use Prim.Native.Nat.{_≤_, _<_, _-_}
 use mathlib.Core.Path.{_≡_}
 use native.Mathlib.Nat.{lt-of-lt-of-le}

@@ -5,8 +5,9 @@ use Rattle.taking.proofs.StepLaws.{step-refused, nexts-part, copy-asks, sum-ask
 use Rattle.taking_records.proofs.step.stepped.Statement.{statement}
 use Rattle.taking_records.proofs.step.stepped.Tie as tie
 
+-- the start, past what is known of the lent tables
 abbrev begun : tie.After-step → tie.Start
-begun c = c .before .before .before .before .before .before .before .before .before .before .before .before .before .before .before
+begun c = let lent = c .before .before .before .before .before .before .before .before in lent .before .before .before .before .before .before .before
 
 -- where the step was made, from where it is known to be accepted
 abbrev stepped : tie.After-known-told2 → tie.After-step

@@ -10,8 +10,9 @@ abbrev mesh : tie.Start → Mesh
 mesh s = meshOf (s .args .cells) (s .args .faces) (s .args .volumes .now) (s .args .firsts .now) (s .args .seconds .now) (s .args .shares .now)
     (s .args .reaches .now)
 
+-- the start, past what is known of the lent tables
 abbrev begun : tie.After-read-step → tie.Start
-begun c = c .before .before .before .before .before .before .before .before .before .before .before .before .before .before .before
+begun c = let lent = c .before .before .before .before .before .before .before .before in lent .before .before .before .before .before .before .before
 
 -- where the record has been read, from where it is known to be accepted
 abbrev reading : tie.After-enum-told → tie.After-read-step
