@@ -11,7 +11,7 @@ ghost use Prim.Native.Nat.{_<_, _^_};
 ghost use Rattle.record_reading.specs.Answers.{meshSaid, stepReadSaid};
 ghost use Rattle.host_answer.specs.Number.{numberOf};
 ghost use Rattle.host_answer.specs.Found.{alone, Answered};
-ghost use Rattle.host_read_promises.specs.Read.{widthNumber, widthNamed, countsFound, meshFinds, MeshReadFromC, FieldReadFromC, stepFinds, StepReadFromC};
+ghost use Rattle.host_read_promises.specs.Read.{widthNumber, widthNamed, countsFound, lentMesh, MeshReadFromC, FieldReadFromC, stepFinds, StepReadFromC};
 
 // The number of a width: 0 narrow, 1 wide.
 pub fn width_number(width: Width) -> u64
@@ -64,12 +64,10 @@ pub extern "C" fn lagoon_read_mesh(
     reaches: &mut [u64],
     found: &mut [u64],
 ) -> u64
-    ensures { λ r. ⌜ MeshReadFromC
-        (meshFinds (now (bytes .entry)) (now (volumes .entry)) (now (firsts .entry)) (now (seconds .entry)) (now (shares .entry)) (now (reaches .entry)))
-        (now (bytes .entry))
-        (now (volumes .entry)) (now (firsts .entry)) (now (seconds .entry)) (now (shares .entry)) (now (reaches .entry)) (now (found .entry))
+    ensures { λ r. ⌜ MeshReadFromC (now (bytes .entry))
+        (lentMesh (now (volumes .entry)) (now (firsts .entry)) (now (seconds .entry)) (now (shares .entry)) (now (reaches .entry))) (now (found .entry))
         r
-        (now (volumes .exit)) (now (firsts .exit)) (now (seconds .exit)) (now (shares .exit)) (now (reaches .exit)) (now (found .exit)) ⌝ }
+        (lentMesh (now (volumes .exit)) (now (firsts .exit)) (now (seconds .exit)) (now (shares .exit)) (now (reaches .exit))) (now (found .exit)) ⌝ }
 {
     let answer = record_reading::read_mesh(
         model::MAX_CELLS,

@@ -5,34 +5,22 @@ use mathlib.Core.Path.{_≡_, ap, _∙_}
 use mathlib.Core.List.{List}
 use lib.IntN.{ℤ}
 use lib.ListN.{length}
-use Rattle.model.specs.Mesh.{maxCells, maxFaces}
+use Rattle.model.specs.Mesh.{Mesh}
 use Rattle.model.specs.Answers.{said}
 use Rattle.model.specs.declared.Answer.{Answer}
 use Rattle.record_layouts.specs.declared.Width.{Width}
 use Rattle.record_reading.specs.declared.MeshAnswer.{MeshAnswer}
 use Rattle.record_reading.specs.declared.StepRead.{StepRead}
-use Rattle.record_reading.specs.Reading.{meshRead, fieldRead}
-use Rattle.record_reading.specs.Answers.{meshSaid, stepReadSaid, MeshReading, FieldReading, StepReading}
+use Rattle.record_reading.specs.Reading.{fieldRead}
+use Rattle.record_reading.specs.Answers.{meshSaid, stepReadSaid, MeshReads, FieldReading, StepReading}
 use Rattle.host_answer.specs.Number.{numberOf}
 use Rattle.host_answer.specs.Found.{alone, Answered}
 use Rattle.host_answer.proofs.Answers.{answered-as}
-use Rattle.host_read_promises.specs.Read.{countsFound, meshFinds, MeshReadFromC, FieldReadFromC, stepFinds, StepReadFromC}
+use Rattle.host_read_promises.specs.Read.{countsFound, MeshReadFromC, FieldReadFromC, stepFinds, StepReadFromC}
 
-pub mesh-from-c : {bs volumes firsts seconds shares reaches : List ℕ} {a : MeshAnswer} {volumes′ firsts′ seconds′ shares′ reaches′ found : List ℕ} {r : ℕ}
-    {found′ : List ℕ}
-    → MeshReading (meshRead maxCells maxFaces bs (length volumes) (length firsts) (length seconds) (length shares) (length reaches)) bs
-    volumes firsts seconds shares reaches a volumes′ firsts′ seconds′ shares′ reaches′
-    → Answered countsFound (meshSaid a) found r found′
-    → MeshReadFromC (meshFinds bs volumes firsts seconds shares reaches) bs volumes firsts seconds shares reaches found
-    r volumes′ firsts′ seconds′ shares′ reaches′ found′
-mesh-from-c {found = found} h a = record {
-  answer = answered-as countsFound found (h .answer) a;
-  volumes-read = h .volumes-read;
-  firsts-read = h .firsts-read;
-  seconds-read = h .seconds-read;
-  shares-read = h .shares-read;
-  reaches-read = h .reaches-read;
-}
+pub mesh-from-c : {bs : List ℕ} {lent left : Mesh} {a : MeshAnswer} {found : List ℕ} {r : ℕ} {found′ : List ℕ} → MeshReads bs lent a left
+    → Answered countsFound (meshSaid a) found r found′ → MeshReadFromC bs lent found r left found′
+mesh-from-c {found = found} h a = record { answer = answered-as countsFound found (h .answer) a; mesh-read = h .mesh-read }
 
 pub field-named : {w v : Width} → w ≡ v → {cells : ℕ} {bs masses : List ℕ} {a : Answer} {masses′ : List ℕ} {r : ℕ}
     → FieldReading (fieldRead w cells bs (length masses)) cells bs masses a masses′ → r ≡ numberOf (said a) → FieldReadFromC v cells bs masses r masses′

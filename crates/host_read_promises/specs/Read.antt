@@ -8,12 +8,13 @@ use lib.Dec.{eqb}
 use lib.IntN.{ℤ}
 use lib.ListN.{length}
 use Rattle.lists.specs.Table.{over}
-use Rattle.model.specs.Mesh.{maxCells, maxFaces}
+use Rattle.model.specs.Mesh.{Mesh, meshOf, maxCells, maxFaces}
 use Rattle.model.specs.Causes.{Outcome, granted}
 use Rattle.record_layouts.specs.declared.Width.{Width}
 use Rattle.record_layouts.specs.declared.Width.the-variants.{Narrow, Wide}
 use Rattle.record_reading.specs.declared.MeshCounts.{MeshCounts}
-use Rattle.record_reading.specs.Reading.{volumesIn, firstsIn, secondsIn, sharesIn, reachesIn, massesIn, fluxesIn, outsidesIn, releasesIn, meshRead, fieldRead, stepRead}
+use Rattle.record_reading.specs.Reading.{meshIn, massesIn, fluxesIn, outsidesIn, releasesIn, meshReadInto, fieldRead, stepRead}
+use Rattle.record_reading.specs.Meshes.{overMesh}
 use Rattle.host_answer.specs.Number.{numberOf}
 use Rattle.host_answer.specs.Found.{alone, Answered}
 
@@ -28,19 +29,13 @@ widthNamed named = cond (eqb named 0) Narrow Wide
 abbrev pub countsFound : MeshCounts → List ℕ
 countsFound n = n .cells ∷ n .faces ∷ widthNumber (n .width) ∷ []
 
--- what the reading of a mesh comes to within the limits of document 01, whatever tables it is lent
-abbrev pub meshFinds : (bs volumes firsts seconds shares reaches : List ℕ) → Outcome MeshCounts
-meshFinds bs volumes firsts seconds shares reaches = meshRead maxCells maxFaces bs (length volumes) (length firsts) (length seconds) (length shares)
-    (length reaches)
+-- The reading of a mesh within the limits of document 01, which are the counts of the tables that are lent.
+abbrev pub lentMesh : (volumes firsts seconds shares reaches : List ℕ) → Mesh
+lentMesh = meshOf maxCells maxFaces
 
-pub record MeshReadFromC (o : Outcome MeshCounts) (bs volumes firsts seconds shares reaches found : List ℕ) (r : ℕ)
-    (volumes′ firsts′ seconds′ shares′ reaches′ found′ : List ℕ) : Type 0 where
-  pub answer : Answered countsFound o found r found′
-  pub volumes-read : volumes′ ≡ granted o (over (volumesIn bs) volumes) volumes
-  pub firsts-read : firsts′ ≡ granted o (over (firstsIn bs) firsts) firsts
-  pub seconds-read : seconds′ ≡ granted o (over (secondsIn bs) seconds) seconds
-  pub shares-read : shares′ ≡ granted o (over (sharesIn bs) shares) shares
-  pub reaches-read : reaches′ ≡ granted o (over (reachesIn bs) reaches) reaches
+pub record MeshReadFromC (bs : List ℕ) (lent : Mesh) (found : List ℕ) (r : ℕ) (left : Mesh) (found′ : List ℕ) : Type 0 where
+  pub answer : Answered countsFound (meshReadInto bs lent) found r found′
+  pub mesh-read : left ≡ granted (meshReadInto bs lent) (overMesh (meshIn bs) lent) lent
 
 pub record FieldReadFromC (w : Width) (cells : ℕ) (bs masses : List ℕ) (r : ℕ) (masses′ : List ℕ) : Type 0 where
   pub number : r ≡ numberOf (fieldRead w cells bs (length masses))

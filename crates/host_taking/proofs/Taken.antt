@@ -4,7 +4,7 @@ use mathlib.Core.Path.{_≡_, refl, sym, ap, _∙_}
 use mathlib.Core.List.{List}
 use native.Mathlib.Omega.{arith}
 use lib.ListN.{length, take}
-use Rattle.model.specs.Mesh.{total, runCells, runFaces}
+use Rattle.model.specs.Mesh.{Mesh, total, runCells, runFaces}
 use Rattle.model.specs.Causes.{accepted, refused, Verdict, fine, _andThen_}
 use Rattle.model.specs.Answers.{number}
 use Rattle.model.specs.declared.Refusal.{Refusal}
@@ -13,14 +13,14 @@ use Rattle.checks.specs.Total.{totalSaid}
 use Rattle.checks.specs.declared.TotalAnswer.{TotalAnswer}
 use Rattle.checks.specs.declared.TotalAnswer.the-variants as total-answer
 use Rattle.record_heads.specs.Heads.{widthIn, cellsIn}
-use Rattle.record_reading.specs.Reading.{volumesIn, firstsIn, secondsIn, sharesIn, reachesIn, countsIn, meshIn, massesIn}
+use Rattle.record_reading.specs.Reading.{volumesIn, countsIn, meshIn, massesIn}
 use Rattle.record_reading.specs.Answers.{meshSaid}
 use Rattle.record_reading.specs.declared.MeshCounts.{MeshCounts}
 use Rattle.record_reading.specs.declared.MeshAnswer.{MeshAnswer}
 use Rattle.record_reading.specs.declared.MeshAnswer.the-variants as mesh-answer
 use Rattle.model.proofs.Parts.{PartRead, read-part, part-long}
-use Rattle.taking_mesh.specs.MeshTaking.{meshRecordFound, meshJudged, meshJudgedInRun, MeshTaking}
-use Rattle.taking_mesh.proofs.MeshLaws.{MeshIsRead, mesh-says, limits}
+use Rattle.taking_mesh.specs.MeshTaking.{meshJudgedInRun, MeshTaking}
+use Rattle.taking_mesh.proofs.MeshLaws.{MeshIsRead, taken-said, taken-fine, taken-read}
 use Rattle.taking.specs.Taking.{fieldJudged, FieldTaking as FieldKept}
 use Rattle.taking.proofs.FieldLaws.{field-says}
 use Rattle.host_tested.specs.Tested.{fieldTested, fieldIn, totalHeld}
@@ -36,12 +36,10 @@ front-of : {n m : ℕ} {xs ys : List ℕ} → n ≡ m → PartRead n xs ys → F
 front-of {xs = xs} {ys = ys} e p = let q : PartRead _ xs ys = rw e at p in record { fits = q .fits; part = q .part }
 
 -- the mesh record, taken into tables as long as the run's limits
-module _ (mesh field : List ℕ) {volumes firsts seconds shares reaches : List ℕ} {a : MeshAnswer} {volumes′ firsts′ seconds′ shares′ reaches′ : List ℕ}
-    (t : MeshTaking mesh volumes firsts seconds shares reaches a volumes′ firsts′ seconds′ shares′ reaches′)
-    (lv : length volumes ≡ runCells) (lf : length firsts ≡ runFaces) (ls : length seconds ≡ runFaces) (lw : length shares ≡ runFaces)
-    (lk : length reaches ≡ runFaces) where
-  mesh-said : meshSaid a ≡ (meshJudgedInRun mesh andThen accepted (countsIn mesh))
-  mesh-said = let q = t .answer in rw (lv, lf, ls, lw, lk) at q
+module _ (mesh field : List ℕ) {lent left : Mesh} {a : MeshAnswer} (t : MeshTaking mesh lent a left)
+    (lv : length (lent .volumes) ≡ runCells) (lf : length (lent .firsts) ≡ runFaces) (ls : length (lent .seconds) ≡ runFaces)
+    (lw : length (lent .shares) ≡ runFaces) (lk : length (lent .reaches) ≡ runFaces) where
+  open Mesh left using (volumes as volumes′, firsts as firsts′, seconds as seconds′, shares as shares′, reaches as reaches′)
 
   abbrev judged : Verdict
   judged = fieldJudged (widthIn mesh) (cellsIn mesh) (volumesIn mesh) field runCells
@@ -50,31 +48,15 @@ module _ (mesh field : List ℕ) {volumes firsts seconds shares reaches : List �
       reaches′ masses
   mesh-refused {r = r} d masses =
       let v : fieldTested mesh field ≡ refused (number (r .cause)) (r .place) =
-      out judged (refused-of (meshJudgedInRun mesh) (countsIn mesh) (number (r .cause)) (r .place) (sym (ap meshSaid d) ∙ mesh-said)) in
+      out judged (refused-of (meshJudgedInRun mesh) (countsIn mesh) (number (r .cause)) (r .place) (sym (ap meshSaid d) ∙ taken-said mesh t lv lf ls lw lk)) in
       record { answer = sym (out _ v); tables = λ e. unfine v e }
 
   module _ {n : MeshCounts} (d : a ≡ mesh-answer.Read n) where
     mesh-fine : (meshJudgedInRun mesh ≡ fine) × (n ≡ countsIn mesh)
-    mesh-fine = accepted-of (meshJudgedInRun mesh) (countsIn mesh) n (sym (ap meshSaid d) ∙ mesh-said)
-
-    record-fine : meshRecordFound mesh ≡ fine
-    record-fine = mesh-says mesh runCells runFaces runFaces runFaces runFaces (mesh-fine .0) .found
+    mesh-fine = taken-fine mesh t lv lf ls lw lk d
 
     mesh-read : MeshIsRead mesh n volumes′ firsts′ seconds′ shares′ reaches′
-    unfolding volumesIn firstsIn secondsIn sharesIn reachesIn
-    mesh-read =
-        let v : meshJudged mesh (length volumes) (length firsts) (length seconds) (length shares) (length reaches) ≡ fine = rw (lv, lf, ls, lw, lk)
-        (mesh-fine .0) in
-        let k = limits mesh record-fine in
-        rw (mesh-fine .1) (record {
-          passed = record-fine;
-          counts-are = refl;
-          volumes-part = read-part _ _ volumes volumes′ v (omega (arith, lv, k .few-cells)) (t .volumes-after);
-          firsts-part = read-part _ _ firsts firsts′ v (omega (arith, lf, k .few-faces)) (t .firsts-after);
-          seconds-part = read-part _ _ seconds seconds′ v (omega (arith, ls, k .few-faces)) (t .seconds-after);
-          shares-part = read-part _ _ shares shares′ v (omega (arith, lw, k .few-faces)) (t .shares-after);
-          reaches-part = read-part _ _ reaches reaches′ v (omega (arith, lk, k .few-faces)) (t .reaches-after);
-        })
+    mesh-read = taken-read mesh t lv lf ls lw lk d
 
     -- the part of the volumes that the field is taken on
     pub volumes-fit : n .cells ≤ length volumes′

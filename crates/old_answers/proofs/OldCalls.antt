@@ -31,21 +31,12 @@ old-reading = record {
   mesh-length = mesh-measured;
   field-length = field-needs;
   step-length = step-needs;
-  mesh-read = λ mostCells mostFaces {bs} {volumes} {firsts} {seconds} {shares} {reaches} k c.
-      let u : Verdict = meshHeadVerdict mostCells mostFaces bs
-      andThen meshBodyVerdict bs (length volumes) (length firsts) (length seconds) (length shares) (length reaches) in
-      let one = read-kind-one bs mostCells mostFaces (length volumes) (length firsts) (length seconds) (length shares) (length reaches) in
-      kept-same {u = u} {w = widthIn bs} {M = meshIn bs}
-      (mesh-found bs k mostCells mostFaces (length volumes) (length firsts) (length seconds) (length shares) (length reaches)) (λ h. mesh-narrow bs (one h))
-      (λ h. mesh-in bs (one h))
-      (record {
-        answer = c .answer;
-        volumes-after = c .volumes-read ∙ granted-then u _ _ _;
-        firsts-after = c .firsts-read ∙ granted-then u _ _ _;
-        seconds-after = c .seconds-read ∙ granted-then u _ _ _;
-        shares-after = c .shares-read ∙ granted-then u _ _ _;
-        reaches-after = c .reaches-read ∙ granted-then u _ _ _;
-      });
+  mesh-read = λ {bs} {lent} k c.
+      let u : Verdict = meshHeadVerdict (lent .cells) (lent .faces) bs
+      andThen meshBodyVerdict bs (length (lent .volumes)) (length (lent .firsts)) (length (lent .seconds)) (length (lent .shares)) (length (lent .reaches)) in
+      let one = read-kind-one bs (lent .cells) (lent .faces) _ _ _ _ _ in
+      kept-same {u = u} {w = widthIn bs} {M = meshIn bs} (mesh-found bs k (lent .cells) (lent .faces) _ _ _ _ _) (λ h. mesh-narrow bs (one h))
+      (λ h. mesh-in bs (one h)) (record { answer = c .answer; mesh-after = c .mesh-read ∙ granted-then u _ _ _ });
   field-read = λ cells {bs} {masses} c.
       let e = old-field-read cells bs (length masses) in
       (c .answer ∙ e, filled masses e (old-masses cells bs (length masses)) (c .masses-read));
@@ -74,10 +65,9 @@ old-writing = record { mesh-written = λ M bytes r bytes′ c. c; field-written 
 
 pub old-taking : OldTaking
 old-taking = record {
-  mesh-taken = λ bs {volumes} {firsts} {seconds} {shares} {reaches} k c.
-      let one = judged-kind-one bs (length volumes) (length firsts) (length seconds) (length shares) (length reaches) in
-      kept-same (mesh-judged bs (length volumes) (length firsts) (length seconds) (length shares) (length reaches) k) (λ h. mesh-narrow bs (one h))
-      (λ h. mesh-in bs (one h)) c;
+  mesh-taken = λ bs k c.
+      let one = judged-kind-one bs _ _ _ _ _ in
+      kept-same (mesh-judged bs _ _ _ _ _ k) (λ h. mesh-narrow bs (one h)) (λ h. mesh-in bs (one h)) c;
   field-taken = λ cells volumes {bs} {masses} s c.
       let e = field-judged cells volumes s bs (length masses) in
       let held = judged-masses cells volumes bs (length masses) in (

@@ -11,7 +11,7 @@ unfolding _andThen_
 same-after (accepted _) x y h = h refl
 same-after (refused i j) x y h = refl
 
-same-granted : {B : Type 0} (v : Verdict) (x y z : B) → (v ≡ fine → x ≡ y) → granted v x z ≡ granted v y z
+pub same-granted : {B : Type 0} (v : Verdict) (x y z : B) → (v ≡ fine → x ≡ y) → granted v x z ≡ granted v y z
 same-granted (accepted _) x y z h = h refl
 same-granted (refused i j) x y z h = refl
 

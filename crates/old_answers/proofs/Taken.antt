@@ -8,7 +8,7 @@ use lib.ListN.{length, getD}
 use Rattle.lists.specs.Table.{table}
 use Rattle.model.specs.Mesh.{Mesh, oldCeiling, runCells, runFaces}
 use Rattle.model.specs.Step.{next}
-use Rattle.model.specs.Causes.{accepted, Verdict, fine, _andThen_, inTurn, Call, cellsOnly, inputOf, bytesLong, meshValues, meshFieldVerdict, causesWithin, verdict}
+use Rattle.model.specs.Causes.{accepted, Verdict, fine, _andThen_, granted, inTurn, Call, cellsOnly, inputOf, bytesLong, meshValues, meshFieldVerdict, causesWithin, verdict}
 use Rattle.model.specs.Calls.{stepAnswer}
 use Rattle.model.specs.Ceilings.{MeshSmall, StepSmall}
 use Rattle.model.proofs.Verdicts.{both-fine, all-fine}
@@ -19,30 +19,25 @@ use Rattle.record_heads.specs.Heads.{kindIn, widthIn, cellsIn}
 use Rattle.record_layouts.specs.declared.Width.{Width}
 use Rattle.record_layouts.specs.declared.Width.the-variants.{Narrow}
 use Rattle.record_reading.specs.Reading.{meshIn, massesIn, fluxesIn, outsidesIn, releasesIn}
+use Rattle.record_reading.specs.Meshes.{overMesh}
 use Rattle.record_reading.specs.declared.MeshAnswer.{MeshAnswer}
 use Rattle.taking_mesh.specs.MeshTaking.{MeshKept, meshRecordFound, meshJudged}
 use Rattle.taking.specs.Taking.{fieldJudged, stepIn, stepRecordFound, stepJudged, printedOf, Stepping}
 use Rattle.model.specs.declared.StepTaken.{StepTaken}
 use Rattle.lagoon.specs.Host.{hostInput, hostVerdict, hostBytes}
 use Rattle.old_answers.specs.Before.{stepBy, oldMeshIn, oldMassesIn, oldStepIn, oldStepRead, oldMeshJudged, oldCellsVerdict, oldFieldJudged, oldStepJudged, oldHostVerdict, oldNextRecord, oldHostBytes}
-use Rattle.old_answers.proofs.Outcomes.{same-after, same-found, filled}
+use Rattle.old_answers.proofs.Outcomes.{same-after, same-granted, same-found, filled}
 use Rattle.old_answers.proofs.Records.{mesh-found, read-kind-one, mesh-narrow, mesh-in, old-small, old-field-read, old-masses, step-found, read-shape, step-narrow, flux-small}
 
 -- A MESH that is kept: by the same verdict, and by the width and the mesh that are the same where it passes
-pub kept-same : {u v : Verdict} {w : Width} {M N : Mesh} {volumes firsts seconds shares reaches : List ℕ} {r : MeshAnswer}
-    {volumes′ firsts′ seconds′ shares′ reaches′ : List ℕ}
-    → u ≡ v → (v ≡ fine → w ≡ Narrow) → (v ≡ fine → M ≡ N)
-    → MeshKept u w M volumes firsts seconds shares reaches r volumes′ firsts′ seconds′ shares′ reaches′
-    → MeshKept v Narrow N volumes firsts seconds shares reaches r volumes′ firsts′ seconds′ shares′ reaches′
-kept-same {v = v} {w = w} {M = M} {N = N} {volumes = volumes} {firsts = firsts} {seconds = seconds} {shares = shares} {reaches = reaches} e d m c = record {
+pub kept-same : {u v : Verdict} {w : Width} {M N lent left : Mesh} {r : MeshAnswer} → u ≡ v → (v ≡ fine → w ≡ Narrow) → (v ≡ fine → M ≡ N)
+    → MeshKept u w M lent r left → MeshKept v Narrow N lent r left
+kept-same {u} {v} {w} {M} {N} {lent} e d m c = record {
   answer = c .answer ∙ ap (λ (x : Verdict). x andThen accepted (record { cells = M .cells; faces = M .faces; width = w })) e
       ∙ same-after v (accepted (record { cells = M .cells; faces = M .faces; width = w }))
       (accepted (record { cells = N .cells; faces = N .faces; width = Narrow })) (λ h. rw (d h, m h));
-  volumes-after = filled volumes e (λ h. ap (λ (K : Mesh). K .volumes) (m h)) (c .volumes-after);
-  firsts-after = filled firsts e (λ h. ap (λ (K : Mesh). K .firsts) (m h)) (c .firsts-after);
-  seconds-after = filled seconds e (λ h. ap (λ (K : Mesh). K .seconds) (m h)) (c .seconds-after);
-  shares-after = filled shares e (λ h. ap (λ (K : Mesh). K .shares) (m h)) (c .shares-after);
-  reaches-after = filled reaches e (λ h. ap (λ (K : Mesh). K .reaches) (m h)) (c .reaches-after);
+  mesh-after = c .mesh-after ∙ ap (λ (x : Verdict). granted x (overMesh M lent) lent) e
+      ∙ same-granted v (overMesh M lent) (overMesh N lent) lent (λ h. ap (λ (K : Mesh). overMesh K lent) (m h));
 }
 
 module _ (bs : List ℕ) (volumes firsts seconds shares reaches : ℕ) where

@@ -21,8 +21,8 @@ use Rattle.record_layouts.specs.Layouts.{kindNumber}
 use Rattle.record_heads.specs.Heads.{kindIn, meshMeasured, fieldNeeds, stepNeeds}
 use Rattle.record_layouts.specs.declared.Width.the-variants.{Narrow}
 use Rattle.record_layouts.specs.declared.StepKind.{StepKind}
-use Rattle.record_reading.specs.Reading.{meshRead, fieldRead, stepRead}
-use Rattle.record_reading.specs.Answers.{stepReadSaid, MeshReading, FieldReading, StepReading}
+use Rattle.record_reading.specs.Reading.{fieldRead, stepRead}
+use Rattle.record_reading.specs.Answers.{stepReadSaid, MeshReads, FieldReading, StepReading}
 use Rattle.record_reading.specs.declared.MeshAnswer.{MeshAnswer}
 use Rattle.record_reading.specs.declared.StepRead.{StepRead}
 use Rattle.record_writing.specs.Writing.{MeshWriting, FieldWriting, StepWriting}
@@ -49,12 +49,9 @@ pub record OldReading : Type 0 where
   pub field-length : (cells : ℕ) (bs : List ℕ) → fieldNeeds Narrow cells bs ≡ oldFieldNeeds cells bs
   pub step-length : (cells faces : ℕ) (seconds bs : List ℕ) → stepNeeds Narrow cells faces seconds bs ≡ oldStepNeeds cells faces seconds bs
   -- read_mesh, read_field and read_step
-  pub mesh-read : (mostCells mostFaces : ℕ) {bs volumes firsts seconds shares reaches : List ℕ} {r : MeshAnswer}
-      {volumes′ firsts′ seconds′ shares′ reaches′ : List ℕ} → kindIn bs ≢ 5
-      → MeshReading (meshRead mostCells mostFaces bs (length volumes) (length firsts) (length seconds) (length shares) (length reaches))
-      bs volumes firsts seconds shares reaches r volumes′ firsts′ seconds′ shares′ reaches′
-      → MeshKept (oldMeshRead mostCells mostFaces bs (length volumes) (length firsts) (length seconds) (length shares) (length reaches)) Narrow (oldMeshIn bs)
-      volumes firsts seconds shares reaches r volumes′ firsts′ seconds′ shares′ reaches′
+  pub mesh-read : {bs : List ℕ} {lent left : Mesh} {r : MeshAnswer} → kindIn bs ≢ 5 → MeshReads bs lent r left
+      → MeshKept (oldMeshRead (lent .cells) (lent .faces) bs (length (lent .volumes)) (length (lent .firsts)) (length (lent .seconds)) (length (lent .shares))
+      (length (lent .reaches))) Narrow (oldMeshIn bs) lent r left
   pub field-read : (cells : ℕ) {bs masses : List ℕ} {r : Answer} {masses′ : List ℕ}
       → FieldReading (fieldRead Narrow cells bs (length masses)) cells bs masses r masses′
       → (said r ≡ oldFieldRead cells bs (length masses)) × Filled (oldFieldRead cells bs (length masses)) (oldMassesIn bs cells) masses masses′
@@ -80,11 +77,9 @@ pub record OldWriting : Type 0 where
 
 -- take_mesh, take_field and take_step; lagoon_step; and the run, as far as its program is rendered
 pub record OldTaking : Type 0 where
-  pub mesh-taken : (bs : List ℕ) {volumes firsts seconds shares reaches : List ℕ} {r : MeshAnswer} {volumes′ firsts′ seconds′ shares′ reaches′ : List ℕ}
-      → kindIn bs ≢ 5
-      → MeshTaking bs volumes firsts seconds shares reaches r volumes′ firsts′ seconds′ shares′ reaches′
-      → MeshKept (oldMeshJudged bs (length volumes) (length firsts) (length seconds) (length shares) (length reaches)) Narrow (oldMeshIn bs)
-      volumes firsts seconds shares reaches r volumes′ firsts′ seconds′ shares′ reaches′
+  pub mesh-taken : (bs : List ℕ) {lent left : Mesh} {r : MeshAnswer} → kindIn bs ≢ 5 → MeshTaking bs lent r left
+      → MeshKept (oldMeshJudged bs (length (lent .volumes)) (length (lent .firsts)) (length (lent .seconds)) (length (lent .shares)) (length (lent .reaches)))
+      Narrow (oldMeshIn bs) lent r left
   pub field-taken : (cells : ℕ) (volumes : List ℕ) {bs masses : List ℕ} {r : TotalAnswer} {masses′ : List ℕ}
       → ((c : ℕ) → c < cells → getD volumes c 0 ≤ oldCeiling)
       → FieldTaking Narrow cells volumes bs masses r masses′

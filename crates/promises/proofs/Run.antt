@@ -11,21 +11,23 @@ use lib.Seq.{ext-getD}
 use Rattle.lists.specs.Table.{table, over}
 use Rattle.lists.proofs.Tests.{Fits, fits, exceeds, fits?}
 use Rattle.lists.proofs.Tables.{length-table, length-over, getD-over, getD-past, over-table}
-use Rattle.model.specs.Mesh.{Mesh, meshOf, total, runCells, runFaces}
+use Rattle.model.specs.Mesh.{Mesh, total, runCells, runFaces}
 use Rattle.model.specs.Step.{next}
 use Rattle.model.specs.Causes.{Outcome, accepted, refused, Verdict, fine, inputOf, cellsOnly, meshVerdict, fieldVerdict}
 use Rattle.model.specs.Calls.{massIn, lentMasses, fieldAfter}
 use Rattle.model.proofs.Verdicts.{accepted-of, refused-of}
-use Rattle.record_heads.specs.Heads.{widthIn, cellsIn, facesIn}
+use Rattle.record_heads.specs.Heads.{widthIn, cellsIn}
 use Rattle.record_layouts.specs.declared.Width.{Width}
-use Rattle.record_reading.specs.Reading.{volumesIn, firstsIn, secondsIn, sharesIn, reachesIn, massesIn, countsIn}
+use Rattle.record_reading.specs.Reading.{volumesIn, massesIn, countsIn, meshIn}
+use Rattle.record_reading.specs.Meshes.{overMesh}
+use Rattle.record_reading.specs.Answers.{counting}
 use Rattle.record_reading.specs.declared.MeshCounts.{MeshCounts}
 use Rattle.taking_mesh.specs.MeshTaking.{meshJudged, meshJudgedInRun}
 use Rattle.model.specs.declared.Printed.{Printed}
 use Rattle.model.specs.declared.StepTaken.{StepTaken}
 use Rattle.model.specs.StepTaken.{takenSaid}
 use Rattle.taking.specs.Taking.{fieldJudged, stepIn, printedOf, stepJudged, StepTaking}
-use Rattle.run_printed.specs.Program.{StepsPrint, no-byte, step-ends, step-goes-on, FieldPrints, field-refused, field-accepted, mesh-refused, mesh-accepted}
+use Rattle.run_printed.specs.Program.{StepsPrint, no-byte, step-ends, step-goes-on, FieldPrints, field-refused, field-accepted, emptyTables, mesh-refused, mesh-accepted}
 use Rattle.promises.specs.Steps.{runLeft, StepsMade}
 use Rattle.promises.specs.Run.{runSteps, FieldDemanded, RunMakesList}
 use Rattle.promises.proofs.AsTheRun.{lent-fine, lent-field-fine, masses-long, field-as-the-run}
@@ -87,9 +89,7 @@ faces-long = length-table runFaces (λ i. 0)
 -- The mesh of a record that the run accepts, as its tables hold it, and a field on it.
 module _ (bs : List ℕ) (mesh-tested : meshJudgedInRun bs ≡ fine) where
   abbrev held : Mesh
-  held = meshOf (cellsIn bs) (facesIn bs) (over (volumesIn bs) cellZeros) (over (firstsIn bs) faceZeros) (over (secondsIn bs) faceZeros)
-      (over (sharesIn bs) faceZeros)
-      (over (reachesIn bs) faceZeros)
+  held = counting (countsIn bs) (overMesh (meshIn bs) emptyTables)
 
   held-fine : meshVerdict held ≡ fine
   held-fine = lent-fine bs [] [] cellZeros faceZeros faceZeros faceZeros faceZeros cellZeros cells-long faces-long faces-long faces-long faces-long cells-long
@@ -125,16 +125,11 @@ module _ (bs : List ℕ) (mesh-tested : meshJudgedInRun bs ≡ fine) where
         record { mesh-fine = mesh-fine; field-fine = field-fine; made = made; claim = demand-3 M mesh-fine masses field-fine (runSteps p) made }
 
 pub run-makes-list : RunMakesList
-run-makes-list input out (mesh-refused bs volumes firsts seconds shares reaches refusal line g t h) = tt
-run-makes-list input out (mesh-accepted bs volumes firsts seconds shares reaches counts g t p) =
+run-makes-list input out (mesh-refused bs left refusal line g t h) = tt
+run-makes-list input out (mesh-accepted bs left counts g t p) =
     let found = accepted-of (meshJudged bs (length cellZeros) (length faceZeros) (length faceZeros) (length faceZeros) (length faceZeros)) (countsIn bs) counts
     (t .answer) in
     let tested : meshJudgedInRun bs ≡ fine = rw (cells-long, faces-long) at (found .0) in
-    let v : volumes ≡ over (volumesIn bs) cellZeros = t .volumes-after ∙ rw (found .0) in
-    let f : firsts ≡ over (firstsIn bs) faceZeros = t .firsts-after ∙ rw (found .0) in
-    let s : seconds ≡ over (secondsIn bs) faceZeros = t .seconds-after ∙ rw (found .0) in
-    let a : shares ≡ over (sharesIn bs) faceZeros = t .shares-after ∙ rw (found .0) in
-    let k : reaches ≡ over (reachesIn bs) faceZeros = t .reaches-after ∙ rw (found .0) in
-    let mesh-is : meshOf (counts .cells) (counts .faces) volumes firsts seconds shares reaches ≡ held bs tested = rw (found .1, v, f, s, a, k) in
-    field-demanded bs tested (counts .width) (meshOf (counts .cells) (counts .faces) volumes firsts seconds shares reaches)
-    (ap (λ (n : MeshCounts). n .width) (found .1)) mesh-is p
+    let filled : left ≡ overMesh (meshIn bs) emptyTables = t .mesh-after ∙ rw (found .0) in
+    let mesh-is : counting counts left ≡ held bs tested = rw (found .1, filled) in
+    field-demanded bs tested (counts .width) (counting counts left) (ap (λ (n : MeshCounts). n .width) (found .1)) mesh-is p

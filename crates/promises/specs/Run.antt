@@ -33,8 +33,8 @@ FieldDemanded (field-refused bs masses refusal line g t h) = Unit {0}
 FieldDemanded {M = M} (field-accepted bs masses sum line g t h p) = Demanded M masses (runSteps p)
 
 abbrev pub RunDemanded : {input out : List ℕ} → Prints input out → Type 0
-RunDemanded (mesh-refused bs volumes firsts seconds shares reaches refusal line g t h) = Unit {0}
-RunDemanded (mesh-accepted bs volumes firsts seconds shares reaches counts g t p) = FieldDemanded p
+RunDemanded (mesh-refused bs left refusal line g t h) = Unit {0}
+RunDemanded (mesh-accepted bs left counts g t p) = FieldDemanded p
 
 -- Of every run: its steps are such a list, and so demand 3 holds of them.
 abbrev pub RunMakesList : Type 0

@@ -9,6 +9,7 @@ use Rattle.lists.proofs.Tests.{Same, same, same?}
 use lib.ListN.{length}
 use borrow.Author.Tests.{eqb-true}
 use Rattle.lists.specs.Table.{over}
+use Rattle.model.specs.Mesh.{Mesh, meshOf}
 use Rattle.model.specs.Causes.{Outcome, accepted, Verdict, fine, _andThen_, inTurn, each}
 use Rattle.model.specs.Answers.{told}
 use Rattle.model.specs.declared.Answer.the-variants as call
@@ -129,20 +130,17 @@ step-read-says w cells faces seconds bs u x y e =
     record { kind-is = cc; head = step-head-says w cells faces seconds bs (b .0); tables = step-tables-say cells faces seconds bs u x y (d .0); zeros = d .1 }
 
 -- the answer and the tables
-module _ {bs v f s w k : List ℕ} {o : Outcome MeshCounts} where
-  pub mesh-refused : {r : Refusal} → o ≡ told r → MeshReading o bs v f s w k (mesh.Refused r) v f s w k
-  mesh-refused e = record { answer = sym e; volumes-read = rw e; firsts-read = rw e; seconds-read = rw e; shares-read = rw e; reaches-read = rw e }
+module _ {bs : List ℕ} {lent : Mesh} {o : Outcome MeshCounts} where
+  pub mesh-refused : {r : Refusal} → o ≡ told r → MeshReading o bs lent (mesh.Refused r) lent
+  mesh-refused e = record { answer = sym e; mesh-read = rw e }
 
-  pub mesh-accepted : {n : MeshCounts} {v′ f′ s′ w′ k′ : List ℕ} → o ≡ accepted n → MeshFilled bs (shapeIn bs) 1 v f s w k v′ f′ s′ w′ k′
-      → MeshReading o bs v f s w k (mesh.Read n) v′ f′ s′ w′ k′
+  pub mesh-accepted : {n : MeshCounts} {v f s w k : List ℕ} → o ≡ accepted n
+      → MeshFilled bs (shapeIn bs) 1 (lent .volumes) (lent .firsts) (lent .seconds) (lent .shares) (lent .reaches) v f s w k
+      → MeshReading o bs lent (mesh.Read n) (meshOf (lent .cells) (lent .faces) v f s w k)
   unfolding volumesIn firstsIn secondsIn sharesIn reachesIn
   mesh-accepted e d = record {
     answer = sym e;
-    volumes-read = rw e (d .volumes-full);
-    firsts-read = rw e (d .firsts-full);
-    seconds-read = rw e (d .seconds-full);
-    shares-read = rw e (d .shares-full);
-    reaches-read = rw e (d .reaches-full);
+    mesh-read = rw (e, d .volumes-full, d .firsts-full, d .seconds-full, d .shares-full, d .reaches-full);
   }
 
 module _ {cells : ℕ} {bs m : List ℕ} {o : Verdict} where

@@ -134,6 +134,11 @@ unfoldable pub meshRead : ℕ → ℕ → List ℕ → ℕ → ℕ → ℕ → �
 meshRead mostCells mostFaces bs volumes firsts seconds shares reaches =
     meshHeadVerdict mostCells mostFaces bs andThen meshBodyVerdict bs volumes firsts seconds shares reaches andThen accepted (countsIn bs)
 
+-- the lent tables as a mesh whose counts are the most that are read
+abbrev pub meshReadInto : List ℕ → Mesh → Outcome MeshCounts
+meshReadInto bs lent = meshRead (lent .cells) (lent .faces) bs (length (lent .volumes)) (length (lent .firsts)) (length (lent .seconds))
+    (length (lent .shares)) (length (lent .reaches))
+
 unfoldable pub fieldRead : Width → ℕ → List ℕ → ℕ → Verdict
 fieldRead w cells bs masses = fieldHeadVerdict w cells bs andThen fieldBodyVerdict cells bs masses
 

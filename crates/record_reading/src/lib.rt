@@ -6,8 +6,9 @@ use model::Refusal;
 use record_layouts::StepKind;
 use record_layouts::Width;
 ghost use lib.ListN.{length};
-ghost use Rattle.record_reading.specs.Reading.{meshRead, fieldRead, stepRead};
-ghost use Rattle.record_reading.specs.Answers.{MeshReading, FieldReading, StepReading};
+ghost use Rattle.model.specs.Mesh.{meshOf};
+ghost use Rattle.record_reading.specs.Reading.{fieldRead, stepRead};
+ghost use Rattle.record_reading.specs.Answers.{MeshReads, FieldReading, StepReading};
 
 // The counts of a mesh that has been read, and the width of its record.
 pub struct MeshCounts {
@@ -38,14 +39,10 @@ pub fn read_mesh(
     shares: &mut [u64],
     reaches: &mut [u64],
 ) -> MeshAnswer
-    ensures { λ r. ⌜ MeshReading
-        (meshRead «most_cells» «most_faces» (now (bytes .entry))
-        (length (now (volumes .entry))) (length (now (firsts .entry))) (length (now (seconds .entry)))
-        (length (now (shares .entry))) (length (now (reaches .entry))))
-        (now (bytes .entry))
-        (now (volumes .entry)) (now (firsts .entry)) (now (seconds .entry)) (now (shares .entry)) (now (reaches .entry))
+    ensures { λ r. ⌜ MeshReads (now (bytes .entry))
+        (meshOf «most_cells» «most_faces» (now (volumes .entry)) (now (firsts .entry)) (now (seconds .entry)) (now (shares .entry)) (now (reaches .entry)))
         r
-        (now (volumes .exit)) (now (firsts .exit)) (now (seconds .exit)) (now (shares .exit)) (now (reaches .exit)) ⌝ }
+        (meshOf «most_cells» «most_faces» (now (volumes .exit)) (now (firsts .exit)) (now (seconds .exit)) (now (shares .exit)) (now (reaches .exit))) ⌝ }
 {
     let a = verdicts::mesh(
         most_cells,

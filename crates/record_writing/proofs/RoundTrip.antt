@@ -15,7 +15,7 @@ use lib.IntN.{ℤ, pos}
 use lib.ListN.{length, getD, take, drop, drop-of-length-le}
 use lib.Seq.{take-at}
 use Rattle.lists.specs.Table.{table, over}
-use Rattle.model.specs.Mesh.{Mesh, meshOf, volume, first, second, share, reach, maxCells, maxFaces}
+use Rattle.model.specs.Mesh.{Mesh, volume, first, second, share, reach, maxCells, maxFaces}
 use Rattle.model.specs.Causes.{accepted, Verdict, fine, _andThen_, each, Call, counts, countsWithin, meshValues, fieldValues, outsideGood, fluxGood, waterOf}
 use Rattle.model.specs.Answers.{said}
 use Rattle.model.specs.declared.Answer.{Answer}
@@ -30,7 +30,7 @@ use Rattle.record_layouts.specs.declared.StepKind.{StepKind}
 use Rattle.record_layouts.specs.declared.StepKind.the-variants.{Water, Outfalls}
 use Rattle.record_reading.specs.Reading.{meshIn, countsIn, volumesIn, firstsIn, secondsIn, sharesIn, reachesIn, massesIn, fluxesIn, outsidesIn, releasesIn, meshRead, fieldRead, stepRead}
 use Rattle.record_reading.specs.Meshes.{trimmed, overMesh}
-use Rattle.record_reading.specs.Answers.{meshSaid, stepReadSaid, MeshReading, FieldReading, StepReading}
+use Rattle.record_reading.specs.Answers.{meshSaid, stepReadSaid, counting, MeshReading, MeshReads, FieldReading, StepReading}
 use Rattle.record_reading.specs.declared.MeshCounts.{MeshCounts}
 use Rattle.record_reading.specs.declared.MeshAnswer.{MeshAnswer}
 use Rattle.record_reading.specs.declared.StepRead.{StepRead}
@@ -166,29 +166,22 @@ module _ {v : Verdict} {N : ℕ} {rec bytes bytes′ : List ℕ} {r : WriteAnswe
 
 -- The writer's contract and the reader's, joined: a mesh.
 pub mesh-joined : (w : Width) (M : Mesh) {bytes bytes′ : List ℕ} {r : WriteAnswer} {n : ℕ} → MeshWriting w M bytes r bytes′ → writeSaid r ≡ accepted n
-    → (mostCells mostFaces : ℕ) {volumes firsts seconds shares reaches : List ℕ} {a : MeshAnswer} {volumes′ firsts′ seconds′ shares′ reaches′ : List ℕ}
-    → countsWithin (min mostCells maxCells) (min mostFaces maxFaces) (M .cells) (M .faces) ≡ fine
-    → M .cells ≤ length volumes → M .faces ≤ length firsts → M .faces ≤ length seconds → M .faces ≤ length shares → M .faces ≤ length reaches
-    → MeshReading (meshRead mostCells mostFaces (take n bytes′) (length volumes) (length firsts) (length seconds) (length shares) (length reaches))
-    (take n bytes′)
-    volumes firsts seconds shares reaches a volumes′ firsts′ seconds′ shares′ reaches′
-    → (meshSaid a ≡ accepted (record { cells = M .cells; faces = M .faces; width = w }))
-    × (meshOf (M .cells) (M .faces) volumes′ firsts′ seconds′ shares′ reaches′
-    ≡ overMesh (trimmed M) (meshOf (M .cells) (M .faces) volumes firsts seconds shares reaches))
+    → {lent left : Mesh} {a : MeshAnswer}
+    → countsWithin (min (lent .cells) maxCells) (min (lent .faces) maxFaces) (M .cells) (M .faces) ≡ fine
+    → M .cells ≤ length (lent .volumes) → M .faces ≤ length (lent .firsts) → M .faces ≤ length (lent .seconds) → M .faces ≤ length (lent .shares)
+    → M .faces ≤ length (lent .reaches)
+    → MeshReads (take n bytes′) lent a left
+    → (meshSaid a ≡ accepted (record { cells = M .cells; faces = M .faces; width = w })) × (left ≡ overMesh (trimmed M) lent)
 unfolding meshLength
-mesh-joined w M {bytes} {bytes′} {r} {n} done e mostCells mostFaces {volumes} {firsts} {seconds} {shares} {reaches} {a} {volumes′} {firsts′} {seconds′}
-    {shares′} {reaches′} limits lv lf ls lw lk read =
+mesh-joined w M {bytes} {bytes′} {r} {n} done e {lent} {left} {a} limits lv lf ls lw lk read =
     let p = mesh-write-says w M (length bytes) (wrote done e .0) in
     let c = p .counts-fine in
     let v = p .values-fine in
     let t = begins done e (mesh-record-length (meshKind w) M (mesh-fits w M c v)) in
-    let back = mesh-read-back w M c v mostCells mostFaces (length volumes) (length firsts) (length seconds) (length shares) (length reaches) limits lv
-    lf ls lw lk in
+    let back = mesh-read-back w M c v (lent .cells) (lent .faces) _ _ _ _ _ limits lv lf ls lw lk in
     let same : MeshCounts = record { cells = M .cells; faces = M .faces; width = w } in
-    let q : MeshReading (accepted same) (meshRecord (meshKind w) M) volumes firsts seconds shares reaches a volumes′ firsts′ seconds′ shares′ reaches′ =
-    rw back at (rw t at read) in
-    let N : Mesh = meshOf (M .cells) (M .faces) volumes firsts seconds shares reaches in
-    (q .answer, rw (q .volumes-read, q .firsts-read, q .seconds-read, q .shares-read, q .reaches-read) (ap (λ (K : Mesh). overMesh K N) (mesh-is-back w M c v)))
+    let q : MeshReading (accepted same) (meshRecord (meshKind w) M) lent a left = rw back at (rw t at read) in
+    (q .answer, q .mesh-read ∙ ap (λ (K : Mesh). overMesh K lent) (mesh-is-back w M c v))
 
 -- A field.
 pub field-joined : (w : Width) (M : Mesh) (field : List ℕ) {bytes bytes′ : List ℕ} {r : WriteAnswer} {n : ℕ} → FieldWriting w M field bytes r bytes′
@@ -261,25 +254,18 @@ module _ (bs : List ℕ) (bytes : (j : ℕ) → getD bs j 0 < 256) where
       let p = wrote done e in (sym (p .1) ∙ sym len ∙ ap length same, p .2 ∙ ap (λ xs. over xs old) same)
 
   -- The reader's contract and the writer's, joined.
-  pub mesh-rejoined : (mostCells mostFaces : ℕ) {volumes firsts seconds shares reaches volumes′ firsts′ seconds′ shares′ reaches′ : List ℕ} {a : MeshAnswer}
-      {n : MeshCounts}
-      {old new : List ℕ} {r : WriteAnswer} {k : ℕ}
-      → MeshReading (meshRead mostCells mostFaces bs (length volumes) (length firsts) (length seconds) (length shares) (length reaches)) bs
-      volumes firsts seconds shares reaches a volumes′ firsts′ seconds′ shares′ reaches′
-      → meshSaid a ≡ accepted n → MeshWriting (n .width) (meshOf (n .cells) (n .faces) volumes′ firsts′ seconds′ shares′ reaches′) old r new → writeSaid r
-      ≡ accepted k
+  pub mesh-rejoined : {lent left : Mesh} {a : MeshAnswer} {n : MeshCounts} {old new : List ℕ} {r : WriteAnswer} {k : ℕ}
+      → MeshReads bs lent a left → meshSaid a ≡ accepted n → MeshWriting (n .width) (counting n left) old r new → writeSaid r ≡ accepted k
       → (k ≡ length bs) × (new ≡ over bs old)
   unfolding meshLength
-  mesh-rejoined mostCells mostFaces {volumes} {firsts} {seconds} {shares} {reaches} {volumes′} {firsts′} {seconds′} {shares′} {reaches′} {a} {n} {old} {new} {r}
-      {k} read told done e =
+  mesh-rejoined {lent} {left} {a} {n} {old} {new} {r} {k} read told done e =
       let came = sym (read .answer) ∙ told in
-      let passed = mesh-passed mostCells mostFaces bs (length volumes) (length firsts) (length seconds) (length shares) (length reaches) came in
-      let q : MeshReading (accepted n) bs volumes firsts seconds shares reaches a volumes′ firsts′ seconds′ shares′ reaches′ = rw came at read in
-      let N : Mesh = meshOf (n .cells) (n .faces) volumes′ firsts′ seconds′ shares′ reaches′ in
+      let passed = mesh-passed (lent .cells) (lent .faces) bs _ _ _ _ _ came in
+      let q : MeshReading (accepted n) bs lent a left = rw came at read in
+      let N : Mesh = counting n left in
       let kind : meshKind (n .width) ≡ kindIn bs = rw (passed .counts-are) (mesh-kind-is (kindIn bs) (passed .kind)) in
       let same : meshRecord (meshKind (n .width)) N ≡ bs =
-      rw (kind, passed .counts-are, q .volumes-read, q .firsts-read, q .seconds-read, q .shares-read, q .reaches-read)
-      (mesh-again bs bytes passed volumes firsts seconds shares reaches) in
+      rw (kind, passed .counts-are, q .mesh-read) (mesh-again bs bytes passed (lent .volumes) (lent .firsts) (lent .seconds) (lent .shares) (lent .reaches)) in
       let p = mesh-write-says (n .width) N (length old) (wrote done e .0) in
       rewrote done e same (mesh-record-length (meshKind (n .width)) N (mesh-fits (n .width) N (p .counts-fine) (p .values-fine)))
 

@@ -13,7 +13,7 @@ use lib.IntN.{ℤ}
 use lib.ListN.{length, getD}
 use Rattle.lists.specs.Table.{table, over}
 use Rattle.lists.proofs.Tables.{length-over, getD-over}
-use Rattle.model.specs.Mesh.{Mesh, meshOf, maxCells, maxFaces}
+use Rattle.model.specs.Mesh.{Mesh, maxCells, maxFaces}
 use Rattle.model.specs.Causes.{accepted, Verdict, fine, _andThen_, each, counts, meshTables, meshValues, fieldTable, fieldValues, outsideGood, fluxGood, waterOf}
 use Rattle.model.specs.Answers.{said}
 use Rattle.model.specs.declared.Answer.{Answer}
@@ -24,8 +24,8 @@ use Rattle.record_layouts.specs.Layouts.{meshKind, fieldKind, releaseBits, step
 use Rattle.record_heads.specs.Heads.{kindIn, cellsIn, facesIn}
 use Rattle.record_layouts.specs.declared.Width.{Width}
 use Rattle.record_heads.proofs.HeadLaws.{within-met}
-use Rattle.record_reading.specs.Reading.{volumesIn, firstsIn, secondsIn, sharesIn, reachesIn, massesIn, fluxesIn, outsidesIn, releasesIn, meshRead, fieldRead, stepRead}
-use Rattle.record_reading.specs.Answers.{meshSaid, stepReadSaid, MeshReading, FieldReading, StepReading}
+use Rattle.record_reading.specs.Reading.{volumesIn, firstsIn, secondsIn, sharesIn, reachesIn, massesIn, fluxesIn, outsidesIn, releasesIn, fieldRead, stepRead}
+use Rattle.record_reading.specs.Answers.{meshSaid, stepReadSaid, counting, MeshReading, MeshReads, FieldReading, StepReading}
 use Rattle.record_reading.specs.declared.MeshCounts.{MeshCounts}
 use Rattle.record_reading.specs.declared.MeshAnswer.{MeshAnswer}
 use Rattle.record_reading.specs.declared.StepRead.{StepRead}
@@ -52,30 +52,23 @@ mesh-parts w M e = let p = all-fine (counts M ∷ meshTables M ∷ meshValues (m
 
 module _ (bs : List ℕ) (bytes : (j : ℕ) → getD bs j 0 < 256) where
   -- A MESH: 3 to 5.
-  pub mesh-written-again : (mostCells mostFaces : ℕ) {volumes firsts seconds shares reaches volumes′ firsts′ seconds′ shares′ reaches′ : List ℕ}
-      {a : MeshAnswer} {n : MeshCounts}
-      {old new : List ℕ} {r : WriteAnswer}
-      → MeshReading (meshRead mostCells mostFaces bs (length volumes) (length firsts) (length seconds) (length shares) (length reaches)) bs
-      volumes firsts seconds shares reaches a volumes′ firsts′ seconds′ shares′ reaches′
-      → meshSaid a ≡ accepted n → meshValues (mostOf (n .width))
-      (meshOf (n .cells) (n .faces) volumes′ firsts′ seconds′ shares′ reaches′) ≡ fine → length bs ≤ length old
-      → MeshWriting (n .width) (meshOf (n .cells) (n .faces) volumes′ firsts′ seconds′ shares′ reaches′) old r new
-      → (writeSaid r ≡ accepted (length bs)) × (new ≡ over bs old)
+  pub mesh-written-again : {lent left : Mesh} {a : MeshAnswer} {n : MeshCounts} {old new : List ℕ} {r : WriteAnswer} → MeshReads bs lent a left
+      → meshSaid a ≡ accepted n → meshValues (mostOf (n .width)) (counting n left) ≡ fine → length bs ≤ length old
+      → MeshWriting (n .width) (counting n left) old r new → (writeSaid r ≡ accepted (length bs)) × (new ≡ over bs old)
   unfolding counts meshTables meshWriteVerdict meshLength volumesIn firstsIn secondsIn sharesIn reachesIn
-  mesh-written-again mostCells mostFaces {volumes} {firsts} {seconds} {shares} {reaches} {volumes′} {firsts′} {seconds′} {shares′} {reaches′} {a} {n} {old}
-      {new} {r} read told values room w =
+  mesh-written-again {lent} {left} {a} {n} {old} {new} {r} read told values room w =
       let came = sym (read .answer) ∙ told in
-      let says = read-says mostCells mostFaces bs (length volumes) (length firsts) (length seconds) (length shares) (length reaches) came in
-      let lent = says .tables in
-      let q : MeshReading (accepted n) bs volumes firsts seconds shares reaches a volumes′ firsts′ seconds′ shares′ reaches′ = rw came at read in
-      let N : Mesh = meshOf (n .cells) (n .faces) volumes′ firsts′ seconds′ shares′ reaches′ in
-      let v : cellsIn bs ≤ length volumes′ = rw (q .volumes-read) (filled-long _ _ volumes (lent .volumes-long)) in
-      let f : facesIn bs ≤ length firsts′ = rw (q .firsts-read) (filled-long _ _ firsts (lent .firsts-long)) in
-      let s : facesIn bs ≤ length seconds′ = rw (q .seconds-read) (filled-long _ _ seconds (lent .seconds-long)) in
-      let g : facesIn bs ≤ length shares′ = rw (q .shares-read) (filled-long _ _ shares (lent .shares-long)) in
-      let k : facesIn bs ≤ length reaches′ = rw (q .reaches-read) (filled-long _ _ reaches (lent .reaches-long)) in
+      let says = read-says (lent .cells) (lent .faces) bs _ _ _ _ _ came in
+      let held = says .tables in
+      let q : MeshReading (accepted n) bs lent a left = rw came at read in
+      let N : Mesh = counting n left in
+      let v : cellsIn bs ≤ length (left .volumes) = rw (q .mesh-read) (filled-long _ _ (lent .volumes) (held .volumes-long)) in
+      let f : facesIn bs ≤ length (left .firsts) = rw (q .mesh-read) (filled-long _ _ (lent .firsts) (held .firsts-long)) in
+      let s : facesIn bs ≤ length (left .seconds) = rw (q .mesh-read) (filled-long _ _ (lent .seconds) (held .seconds-long)) in
+      let g : facesIn bs ≤ length (left .shares) = rw (q .mesh-read) (filled-long _ _ (lent .shares) (held .shares-long)) in
+      let k : facesIn bs ≤ length (left .reaches) = rw (q .mesh-read) (filled-long _ _ (lent .reaches) (held .reaches-long)) in
       let kind : meshKind (n .width) ≡ kindIn bs = rw (says .counts-are) (mesh-kind-is (kindIn bs) (says .head .kind)) in
-      let long : meshLength (meshKind (n .width)) (n .cells) (n .faces) ≤ length old = rw (kind, says .counts-are) (omega (arith, lent .same-length)) in
+      let long : meshLength (meshKind (n .width)) (n .cells) (n .faces) ≤ length old = rw (kind, says .counts-are) (omega (arith, held .same-length)) in
       let ok : meshWriteVerdict (n .width) N (length old) ≡ fine = fine-all (meshWriteCauses (n .width) N (length old)) (
         rw (says .counts-are) (within-met maxCells maxFaces (cellsIn bs) (facesIn bs) (says .head .some-cells) (says .head .few-cells) (says .head .few-faces)),
         (
@@ -90,7 +83,7 @@ module _ (bs : List ℕ) (bytes : (j : ℕ) → getD bs j 0 < 256) where
         ),
       ) in
       let e = answers w ok in
-      let p = mesh-rejoined bs bytes mostCells mostFaces read told w e in
+      let p = mesh-rejoined bs bytes read told w e in
       (rw (p .0) at e, p .1)
 
   -- A FIELD on such a mesh: 6. The writer is told the width that the reader was told.

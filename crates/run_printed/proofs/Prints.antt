@@ -9,13 +9,15 @@ use lib.ListN.{length, take, drop, replicate, length-take, length-drop, length-m
 use lib.Seq.{take-add, take-at}
 use Rattle.lists.specs.Table.{table, over}
 use Rattle.lists.proofs.Tables.{length-table}
-use Rattle.model.specs.Mesh.{Mesh, meshOf, runCells, runFaces}
+use Rattle.model.specs.Mesh.{Mesh, runCells, runFaces}
 use Rattle.model.specs.Causes.{Outcome, accepted, refused, Verdict, granted}
 use Rattle.record_bits.specs.Layout.{bytesFor}
 use Rattle.record_layouts.specs.Layouts.{stepHeadBits}
 use Rattle.record_heads.specs.Heads.{stepNeeds}
 use Rattle.record_layouts.specs.declared.Width.{Width}
-use Rattle.record_reading.specs.Reading.{volumesIn, firstsIn, secondsIn, sharesIn, reachesIn, massesIn}
+use Rattle.record_reading.specs.Reading.{meshIn, massesIn}
+use Rattle.record_reading.specs.Meshes.{overMesh}
+use Rattle.record_reading.specs.Answers.{counting}
 use Rattle.record_reading.specs.declared.MeshCounts.{MeshCounts}
 use Rattle.board.specs.Board.{entryAt, listed, entriesOf, boardVerdict, boardEntries, boardSize, unused}
 use Rattle.board.specs.declared.Entry.{Entry}
@@ -30,7 +32,7 @@ use Rattle.run_session.specs.Session.{stepText, stepTakenLine, goesOn, goesOnAf
 use Rattle.run_printed.specs.Run.{meshAt, fieldAt, stepAt, following, inTable, boardLines, boardPrinted, stepComesTo, fieldThen, stepsPrinted}
 use Rattle.run_printed.specs.Run.{fromField, fieldPrinted, runMesh, fromMesh, printed}
 use Rattle.run_printed.specs.Program.{ReadIn, countedBytes, EntriesPrint, none, one, BoardPrints, StepsPrint, no-byte, step-ends, step-goes-on}
-use Rattle.run_printed.specs.Program.{FieldPrints, field-refused, field-accepted, Prints, mesh-refused, mesh-accepted}
+use Rattle.run_printed.specs.Program.{FieldPrints, field-refused, field-accepted, emptyTables, Prints, mesh-refused, mesh-accepted}
 use Rattle.run_lines.specs.declared.Line.{Line}
 
 -- what was taken can be counted and taken again
@@ -166,20 +168,15 @@ module _ (w : Width) (M : Mesh) where
 -- What the program prints is what the definition says of the bytes that it reads.
 pub prints : {input out : List ℕ} → Prints input out → out ≡ printed input
 unfolding printed
-prints {input} (mesh-refused bs volumes firsts seconds shares reaches refusal line g t h) =
+prints {input} (mesh-refused bs left refusal line g t h) =
     let said = rw (is-read _ _ g, cells-long, faces-long) at (t .answer) in
     h .1 ∙ ap (λ (o : Outcome MeshCounts). fromMesh o (runMesh (meshAt input)) (following (meshAt input) input)) said
-prints {input} (mesh-accepted {out} bs volumes firsts seconds shares reaches counts g t p) =
+prints {input} (mesh-accepted {out} bs left counts g t p) =
     let q = is-read _ _ g in
     let said = rw (q, cells-long, faces-long) at (t .answer) in
     let v = accepted-of _ _ _ said in
-    let volumes-held : volumes ≡ inTable runCells (volumesIn (meshAt input)) = rw (q, cells-long, faces-long, v .0) at (t .volumes-after) in
-    let firsts-held : firsts ≡ inTable runFaces (firstsIn (meshAt input)) = rw (q, cells-long, faces-long, v .0) at (t .firsts-after) in
-    let seconds-held : seconds ≡ inTable runFaces (secondsIn (meshAt input)) = rw (q, cells-long, faces-long, v .0) at (t .seconds-after) in
-    let shares-held : shares ≡ inTable runFaces (sharesIn (meshAt input)) = rw (q, cells-long, faces-long, v .0) at (t .shares-after) in
-    let reaches-held : reaches ≡ inTable runFaces (reachesIn (meshAt input)) = rw (q, cells-long, faces-long, v .0) at (t .reaches-after) in
-    let same : meshOf (counts .cells) (counts .faces) volumes firsts seconds shares reaches ≡ runMesh (meshAt input) =
-    rw (v .1, volumes-held, firsts-held, seconds-held, shares-held, reaches-held) in
+    let held : left ≡ overMesh (meshIn (meshAt input)) emptyTables = rw (q, cells-long, faces-long, v .0) at (t .mesh-after) in
+    let same : counting counts left ≡ runMesh (meshAt input) = rw (v .1, held) in
     field-printed _ _ p ∙ ap (λ (M : Mesh). fieldPrinted (counts .width) M (drop (length bs) input)) same
     ∙ ap (λ (x : List ℕ). fieldPrinted (counts .width) (runMesh (meshAt input)) (drop (length x) input)) q
     ∙ ap (λ (o : Outcome MeshCounts). fromMesh o (runMesh (meshAt input)) (following (meshAt input) input)) said

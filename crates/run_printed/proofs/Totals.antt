@@ -71,5 +71,5 @@ module _ (w : Width) (M : Mesh) where
       rw same at (steps-close p)
 
 pub totals-close : TotalsClose
-totals-close input out (mesh-refused bs volumes firsts seconds shares reaches refusal line g t h) = tt
-totals-close input out (mesh-accepted bs volumes firsts seconds shares reaches counts g t p) = field-closes _ _ p
+totals-close input out (mesh-refused bs left refusal line g t h) = tt
+totals-close input out (mesh-accepted bs left counts g t p) = field-closes _ _ p

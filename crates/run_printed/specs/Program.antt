@@ -16,6 +16,7 @@ use Rattle.record_bits.specs.Layout.{bytesFor}
 use Rattle.record_layouts.specs.Layouts.{meshHeadBits, fieldHeadBits, stepHeadBits}
 use Rattle.record_heads.specs.Heads.{lengthSaid, meshNeeds, fieldNeeds, stepNeeds}
 use Rattle.record_layouts.specs.declared.Width.{Width}
+use Rattle.record_reading.specs.Answers.{counting}
 use Rattle.record_reading.specs.declared.MeshCounts.{MeshCounts}
 use Rattle.record_heads.specs.declared.LengthAnswer.{LengthAnswer}
 use Rattle.record_reading.specs.declared.MeshAnswer.the-variants as mesh
@@ -76,15 +77,14 @@ pub data FieldPrints (w : Width) (M : Mesh) (input : List ℕ) : List ℕ → Ty
       → Holds line (startText sum) → StepsPrint w M 1 masses (drop (length bs) input) out → FieldPrints w M input (countedBytes line ++ out)
 
 -- `main`: the mesh, in tables of zeros; refused, it has the only line.
+abbrev pub emptyTables : Mesh
+emptyTables = meshOf runCells runFaces (table runCells (λ i. 0)) (table runFaces (λ i. 0)) (table runFaces (λ i. 0)) (table runFaces (λ i. 0))
+    (table runFaces (λ i. 0))
+
 pub data Prints (input : List ℕ) : List ℕ → Type 0 where
-  mesh-refused : (bs volumes firsts seconds shares reaches : List ℕ) (refusal : Refusal) (line : Line)
-      → ReadIn (bytesFor meshHeadBits) (meshNeeds runCells runFaces) input bs
-      → MeshTaking bs (table runCells (λ i. 0)) (table runFaces (λ i. 0)) (table runFaces (λ i. 0)) (table runFaces (λ i. 0)) (table runFaces (λ i. 0))
-      (mesh.Refused refusal) volumes firsts seconds shares reaches
+  mesh-refused : (bs : List ℕ) (left : Mesh) (refusal : Refusal) (line : Line) → ReadIn (bytesFor meshHeadBits) (meshNeeds runCells runFaces) input bs
+      → MeshTaking bs emptyTables (mesh.Refused refusal) left
       → Holds line (refusedText letterM refusal) → Prints input (countedBytes line)
-  mesh-accepted : {out : List ℕ} (bs volumes firsts seconds shares reaches : List ℕ) (counts : MeshCounts)
-      → ReadIn (bytesFor meshHeadBits) (meshNeeds runCells runFaces) input bs
-      → MeshTaking bs (table runCells (λ i. 0)) (table runFaces (λ i. 0)) (table runFaces (λ i. 0)) (table runFaces (λ i. 0)) (table runFaces (λ i. 0))
-      (mesh.Read counts) volumes firsts seconds shares reaches
-      → FieldPrints (counts .width) (meshOf (counts .cells) (counts .faces) volumes firsts seconds shares reaches) (drop (length bs) input) out
+  mesh-accepted : {out : List ℕ} (bs : List ℕ) (left : Mesh) (counts : MeshCounts) → ReadIn (bytesFor meshHeadBits) (meshNeeds runCells runFaces) input bs
+      → MeshTaking bs emptyTables (mesh.Read counts) left → FieldPrints (counts .width) (counting counts left) (drop (length bs) input) out
       → Prints input out

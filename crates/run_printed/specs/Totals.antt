@@ -27,8 +27,8 @@ FieldCloses (field-refused bs masses refusal line g t h) = Unit {0}
 FieldCloses (field-accepted bs masses sum line g t h p) = Close sum (answersOf p)
 
 abbrev pub RunCloses : {input out : List ℕ} → Prints input out → Type 0
-RunCloses (mesh-refused bs volumes firsts seconds shares reaches refusal line g t h) = Unit {0}
-RunCloses (mesh-accepted bs volumes firsts seconds shares reaches counts g t p) = FieldCloses p
+RunCloses (mesh-refused bs left refusal line g t h) = Unit {0}
+RunCloses (mesh-accepted bs left counts g t p) = FieldCloses p
 
 abbrev pub TotalsClose : Type 0
 TotalsClose = (input out : List ℕ) (run : Prints input out) → RunCloses run

@@ -10,7 +10,8 @@ use lib.ListN.{length, take}
 use Rattle.lists.specs.Table.{over}
 use Rattle.lists.proofs.Tables.{length-table, getD-table}
 use Rattle.model.specs.Mesh.{Mesh, meshOf, runCells, runFaces, maxCells, maxFaces, ceiling, oldCeiling}
-use Rattle.model.specs.Causes.{accepted, refused, Verdict, fine, _andThen_, inTurn, countsWithin, counts, meshTables, meshValues, meshVerdict}
+use Rattle.model.specs.Accepted.{MeshLent}
+use Rattle.model.specs.Causes.{Outcome, accepted, refused, Verdict, fine, _andThen_, granted, inTurn, countsWithin, counts, meshTables, meshValues, meshVerdict}
 use Rattle.model.specs.Ceilings.{MeshSmall}
 use Rattle.model.specs.Answers.{number}
 use Rattle.model.specs.declared.Refusal.{Refusal}
@@ -24,42 +25,38 @@ use Rattle.record_heads.proofs.HeadLaws.{within-says, within-met, mesh-head-say
 use Rattle.record_layouts.specs.declared.Width.{Width}
 use Rattle.record_layouts.specs.declared.Width.the-variants.{Narrow}
 use Rattle.record_reading.specs.Reading.{volumesIn, firstsIn, secondsIn, sharesIn, reachesIn, countsIn, meshIn, meshBodyCauses, meshBodyVerdict, meshRead}
+use Rattle.record_reading.specs.Meshes.{overMesh}
 use Rattle.record_reading.specs.Answers.{meshSaid, MeshReading}
 use Rattle.record_reading.specs.declared.MeshAnswer.{MeshAnswer}
 use Rattle.record_reading.specs.declared.MeshAnswer.the-variants as mesh-answer
 use Rattle.record_reading.specs.declared.MeshCounts.{MeshCounts}
-use Rattle.taking_mesh.specs.MeshTaking.{meshRecordFound, meshRoomCauses, meshJudgedCauses, meshJudged, MeshKept, MeshTaking}
+use Rattle.taking_mesh.specs.MeshTaking.{meshRecordFound, meshRoomCauses, meshJudgedCauses, meshJudged, meshJudgedInRun, MeshKept, MeshTaking}
 use Rattle.taking_mesh.specs.Inner.{MeshCut, keptFound}
 use Rattle.model.proofs.Parts.{PartRead, read-part, long-met}
 
 -- a mesh of which v is found: refused, and accepted
-pub kept-refused : {v : Verdict} (w : Width) (M : Mesh) (volumes firsts seconds shares reaches : List ℕ) (a : MeshAnswer) (k i : ℕ) → v ≡ refused k i
-    → meshSaid a ≡ refused k i
-    → MeshKept v w M volumes firsts seconds shares reaches a volumes firsts seconds shares reaches
-kept-refused w M volumes firsts seconds shares reaches a k i e s =
-    record { answer = s ∙ sym (out _ e); volumes-after = rw e; firsts-after = rw e; seconds-after = rw e; shares-after = rw e; reaches-after = rw e }
+pub kept-refused : {v : Verdict} (w : Width) (M lent : Mesh) (a : MeshAnswer) (k i : ℕ) → v ≡ refused k i → meshSaid a ≡ refused k i
+    → MeshKept v w M lent a lent
+kept-refused w M lent a k i e s = record { answer = s ∙ sym (out _ e); mesh-after = rw e }
 
-pub kept-accepted : {v : Verdict} (w : Width) (M : Mesh) (volumes firsts seconds shares reaches volumes′ firsts′ seconds′ shares′ reaches′ : List ℕ) → v ≡ fine
-    → volumes′ ≡ over (M .volumes) volumes → firsts′ ≡ over (M .firsts) firsts → seconds′ ≡ over (M .seconds) seconds → shares′ ≡ over (M .shares) shares
-    → reaches′ ≡ over (M .reaches) reaches
-    → MeshKept v w M volumes firsts seconds shares reaches (mesh-answer.Read (record { cells = M .cells; faces = M .faces; width = w })) volumes′ firsts′
-    seconds′ shares′ reaches′
-kept-accepted w M volumes firsts seconds shares reaches volumes′ firsts′ seconds′ shares′ reaches′ e a b c d f =
-    record { answer = sym (past _ e); volumes-after = rw e a; firsts-after = rw e b; seconds-after = rw e c; shares-after = rw e d; reaches-after = rw e f }
+pub kept-accepted : {v : Verdict} (w : Width) (M lent : Mesh) {volumes firsts seconds shares reaches : List ℕ} → v ≡ fine
+    → volumes ≡ over (M .volumes) (lent .volumes) → firsts ≡ over (M .firsts) (lent .firsts) → seconds ≡ over (M .seconds) (lent .seconds)
+    → shares ≡ over (M .shares) (lent .shares) → reaches ≡ over (M .reaches) (lent .reaches)
+    → MeshKept v w M lent (mesh-answer.Read (record { cells = M .cells; faces = M .faces; width = w }))
+    (meshOf (lent .cells) (lent .faces) volumes firsts seconds shares reaches)
+kept-accepted w M lent e a b c d f = record { answer = sym (past _ e); mesh-after = rw (e, a, b, c, d, f) }
 
 -- the lent tables hold a mesh of which nothing is found
-pub record Room (M : Mesh) (volumes firsts seconds shares reaches : List ℕ) : Type 0 where
-  pub volumes-room : length (M .volumes) ≤ length volumes
-  pub firsts-room : length (M .firsts) ≤ length firsts
-  pub seconds-room : length (M .seconds) ≤ length seconds
-  pub shares-room : length (M .shares) ≤ length shares
-  pub reaches-room : length (M .reaches) ≤ length reaches
+pub record Room (M lent : Mesh) : Type 0 where
+  pub volumes-room : length (M .volumes) ≤ length (lent .volumes)
+  pub firsts-room : length (M .firsts) ≤ length (lent .firsts)
+  pub seconds-room : length (M .seconds) ≤ length (lent .seconds)
+  pub shares-room : length (M .shares) ≤ length (lent .shares)
+  pub reaches-room : length (M .reaches) ≤ length (lent .reaches)
 
-pub room : (M : Mesh) (volumes firsts seconds shares reaches : List ℕ) → MeshCut M
-    → keptFound (meshOf (M .cells) (M .faces) volumes firsts seconds shares reaches) M ≡ fine
-    → Room M volumes firsts seconds shares reaches
-room M volumes firsts seconds shares reaches c e =
-    let l = mesh-lent (meshOf (M .cells) (M .faces) volumes firsts seconds shares reaches) (both-fine _ _ e .0) in record {
+pub room : (M lent : Mesh) → MeshCut M → keptFound lent M ≡ fine → Room M lent
+room M lent c e =
+    let l = mesh-lent _ (both-fine _ _ e .0) in record {
       volumes-room = omega (arith, c .volumes-cut, l .volumes-long);
       firsts-room = omega (arith, c .firsts-cut, l .firsts-long);
       seconds-room = omega (arith, c .seconds-cut, l .seconds-long);
@@ -139,12 +136,10 @@ module _ (bs : List ℕ) (e : meshRecordFound bs ≡ fine) where
   unfolding meshVerdict counts _andThen_
   values-left = rw (counts-pass, tables-pass)
 
-  found-is : (volumes firsts seconds shares reaches : List ℕ)
-      → keptFound (meshOf (cellsIn bs) (facesIn bs) volumes firsts seconds shares reaches) (meshIn bs)
-      ≡ meshJudged bs (length volumes) (length firsts) (length seconds)
-      (length shares) (length reaches)
+  found-is : (lent : Mesh) → keptFound lent (meshIn bs)
+      ≡ meshJudged bs (length (lent .volumes)) (length (lent .firsts)) (length (lent .seconds)) (length (lent .shares)) (length (lent .reaches))
   unfolding meshJudged meshTables _andThen_
-  found-is volumes firsts seconds shares reaches = rw (values-left, e)
+  found-is lent = rw (values-left, e)
 
 -- the tables read into, and the mesh of their parts
 pub record MeshIsRead (bs : List ℕ) (n : MeshCounts) (volumes′ firsts′ seconds′ shares′ reaches′ : List ℕ) : Type 0 where
@@ -156,30 +151,47 @@ pub record MeshIsRead (bs : List ℕ) (n : MeshCounts) (volumes′ firsts′ sec
   pub shares-part : PartRead (n .faces) (sharesIn bs) shares′
   pub reaches-part : PartRead (n .faces) (reachesIn bs) reaches′
 
+-- of a mesh laid over lent tables that have room for it
+pub is-read : {A : Type 0} {o : Outcome A} {x : A} (bs : List ℕ) (lent left : Mesh) → meshRecordFound bs ≡ fine → o ≡ accepted x
+    → MeshLent (meshOf (cellsIn bs) (facesIn bs) (lent .volumes) (lent .firsts) (lent .seconds) (lent .shares) (lent .reaches))
+    → left ≡ granted o (overMesh (meshIn bs) lent) lent
+    → MeshIsRead bs (countsIn bs) (left .volumes) (left .firsts) (left .seconds) (left .shares) (left .reaches)
+unfolding volumesIn firstsIn secondsIn sharesIn reachesIn
+is-read bs lent left found e l q =
+    let z : left ≡ overMesh (meshIn bs) lent = rw e at q in
+    rw z (record {
+      passed = found;
+      counts-are = refl;
+      volumes-part = read-part {v = fine} _ _ _ _ refl (l .volumes-long) refl;
+      firsts-part = read-part {v = fine} _ _ _ _ refl (l .firsts-long) refl;
+      seconds-part = read-part {v = fine} _ _ _ _ refl (l .seconds-long) refl;
+      shares-part = read-part {v = fine} _ _ _ _ refl (l .shares-long) refl;
+      reaches-part = read-part {v = fine} _ _ _ _ refl (l .reaches-long) refl;
+    })
+
 -- the tables read into are as long as the run's limits
-module _ {bs volumes firsts seconds shares reaches : List ℕ} {a : MeshAnswer} {volumes′ firsts′ seconds′ shares′ reaches′ : List ℕ}
-    (s : MeshReading (meshRead runCells runFaces bs (length volumes) (length firsts) (length seconds) (length shares) (length reaches))
-    bs volumes firsts seconds shares reaches a volumes′ firsts′ seconds′ shares′ reaches′)
-    (lv : length volumes ≡ runCells) (lf : length firsts ≡ runFaces) (ls : length seconds ≡ runFaces) (lw : length shares ≡ runFaces)
-    (lk : length reaches ≡ runFaces) where
+module _ {bs : List ℕ} {lent left : Mesh} {a : MeshAnswer}
+    (s : MeshReading (meshRead runCells runFaces bs (length (lent .volumes)) (length (lent .firsts)) (length (lent .seconds)) (length (lent .shares))
+    (length (lent .reaches))) bs lent a left)
+    (lv : length (lent .volumes) ≡ runCells) (lf : length (lent .firsts) ≡ runFaces) (ls : length (lent .seconds) ≡ runFaces)
+    (lw : length (lent .shares) ≡ runFaces) (lk : length (lent .reaches) ≡ runFaces) where
   read-said : meshSaid a ≡ (meshRecordFound bs andThen accepted (countsIn bs))
   unfolding meshRead meshRecordFound
   read-said = rw (lv, lf, ls, lw, lk) at (s .answer)
 
-  pub mesh-unread : {r : Refusal} → a ≡ mesh-answer.Refused r → (v f s w k : List ℕ) → MeshTaking bs v f s w k a v f s w k
+  pub mesh-unread : {r : Refusal} → a ≡ mesh-answer.Refused r → (N : Mesh) → MeshTaking bs N a N
   unfolding meshJudged
-  mesh-unread {r = r} d v f s w k =
-      kept-refused (widthIn bs) (meshIn bs) v f s w k a _ _ (refused-at [] (_ ∷ _ ∷ []) tt
+  mesh-unread {r = r} d N =
+      kept-refused (widthIn bs) (meshIn bs) N a _ _ (refused-at [] (_ ∷ _ ∷ []) tt
       (refused-of (meshRecordFound bs) (countsIn bs) (number (r .cause)) (r .place) (sym (ap meshSaid d) ∙ read-said))) (ap meshSaid d)
 
 -- a mesh that is read within limits and into tables that may be less than the run's
-module _ (mostCells mostFaces : ℕ) {bs volumes firsts seconds shares reaches : List ℕ} {a : MeshAnswer} {volumes′ firsts′ seconds′ shares′ reaches′ : List ℕ}
-    (s : MeshReading (meshRead mostCells mostFaces bs (length volumes) (length firsts) (length seconds) (length shares) (length reaches))
-    bs volumes firsts seconds shares reaches a volumes′ firsts′ seconds′ shares′ reaches′)
+module _ (mostCells mostFaces : ℕ) {bs : List ℕ} {lent left : Mesh} {a : MeshAnswer}
+    (s : MeshReading (meshRead mostCells mostFaces bs (length (lent .volumes)) (length (lent .firsts)) (length (lent .seconds)) (length (lent .shares))
+    (length (lent .reaches))) bs lent a left)
     (cells : min mostCells maxCells ≤ runCells) (faces : min mostFaces maxFaces ≤ runFaces) {n : MeshCounts} (d : a ≡ mesh-answer.Read n) where
-  read-fine : ((meshHeadVerdict mostCells mostFaces bs andThen meshBodyVerdict bs (length volumes) (length firsts) (length seconds) (length shares)
-      (length reaches)) ≡ fine)
-      × (n ≡ countsIn bs)
+  read-fine : ((meshHeadVerdict mostCells mostFaces bs andThen meshBodyVerdict bs (length (lent .volumes)) (length (lent .firsts)) (length (lent .seconds))
+      (length (lent .shares)) (length (lent .reaches))) ≡ fine) × (n ≡ countsIn bs)
   unfolding meshRead
   read-fine = accepted-of _ (countsIn bs) n (sym (ap meshSaid d) ∙ s .answer)
 
@@ -187,9 +199,10 @@ module _ (mostCells mostFaces : ℕ) {bs volumes firsts seconds shares reaches :
   unfolding meshHeadVerdict
   head-fine = all-fine (meshHeadCauses mostCells mostFaces bs) (both-fine _ _ (read-fine .0) .0)
 
-  body-fine : AllFine (meshBodyCauses bs (length volumes) (length firsts) (length seconds) (length shares) (length reaches))
+  body-fine : AllFine (meshBodyCauses bs (length (lent .volumes)) (length (lent .firsts)) (length (lent .seconds)) (length (lent .shares))
+      (length (lent .reaches)))
   unfolding meshBodyVerdict
-  body-fine = all-fine (meshBodyCauses bs (length volumes) (length firsts) (length seconds) (length shares) (length reaches)) (both-fine _ _ (read-fine .0) .1)
+  body-fine = all-fine (meshBodyCauses bs _ _ _ _ _) (both-fine _ _ (read-fine .0) .1)
 
   within : (1 ≤ cellsIn bs) × (cellsIn bs ≤ runCells) × (facesIn bs ≤ runFaces)
   within =
@@ -228,26 +241,22 @@ module _ (mostCells mostFaces : ℕ) {bs volumes firsts seconds shares reaches :
   unfolding meshRecordFound
   found = past _ run-head ∙ run-body
 
-  pub read-within : MeshIsRead bs n volumes′ firsts′ seconds′ shares′ reaches′
-  unfolding volumesIn firstsIn secondsIn sharesIn reachesIn
+  pub read-within : MeshIsRead bs n (left .volumes) (left .firsts) (left .seconds) (left .shares) (left .reaches)
   read-within =
-      let o = sym (s .answer) ∙ ap meshSaid d in
       let l = body-fine .1 in
-      rw (read-fine .1) (record {
-        passed = found;
-        counts-are = refl;
-        volumes-part = read-part (cellsIn bs) _ volumes volumes′ o (long-fine 0 _ _ (l .0)) (s .volumes-read);
-        firsts-part = read-part (facesIn bs) _ firsts firsts′ o (long-fine 1 _ _ (l .1 .0)) (s .firsts-read);
-        seconds-part = read-part (facesIn bs) _ seconds seconds′ o (long-fine 2 _ _ (l .1 .1 .0)) (s .seconds-read);
-        shares-part = read-part (facesIn bs) _ shares shares′ o (long-fine 3 _ _ (l .1 .1 .1 .0)) (s .shares-read);
-        reaches-part = read-part (facesIn bs) _ reaches reaches′ o (long-fine 4 _ _ (l .1 .1 .1 .1 .0)) (s .reaches-read);
-      })
+      rw (read-fine .1) (is-read bs lent left found (sym (s .answer) ∙ ap meshSaid d) (record {
+        volumes-long = long-fine 0 _ _ (l .0);
+        firsts-long = long-fine 1 _ _ (l .1 .0);
+        seconds-long = long-fine 2 _ _ (l .1 .1 .0);
+        shares-long = long-fine 3 _ _ (l .1 .1 .1 .0);
+        reaches-long = long-fine 4 _ _ (l .1 .1 .1 .1 .0);
+      }) (s .mesh-read))
 
 -- within those of the run
-pub mesh-read : {bs volumes firsts seconds shares reaches : List ℕ} {a : MeshAnswer} {volumes′ firsts′ seconds′ shares′ reaches′ : List ℕ}
-    → MeshReading (meshRead runCells runFaces bs (length volumes) (length firsts) (length seconds) (length shares) (length reaches))
-    bs volumes firsts seconds shares reaches a volumes′ firsts′ seconds′ shares′ reaches′
-    → {n : MeshCounts} → a ≡ mesh-answer.Read n → MeshIsRead bs n volumes′ firsts′ seconds′ shares′ reaches′
+pub mesh-read : {bs : List ℕ} {lent left : Mesh} {a : MeshAnswer}
+    → MeshReading (meshRead runCells runFaces bs (length (lent .volumes)) (length (lent .firsts)) (length (lent .seconds)) (length (lent .shares))
+    (length (lent .reaches))) bs lent a left
+    → {n : MeshCounts} → a ≡ mesh-answer.Read n → MeshIsRead bs n (left .volumes) (left .firsts) (left .seconds) (left .shares) (left .reaches)
 mesh-read s d = read-within runCells runFaces s (le-refl runCells) (le-refl runFaces) d
 
 module _ {bs : List ℕ} {n : MeshCounts} {volumes′ firsts′ seconds′ shares′ reaches′ : List ℕ}
@@ -265,14 +274,35 @@ module _ {bs : List ℕ} {n : MeshCounts} {volumes′ firsts′ seconds′ share
   pub keep-asks : MeshCut R
   keep-asks = rw same (mesh-cut bs)
 
-  pub mesh-done : {volumes firsts seconds shares reaches : List ℕ} {r : MeshAnswer} {v f s w k : List ℕ}
-      → MeshKept (keptFound (meshOf (n .cells) (n .faces) volumes firsts seconds shares reaches) R) (n .width) R volumes firsts seconds shares reaches r v f s w
-      k
-      → MeshTaking bs volumes firsts seconds shares reaches r v f s w k
-  mesh-done {volumes = volumes} {firsts = firsts} {seconds = seconds} {shares = shares} {reaches = reaches} {r = r} {v = v} {f = f} {s = s} {w = w} {k = k} t =
-      let x : MeshKept (keptFound (meshOf (n .cells) (n .faces) volumes firsts seconds shares reaches) (meshIn bs)) (n .width) (meshIn bs) volumes firsts
-      seconds shares reaches r v f s w k = rw same at t in
-      let y : MeshKept (keptFound (meshOf (cellsIn bs) (facesIn bs) volumes firsts seconds shares reaches) (meshIn bs)) (widthIn bs) (meshIn bs) volumes firsts
-      seconds shares reaches
-      r v f s w k = rw (m .counts-are) at x in
-      rw (found-is bs (m .passed) volumes firsts seconds shares reaches) at y
+  pub mesh-done : {lent left : Mesh} {r : MeshAnswer} → MeshKept (keptFound lent R) (n .width) R lent r left → MeshTaking bs lent r left
+  mesh-done {lent} {left} {r} t =
+      let x : MeshKept (keptFound lent (meshIn bs)) (n .width) (meshIn bs) lent r left = rw same at t in
+      let y : MeshKept (keptFound lent (meshIn bs)) (widthIn bs) (meshIn bs) lent r left = rw (m .counts-are) at x in
+      rw (found-is bs (m .passed) lent) at y
+
+-- A mesh record taken into tables as long as the run's limits: what it is said to be, and the mesh of the counted parts.
+module _ (bs : List ℕ) {lent left : Mesh} {a : MeshAnswer} (t : MeshTaking bs lent a left)
+    (lv : length (lent .volumes) ≡ runCells) (lf : length (lent .firsts) ≡ runFaces) (ls : length (lent .seconds) ≡ runFaces)
+    (lw : length (lent .shares) ≡ runFaces) (lk : length (lent .reaches) ≡ runFaces) where
+  pub taken-said : meshSaid a ≡ (meshJudgedInRun bs andThen accepted (countsIn bs))
+  taken-said = let q = t .answer in rw (lv, lf, ls, lw, lk) at q
+
+  module _ {n : MeshCounts} (d : a ≡ mesh-answer.Read n) where
+    pub taken-fine : (meshJudgedInRun bs ≡ fine) × (n ≡ countsIn bs)
+    taken-fine = accepted-of (meshJudgedInRun bs) (countsIn bs) n (sym (ap meshSaid d) ∙ taken-said)
+
+    record-fine : meshRecordFound bs ≡ fine
+    record-fine = mesh-says bs runCells runFaces runFaces runFaces runFaces (taken-fine .0) .found
+
+    pub taken-read : MeshIsRead bs n (left .volumes) (left .firsts) (left .seconds) (left .shares) (left .reaches)
+    taken-read =
+        let v : meshJudged bs (length (lent .volumes)) (length (lent .firsts)) (length (lent .seconds)) (length (lent .shares)) (length (lent .reaches))
+        ≡ fine = rw (lv, lf, ls, lw, lk) (taken-fine .0) in
+        let k = limits bs record-fine in
+        rw (taken-fine .1) (is-read bs lent left record-fine v (record {
+          volumes-long = omega (arith, lv, k .few-cells);
+          firsts-long = omega (arith, lf, k .few-faces);
+          seconds-long = omega (arith, ls, k .few-faces);
+          shares-long = omega (arith, lw, k .few-faces);
+          reaches-long = omega (arith, lk, k .few-faces);
+        }) (t .mesh-after))

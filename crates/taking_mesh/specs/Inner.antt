@@ -1,7 +1,7 @@
 -- What the inner functions rest on and come to. Nothing here is promised to a caller.
 use mathlib.Core.Path.{_≡_}
 use lib.ListN.{length}
-use Rattle.model.specs.Mesh.{Mesh}
+use Rattle.model.specs.Mesh.{Mesh, meshOf}
 use Rattle.model.specs.Causes.{Verdict, _andThen_, meshTables, meshVerdict}
 
 -- a mesh in tables as long as its counts
@@ -12,6 +12,6 @@ pub record MeshCut (M : Mesh) : Type 0 where
   pub shares-cut : length (M .shares) ≡ M .faces
   pub reaches-cut : length (M .reaches) ≡ M .faces
 
--- what is found of a mesh M that has been read, with the tables of N to be filled
+-- what is found of a mesh M that has been read, with the tables that are lent to be filled
 abbrev pub keptFound : Mesh → Mesh → Verdict
-keptFound N M = meshTables N andThen meshVerdict M
+keptFound lent M = meshTables (meshOf (M .cells) (M .faces) (lent .volumes) (lent .firsts) (lent .seconds) (lent .shares) (lent .reaches)) andThen meshVerdict M

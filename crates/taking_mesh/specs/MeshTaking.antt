@@ -4,12 +4,12 @@ use Prim.Native.Nat.{ℕ}
 use mathlib.Core.Path.{_≡_}
 use mathlib.Core.List.{List, [], _∷_}
 use lib.ListN.{length}
-use Rattle.lists.specs.Table.{over}
 use Rattle.model.specs.Mesh.{Mesh, runCells, runFaces, ceiling}
 use Rattle.model.specs.Causes.{accepted, Verdict, _andThen_, inTurn, granted, long, meshValues}
 use Rattle.record_heads.specs.Heads.{widthIn, cellsIn, facesIn, meshHeadVerdict}
 use Rattle.record_layouts.specs.declared.Width.{Width}
 use Rattle.record_reading.specs.Reading.{meshIn, meshBodyVerdict}
+use Rattle.record_reading.specs.Meshes.{overMesh}
 use Rattle.record_reading.specs.Answers.{meshSaid}
 use Rattle.record_reading.specs.declared.MeshAnswer.{MeshAnswer}
 
@@ -35,18 +35,13 @@ module _ (bs : List ℕ) (volumes firsts seconds shares reaches : ℕ) where
 abbrev pub meshJudgedInRun : List ℕ → Verdict
 meshJudgedInRun bs = meshJudged bs runCells runFaces runFaces runFaces runFaces
 
--- A mesh of which v is found, in a record of this width: the answer, and each lent table. The counted entries are filled where it is accepted;
--- no other entry is, and after a refusal none.
-pub record MeshKept (v : Verdict) (w : Width) (M : Mesh) (volumes firsts seconds shares reaches : List ℕ) (r : MeshAnswer)
-    (volumes′ firsts′ seconds′ shares′ reaches′ : List ℕ) : Type 0 where
+-- A mesh of which v is found, in a record of this width: the answer, and the lent tables as one value. The counted entries are filled where it
+-- is accepted; no other entry is, and after a refusal none.
+pub record MeshKept (v : Verdict) (w : Width) (M lent : Mesh) (r : MeshAnswer) (left : Mesh) : Type 0 where
   pub answer : meshSaid r ≡ (v andThen accepted (record { cells = M .cells; faces = M .faces; width = w }))
-  pub volumes-after : volumes′ ≡ granted v (over (M .volumes) volumes) volumes
-  pub firsts-after : firsts′ ≡ granted v (over (M .firsts) firsts) firsts
-  pub seconds-after : seconds′ ≡ granted v (over (M .seconds) seconds) seconds
-  pub shares-after : shares′ ≡ granted v (over (M .shares) shares) shares
-  pub reaches-after : reaches′ ≡ granted v (over (M .reaches) reaches) reaches
+  pub mesh-after : left ≡ granted v (overMesh M lent) lent
 
-abbrev pub MeshTaking : List ℕ → List ℕ → List ℕ → List ℕ → List ℕ → List ℕ → MeshAnswer → List ℕ → List ℕ → List ℕ → List ℕ → List ℕ → Type 0
-MeshTaking bs volumes firsts seconds shares reaches =
-    MeshKept (meshJudged bs (length volumes) (length firsts) (length seconds) (length shares) (length reaches))
-    (widthIn bs) (meshIn bs) volumes firsts seconds shares reaches
+abbrev pub MeshTaking : List ℕ → Mesh → MeshAnswer → Mesh → Type 0
+MeshTaking bs lent =
+    MeshKept (meshJudged bs (length (lent .volumes)) (length (lent .firsts)) (length (lent .seconds)) (length (lent .shares)) (length (lent .reaches)))
+    (widthIn bs) (meshIn bs) lent

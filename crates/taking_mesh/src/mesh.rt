@@ -9,7 +9,7 @@ use record_layouts::Width;
 use record_reading::MeshAnswer;
 use record_reading::MeshCounts;
 ghost use mathlib.Core.Path.{_≡_};
-ghost use Rattle.model.specs.Mesh.{meshOf};
+ghost use Rattle.model.specs.Mesh.{meshOf, runCells, runFaces};
 ghost use Rattle.model.specs.Causes.{_andThen_, long as longOf};
 ghost use Rattle.model.specs.Answers.{said};
 ghost use Rattle.taking_mesh.specs.MeshTaking.{MeshKept, MeshTaking};
@@ -54,14 +54,14 @@ fn keep(
     requires { ⌜ MeshCut (meshOf cells faces (now «read_volumes») (now «read_firsts») (now «read_seconds») (now «read_shares») (now «read_reaches»)) ⌝ }
     ensures { λ r. ⌜ MeshKept
         (keptFound
-        (meshOf cells faces (now (volumes .entry)) (now (firsts .entry)) (now (seconds .entry)) (now (shares .entry)) (now (reaches .entry)))
+        (meshOf runCells runFaces (now (volumes .entry)) (now (firsts .entry)) (now (seconds .entry)) (now (shares .entry)) (now (reaches .entry)))
         (meshOf cells faces (now («read_volumes» .entry)) (now («read_firsts» .entry)) (now («read_seconds» .entry)) (now («read_shares» .entry))
         (now («read_reaches» .entry))))
         width
         (meshOf cells faces (now («read_volumes» .entry)) (now («read_firsts» .entry)) (now («read_seconds» .entry)) (now («read_shares» .entry))
         (now («read_reaches» .entry)))
-        (now (volumes .entry)) (now (firsts .entry)) (now (seconds .entry)) (now (shares .entry)) (now (reaches .entry)) r
-        (now (volumes .exit)) (now (firsts .exit)) (now (seconds .exit)) (now (shares .exit)) (now (reaches .exit)) ⌝ }
+        (meshOf runCells runFaces (now (volumes .entry)) (now (firsts .entry)) (now (seconds .entry)) (now (shares .entry)) (now (reaches .entry))) r
+        (meshOf runCells runFaces (now (volumes .exit)) (now (firsts .exit)) (now (seconds .exit)) (now (shares .exit)) (now (reaches .exit))) ⌝ }
 {
     let held = holds(
         cells,
@@ -107,8 +107,8 @@ pub fn take_mesh(
     reaches: &mut [u64],
 ) -> MeshAnswer
     ensures { λ r. ⌜ MeshTaking (now (bytes .entry))
-        (now (volumes .entry)) (now (firsts .entry)) (now (seconds .entry)) (now (shares .entry)) (now (reaches .entry)) r
-        (now (volumes .exit)) (now (firsts .exit)) (now (seconds .exit)) (now (shares .exit)) (now (reaches .exit)) ⌝ }
+        (meshOf runCells runFaces (now (volumes .entry)) (now (firsts .entry)) (now (seconds .entry)) (now (shares .entry)) (now (reaches .entry))) r
+        (meshOf runCells runFaces (now (volumes .exit)) (now (firsts .exit)) (now (seconds .exit)) (now (shares .exit)) (now (reaches .exit))) ⌝ }
 {
     let mut read_volumes = [0u64; RUN_CELLS];
     let mut read_firsts = [0u64; RUN_FACES];

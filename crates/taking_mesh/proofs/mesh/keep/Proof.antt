@@ -1,7 +1,7 @@
 -- `keep`: where nothing is found the lent tables hold the mesh, and each copy fills one of them.
 use mathlib.Core.Path.{_≡_, refl, sym, ap, _∙_}
 use borrow.Author.Needs.{needs}
-use Rattle.model.specs.Mesh.{Mesh, meshOf}
+use Rattle.model.specs.Mesh.{Mesh, meshOf, runCells, runFaces}
 use Rattle.model.specs.Causes.{fine, meshTables}
 use Rattle.model.specs.Answers.{said}
 use Rattle.taking_mesh.specs.Inner.{keptFound}
@@ -21,7 +21,7 @@ read s = meshOf (s .args .cells) (s .args .faces) (s .args .read-volumes .now) (
     (s .args .read-shares .now) (s .args .read-reaches .now)
 
 abbrev lent : tie.Start → Mesh
-lent s = meshOf (s .args .cells) (s .args .faces) (s .args .volumes .now) (s .args .firsts .now) (s .args .seconds .now) (s .args .shares .now)
+lent s = meshOf runCells runFaces (s .args .volumes .now) (s .args .firsts .now) (s .args .seconds .now) (s .args .shares .now)
     (s .args .reaches .now)
 
 found : (c : tie.After-and-then) → let s = start c in said (c .and-then .result) ≡ keptFound (lent s) (read s)
@@ -32,18 +32,15 @@ returns : tie.Need-returns
 returns c =
     let d = c .before .before .before in
     let s = start d in
-    kept-refused (s .args .width) (read s) (lent s .volumes) (lent s .firsts) (lent s .seconds) (lent s .shares) (lent s .reaches) _ _ _
+    kept-refused (s .args .width) (read s) (lent s) _ _ _
     (sym (found d) ∙ ap said (c .before .found .given .1)) refl
 
 -- nothing was found, so the lent tables hold the mesh
 passes : (c : tie.After-enum-told) → let s = start (c .before .before) in keptFound (lent s) (read s) ≡ fine
 passes c = sym (found (c .before .before)) ∙ ap said (c .enum-told .given .1)
 
-rooms : (c : tie.After-enum-told)
-    → let a = start (c .before .before) .args in let s = start (c .before .before) in
-    Room (read s) (a .volumes .now) (a .firsts .now) (a .seconds .now) (a .shares .now) (a .reaches .now)
-rooms c = let s = start (c .before .before) in room (read s) (lent s .volumes) (lent s .firsts) (lent s .seconds) (lent s .shares) (lent s .reaches) (s .pre)
-    (passes c)
+rooms : (c : tie.After-enum-told) → let s = start (c .before .before) in Room (read s) (lent s)
+rooms c = let s = start (c .before .before) in room (read s) (lent s) (s .pre) (passes c)
 
 -- from each copy back to the one before
 abbrev volumes : tie.After-copy2 → tie.After-copy
@@ -100,7 +97,7 @@ returns-2 c =
     let f = firsts k in
     let v = volumes f in
     let s = start (told v .before .before) in
-    kept-accepted (s .args .width) (read s) (lent s .volumes) (lent s .firsts) (lent s .seconds) (lent s .shares) (lent s .reaches) _ _ _ _ _ (passes (told v))
+    kept-accepted (s .args .width) (read s) (lent s) (passes (told v))
     (v .copy .ensures) (f .copy2 .ensures) (k .copy3 .ensures) (w .copy4 .ensures) (r .copy5 .ensures)
 
 pub keep-spec : {M : Type 1} → statement M

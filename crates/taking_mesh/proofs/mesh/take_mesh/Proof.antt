@@ -1,6 +1,7 @@
 -- `take_mesh`: an unread mesh is refused as reading refuses it; a read one is the mesh of the counted parts, and `keep` has the rest.
 use mathlib.Core.Path.{refl}
 use borrow.Author.Needs.{needs}
+use Rattle.model.specs.Mesh.{meshOf, runCells, runFaces}
 use Rattle.model.proofs.Parts.{part-long}
 use Rattle.taking_mesh.proofs.MeshLaws.{mesh-unread, mesh-read, keep-asks, mesh-done}
 use Rattle.taking_mesh.proofs.mesh.take_mesh.Statement.{statement}
@@ -31,7 +32,7 @@ returns c =
     let r = c .before .before .before .before .before .before .before in
     let a = start r .args in
     mesh-unread (r .read-mesh .ensures) refl refl refl refl refl (c .enum-told .given .1)
-    (a .volumes .now) (a .firsts .now) (a .seconds .now) (a .shares .now) (a .reaches .now)
+    (meshOf runCells runFaces (a .volumes .now) (a .firsts .now) (a .seconds .now) (a .shares .now) (a .reaches .now))
 
 keep-requires : tie.Need-keep-requires
 keep-requires c κs = let d = lent (c .before .before .before .before) in keep-asks (mesh-read (reading d .read-mesh .ensures) (d .before .answer .given .1))
