@@ -1,5 +1,5 @@
 /* Calls on records besides the step (host.c): the channel's first step tried before it is taken, its plain step beside the corrected
- * one, the pages of the field that it leaves, and a claim judged. */
+ * one, the pages of the field that it leaves, a claim judged, and the lagoon cut in two. */
 #include <inttypes.h>
 #include <stdio.h>
 
@@ -51,6 +51,29 @@ static void print_pages(const uint8_t *record, size_t length)
         fwrite(page, 1, (size_t)bytes, stdout);
 }
 
+/* The channel without its last cell, and that cell alone: each part's plain step gives the masses that the whole's gives there. */
+static void cut(void)
+{
+    const uint64_t labels[CELLS] = {0, 0, 1};
+    uint8_t meshes[2][sizeof mesh], fields[2][sizeof field], steps[2][LAGOON_STEP_BYTES(FACES, FACES)], next[sizeof field];
+    uint64_t bytes[6];
+    if (refused("cut", lagoon_cut(mesh, sizeof mesh, field, sizeof field, step, sizeof step, labels, CELLS, meshes[0], sizeof meshes[0], fields[0],
+                                  sizeof fields[0], steps[0], sizeof steps[0], meshes[1], sizeof meshes[1], fields[1], sizeof fields[1], steps[1],
+                                  sizeof steps[1], bytes, 6)))
+        return;
+    for (size_t part = 0; part < 2; part++) {
+        const uint64_t *taken = bytes + 3 * part;
+        printf("part %zu: records of %" PRIu64 ", %" PRIu64 " and %" PRIu64 " bytes\n", part, taken[0], taken[1], taken[2]);
+        if (refused("plain", lagoon_plain_step(meshes[part], (size_t)taken[0], fields[part], (size_t)taken[1], steps[part], (size_t)taken[2], next,
+                                               sizeof next)))
+            return;
+        printf("  plain: masses");
+        for (size_t cell = 0; cell < (taken[1] - 2) / 4; cell++)
+            printf(" %" PRIu64, lagoon_mass(next, cell));
+        printf("\n");
+    }
+}
+
 int main(void)
 {
     uint8_t next[sizeof field];
@@ -63,5 +86,6 @@ int main(void)
     print_pages(next, sizeof next);
     judge("a claim between them", 49950);
     judge("a claim that leaves too much", 49900);
+    cut();
     return 0;
 }

@@ -2,7 +2,7 @@
  *
  *   1  version, answers and causes
  *   2  records: their layout and lengths
- *   3  calls on records       lagoon_step, lagoon_plain_step, lagoon_check, lagoon_crossing, lagoon_judge
+ *   3  calls on records       lagoon_step, lagoon_plain_step, lagoon_check, lagoon_crossing, lagoon_judge, lagoon_cut
  *   4  tables: their positions and lengths
  *   5  calls on tables        lagoon_table_step, lagoon_table_plain_step, lagoon_table_judge, lagoon_table_cut
  *   6  records and tables     lagoon_read_mesh, .. _field, .. _step, lagoon_write_mesh, .. _field, .. _step
@@ -36,8 +36,8 @@ extern "C" {
 
 /* ---------------------------------------------------------------- 1  Version, answers and causes */
 
-#define LAGOON_VERSION "2.7.0"
-#define LAGOON_VERSION_NUMBER 2007000 /* 1,000,000 times the first number, 1,000 times the second, and the third */
+#define LAGOON_VERSION "2.8.0"
+#define LAGOON_VERSION_NUMBER 2008000 /* 1,000,000 times the first number, 1,000 times the second, and the third */
 
 /* The LAGOON_VERSION_NUMBER that the library was built with. The first number changes where a figure that was given before changes. */
 uint64_t lagoon_version(void);
@@ -175,7 +175,7 @@ enum lagoon_width { LAGOON_NARROW, LAGOON_WIDE };
 /* ---------------------------------------------------------------- 3  Calls on records */
 
 /* mesh, field and step are read only, each length that of the record, neither more nor less. The mesh record is tested first, then the field,
- * then the step record with the water in it, then what the call asks for besides (lagoon_judge says where its claim is tested), last the room;
+ * then the step record with the water in it, then what the call asks for besides (lagoon_judge and lagoon_cut say where claim and labels are tested), last the room;
  * the first that is refused gives the answer.
  * Within a record the order is 11 for less than a head, 13, 1, 11, 12, then 18, then the lowest of 3 to 10. No alignment is asked. */
 
@@ -201,6 +201,16 @@ uint64_t lagoon_crossing(const uint8_t *mesh, size_t mesh_len, const uint8_t *fi
  * order; then by 2, place 9, where the claim is too short; 18; 7 and 8; 9 and 10; 21; 22; last by 2, place 11. */
 uint64_t lagoon_judge(const uint8_t *mesh, size_t mesh_len, const uint8_t *field, size_t field_len, const uint8_t *step, size_t step_len,
                       const int64_t *claim, size_t claim_len, uint8_t *next, size_t next_len, uint64_t *found, size_t found_len);
+
+/* A lagoon cut in two by a label for each cell, 0 or 1: mesh, field and step record of part 0, then of part 1, of the width of the mesh and of
+ * the kind of the step. lagoon_table_cut below says what a part has. found: the bytes that each of the six records takes; bytes past them stay.
+ * A part has no more cells and faces than the whole, and all its faces may be at the rim: rooms as long as the whole's mesh and field, and
+ * LAGOON_STEP_BYTES(faces, faces) or the like of the whole's kind, are always enough. Refuses what is refused of the mesh; then by 2, place 15, where there are fewer labels than cells, 23 and 24; then what is
+ * refused of the field and of the step; last by 2, place 11, where one of the six has too little room. */
+uint64_t lagoon_cut(const uint8_t *mesh, size_t mesh_len, const uint8_t *field, size_t field_len, const uint8_t *step, size_t step_len,
+                    const uint64_t *labels, size_t labels_len, uint8_t *mesh0, size_t mesh0_len, uint8_t *field0, size_t field0_len,
+                    uint8_t *step0, size_t step0_len, uint8_t *mesh1, size_t mesh1_len, uint8_t *field1, size_t field1_len, uint8_t *step1,
+                    size_t step1_len, uint64_t *found, size_t found_len);
 
 /* ---------------------------------------------------------------- 4  Tables */
 

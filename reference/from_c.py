@@ -26,6 +26,8 @@ FIELD = "cells volumes masses"
 OF_A_PART = "volumes firsts seconds shares reaches masses fluxes outsides releases".split()
 PARTS = " ".join(f"{column}{part}" for part in (0, 1) for column in OF_A_PART)
 
+ROOMS = "mesh0 field0 step0 mesh1 field1 step1".split()
+
 # The call of a script that a call on tables is, and what the arguments of that one are in the header.
 ON_TABLES = {
     "lagoon_step": ("lagoon_step", "mesh field step next"),
@@ -215,6 +217,9 @@ class OnRecords:
 
     def lagoon_cut(self, mesh, field, step, labels, mesh0, field0, step0, mesh1, field1, step1, found):
         L = self.lagoon
+        cells = len(L.accept_mesh(mesh).volumes)
+        L.judge_lengths({L.LABELS: len(labels)}, {L.LABELS: cells})
+        L.judge_labels(labels[:cells])
         read, masses, wide = self.field(mesh, field)
         water = self.water(step, read, wide)
         tables = {**self.tables(read, masses, water), L.LABELS: labels}
@@ -266,15 +271,27 @@ class Lent:
         if name == "bytes":
             return self.room(right_lagoon.page_length(self.volumes, cells, self.number))
         if name == "labels":
-            return some_labels(rng, cells, [])
+            self.labels = some_labels(rng, cells, [])
+            return self.labels
         if name == "marks":
             marks = [rng.choice([0, 0, 1]) for _ in range(cells - (rng.random() < 0.1))]
             return marks if rng.random() < 0.9 or not marks else [*marks[:-1], rng.choice([2, GREATEST])]
         if name == "claim":
             return self.claim()
-        spare = rng.choice([0, 0, 9])
-        whole = len(getattr(self.case, name[:-1]))          # a part has no more cells than the whole, and 20 bits more for each face
-        return bytearray([FILL]) * (whole + 3 * self.faces + spare if rng.random() < 0.97 else max(0, whole // 2 - spare))
+        return bytearray([FILL]) * self.room_of_part(name)
+
+    def room_of_part(self, name):
+        """The length of room for a record of a part: more than it takes, as much, or, now and then, one less."""
+        whole, kind = len(getattr(self.case, name[:-1])), self.rng.random()
+        most = whole + 3 * self.faces                       # a part has no more cells than the whole, and 20 bits more for each face
+        if kind < 0.5:
+            return most + self.rng.choice([0, 0, 9])
+        try:
+            rooms = [bytearray(len(record) + 3 * self.faces) for record in self.case[1:4]] * 2
+            taken = dict(zip(ROOMS, OnRecords(right_lagoon).lagoon_cut(*self.case[1:4], self.labels, *rooms, None)))
+        except right_lagoon.Refusal:
+            return max(0, most - self.rng.choice([0, 1, most]))
+        return taken[name] - (kind > 0.95)
 
     def claim(self):
         """What one of the engine's schemes moves, as it is or with a mass changed."""

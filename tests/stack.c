@@ -77,6 +77,9 @@ static struct {
 } whole, part_0, part_1;
 static uint64_t labels[MOST_CELLS], next_masses[MOST_CELLS], work[LAGOON_WORK_ENTRIES(MOST_CELLS, MOST_FACES)];
 static int64_t moved[MOST_FACES];
+static struct {
+    uint8_t mesh[sizeof mesh], field[sizeof field], step[sizeof step];
+} records_0, records_1;
 static uint64_t nothing[1]; /* lent for numbers that nobody asks for */
 
 #define MESH(t) t.volumes, MOST_CELLS, t.firsts, MOST_FACES, t.seconds, MOST_FACES, t.shares, MOST_FACES, t.reaches, MOST_FACES
@@ -137,6 +140,13 @@ static uint64_t cut_tables(void)
     return lagoon_table_cut(MOST_CELLS, MOST_FACES, ALL(whole), labels, MOST_CELLS, ALL(part_0), ALL(part_1), nothing, 0);
 }
 
+#define ROOM(part) part.mesh, sizeof part.mesh, part.field, sizeof part.field, part.step, sizeof part.step
+
+static uint64_t cut_records(void)
+{
+    return lagoon_cut(RECORDS, labels, CELLS, ROOM(records_0), ROOM(records_1), nothing, 0);
+}
+
 static uint64_t (*called)(void);
 
 static void *call(void *unused)
@@ -182,5 +192,6 @@ int main(void)
     print_taken("lagoon_plain_step", take_plain_step);
     print_taken("lagoon_crossing", look_at_crossing);
     print_taken("lagoon_judge", judge_records);
+    print_taken("lagoon_cut", cut_records);
     return 0;
 }

@@ -149,6 +149,12 @@ class Package(unittest.TestCase):
         flood = Step(mesh, [-50, 50, 50, 50], outside={0: 1000})
         raises(Refused, "cell 1 (Middle): label 2 is neither 0 nor 1 (cause 23)", lambda: proved.in_two(field, flood, [0, 2, 1]))
         raises(Refused, "no cell has label 1 (cause 24)", lambda: proved.in_two(field, flood, [0, 0, 0]))
+        records = mesh.record, field.record, flood.record
+        for part, cut in zip(proved.in_two(field, flood, [0, 1, 0]), proved.records_in_two(*records, [0, 1, 0])):
+            equal(cut, (part.field.mesh.record, part.field.record, part.step.record), "the records of a part")
+        raises(Refused, "cell 1: label 2 is neither 0 nor 1 (cause 23)", lambda: proved.records_in_two(*records, [0, 2, 1]))
+        raises(Refused, "fewer labels than cells (cause 2)", lambda: proved.records_in_two(*records, [0, 1]))
+        raises(Refused, "a record of the wrong length (cause 11)", lambda: proved.records_in_two(mesh.record, field.record[:-1], flood.record, [0, 1, 0]))
         raises(Refused, "there is no page 1 (cause 14)", lambda: proved.page(field, 1))
         raises(Refused, "x1 nan is not within 1,000,000 (cause 19)", lambda: proved.share((float("nan"), 0), (0, 1), (0, 0), (1, 1)))
         raises(Refused, "(cause 20)", lambda: proved.share((0, 0), (0, 0), (0, 0), (1, 1)))

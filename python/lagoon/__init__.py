@@ -18,12 +18,14 @@ from .command import version
 if TYPE_CHECKING:
     from .engine import library
     from .layout import RIM
-    from .proved import After, Charge, Line, Part, Period, board, charged, in_two, judged, page, pages, plain_step, share, step
+    from .proved import After, Charge, Line, Part, Period, Records, board, charged, in_two, judged, page, pages, plain_step, records_in_two, \
+        share, step
     from .sessions import Budget, Moment, Picture, Run, Session, check, pack, unpack
     from .values import Field, Mesh, Named, Refused, Step
 
 HOMES = {"engine": ("library",), "layout": ("RIM",), "values": ("Field", "Mesh", "Named", "Refused", "Step"),
-         "proved": ("After", "Charge", "Line", "Part", "Period", "board", "charged", "in_two", "judged", "page", "pages", "plain_step", "share", "step"),
+         "proved": ("After", "Charge", "Line", "Part", "Period", "Records", "board", "charged", "in_two", "judged", "page", "pages", "plain_step",
+                    "records_in_two", "share", "step"),
          "sessions": ("Budget", "Moment", "Picture", "Run", "Session", "check", "pack", "unpack")}
 
 __version__ = version()

@@ -10,6 +10,7 @@ from .calls import OnTables
 from .causes import CELL, FACE, IN_WORDS, Refusal
 from .cut import Cutter
 from .layout import masses_in
+from .shared import ROOMS
 from .values import Field, Mesh, Named, Refused, SIGNED, Step, spread, table
 
 
@@ -166,6 +167,37 @@ def part_of(mesh, cutter, own, part):
     small = Mesh(own["volumes"], own["firsts"], own["seconds"], own["shares"], own["reaches"], names=names[CELL], face_names=names[FACE],
                  units=mesh.labels.units)
     return Part(Field(small, own["masses"]), Step(small, own["fluxes"], own["outsides"], own["releases"]), cells, faces)
+
+
+class Records(NamedTuple):
+    """The three records of a lagoon or of a part of one."""
+    mesh: bytes
+    field: bytes
+    step: bytes
+
+
+def records_in_two(mesh: bytes, field: bytes, step: bytes, labels) -> "tuple[Records, Records]":
+    """The same on records, by the C call `lagoon_cut`: each part's have the width of the mesh and the kind of the step.
+
+    >>> channel = Mesh([100, 100, 100], [0, 0, 1, 2], [4095, 1, 2, 4095], [0, 128, 128, 0], [0, 100, 100, 0])
+    >>> field, flood = Field(channel, [100_000, 0, 0]), Step(channel, [-50, 50, 50, 50], outside={0: 1000})
+    >>> sea, land = records_in_two(channel.record, field.record, flood.record, [0, 1, 1])
+    >>> sea.field.hex(), len(land.mesh), land.step[0] >> 4
+    ('600100000186a0', 26, 7)
+    >>> records_in_two(channel.record, field.record, flood.record, [0, 2, 1])
+    Traceback (most recent call last):
+        ...
+    lagoon.Refused: cell 1: label 2 is neither 0 nor 1 (cause 23)
+    """
+    rooms = [bytes(len(mesh) + len(field) + 4 * len(step))] * 6       # of each more than it can take
+    labels = list(labels)
+    said, left = engine.asked().ask("cut_records", mesh, field, step, labels, *rooms)
+    if said[0] != "accepted":
+        cause, place = map(int, said[1:])
+        words = {2: "fewer labels than cells", 23: f"label {labels[place] if cause == 23 else ''} is neither 0 nor 1", 24: f"no cell has label {place}"}
+        raise Refused(Refusal(cause, CELL if cause == 23 else "", place, words.get(cause) or IN_WORDS[cause]))
+    taken = [bytes(left[word][:int(length)]) for word, length in zip(ROOMS.split(), said[1:])]
+    return Records(*taken[:3]), Records(*taken[3:])
 
 
 # ---------------------------------------------------------------- What is printed of a field

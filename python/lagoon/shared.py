@@ -10,6 +10,7 @@ MESH = "cells faces volumes firsts seconds shares reaches"
 STEP = f"{MESH} masses fluxes outsides next moved work releases"
 OF_A_PART = "volumes firsts seconds shares reaches masses fluxes outsides releases".split()
 PARTS = " ".join(f"{column}{part}" for part in (0, 1) for column in OF_A_PART)
+ROOMS = "mesh0 field0 step0 mesh1 field1 step1"
 FIELD = "cells volumes masses"
 
 # Of each call its name in the library, its arguments in their order, the tables that it fills, and how many numbers it finds.
@@ -18,6 +19,7 @@ EXPORTED = {
     "plain_step": ("lagoon_table_plain_step", STEP, "next moved", 3),
     "judge": ("lagoon_table_judge", f"{MESH} masses fluxes outsides next claim releases", "next", 3),
     "cut": ("lagoon_table_cut", f"{MESH} masses fluxes outsides releases labels {PARTS}", PARTS, 4),
+    "cut_records": ("lagoon_cut", f"mesh field step labels {ROOMS}", ROOMS, 6),
     "read_step": ("lagoon_read_step", "width cells faces seconds bytes fluxes outsides releases", "fluxes outsides releases", 1),
     "add": ("lagoon_add", "faces seconds moved totals", "totals", 0),
     "charge": ("lagoon_charge", "total bands ends prices remainder", "", 2),
@@ -30,7 +32,7 @@ EXPORTED = {
 COUNTS = {"width", "cells", "faces", "page", "total", "bands", "remainder"}
 SHORT = {"page": 0xffffffff}                            # a count of 32 bits, and the greatest: no page has it
 FLOATS = set("x1 y1 x2 y2 first_x first_y second_x second_y".split())
-BYTES = {"bytes"}
+BYTES = {"bytes", "mesh", "field", "step", *ROOMS.split()}
 SIGNED = {"fluxes", "moved", "claim", "fluxes0", "fluxes1"}
 SOMEWHERE = array("Q", [0])                             # an empty table lies somewhere too: no pointer is null
 

@@ -79,7 +79,7 @@ pub fn lengths(
 }
 
 // Causes 23 and 24.
-fn labels_fit(cells: usize, labels: &[u64]) -> Answer
+pub fn labels_fit(cells: usize, labels: &[u64]) -> Answer
     requires { ⌜ cells ≤ length (now labels) ⌝ }
     ensures { λ r. ⌜ said r ≡ inTurn (each 23 cells (λ c. leb (getD (now (labels .entry)) c 0) 1)
         ∷ each 24 2 (λ p. leb 1 (count cells (hasLabel (now (labels .entry)) p))) ∷ []) ⌝ }

@@ -33,3 +33,6 @@ module _ (w : Width) (M : Mesh) {bs : List ℕ} {fluxes : List ℤ} {outsides re
 
   pub read-fine : {kind : StepKind} → a ≡ read.Read kind → stepRecordFound w M bs ≡ fine
   read-fine {kind = kind} d = accepted-of (stepRecordFound w M bs) (kindIn bs) (kindNumber w kind) (sym (ap (stepReadSaid w) d) ∙ read-said) .0
+
+  pub kind-read : {kind : StepKind} → a ≡ read.Read kind → kindNumber w kind ≡ kindIn bs
+  kind-read {kind = kind} d = accepted-of (stepRecordFound w M bs) (kindIn bs) (kindNumber w kind) (sym (ap (stepReadSaid w) d) ∙ read-said) .1

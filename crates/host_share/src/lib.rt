@@ -14,7 +14,7 @@ ghost use Rattle.host_share.specs.Share.{faceFrom, ShareFromC, version};
 // The version's three numbers: the file VERSION has them, and tests/host.sh compares.
 const MAJOR: u64 = 2;
 
-const MINOR: u64 = 7;
+const MINOR: u64 = 8;
 
 const PATCH: u64 = 0;
 
@@ -86,7 +86,7 @@ pub extern "C" fn lagoon_share(
 // The library's version as one number.
 #[no_mangle]
 pub extern "C" fn lagoon_version() -> u64
-    ensures { λ r. ⌜ r ≡ version 2 7 0 ⌝ }
+    ensures { λ r. ⌜ r ≡ version 2 8 0 ⌝ }
 {
     MAJOR * 1000000 + MINOR * 1000 + PATCH
 }
