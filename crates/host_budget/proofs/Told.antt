@@ -13,11 +13,9 @@ use Rattle.model.proofs.Lists.{corrected-keeping}
 use Rattle.record_reading.specs.Reading.{meshIn, massesIn}
 use Rattle.taking.specs.Taking.{stepIn}
 use Rattle.lagoon.specs.Host.{hostVerdict}
-use Rattle.host_answer.specs.Found.{filled, alone, Answered}
+use Rattle.host_answer.specs.Found.{filled, alone}
 use Rattle.host_answer.specs.Steps.{crossed}
 use Rattle.host_tested.specs.Tested.{fieldIn, fieldTested, stepTested, totalHeld}
-use Rattle.host_record_promises.specs.Crossing.{stepFound, crossedIn}
-use Rattle.host_record_promises.specs.Cells.{totalFound}
 use Rattle.promises.specs.Held.{trimmedField}
 use Rattle.promises.specs.Steps.{HostMade, hostSaid, hostLeft, Brought}
 use Rattle.promises.proofs.OnRecords.{records-crossing}
