@@ -1,6 +1,6 @@
 -- A part that has been cut is the part of the definition, and what its writers said is said of that.
 use Prim.Native.Nat.{ℕ}
-use mathlib.Core.Path.{_≡_, sym, ap, _∙_}
+use mathlib.Core.Path.{_≡_, ap, _∙_}
 use mathlib.Core.List.{List}
 use Rattle.model.specs.Causes.{Verdict}
 use Rattle.model.specs.Answers.{number}

@@ -1,5 +1,5 @@
 -- The calls that cut a lagoon in records, from what the calls below them promise.
-use Prim.Native.Nat.{ℕ, _≤_}
+use Prim.Native.Nat.{ℕ}
 use mathlib.Core.Path.{_≡_, sym, ap, _∙_}
 use mathlib.Core.List.{List}
 use lib.IntN.{ℤ}
@@ -7,28 +7,28 @@ use lib.ListN.{length, take}
 use Rattle.lists.specs.Table.{over}
 use Rattle.model.specs.Mesh.{Mesh, meshOf, runCells, runFaces}
 use Rattle.model.specs.Causes.{Outcome, accepted, Verdict, fine, _andThen_, granted}
-use Rattle.model.specs.Answers.{number, told}
+use Rattle.model.specs.Answers.{told}
 use Rattle.model.specs.declared.Refusal.{Refusal}
-use Rattle.model.proofs.Verdicts.{both-fine, past, out, accepted-of}
+use Rattle.model.proofs.Verdicts.{both-fine, past, out}
 use Rattle.cutting_parts.specs.Cut.{Lagoon}
 use Rattle.record_layouts.specs.Layouts.{kindNumber}
 use Rattle.record_layouts.specs.declared.Width.{Width}
 use Rattle.record_layouts.specs.declared.StepKind.{StepKind}
 use Rattle.record_heads.specs.Heads.{kindIn, widthIn}
-use Rattle.record_reading.specs.Reading.{meshIn, fluxesIn, outsidesIn, releasesIn, stepRead}
+use Rattle.record_reading.specs.Reading.{fluxesIn, outsidesIn, releasesIn, stepRead}
 use Rattle.record_reading.specs.Answers.{StepReading}
 use Rattle.record_reading.specs.declared.StepRead.{StepRead}
 use Rattle.record_reading.specs.declared.StepRead.the-variants as read
 use Rattle.taking.proofs.StepLaws.{fluxes-part, outsides-part, releases-part}
-use Rattle.host_tested.specs.Tested.{fieldTested, fieldIn}
+use Rattle.host_tested.specs.Tested.{fieldTested}
 use Rattle.host_taking.specs.Taken.{RecordsTaking}
 use Rattle.host_taking.specs.declared.FieldCounts.{FieldCounts}
 use Rattle.host_taking.specs.declared.FieldTaken.{FieldTaken}
 use Rattle.host_taking.specs.declared.FieldTaken.the-variants.{Taken}
 use Rattle.host_taking.proofs.Held.{tested-fine, all-as}
 use Rattle.host_record_promises.proofs.Read.{unread, read-fine, kind-read}
-use Rattle.host_cut_promises.specs.Cut.{Records, recordsOf, lengthsOf, recordsOver, piece, bothLengths, lagoonOn, cutJudged}
-use Rattle.host_cut_promises.specs.Inner.{writersFind, recordsFind, Wrote, PieceWritten, CutWritten, CutIn, CutOn, CutTaking}
+use Rattle.host_cut_promises.specs.Cut.{Records, recordsOf, lengthsOf, recordsOver, piece, lagoonOn}
+use Rattle.host_cut_promises.specs.Inner.{writersFind, recordsFind, cutJudged, Wrote, PieceWritten, CutWritten, CutIn, CutOn, CutTaking}
 use Rattle.host_cut_promises.specs.declared.PartLengths.{PartLengths}
 use Rattle.host_cut_promises.specs.declared.CutLengths.{CutLengths}
 use Rattle.host_cut_promises.specs.declared.RecordsCut.{RecordsCut}

@@ -1,6 +1,6 @@
 -- Where nothing is found of a cutting, its parts pass every cause of a step, within the ceilings of their records; so their writers are left with
 -- nothing to refuse but too few bytes.
-use Prim.Native.Nat.{ℕ, _+_, _*_, _^_, _≤_, _<_}
+use Prim.Native.Nat.{ℕ, _^_, _≤_, _<_}
 use mathlib.Core.Path.{_≡_, refl, sym, ap, _∙_}
 use mathlib.Core.Bool.{Bool, true, false, cond, _||_}
 use mathlib.Core.List.{List, [], _∷_}
@@ -14,16 +14,16 @@ use Rattle.lists.proofs.Marked.{old-marked}
 use Rattle.signed.specs.Sign.{size, withSign}
 use Rattle.signed.proofs.Turns.{size-turn}
 use Rattle.signed.proofs.Laws.{size-withSign}
-use Rattle.model.specs.Mesh.{Mesh, volume, reach, runCells, runFaces, ceiling, oldCeiling}
+use Rattle.model.specs.Mesh.{Mesh, runCells, runFaces, ceiling, oldCeiling}
 use Rattle.model.specs.Step.{flux}
-use Rattle.model.specs.Causes.{accepted, refused, Verdict, fine, _andThen_, each, Call, release, waterOf, workEntries, bytesLong, stepLengths, counts, meshLengths, meshTables, meshValues, fieldTable, fieldValues, stepTables, raisedGood, raisedValues, outsideGood, fluxGood, balanceGood, outflowGood, waterCauses, causesWithin, stepValues, stepCauses, verdict}
-use Rattle.model.specs.Calls.{corrected, stepAnswer}
-use Rattle.model.specs.Ceilings.{MeshSmall, StepSmall}
+use Rattle.model.specs.Causes.{accepted, refused, Verdict, fine, _andThen_, each, Call, release, waterOf, workEntries, bytesLong, stepLengths, meshLengths, meshTables, meshValues, fieldTable, stepTables, raisedGood, raisedValues, outsideGood, fluxGood, balanceGood, outflowGood, waterCauses, causesWithin, stepValues, stepCauses, verdict}
+use Rattle.model.specs.Calls.{stepAnswer}
+use Rattle.model.specs.Ceilings.{StepSmall}
 use Rattle.model.proofs.Verdicts.{both-fine, all-fine, fine-all, fine-each, past}
 use Rattle.model.proofs.Accepted.{Passed, passed}
-use Rattle.model.proofs.Ceilings.{old-meshes, old-steps}
+use Rattle.model.proofs.Ceilings.{old-steps}
 use Rattle.model.proofs.Parts.{long-met}
-use Rattle.cutting_parts.specs.Cut.{Tables, Lagoon, wholeMesh, wholeWater, stepOn, stepInput, inPart, touches, isCut, isTurned}
+use Rattle.cutting_parts.specs.Cut.{Tables, Lagoon, wholeMesh, stepOn, stepInput, inPart, touches, isCut, isTurned}
 use Rattle.cutting_parts.specs.Refusals.{cutCauses, cutVerdict}
 use Rattle.cutting_parts.specs.Parts.{TablesLong, LentAtCounts}
 use Rattle.cutting_parts.proofs.Entries.{cell, face, volume-is, release-is, reach-is, flux-is}
@@ -40,11 +40,10 @@ use Rattle.record_reading.specs.Reading.{meshIn, minusIn, sizeIn, fluxesIn, ste
 use Rattle.record_writing.specs.Writing.{mostOf, releaseFits, releasesFit, meshWriteVerdict, fieldWriteVerdict, stepWriteVerdict}
 use Rattle.taking_mesh.proofs.MeshLaws.{mesh-small}
 use Rattle.taking.specs.Taking.{blank, stepRecordFound}
-use Rattle.host_tested.specs.Tested.{fieldIn}
-use Rattle.host_cut_promises.specs.Cut.{Records, ownPart, piece, roomFinds, roomsFind, cutFinds, cutJudged, lagoonIn, cutTested}
-use Rattle.host_cut_promises.specs.Inner.{writersFind, recordsFind}
+use Rattle.host_cut_promises.specs.Cut.{Records, ownPart, piece, roomFinds, roomsFind, lagoonIn}
+use Rattle.host_cut_promises.specs.Inner.{writersFind, recordsFind, cutFinds, cutJudged, cutTaken}
 
-length-blank : {A : Type 0} (n : ℕ) (x : A) → length (blank n x) ≡ n
+pub length-blank : {A : Type 0} (n : ℕ) (x : A) → length (blank n x) ≡ n
 unfolding blank
 length-blank n x = length-replicate n x
 
@@ -264,16 +263,16 @@ module _ (mesh field step labels : List ℕ) (step-fine : stepRecordFound (width
   writers-left m f s = rw (mesh-left m, field-left f, step-left s)
 
 -- a verdict before two that are the same where it is fine
-after-same : (v : Verdict) {a b : Verdict} → (v ≡ fine → a ≡ b) → (v andThen a) ≡ (v andThen b)
+pub after-same : (v : Verdict) {a b : Verdict} → (v ≡ fine → a ≡ b) → (v andThen a) ≡ (v andThen b)
 unfolding _andThen_
 after-same (accepted t) e = e refl
 after-same (refused k i) e = refl
 
 pub rooms-left : (mesh field step labels : List ℕ) (lent₀ lent₁ : Records)
-    → (cutTested mesh field step labels andThen recordsFind (widthIn mesh) (kindIn step) (lagoonIn mesh field step) labels lent₀ lent₁)
-    ≡ (cutTested mesh field step labels andThen roomsFind (widthIn mesh) (kindIn step) (lagoonIn mesh field step) labels lent₀ lent₁)
+    → (cutTaken mesh field step labels andThen recordsFind (widthIn mesh) (kindIn step) (lagoonIn mesh field step) labels lent₀ lent₁)
+    ≡ (cutTaken mesh field step labels andThen roomsFind (widthIn mesh) (kindIn step) (lagoonIn mesh field step) labels lent₀ lent₁)
 unfolding cutJudged
-rooms-left mesh field step labels lent₀ lent₁ = after-same (cutTested mesh field step labels) (λ e.
+rooms-left mesh field step labels lent₀ lent₁ = after-same (cutTaken mesh field step labels) (λ e.
     let q = both-fine _ _ (both-fine _ _ (both-fine _ _ e .1) .1) in
     rw (
       writers-left mesh field step labels (q .0) (q .1) 0 (omega arith) (length (lent₀ .mesh)) (length (lent₀ .field)) (length (lent₀ .step)),
