@@ -23,11 +23,12 @@ use Rattle.host_read_promises.proofs.WriteSmall.{mesh-write-small, field-write-
 use Rattle.host_parts.proofs.Small.{cut-answer-small}
 use Rattle.host_tested.specs.Tested.{fieldIn}
 use Rattle.host_tested.proofs.Small.{few, field-tested-small, step-record-small}
-use Rattle.host_cut_promises.specs.Cut.{Records, ownPart, bothLengths, piece, recordsOver, cutFinds, cutJudged, labelsFind, labelled, lagoonIn, lengthsFound, cutTested, cutFound, CutFromC}
-use Rattle.host_cut_promises.specs.Inner.{writersFind, recordsFind, cutSaid, CutWritten, CutTaking}
+use Rattle.host_cut_promises.specs.Cut.{Records, ownPart, bothLengths, roomsFind, piece, recordsOver, labelsFind, labelled, lagoonIn, lengthsFound, cutTested, cutFound, CutFromC}
+use Rattle.host_cut_promises.specs.Inner.{writersFind, recordsFind, cutSaid, cutFinds, cutJudged, cutTaken, CutWritten, CutTaking}
 use Rattle.host_cut_promises.specs.declared.RecordsCut.{RecordsCut}
 use Rattle.host_cut_promises.proofs.Cut.{cut-past}
 use Rattle.host_cut_promises.proofs.Room.{rooms-left}
+use Rattle.host_cut_promises.proofs.Order.{cut-as-step}
 
 -- the first of two
 small-first : {A : Type 0} (v : Verdict) (w : Outcome A) → Small (v andThen w) → Small v
@@ -70,9 +71,10 @@ module _ (mesh field step labels : List ℕ) where
     pub cut-number : labelled mesh labels ≡ fine → {found : List ℕ} {r : ℕ} {found′ : List ℕ} → Answered lengthsFound (cutSaid a) found r found′
         → CutFromC mesh field step labels lent₀ lent₁ found r after₀ after₁ found′
     cut-number e {found = found} n =
-        let q : CutWritten (cutTested mesh field step labels) (widthIn mesh) (kindIn step) (lagoonIn mesh field step) labels lent₀ lent₁ a after₀ after₁ =
+        let q : CutWritten (cutTaken mesh field step labels) (widthIn mesh) (kindIn step) (lagoonIn mesh field step) labels lent₀ lent₁ a after₀ after₁ =
         cut-past e p in
-        let l = rooms-left mesh field step labels lent₀ lent₁ in
+        let l = rooms-left mesh field step labels lent₀ lent₁ ∙ ap (λ (v : Verdict). v andThen roomsFind (widthIn mesh) (kindIn step) (lagoonIn mesh field step)
+        labels lent₀ lent₁) (cut-as-step mesh field step labels) in
         let b = bothLengths (widthIn mesh) (kindIn step) (lagoonIn mesh field step) labels in
         record {
           answer = answered-as lengthsFound found (q .answer ∙ ap (λ (v : Verdict). v andThen accepted b) l) n;

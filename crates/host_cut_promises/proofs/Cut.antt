@@ -27,8 +27,8 @@ use Rattle.host_taking.specs.declared.FieldTaken.{FieldTaken}
 use Rattle.host_taking.specs.declared.FieldTaken.the-variants.{Taken}
 use Rattle.host_taking.proofs.Held.{tested-fine, all-as}
 use Rattle.host_record_promises.proofs.Read.{unread, read-fine, kind-read}
-use Rattle.host_cut_promises.specs.Cut.{Records, recordsOf, lengthsOf, recordsOver, piece, lagoonOn, cutJudged}
-use Rattle.host_cut_promises.specs.Inner.{writersFind, recordsFind, Wrote, PieceWritten, CutWritten, CutIn, CutOn, CutTaking}
+use Rattle.host_cut_promises.specs.Cut.{Records, recordsOf, lengthsOf, recordsOver, piece, lagoonOn}
+use Rattle.host_cut_promises.specs.Inner.{writersFind, recordsFind, cutJudged, Wrote, PieceWritten, CutWritten, CutIn, CutOn, CutTaking}
 use Rattle.host_cut_promises.specs.declared.PartLengths.{PartLengths}
 use Rattle.host_cut_promises.specs.declared.CutLengths.{CutLengths}
 use Rattle.host_cut_promises.specs.declared.RecordsCut.{RecordsCut}

@@ -1,3 +1,4 @@
 pub mod Cut
 pub mod Labels
 pub mod Room
+pub mod Order

@@ -40,10 +40,10 @@ use Rattle.record_reading.specs.Reading.{meshIn, minusIn, sizeIn, fluxesIn, ste
 use Rattle.record_writing.specs.Writing.{mostOf, releaseFits, releasesFit, meshWriteVerdict, fieldWriteVerdict, stepWriteVerdict}
 use Rattle.taking_mesh.proofs.MeshLaws.{mesh-small}
 use Rattle.taking.specs.Taking.{blank, stepRecordFound}
-use Rattle.host_cut_promises.specs.Cut.{Records, ownPart, piece, roomFinds, roomsFind, cutFinds, cutJudged, lagoonIn, cutTested}
-use Rattle.host_cut_promises.specs.Inner.{writersFind, recordsFind}
+use Rattle.host_cut_promises.specs.Cut.{Records, ownPart, piece, roomFinds, roomsFind, lagoonIn}
+use Rattle.host_cut_promises.specs.Inner.{writersFind, recordsFind, cutFinds, cutJudged, cutTaken}
 
-length-blank : {A : Type 0} (n : ℕ) (x : A) → length (blank n x) ≡ n
+pub length-blank : {A : Type 0} (n : ℕ) (x : A) → length (blank n x) ≡ n
 unfolding blank
 length-blank n x = length-replicate n x
 
@@ -263,16 +263,16 @@ module _ (mesh field step labels : List ℕ) (step-fine : stepRecordFound (width
   writers-left m f s = rw (mesh-left m, field-left f, step-left s)
 
 -- a verdict before two that are the same where it is fine
-after-same : (v : Verdict) {a b : Verdict} → (v ≡ fine → a ≡ b) → (v andThen a) ≡ (v andThen b)
+pub after-same : (v : Verdict) {a b : Verdict} → (v ≡ fine → a ≡ b) → (v andThen a) ≡ (v andThen b)
 unfolding _andThen_
 after-same (accepted t) e = e refl
 after-same (refused k i) e = refl
 
 pub rooms-left : (mesh field step labels : List ℕ) (lent₀ lent₁ : Records)
-    → (cutTested mesh field step labels andThen recordsFind (widthIn mesh) (kindIn step) (lagoonIn mesh field step) labels lent₀ lent₁)
-    ≡ (cutTested mesh field step labels andThen roomsFind (widthIn mesh) (kindIn step) (lagoonIn mesh field step) labels lent₀ lent₁)
+    → (cutTaken mesh field step labels andThen recordsFind (widthIn mesh) (kindIn step) (lagoonIn mesh field step) labels lent₀ lent₁)
+    ≡ (cutTaken mesh field step labels andThen roomsFind (widthIn mesh) (kindIn step) (lagoonIn mesh field step) labels lent₀ lent₁)
 unfolding cutJudged
-rooms-left mesh field step labels lent₀ lent₁ = after-same (cutTested mesh field step labels) (λ e.
+rooms-left mesh field step labels lent₀ lent₁ = after-same (cutTaken mesh field step labels) (λ e.
     let q = both-fine _ _ (both-fine _ _ (both-fine _ _ e .1) .1) in
     rw (
       writers-left mesh field step labels (q .0) (q .1) 0 (omega arith) (length (lent₀ .mesh)) (length (lent₀ .field)) (length (lent₀ .step)),

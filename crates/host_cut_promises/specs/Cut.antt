@@ -1,6 +1,6 @@
 -- Document 02, S-12, for a host in C: a lagoon in a mesh, a field and a step record, cut in two by a label for each cell, and each part in three
 -- records of its own: of the whole's width, the step of the whole's kind. The labels are judged after the mesh and before the field, as 23 and 24
--- follow 5 and come before 6; the room for the six records comes last.
+-- follow 5 and come before 6; then come field and step, as the step on records tests them, and the room for the six records last.
 use Prim.Native.Nat.{ℕ}
 use mathlib.Core.Path.{_≡_}
 use mathlib.Core.List.{List, [], _∷_}
@@ -10,15 +10,15 @@ use Rattle.lists.specs.Table.{over}
 use Rattle.model.specs.Mesh.{Mesh, runCells, runFaces}
 use Rattle.model.specs.Causes.{accepted, Verdict, _andThen_, granted, long, bytesLong}
 use Rattle.cutting_parts.specs.Cut.{Tables, tablesOf, Lagoon, lagoonOf, wholeMesh, partOf}
-use Rattle.cutting_parts.specs.Refusals.{labelValues, cutVerdict}
+use Rattle.cutting_parts.specs.Refusals.{labelValues}
 use Rattle.record_layouts.specs.Layouts.{meshKind, fieldKind, meshRecord, fieldRecord, stepRecord, meshLength, fieldLength, stepLength}
 use Rattle.record_layouts.specs.declared.Width.{Width}
 use Rattle.record_heads.specs.Heads.{kindIn, widthIn}
 use Rattle.record_reading.specs.Reading.{meshIn, fluxesIn, outsidesIn, releasesIn}
 use Rattle.taking_mesh.specs.MeshTaking.{meshJudgedInRun}
-use Rattle.taking.specs.Taking.{blank, stepRecordFound}
+use Rattle.taking.specs.Taking.{blank}
 use Rattle.host_answer.specs.Found.{Answered}
-use Rattle.host_tested.specs.Tested.{fieldTested, fieldIn}
+use Rattle.host_tested.specs.Tested.{fieldIn, stepTested}
 use Rattle.host_cut_promises.specs.declared.PartLengths.{PartLengths}
 use Rattle.host_cut_promises.specs.declared.CutLengths.{CutLengths}
 
@@ -85,13 +85,6 @@ abbrev pub lagoonRead : Mesh → (masses step : List ℕ) → Lagoon
 lagoonRead M masses step =
     lagoonOn M masses (fluxesIn step (M .faces)) (outsidesIn step (M .faces) (M .seconds)) (releasesIn step (M .cells) (M .faces) (M .seconds))
 
--- the causes of cutting, on tables and after those of reading the step
-abbrev pub cutFinds : Lagoon → List ℕ → Verdict
-cutFinds L labels = cutVerdict L labels ownPart ownPart
-
-unfoldable pub cutJudged : Width → Mesh → (masses step labels : List ℕ) → Verdict
-cutJudged w M masses step labels = stepRecordFound w M step andThen cutFinds (lagoonRead M masses step) labels
-
 -- the labels of so many cells, which look at nothing else of a lagoon: 2 with place 15, 23 and 24
 unfoldable pub labelsFind : (cells : ℕ) → List ℕ → Verdict
 labelsFind cells labels = long 15 cells (length labels) andThen labelValues (lagoonOf cells 0 ownPart) labels
@@ -112,7 +105,7 @@ module _ (mesh field step labels : List ℕ) where
   L = lagoonIn mesh field step
 
   abbrev pub cutTested : Verdict
-  cutTested = labelled mesh labels andThen (fieldTested mesh field andThen cutJudged (widthIn mesh) (meshIn mesh) (fieldIn mesh field) step labels)
+  cutTested = labelled mesh labels andThen stepTested mesh field step
 
   abbrev pub cutFound : Records → Records → Verdict
   cutFound lent₀ lent₁ = cutTested andThen roomsFind (widthIn mesh) (kindIn step) L labels lent₀ lent₁

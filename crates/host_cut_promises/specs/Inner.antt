@@ -8,14 +8,16 @@ use Rattle.model.specs.Mesh.{Mesh}
 use Rattle.model.specs.Answers.{told}
 use Rattle.model.specs.Causes.{Outcome, accepted, Verdict, fine, _andThen_, granted}
 use Rattle.cutting_parts.specs.Cut.{Lagoon, wholeMesh}
+use Rattle.cutting_parts.specs.Refusals.{cutVerdict}
 use Rattle.record_layouts.specs.declared.Width.{Width}
 use Rattle.record_heads.specs.Heads.{kindIn, widthIn}
 use Rattle.record_reading.specs.Reading.{meshIn}
 use Rattle.record_writing.specs.Writing.{meshWriteVerdict, fieldWriteVerdict, stepWriteVerdict}
 use Rattle.record_writing.specs.declared.WriteAnswer.{WriteAnswer}
 use Rattle.record_writing.specs.declared.WriteAnswer.the-variants as write
+use Rattle.taking.specs.Taking.{stepRecordFound}
 use Rattle.host_tested.specs.Tested.{fieldTested, fieldIn}
-use Rattle.host_cut_promises.specs.Cut.{Records, lengthsOf, meshBytes, fieldBytes, stepBytes, recordsOver, piece, bothLengths, lagoonRead, cutFinds, cutJudged, lagoonIn}
+use Rattle.host_cut_promises.specs.Cut.{Records, lengthsOf, meshBytes, fieldBytes, stepBytes, recordsOver, ownPart, piece, bothLengths, lagoonRead, labelled, lagoonIn}
 use Rattle.host_cut_promises.specs.declared.PartLengths.{PartLengths}
 use Rattle.host_cut_promises.specs.declared.CutLengths.{CutLengths}
 use Rattle.host_cut_promises.specs.declared.RecordsCut.{RecordsCut}
@@ -70,6 +72,17 @@ pub record CutWritten (v : Verdict) (w : Width) (kind : ℕ) (L : Lagoon) (label
   pub answer : cutSaid r ≡ (v andThen recordsFind w kind L labels lent₀ lent₁ andThen accepted (bothLengths w kind L labels))
   pub part-0 : after₀ ≡ granted (v andThen recordsFind w kind L labels lent₀ lent₁) (recordsOver w kind (piece L labels 0) lent₀) lent₀
   pub part-1 : after₁ ≡ granted (v andThen recordsFind w kind L labels lent₀ lent₁) (recordsOver w kind (piece L labels 1) lent₁) lent₁
+
+-- the causes of cutting, on tables and after those of reading the step
+abbrev pub cutFinds : Lagoon → List ℕ → Verdict
+cutFinds L labels = cutVerdict L labels ownPart ownPart
+
+unfoldable pub cutJudged : Width → Mesh → (masses step labels : List ℕ) → Verdict
+cutJudged w M masses step labels = stepRecordFound w M step andThen cutFinds (lagoonRead M masses step) labels
+
+abbrev pub cutTaken : (mesh field step labels : List ℕ) → Verdict
+cutTaken mesh field step labels =
+    labelled mesh labels andThen (fieldTested mesh field andThen cutJudged (widthIn mesh) (meshIn mesh) (fieldIn mesh field) step labels)
 
 -- on tables, on a mesh and a field that have been read, and on records
 abbrev pub CutIn : Width → ℕ → Lagoon → List ℕ → Records → Records → RecordsCut → Records → Records → Type 0

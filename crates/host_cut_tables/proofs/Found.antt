@@ -3,7 +3,7 @@ use Prim.Native.Nat.{ℕ}
 use mathlib.Core.Path.{_≡_, sym, _∙_}
 use mathlib.Core.List.{List}
 use lib.IntN.{ℤ, pos}
-use lib.ListN.{length, length-replicate}
+use lib.ListN.{length}
 use Rattle.model.specs.Mesh.{runCells, runFaces}
 use Rattle.model.specs.Causes.{Verdict, fine, _andThen_, counts}
 use Rattle.cutting_parts.specs.Cut.{Lagoon}
@@ -12,12 +12,9 @@ use Rattle.cutting_causes.specs.Lengths.{valuesFound, lengthsFound}
 use Rattle.cutting_causes.proofs.Groups.{lengths-first}
 use Rattle.cutting_tables.specs.Part.{Cuttable}
 use Rattle.cutting.proofs.Promised.{cuttable, room-0}
-use Rattle.taking.specs.Taking.{blank}
-use Rattle.host_cut_promises.specs.Cut.{ownPart, cutFinds}
-
-length-blank : {A : Type 0} (n : ℕ) (x : A) → length (blank n x) ≡ n
-unfolding blank
-length-blank n x = length-replicate n x
+use Rattle.host_cut_promises.specs.Cut.{ownPart}
+use Rattle.host_cut_promises.specs.Inner.{cutFinds}
+use Rattle.host_cut_promises.proofs.Room.{length-blank}
 
 module _ (L : Lagoon) (labels : List ℕ) where
   pub found-own : {v : Verdict} → v ≡ (lengthsFound (L .cells) (L .faces) (length (L .tables .volumes)) runCells runCells

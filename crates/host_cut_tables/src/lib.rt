@@ -14,8 +14,8 @@ ghost use Rattle.model.specs.Causes.{_andThen_};
 ghost use Rattle.model.specs.Answers.{said};
 ghost use Rattle.cutting_parts.specs.Cut.{tablesOf, lagoonOf};
 ghost use Rattle.record_layouts.specs.Layouts.{kindNumber};
-ghost use Rattle.host_cut_promises.specs.Cut.{recordsOf, cutFinds};
-ghost use Rattle.host_cut_promises.specs.Inner.{bothFind, CutIn};
+ghost use Rattle.host_cut_promises.specs.Cut.{recordsOf};
+ghost use Rattle.host_cut_promises.specs.Inner.{bothFind, cutFinds, CutIn};
 
 // What cutting refuses, and then the writers of both parts, before the first byte is touched.
 fn tested(
