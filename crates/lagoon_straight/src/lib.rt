@@ -43,7 +43,8 @@ pub fn put_step(
         (callOf (now (fluxes .entry)) (now (outsides .entry)) (now (next .entry)) (now (moved .entry)) (now (work .entry)) (now (releases .entry)))
         (now (bytes .entry)) r (now (bytes .exit)) ⌝ }
 {
-    let answer = transport::step(
+    let answer = transport::step_in(
+        false,
         cells,
         faces,
         volumes,
