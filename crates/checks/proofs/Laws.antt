@@ -17,12 +17,12 @@ use Rattle.model.specs.Causes.{Verdict, between, release, meshCauses, waterCaus
 use Rattle.model.specs.Claims.{maxClaim, claimTables, unworkedVerdict}
 use Rattle.model.specs.Accepted.{StepLent, MeshFit}
 use Rattle.model.specs.Calls.{massIn}
-use Rattle.model.proofs.Verdicts.{both-fine, fine-all, fine-each, andThen-assoc}
+use Rattle.model.proofs.Verdicts.{both-fine, all-fine, each-fine, fine-all, fine-each, andThen-assoc}
 use Rattle.model.proofs.Accepted.{counted, mesh-lent, field-lent, call-lent, mesh-fit, field-fit, water-fit, mass-small, second-most, flux-small}
 use Rattle.model.proofs.Claims.{claim-lent}
 use Rattle.model.proofs.Sizes.{total-most}
 use Rattle.model.proofs.Accepted.{field-passed}
-use Rattle.check_passing.specs.Passing.{FacesPass}
+use Rattle.check_passing.specs.Passing.{FacesShaped, FacesPass}
 use Rattle.checks.specs.Quick.{CellFine}
 
 -- cause 6 without a division
@@ -191,3 +191,10 @@ module _ (M : Mesh) (field : List ℕ) (k : Call) (h : (c : ℕ) → c < M .cell
   unfolding valuesVerdict
   all-pass = fine-all (meshValues ceiling M ∷ fieldValues M field ∷ raisedValues M field k ∷ stepValues ceiling M field k ∷ [])
       (mesh-passes, (salt-passes, (raised-passes, (water-passes, tt))))
+
+-- the faces of a mesh whose values are accepted
+pub faces-shaped : (M : Mesh) → meshValues ceiling M ≡ fine → FacesShaped (M .cells) (M .faces) (M .firsts) (M .seconds) (M .shares) (M .reaches)
+unfolding meshValues endsGood spacingGood
+faces-shaped M e f h =
+    let p = all-fine (meshCauses ceiling M) e in
+    (each-fine 4 (M .faces) (endsGood M) (p .1 .0) f h, each-fine 5 (M .faces) (spacingGood ceiling M) (p .1 .1 .0) f h)

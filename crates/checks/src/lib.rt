@@ -8,13 +8,20 @@ use model::Refusal;
 use model::needs::and_then;
 ghost use mathlib.Core.Path.{_≡_};
 ghost use Rattle.lists.specs.Fold.{sum};
-ghost use Rattle.model.specs.Mesh.{meshOf};
-ghost use Rattle.model.specs.Causes.{accepted, _andThen_, callOf, waterOf, countsWithin, meshVerdict, meshFieldVerdict, valuesVerdict, verdict, cellsOnly};
+ghost use Rattle.model.specs.Mesh.{meshOf, ceiling};
+ghost use Prim.Native.Nat.{_≤_};
+ghost use mathlib.Core.Bool.{true};
+ghost use lib.ListN.{length};
+ghost use Rattle.model.specs.Causes.{accepted, fine, meshValues, _andThen_, callOf, waterOf, countsWithin, meshVerdict, meshFieldVerdict, valuesVerdict, verdict, cellsOnly};
 ghost use Rattle.model.specs.Claims.{claimOf, unworkedVerdict};
 ghost use Rattle.model.specs.Accepted.{StepLent};
 ghost use Rattle.model.specs.Answers.{said};
 ghost use Rattle.model.specs.Calls.{massIn};
 ghost use Rattle.checks.specs.Total.{totalSaid};
+ghost use Rattle.checks.specs.Lent.{tablesLent};
+
+// The cells for which a short array is enough.
+const FEW: usize = 512;
 
 // The total of a field, or why there is none.
 pub enum TotalAnswer {
@@ -174,6 +181,162 @@ pub fn step_values(
     check_flows::values(cells, faces, volumes, firsts, seconds, fluxes)
 }
 
+// The same on lent room, of a mesh that may be known to be accepted. What the room holds is no matter, before or after.
+fn values_in(
+    known: bool,
+    cells: usize,
+    faces: usize,
+    volumes: &[u64],
+    firsts: &[u64],
+    seconds: &[u64],
+    shares: &[u64],
+    reaches: &[u64],
+    masses: &[u64],
+    fluxes: &[i64],
+    outsides: &[u64],
+    releases: &[u64],
+    room: &mut [u64],
+) -> Answer
+    requires { ⌜ StepLent
+        (meshOf cells faces (now volumes) (now firsts) (now seconds) (now shares) (now reaches))
+        (now masses)
+        (waterOf (now fluxes) (now outsides) (now releases)) ⌝ }
+    requires { ⌜ cells ≤ length (now room) ⌝ }
+    requires { ⌜ (known ≡ true → meshValues ceiling (meshOf cells faces (now volumes) (now firsts) (now seconds) (now shares) (now reaches)) ≡ fine) ⌝ }
+    ensures { λ r. ⌜ said r ≡ valuesVerdict
+        (meshOf cells faces (now (volumes .entry)) (now (firsts .entry)) (now (seconds .entry)) (now (shares .entry)) (now (reaches .entry)))
+        (now (masses .entry))
+        (waterOf (now (fluxes .entry)) (now (outsides .entry)) (now (releases .entry))) ⌝ }
+{
+    if quick::pass(
+        known,
+        cells,
+        faces,
+        volumes,
+        firsts,
+        seconds,
+        shares,
+        reaches,
+        masses,
+        fluxes,
+        outsides,
+        releases,
+        room,
+    ) {
+        return Answer::Done;
+    }
+    step_values(
+        cells,
+        faces,
+        volumes,
+        firsts,
+        seconds,
+        shares,
+        reaches,
+        masses,
+        fluxes,
+        outsides,
+        releases,
+    )
+}
+
+// The same in an array of its own, short for few cells: an array is cleared before it is filled.
+fn values_own(
+    cells: usize,
+    faces: usize,
+    volumes: &[u64],
+    firsts: &[u64],
+    seconds: &[u64],
+    shares: &[u64],
+    reaches: &[u64],
+    masses: &[u64],
+    fluxes: &[i64],
+    outsides: &[u64],
+    releases: &[u64],
+) -> Answer
+    requires { ⌜ StepLent
+        (meshOf cells faces (now volumes) (now firsts) (now seconds) (now shares) (now reaches))
+        (now masses)
+        (waterOf (now fluxes) (now outsides) (now releases)) ⌝ }
+    ensures { λ r. ⌜ said r ≡ valuesVerdict
+        (meshOf cells faces (now (volumes .entry)) (now (firsts .entry)) (now (seconds .entry)) (now (shares .entry)) (now (reaches .entry)))
+        (now (masses .entry))
+        (waterOf (now (fluxes .entry)) (now (outsides .entry)) (now (releases .entry))) ⌝ }
+{
+    if cells <= FEW {
+        let mut few = [0u64; FEW];
+        return values_in(
+            false,
+            cells,
+            faces,
+            volumes,
+            firsts,
+            seconds,
+            shares,
+            reaches,
+            masses,
+            fluxes,
+            outsides,
+            releases,
+            &mut few,
+        );
+    }
+    let mut room = [0u64; model::MAX_CELLS];
+    values_in(
+        false,
+        cells,
+        faces,
+        volumes,
+        firsts,
+        seconds,
+        shares,
+        reaches,
+        masses,
+        fluxes,
+        outsides,
+        releases,
+        &mut room,
+    )
+}
+
+// Causes 1 and 2.
+fn tables_lent(
+    cells: usize,
+    faces: usize,
+    volumes: &[u64],
+    firsts: &[u64],
+    seconds: &[u64],
+    shares: &[u64],
+    reaches: &[u64],
+    masses: &[u64],
+    fluxes: &[i64],
+    outsides: &[u64],
+    next: &[u64],
+    moved: &[i64],
+    work: &[u64],
+    releases: &[u64],
+) -> Answer
+    ensures { λ r. ⌜ said r ≡ tablesLent
+        (meshOf cells faces (now (volumes .entry)) (now (firsts .entry)) (now (seconds .entry)) (now (shares .entry)) (now (reaches .entry)))
+        (now (masses .entry))
+        (callOf (now (fluxes .entry)) (now (outsides .entry)) (now (next .entry)) (now (moved .entry)) (now (work .entry)) (now (releases .entry))) ⌝ }
+{
+    let a = check_lent::field_lent(
+        cells,
+        faces,
+        volumes,
+        firsts,
+        seconds,
+        shares,
+        reaches,
+        masses,
+    );
+    if let Answer::Refused(r) = a {
+        return Answer::Refused(r);
+    }
+    check_lent::step_lent(cells, faces, fluxes, outsides, next, moved, work, releases)
+}
+
 // Causes 1 to 10 and 18.
 pub fn check_step(
     cells: usize,
@@ -196,7 +359,7 @@ pub fn check_step(
         (now (masses .entry))
         (callOf (now (fluxes .entry)) (now (outsides .entry)) (now (next .entry)) (now (moved .entry)) (now (work .entry)) (now (releases .entry))) ⌝ }
 {
-    let a = check_lent::field_lent(
+    let a = tables_lent(
         cells,
         faces,
         volumes,
@@ -205,15 +368,76 @@ pub fn check_step(
         shares,
         reaches,
         masses,
+        fluxes,
+        outsides,
+        next,
+        moved,
+        work,
+        releases,
     );
     if let Answer::Refused(r) = a {
         return Answer::Refused(r);
     }
-    let b = check_lent::step_lent(cells, faces, fluxes, outsides, next, moved, work, releases);
-    if let Answer::Refused(r) = b {
+    values_own(
+        cells,
+        faces,
+        volumes,
+        firsts,
+        seconds,
+        shares,
+        reaches,
+        masses,
+        fluxes,
+        outsides,
+        releases,
+    )
+}
+
+// The same, of a mesh whose values may be known to be accepted, with the table of next masses as room: what it holds afterwards is no matter.
+pub fn check_step_in(
+    known: bool,
+    cells: usize,
+    faces: usize,
+    volumes: &[u64],
+    firsts: &[u64],
+    seconds: &[u64],
+    shares: &[u64],
+    reaches: &[u64],
+    masses: &[u64],
+    fluxes: &[i64],
+    outsides: &[u64],
+    next: &mut [u64],
+    moved: &[i64],
+    work: &[u64],
+    releases: &[u64],
+) -> Answer
+    requires { ⌜ (known ≡ true → meshValues ceiling (meshOf cells faces (now volumes) (now firsts) (now seconds) (now shares) (now reaches)) ≡ fine) ⌝ }
+    ensures { λ r. ⌜ said r ≡ verdict
+        (meshOf cells faces (now (volumes .entry)) (now (firsts .entry)) (now (seconds .entry)) (now (shares .entry)) (now (reaches .entry)))
+        (now (masses .entry))
+        (callOf (now (fluxes .entry)) (now (outsides .entry)) (now (next .entry)) (now (moved .entry)) (now (work .entry)) (now (releases .entry))) ⌝ }
+{
+    let a = tables_lent(
+        cells,
+        faces,
+        volumes,
+        firsts,
+        seconds,
+        shares,
+        reaches,
+        masses,
+        fluxes,
+        outsides,
+        next,
+        moved,
+        work,
+        releases,
+    );
+    if let Answer::Refused(r) = a {
         return Answer::Refused(r);
     }
-    if quick::pass(
+    values_in(
+        known,
         cells,
         faces,
         volumes,
@@ -225,21 +449,7 @@ pub fn check_step(
         fluxes,
         outsides,
         releases,
-    ) {
-        return Answer::Done;
-    }
-    step_values(
-        cells,
-        faces,
-        volumes,
-        firsts,
-        seconds,
-        shares,
-        reaches,
-        masses,
-        fluxes,
-        outsides,
-        releases,
+        next,
     )
 }
 

@@ -4,8 +4,8 @@ ghost use mathlib.Core.Path.{_≡_};
 ghost use mathlib.Core.Bool.{true};
 ghost use Prim.Native.Nat.{ℕ, _≤_, _<_};
 ghost use lib.ListN.{length, getD};
-ghost use Rattle.model.specs.Mesh.{meshOf};
-ghost use Rattle.model.specs.Causes.{fine, waterOf, valuesVerdict};
+ghost use Rattle.model.specs.Mesh.{meshOf, ceiling};
+ghost use Rattle.model.specs.Causes.{fine, waterOf, meshValues, valuesVerdict};
 ghost use Rattle.model.specs.Accepted.{StepLent};
 ghost use Rattle.checks.specs.Quick.{CellFine};
 
@@ -42,8 +42,9 @@ fn cells_fit(cells: usize, volumes: &[u64], masses: &[u64], releases: &[u64]) ->
     true
 }
 
-// All causes of values.
+// All causes of values, of a mesh that may be known to be accepted; the room is lent for sums, and what it holds is no matter.
 pub fn pass(
+    known: bool,
     cells: usize,
     faces: usize,
     volumes: &[u64],
@@ -55,11 +56,14 @@ pub fn pass(
     fluxes: &[i64],
     outsides: &[u64],
     releases: &[u64],
+    room: &mut [u64],
 ) -> bool
     requires { ⌜ StepLent
         (meshOf cells faces (now volumes) (now firsts) (now seconds) (now shares) (now reaches))
         (now masses)
         (waterOf (now fluxes) (now outsides) (now releases)) ⌝ }
+    requires { ⌜ cells ≤ length (now room) ⌝ }
+    requires { ⌜ (known ≡ true → meshValues ceiling (meshOf cells faces (now volumes) (now firsts) (now seconds) (now shares) (now reaches)) ≡ fine) ⌝ }
     ensures { λ r. ⌜ (r ≡ true → valuesVerdict
         (meshOf cells faces (now (volumes .entry)) (now (firsts .entry)) (now (seconds .entry)) (now (shares .entry)) (now (reaches .entry)))
         (now (masses .entry))
@@ -69,6 +73,7 @@ pub fn pass(
         return false;
     }
     check_passing::pass(
+        known,
         cells,
         faces,
         volumes,
@@ -78,5 +83,6 @@ pub fn pass(
         reaches,
         fluxes,
         outsides,
+        room,
     )
 }

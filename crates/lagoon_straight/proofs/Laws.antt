@@ -12,12 +12,11 @@ use Rattle.lists.specs.Table.{table, over}
 use Rattle.model.specs.Mesh.{Mesh, meshOf, runCells, runFaces, maxCells, maxFaces, ceiling}
 use Rattle.model.specs.Step.{StepInput, next}
 use Rattle.model.specs.Causes.{fine, each, long, Call, callOf, inputOf, countsWithin, counts, meshLengths, meshTables, volumeGood, meshCauses, meshValues, fieldTable, saltGood, fieldValues, meshFieldVerdict, verdict, cellsOnly}
-use Rattle.model.specs.Calls.{corrected}
 use Rattle.model.specs.declared.Answer.{Answer}
 use Rattle.model.specs.declared.Answer.the-variants.{Done}
 use Rattle.model.proofs.Verdicts.{all-fine, fine-all, both-fine, past, passes, long-fine, need-met}
 use Rattle.model.proofs.Accepted.{Passed, passed, counted}
-use Rattle.transport.specs.Promise.{StepPromise}
+use Rattle.transport.specs.Promise.{StepMade}
 use Rattle.transport.specs.declared.StepAnswer.{StepAnswer}
 use Rattle.transport.specs.declared.StepAnswer.the-variants as step-answer
 use Rattle.transport.specs.declared.Crossed.{Crossed}
@@ -52,8 +51,7 @@ put-done h q = record { done = λ e. (h, q); left = λ e. absurd (true≢false e
 
 -- a step of which nothing is found
 module _ {M : Mesh} {masses : List ℕ} {fluxes : List ℤ} {outsides nexts : List ℕ} {moveds : List ℤ} {work releases : List ℕ} {a : StepAnswer}
-    {nexts′ : List ℕ} {moveds′ : List ℤ} {work′ : List ℕ}
-    (p : StepPromise corrected M masses (callOf fluxes outsides nexts moveds work releases) a nexts′ moveds′ work′) {b : Crossed}
+    {nexts′ : List ℕ} (p : StepMade M masses (callOf fluxes outsides nexts moveds work releases) a nexts′) {b : Crossed}
     (d : a ≡ step-answer.Stepped b) where
   abbrev k : Call
   k = callOf fluxes outsides nexts moveds work releases

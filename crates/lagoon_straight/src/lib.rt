@@ -9,7 +9,6 @@ use record_layouts::lengths;
 use record_reading::MeshAnswer;
 use record_reading::StepRead;
 use transport::StepAnswer;
-use transport::Way;
 ghost use mathlib.Core.Path.{_≡_};
 ghost use Rattle.model.specs.Mesh.{meshOf, ceiling};
 ghost use Rattle.model.specs.Causes.{callOf, meshValues};
@@ -44,8 +43,8 @@ pub fn put_step(
         (callOf (now (fluxes .entry)) (now (outsides .entry)) (now (next .entry)) (now (moved .entry)) (now (work .entry)) (now (releases .entry)))
         (now (bytes .entry)) r (now (bytes .exit)) ⌝ }
 {
-    let answer = transport::step(
-        Way::Corrected,
+    let answer = transport::step_in(
+        false,
         cells,
         faces,
         volumes,

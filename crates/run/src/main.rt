@@ -9,8 +9,11 @@ use model::RUN_WORK;
 use record_layouts::Width;
 use record_reading::MeshAnswer;
 use run_session::LINES;
+ghost use mathlib.Core.Path.{_≡_};
 ghost use Prim.Native.Nat.{_≤_};
 ghost use lib.ListN.{length};
+ghost use Rattle.model.specs.Mesh.{meshOf, ceiling};
+ghost use Rattle.model.specs.Causes.{fine, meshValues};
 
 // The bytes that are read at once: one of the longest records, or many of a small lagoon's.
 const AHEAD: usize = 16384;
@@ -38,6 +41,7 @@ fn steps_in(
     lines: &mut [u8; LINES],
 ) -> bool
     requires { do ⌜ (← ⟦run_intake::RECORD⟧) ≤ length (now buffer) ⌝ }
+    requires { ⌜ meshValues ceiling (meshOf cells faces (now volumes) (now firsts) (now seconds) (now shares) (now reaches)) ≡ fine ⌝ }
 {
     let mut from = 0;
     let mut to = 0;
@@ -70,6 +74,7 @@ fn steps_in(
             return run_session::write(lines, unwritten);
         }
         let taken = taking_records::take_step_in(
+            true,
             width,
             cells,
             faces,
@@ -112,6 +117,7 @@ fn steps(
     masses: &mut [u64],
 ) -> bool
     requires { do ⌜ (← ⟦run_intake::RECORD⟧) ≤ length (now buffer) ⌝ }
+    requires { ⌜ meshValues ceiling (meshOf cells faces (now volumes) (now firsts) (now seconds) (now shares) (now reaches)) ≡ fine ⌝ }
 {
     let mut fluxes = [0i64; RUN_FACES];
     let mut outsides = [0u64; RUN_FACES];
@@ -154,6 +160,7 @@ fn run_on(
     reaches: &[u64],
 )
     requires { do ⌜ (← ⟦run_intake::RECORD⟧) ≤ length (now buffer) ⌝ }
+    requires { ⌜ meshValues ceiling (meshOf cells faces (now volumes) (now firsts) (now seconds) (now shares) (now reaches)) ≡ fine ⌝ }
 {
     let mut masses = [0u64; RUN_CELLS];
     let read = run_intake::field(width, cells, buffer);

@@ -14,13 +14,13 @@ use Rattle.model.specs.Mesh.{Mesh, total, runCells, runFaces}
 use Rattle.model.specs.Step.{StepInput, next, inMass, outMass, releasedMass}
 use Rattle.model.specs.Causes.{accepted, Verdict, fine, _andThen_, Call, callOf, workEntries, inputOf, stepLengths, stepCauses, stepTables, raisedValues, raisedGood, stepValues, outsideGood, fluxGood, balanceGood, outflowGood, verdict}
 use Rattle.model.specs.Answers.{number, told}
-use Rattle.model.specs.Calls.{Crossing, crossingOf, massIn, corrected, stepAnswer, nextTable}
+use Rattle.model.specs.Calls.{Crossing, crossingOf, massIn, stepAnswer}
 use Rattle.model.specs.declared.Refusal.{Refusal}
 use Rattle.model.proofs.Verdicts.{AllFine, all-fine, fine-all, both-fine, past, out, refused-of, accepted-of, long-fine}
 use Rattle.model.proofs.Accepted.{ready, passed, field-lent, call-lent}
 use Rattle.model.proofs.Sizes.{next-most, total-most}
 use Rattle.model.specs.Accepted.{Ready}
-use Rattle.transport.specs.Promise.{stepSaid, StepPromise}
+use Rattle.transport.specs.Promise.{stepSaid, StepMade}
 use Rattle.transport.specs.declared.StepAnswer.{StepAnswer}
 use Rattle.transport.specs.declared.StepAnswer.the-variants as step-answer
 use Rattle.transport.specs.declared.Crossed.{Crossed}
@@ -37,7 +37,7 @@ use Rattle.model.specs.declared.StepTaken.{StepTaken}
 use Rattle.model.specs.declared.StepTaken.the-variants as step-taken
 use Rattle.taking.specs.Taking.{blank, ownTables, printedOf, Stepping, stepIn, stepRecordFound, stepJudged, StepTaking}
 use Rattle.taking.specs.Inner.{SteppedIn}
-use Rattle.model.proofs.Parts.{PartRead, part-of, read-part, long-met}
+use Rattle.model.proofs.Parts.{PartRead, read-part, long-met}
 
 stepping-refused : (M : Mesh) (masses : List ℕ) {v : Verdict} (k : Call) (r : Refusal) → v ≡ told r → Stepping M masses v k (step-taken.Refused r) masses
 stepping-refused M masses k r e = record { answer = sym (out _ e); masses-after = rw e }
@@ -106,9 +106,8 @@ own-fine M masses fluxes outsides next moved work releases cells faces e =
     )
 
 -- the step on tables
-module _ {M : Mesh} {masses : List ℕ} {fluxes : List ℤ} {outsides nexts : List ℕ} {moveds : List ℤ} {work releases : List ℕ} {a : StepAnswer}
-    {nexts′ : List ℕ} {moveds′ : List ℤ} {work′ : List ℕ}
-    (p : StepPromise corrected M masses (callOf fluxes outsides nexts moveds work releases) a nexts′ moveds′ work′) where
+module _ {M : Mesh} {masses : List ℕ} {fluxes : List ℤ} {outsides nexts : List ℕ} {moveds : List ℤ} {work releases : List ℕ} {a : StepAnswer} {nexts′ : List ℕ}
+    (p : StepMade M masses (callOf fluxes outsides nexts moveds work releases) a nexts′) where
   abbrev k : Call
   k = callOf fluxes outsides nexts moveds work releases
 
@@ -124,14 +123,8 @@ module _ {M : Mesh} {masses : List ℕ} {fluxes : List ℤ} {outsides nexts : Li
     stepped-ready : Ready S
     stepped-ready = ready M masses k (crossed .0)
 
-    nexts-are : nexts′ ≡ over (table (M .cells) (next S)) nexts
-    unfolding nextTable next
-    nexts-are = let q = p .next-masses in rw (crossed .0) at q
-
     pub nexts-part : PartRead (M .cells) (table (M .cells) (next S)) nexts′
-    nexts-part =
-        let l = call-lent M masses k (passed M masses k (crossed .0) .step-tables-fine) .nexts-long in
-        record { fits = rw nexts-are (omega (arith, length-over (M .cells) (next S) nexts l)); part = rw nexts-are (part-of (M .cells) (next S) nexts) }
+    nexts-part = record { fits = p .next-long (crossed .0); part = p .next-masses (crossed .0) }
 
     masses-fit : M .cells ≤ length masses
     masses-fit = field-lent M masses (passed M masses k (crossed .0) .field-table-fine)

@@ -7,17 +7,18 @@ use model::StepTaken;
 use record_layouts::Width;
 use record_reading::StepRead;
 use transport::StepAnswer;
-use transport::Way;
 ghost use mathlib.Core.Path.{_≡_};
+ghost use mathlib.Core.Bool.{true};
 ghost use lib.ListN.{length};
-ghost use Rattle.model.specs.Mesh.{meshOf, runCells, runFaces};
-ghost use Rattle.model.specs.Causes.{workEntries};
+ghost use Rattle.model.specs.Mesh.{meshOf, runCells, runFaces, ceiling};
+ghost use Rattle.model.specs.Causes.{fine, workEntries, meshValues};
 ghost use Rattle.taking.specs.Taking.{StepTaking};
 ghost use Rattle.taking.specs.Inner.{SteppedIn};
 
 // A step through water that has been read: the masses become the next ones, unless it is refused. What the lent tables of results and work
 // hold is no matter, before or after.
 fn stepped(
+    known: bool,
     cells: usize,
     faces: usize,
     volumes: &[u64],
@@ -34,12 +35,13 @@ fn stepped(
     work: &mut [u64],
 ) -> StepTaken
     requires { ⌜ (length (now next) ≡ runCells) × (length (now moved) ≡ runFaces) × (length (now work) ≡ workEntries runCells runFaces) ⌝ }
+    requires { ⌜ (known ≡ true → meshValues ceiling (meshOf cells faces (now volumes) (now firsts) (now seconds) (now shares) (now reaches)) ≡ fine) ⌝ }
     ensures { λ r. ⌜ SteppedIn (meshOf cells faces (now (volumes .entry)) (now (firsts .entry)) (now (seconds .entry)) (now (shares .entry))
         (now (reaches .entry)))
         (now (masses .entry)) (now (fluxes .entry)) (now (outsides .entry)) (now (released .entry)) r (now (masses .exit)) ⌝ }
 {
-    let answer = transport::step(
-        Way::Corrected,
+    let answer = transport::step_in(
+        known,
         cells,
         faces,
         volumes,
@@ -69,8 +71,10 @@ fn stepped(
     }
 }
 
-// A step record on a mesh and a field, which are judged with it, in lent tables as long as the run's limits, whose entries are no matter.
+// A step record on a mesh and a field, which are judged with it, in lent tables as long as the run's limits, whose entries are no matter. Of a
+// mesh that is known to be accepted the values are not judged again.
 pub fn take_step_in(
+    known: bool,
     width: Width,
     cells: usize,
     faces: usize,
@@ -90,6 +94,7 @@ pub fn take_step_in(
 ) -> StepTaken
     requires { ⌜ (length (now fluxes) ≡ runFaces) × (length (now outsides) ≡ runFaces) × (length (now releases) ≡ runCells) ⌝ }
     requires { ⌜ (length (now next) ≡ runCells) × (length (now moved) ≡ runFaces) × (length (now work) ≡ workEntries runCells runFaces) ⌝ }
+    requires { ⌜ (known ≡ true → meshValues ceiling (meshOf cells faces (now volumes) (now firsts) (now seconds) (now shares) (now reaches)) ≡ fine) ⌝ }
     ensures { λ r. ⌜ StepTaking width (meshOf cells faces (now (volumes .entry)) (now (firsts .entry)) (now (seconds .entry)) (now (shares .entry))
         (now (reaches .entry)))
         (now (masses .entry)) (now (bytes .entry)) r (now (masses .exit)) ⌝ }
@@ -108,6 +113,7 @@ pub fn take_step_in(
         return StepTaken::Refused(refusal);
     }
     stepped(
+        known,
         cells,
         faces,
         volumes,
@@ -149,6 +155,7 @@ pub fn take_step(
     let mut moved = [0i64; RUN_FACES];
     let mut work = [0u64; RUN_WORK];
     take_step_in(
+        false,
         width,
         cells,
         faces,

@@ -1,7 +1,8 @@
 -- Each turn tests one face and counts its flux: the faces passed are fine, and the sums are theirs.
-use Prim.Native.Nat.{_+_, _-_, _*_, _≤_, zero-le}
-use mathlib.Core.Path.{_≡_, refl, sym, ap, _∙_}
+use Prim.Native.Nat.{ℕ, _-_, _*_, _≤_, zero-le}
+use mathlib.Core.Path.{_≡_, refl, sym, _∙_}
 use mathlib.Core.Bool.{true≢false}
+use mathlib.Core.List.{List}
 use native.Mathlib.Omega.{arith}
 use borrow.Author.Count.{below-none, below-more}
 use borrow.Author.Needs.{needs}
@@ -10,23 +11,20 @@ use mir.Val.{Fits}
 use mir.Syntax.{w64}
 use lib.IntN.{pos}
 use lib.ListN.{length, getD}
-use Rattle.lists.specs.Table.{table}
-use Rattle.lists.proofs.Tables.{length-table}
 use Rattle.lists.proofs.Turns.{turn-within, turn-less, turn-in, turn-next, turn-bytes}
 use Rattle.signed.specs.Sign.{isNegative, size}
-use Rattle.model.specs.Mesh.{maxCells}
-use Rattle.check_passing.specs.Passing.{FaceFine, FacesFine, countedBelow}
-use Rattle.check_passing.proofs.Laws.{ends-within, sums-start, room-left, counted-turn}
+use Rattle.check_passing.specs.Passing.{FaceFine, FacesFine, SumsAre}
+use Rattle.check_passing.proofs.Laws.{sums-start, room-left, amounts-small, counted-turn}
 use Rattle.check_passing.proofs.faces_fit.Statement.{statement}
 use Rattle.check_passing.proofs.faces_fit.Tie as tie
 
 abbrev Inv-loop : tie.InvT-loop
-Inv-loop cells faces firsts seconds shares reaches fluxes outsides sums₀ f₀ sums f =
+Inv-loop known cells faces firsts seconds shares reaches fluxes outsides sums₀ f₀ sums f =
     (f ≤ faces) × (length sums ≡ length sums₀) × FacesFine cells f firsts seconds shares reaches fluxes outsides
-    × (sums ≡ table (maxCells + 1) (countedBelow f firsts seconds fluxes))
+    × SumsAre cells f firsts seconds fluxes sums
 
 abbrev μ-loop : tie.MeasureT-loop
-μ-loop cells faces firsts seconds shares reaches fluxes outsides sums₀ f₀ sums f = faces - f
+μ-loop known cells faces firsts seconds shares reaches fluxes outsides sums₀ f₀ sums f = faces - f
 
 abbrev begun : tie.In-loop Inv-loop μ-loop → tie.Start Inv-loop μ-loop
 begun c = c .before .before .before .before .before .before .before .before
@@ -36,8 +34,12 @@ ended c = c .before .before .before .before .before .before .before .before
 
 loop-holds : tie.Need-loop-holds Inv-loop μ-loop
 loop-holds c =
-    let s = c .before .before .before .before .before .before in
-    (zero-le, refl, below-none _, sums-start (s .args .firsts .now) (s .args .seconds .now) (s .args .fluxes .now) (s .args .sums .now) (s .pre .1 .1))
+    let s = c .before .before .before .before .before .before in (
+      zero-le,
+      refl,
+      below-none _,
+      sums-start (s .args .firsts .now) (s .args .seconds .now) (s .args .fluxes .now) (s .args .cells) (s .args .sums .now) (s .pre .1 .1 .1),
+    )
 
 -- the places of a turn's entries are small
 bytes : (t : tie.In-loop Inv-loop μ-loop) → Fits w64 (t .before .loop .f * 8)
@@ -47,16 +49,20 @@ count-face-requires : tie.Need-count-face-requires Inv-loop μ-loop
 count-face-requires c κs =
     let t = c .before .before .before .before .before .before .before .before in
     let s = begun t in
-    let l = t .before .loop in (
-      (s .pre .0 .0, ap length (l .inv .3) ∙ length-table _ _),
-      room-left (s .args .firsts .now) (s .args .seconds .now) (s .args .fluxes .now) (s .args .cells) (l .f) (s .args .shares .now) (s .args .reaches .now)
-          (s .args .outsides .now) (l .sums)
-          (omega (arith, t .loop-test .taken, s .pre .0 .1)) (l .inv .2) (l .inv .3),
+    let l = t .before .loop in
+    let small = amounts-small (s .args .firsts .now) (s .args .seconds .now) (s .args .fluxes .now) (s .args .cells) (l .f) (s .args .shares .now)
+    (s .args .reaches .now) (s .args .outsides .now) (l .inv .2) in (
+      (s .pre .0 .0, omega (arith, l .inv .1, s .pre .0 .2), λ e. s .pre .1 .1 .0 e (l .f) (t .loop-test .taken)),
+      room-left (s .args .firsts .now) (s .args .seconds .now) (s .args .fluxes .now) (s .args .cells) (l .f) (l .sums)
+          (omega (arith, t .loop-test .taken, s .pre .0 .1)) small (l .inv .3),
     )
 
 -- the turn of a face that is counted
 abbrev turned : tie.After-count-face Inv-loop μ-loop → tie.In-loop Inv-loop μ-loop
 turned c = c .before .before .before .before .before .before .before .before .before
+
+abbrev after : tie.After-count-face Inv-loop μ-loop → List ℕ
+after c = c .count-face .last .1 .1 .1 .1 .1 .1 .1 .1 .1 .0
 
 loop-again : tie.Need-loop-again Inv-loop μ-loop
 loop-again c =
@@ -66,17 +72,16 @@ loop-again c =
     let l = t .before .loop in
     let z = q .before .before .before .before .before .before .before in
     let n = z .before .is-negative-at .ensures in
-    let done = q .count-face .ensures (not-false _ (c .if1 .left)) in
-    let w = ends-within (s .args .cells) _ _ (s .pre .0 .0) (done .0 .0) in
-    let sums-now = counted-turn (s .args .firsts .now) (s .args .seconds .now) (s .args .fluxes .now) (l .f) _ _ (l .sums) _ n (z .size-at .ensures) (w .0)
-    (w .1) (l .inv .3) (done .1) in (
+    let done = q .count-face .ensures (not-false _ (c .if1 .left)) in (
       turn-within (t .loop-test .taken),
-      ap length sums-now ∙ length-table _ _ ∙ sym (ap length (s .pre .1 .1) ∙ length-table _ _),
+      c .before .before .sums .given ∙ l .inv .1,
       below-more (λ g. FaceFine (s .args .cells) (getD (s .args .firsts .now) g 0) (getD (s .args .seconds .now) g 0) (getD (s .args .shares .now) g 0)
           (getD (s .args .reaches .now) g 0)
           (isNegative (getD (s .args .fluxes .now) g (pos 0))) (size (getD (s .args .fluxes .now) g (pos 0))) (getD (s .args .outsides .now) g 0)) (l .f)
           (l .inv .2) (rw (n, z .size-at .ensures) at (done .0)),
-      sums-now,
+      counted-turn (s .args .firsts .now) (s .args .seconds .now) (s .args .fluxes .now) (s .args .cells) (l .f) _ _ (l .sums) (after q) n
+          (z .size-at .ensures)
+          (l .inv .3) (done .1),
     )
 
 returns-2 : tie.Need-returns-2 Inv-loop μ-loop

@@ -1,4 +1,6 @@
 -- `put_step`: the counted part of the next masses is the field that the step leaves, which a record of this width holds.
+use mathlib.Core.Path.{sym}
+use mathlib.Core.Bool.{true≢false}
 use borrow.Author.Needs.{needs}
 use Rattle.model.proofs.Parts.{part-long}
 use Rattle.taking.proofs.StepLaws.{nexts-part}
@@ -15,7 +17,7 @@ to-moved c = c .before .before .before .before .before .before .before .before .
 abbrev to-work : tie.After-bytes → tie.After-work
 to-work c = c .before .before .before .before .before .before .before .before .before
 
-abbrev to-step : tie.Else1 → tie.After-step
+abbrev to-step : tie.Else1 → tie.After-step-in
 to-step c = c .before .before .before .before .before .before .before .before .before
 
 abbrev to-slice-known : tie.After-moved → tie.After-slice-known
@@ -55,25 +57,25 @@ same-length-10 : tie.Need-same-length-10
 same-length-10 c = c .before .bytes .given
 
 field-bytes-requires : tie.Need-field-bytes-requires
-field-bytes-requires c κs = few-cells (c .before .before .before .before .before .before .before .step .ensures) (c .enum-told .given .1)
+field-bytes-requires c κs = few-cells (c .before .before .before .before .before .before .before .step-in .ensures) (c .enum-told .given .1)
 
 slice-reshare-prefix-field : tie.Need-slice-reshare-prefix-field
-slice-reshare-prefix-field c = nexts-part (c .before .before .before .before .before .before .before .before .before .step .ensures)
+slice-reshare-prefix-field c = nexts-part (c .before .before .before .before .before .before .before .before .before .step-in .ensures)
     (c .before .before .enum-told .given .1) .fits
 
 slice-aggregate-field : tie.Need-slice-aggregate-field
-slice-aggregate-field c = part-long (nexts-part ((to-step (c .before)) .step .ensures) (c .before .before .before .enum-told .given .1))
+slice-aggregate-field c = part-long (nexts-part ((to-step (c .before)) .step-in .ensures) (c .before .before .before .enum-told .given .1))
 
 field-requires : tie.Need-field-requires
 field-requires c κs =
     let s = (to-start ((to-slice-known (c .before .before .before .before .before .before .before .before)))) in
-    put-asks ((to-step (c .before .before)) .step .ensures) (c .before .before .before .before .enum-told .given .1) (s .args .width) (s .pre)
+    put-asks ((to-step (c .before .before)) .step-in .ensures) (c .before .before .before .before .enum-told .given .1) (s .args .width) (s .pre)
     (c .before .before .before .field-bytes .ensures) (s .args .bytes .now) (c .before .before .if1 .left)
 
 returns-3 : tie.Need-returns-3
 returns-3 c =
     let s = (to-start ((to-slice-known ((to-moved (c .before .before)))))) in
-    step-put ((to-step (c .before .before .before .before .before)) .step .ensures)
+    step-put ((to-step (c .before .before .before .before .before)) .step-in .ensures)
     (c .before .before .before .before .before .before .before .enum-told .given .1) (s .args .width) (s .pre)
     (c .before .before .before .before .before .before .field-bytes .ensures) (s .args .bytes .now) (c .before .before .before .before .before .if1 .left)
     (c .before .before .field .ensures)
@@ -82,7 +84,7 @@ pub put-step-spec : {M : Type 1} → statement M
 put-step-spec =
     tie.close
     (tie.spec
-    (search needs)
+    (λ c κs e. absurd (true≢false (sym e)))
     (search needs)
     (search needs)
     same-length

@@ -38,7 +38,7 @@ step-requires : tie.Need-step-requires Inv-loop μ-loop
 step-requires c κs =
     let made = c .before .before .before .before in
     let l = turn made .loop in
-    (l .inv .2, l .inv .3, rw (l .inv .0) (start (turn made) .pre), omega (arith, made .make-room .ensures .0, c .step-arg3 .given .0))
+    (l .inv .2, l .inv .3, rw (l .inv .0) (start (turn made) .pre .0), omega (arith, made .make-room .ensures .0, c .step-arg3 .given .0))
 
 write-requires : tie.Need-write-requires Inv-loop μ-loop
 write-requires c κs =
@@ -48,9 +48,13 @@ write-requires c κs =
 take-step-in-requires : tie.Need-take-step-in-requires Inv-loop μ-loop
 take-step-in-requires c κs =
     let releases = c .before .before .before in
-    let outsides = releases .before in (
+    let outsides = releases .before in
+    let held = outsides .before .before .before .before .before .before .before .before .before in (
       (outsides .before .take-step-in-arg3 .given .0 .1, outsides .take-step-in-arg4 .given .0 .1, releases .take-step-in-arg5 .given .0 .1),
-      (c .before .before .take-step-in-arg6 .given .0 .1, c .before .take-step-in-arg7 .given .0 .1, c .take-step-in-arg8 .given .0 .1),
+      (
+        (c .before .before .take-step-in-arg6 .given .0 .1, c .before .take-step-in-arg7 .given .0 .1, c .take-step-in-arg8 .given .0 .1),
+        λ e. start (turn (room held)) .pre .1,
+      ),
     )
 
 add-requires : tie.Need-add-requires Inv-loop μ-loop

@@ -1,4 +1,4 @@
--- `stepped`: the counted part of the next masses is what `step` left there; copied, it is the field whose total is printed.
+-- `stepped`: the counted part of the next masses is what the step left there; copied, it is the field whose total is printed.
 use borrow.Author.Needs.{needs}
 use Rattle.model.proofs.Parts.{part-long}
 use Rattle.taking.proofs.StepLaws.{step-refused, nexts-part, copy-asks, sum-asks, step-done}
@@ -6,46 +6,46 @@ use Rattle.taking_records.proofs.step.stepped.Statement.{statement}
 use Rattle.taking_records.proofs.step.stepped.Tie as tie
 
 -- the start, past what is known of the lent tables
-abbrev begun : tie.After-step → tie.Start
+abbrev begun : tie.After-step-in → tie.Start
 begun c = let lent = c .before .before .before .before .before .before .before .before in lent .before .before .before .before .before .before .before
 
 -- where the step was made, from where it is known to be accepted
-abbrev stepped : tie.After-known-told2 → tie.After-step
+abbrev stepped : tie.After-known-told2 → tie.After-step-in
 stepped c = c .before .before .before .before .before .before .before .before
 
 slice-reshare-prefix-copy : tie.Need-slice-reshare-prefix-copy
-slice-reshare-prefix-copy c = nexts-part (stepped c .step .ensures) (c .before .answer2 .given .1) .fits
+slice-reshare-prefix-copy c = nexts-part (stepped c .step-in .ensures) (c .before .answer2 .given .1) .fits
 
 slice-aggregate-copy : tie.Need-slice-aggregate-copy
-slice-aggregate-copy c = let t = c .before in part-long (nexts-part (stepped t .step .ensures) (t .before .answer2 .given .1))
+slice-aggregate-copy c = let t = c .before in part-long (nexts-part (stepped t .step-in .ensures) (t .before .answer2 .given .1))
 
 copy-requires : tie.Need-copy-requires
-copy-requires c κs = let t = c .before .before in copy-asks (stepped t .step .ensures) (t .before .answer2 .given .1)
+copy-requires c κs = let t = c .before .before in copy-asks (stepped t .step-in .ensures) (t .before .answer2 .given .1)
 
 sum-of-requires : tie.Need-sum-of-requires
 sum-of-requires c κs =
     let copied = c .before .before .before in
     let t = copied .before .before .before in
-    sum-asks (stepped t .step .ensures) (t .before .answer2 .given .1) (copied .copy .ensures)
+    sum-asks (stepped t .step-in .ensures) (t .before .answer2 .given .1) (copied .copy .ensures)
 
 returns : tie.Need-returns
 returns c =
     let made = c .before .before .before .before .before .before .before .before in
     let s = begun made in
-    step-refused (made .step .ensures) (s .pre .0) (s .pre .1) (s .pre .2) (c .before .answer .given .1)
+    step-refused (made .step-in .ensures) (s .pre .0 .0) (s .pre .0 .1) (s .pre .0 .2) (c .before .answer .given .1)
 
 returns-2 : tie.Need-returns-2
 returns-2 c =
     let copied = c .before .before .before .before in
     let t = copied .before .before .before in
     let s = begun (stepped t) in
-    step-done (stepped t .step .ensures) (s .pre .0) (s .pre .1) (s .pre .2) (t .before .answer2 .given .1) (copied .copy .ensures) (c .sum-of .ensures)
+    step-done (stepped t .step-in .ensures) (s .pre .0 .0) (s .pre .0 .1) (s .pre .0 .2) (t .before .answer2 .given .1) (copied .copy .ensures) (c .sum-of .ensures)
 
 pub stepped-spec : {M : Type 1} → statement M
 stepped-spec =
     tie.close
     (tie.spec
-    (search needs)
+    (λ c κs. c .before .before .before .before .before .before .before .before .before .before .before .before .before .before .pre .1)
     (search needs)
     (search needs)
     slice-reshare-prefix-copy

@@ -60,6 +60,9 @@ slice-aggregate-stepped-3 c =
     let s = begun (reading t) in
     part-long (releases-part (s .args .width) (mesh s) (s .args .masses .now) (reading t .read-step .ensures) (t .enum-told .given .1))
 
+stepped-requires : tie.Need-stepped-requires
+stepped-requires c κs = let s = begun (reading (c .before .before .before .before .before .before .before)) in (s .pre .1 .0, s .pre .1 .1)
+
 returns-2 : tie.Need-returns-2
 returns-2 c =
     let u = c .before .before .before .before .before .before .before in
@@ -85,7 +88,7 @@ take-step-in-spec =
     slice-aggregate-stepped-2
     slice-reshare-prefix-stepped-3
     slice-aggregate-stepped-3
-    (search needs)
+    stepped-requires
     (search needs)
     (search needs)
     (search needs)
