@@ -1,6 +1,6 @@
 -- One face tested and counted, and what the sums say at the end.
-use Prim.Native.Nat.{ℕ, _+_, _*_, _/_, _%_, _^_, _≤_, _<_}
-use mathlib.Core.Path.{_≡_, refl, sym, ap, _∙_}
+use Prim.Native.Nat.{ℕ, _+_, _*_, _^_, _≤_, _<_}
+use mathlib.Core.Path.{_≡_, refl, sym, _∙_}
 use mathlib.Core.Logic.{_≢_}
 use mathlib.Core.Bool.{Bool, true, false, cond, _&&_, _||_}
 use mathlib.Core.List.{List}
@@ -9,16 +9,14 @@ use borrow.Author.Count.{below-more}
 use borrow.Author.Tests.{lt-ltb, le-ltb, le-leb, eq-eqb, ne-eqb, ltb-true, leb-true, eqb-true}
 use lib.Dec.{eqb, leb, ltb}
 use lib.IntN.{ℤ, pos}
-use lib.ListN.{length, getD, set, replicate, length-set, length-replicate, getD-replicate}
-use Rattle.lists.specs.Fold.{sum}
-use Rattle.lists.specs.Table.{table}
-use Rattle.lists.proofs.Tests.{Same, same, other, same?, cond-same, both-true}
+use lib.ListN.{length, getD, set, length-set}
+use Rattle.lists.proofs.Tests.{Same, same, same?, cond-same, both-true}
 use Rattle.lists.proofs.Sums.{sum-zero, sum-more}
-use Rattle.lists.proofs.Tables.{length-table, getD-table, is-table, table-cong, getD-set}
+use Rattle.lists.proofs.Tables.{getD-set}
 use Rattle.signed.specs.Sign.{isNegative, size}
 use Rattle.signed.proofs.Laws.{forward-is, backward-is}
-use Rattle.model.specs.Mesh.{Mesh, rim, maxCells, maxFaces, maxShare, maxConcentration, maxRimFlux, ceiling, entering, leaving, incoming, outgoing}
-use Rattle.model.specs.Causes.{fine, each, facesOnly, between, endsFit, spacingFit, outsideFit, fluxFit}
+use Rattle.model.specs.Mesh.{rim, maxCells, maxFaces, maxShare, maxConcentration, maxRimFlux, ceiling, entering, leaving, incoming, outgoing}
+use Rattle.model.specs.Causes.{fine, facesOnly, between, endsFit, spacingFit, fluxFit}
 use Rattle.model.proofs.Sizes.{incoming-most, outgoing-most}
 use Rattle.model.proofs.Verdicts.{fine-each}
 use Rattle.check_flows.specs.Flows.{inflow, outflow}
@@ -35,7 +33,8 @@ pub inside-shape : (cells first second share reach : ℕ) → second ≢ rim →
 inside-shape cells first second share reach i h k d s r =
     (rw (lt-ltb first cells h, lt-ltb second cells k, ne-eqb first second d), rw (ne-eqb second rim i, s, r))
 
-pub rim-water : (inward : Bool) (amount outside : ℕ) → amount ≤ ceiling → leb outside (cond inward maxConcentration 0) ≡ true → WaterFine rim 0 inward amount outside
+pub rim-water : (inward : Bool) (amount outside : ℕ) → amount ≤ ceiling → leb outside (cond inward maxConcentration 0) ≡ true
+    → WaterFine rim 0 inward amount outside
 rim-water inward amount outside u o = (o, le-leb amount ceiling u)
 
 pub inside-water : (second reach : ℕ) (inward : Bool) (amount outside : ℕ) → second ≢ rim → amount ≤ reach → eqb outside 0 ≡ true

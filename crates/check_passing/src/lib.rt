@@ -7,7 +7,7 @@ use signed::size_at;
 ghost use mathlib.Core.Path.{_≡_};
 ghost use mathlib.Core.Logic.{_≢_};
 ghost use mathlib.Core.Bool.{true, cond};
-ghost use Prim.Native.Nat.{ℕ, _+_, _*_, _≤_, _<_, _^_};
+ghost use Prim.Native.Nat.{ℕ, _*_, _≤_, _<_};
 ghost use lib.ListN.{length, getD};
 ghost use Rattle.model.specs.Mesh.{rim, maxCells, maxFaces, maxConcentration, ceiling};
 ghost use Rattle.check_passing.specs.Passing.{half, EndsIn, ShapeFine, WaterFine, FaceFine, FacesShaped, FacesFine, SumFits, RoomLeft, Counted, SumsAre, TablesLong, FacesPass};

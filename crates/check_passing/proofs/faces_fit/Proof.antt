@@ -1,5 +1,5 @@
 -- Each turn tests one face and counts its flux: the faces passed are fine, and the sums are theirs.
-use Prim.Native.Nat.{ℕ, _+_, _-_, _*_, _≤_, _<_, zero-le}
+use Prim.Native.Nat.{ℕ, _-_, _*_, _≤_, zero-le}
 use mathlib.Core.Path.{_≡_, refl, sym, _∙_}
 use mathlib.Core.Bool.{true≢false}
 use mathlib.Core.List.{List}

@@ -1,7 +1,6 @@
 -- The lengths, then the values: each part that is fine is passed, and the first that refuses is the answer.
 use mathlib.Core.Path.{sym, _∙_}
 use borrow.Author.Needs.{needs}
-use Rattle.model.specs.Mesh.{Mesh, meshOf}
 use Rattle.model.specs.Causes.{Call, callOf}
 use Rattle.model.proofs.Verdicts.{both-fine, past, out, refuses, passes}
 use Rattle.checks.proofs.Laws.{lengths-first, step-lent}
