@@ -5,10 +5,11 @@ use mathlib.Core.Logic.{_≢_}
 use mathlib.Core.Bool.{Bool, true, false, cond, _&&_, _||_}
 use mathlib.Core.List.{List}
 use native.Mathlib.Omega.{arith}
+use borrow.Author.Count.{below-more}
 use borrow.Author.Tests.{lt-ltb, le-ltb, le-leb, eq-eqb, ne-eqb, ltb-true, leb-true, eqb-true}
 use lib.Dec.{eqb, leb, ltb}
 use lib.IntN.{ℤ, pos}
-use lib.ListN.{length, getD, length-set}
+use lib.ListN.{length, getD, set, length-set}
 use Rattle.lists.proofs.Tests.{Same, same, same?, cond-same, both-true}
 use Rattle.lists.proofs.Sums.{sum-zero, sum-more}
 use Rattle.lists.proofs.Tables.{getD-set}
@@ -32,7 +33,8 @@ pub inside-shape : (cells first second share reach : ℕ) → second ≢ rim →
 inside-shape cells first second share reach i h k d s r =
     (rw (lt-ltb first cells h, lt-ltb second cells k, ne-eqb first second d), rw (ne-eqb second rim i, s, r))
 
-pub rim-water : (inward : Bool) (amount outside : ℕ) → amount ≤ ceiling → leb outside (cond inward maxConcentration 0) ≡ true → WaterFine rim 0 inward amount outside
+pub rim-water : (inward : Bool) (amount outside : ℕ) → amount ≤ ceiling → leb outside (cond inward maxConcentration 0) ≡ true
+    → WaterFine rim 0 inward amount outside
 rim-water inward amount outside u o = (o, le-leb amount ceiling u)
 
 pub inside-water : (second reach : ℕ) (inward : Bool) (amount outside : ℕ) → second ≢ rim → amount ≤ reach → eqb outside 0 ≡ true

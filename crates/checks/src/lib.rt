@@ -181,7 +181,8 @@ pub fn step_values(
     check_flows::values(cells, faces, volumes, firsts, seconds, fluxes)
 }
 
-// The same on lent room, of a mesh that may be known to be accepted. What the room holds is no matter, before or after.
+// The same on lent room, of a mesh whose values may be known to be accepted. What the room holds is no matter, before or after. The causes
+// are sought one by one from two places, so that they are not compiled into the step, with the arrays that they take.
 fn values_in(
     known: bool,
     cells: usize,
@@ -208,7 +209,22 @@ fn values_in(
         (now (masses .entry))
         (waterOf (now (fluxes .entry)) (now (outsides .entry)) (now (releases .entry))) ⌝ }
 {
-    if quick::pass(
+    if !quick::cells_fit(cells, volumes, masses, releases) {
+        return step_values(
+            cells,
+            faces,
+            volumes,
+            firsts,
+            seconds,
+            shares,
+            reaches,
+            masses,
+            fluxes,
+            outsides,
+            releases,
+        );
+    }
+    if check_passing::pass(
         known,
         cells,
         faces,
@@ -217,10 +233,8 @@ fn values_in(
         seconds,
         shares,
         reaches,
-        masses,
         fluxes,
         outsides,
-        releases,
         room,
     ) {
         return Answer::Done;

@@ -36,4 +36,5 @@ returns-3 c = let u = c .before .before in λ e. (fine (u .before .before), u .c
 pub count-face-spec : {M : Type 1} → statement M
 count-face-spec =
     tie.close
-    (tie.spec (λ c κs. (c .before .pre .0 .0, c .before .pre .0 .2)) (λ c e. absurd (true≢false (sym e))) (search needs) (λ c e. absurd (true≢false (sym e))) count-flux-requires (search needs) returns-3)
+    (tie.spec (λ c κs. (c .before .pre .0 .0, c .before .pre .0 .2)) (λ c e. absurd (true≢false (sym e))) (search needs)
+    (λ c e. absurd (true≢false (sym e))) count-flux-requires (search needs) returns-3)

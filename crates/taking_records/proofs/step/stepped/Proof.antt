@@ -5,9 +5,11 @@ use Rattle.taking.proofs.StepLaws.{step-refused, nexts-part, copy-asks, sum-ask
 use Rattle.taking_records.proofs.step.stepped.Statement.{statement}
 use Rattle.taking_records.proofs.step.stepped.Tie as tie
 
--- the start, past what is known of the lent tables
+abbrev lent : tie.After-step-in-arg4 → tie.Start
+lent c = c .before .before .before .before .before .before .before .before .before .before .before .before .before .before
+
 abbrev begun : tie.After-step-in → tie.Start
-begun c = let lent = c .before .before .before .before .before .before .before .before in lent .before .before .before .before .before .before .before
+begun c = lent (c .before)
 
 -- where the step was made, from where it is known to be accepted
 abbrev stepped : tie.After-known-told2 → tie.After-step-in
@@ -39,13 +41,14 @@ returns-2 c =
     let copied = c .before .before .before .before in
     let t = copied .before .before .before in
     let s = begun (stepped t) in
-    step-done (stepped t .step-in .ensures) (s .pre .0 .0) (s .pre .0 .1) (s .pre .0 .2) (t .before .answer2 .given .1) (copied .copy .ensures) (c .sum-of .ensures)
+    step-done (stepped t .step-in .ensures) (s .pre .0 .0) (s .pre .0 .1) (s .pre .0 .2) (t .before .answer2 .given .1) (copied .copy .ensures)
+    (c .sum-of .ensures)
 
 pub stepped-spec : {M : Type 1} → statement M
 stepped-spec =
     tie.close
     (tie.spec
-    (λ c κs. c .before .before .before .before .before .before .before .before .before .before .before .before .before .before .pre .1)
+    (λ c κs. lent c .pre .1)
     (search needs)
     (search needs)
     slice-reshare-prefix-copy
