@@ -3,7 +3,7 @@
 use Prim.Native.Nat.{ℕ, _≤_, _<_}
 use mathlib.Core.Path.{_≡_, refl, sym, ap, _∙_}
 use mathlib.Core.Bool.{Bool, true, false}
-use mathlib.Core.List.{List}
+use mathlib.Core.List.{List, [], _∷_}
 use lib.ListN.{length}
 use Rattle.lists.specs.Renumbering.{Renumbering}
 use Rattle.signed.specs.Sign.{turn}
@@ -13,7 +13,7 @@ use Rattle.model.specs.Causes.{accepted, refused, Verdict, fine, _andThen_, gra
 use Rattle.model.specs.Calls.{Crossing, Scheme, stepAnswer}
 use Rattle.model.specs.Accepted.{MeshLent, CallLent, MeshFit}
 use Rattle.model.specs.Alike.{AlikeMesh, AlikeCall}
-use Rattle.model.proofs.Verdicts.{both-fine}
+use Rattle.model.proofs.Verdicts.{AllFine, all-fine}
 use Rattle.model.proofs.Accepted.{counted, mesh-lent, mesh-fit, field-lent, call-lent, passed}
 use Rattle.model.proofs.AlikeFaces.{updated-alike}
 use Rattle.model.proofs.AlikeStages.{joined}
@@ -23,17 +23,18 @@ use Rattle.renumbered.proofs.NewMesh.{new-values}
 
 -- the parts of a mesh that is accepted
 module _ (M : Mesh) (e : meshVerdict M ≡ fine) where
-  pub fine-counts : counts M ≡ fine
+  parts : AllFine (counts M ∷ meshTables M ∷ meshValues ceiling M ∷ [])
   unfolding meshVerdict
-  fine-counts = both-fine _ _ (both-fine _ _ e .0) .0
+  parts = all-fine (counts M ∷ meshTables M ∷ meshValues ceiling M ∷ []) e
+
+  pub fine-counts : counts M ≡ fine
+  fine-counts = parts .0
 
   pub fine-values : meshValues ceiling M ≡ fine
-  unfolding meshVerdict
-  fine-values = both-fine _ _ e .1
+  fine-values = parts .1 .1 .0
 
   pub lent : MeshLent M
-  unfolding meshVerdict
-  lent = mesh-lent M (both-fine _ _ (both-fine _ _ e .0) .1)
+  lent = mesh-lent M (parts .1 .0)
 
   few : M .cells ≤ rim
   few = counted M fine-counts .few-cells
@@ -96,9 +97,9 @@ module _ {p : Bool} {M M′ : Mesh} {cell : Renumbering (M .cells)} {face : Renu
       go : (v : Verdict) → (counts M andThen meshTables M andThen fieldTable M field andThen stepTables M field k) ≡ v
           → withPlace p (verdict M′ field′ k′) ≡ withPlace p (verdict M field k)
       go (accepted t) e =
-          let q = both-fine _ _ e in
+          let q = all-fine (counts M ∷ meshTables M ∷ fieldTable M field ∷ stepTables M field k ∷ []) e in
           verdict-alike p M M′ cell face turns (m .cells-kept) (m .faces-kept) field field′ k k′
-          (both .long-alike (field-lent M field (both-fine _ _ (q .0) .1)) (call-lent M field k (q .1)))
+          (both .long-alike (field-lent M field (q .1 .1 .0)) (call-lent M field k (q .1 .1 .1 .0)))
           (m .tables-same) (both .field-same) (both .call-same) (ap (withPlace p) (fine-new m ∙ sym (fine-values M (m .mesh-fine))))
       go (refused i j) e = ap (withPlace p) (led M′ field′ k′ i j (lead-same ∙ e) ∙ sym (led M field k i j e))
 

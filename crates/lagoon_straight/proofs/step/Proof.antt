@@ -6,89 +6,44 @@ use Rattle.lagoon_straight.proofs.Laws.{undone, mesh-within, records-pu
 use Rattle.lagoon_straight.proofs.step.Statement.{statement}
 use Rattle.lagoon_straight.proofs.step.Tie as tie
 
-abbrev to-read-mesh : tie.After-volumes3 → tie.After-read-mesh
-to-read-mesh c = c .before .before .before .before .before .before .before .before .before
+-- from where the mesh is known to be read back to its reading and to the start, and from the end to there
+abbrev reading : tie.After-known-told → tie.After-read-mesh
+reading d = d .before .before .before .before .before .before .before .before
 
-abbrev to-reaches : tie.After-known-told → tie.After-reaches
-to-reaches c = c .before .before .before .before .before .before .before .before .before
+abbrev entered : tie.After-reaches → tie.Start
+entered c = c .before .before .before .before .before .before .before .before .before
 
-abbrev to-start : tie.After-reaches → tie.Start
-to-start c = c .before .before .before .before .before .before .before .before .before
+abbrev start : tie.After-known-told → tie.Start
+start d = entered (d .before .before .before .before .before .before .before .before .before)
 
-abbrev to-answer : tie.After-bytes → tie.After-answer
-to-answer c = c .before .before .before .before .before .before .before .before .before
-
-array-share-prefix-volumes : tie.Need-array-share-prefix-volumes
-array-share-prefix-volumes c = mesh-read (c .before .before .before .before .before .before .before .before .read-mesh .ensures)
-    (c .before .answer .given .1) .volumes-part .fits
-
-slice-aggregate-on-mesh : tie.Need-slice-aggregate-on-mesh
-slice-aggregate-on-mesh c = part-long (mesh-read (c .before .before .before .before .before .before .before .before .before .read-mesh .ensures)
-    (c .before .before .answer .given .1) .volumes-part)
-
-array-share-prefix-firsts : tie.Need-array-share-prefix-firsts
-array-share-prefix-firsts c = mesh-read (c .before .before .before .before .before .before .before .before .before .read-mesh .ensures)
-    (c .before .before .answer .given .1) .firsts-part .fits
-
-slice-aggregate-on-mesh-2 : tie.Need-slice-aggregate-on-mesh-2
-slice-aggregate-on-mesh-2 c = part-long (mesh-read ((to-read-mesh (c .before)) .read-mesh .ensures) (c .before .before .before .answer .given .1) .firsts-part)
-
-array-share-prefix-seconds : tie.Need-array-share-prefix-seconds
-array-share-prefix-seconds c = mesh-read ((to-read-mesh (c .before)) .read-mesh .ensures) (c .before .before .before .answer .given .1) .seconds-part .fits
-
-slice-aggregate-on-mesh-3 : tie.Need-slice-aggregate-on-mesh-3
-slice-aggregate-on-mesh-3 c = part-long (mesh-read ((to-read-mesh (c .before .before)) .read-mesh .ensures)
-    (c .before .before .before .before .answer .given .1) .seconds-part)
-
-array-share-prefix-shares : tie.Need-array-share-prefix-shares
-array-share-prefix-shares c = mesh-read ((to-read-mesh (c .before .before)) .read-mesh .ensures)
-    (c .before .before .before .before .answer .given .1) .shares-part .fits
-
-slice-aggregate-on-mesh-4 : tie.Need-slice-aggregate-on-mesh-4
-slice-aggregate-on-mesh-4 c = part-long (mesh-read ((to-read-mesh (c .before .before .before)) .read-mesh .ensures)
-    (c .before .before .before .before .before .answer .given .1) .shares-part)
-
-array-share-prefix-reaches : tie.Need-array-share-prefix-reaches
-array-share-prefix-reaches c = mesh-read ((to-read-mesh (c .before .before .before)) .read-mesh .ensures)
-    (c .before .before .before .before .before .answer .given .1) .reaches-part .fits
-
-slice-aggregate-on-mesh-5 : tie.Need-slice-aggregate-on-mesh-5
-slice-aggregate-on-mesh-5 c = part-long (mesh-read ((to-read-mesh (c .before .before .before .before)) .read-mesh .ensures)
-    (c .before .before .before .before .before .before .answer .given .1) .reaches-part)
+abbrev told : tie.After-on-mesh → tie.After-known-told
+told c = c .before .before .before .before .before .before .before
 
 on-mesh-requires : tie.Need-on-mesh-requires
-on-mesh-requires c κs = mesh-within (mesh-read ((to-read-mesh (c .before .before .before .before .before)) .read-mesh .ensures)
-    (c .before .before .before .before .before .before .before .answer .given .1))
+on-mesh-requires c κs =
+    let d = c .before .before .before .before .before .before in
+    mesh-within (mesh-read (reading d .read-mesh .ensures) (d .before .answer .given .1))
 
 returns-2 : tie.Need-returns-2
 returns-2 c =
-    let s = (to-start ((to-reaches (c .before .before .before .before .before .before .before .before .before)))) in
-    records-put (mesh-read ((to-read-mesh (c .before .before .before .before .before .before .before .before)) .read-mesh .ensures) ((to-answer
-    (c .before)) .answer .given .1)) (s .args .field .now) (s .args .step .now) (s .args .bytes .now) (c .before .before .on-mesh .ensures)
+    let d = told (c .before .before) in
+    let s = start d in
+    records-put (mesh-read (reading d .read-mesh .ensures) (d .before .answer .given .1))
+    (s .args .field .now) (s .args .step .now) (s .args .bytes .now) (c .before .before .on-mesh .ensures)
 
 pub step-spec : {M : Type 1} → statement M
 step-spec =
     tie.close
-    (tie.spec
-    (search needs)
-    (search needs)
-    (search needs)
-    (search needs)
-    (search needs)
-    (search needs)
-    (search needs)
-    (search needs)
-    (λ c. undone)
-    array-share-prefix-volumes
-    slice-aggregate-on-mesh
-    array-share-prefix-firsts
-    slice-aggregate-on-mesh-2
-    array-share-prefix-seconds
-    slice-aggregate-on-mesh-3
-    array-share-prefix-shares
-    slice-aggregate-on-mesh-4
-    array-share-prefix-reaches
-    slice-aggregate-on-mesh-5
-    on-mesh-requires
-    (search needs)
-    returns-2)
+    (tie.spec (search needs) (search needs) (search needs) (search needs) (search needs) (search needs) (search needs) (search needs) (λ c. undone)
+    (λ d. mesh-read (reading d .read-mesh .ensures) (d .before .answer .given .1) .volumes-part .fits)
+    (λ c. let d = c .before in part-long (mesh-read (reading d .read-mesh .ensures) (d .before .answer .given .1) .volumes-part))
+    (λ c. let d = c .before in mesh-read (reading d .read-mesh .ensures) (d .before .answer .given .1) .firsts-part .fits)
+    (λ c. let d = c .before .before in part-long (mesh-read (reading d .read-mesh .ensures) (d .before .answer .given .1) .firsts-part))
+    (λ c. let d = c .before .before in mesh-read (reading d .read-mesh .ensures) (d .before .answer .given .1) .seconds-part .fits)
+    (λ c. let d = c .before .before .before in part-long (mesh-read (reading d .read-mesh .ensures) (d .before .answer .given .1) .seconds-part))
+    (λ c. let d = c .before .before .before in mesh-read (reading d .read-mesh .ensures) (d .before .answer .given .1) .shares-part .fits)
+    (λ c. let d = c .before .before .before .before in part-long (mesh-read (reading d .read-mesh .ensures) (d .before .answer .given .1) .shares-part))
+    (λ c. let d = c .before .before .before .before in mesh-read (reading d .read-mesh .ensures) (d .before .answer .given .1) .reaches-part .fits)
+    (λ c. let d = c .before .before .before .before .before in
+    part-long (mesh-read (reading d .read-mesh .ensures) (d .before .answer .given .1) .reaches-part))
+    on-mesh-requires (search needs) returns-2)

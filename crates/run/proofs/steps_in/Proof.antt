@@ -27,7 +27,7 @@ abbrev room : tie.After-step Inv-loop μ-loop → tie.After-make-room Inv-loop �
 room c = c .before .before .before .before .before
 
 abbrev bytes : tie.After-tell Inv-loop μ-loop → tie.After-buffer Inv-loop μ-loop
-bytes c = c .before .before .before .before .before .before .before .before .before .before .before .before .before .before .before .before
+bytes c = let taken = c .before .before .before .before .before .before .before .before in taken .before .before .before .before .before .before .before .before
 
 -- the line that is told fits where room was made
 short : (t : tie.After-tell Inv-loop μ-loop) → t .tell .result .line .used ≤ lineBytes
