@@ -38,9 +38,10 @@ use Rattle.model.proofs.Unfolded.{of-sums, of-faces, of-stages, of-causes}
 use Rattle.text.specs.Digits.{digits}
 use Rattle.text.specs.Lines.{word, mark}
 use Rattle.run_intake.specs.Intake.{stillNeeded, recordAt}
+use Rattle.run_board.specs.BoardLines.{boardLines}
 use Rattle.run_lines.specs.Lines.{refusalLine, stepLine, refusedStepLine, boardLine}
 use Rattle.run_session.specs.Session.{stepText, goesOnAfter}
-use Rattle.run_printed.specs.Run.{meshAt, fieldAt, stepAt, following, inTable, inTables, runMesh, boardLines, boardPrinted, stepComesTo, fieldThen, stepsPrinted, fieldSaid, fromField}
+use Rattle.run_printed.specs.Run.{meshAt, fieldAt, stepAt, following, inTable, inTables, runMesh, boardPrinted, stepComesTo, fieldThen, stepsPrinted, fieldSaid, fromField}
 use Rattle.run_printed.specs.Run.{fieldPrinted, meshSaidOf, fromMesh, printed}
 
 -- an accepted mesh, an accepted field and an accepted step: what is printed after them
