@@ -1,4 +1,4 @@
--- What the total of a field answers.
+-- Document 01, "One step", its last sentence: what the total of a field answers.
 use Prim.Native.Nat.{ℕ}
 use Rattle.model.specs.Causes.{Outcome, accepted}
 use Rattle.model.specs.Answers.{told}

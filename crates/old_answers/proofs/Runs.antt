@@ -26,8 +26,9 @@ use Rattle.taking.specs.Taking.{stepIn, printedOf}
 use Rattle.model.specs.declared.Printed.{Printed}
 use Rattle.run_lines.specs.Lines.{stepLine}
 use Rattle.run_intake.specs.Intake.{stillNeeded, recordAt}
+use Rattle.run_board.specs.BoardLines.{boardLines}
 use Rattle.run_session.specs.Session.{stepText, goesOnAfter}
-use Rattle.run_printed.specs.Run.{inTable, inTables, following, boardLines, boardPrinted, stepComesTo, fieldThen, stepsPrinted, fieldSaid, fromField, fieldPrinted, runMesh, meshSaidOf, fromMesh, printed}
+use Rattle.run_printed.specs.Run.{inTable, inTables, following, boardPrinted, stepComesTo, fieldThen, stepsPrinted, fieldSaid, fromField, fieldPrinted, runMesh, meshSaidOf, fromMesh, printed}
 use Rattle.old_answers.specs.Before.{oldMeshIn, oldStepIn, oldMeshNeeds, oldMeshJudged, oldFieldJudged, oldStepJudged}
 use Rattle.old_answers.specs.BeforeRun.{oldMeshAt, oldFieldAt, oldStepAt, oldBoardPrinted, oldStepSaid, oldFieldThen, oldStepsPrinted, oldFromField, oldFieldPrinted, oldFromMesh, oldPrinted}
 use Rattle.old_answers.proofs.Outcomes.{same-after, filled}

@@ -11,8 +11,9 @@ use Rattle.taking.specs.Taking.{printedOf, massesAfter}
 use Rattle.model.specs.declared.Printed.{Printed}
 use Rattle.run_lines.specs.Lines.{letterM, letterF, refusalLine, stepLine}
 use Rattle.run_intake.specs.Intake.{recordAt}
+use Rattle.run_board.specs.BoardLines.{boardLines}
 use Rattle.run_session.specs.Session.{stepText, goesOnAfter}
-use Rattle.run_printed.specs.Run.{inTable, inTables, following, boardLines}
+use Rattle.run_printed.specs.Run.{inTable, inTables, following}
 use Rattle.old_answers.specs.Before.{oldMeshIn, oldMassesIn, oldStepIn, oldMeshNeeds, oldFieldNeeds, oldStepNeeds, oldMeshJudged, oldCellsVerdict, oldFieldJudged, oldStepJudged}
 
 -- a record at the front of the input: its head of 4 or 2 bytes, and what that asks for

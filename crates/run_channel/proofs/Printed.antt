@@ -2,7 +2,7 @@
 -- of them. Each record, each answer and each field is computed from the definitions; the laws before them, of either width, put the parts
 -- together as `printed` does.
 use Prim.Native.Nat.{ℕ, suc, _+_, _≤_}
-use mathlib.Core.Path.{_≡_, refl, ap, _∙_}
+use mathlib.Core.Path.{_≡_, refl, sym, ap, subst, _∙_}
 use mathlib.Core.Bool.{cond}
 use mathlib.Core.List.{List, [], _∷_, _++_}
 use lib.IntN.{ℤ, pos, negsuc}
@@ -18,19 +18,20 @@ use Rattle.model.specs.Step.{next, inMass, outMass, releasedMass}
 use Rattle.model.specs.Causes.{Outcome, accepted, Verdict, fine, inTurn, long, Call, inputOf, workEntries, _andThen_, need, counts, meshTables, meshValues}
 use Rattle.model.specs.Causes.{fieldTable, fieldValues, stepTables, raisedValues, stepValues, verdict}
 use Rattle.model.proofs.Figures.{channel, largeStrait}
+use Rattle.model.proofs.Verdicts.{accepted-of}
 use Rattle.record_bits.specs.Field.{bitAt, bitsAt}
 use Rattle.record_bits.specs.Layout.{bytesFor}
 use Rattle.record_sections.specs.Sections.{those}
-use Rattle.record_layouts.specs.Layouts.{valueBits, massBits, releaseBits, meshLength, fieldLength, stepLength}
+use Rattle.record_layouts.specs.Layouts.{meshHeadBits, fieldHeadBits, stepHeadBits, valueBits, massBits, releaseBits, meshLength, fieldLength, stepLength}
 use Rattle.record_layouts.specs.declared.Width.{Width}
 use Rattle.record_layouts.specs.declared.Width.the-variants.{Narrow, Wide}
 use Rattle.record_zeros.specs.Zeros.{zeroBitGood, minusZero}
-use Rattle.record_reading.specs.Reading.{meshIn, volumesIn, firstsIn, secondsIn, sharesIn, reachesIn, massesIn, fluxesIn, outsidesIn, releasesIn, meshBitGood, stepBitGood}
+use Rattle.record_reading.specs.Reading.{meshIn, countsIn, volumesIn, firstsIn, secondsIn, sharesIn, reachesIn, massesIn, fluxesIn, outsidesIn, releasesIn, meshBitGood, stepBitGood}
 use Rattle.record_heads.specs.Heads.{kindIn, meshHeadVerdict, fieldHeadVerdict, stepHeadVerdict, meshMeasured, meshNeeds, fieldNeeds, stepNeeds}
 use Rattle.record_reading.specs.Reading.{meshBodyVerdict, fieldBodyVerdict, stepBodyVerdict, fieldRead}
 use Rattle.record_reading.specs.declared.MeshCounts.{MeshCounts}
 use Rattle.board_order.specs.Order.{rankedOf, fuller, asFull, comesBefore, insertInOrder, inOrder}
-use Rattle.board.specs.Board.{entryOf, entryAt, rankedAt, cellBefore, listedOf}
+use Rattle.board.specs.Board.{entryOf, entryAt, rankedAt, cellBefore, listedOf, boardVerdict}
 use Rattle.taking_mesh.specs.MeshTaking.{meshRecordFound, meshJudged}
 use Rattle.taking.specs.Taking.{fieldJudged, stepRecordFound, stepJudged, stepIn, ownTables, blank, printedOf, massesAfter}
 use Rattle.model.specs.declared.Printed.{Printed}
@@ -38,10 +39,14 @@ use Rattle.model.proofs.Unfolded.{of-sums, of-faces, of-stages, of-causes}
 use Rattle.text.specs.Digits.{digits}
 use Rattle.text.specs.Lines.{word, mark}
 use Rattle.run_intake.specs.Intake.{stillNeeded, recordAt}
+use Rattle.run_board.specs.BoardLines.{boardLines}
 use Rattle.run_lines.specs.Lines.{refusalLine, stepLine, refusedStepLine, boardLine}
-use Rattle.run_session.specs.Session.{stepText, goesOnAfter}
-use Rattle.run_printed.specs.Run.{meshAt, fieldAt, stepAt, following, inTable, inTables, runMesh, boardLines, boardPrinted, stepComesTo, fieldThen, stepsPrinted, fieldSaid, fromField}
+use Rattle.run_session.specs.Session.{startText, stepText, goesOnAfter}
+use Rattle.run_printed.specs.Run.{meshAt, fieldAt, stepAt, following, inTable, inTables, runMesh, boardPrinted, stepComesTo, fieldThen, stepsPrinted, fieldSaid, fromField}
 use Rattle.run_printed.specs.Run.{fieldPrinted, meshSaidOf, fromMesh, printed}
+use Rattle.run_printed.specs.Program.{StepsPrint, FieldPrints, Prints}
+use Rattle.run_printed.proofs.Prints.{prints}
+use Rattle.run_printed.proofs.Accepted.{board-run, step-run, field-run, mesh-run}
 
 -- an accepted mesh, an accepted field and an accepted step: what is printed after them
 from-mesh : (input bs rest text : List ℕ) (counts : MeshCounts) → meshAt input ≡ bs → following bs input ≡ rest → meshSaidOf bs ≡ accepted counts
@@ -461,6 +466,52 @@ text-is = refl
 
 pub channel-printed : printed channelInput ≡ channelText
 channel-printed = lines ∙ text-is
+
+-- the run that the program makes of it, call by call
+mesh-asks : meshNeeds runCells runFaces (take (bytesFor meshHeadBits) channelInput) ≡ accepted (length channelMesh)
+unfolding everything
+mesh-asks = refl
+
+field-asks : fieldNeeds Narrow 3 (take (bytesFor fieldHeadBits) (channelField ++ (channelStep ++ channelStep))) ≡ accepted (length channelField)
+unfolding everything
+field-asks = refl
+
+step-asks : (rest : List ℕ) → stepNeeds Narrow 3 4 (M .seconds) (take (bytesFor stepHeadBits) (channelStep ++ rest)) ≡ accepted 16
+unfolding of-bits
+step-asks rest = step-needs Narrow M stepHead 3 16 step-head step-kind step-length
+
+width-is : countsIn channelMesh .width ≡ Narrow
+unfolding everything
+width-is = refl
+
+board-fine : boardVerdict (M .volumes) field₂ 3 ≡ fine
+unfolding everything
+board-fine = refl
+
+abbrev stepsText : List ℕ
+stepsText = stepLine 1 50000 0 150000 0 ++ (stepLine 2 50000 0 200000 0 ++ boardPrinted M field₂)
+
+made-steps : StepsPrint Narrow M 1 field₀ (channelStep ++ channelStep) stepsText
+made-steps =
+    let said₁ = step-said Narrow M channelStep call read-fine call-is field₀ field₁ _ verdict₁ printed₁ moves₁ in
+    let then₁ = field-then Narrow M channelStep call read-fine call-is field₀ field₁ _ verdict₁ printed₁ moves₁ in
+    let said₂ = step-said Narrow M channelStep call read-fine call-is field₁ field₂ _ verdict₂ printed₂ moves₂ in
+    let then₂ = field-then Narrow M channelStep call read-fine call-is field₁ field₂ _ verdict₂ printed₂ moves₂ in
+    let last = board-run Narrow M {step = 3} {masses = field₂} board-fine in
+    let second = step-run Narrow M {step = 2} _ (step-asks []) (step-at []) (omega arith) refl said₂ then₂ last in
+    step-run Narrow M {step = 1} _ (step-asks channelStep) (step-at channelStep) (omega arith) refl said₁ then₁ second
+
+made-run : Prints channelInput (startText 100000 ++ stepsText)
+made-run =
+    let rest = channelField ++ (channelStep ++ channelStep) in
+    let steps = subst (λ (ms : List ℕ). StepsPrint Narrow M 1 (inTable runCells ms) (channelStep ++ channelStep) stepsText) (sym field-is) made-steps in
+    let field = field-run Narrow M field-asks field-front refl field-said steps in
+    mesh-run mesh-asks mesh-front refl (accepted-of _ _ _ (sym mesh-said) .0)
+    (subst (λ (u : Width). FieldPrints u (runMesh channelMesh) rest (startText 100000 ++ stepsText)) (sym width-is)
+    (subst (λ (N : Mesh). FieldPrints Narrow (inTables N) rest (startText 100000 ++ stepsText)) (sym mesh-is) field))
+
+pub channel-run : Prints channelInput channelText
+channel-run = subst (λ (out : List ℕ). Prints channelInput out) (prints made-run ∙ channel-printed) made-run
 
 -- Document 02, S-10: a lagoon of one cell of V 65,535, and its field of kind 6
 abbrev pub wideMesh : List ℕ

@@ -9,7 +9,7 @@ use lib.ListN.{length, take, drop, length-take, length-drop}
 use lib.Seq.{take-all, take-take, length-take-le}
 use Rattle.lists.proofs.Tests.{Fits, fits, exceeds, fits?}
 use Rattle.model.specs.Causes.{Outcome}
-use Rattle.run_intake.specs.Intake.{stillNeeded, recordAsks, recordAt, held, HeldAhead, SomeTaken, RecordTaken}
+use Rattle.run_intake.specs.Intake.{stillNeeded, recordAsks, recordAt, held, HeldAhead, heldAnew, SomeTaken, RecordTaken}
 use Rattle.run_intake.specs.declared.Held.{Held}
 
 -- of what is held the first bytes are those of the buffer
@@ -17,25 +17,25 @@ held-front : (n : ℕ) (buffer : List ℕ) (from to : ℕ) → n ≤ to - from �
 held-front n buffer from to h = take-take n (to - from) (drop from buffer) h
 
 -- nothing was read
-pub kept-same : (buffer : List ℕ) (from end to unwritten : ℕ) (failed : _) → from ≤ end → end ≤ to → to ≤ length buffer
-    → HeldAhead buffer from to unwritten buffer (record { from = from; end = end; to = to; unwritten = unwritten; failed = failed })
-kept-same buffer from end to unwritten failed h l m = record {
+pub kept-same : (buffer : List ℕ) (from end to unwritten left : ℕ) (failed : Bool) → from ≤ end → end ≤ to → to ≤ length buffer → left ≡ unwritten
+    → HeldAhead buffer from to unwritten buffer (record { from = from; end = end; to = to; unwritten = left; failed = failed })
+kept-same buffer from end to unwritten left failed h l m e = record {
   begins = h;
   ends = l;
   within = m;
   front = held-front (to - from) buffer from to (omega arith);
-  fewer = omega arith;
-  none-dropped = λ b. refl;
+  fewer = omega (arith, e);
+  none-dropped = λ b. e;
   lines-first = λ b. absurd (omega (arith, b));
 }
 
 -- what was held moved to the front, and more after it
-pub kept-more : (before moved after : List ℕ) (from end to come unwritten : ℕ) (failed : _) → end ≤ come → come ≤ length after → to - from ≤ come
+pub kept-more : (before moved after : List ℕ) (from to wanted come unwritten : ℕ) (failed : Bool) → come ≤ length after → to - from ≤ come
     → take (to - from) moved ≡ held before from to → take (to - from) after ≡ take (to - from) moved
-    → HeldAhead before from to unwritten after (record { from = 0; end = end; to = come; unwritten = 0; failed = failed })
-kept-more before moved after from end to come unwritten failed h l k e f = record {
+    → HeldAhead before from to unwritten after (heldAnew wanted come failed)
+kept-more before moved after from to wanted come unwritten failed l k e f = record {
   begins = omega arith;
-  ends = h;
+  ends = omega arith;
   within = l;
   front = held-front (to - from) after 0 come (omega arith) ∙ f ∙ e;
   fewer = omega arith;

@@ -1,7 +1,7 @@
 -- Document 01, "The board and the run": what a record of the input is, how much of it is still to be read, and what is held of the input.
 use Prim.Native.Nat.{ℕ, _+_, _-_, _*_, _≤_, _<_, min}
 use mathlib.Core.Path.{_≡_}
-use mathlib.Core.Bool.{true, false}
+use mathlib.Core.Bool.{Bool, true, false}
 use mathlib.Core.List.{List}
 use lib.ListN.{length, take, drop}
 use Rattle.model.specs.Mesh.{runCells, runFaces}
@@ -55,6 +55,10 @@ pub record HeldAhead (buffer : List ℕ) (from to unwritten : ℕ) (buffer′ : 
 -- What is held as it was, of which so many bytes are taken.
 abbrev pub heldStill : ℕ → ℕ → ℕ → ℕ → Held
 heldStill from taken to unwritten = record { from = from; end = from + taken; to = to; unwritten = unwritten; failed = false }
+
+-- What is held after a read: as many bytes as have come, from the front of the buffer on, of which so many are wanted.
+abbrev pub heldAnew : ℕ → ℕ → Bool → Held
+heldAnew wanted come failed = record { from = 0; end = min wanted come; to = come; unwritten = 0; failed = failed }
 
 -- So many bytes are taken of what is held then, or all. Where as many were held nothing is read, moved or written; and a failure leaves fewer.
 pub record SomeTaken (wanted : ℕ) (buffer : List ℕ) (from to unwritten : ℕ) (buffer′ : List ℕ) (r : Held) : Type 0 where

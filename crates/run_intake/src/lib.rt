@@ -18,7 +18,7 @@ ghost use Rattle.model.specs.Mesh.{runCells, runFaces};
 ghost use Rattle.record_bits.specs.Layout.{bytesFor};
 ghost use Rattle.record_layouts.specs.Layouts.{meshHeadBits, fieldHeadBits, stepHeadBits};
 ghost use Rattle.record_heads.specs.Heads.{lengthSaid, meshLengthSaid, bytesOf, meshNeeds, fieldNeeds, stepNeeds};
-ghost use Rattle.run_intake.specs.Intake.{recordBytes, stillNeeded, Asked, held, HeldAhead, SomeTaken, RecordTaken};
+ghost use Rattle.run_intake.specs.Intake.{recordBytes, stillNeeded, Asked, held, HeldAhead, heldAnew, SomeTaken, RecordTaken};
 
 // Most bits of a face in a step record: one at the rim, in the wide kinds.
 const RIM_FACE: usize = Body::SIGN + Body::WIDE_VALUE + Body::OUTSIDE;
@@ -32,9 +32,9 @@ pub struct Got {
     pub failed: bool,
 }
 
-// One read into buffer[at..to], and a word where it fails. Answers where the bytes end.
-fn once(buffer: &mut [u8], at: usize, to: usize) -> Got
-    requires { ⌜ (at ≤ to) × (to ≤ length (now buffer)) ⌝ }
+// One read into buffer[at..to], and a word where it fails. Answers where the bytes end. It may wait, so that no line is unwritten then.
+fn once(buffer: &mut [u8], at: usize, to: usize, unwritten: usize) -> Got
+    requires { ⌜ (at ≤ to) × (to ≤ length (now buffer)) × (unwritten ≡ 0) ⌝ }
     ensures { λ r. ⌜ (at ≤ r .count) × (r .count ≤ to) × (take at (now (buffer .exit)) ≡ take at (now (buffer .entry))) ⌝ }
 {
     let answer = libc::read(STDIN_FILENO, &mut buffer[at..to]);
@@ -53,14 +53,14 @@ fn once(buffer: &mut [u8], at: usize, to: usize) -> Got
 }
 
 // Bytes read into buffer[from..to], until they reach `enough` or there are none. Answers where they end.
-fn bytes(buffer: &mut [u8], from: usize, enough: usize, to: usize) -> Got
-    requires { ⌜ (from ≤ to) × (enough ≤ to) × (to ≤ length (now buffer)) ⌝ }
+fn bytes(buffer: &mut [u8], from: usize, enough: usize, to: usize, unwritten: usize) -> Got
+    requires { ⌜ (from ≤ to) × (enough ≤ to) × (to ≤ length (now buffer)) × (unwritten ≡ 0) ⌝ }
     ensures { λ r. ⌜ Counts (r .count) (now (buffer .exit)) × (from ≤ r .count) × (r .count ≤ to)
         × (take from (now (buffer .exit)) ≡ take from (now (buffer .entry))) × (r .failed ≡ true → r .count < enough) ⌝ }
 {
     let mut at = from;
     while at < enough {
-        let got = once(buffer, at, to);
+        let got = once(buffer, at, to, unwritten);
         let end = got.count;
         if end == at {
             return got;
@@ -95,7 +95,7 @@ fn rest(answer: LengthAnswer, got: usize, buffer: &mut [u8]) -> Got
 {
     let more = still_needed(answer, got);
     let end = got + more;
-    bytes(buffer, got, end, end)
+    bytes(buffer, got, end, end, 0)
 }
 
 // Of what the head of a mesh says, the bytes alone.
@@ -112,7 +112,7 @@ pub fn mesh(buffer: &mut [u8]) -> Got
     requires { do ⌜ (← ⟦RECORD⟧) ≤ length (now buffer) ⌝ }
     ensures { λ r. ⌜ Counts (r .count) (now (buffer .exit)) × Asked (bytesFor meshHeadBits) (meshNeeds runCells runFaces) (now (buffer .exit)) (r .count) ⌝ }
 {
-    let head = bytes(buffer, 0, MESH_HEAD, MESH_HEAD);
+    let head = bytes(buffer, 0, MESH_HEAD, MESH_HEAD, 0);
     if head.failed {
         return head;
     }
@@ -125,7 +125,7 @@ pub fn field(width: Width, cells: usize, buffer: &mut [u8]) -> Got
     requires { do ⌜ (← ⟦RECORD⟧) ≤ length (now buffer) ⌝ }
     ensures { λ r. ⌜ Counts (r .count) (now (buffer .exit)) × Asked (bytesFor fieldHeadBits) (fieldNeeds width cells) (now (buffer .exit)) (r .count) ⌝ }
 {
-    let head = bytes(buffer, 0, FIELD_HEAD, FIELD_HEAD);
+    let head = bytes(buffer, 0, FIELD_HEAD, FIELD_HEAD, 0);
     if head.failed {
         return head;
     }
@@ -156,6 +156,20 @@ fn move_down(buffer: &mut [u8], from: usize, to: usize)
     }
 }
 
+// What is held after a read: all that has come, from the front on. No line is unwritten then.
+fn all_come(wanted: usize, got: Got) -> Held
+    ensures { λ r. ⌜ r ≡ heldAnew wanted (got .count) (got .failed) ⌝ }
+{
+    let come = got.count;
+    Held {
+        from: 0,
+        end: lists::least(wanted, come),
+        to: come,
+        unwritten: 0,
+        failed: got.failed,
+    }
+}
+
 // So many bytes of what is held, or all where no more come. A read may wait, so that the lines are written before it.
 fn hold(
     wanted: usize,
@@ -179,25 +193,19 @@ fn hold(
             failed: false,
         };
     }
-    if !run_session::write(lines, unwritten) {
+    let left = run_session::flush(lines, unwritten);
+    if left.failed {
         return Held {
             from: from,
             end: to,
             to: to,
-            unwritten: unwritten,
+            unwritten: left.count,
             failed: true,
         };
     }
     move_down(buffer, from, to);
-    let got = bytes(buffer, kept, wanted, buffer.len());
-    let come = got.count;
-    Held {
-        from: 0,
-        end: lists::least(wanted, come),
-        to: come,
-        unwritten: 0,
-        failed: got.failed,
-    }
+    let got = bytes(buffer, kept, wanted, buffer.len(), left.count);
+    all_come(wanted, got)
 }
 
 // A step record among what is held: its head, and then as many bytes as that asks for.

@@ -1,2 +1,3 @@
 pub mod Prints
+pub mod Accepted
 pub mod Totals

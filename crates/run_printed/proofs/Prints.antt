@@ -26,26 +26,27 @@ use Rattle.taking.specs.Taking.{StepTaking}
 use Rattle.model.specs.declared.Printed.{Printed}
 use Rattle.model.specs.declared.StepTaken.{StepTaken}
 use Rattle.model.proofs.Verdicts.{accepted-of}
-use Rattle.run_lines.specs.Lines.{Holds, stepLine, boardLine}
+use Rattle.run_lines.specs.Lines.{Holds, stepLine}
 use Rattle.run_intake.specs.Intake.{stillNeeded, recordAt}
+use Rattle.run_board.specs.BoardLines.{boardLines}
 use Rattle.run_session.specs.Session.{stepText, stepTakenLine, goesOn, goesOnAfter}
-use Rattle.run_printed.specs.Run.{meshAt, fieldAt, stepAt, following, inTable, boardLines, boardPrinted, stepComesTo, fieldThen, stepsPrinted}
+use Rattle.run_printed.specs.Run.{meshAt, fieldAt, stepAt, following, inTable, boardPrinted, stepComesTo, fieldThen, stepsPrinted}
 use Rattle.run_printed.specs.Run.{fromField, fieldPrinted, runMesh, fromMesh, printed}
-use Rattle.run_printed.specs.Program.{ReadIn, countedBytes, EntriesPrint, none, one, BoardPrints, StepsPrint, no-byte, step-ends, step-goes-on}
-use Rattle.run_printed.specs.Program.{FieldPrints, field-refused, field-accepted, emptyTables, Prints, mesh-refused, mesh-accepted}
+use Rattle.run_printed.specs.Program.{ReadIn, countedBytes, BoardPrints, StepsPrint, no-byte, step-ends, step-goes-on}
+use Rattle.run_printed.specs.Program.{FieldPrints, field-refused, field-accepted, Prints, mesh-refused, mesh-accepted}
 use Rattle.run_lines.specs.declared.Line.{Line}
 
 -- what was taken can be counted and taken again
-take-counted : (n : ℕ) (l : List ℕ) → take (length (take n l)) l ≡ take n l
+pub take-counted : (n : ℕ) (l : List ℕ) → take (length (take n l)) l ≡ take n l
 take-counted zero l = refl
 take-counted (suc n) [] = refl
 take-counted (suc n) (x ∷ xs) = ap (λ (t : List ℕ). x ∷ t) (take-counted n xs)
 
 -- the run's tables are as long as its limits
-cells-long : length (table {A = ℕ} runCells (λ i. 0)) ≡ runCells
+pub cells-long : length (table {A = ℕ} runCells (λ i. 0)) ≡ runCells
 cells-long = length-table {A = ℕ} runCells (λ i. 0)
 
-faces-long : length (table {A = ℕ} runFaces (λ i. 0)) ≡ runFaces
+pub faces-long : length (table {A = ℕ} runFaces (λ i. 0)) ≡ runFaces
 faces-long = length-table {A = ℕ} runFaces (λ i. 0)
 
 module _ (head : ℕ) (needs : List ℕ → Outcome ℕ) where
@@ -66,17 +67,11 @@ module _ (head : ℕ) (needs : List ℕ → Outcome ℕ) where
   unfolding recordAt
   no-longer input = rw length-take (omega arith)
 
-entries-printed : {es : List Entry} {out : List ℕ} → EntriesPrint es out → out ≡ boardLines es
-unfolding boardLines
-entries-printed none = refl
-entries-printed (one line {e} {es} {out} h p) =
-    ap (λ (t : List ℕ). t ++ out) (h .1) ∙ ap (λ (t : List ℕ). boardLine (e .cell) (e .q) (e .rest) ++ t) (entries-printed p)
-
 module _ (M : Mesh) where
   open Mesh M using (cells, volumes)
 
   -- the entries used are those of the cells listed
-  entries-used : (masses : List ℕ) (v : Verdict)
+  pub entries-used : (masses : List ℕ) (v : Verdict)
       → boardLines (take (granted v (min boardSize cells) 0) (granted v (boardEntries volumes masses cells) (replicate boardSize unused)))
       ≡ granted v (boardLines (map (entryAt volumes masses) (listed volumes masses cells))) []
   unfolding entriesOf over boardLines
@@ -89,7 +84,7 @@ module _ (M : Mesh) where
   board-printed : {masses out : List ℕ} → BoardPrints M masses out → out ≡ boardPrinted M masses
   unfolding boardPrinted
   board-printed {masses} p =
-      entries-printed (p .lines) ∙ ap (λ (n : ℕ). boardLines (take n (p .answer .entries))) (p .board .used-is)
+      p .lines ∙ ap (λ (n : ℕ). boardLines (take n (p .answer .entries))) (p .board .used-is)
       ∙ ap (λ (es : List Entry). boardLines (take (granted (boardVerdict volumes masses cells) (min boardSize cells) 0) es)) (p .board .entries-are)
       ∙ entries-used masses (boardVerdict volumes masses cells)
 

@@ -1,11 +1,11 @@
--- What the run program does, call by call. Each fact is the contract of the call that run/src, run_session/src or run_intake/src makes at
+-- What the run program does, call by call. Each fact is the contract of the call that run/src, run_session/src, run_board/src or run_intake/src makes at
 -- that place; the order is the program's. Of reading and writing no contract can speak: it is taken here that a read gives the next bytes of
 -- the input, fewer only where it ends, and that a write prints what it is lent. Bytes of steps are read ahead and kept in their order, and
 -- their lines are put one after another and written together: `HeldAhead` of run_intake/specs/Intake.antt, `add` of run_session/src/printing.rt.
 use Prim.Native.Nat.{ℕ, _+_, _<_}
 use mathlib.Core.Path.{_≡_}
 use mathlib.Core.Bool.{true, false}
-use mathlib.Core.List.{List, [], _∷_, _++_}
+use mathlib.Core.List.{List, _++_}
 use lib.ListN.{length, take, drop}
 use Rattle.lists.specs.Table.{table}
 use Rattle.model.specs.Mesh.{Mesh, meshOf, runCells, runFaces}
@@ -21,13 +21,13 @@ use Rattle.record_reading.specs.declared.MeshCounts.{MeshCounts}
 use Rattle.record_heads.specs.declared.LengthAnswer.{LengthAnswer}
 use Rattle.record_reading.specs.declared.MeshAnswer.the-variants as mesh
 use Rattle.board.specs.Board.{BoardIs}
-use Rattle.board.specs.declared.Entry.{Entry}
 use Rattle.board.specs.declared.BoardAnswer.{BoardAnswer}
 use Rattle.taking_mesh.specs.MeshTaking.{MeshTaking}
 use Rattle.taking.specs.Taking.{FieldTaking, StepTaking}
 use Rattle.model.specs.declared.StepTaken.{StepTaken}
-use Rattle.run_lines.specs.Lines.{Holds, letterM, letterF, boardLine}
+use Rattle.run_lines.specs.Lines.{Holds, letterM, letterF}
 use Rattle.run_intake.specs.Intake.{stillNeeded}
+use Rattle.run_board.specs.BoardLines.{boardLines}
 use Rattle.run_session.specs.Session.{refusedText, startText, stepTakenLine, goesOn}
 use Rattle.run_lines.specs.declared.Line.{Line}
 
@@ -43,16 +43,11 @@ pub record ReadIn (head : ℕ) (needs : List ℕ → Outcome ℕ) (input bs : Li
 abbrev pub countedBytes : Line → List ℕ
 countedBytes line = take (line .used) (line .bytes)
 
--- board_lines.rt: what `board` answers, and a line for each entry used.
-pub data EntriesPrint : List Entry → List ℕ → Type 0 where
-  none : EntriesPrint [] []
-  one : (line : Line) {e : Entry} {es : List Entry} {out : List ℕ} → Holds line (boardLine (e .cell) (e .q) (e .rest)) → EntriesPrint es out
-      → EntriesPrint (e ∷ es) (countedBytes line ++ out)
-
+-- board_lines.rt: what `board` answers, and the lines that `run_board::put` puts of it.
 pub record BoardPrints (M : Mesh) (masses out : List ℕ) : Type 0 where
   pub answer : BoardAnswer
   pub board : BoardIs (M .cells) (M .volumes) masses answer
-  pub lines : EntriesPrint (take (answer .used) (answer .entries)) out
+  pub lines : out ≡ boardLines (take (answer .used) (answer .entries))
 
 -- `steps`: a record is read; where no byte came, or after a refusal that ends the run, the board; else another step.
 pub data StepsPrint (w : Width) (M : Mesh) : ℕ → List ℕ → List ℕ → List ℕ → Type 0 where
@@ -63,8 +58,8 @@ pub data StepsPrint (w : Width) (M : Mesh) : ℕ → List ℕ → List ℕ → L
       → StepTaking w M masses bs r masses′ → Holds line (stepTakenLine step r) → false ≡ goesOn r
       → BoardPrints M masses′ out → StepsPrint w M step masses input (countedBytes line ++ out)
   step-goes-on : {step : ℕ} {masses input masses′ out : List ℕ} (bs : List ℕ) (r : StepTaken) (line : Line)
-      → ReadIn (bytesFor stepHeadBits) (stepNeeds w (M .cells) (M .faces) (M .seconds)) input bs → 0 < length bs
-      → StepTaking w M masses bs r masses′ → Holds line (stepTakenLine step r) → true ≡ goesOn r
+      → ReadIn (bytesFor stepHeadBits) (stepNeeds w (M .cells) (M .faces) (M .seconds)) input bs
+      → 0 < length bs → StepTaking w M masses bs r masses′ → Holds line (stepTakenLine step r) → true ≡ goesOn r
       → StepsPrint w M (step + 1) masses′ (drop (length bs) input) out → StepsPrint w M step masses input (countedBytes line ++ out)
 
 -- `run_on`: the field, in a table of zeros; refused, it has the only line; else the line of step 0 and the steps.

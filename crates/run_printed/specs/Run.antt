@@ -14,12 +14,12 @@ use Rattle.record_heads.specs.Heads.{meshNeeds, fieldNeeds, stepNeeds}
 use Rattle.record_layouts.specs.declared.Width.{Width}
 use Rattle.record_reading.specs.declared.MeshCounts.{MeshCounts}
 use Rattle.board.specs.Board.{entryAt, listed, boardVerdict}
-use Rattle.board.specs.declared.Entry.{Entry}
 use Rattle.taking_mesh.specs.MeshTaking.{meshJudgedInRun}
 use Rattle.taking.specs.Taking.{fieldJudged, stepJudged, stepIn, printedOf, massesAfter}
 use Rattle.model.specs.declared.Printed.{Printed}
-use Rattle.run_lines.specs.Lines.{letterM, letterF, refusalLine, stepLine, boardLine}
+use Rattle.run_lines.specs.Lines.{letterM, letterF, refusalLine, stepLine}
 use Rattle.run_intake.specs.Intake.{recordAt}
+use Rattle.run_board.specs.BoardLines.{boardLines}
 use Rattle.run_session.specs.Session.{stepText, goesOnAfter}
 
 -- The run's tables are as long as its limits and 0 at first. Entries past the counts mean nothing.
@@ -41,11 +41,7 @@ stepAt w M input = recordAt (bytesFor stepHeadBits) (stepNeeds w (M .cells) (M .
 abbrev pub following : List ℕ → List ℕ → List ℕ
 following bs input = drop (length bs) input
 
--- THE BOARD: a line for each entry used.
-unfoldable pub boardLines : List Entry → List ℕ
-boardLines [] = []
-boardLines (e ∷ es) = boardLine (e .cell) (e .q) (e .rest) ++ boardLines es
-
+-- THE BOARD: a line for each entry.
 module _ (M : Mesh) where
   unfoldable pub boardPrinted : List ℕ → List ℕ
   boardPrinted masses = granted (boardVerdict (M .volumes) masses (M .cells))

@@ -11,10 +11,10 @@ use Rattle.run_intake.proofs.bytes.Statement.{statement}
 use Rattle.run_intake.proofs.bytes.Tie as tie
 
 abbrev Inv-loop : tie.InvT-loop
-Inv-loop buffer₀ from enough to at₀ buffer at = (length buffer ≡ length buffer₀) × (from ≤ at) × (at ≤ to) × (take from buffer ≡ take from buffer₀)
+Inv-loop buffer₀ from enough to unwritten at₀ buffer at = (length buffer ≡ length buffer₀) × (from ≤ at) × (at ≤ to) × (take from buffer ≡ take from buffer₀)
 
 abbrev μ-loop : tie.MeasureT-loop
-μ-loop buffer₀ from enough to at₀ buffer at = to - at
+μ-loop buffer₀ from enough to unwritten at₀ buffer at = to - at
 
 loop-holds : tie.Need-loop-holds Inv-loop μ-loop
 loop-holds c = (refl, search needs, search needs, refl)

@@ -1,3 +1,4 @@
+use mathlib.Core.Path.{refl}
 use native.Mathlib.Nat.{le-trans}
 use native.Mathlib.Omega.{arith}
 use borrow.Author.Needs.{needs}
@@ -14,6 +15,7 @@ bytes-requires c κs = (
   omega arith,
   le-trans (room-left _ _ (c .before .still-needed .ensures .1) (c .before .before .before .pre .0))
       (c .before .before .before .pre .1),
+  refl,
 )
 
 returns : tie.Need-returns
