@@ -1,4 +1,5 @@
 -- The part is cut into tables of the call's own, and its writers look at these.
+use mathlib.Core.Path.{refl, sym}
 use borrow.Author.Needs.{needs}
 use Rattle.cutting_parts.specs.Cut.{tablesOf, Lagoon, lagoonOf}
 use Rattle.record_layouts.specs.Layouts.{kindNumber}
@@ -30,6 +31,33 @@ part-requires : tie.Need-part-requires
 unfolding blank
 part-requires c κs = (start-from-own-releases c) .pre
 
+slice-aggregate-finds : tie.Need-slice-aggregate-finds
+slice-aggregate-finds c = sym (c .before .before .before .before .before .before .before .before .before .own-volumes2 .given)
+
+slice-aggregate-finds-2 : tie.Need-slice-aggregate-finds-2
+slice-aggregate-finds-2 c = sym (c .before .before .before .before .before .before .before .before .before .own-firsts2 .given)
+
+slice-aggregate-finds-3 : tie.Need-slice-aggregate-finds-3
+slice-aggregate-finds-3 c = sym (c .before .before .before .before .before .before .before .before .before .own-seconds2 .given)
+
+slice-aggregate-finds-4 : tie.Need-slice-aggregate-finds-4
+slice-aggregate-finds-4 c = sym (c .before .before .before .before .before .before .before .before .before .own-shares2 .given)
+
+slice-aggregate-finds-5 : tie.Need-slice-aggregate-finds-5
+slice-aggregate-finds-5 c = sym (c .before .before .before .before .before .before .before .before .before .own-reaches2 .given)
+
+slice-aggregate-finds-6 : tie.Need-slice-aggregate-finds-6
+slice-aggregate-finds-6 c = sym (c .before .before .before .before .before .before .before .before .before .own-masses2 .given)
+
+slice-aggregate-finds-7 : tie.Need-slice-aggregate-finds-7
+slice-aggregate-finds-7 c = sym (c .before .before .before .before .before .before .before .before .before .own-fluxes2 .given)
+
+slice-aggregate-finds-8 : tie.Need-slice-aggregate-finds-8
+slice-aggregate-finds-8 c = sym (c .before .before .before .before .before .before .before .before .before .own-outsides2 .given)
+
+slice-aggregate-finds-9 : tie.Need-slice-aggregate-finds-9
+slice-aggregate-finds-9 c = sym (c .before .before .before .before .before .before .before .before .before .own-releases2 .given)
+
 returns : tie.Need-returns
 unfolding blank
 returns c =
@@ -42,6 +70,7 @@ returns c =
 
 pub part-found-spec : {M : Type 1} → statement M
 part-found-spec = tie.close (tie.spec
-    (search needs) (search needs) (search needs) (search needs) (search needs) (search needs) (search needs) (search needs) (search needs) part-requires
-    (search needs) (search needs) (search needs) (search needs) (search needs) (search needs) (search needs) (search needs) (search needs) (search needs)
+    (λ c. refl) (λ c. refl) (λ c. refl) (λ c. refl) (λ c. refl) (λ c. refl) (λ c. refl) (λ c. refl) (λ c. refl) part-requires
+    slice-aggregate-finds slice-aggregate-finds-2 slice-aggregate-finds-3 slice-aggregate-finds-4 slice-aggregate-finds-5
+    slice-aggregate-finds-6 slice-aggregate-finds-7 slice-aggregate-finds-8 slice-aggregate-finds-9 (search needs)
     returns)
