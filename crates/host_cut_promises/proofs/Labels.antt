@@ -3,7 +3,7 @@ use Prim.Native.Nat.{ℕ}
 use mathlib.Core.Path.{_≡_, sym, ap, _∙_}
 use mathlib.Core.List.{List}
 use lib.ListN.{length}
-use Rattle.model.specs.Mesh.{runCells, runFaces}
+use Rattle.model.specs.Mesh.{Mesh, runCells, runFaces}
 use Rattle.model.specs.Causes.{accepted, Verdict, _andThen_}
 use Rattle.model.specs.Answers.{number, told}
 use Rattle.model.specs.declared.Refusal.{Refusal}
@@ -17,10 +17,9 @@ use Rattle.record_reading.specs.declared.MeshAnswer.the-variants.{Read, Refused
 use Rattle.taking_mesh.specs.MeshTaking.{meshJudgedInRun, MeshTaking}
 use Rattle.host_cut_promises.specs.Cut.{labelsFind, labelled}
 
-module _ (mesh labels : List ℕ) {volumes firsts seconds shares reaches : List ℕ} {a : MeshAnswer} {volumes′ firsts′ seconds′ shares′ reaches′ : List ℕ}
-    (t : MeshTaking mesh volumes firsts seconds shares reaches a volumes′ firsts′ seconds′ shares′ reaches′)
-    (lv : length volumes ≡ runCells) (lf : length firsts ≡ runFaces) (ls : length seconds ≡ runFaces) (lw : length shares ≡ runFaces)
-    (lk : length reaches ≡ runFaces) where
+module _ (mesh labels : List ℕ) {lent : Mesh} {a : MeshAnswer} {left : Mesh} (t : MeshTaking mesh lent a left)
+    (lv : length (lent .volumes) ≡ runCells) (lf : length (lent .firsts) ≡ runFaces) (ls : length (lent .seconds) ≡ runFaces)
+    (lw : length (lent .shares) ≡ runFaces) (lk : length (lent .reaches) ≡ runFaces) where
   abbrev counts : MeshCounts
   counts = record { cells = meshIn mesh .cells; faces = meshIn mesh .faces; width = widthIn mesh }
 
