@@ -102,7 +102,7 @@ module _ (L : Lagoon) (labels : List ℕ) (p : ℕ) (lent : Tables) (nexts : Lis
   unfolding movedTable
   moved-at f l = rw whole-fine (getD-over (L .faces) _ moveds (pos 0) f l)
 
-  module _ (nexts′ : List ℕ) (moveds′ : List ℤ) (work′ : List ℕ) (room : LentAtCounts L nexts′ moveds′ work′) where
+  module _ (nexts′ : List ℕ) (moveds′ : List ℤ) (work′ : List ℕ) (room : LentAtCounts part nexts′ moveds′ work′) where
     found : verdict N (part .tables .masses) (stepOn part nexts′ moveds′ work′) ≡ fine
     found = part-fine L labels p lent nexts moveds work whole-fine some lent-long nexts′ moveds′ work′ room
 

@@ -32,7 +32,7 @@ cut-outside false q h = refl
 module _ (L : Lagoon) (labels : List ℕ) (p : ℕ) (lent : Tables) (nexts : List ℕ) (moveds : List ℤ) (work : List ℕ)
     (whole-fine : verdict (wholeMesh L) (L .tables .masses) (stepOn L nexts moveds work) ≡ fine)
     (some : 1 ≤ partCells L labels p) (lent-long : TablesLong L lent)
-    (nexts′ : List ℕ) (moveds′ : List ℤ) (work′ : List ℕ) (room : LentAtCounts L nexts′ moveds′ work′) where
+    (nexts′ : List ℕ) (moveds′ : List ℤ) (work′ : List ℕ) (room : LentAtCounts (partOf L labels p lent) nexts′ moveds′ work′) where
   abbrev part : Lagoon
   part = partOf L labels p lent
 
@@ -113,11 +113,11 @@ module _ (L : Lagoon) (labels : List ℕ) (p : ℕ) (lent : Tables) (nexts : Lis
     (
       faces-long 7 _ _ (lent-long .outsides-long),
       (
-        need-met 2 8 (le-leb (N .cells) (length nexts′) (omega (arith, fewer-cells, room .nexts-long))),
+        need-met 2 8 (le-leb (N .cells) (length nexts′) (room .nexts-long)),
         (
-          need-met 2 9 (le-leb (N .faces) (length moveds′) (omega (arith, fewer-faces, room .moveds-long))),
+          need-met 2 9 (le-leb (N .faces) (length moveds′) (room .moveds-long)),
           (
-            need-met 2 10 (le-leb (workEntries (N .cells) (N .faces)) (length work′) (omega (arith, fewer-cells, fewer-faces, room .work-long))),
+            need-met 2 10 (le-leb (workEntries (N .cells) (N .faces)) (length work′) (room .work-long)),
             (cells-long 14 _ _ (lent-long .releases-long), tt),
           ),
         ),

@@ -36,7 +36,7 @@ pub record TablesLong (L : Lagoon) (t : Tables) : Type 0 where
   pub outsides-long : L .faces ≤ length (t .outsides)
   pub releases-long : L .cells ≤ length (t .releases)
 
--- the tables that a part's step is to fill, each as long as the whole asks
+-- the tables that a step on a lagoon or a part is to fill, each as long as its own counts ask
 pub record LentAtCounts (L : Lagoon) (nexts : List ℕ) (moveds : List ℤ) (work : List ℕ) : Type 0 where
   pub nexts-long : L .cells ≤ length nexts
   pub moveds-long : L .faces ≤ length moveds
@@ -51,7 +51,7 @@ pub record StepsAsWhole (L : Lagoon) (labels : List ℕ) (p : ℕ) (lent : Table
 
 module _ (L : Lagoon) (labels : List ℕ) (next : List ℕ) (moved : List ℤ) where
   abbrev pub PartSteps : ℕ → Tables → Type 0
-  PartSteps p lent = (nexts : List ℕ) (moveds : List ℤ) (work : List ℕ) → LentAtCounts L nexts moveds work
+  PartSteps p lent = (nexts : List ℕ) (moveds : List ℤ) (work : List ℕ) → LentAtCounts (partOf L labels p lent) nexts moveds work
       → StepsAsWhole L labels p lent next moved nexts moveds work
 
 -- S-12: where neither the cutting nor the plain step of the whole is refused

@@ -40,7 +40,7 @@ pub record StepAgrees (L : Lagoon) (labels : List ℕ) (p : ℕ) (next : List �
 
 module _ (L : Lagoon) (labels : List ℕ) (next : List ℕ) (moved : List ℤ) where
   abbrev pub EachStepAgrees : ℕ → Lagoon → Type 0
-  EachStepAgrees p part = (nexts : List ℕ) (moveds : List ℤ) (work : List ℕ) → LentAtCounts L nexts moveds work
+  EachStepAgrees p part = (nexts : List ℕ) (moveds : List ℤ) (work : List ℕ) → LentAtCounts part nexts moveds work
       → (b : Stepped part nexts moveds work) → StepAgrees L labels p next moved part nexts moveds work b
 
 -- S-12: a cutting that gives the sizes s, a plain step on the whole that is accepted, and any plain steps on the parts

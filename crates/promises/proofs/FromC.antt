@@ -29,7 +29,7 @@ module _ (s : Scheme) (M : Mesh) (field : List ℕ) (m : TableMade) (small : Sma
     unfolding stepAnswer
     number-says = said-giving (s .finds M lent k) (crossingOf M lent k) (m .number) (answer .number) small
 
-    comes : stepOnTables s M k lent ≡ tableLeft M m field
+    pub comes : stepOnTables s M k lent ≡ tableLeft M m field
     unfolding stepOnTables
     comes = rw (number-says, next-masses)
 

@@ -5,7 +5,7 @@ use native.Mathlib.Omega.{arith}
 use borrow.Author.Tests.{ne-eqb}
 use Rattle.model.specs.Causes.{accepted, refused, Verdict, _andThen_}
 use Rattle.host_answer.specs.Number.{causeStep, numberOf}
-use Rattle.host_answer.proofs.Small.{Small}
+use Rattle.host_answer.proofs.Small.{Small, small-fine}
 use Rattle.promises.specs.Steps.{hostSaid}
 
 -- the verdict that a number was made from
@@ -24,3 +24,9 @@ pub said-giving : {A : Type 0} (v : Verdict) (x : A) (n : ℕ) → n ≡ numberO
 unfolding _andThen_
 said-giving (accepted t) x n e s = rw e
 said-giving (refused i j) x n e s = number-apart n i j e (s .parts .0) (s .parts .2)
+
+-- what is found is small where what is given after it is
+pub small-before : {A : Type 0} (u : Verdict) (x : A) → Small (u andThen accepted x) → Small u
+unfolding _andThen_
+small-before (accepted t) x s = small-fine t
+small-before (refused i j) x s = record { parts = s .parts }
