@@ -9,12 +9,13 @@ use lib.ListN.{getD}
 use Rattle.signed.specs.Sign.{forward}
 use Rattle.model.specs.Mesh.{Mesh}
 use Rattle.model.specs.Causes.{accepted, refused, Verdict, fine, _andThen_, granted, Call}
-use Rattle.model.specs.Calls.{crossingOf, fieldAfter, goneBy, Scheme, corrected, plain, judged, stepAnswer, totalOut}
+use Rattle.model.specs.Calls.{crossingOf, fieldAfter, goneBy, Scheme, judged, stepAnswer, totalOut}
 use Rattle.model.specs.declared.Answer.the-variants.{Done}
 use Rattle.model.proofs.Verdicts.{past}
+use Rattle.transport.specs.Promise.{schemeOf}
 use Rattle.transport.specs.declared.StepAnswer.the-variants.{Stepped}
 use Rattle.charge_totals.specs.Totals.{addVerdict, AddPromise}
-use Rattle.charge_billed.specs.Period.{Way, correcting, plainly, asClaimed}
+use Rattle.charge_billed.specs.Period.{Source, byStep, byJudge}
 use Rattle.charge_billed.specs.Period as call
 use Rattle.charge_billed.proofs.Period.{over-a-period}
 use Rattle.host_answer.specs.Found.{Answered}
@@ -32,7 +33,7 @@ abbrev asCall : Mesh → Made → call.Made
 asCall M m =
     let x = crossingOf M (m .masses) (m .tables) in
     record {
-      way = m .way;
+      source = m .source;
       masses = m .masses;
       tables = m .tables;
       answer = Stepped (record { entered = x .entered; gone = x .gone; released = x .released });
@@ -48,20 +49,14 @@ module _ (s : Scheme) (M : Mesh) (masses : List ℕ) (k : Call) (small : Small (
   unfolding stepAnswer
   answers {r = r} a ok = sym (past _ (sym (said-giving (s .finds M masses k) (crossingOf M masses k) r (a .number) small) ∙ ok))
 
-promised-as : (M : Mesh) (m : Made) (way : Way) → Promised M m way → hostSaid (m .number) ≡ fine → call.Promised M (asCall M m) way
-promised-as M m correcting p ok = record {
-  answer = answers corrected M (m .masses) (m .tables) (verdict-small M (m .masses) (m .tables)) (p .answer) ok;
+promised-as : (M : Mesh) (m : Made) (source : Source) → Promised M m source → hostSaid (m .number) ≡ fine → call.Promised M (asCall M m) source
+promised-as M m (byStep way) p ok = record {
+  answer = answers (schemeOf way) M (m .masses) (m .tables) (verdict-small M (m .masses) (m .tables)) (p .answer) ok;
   next-masses = p .next-masses;
   moved-masses = p .moved-masses;
   work-after = p .work-after;
 }
-promised-as M m plainly p ok = record {
-  answer = answers plain M (m .masses) (m .tables) (verdict-small M (m .masses) (m .tables)) (p .answer) ok;
-  next-masses = p .next-masses;
-  moved-masses = p .moved-masses;
-  work-after = p .work-after;
-}
-promised-as M m asClaimed p ok = (
+promised-as M m byJudge p ok = (
   record {
     answer = answers judged M (m .masses) (m .tables) (claim-small M (m .masses) (m .tables)) (p .0 .answer) ok;
     next-masses = p .0 .next-masses;
@@ -88,7 +83,7 @@ acceptedOnes M (m ∷ ms) = keepIf (hostSaid (m .number)) (asCall M m) (accepted
 
 -- each kept its contract, on the same totals
 module _ (M : Mesh) (m : Made) (totals : List ℕ) (rest : List call.Made) where
-  kept-one : (v : Verdict) → (v ≡ fine → call.Promised M (asCall M m) (m .way))
+  kept-one : (v : Verdict) → (v ≡ fine → call.Promised M (asCall M m) (m .source))
       → granted v (AddFromC (M .seconds) (m .moved) totals (M .faces) 0 (m .added)) (Unit {0})
       → call.KeptOn M (granted v (m .added) totals) rest → call.KeptOn M totals (keepIf v (asCall M m) rest)
   kept-one (accepted t) promised add later = (promised refl, added-as (M .seconds) (m .moved) totals (M .faces) (m .added) add, later)
@@ -115,7 +110,7 @@ module _ (M : Mesh) (m : Made) (totals : List ℕ) (rest : List call.Made) where
 kept : (M : Mesh) (totals : List ℕ) (calls : List Made) → KeptOn M totals calls → call.KeptOn M totals (acceptedOnes M calls)
 unfolding acceptedOnes
 kept M totals [] k = tt
-kept M totals (m ∷ ms) k = kept-one M m totals (acceptedOnes M ms) (hostSaid (m .number)) (promised-as M m (m .way) (k .0)) (k .1)
+kept M totals (m ∷ ms) k = kept-one M m totals (acceptedOnes M ms) (hostSaid (m .number)) (promised-as M m (m .source) (k .0)) (k .1)
     (kept M (totalsAfter m totals) ms (k .2))
 
 last-same : (M : Mesh) (totals : List ℕ) (calls : List Made) → lastTotals totals calls ≡ call.lastTotals totals (acceptedOnes M calls)

@@ -9,8 +9,9 @@ use Rattle.lists.specs.Fold.{sum}
 use Rattle.signed.specs.Sign.{forward}
 use Rattle.model.specs.Mesh.{Mesh, atRim}
 use Rattle.model.specs.Causes.{Outcome, accepted, _andThen_, granted, Call}
-use Rattle.model.specs.Calls.{Left, crossingOf, corrected, plain, totalOut}
-use Rattle.charge_billed.specs.Period.{Way, correcting, plainly, asClaimed}
+use Rattle.model.specs.Calls.{Left, crossingOf, totalOut}
+use Rattle.transport.specs.Promise.{schemeOf}
+use Rattle.charge_billed.specs.Period.{Source, byStep, byJudge}
 use Rattle.host_answer.specs.Steps.{StepFromC, JudgeFromC}
 use Rattle.host_period_promises.specs.Period.{AddFromC}
 use Rattle.promises.specs.Steps.{hostSaid}
@@ -18,7 +19,7 @@ use Rattle.promises.specs.Steps.{hostSaid}
 -- A call of `lagoon_table_step`, `lagoon_table_plain_step` or `lagoon_table_judge`: what it was lent, of any values and of any length; its number;
 -- its tables and what is found afterwards; and the totals after it was added, if it was. Of a judging the claim is lent as moved, and work means nothing.
 pub record Made : Type 0 where
-  pub way : Way
+  pub source : Source
   pub masses : List ℕ
   pub tables : Call
   pub found : List ℕ
@@ -39,17 +40,16 @@ module _ (M : Mesh) where
   cameTo m field = hostSaid (m .number) andThen accepted (record { field = m .next; crossing = crossingOf M (m .masses) (m .tables) })
 
   -- what each call promises; a judging leaves the claim as it was
-  abbrev pub Promised : Made → Way → Type 0
-  Promised m correcting = StepFromC corrected M (m .masses) (m .tables) (m .found) (m .number) (m .next) (m .moved) (m .work) (m .foundAfter)
-  Promised m plainly = StepFromC plain M (m .masses) (m .tables) (m .found) (m .number) (m .next) (m .moved) (m .work) (m .foundAfter)
-  Promised m asClaimed = JudgeFromC M (m .masses) (m .tables) (m .found) (m .number) (m .next) (m .foundAfter) × (m .moved ≡ m .tables .moveds)
+  abbrev pub Promised : Made → Source → Type 0
+  Promised m (byStep way) = StepFromC (schemeOf way) M (m .masses) (m .tables) (m .found) (m .number) (m .next) (m .moved) (m .work) (m .foundAfter)
+  Promised m byJudge = JudgeFromC M (m .masses) (m .tables) (m .found) (m .number) (m .next) (m .foundAfter) × (m .moved ≡ m .tables .moveds)
 
   -- Each step kept its contract; each accepted one was then added, by a call of `lagoon_add` that was lent the same seconds, the moved masses as
   -- the step left them and the totals as the last adding left them, and that answered 0.
   abbrev pub KeptOn : List ℕ → List Made → Type 0
   KeptOn totals [] = Unit {0}
   KeptOn totals (m ∷ ms) =
-      Promised m (m .way)
+      Promised m (m .source)
       × granted (hostSaid (m .number)) (AddFromC (M .seconds) (m .moved) totals (M .faces) 0 (m .added)) (Unit {0})
       × KeptOn (totalsAfter m totals) ms
 

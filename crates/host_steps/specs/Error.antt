@@ -4,11 +4,12 @@ use mathlib.Core.List.{List}
 use Rattle.model.specs.Mesh.{Mesh}
 use Rattle.model.specs.Calls.{EachStep}
 use Rattle.plain.specs.Error.{ErrorBelow}
-use Rattle.promises.specs.Steps.{TableMade, byTablePlain, tableLeft, StepContract}
+use Rattle.transport.specs.declared.Way.the-variants.{Plain}
+use Rattle.promises.specs.Steps.{TableMade, byTableStep, tableLeft, StepContract}
 
 -- each call was made on the field that the one before it had come to, and kept its contract
 abbrev pub KeptOn : Mesh → List ℕ → List TableMade → Type 0
-KeptOn M = EachStep (tableLeft M) (λ m field. StepContract M (byTablePlain m) field)
+KeptOn M = EachStep (tableLeft M) (λ m field. StepContract M (byTableStep Plain m) field)
 
 abbrev pub ErrorFromC : Type 0
 ErrorFromC = (M : Mesh) (field : List ℕ) (calls : List TableMade) → KeptOn M field calls → ErrorBelow M (λ m. m .tables) (tableLeft M) field calls

@@ -17,7 +17,8 @@ use Rattle.record_layouts.specs.Layouts.{meshHeadBits, fieldHeadBits, stepHeadB
 use Rattle.record_layouts.specs.declared.Width.{Width}
 use Rattle.record_heads.specs.Heads.{meshNeeds, fieldNeeds, stepNeeds, stepHeadVerdict}
 use Rattle.record_heads.specs.declared.LengthAnswer.the-variants as length-of
-use Rattle.record_reading.specs.Reading.{countsIn, massesIn}
+use Rattle.record_reading.specs.Reading.{meshIn, countsIn, massesIn}
+use Rattle.record_reading.specs.Meshes.{overMesh}
 use Rattle.board.specs.Board.{boardVerdict, boardEntries, boardSize, unused}
 use Rattle.taking_mesh.specs.MeshTaking.{meshJudgedInRun}
 use Rattle.run_lines.specs.Lines.{Holds, stepLine}
@@ -26,7 +27,7 @@ use Rattle.run_intake.specs.Intake.{stillNeeded, recordAt}
 use Rattle.run_session.specs.Session.{startText}
 use Rattle.model.proofs.Verdicts.{accepted-of}
 use Rattle.run_printed.specs.Run.{inTable, meshAt, fieldAt, stepAt, following, boardPrinted, stepComesTo, fieldThen, fieldSaid, runMesh}
-use Rattle.run_printed.specs.Program.{ReadIn, StepsPrint, no-byte, step-goes-on, FieldPrints, field-accepted, Prints, mesh-accepted}
+use Rattle.run_printed.specs.Program.{ReadIn, StepsPrint, no-byte, step-goes-on, FieldPrints, field-accepted, emptyTables, Prints, mesh-accepted}
 use Rattle.run_printed.proofs.Prints.{take-counted, cells-long, faces-long, entries-used}
 
 -- a text as a line
@@ -99,14 +100,6 @@ pub mesh-run : {n : ℕ} {input bs rest out : List ℕ} → meshNeeds runCells r
     → following bs input ≡ rest → meshJudgedInRun bs ≡ fine → FieldPrints (countsIn bs .width) (runMesh bs) rest out → Prints input out
 unfolding _andThen_
 mesh-run {n} {input} {bs} {rest} {out} e q r v t =
-    let M = runMesh bs in
-    mesh-accepted bs (M .volumes) (M .firsts) (M .seconds) (M .shares) (M .reaches) (countsIn bs) (read-in _ _ input bs n e q)
-    (record {
-      answer = rw (cells-long, faces-long, v);
-      volumes-after = rw (cells-long, faces-long, v);
-      firsts-after = rw (cells-long, faces-long, v);
-      seconds-after = rw (cells-long, faces-long, v);
-      shares-after = rw (cells-long, faces-long, v);
-      reaches-after = rw (cells-long, faces-long, v);
-    })
-    (subst (λ (x : List ℕ). FieldPrints (countsIn bs .width) M x out) (sym r) t)
+    mesh-accepted bs (overMesh (meshIn bs) emptyTables) (countsIn bs) (read-in _ _ input bs n e q)
+    (record { answer = rw (cells-long, faces-long, v); mesh-after = rw (cells-long, faces-long, v) })
+    (subst (λ (x : List ℕ). FieldPrints (countsIn bs .width) (runMesh bs) x out) (sym r) t)

@@ -33,7 +33,7 @@ use Rattle.run_session.specs.Session.{stepText, stepTakenLine, goesOn, goesOnAf
 use Rattle.run_printed.specs.Run.{meshAt, fieldAt, stepAt, following, inTable, boardPrinted, stepComesTo, fieldThen, stepsPrinted}
 use Rattle.run_printed.specs.Run.{fromField, fieldPrinted, runMesh, fromMesh, printed}
 use Rattle.run_printed.specs.Program.{ReadIn, countedBytes, BoardPrints, StepsPrint, no-byte, step-ends, step-goes-on}
-use Rattle.run_printed.specs.Program.{FieldPrints, field-refused, field-accepted, Prints, mesh-refused, mesh-accepted}
+use Rattle.run_printed.specs.Program.{FieldPrints, field-refused, field-accepted, emptyTables, Prints, mesh-refused, mesh-accepted}
 use Rattle.run_lines.specs.declared.Line.{Line}
 
 -- what was taken can be counted and taken again
