@@ -1,10 +1,21 @@
 -- Numbers of a turn, of a reader's by bytes and of a writer's by pieces: small, and in the list.
 use Prim.Native.Nat.{ℕ, _+_, _-_, _*_, _/_, _%_, _^_, _≤_, _<_, min}
 use mathlib.Core.Path.{_≡_}
+use mathlib.Core.Logic.{_≢_}
 use native.Mathlib.Omega.{arith}
 use mir.Val.{Fits}
 use mir.Syntax.{w64}
 use Rattle.record_bits.specs.Field.{widest}
+
+pub width-some : {w : ℕ} → w ≢ 0 → 0 < w
+width-some h = omega (arith, h)
+
+-- how far a field ends above the lowest bit of its last byte
+pub below-small : (m : ℕ) → 7 - m < 64
+below-small m = omega arith
+
+pub byte-start : (at : ℕ) → at / 8 * 8 ≤ at
+byte-start at = omega arith
 
 -- a field of w bits from bit `at` on, and the bytes that it touches
 module _ (at w : ℕ) (few : w ≤ 57) (some : 0 < w) where
