@@ -171,6 +171,10 @@ quot-withSign false m n = refl
 quot-withSign true zero n = ap pos (zero-div n) ∙ sym (ap (λ (k : ℕ). negℤ (pos k)) (zero-div n))
 quot-withSign true (suc m) n = refl
 
+pub quot-is : (z : ℤ) (n : ℕ) → quotZ z (pos n) ≡ withSign (isNegative z) (size z / n)
+quot-is (pos m) n = refl
+quot-is (negsuc m) n = refl
+
 sub-withSign : (a b : ℕ) → subℕ a b ≡ withSign (ltb a b) ((a - b) + (b - a))
 sub-withSign a b = go (ltb a b) refl
   where

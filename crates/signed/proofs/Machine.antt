@@ -1,17 +1,18 @@
 -- What the machine's signed operations make of a sign and a size. Assumes nothing.
 use mathlib.Core.Path.{_≡_, refl, ap}
 use mathlib.Core.Bool.{true, false}
-use Prim.Native.Nat.{ℕ, zero, suc, _+_, _-_, _^_, _≤_, _<_, zero-le}
+use Prim.Native.Nat.{ℕ, zero, suc, _+_, _-_, _*_, _^_, _≤_, _<_, zero-le}
 use native.Mathlib.Omega.{arith}
 use borrow.Author.Tests.{le-ltb, lt-ltb}
 use lib.Dec.{T}
-use lib.IntN.{ℤ, pos, negsuc, negℤ, _+ℤ_, _-ℤ_}
+use lib.IntN.{ℤ, pos, negsuc, negℤ, _+ℤ_, _-ℤ_, _*ℤ_}
 use lib.Signed.{ltZ, nonNeg}
 use mir.Syntax.{w64}
 use mir.Val.{SFits, toZ, ofZ}
 use mir.ValLaws.{toZ-pos, toZ-ofZ}
-use Rattle.signed.specs.Sign.{isNegative, size}
-use Rattle.signed.proofs.Laws.{size-add}
+use Rattle.signed.specs.Sign.{isNegative, size, forward, backward}
+use Rattle.signed.proofs.Laws.{size-add, size-mul, size-diff}
+use Rattle.signed.proofs.Turns.{size-turn, forward-turned, backward-turned}
 
 -- the test `u < 0`
 pub negative-test : (u : ℤ) → ltZ u (pos 0) ≡ isNegative u
@@ -60,3 +61,24 @@ fits-size (negsuc n) h = record { sfits = omega arith }
 -- `a + b`, of sizes that together an i64 holds
 pub sum-fits : (a b : ℤ) → size a + size b < 2 ^ 63 → SFits w64 (a +ℤ b)
 sum-fits a b h = fits-size (a +ℤ b) (omega (arith, size-add a b))
+
+-- `a - b` likewise, and of numbers; `a * b`
+pub difference-fits : (a b : ℤ) → size a + size b < 2 ^ 63 → SFits w64 (a -ℤ b)
+difference-fits a b h = sum-fits a (negℤ b) (rw (size-turn true b) h)
+
+pub apart-fits : (a b : ℕ) → a < 2 ^ 63 → b < 2 ^ 63 → SFits w64 (pos a -ℤ pos b)
+apart-fits a b h k = fits-size (pos a -ℤ pos b) (omega (arith, size-diff a b (2 ^ 63 - 1) (omega arith) (omega arith)))
+
+pub product-fits : (a b : ℤ) → size a * size b < 2 ^ 63 → SFits w64 (a *ℤ b)
+product-fits a b h = fits-size (a *ℤ b) (rw (size-mul a b) h)
+
+-- a number and an amount, and a number less one, where that is a number
+pub more-is : (n : ℕ) (z : ℤ) → backward z ≤ n → pos n +ℤ z ≡ pos (n + forward z - backward z)
+more-is n (pos m) h = ap pos (omega arith)
+more-is n (negsuc m) h = rw (le-ltb n (suc m) h) (ap pos (omega arith))
+
+pub less-is : (n : ℕ) (z : ℤ) → forward z ≤ n → pos n -ℤ z ≡ pos (n + backward z - forward z)
+less-is n z h = rw (← forward-turned z, ← backward-turned z) (more-is n (negℤ z) (rw (backward-turned z) h))
+
+pub number-fits : (n : ℕ) → n < 2 ^ 63 → SFits w64 (pos n)
+number-fits n h = record { sfits = h }

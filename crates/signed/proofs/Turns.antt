@@ -1,10 +1,10 @@
 -- Signed amounts turned round: what a turn does to each part of an amount, to sums, products and quotients, and to what it moves.
 use Prim.Native.Nat.{ℕ, zero, suc, _+_, _*_, _/_}
-use mathlib.Core.Path.{_≡_, refl, sym}
+use mathlib.Core.Path.{_≡_, refl, sym, ap, _∙_}
 use mathlib.Core.Bool.{Bool, true, false, cond}
 use native.Mathlib.Nat.{zero-mul, zero-div}
 use native.Mathlib.Omega.{arith}
-use lib.IntN.{ℤ, pos, negsuc, negℤ, _+ℤ_, _*ℤ_, negℤ-negℤ, negℤ-+ℤ}
+use lib.IntN.{ℤ, pos, negsuc, negℤ, _+ℤ_, _-ℤ_, _*ℤ_, negℤ-negℤ, negℤ-+ℤ, +ℤ-comm, *ℤ-comm}
 use lib.Signed.{quotZ}
 use Rattle.signed.specs.Sign.{isNegative, isZero, size, forward, backward, withSign, turn}
 
@@ -56,6 +56,16 @@ neg-mul (negsuc a) (negsuc b) = refl
 pub turn-mul : (t : Bool) (a b : ℤ) → turn t a *ℤ b ≡ turn t (a *ℤ b)
 turn-mul false a b = refl
 turn-mul true a b = neg-mul a b
+
+-- two factors turned, the second alone, and a difference turned
+pub mul-turned : (a b : ℤ) → a *ℤ negℤ b ≡ negℤ (a *ℤ b)
+mul-turned a b = *ℤ-comm a (negℤ b) ∙ neg-mul b a ∙ ap negℤ (*ℤ-comm b a)
+
+pub both-turned : (a b : ℤ) → negℤ a *ℤ negℤ b ≡ a *ℤ b
+both-turned a b = mul-turned (negℤ a) b ∙ ap negℤ (neg-mul a b) ∙ negℤ-negℤ (a *ℤ b)
+
+pub difference-turned : (a b : ℤ) → b -ℤ a ≡ negℤ (a -ℤ b)
+difference-turned a b = sym (negℤ-+ℤ a (negℤ b) ∙ ap (λ (x : ℤ). negℤ a +ℤ x) (negℤ-negℤ b) ∙ +ℤ-comm (negℤ a) b)
 
 neg-quot : (a : ℤ) (n : ℕ) → quotZ (negℤ a) (pos n) ≡ negℤ (quotZ a (pos n))
 neg-quot (pos zero) n = rw (zero-div n)

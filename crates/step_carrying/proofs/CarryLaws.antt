@@ -32,7 +32,7 @@ use Rattle.step_cell.proofs.Places.{cell-in, face-in}
 use Rattle.step_cell.proofs.Slots.{face-slot}
 use Rattle.step_cell.proofs.BoundLaws.{length-across, across-q, across-face, across-lo, across-hi, across-adjacent}
 use Rattle.step_raising.specs.Raising.{Concentrations}
-use Rattle.step_carrying_face.specs.OneFace.{FaceAsks, FaceDone}
+use Rattle.step_carrying_face.specs.OneFace.{carriedBy, FaceAsks, FaceDone}
 use Rattle.step_carrying.specs.Carrying.{CarriedTo, inMassTo, outMassTo}
 
 -- from the first pass
@@ -65,7 +65,7 @@ module _ (S : StepInput) (r : Ready S) where
   affordable : (c : ℕ) → c < M .cells → outgoing M (carried S) c ≤ mass S c
   affordable c l = low-affords S (r .sound) c l
 
-  bounded : (c : ℕ) → c < M .cells → mass S c + incoming M (carried S) c < 2 ^ 64
+  bounded : (c : ℕ) → c < M .cells → mass S c + incoming M (carried S) c < 2 ^ 63
   bounded c l = omega (arith, mass-most S r c l, incoming-most M (carried S) maxCarried (r .counts-fit .few-faces) (carried-size S r) c)
 
   abbrev between-cells : ℕ → ℤ
@@ -161,13 +161,17 @@ module _ (S : StepInput) (r : Ready S) (f : ℕ) (h : f < S .mesh .faces) (enter
     reach-some = r .fit .reach-some f h;
     reach-most = r .fit .reach-most f h;
     afford = rw through-is (flow-afford M (carried S) (mass S) f h next (s .flowing) (affordable S r));
-    room = rw through-is (flow-room M (carried S) (mass S) f h next (s .flowing) (bounded S r));
+    room = rw through-is (flow-room M (carried S) (mass S) f h next (s .flowing) (2 ^ 63) (bounded S r));
   }
 
   -- the same of values that the code has read
   pub face-asks : (p : Bool) (u a b : ℕ) → p ≡ negative → u ≡ size (flux S f) → a ≡ near → b ≡ far
       → FaceAsks f (first M f) (second M f) u (share M f) (reach M f) a b (M .cells) (withSign p (u * cond p b a)) next moved work
   face-asks p u a b d e i j = rw (d, e, i, j) asks-there
+
+  pub inside-asks : (z : ℤ) (a b : ℕ) → z ≡ flux S f → a ≡ near → b ≡ far
+      → FaceAsks f (first M f) (second M f) (size z) (share M f) (reach M f) a b (M .cells) (carriedBy z a b) next moved work
+  inside-asks z a b d i j = rw (d, i, j, scale (flux S f) (cond negative far near)) asks-there
 
   -- the face's correction, of the concentrations that the code has read
   correction-is : cond (eqb (second M f) rim) (pos 0) (correctionOf (flux S f) near far (share M f) (reach M f)) ≡ correction S f
@@ -318,3 +322,10 @@ module _ (S : StepInput) (r : Ready S) (f : ℕ) (h : f < S .mesh .faces) (enter
 
     pub inside-turn : second M f ≢ rim → CarriedTo S (f + 1) entered gone next′ moved′ work′
     inside-turn d = rw (add-zero entered, add-zero gone) at (face-turn 0 0 (rw (ne-eqb (second M f) rim d)) (rw (ne-eqb (second M f) rim d)))
+
+  -- inside, of the flux that the code has read
+  pub inside-done : (z : ℤ) (a b amount : ℕ) → z ≡ flux S f → (next′ work′ : List ℕ) (moved′ : List ℤ)
+      → FaceDone f (first M f) (second M f) (share M f) (reach M f) a b (M .cells) amount z (carriedBy z a b) next next′ moved moved′ work work′
+      → FaceDone f (first M f) (second M f) (share M f) (reach M f) a b (M .cells) amount (withSign negative (size (flux S f)))
+      (withSign negative (size (flux S f) * cond negative b a)) next next′ moved moved′ work work′
+  inside-done z a b amount e next′ work′ moved′ d = rw (withSign-of (flux S f), ← scale (flux S f) (cond negative b a)) (rw e at d)

@@ -52,10 +52,10 @@ fn carry_turn(
 {
     let first = firsts[f];
     let second = seconds[f];
-    let negative = signed::is_negative_at(fluxes, f);
-    let size = signed::size_at(fluxes, f);
     let a = concentration(work, first);
     if second == RIM {
+        let negative = signed::is_negative_at(fluxes, f);
+        let size = signed::size_at(fluxes, f);
         let amount = carry_rim(
             f,
             first,
@@ -78,12 +78,12 @@ fn carry_turn(
     let b = concentration(work, second);
     let share = shares[f];
     let reach = reaches[f];
+    let flux = fluxes[f];
     carry_inside(
         f,
         first,
         second,
-        negative,
-        size,
+        flux,
         share,
         reach,
         a,

@@ -1,26 +1,29 @@
 -- One face of the second pass, from what its calls have done.
 use Prim.Native.Nat.{ℕ, _+_, _*_, _≤_}
-use mathlib.Core.Path.{_≡_, refl, sym}
+use mathlib.Core.Path.{_≡_, refl, sym, ap, _∙_}
 use mathlib.Core.Logic.{_≢_}
-use mathlib.Core.Bool.{Bool, true, false, cond}
+use mathlib.Core.Bool.{true, false}
 use mathlib.Core.List.{List}
 use native.Mathlib.Nat.{zero-mul}
 use native.Mathlib.Omega.{arith}
 use borrow.Author.Tests.{eq-eqb, ne-eqb}
 use lib.IntN.{ℤ, pos}
 use lib.ListN.{length, set}
-use Rattle.signed.specs.Sign.{withSign}
-use Rattle.signed.proofs.Laws.{withSign-zero, size-withSign}
+use mir.Syntax.{w64}
+use mir.Val.{SFits, toZ, ofZ}
+use mir.ValLaws.{toZ-ofZ}
+use Rattle.signed.specs.Sign.{size, isNegative, withSign}
+use Rattle.signed.proofs.Laws.{withSign-of, size-withSign, size-zero}
 use Rattle.model.specs.Mesh.{rim}
 use Rattle.step_face.specs.Correction.{decoded, correctionOf}
 use Rattle.step_face.specs.Exchange.{Transferred, Lost, Gained}
 use Rattle.step_face.proofs.Corrections.{correction-none}
 use Rattle.step_face.proofs.Transfers.{none-transferred, transferred-in, transferred-out}
-use Rattle.step_cell.specs.Work.{widened as widenedBy}
+use Rattle.step_cell.specs.Work.{widened as widenedBy, widenedAcross}
 use Rattle.step_cell.proofs.BoundLaws.{across-still, across-inside, across-in, across-out}
-use Rattle.step_carrying_face.specs.OneFace.{FaceAsks, FaceDone}
+use Rattle.step_carrying_face.specs.OneFace.{carriedBy, FaceAsks, FaceDone}
 
--- one face's calls: water that comes in over the rim, water that goes out, water inside, by the upwind concentration v, and no water
+-- one face's calls: water that comes in over the rim, water that goes out, water inside, and no water
 pub in-done : (f l a o n u : ℕ) (next next′ : List ℕ) (moved moved′ : List ℤ) (work met work′ : List ℕ) → u ≢ 0 → length next ≤ rim
     → Gained next l (u * o) next′ → moved′ ≡ set moved f (withSign true (u * o)) → met ≡ widenedBy work l o → work′ ≡ set met (4 * n + f) 0
     → FaceDone f l rim 0 0 a o n (u * o) (withSign true u) (withSign true (u * o)) next next′ moved moved′ work work′
@@ -45,33 +48,40 @@ out-done f l a o n u next next′ moved moved′ work work′ few t m q = record
   worked = rw (q, across-out work l rim a o u refl);
 }
 
-pub wet-done : (f l k s r a b n v c : ℕ) (p : Bool) (u : ℕ) (next next′ : List ℕ) (moved moved′ : List ℤ) (work met both work′ : List ℕ)
-    → k ≢ rim → u ≢ 0 → v ≡ cond p b a
-    → Transferred next l k (withSign p (u * v)) next′ → moved′ ≡ set moved f (withSign p (u * v)) → met ≡ widenedBy work l b → both ≡ widenedBy met k a
-    → decoded c ≡ correctionOf (withSign p u) a b s r → work′ ≡ set both (4 * n + f) c
-    → FaceDone f l k s r a b n (u * cond p b a) (withSign p u) (withSign p (u * cond p b a)) next next′ moved moved′ work work′
-wet-done f l k s r a b n v c p u next next′ moved moved′ work met both work′ i h e t m w x d q = record {
-  amount = sym (size-withSign p (u * cond p b a));
-  flowed = rw e at t;
-  carries = rw e at m;
+pub wet-done : (f l k s r a b n c : ℕ) (z y : ℤ) (next next′ : List ℕ) (moved moved′ : List ℤ) (work met both work′ : List ℕ) → k ≢ rim → size z ≢ 0
+    → y ≡ carriedBy z a b → Transferred next l k y next′ → moved′ ≡ set moved f y → met ≡ widenedBy work l b → both ≡ widenedBy met k a
+    → decoded c ≡ correctionOf z a b s r → work′ ≡ set both (4 * n + f) c
+    → FaceDone f l k s r a b n (size (carriedBy z a b)) z (carriedBy z a b) next next′ moved moved′ work work′
+wet-done f l k s r a b n c z y next next′ moved moved′ work met both work′ i h y-is t m w x d q = record {
+  amount = refl;
+  flowed = rw y-is at t;
+  carries = rw y-is at m;
   code = c;
   code-is = rw (ne-eqb k rim i) d;
-  worked = rw (q, x, w, across-inside work l k a b p u h i);
+  worked =
+      let e : widenedAcross work l k z a b ≡ widenedBy (widenedBy work l b) k a =
+      ap (λ (y : ℤ). widenedAcross work l k y a b) (sym (withSign-of z)) ∙ across-inside work l k a b (isNegative z) (size z) h i in
+      rw (q, x, w, e);
 }
 
-pub still-done : (f l k s r a b n : ℕ) (p : Bool) (u : ℕ) (next : List ℕ) (moved moved′ : List ℤ) (work work′ : List ℕ) → k ≢ rim → u ≡ 0
+pub still-done : (f l k s r a b n : ℕ) (z : ℤ) (next : List ℕ) (moved moved′ : List ℤ) (work work′ : List ℕ) → k ≢ rim → z ≡ pos 0
     → moved′ ≡ set moved f (pos 0) → work′ ≡ set work (4 * n + f) 0
-    → FaceDone f l k s r a b n (u * cond p b a) (withSign p u) (withSign p (u * cond p b a)) next next moved moved′ work work′
-still-done f l k s r a b n p u next moved moved′ work work′ i e m q =
-    let z : u * cond p b a ≡ 0 = rw e (zero-mul (cond p b a)) in
-    record {
-      amount = sym (size-withSign p (u * cond p b a));
-      flowed = rw z (none-transferred next l k p);
-      carries = rw (z, withSign-zero p) m;
-      code = 0;
-      code-is = rw (ne-eqb k rim i, e, withSign-zero p, correction-none (pos 0) a b s r refl);
-      worked = rw (e, across-still work l k a b p) q;
-    }
+    → FaceDone f l k s r a b n (size (carriedBy z a b)) z (carriedBy z a b) next next moved moved′ work work′
+still-done f l k s r a b n z next moved moved′ work work′ i e m q = record {
+  amount = refl;
+  flowed = rw (e, zero-mul a) (none-transferred next l k false);
+  carries = rw (e, zero-mul a) m;
+  code = 0;
+  code-is = rw (ne-eqb k rim i, e, correction-none (pos 0) a b s r refl);
+  worked = rw (e, across-still work l k a b false) q;
+}
+
+-- a flux of 0 is the word 0
+pub still-flux : (z : ℤ) → SFits w64 z → ofZ w64 z ≡ 0 → z ≡ pos 0
+still-flux z f e = sym (toZ-ofZ w64 z f) ∙ ap (toZ w64) e
+
+pub some-flux : (z : ℤ) → ofZ w64 z ≢ 0 → size z ≢ 0
+some-flux z h e = h (ap (ofZ w64) (size-zero z e))
 
 -- at the rim neither share nor reach counts
 pub rim-asks : (f l k u s r a b n : ℕ) (z : ℤ) (next : List ℕ) (moved : List ℤ) (work : List ℕ) → k ≡ rim

@@ -5,13 +5,17 @@ use mathlib.Core.Logic.{_≢_}
 use mathlib.Core.Bool.{cond}
 use mathlib.Core.List.{List}
 use lib.Dec.{eqb}
-use lib.IntN.{ℤ, pos}
+use lib.IntN.{ℤ, pos, _*ℤ_}
 use lib.ListN.{length, getD, set}
-use Rattle.signed.specs.Sign.{size}
+use Rattle.signed.specs.Sign.{size, isNegative}
 use Rattle.model.specs.Mesh.{rim, maxConcentration, maxRimFlux, maxShare, maxReach}
 use Rattle.step_face.specs.Correction.{decoded, correctionOf}
 use Rattle.step_face.specs.Exchange.{brings, takes, Transferred, EndsIn}
 use Rattle.step_cell.specs.Work.{widenedAcross}
+
+-- Stage 1: what a flux z carries, between concentrations a of the first cell and b beyond the face
+abbrev pub carriedBy : ℤ → ℕ → ℕ → ℤ
+carriedBy z a b = z *ℤ pos (cond (isNegative z) b a)
 
 -- one face of pass 2, with the concentrations a of its first cell and b beyond it: z is what it carries
 pub record FaceAsks (f first second size share reach a b cells : ℕ) (z : ℤ) (next : List ℕ) (moved : List ℤ) (work : List ℕ) : Type 0 where
@@ -27,7 +31,7 @@ pub record FaceAsks (f first second size share reach a b cells : ℕ) (z : ℤ) 
   pub reach-some : second ≢ rim → 1 ≤ reach
   pub reach-most : reach ≤ maxReach
   pub afford : (c : ℕ) → c < cells → takes first second z c ≤ getD next c 0
-  pub room : (c : ℕ) → c < cells → getD next c 0 + brings first second z c < 2 ^ 64
+  pub room : (c : ℕ) → c < cells → getD next c 0 + brings first second z c < 2 ^ 63
 
 -- what it has done, with the flux u: r is the size of what it carries, and its correction stands in work in one number
 pub record FaceDone (f first second share reach a b cells r : ℕ) (u z : ℤ) (next next′ : List ℕ) (moved moved′ : List ℤ) (work work′ : List ℕ) : Type 0 where

@@ -3,15 +3,15 @@ use step_cell::widen;
 use step_face::correction::correction_code;
 use step_face::exchange::gain;
 use step_face::exchange::lose;
-use step_face::exchange::transfer;
+use step_face::exchange::pass;
 use step_face::upwind::upwind;
 ghost use mathlib.Core.Path.{_≡_};
 ghost use mathlib.Core.Bool.{true, false, cond};
 ghost use mathlib.Core.Logic.{_≢_};
 ghost use Prim.Native.Nat.{_*_};
-ghost use Rattle.signed.specs.Sign.{withSign};
+ghost use Rattle.signed.specs.Sign.{size as sizeOf, withSign};
 ghost use Rattle.model.specs.Mesh.{rim};
-ghost use Rattle.step_carrying_face.specs.OneFace.{FaceAsks, FaceDone};
+ghost use Rattle.step_carrying_face.specs.OneFace.{carriedBy, FaceAsks, FaceDone};
 
 // Water comes in over the rim: what it carries, which its cell gains, and what the cell meets. There is no correction.
 pub fn come_in(
@@ -89,8 +89,7 @@ pub fn carry_wet(
     f: usize,
     first: u64,
     second: u64,
-    negative: bool,
-    size: u64,
+    flux: i64,
     share: u64,
     reach: u64,
     a: u64,
@@ -100,18 +99,17 @@ pub fn carry_wet(
     moved: &mut [i64],
     work: &mut [u64],
 )
-    requires { ⌜ FaceAsks f first second size share reach a b cells (withSign negative (size * cond negative b a)) (now next) (now moved) (now work) ⌝ }
-    requires { ⌜ (second ≢ rim) × (size ≢ 0) ⌝ }
-    ensures { λ _. ⌜ FaceDone f first second share reach a b cells (size * cond negative b a)
-        (withSign negative size) (withSign negative (size * cond negative b a))
+    requires { ⌜ FaceAsks f first second (sizeOf flux) share reach a b cells (carriedBy flux a b) (now next) (now moved) (now work) ⌝ }
+    requires { ⌜ (second ≢ rim) × (sizeOf flux ≢ 0) ⌝ }
+    ensures { λ _. ⌜ FaceDone f first second share reach a b cells (sizeOf (carriedBy flux a b)) flux (carriedBy flux a b)
         (now (next .entry)) (now (next .exit)) (now (moved .entry)) (now (moved .exit)) (now (work .entry)) (now (work .exit)) ⌝ }
 {
-    let amount = size * upwind(negative, a, b);
-    signed::put(moved, f, negative, amount);
-    transfer(next, first, second, negative, amount);
+    let carried = signed::times(flux, upwind(signed::is_negative(flux), a, b));
+    moved[f] = carried;
+    pass(next, first, second, carried);
     widen(work, first as usize, b);
     widen(work, second as usize, a);
-    let code = correction_code(negative, size, a, b, share, reach);
+    let code = correction_code(flux, a, b, share, reach);
     work[4 * cells + f] = code;
 }
 
@@ -120,8 +118,7 @@ pub fn carry_inside(
     f: usize,
     first: u64,
     second: u64,
-    negative: bool,
-    size: u64,
+    flux: i64,
     share: u64,
     reach: u64,
     a: u64,
@@ -131,14 +128,13 @@ pub fn carry_inside(
     moved: &mut [i64],
     work: &mut [u64],
 )
-    requires { ⌜ FaceAsks f first second size share reach a b cells (withSign negative (size * cond negative b a)) (now next) (now moved) (now work) ⌝ }
+    requires { ⌜ FaceAsks f first second (sizeOf flux) share reach a b cells (carriedBy flux a b) (now next) (now moved) (now work) ⌝ }
     requires { ⌜ second ≢ rim ⌝ }
-    ensures { λ _. ⌜ FaceDone f first second share reach a b cells (size * cond negative b a)
-        (withSign negative size) (withSign negative (size * cond negative b a))
+    ensures { λ _. ⌜ FaceDone f first second share reach a b cells (sizeOf (carriedBy flux a b)) flux (carriedBy flux a b)
         (now (next .entry)) (now (next .exit)) (now (moved .entry)) (now (moved .exit)) (now (work .entry)) (now (work .exit)) ⌝ }
 {
-    if size == 0 {
-        signed::put(moved, f, false, 0);
+    if flux == 0 {
+        moved[f] = 0;
         work[4 * cells + f] = 0;
         return;
     }
@@ -146,8 +142,7 @@ pub fn carry_inside(
         f,
         first,
         second,
-        negative,
-        size,
+        flux,
         share,
         reach,
         a,

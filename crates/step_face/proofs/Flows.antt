@@ -1,5 +1,5 @@
 -- Masses while amounts pass through one face after another: for any amounts that every cell can afford.
-use Prim.Native.Nat.{ℕ, _+_, _^_, _≤_, _<_}
+use Prim.Native.Nat.{ℕ, _+_, _≤_, _<_}
 use mathlib.Core.Path.{_≡_, _∙_}
 use mathlib.Core.List.{List}
 use native.Mathlib.Omega.{arith}
@@ -18,10 +18,10 @@ module _ (M : Mesh) (x : ℕ → ℤ) (m : ℕ → ℕ) (f : ℕ) (h : f < M .fa
   unfolding outgoing leaving
   flow-afford afford c l = omega (arith, s .at c l, sum-term f (M .faces) (leaving M x c) h, afford c l)
 
-  pub flow-room : ((c : ℕ) → c < M .cells → m c + incoming M x c < 2 ^ 64) → (c : ℕ) → c < M .cells
-      → getD next c 0 + brings (first M f) (second M f) (x f) c < 2 ^ 64
+  pub flow-room : (most : ℕ) → ((c : ℕ) → c < M .cells → m c + incoming M x c < most) → (c : ℕ) → c < M .cells
+      → getD next c 0 + brings (first M f) (second M f) (x f) c < most
   unfolding incoming entering
-  flow-room room c l = omega (arith, s .at c l, sum-term f (M .faces) (entering M x c) h, room c l)
+  flow-room most room c l = omega (arith, s .at c l, sum-term f (M .faces) (entering M x c) h, room c l)
 
   pub flow-turn : (next′ : List ℕ) → Transferred next (first M f) (second M f) (x f) next′ → Flowing M x m (f + 1) next′
   unfolding entering leaving

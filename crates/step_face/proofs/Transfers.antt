@@ -1,13 +1,15 @@
 -- Masses after an amount has passed through a face, from its giver to its receiver.
 use Prim.Native.Nat.{ℕ, _+_, _-_, _^_, _≤_, _<_}
-use mathlib.Core.Path.{_≡_, refl, ap, _∙_}
+use mathlib.Core.Path.{_≡_, refl, sym, ap, _∙_}
 use mathlib.Core.Logic.{_≢_}
 use mathlib.Core.Bool.{Bool, true, false, cond}
 use mathlib.Core.List.{List}
 use native.Mathlib.Omega.{arith}
+use borrow.Author.Tests.{ne-eqb}
 use lib.Dec.{eqb}
+use lib.IntN.{ℤ}
 use lib.ListN.{length, getD, set, length-set}
-use Rattle.signed.specs.Sign.{withSign}
+use Rattle.signed.specs.Sign.{forward, backward, withSign}
 use Rattle.signed.proofs.Laws.{forward-withSign, backward-withSign}
 use Rattle.lists.proofs.Tests.{Same, same, same?, cond-same, own, apart}
 use Rattle.lists.proofs.Tables.{getD-set}
@@ -79,7 +81,7 @@ transferred-in xs l n ys few t = transferred xs l rim true n xs ys (none-lost xs
 pub affords-out : (xs : List ℕ) (l k n : ℕ) → l < length xs → ((c : ℕ) → c < length xs → takes l k (withSign false n) c ≤ getD xs c 0) → n ≤ getD xs l 0
 affords-out xs l k n h afford = omega (arith, takes-is false l k n l, own l n, afford l h)
 
-pub has-room-in : (xs : List ℕ) (l k n : ℕ) → l < length xs → ((c : ℕ) → c < length xs → getD xs c 0 + brings l k (withSign true n) c < 2 ^ 64)
+pub has-room-in : (xs : List ℕ) (l k n : ℕ) → l < length xs → ((c : ℕ) → c < length xs → getD xs c 0 + brings l k (withSign true n) c < 2 ^ 63)
     → getD xs l 0 + n < 2 ^ 64
 has-room-in xs l k n h room = omega (arith, brings-is true l k n l, own l n, room l h)
 
@@ -112,3 +114,51 @@ module _ (xs : List ℕ) (l k : ℕ) (p : Bool) (n : ℕ) (ends : EndsIn (length
   pub receiver-has-room : (ys : List ℕ) → Lost xs giver n ys → (receiver < length ys) × (getD ys receiver 0 + n < 2 ^ 64)
   receiver-has-room ys t =
       rw (t .same-length) (receiver-in, omega (arith, t .at receiver receiver-in, room receiver receiver-in, brings-is p l k n receiver, own receiver n))
+
+-- an amount of either sign: the first cell has so much less, then the second so much more
+module _ (xs : List ℕ) (l k : ℕ) (z : ℤ) (ends : EndsIn (length xs) l k) (inside : k ≢ rim) where
+  other-end : eqb l k ≡ false
+  other-end = ne-eqb l k (ends .apart)
+
+  back-end : eqb k l ≡ false
+  back-end = ne-eqb k l (λ (e : k ≡ l). ends .apart (sym e))
+
+  pub first-affords : ((c : ℕ) → c < length xs → takes l k z c ≤ getD xs c 0) → ((c : ℕ) → c < length xs → getD xs c 0 + brings l k z c < 2 ^ 63)
+      → (forward z ≤ getD xs l 0) × (getD xs l 0 + backward z < 2 ^ 63)
+  first-affords afford room = (
+    omega (arith, afford l (ends .first-in), own l (forward z)),
+    omega (arith, room l (ends .first-in), own l (backward z)),
+  )
+
+  module _ (left : ℕ) where
+    abbrev met : List ℕ
+    met = set xs l left
+
+    second-stays : getD met k 0 ≡ getD xs k 0
+    second-stays = getD-set xs l k left 0 (ends .first-in) ∙ ap (λ (b : Bool). cond b left (getD xs k 0)) other-end
+
+    pub second-in-met : k < length met
+    second-in-met = rw (length-set xs l left) (ends .second-in inside)
+
+    pub second-affords : ((c : ℕ) → c < length xs → takes l k z c ≤ getD xs c 0) → ((c : ℕ) → c < length xs → getD xs c 0 + brings l k z c < 2 ^ 63)
+        → (backward z ≤ getD met k 0) × (getD met k 0 + forward z < 2 ^ 63)
+    second-affords afford room =
+        rw second-stays (
+          omega (arith, afford k (ends .second-in inside), own k (backward z)),
+          omega (arith, room k (ends .second-in inside), own k (forward z)),
+        )
+
+    pub passed : (grown : ℕ) → left + forward z ≡ getD xs l 0 + backward z → grown + backward z ≡ getD met k 0 + forward z
+        → Transferred xs l k z (set met k grown)
+    passed grown d e = record {
+      same-length = length-set met k grown ∙ length-set xs l left;
+      at = λ c h. rw (getD-set met k c grown 0 second-in-met, getD-set xs l c left 0 (ends .first-in)) (go c (eqb l c) (same? l c) (eqb k c) (same? k c));
+    }
+      where
+        go : (c : ℕ) (p : Bool) → Same l c p → (q : Bool) → Same k c q
+            → cond q grown (cond p left (getD xs c 0)) + (cond p (forward z) 0 + cond q (backward z) 0)
+            ≡ getD xs c 0 + (cond q (forward z) 0 + cond p (backward z) 0)
+        go c true (same i) true (same j) = absurd (ends .apart (i ∙ sym j))
+        go c true (same i) false o = let f : getD xs l 0 ≡ getD xs c 0 = ap (λ (n : ℕ). getD xs n 0) i in omega arith
+        go c false o true (same j) = let f : getD xs k 0 ≡ getD xs c 0 = ap (λ (n : ℕ). getD xs n 0) j in omega (arith, second-stays)
+        go c false o false u = omega arith

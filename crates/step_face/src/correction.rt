@@ -1,43 +1,51 @@
 // The correction of a face, stage 2, in one number.
 ghost use mathlib.Core.Path.{_≡_};
 ghost use mathlib.Core.Bool.{cond};
-ghost use Prim.Native.Nat.{_≤_, _<_, _+_, _-_, _*_, _/_};
-ghost use lib.Dec.{leb, ltb};
-ghost use Rattle.signed.specs.Sign.{withSign};
+ghost use Prim.Native.Nat.{_≤_, _-_, _*_, _/_};
+ghost use Rattle.signed.specs.Sign.{isNegative, size as sizeOf, withSign};
 ghost use Rattle.model.specs.Mesh.{maxShare, maxReach, maxConcentration};
 ghost use Rattle.model.specs.Accepted.{maxCarried};
-ghost use Rattle.step_face.specs.Correction.{decoded, gap, correctionOf};
+ghost use Rattle.step_face.specs.Correction.{decoded, productOf, correctionOf};
 
-// How far two numbers are apart.
-pub fn gap_of(a: u64, b: u64) -> u64
-    ensures { λ r. ⌜ r ≡ gap a b ⌝ }
+// The whole way between centres, in 1/256.
+const WAY: u64 = 256;
+
+const HALF: u64 = 128;
+
+// The end of the way from which the share is told: the first cell, or with a flux below 0 the second.
+fn end_of_way(negative: bool) -> u64
+    ensures { λ r. ⌜ r ≡ cond negative 256 0 ⌝ }
 {
-    if a < b { b - a } else { a - b }
+    if negative { WAY } else { 0 }
 }
 
-// t: the share of the way between centres that lies upwind, in 1/256.
-pub fn upwind_share(negative: bool, share: u64) -> u64
+// t, the share of the way between centres that lies upwind, in 1/256, with the sign of the flux: s, or s - 256.
+pub fn upwind_share(flux: i64, share: u64) -> i64
     requires { ⌜ share ≤ maxShare ⌝ }
-    ensures { λ r. ⌜ r ≡ cond negative (256 - share) share ⌝ }
+    ensures { λ r. ⌜ r ≡ withSign (isNegative flux) (cond (isNegative flux) (256 - share) share) ⌝ }
 {
-    if negative { 256 - share } else { share }
+    let end = end_of_way(signed::is_negative(flux));
+    signed::difference(share, end)
 }
 
-// Whether a correction runs from the second cell to the first: the product of the signs of its factors. tk is t·K, half is 128·|U|.
-pub fn runs_back(a: u64, b: u64, tk: u64, half: u64) -> bool
-    ensures { λ r. ⌜ r ≡ cond (ltb b a) (leb half tk) (ltb tk half) ⌝ }
+// U·d·(t·K - 128·|U|). A flux below 0 turns d and t alike, so that the product is that of b - a, and of t and U as they are signed.
+pub fn correction_product(flux: i64, a: u64, b: u64, share: u64, reach: u64) -> i64
+    requires { ⌜ (sizeOf flux ≤ reach) × (a ≤ maxConcentration) × (b ≤ maxConcentration) × (share ≤ maxShare) × (reach ≤ maxReach) ⌝ }
+    ensures { λ r. ⌜ (r ≡ productOf flux a b share reach) × (sizeOf r ≤ 256 * reach * maxCarried) ⌝ }
 {
-    if b < a { half <= tk } else { tk < half }
+    let way = signed::times(upwind_share(flux, share), reach);
+    let half = signed::times(flux, HALF);
+    let rest = signed::subtract(way, half);
+    let moved = signed::multiply(flux, signed::difference(b, a));
+    signed::multiply(moved, rest)
 }
 
-// The size of a correction, where the flux is at most the reach. By 256 first: what is left is smaller, and divides faster.
-pub fn correction_size(size: u64, a: u64, b: u64, tk: u64, reach: u64) -> u64
-    requires { ⌜ (size ≤ reach) × (a ≤ maxConcentration) × (b ≤ maxConcentration) × (tk ≤ 256 * reach) × (1 ≤ reach) × (reach ≤ maxReach) ⌝ }
-    ensures { λ r. ⌜ (r ≡ size * gap a b * gap tk (128 * size) / (256 * reach)) × (r ≤ maxCarried) ⌝ }
+// The size of a correction. By 256 first: what is left is smaller, and divides faster.
+pub fn correction_size(product: i64, reach: u64) -> u64
+    requires { ⌜ 1 ≤ reach ⌝ }
+    ensures { λ r. ⌜ r ≡ sizeOf product / (256 * reach) ⌝ }
 {
-    let difference = gap_of(a, b);
-    let rest = gap_of(tk, 128 * size);
-    size * difference * rest / 256 / reach
+    signed::size(product) / WAY / reach
 }
 
 // A signed amount in one number.
@@ -49,12 +57,11 @@ pub fn code(negative: bool, amount: u64) -> u64
 }
 
 // The correction of an interior face, in one number.
-pub fn correction_code(negative: bool, size: u64, a: u64, b: u64, share: u64, reach: u64) -> u64
-    requires { ⌜ (size ≤ reach) × (a ≤ maxConcentration) × (b ≤ maxConcentration) × (share ≤ maxShare) × (1 ≤ reach) × (reach ≤ maxReach) ⌝ }
-    ensures { λ r. ⌜ decoded r ≡ correctionOf (withSign negative size) a b share reach ⌝ }
+pub fn correction_code(flux: i64, a: u64, b: u64, share: u64, reach: u64) -> u64
+    requires { ⌜ (sizeOf flux ≤ reach) × (a ≤ maxConcentration) × (b ≤ maxConcentration) × (share ≤ maxShare) × (1 ≤ reach) × (reach ≤ maxReach) ⌝ }
+    ensures { λ r. ⌜ decoded r ≡ correctionOf flux a b share reach ⌝ }
 {
-    let tk = upwind_share(negative, share) * reach;
-    let amount = correction_size(size, a, b, tk, reach);
-    let back = runs_back(a, b, tk, 128 * size);
-    code(back, amount)
+    let product = correction_product(flux, a, b, share, reach);
+    let amount = correction_size(product, reach);
+    code(signed::is_negative(product), amount)
 }

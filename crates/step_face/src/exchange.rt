@@ -45,3 +45,18 @@ pub fn transfer(next: &mut [u64], first: u64, second: u64, negative: bool, amoun
     lose(next, giver, amount);
     gain(next, receiver, amount);
 }
+
+// An amount of either sign passes through a face inside the mesh: its first cell has so much less, its second so much more.
+pub fn pass(next: &mut [u64], first: u64, second: u64, amount: i64)
+    requires { ⌜ EndsIn (length (now next)) first second × (second ≢ rim) ⌝ }
+    requires { ⌜ ((c : ℕ) → c < length (now next) → takes first second amount c ≤ getD (now next) c 0) ⌝ }
+    requires { ⌜ ((c : ℕ) → c < length (now next) → getD (now next) c 0 + brings first second amount c < 2 ^ 63) ⌝ }
+    ensures { λ _. ⌜ Transferred (now (next .entry)) first second amount (now (next .exit)) ⌝ }
+{
+    let from = first as usize;
+    let to = second as usize;
+    let left = signed::less(next[from], amount);
+    next[from] = left;
+    let grown = signed::more(next[to], amount);
+    next[to] = grown;
+}

@@ -123,7 +123,7 @@ module _ (M : Mesh) (work next₀ : List ℕ) (moved₀ : List ℤ) (asks : Limi
     in-moved = rw (s .moved-long, asks .moved-long) h;
     moved-most = rw (s .moved-rest f (omega arith)) (asks .moved-most f h);
     afford = rw (← lim-is, s .flowing .long) (flow-afford M (limitedIn M work) (λ c. getD next₀ c 0) f h next (s .flowing) afford);
-    room = rw (← lim-is, s .flowing .long) (flow-room M (limitedIn M work) (λ c. getD next₀ c 0) f h next (s .flowing) room);
+    room = rw (← lim-is, s .flowing .long) (flow-room M (limitedIn M work) (λ c. getD next₀ c 0) f h next (s .flowing) (2 ^ 64) room);
   }
 
   pub limited-turn : (next′ : List ℕ) (moved′ : List ℤ) → CutDone f (first M f) (second M f) k work next next′ moved moved′

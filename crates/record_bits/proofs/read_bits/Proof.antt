@@ -1,6 +1,6 @@
 -- The eight bytes that end with the field's last one hold it. Near the start the number that falls is the count of bytes still to be touched.
 -- It starts at all that the field touches, since k starts at 0.
-use Prim.Native.Nat.{_≤_, _<_, _-_, _*_, _/_, zero-le}
+use Prim.Native.Nat.{_≤_, _-_, _*_, _/_, zero-le}
 use mathlib.Core.Path.{_≡_, sym, _∙_}
 use borrow.Author.Needs.{needs}
 use Rattle.record_bits.specs.Field.{bitsAt}
