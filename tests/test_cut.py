@@ -101,7 +101,8 @@ class Cut(unittest.TestCase):
             _, texts = cut(made, TIDE.encode(), labels)
             _, parts = cut(made, sessiontext.pack(TIDE)[0], labels, "--map", f"{made}/map.csv")
             equal([sessiontext.pack(text.decode())[0] for text in texts], parts, "text and packed")
-            rows = list(csv.reader(open(f"{made}/map.csv")))
+            with open(f"{made}/map.csv") as file:
+                rows = list(csv.reader(file))
         equal(rows[0], ["kind", "old", "part", "new", "turned"], "the map's heading")
         equal([row[1:] for row in rows if row[:2] == ["face", "4"]], [["4", "0", "4", ""], ["4", "1", "0", "turned"]], "the face at the cut")
         equal(len(rows), 1 + 8 + 10, "rows")

@@ -14,6 +14,7 @@ import threading
 import time
 import traceback
 import unittest
+import warnings
 from pathlib import Path
 
 HERE = Path(__file__).resolve().parent
@@ -87,6 +88,7 @@ def child(words, given, out, said):
     sys.stdin = io.TextIOWrapper(io.BufferedReader(io.FileIO(0)))
     sys.stdout, sys.stderr = (io.TextIOWrapper(io.BufferedWriter(io.FileIO(number, "w"))) for number in (1, 2))
     sys.argv = ["lagoon", *words]
+    warnings.simplefilter("ignore", ResourceWarning)       # as where no test has asked for it
     signal.alarm(PATIENCE)
     try:
         status = cli.main()
