@@ -1,7 +1,7 @@
-/* The stack that accepted calls take, in bytes: each on a thread whose stack was filled with a pattern before it. A line for each: the step on
+/* The stack that calls take, in bytes: each on a thread whose stack was filled with a pattern before it. A line for each: the step on
  * the channel's records; on the longest records of all, wide, of as many cells and faces as the limits allow, every face at the rim, a
  * release for each cell; and on two large cells between which the limiter's product takes more than 64 bits; then, on the longest records or
- * the largest tables, the other calls that have arrays of their own. */
+ * the largest tables, the other calls that have arrays of their own; last those that seek a refusal by 9 in arrays of its own. */
 #define _GNU_SOURCE 1
 #include <pthread.h>
 #include <stdio.h>
@@ -30,8 +30,9 @@ static void put_channel(void)
     step_length = lagoon_put_step(step, LAGOON_NARROW, 4, faces, fluxes, outsides);
 }
 
-/* Each cell is as large as may be; through one of its faces all its water goes out, and through the other as much comes in. */
-static void put_longest(void)
+/* Each cell is as large as may be; through one of its faces all its water goes out, and through the other as much comes in, but to one cell
+ * less where so much is wanting. */
+static void put_longest(int32_t wanting)
 {
     static uint32_t volumes[CELLS], outsides[FACES];
     static uint64_t masses[CELLS], releases[CELLS];
@@ -49,6 +50,7 @@ static void put_longest(void)
         releases[c] = LAGOON_MAX_VOLUME - 1;
         masses[c] = (uint64_t)LAGOON_MAX_VOLUME * LAGOON_MAX_CONCENTRATION;
     }
+    fluxes[0] += wanting;
     mesh_length = lagoon_put_mesh(mesh, LAGOON_WIDE, CELLS, volumes, FACES, faces);
     field_length = lagoon_put_field(field, LAGOON_WIDE, CELLS, masses);
     step_length = lagoon_put_outfalls(step, LAGOON_WIDE, CELLS, releases, FACES, faces, fluxes, outsides);
@@ -148,13 +150,14 @@ static uint64_t cut_records(void)
 }
 
 static uint64_t (*called)(void);
+static unsigned cause;
 
 static void *call(void *unused)
 {
     uint8_t here;
     (void)unused;
     below = (size_t)(&here - low);
-    if (called() != 0)
+    if (called() != (uint64_t)cause << 32)
         exit(1);
     return NULL;
 }
@@ -183,7 +186,7 @@ int main(void)
     print_taken("lagoon_step: the channel", take_step);
     put_large_product();
     print_taken("lagoon_step: a large product", take_step);
-    put_longest();
+    put_longest(0);
     print_taken("lagoon_step: the longest records", take_step);
     fill_tables();
     print_taken("lagoon_table_step", take_table_step); /* and what it moves is judged below */
@@ -193,5 +196,12 @@ int main(void)
     print_taken("lagoon_crossing", look_at_crossing);
     print_taken("lagoon_judge", judge_records);
     print_taken("lagoon_cut", cut_records);
+    cause = LAGOON_BALANCE;
+    put_longest(1);
+    whole.fluxes[0]++;
+    print_taken("lagoon_step, refused by 9", take_step);
+    print_taken("lagoon_judge, refused by 9", judge_records);
+    print_taken("lagoon_table_step, refused by 9", take_table_step);
+    print_taken("lagoon_table_judge, refused by 9", judge_tables);
     return 0;
 }
