@@ -23,7 +23,7 @@ abbrev turn : tie.After-chunk Inv-loop μ-loop → tie.At-loop Inv-loop μ-loop
 turn c = c .before .before .before .before
 
 abbrev number : tie.After-chunk2 Inv-loop μ-loop → tie.After-chunk Inv-loop μ-loop
-number c = c .before .before .before .before .before .before .before .before .before .before
+number c = let call = c .before .before .before .before .before in call .before .before .before .before .before
 
 same-length : tie.Need-same-length Inv-loop μ-loop
 same-length c = let n = c .before .before .before .before in n .chunk .given ∙ turn n .loop .inv .1
