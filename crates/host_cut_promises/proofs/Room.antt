@@ -10,7 +10,7 @@ use lib.Dec.{eqb}
 use lib.IntN.{ℤ, pos}
 use lib.ListN.{length, getD, length-replicate}
 use Rattle.lists.proofs.Tables.{getD-table}
-use Rattle.lists.proofs.Marked.{old-marked}
+use Rattle.lists.proofs.Marked.{count-most, old-marked}
 use Rattle.signed.specs.Sign.{size, withSign}
 use Rattle.signed.proofs.Turns.{size-turn}
 use Rattle.signed.proofs.Laws.{size-withSign}
@@ -151,7 +151,14 @@ module _ (L : Lagoon) (labels : List ℕ) (cut-fine : cutFinds L labels ≡ fine
       )
 
   pub part-passes : (p : ℕ) → p < 2 → let P = piece L labels p in verdict (wholeMesh P) (P .tables .masses) (stepOn P nexts moveds work) ≡ fine
-  part-passes p h = part-fine L labels p ownPart nexts moveds work whole-fine (part-some L labels ownPart ownPart cut-fine p h) own nexts moveds work room
+  part-passes p h =
+      let cells = count-most (inPart L labels p) (L .cells) in
+      let faces = count-most (touches L labels p) (L .faces) in
+      part-fine L labels p ownPart nexts moveds work whole-fine (part-some L labels ownPart ownPart cut-fine p h) own nexts moveds work (record {
+        nexts-long = omega (arith, cells, room .nexts-long);
+        moveds-long = omega (arith, faces, room .moveds-long);
+        work-long = omega (arith, cells, faces, room .work-long);
+      })
 
 -- and in records
 module _ (mesh field step labels : List ℕ) (step-fine : stepRecordFound (widthIn mesh) (meshIn mesh) step ≡ fine)
