@@ -9,7 +9,7 @@ use Rattle.checks.proofs.check_step.Tie as tie
 
 -- the call's start, from where its tables are known
 abbrev start : tie.After-shared-slice-known10 → tie.Start
-start c = c .before .before .before .before .before .before .before .before .before .before
+start c = let shared = c .before .before .before .before .before in shared .before .before .before .before .before
 
 abbrev call : tie.Start → Call
 call s = callOf (s .args .fluxes .now) (s .args .outsides .now) (s .args .next .now) (s .args .moved .now) (s .args .work .now) (s .args .releases .now)

@@ -11,7 +11,7 @@ use Rattle.checks.proofs.check_step_in.Tie as tie
 
 -- the call's start, from where its tables are known
 abbrev start : tie.After-tables-lent-arg → tie.Start
-start c = c .before .before .before .before .before .before .before .before .before .before .before
+start c = let shared = c .before .before .before .before .before .before in shared .before .before .before .before .before
 
 abbrev mesh : tie.Start → Mesh
 mesh s = meshOf (s .args .cells) (s .args .faces) (s .args .volumes .now) (s .args .firsts .now) (s .args .seconds .now) (s .args .shares .now)

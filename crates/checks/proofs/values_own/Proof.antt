@@ -7,12 +7,14 @@ use Rattle.checks.proofs.values_own.Tie as tie
 
 values-in-requires : tie.Need-values-in-requires
 values-in-requires c κs =
-    let s = c .before .before .before .before .before .before .before .before .before .before in
+    let shared = c .before .before .before .before .before in
+    let s = shared .before .before .before .before .before in
     (s .pre, (c .before .if1 .taken, λ e. absurd (true≢false (sym e))))
 
 values-in-requires-2 : tie.Need-values-in-requires-2
 values-in-requires-2 c κs =
-    let s = c .before .before .before .before .before .before .before .before .before .before in
+    let shared = c .before .before .before .before .before in
+    let s = shared .before .before .before .before .before in
     (s .pre, (s .pre .counts-fit .few-cells, λ e. absurd (true≢false (sym e))))
 
 pub values-own-spec : {M : Type 1} → statement M

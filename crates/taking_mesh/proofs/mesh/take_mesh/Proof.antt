@@ -56,7 +56,8 @@ take-mesh-spec =
     (λ c. let d = c .before .before .before in mesh-read (reading d .read-mesh .ensures) (d .before .answer .given .1) .shares-part .fits)
     (λ c. let d = c .before .before .before .before in part-long (mesh-read (reading d .read-mesh .ensures) (d .before .answer .given .1) .shares-part))
     (λ c. let d = c .before .before .before .before in mesh-read (reading d .read-mesh .ensures) (d .before .answer .given .1) .reaches-part .fits)
-    (λ c. let d = c .before .before .before .before .before in part-long (mesh-read (reading d .read-mesh .ensures) (d .before .answer .given .1) .reaches-part))
+    (λ c. let d = c .before .before .before .before .before in
+    part-long (mesh-read (reading d .read-mesh .ensures) (d .before .answer .given .1) .reaches-part))
     keep-requires
     (λ c. c .before .before .before .before .before .before .before .before .before .volumes .given)
     (λ c. c .before .before .before .before .before .before .before .firsts .given)

@@ -6,7 +6,7 @@ use Rattle.taking_records.proofs.step.stepped.Statement.{statement}
 use Rattle.taking_records.proofs.step.stepped.Tie as tie
 
 abbrev lent : tie.After-step-in-arg4 → tie.Start
-lent c = c .before .before .before .before .before .before .before .before .before .before .before .before .before .before
+lent c = let shared = c .before .before .before .before .before .before .before in shared .before .before .before .before .before .before .before
 
 abbrev begun : tie.After-step-in → tie.Start
 begun c = lent (c .before)

@@ -22,7 +22,8 @@ returns : tie.Need-returns
 returns c =
     let r = c .before .before .before .before .before .before .before .before in
     let s = begun r in
-    step-unread (s .args .width) (mesh s) (s .args .masses .now) (r .read-step .ensures) (s .pre .0 .0) (s .pre .0 .1) (s .pre .0 .2) (c .before .read .given .1)
+    step-unread (s .args .width) (mesh s) (s .args .masses .now) (r .read-step .ensures) (s .pre .0 .0) (s .pre .0 .1) (s .pre .0 .2)
+    (c .before .read .given .1)
 
 slice-reshare-prefix-stepped : tie.Need-slice-reshare-prefix-stepped
 slice-reshare-prefix-stepped c =
