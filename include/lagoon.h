@@ -16,7 +16,7 @@
  * records in C.
  *
  * Build the library with `make lib` and link target/lib/liblagoon.a, or liblagoon.so. It needs memset and memcpy of the C library, nothing
- * else, has 96 KiB of code and figures at most, and runs on x86-64 with the System V calling convention.
+ * else, has 128 KiB of code and figures at most, and runs on x86-64 with the System V calling convention.
  *
  * What all calls share. A table or a record is a pointer, then its length in entries, or bytes. No pointer is null, also where the length
  * is 0, and so many entries behind it are the host's; tables of 64 bits lie at multiples of 8. What is not const is written, and overlaps
