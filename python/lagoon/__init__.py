@@ -5,8 +5,8 @@
     for moment in bay.run():
         print(moment.step, moment.total, moment.q["Salt Pan"])
 
-`docs/PYTHON.md` walks through all of it. Verdicts and figures are the engine's: the C library's calls and, where it has none yet, those of
-the program `calls`. Python's own are texts and records both ways, the words of a refusal, which have to be about the engine's cause and
+`docs/PYTHON.md` walks through all of it. Verdicts and figures are the engine's: the C library's calls or, where no library is built, those
+of the program `calls`. Python's own are texts and records both ways, the words of a refusal, which have to be about the engine's cause and
 place, in-mass and out-mass by face, the sums of a budget, and pictures.
 """
 
