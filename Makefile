@@ -14,7 +14,7 @@ export TMPDIR := $(shell tools/scratch.sh)
 
 help:
 	@echo 'make run        the channel session of document 01: six lines (the first time it proves what it builds, some minutes)'
-	@echo 'make test       the gate: proofs, must-fail edits, programs, tests, some 50 minutes; its last line is "N passed, M failed"'
+	@echo 'make test       the gate: proofs, must-fail edits, programs, tests, an hour; its last line is "N passed, M failed"'
 	@echo 'make quick      the tests without comparisons and proofs, in two lanes: under a minute once the programs are proved'
 	@echo 'make lib        the C library: target/lib/liblagoon.a and liblagoon.so; the header is include/lagoon.h'
 	@echo 'make install    headers, library, the command lagoon, manual pages, examples and papers to PREFIX=$(PREFIX) (DESTDIR= before it)'
