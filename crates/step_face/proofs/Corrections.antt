@@ -11,7 +11,7 @@ use Rattle.signed.proofs.Laws.{size-zero, size-mul, size-quot, size-diff, mul-w
 use Rattle.signed.proofs.Turns.{mul-turned, both-turned, difference-turned}
 use Rattle.model.specs.Accepted.{maxCarried}
 use Rattle.model.specs.Mesh.{maxConcentration, maxShare, maxReach}
-use Rattle.step_face.specs.Correction.{decoded, productOf, correctionOf}
+use Rattle.step_face.specs.Correction.{overSign, decoded, productOf, correctionOf}
 
 -- of any share
 pub share-le : (p : Bool) (s : ℕ) → s ≤ maxShare → cond p (256 - s) s ≤ 256
@@ -81,17 +81,17 @@ pub correction-is : (z : ℤ) (a b s k : ℕ)
 unfolding correctionOf
 correction-is z a b s k = quot-is (productOf z a b s k) (256 * k)
 
--- twice a size, and one more
-pub decoded-even : (n : ℕ) → decoded (2 * n) ≡ pos n
+-- a size over its sign
+pub decoded-even : (n : ℕ) → decoded (overSign * n) ≡ pos n
 decoded-even n =
-    let a : (2 * n) % 2 ≡ 0 = omega arith in
-    let b : (2 * n) / 2 ≡ n = omega arith in
+    let a : (overSign * n) % 2 ≡ 0 = omega arith in
+    let b : (overSign * n) / overSign ≡ n = omega arith in
     rw (a, b)
 
-pub decoded-odd : (n : ℕ) → decoded (2 * n + 1) ≡ withSign true n
+pub decoded-odd : (n : ℕ) → decoded (overSign * n + 1) ≡ withSign true n
 decoded-odd n =
-    let a : (2 * n + 1) % 2 ≡ 1 = omega arith in
-    let b : (2 * n + 1) / 2 ≡ n = omega arith in
+    let a : (overSign * n + 1) % 2 ≡ 1 = omega arith in
+    let b : (overSign * n + 1) / overSign ≡ n = omega arith in
     rw (a, b)
 
 -- no flux, no correction

@@ -15,6 +15,9 @@ productOf z a b s k =
 unfoldable pub correctionOf : ℤ → ℕ → ℕ → ℕ → ℕ → ℤ
 correctionOf z a b s k = quotZ (productOf z a b s k) (pos (256 * k))
 
--- a correction in one entry: twice its size, and one more where it is below 0; a size of 0 is 0 under either
+-- a correction in one entry: its size times this, and one more where it is below 0; a size of 0 is 0 under either
+abbrev pub overSign : ℕ
+overSign = 4
+
 abbrev pub decoded : ℕ → ℤ
-decoded n = withSign (eqb (n % 2) 1) (n / 2)
+decoded n = withSign (eqb (n % 2) 1) (n / overSign)

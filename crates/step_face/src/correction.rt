@@ -12,6 +12,10 @@ const WAY: u64 = 256;
 
 const HALF: u64 = 128;
 
+// In one number a correction's size stands over its sign, as a multiple of this. By 2 it would be joined to the sign by a double shift, which
+// is slow.
+pub const OVER_SIGN: u64 = 4;
+
 // The end of the way from which the share is told: the first cell, or with a flux below 0 the second.
 fn end_of_way(negative: bool) -> u64
     ensures { λ r. ⌜ r ≡ cond negative 256 0 ⌝ }
@@ -53,7 +57,11 @@ pub fn code(negative: bool, amount: u64) -> u64
     requires { ⌜ amount ≤ maxCarried ⌝ }
     ensures { λ r. ⌜ decoded r ≡ withSign negative amount ⌝ }
 {
-    if negative { 2 * amount + 1 } else { 2 * amount }
+    if negative {
+        OVER_SIGN * amount + 1
+    } else {
+        OVER_SIGN * amount
+    }
 }
 
 // The correction of an interior face, in one number.

@@ -25,6 +25,7 @@ use Rattle.step_cell.proofs.Places.{cell-in}
 use Rattle.step_smoothing.specs.Corrections.{enters, leaves, corrections}
 use Rattle.step_limiter.specs.Limiter.{cutOf, limitedOf, limitedIn, CutAsks, CutDone, LimitAsks, Limited}
 use Rattle.step_smoothing.proofs.CorrectionLaws.{code, size-is, inside, enters-in, leaves-in}
+use Rattle.step_face.specs.Correction.{overSign}
 
 pub limited-start : (M : Mesh) (work next : List ℕ) (moved : List ℤ) → length next ≡ M .cells → Limited M work next moved 0 next moved
 limited-start M work next moved e =
@@ -37,12 +38,12 @@ limited-start M work next moved e =
     }
 
 -- of a face without a correction nothing is asked and nothing moves
-pub no-cut : (f l k code : ℕ) (work next : List ℕ) (moved : List ℤ) → code / 2 ≡ 0 → CutDone f l k code work next next moved moved
+pub no-cut : (f l k code : ℕ) (work next : List ℕ) (moved : List ℤ) → code / overSign ≡ 0 → CutDone f l k code work next next moved moved
 unfolding limitedOf
 no-cut f l k code work next moved e = record {
-  flowed = rw (eq-eqb (code / 2) 0 e) (record { same-length = refl; at = λ c h. omega (arith, cond-same {A = ℕ} (eqb l c) 0, cond-same {A = ℕ} (eqb k c) 0) });
+  flowed = rw (eq-eqb (code / overSign) 0 e) (record { same-length = refl; at = λ c h. omega (arith, cond-same {A = ℕ} (eqb l c) 0, cond-same {A = ℕ} (eqb k c) 0) });
   moved-long = refl;
-  moved-at = λ g. rw (eq-eqb (code / 2) 0 e, +ℤ-idr (getD moved f (pos 0))) (either g (eqb f g) (same? f g));
+  moved-at = λ g. rw (eq-eqb (code / overSign) 0 e, +ℤ-idr (getD moved f (pos 0))) (either g (eqb f g) (same? f g));
 }
   where
     either : (g : ℕ) (b : Bool) → Same f g b → getD moved g (pos 0) ≡ cond b (getD moved f (pos 0)) (getD moved g (pos 0))
@@ -50,13 +51,13 @@ no-cut f l k code work next moved e = record {
     either g false o = refl
 
 -- a correction cut
-pub cut-done : (f l k code : ℕ) (work next next′ : List ℕ) (moved moved′ : List ℤ) (n : ℕ) → code / 2 ≢ 0 → n
+pub cut-done : (f l k code : ℕ) (work next next′ : List ℕ) (moved moved′ : List ℤ) (n : ℕ) → code / overSign ≢ 0 → n
     ≡ cutOf work code (enters code l k) (leaves code l k) → f < length moved
     → Transferred next l k (withSign (eqb (code % 2) 1) n) next′ → moved′ ≡ set moved f (getD moved f (pos 0) +ℤ withSign (eqb (code % 2) 1) n)
     → CutDone f l k code work next next′ moved moved′
 unfolding limitedOf
 cut-done f l k code work next next′ moved moved′ n d e h t q =
-    let z-is : limitedOf work code l k ≡ withSign (eqb (code % 2) 1) n = rw (ne-eqb (code / 2) 0 d, e) in
+    let z-is : limitedOf work code l k ≡ withSign (eqb (code % 2) 1) n = rw (ne-eqb (code / overSign) 0 d, e) in
     record {
       flowed = rw z-is t;
       moved-long = rw q (length-set moved f _);
@@ -77,24 +78,24 @@ module _ (M : Mesh) (work next₀ : List ℕ) (moved₀ : List ℤ) (asks : Limi
   abbrev from : ℕ
   from = leaves k (first M f) (second M f)
 
-  to-in : k / 2 ≢ 0 → to < M .cells
+  to-in : k / overSign ≢ 0 → to < M .cells
   to-in = enters-in M work (asks .coded-in) f h
 
-  from-in : k / 2 ≢ 0 → from < M .cells
+  from-in : k / overSign ≢ 0 → from < M .cells
   from-in = leaves-in M work (asks .coded-in) f h
 
-  sign-is : k / 2 ≢ 0 → isNegative (corrections (M .cells) work f) ≡ eqb (k % 2) 1
-  sign-is d = negative-withSign (eqb (k % 2) 1) (k / 2) (positive (k / 2) d)
+  sign-is : k / overSign ≢ 0 → isNegative (corrections (M .cells) work f) ≡ eqb (k % 2) 1
+  sign-is d = negative-withSign (eqb (k % 2) 1) (k / overSign) (positive (k / overSign) d)
 
-  cut-is : k / 2 ≢ 0 → limitedIn M work f ≡ withSign (eqb (k % 2) 1) (cutOf work k to from)
+  cut-is : k / overSign ≢ 0 → limitedIn M work f ≡ withSign (eqb (k % 2) 1) (cutOf work k to from)
   unfolding limitedBy receiver giver
   cut-is d = rw (sign-is d, size-is M work (asks .coded-in) f h, asks .p-is to (to-in d), asks .n-is from (from-in d))
 
   lim-is : limitedIn M work f ≡ limitedOf work k (first M f) (second M f)
   unfolding limitedOf
-  lim-is = go (eqb (k / 2) 0) (same? (k / 2) 0)
+  lim-is = go (eqb (k / overSign) 0) (same? (k / overSign) 0)
     where
-      go : (b : Bool) → Same (k / 2) 0 b → limitedIn M work f ≡ cond b (pos 0) (withSign (eqb (k % 2) 1) (cutOf work k to from))
+      go : (b : Bool) → Same (k / overSign) 0 b → limitedIn M work f ≡ cond b (pos 0) (withSign (eqb (k % 2) 1) (cutOf work k to from))
       go true (same e) = limited-zero M _ _ (corrections (M .cells) work) f
           (size-zero (corrections (M .cells) work f) (size-is M work (asks .coded-in) f h ∙ e))
       go false (other d) = cut-is d

@@ -14,6 +14,7 @@ use Rattle.model.specs.Step.{portion, limitedBy}
 use Rattle.step_face.specs.Exchange.{brings, takes, Transferred, EndsIn, Flowing}
 use Rattle.step_cell.specs.Work.{ofCell, enteringIn, Filling}
 use Rattle.step_smoothing.specs.Corrections.{enters, leaves, corrections, CorrectionsIn}
+use Rattle.step_face.specs.Correction.{overSign}
 
 -- Pass 3, after the cells below i: their entries are low-order q, L, G and 0, from the bounds in w and the low-order masses
 abbrev pub Allowances : (volumes next w : List ℕ) → ℕ → List ℕ → Type 0
@@ -23,17 +24,17 @@ Allowances volumes next w =
 
 -- Stage 4: the size that a correction in one number is cut to, between receiver r and giver g
 abbrev pub cutOf : List ℕ → ℕ → ℕ → ℕ → ℕ
-cutOf w code r g = min (portion (code / 2) (ofCell w r 2) (enteringIn w r)) (portion (code / 2) (ofCell w g 1) (ofCell w g 3))
+cutOf w code r g = min (portion (code / overSign) (ofCell w r 2) (enteringIn w r)) (portion (code / overSign) (ofCell w g 1) (ofCell w g 3))
 
 -- the limited correction of a face from l to k
 unfoldable pub limitedOf : List ℕ → ℕ → ℕ → ℕ → ℤ
-limitedOf w code l k = cond (eqb (code / 2) 0) (pos 0) (withSign (eqb (code % 2) 1) (cutOf w code (enters code l k) (leaves code l k)))
+limitedOf w code l k = cond (eqb (code / overSign) 0) (pos 0) (withSign (eqb (code % 2) 1) (cutOf w code (enters code l k) (leaves code l k)))
 
 -- one face of pass 5
 pub record CutAsks (f l k code : ℕ) (next : List ℕ) (moved : List ℤ) (work : List ℕ) : Type 0 where
   pub ends : EndsIn (length next) l k
-  pub inside : code / 2 ≢ 0 → (4 * l + 3 < length work) × (4 * k + 3 < length work) × (l < rim) × (k < rim)
-  pub size-most : code / 2 ≤ maxCarried
+  pub inside : code / overSign ≢ 0 → (4 * l + 3 < length work) × (4 * k + 3 < length work) × (l < rim) × (k < rim)
+  pub size-most : code / overSign ≤ maxCarried
   pub in-moved : f < length moved
   pub moved-most : size (getD moved f (pos 0)) ≤ maxCarried
   pub afford : (c : ℕ) → c < length next → takes l k (limitedOf work code l k) c ≤ getD next c 0

@@ -6,6 +6,7 @@ use step_cell::OVER_Q;
 use step_cell::P;
 use step_cell::allowance_at;
 use step_cell::least_of;
+use step_face::correction::OVER_SIGN;
 use step_face::exchange::end_to;
 use step_face::exchange::transfer;
 use step_portion::portion;
@@ -57,7 +58,7 @@ pub fn limit_face(
     requires { ⌜ CutAsks f first second code (now next) (now moved) (now work) ⌝ }
     ensures { λ _. ⌜ CutDone f first second code (now (work .entry)) (now (next .entry)) (now (next .exit)) (now (moved .entry)) (now (moved .exit)) ⌝ }
 {
-    let size = code / 2;
+    let size = code / OVER_SIGN;
     if size == 0 {
         return;
     }

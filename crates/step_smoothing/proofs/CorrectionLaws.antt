@@ -9,6 +9,7 @@ use Rattle.signed.specs.Sign.{size}
 use Rattle.signed.proofs.Laws.{size-withSign}
 use Rattle.model.specs.Mesh.{Mesh, first, second}
 use Rattle.step_cell.specs.Work.{ofFace}
+use Rattle.step_face.specs.Correction.{overSign}
 use Rattle.step_smoothing.specs.Corrections.{corrections, CorrectionsIn, enters, leaves}
 
 -- what holds of both ends holds of either
@@ -23,15 +24,15 @@ module _ (M : Mesh) (w : List ℕ) (s : CorrectionsIn M w) (f : ℕ) (h : f < M 
   abbrev pub code : ℕ
   code = ofFace w (M .cells) f
 
-  pub size-is : size (corrections (M .cells) w f) ≡ code / 2
-  size-is = size-withSign (eqb (code % 2) 1) (code / 2)
+  pub size-is : size (corrections (M .cells) w f) ≡ code / overSign
+  size-is = size-withSign (eqb (code % 2) 1) (code / overSign)
 
   -- a correction of some size stands inside
-  pub inside : code / 2 ≢ 0 → (first M f < M .cells) × (second M f < M .cells)
+  pub inside : code / overSign ≢ 0 → (first M f < M .cells) × (second M f < M .cells)
   inside d = (s .ends f h .first-in, s .ends f h .second-in (λ e. d (sym size-is ∙ s .rim-none f h e)))
 
-  pub enters-in : code / 2 ≢ 0 → enters code (first M f) (second M f) < M .cells
+  pub enters-in : code / overSign ≢ 0 → enters code (first M f) (second M f) < M .cells
   enters-in d = either-end (λ c. c < M .cells) (eqb (code % 2) 1) (inside d .0) (inside d .1)
 
-  pub leaves-in : code / 2 ≢ 0 → leaves code (first M f) (second M f) < M .cells
+  pub leaves-in : code / overSign ≢ 0 → leaves code (first M f) (second M f) < M .cells
   leaves-in d = either-end (λ c. c < M .cells) (eqb (code % 2) 1) (inside d .1) (inside d .0)

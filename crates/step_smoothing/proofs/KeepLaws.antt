@@ -21,7 +21,7 @@ use Rattle.model.specs.Mesh.{Mesh, first, second, entering, leaving, incoming, 
 use Rattle.model.specs.Step.{receiver, giver, smooths, keptBy}
 use Rattle.model.proofs.Limit.{kept-either, kept-zero}
 use Rattle.model.proofs.Sizes.{outgoing-most}
-use Rattle.step_face.specs.Correction.{decoded}
+use Rattle.step_face.specs.Correction.{overSign, decoded}
 use Rattle.step_face.specs.Exchange.{brings, takes}
 use Rattle.step_face.proofs.Transfers.{more-at, brings-is, takes-is}
 use Rattle.step_cell.specs.Work.{ofCell, ofFace, overQ, lowIn}
@@ -50,18 +50,18 @@ giver-has-room w w′ r g m n in-r in-g e h = rw (e, length-set, slot-set w r 0 
 
 -- the code's three ways, from the giver's low-order q a and the receiver's b
 module _ (w : List ℕ) (i l k code : ℕ) where
-  pub none-there : code / 2 ≡ 0 → w ≡ keptAt w i l k code
+  pub none-there : code / overSign ≡ 0 → w ≡ keptAt w i l k code
   unfolding keptAt
-  none-there e = rw (eq-eqb (code / 2) 0 e)
+  none-there e = rw (eq-eqb (code / overSign) 0 e)
 
-  module _ (d : code / 2 ≢ 0) (a b : ℕ) (from : a ≡ lowIn w (leaves code l k)) (to : b ≡ lowIn w (enters code l k)) where
+  module _ (d : code / overSign ≢ 0) (a b : ℕ) (from : a ≡ lowIn w (leaves code l k)) (to : b ≡ lowIn w (enters code l k)) where
     pub drops : b < a → set w i 0 ≡ keptAt w i l k code
     unfolding keptAt smooths
-    drops h = rw (ne-eqb (code / 2) 0 d, ← from, ← to, lt-ltb b a h)
+    drops h = rw (ne-eqb (code / overSign) 0 d, ← from, ← to, lt-ltb b a h)
 
-    pub keeps : a ≤ b → counted w (enters code l k) (leaves code l k) (code / 2) ≡ keptAt w i l k code
+    pub keeps : a ≤ b → counted w (enters code l k) (leaves code l k) (code / overSign) ≡ keptAt w i l k code
     unfolding keptAt smooths
-    keeps h = rw (ne-eqb (code / 2) 0 d, ← from, ← to, le-ltb b a h)
+    keeps h = rw (ne-eqb (code / overSign) 0 d, ← from, ← to, le-ltb b a h)
 
 positive : (n : ℕ) → n ≢ 0 → 0 < n
 positive n d = omega arith
@@ -92,7 +92,7 @@ module _ (M : Mesh) (w : List ℕ) (asks : CorrectionsIn M w) (begun : Uncounted
   k = code M w asks f h
 
   abbrev n : ℕ
-  n = k / 2
+  n = k / overSign
 
   abbrev back : Bool
   back = eqb (k % 2) 1

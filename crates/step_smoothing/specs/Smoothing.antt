@@ -12,6 +12,7 @@ use Rattle.lists.specs.Fold.{sum}
 use Rattle.model.specs.Mesh.{Mesh, maxCells, entering, leaving, incoming}
 use Rattle.model.specs.Step.{smooths, keptBy}
 use Rattle.step_cell.specs.Work.{ofCell, ofFace, overQ, lowIn}
+use Rattle.step_face.specs.Correction.{overSign}
 use Rattle.step_smoothing.specs.Corrections.{enters, leaves, corrections}
 
 -- Pass 4 begins with low-order q alone in entry 0 and with no sums; P has room over q whatever is kept
@@ -30,16 +31,16 @@ counted w r g n = more (more w (4 * r + 0) (overQ * n)) (4 * g + 3) n
 
 -- one face of pass 4, from l to k, whose correction in one number stands at entry i: one that smooths becomes 0, else it is counted
 unfoldable pub keptAt : List ℕ → ℕ → ℕ → ℕ → ℕ → List ℕ
-keptAt w i l k code = cond (eqb (code / 2) 0) w
-    (cond (smooths (lowIn w (leaves code l k)) (lowIn w (enters code l k))) (set w i 0) (counted w (enters code l k) (leaves code l k) (code / 2)))
+keptAt w i l k code = cond (eqb (code / overSign) 0) w
+    (cond (smooths (lowIn w (leaves code l k)) (lowIn w (enters code l k))) (set w i 0) (counted w (enters code l k) (leaves code l k) (code / overSign)))
 
 -- what it rests on: where there is a correction, both ends are cells that have room for it
 pub record KeepAsks (i l k code : ℕ) (w : List ℕ) : Type 0 where
   pub in-work : i < length w
   pub small : i * 8 < 2 ^ 64
-  pub inside : code / 2 ≢ 0 → (4 * l + 3 < length w) × (4 * k + 3 < length w) × (l < maxCells) × (k < maxCells)
-  pub p-room : code / 2 ≢ 0 → ofCell w (enters code l k) 0 + overQ * (code / 2) < 2 ^ 64
-  pub n-room : code / 2 ≢ 0 → ofCell w (leaves code l k) 3 + code / 2 < 2 ^ 64
+  pub inside : code / overSign ≢ 0 → (4 * l + 3 < length w) × (4 * k + 3 < length w) × (l < maxCells) × (k < maxCells)
+  pub p-room : code / overSign ≢ 0 → ofCell w (enters code l k) 0 + overQ * (code / overSign) < 2 ^ 64
+  pub n-room : code / overSign ≢ 0 → ofCell w (leaves code l k) 3 + code / overSign < 2 ^ 64
 
 -- the corrections in w that are kept, by the low-order q in w
 abbrev pub keptIn : Mesh → List ℕ → ℕ → ℤ

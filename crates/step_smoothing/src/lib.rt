@@ -3,6 +3,7 @@ use lists::raise;
 use step_cell::N;
 use step_cell::OVER_Q;
 use step_cell::P;
+use step_face::correction::OVER_SIGN;
 use step_face::exchange::end_to;
 ghost use mathlib.Core.Path.{_≡_};
 ghost use Prim.Native.Nat.{_<_, _+_, _*_, _^_};
@@ -36,7 +37,7 @@ pub fn keep_at(work: &mut [u64], at: usize, first: u64, second: u64)
     ensures { λ _. ⌜ now (work .exit) ≡ keptAt (now (work .entry)) at first second (getD (now (work .entry)) at 0) ⌝ }
 {
     let code = work[at];
-    let size = code / 2;
+    let size = code / OVER_SIGN;
     if size == 0 {
         return;
     }

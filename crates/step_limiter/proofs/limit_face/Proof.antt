@@ -14,6 +14,7 @@ use Rattle.step_cell.specs.Work.{ofCell, enteringIn}
 use Rattle.step_smoothing.specs.Corrections.{enters, leaves}
 use Rattle.step_limiter.specs.Limiter.{cutOf, limitedOf}
 use Rattle.step_smoothing.proofs.CorrectionLaws.{either-end}
+use Rattle.step_face.specs.Correction.{overSign}
 use Rattle.step_limiter.proofs.LimiterLaws.{no-cut, cut-done}
 use Rattle.step_limiter.proofs.limit_face.Statement.{statement}
 use Rattle.step_limiter.proofs.limit_face.Tie as tie
@@ -61,7 +62,7 @@ amount-small : (c : tie.After-cut) → c .cut .result ≤ maxCarried
 amount-small c =
     let s = at-cut c in
     let r = enters (s .args .code) (s .args .first) (s .args .second) in
-    omega (arith, amount-is c, portion-le (s .args .code / 2) (ofCell (s .args .work .now) r 2) (enteringIn (s .args .work .now) r), s .pre .size-most)
+    omega (arith, amount-is c, portion-le (s .args .code / overSign) (ofCell (s .args .work .now) r 2) (enteringIn (s .args .work .now) r), s .pre .size-most)
 
 limited-is : (c : tie.After-cut) → let s = at-cut c in limitedOf (s .args .work .now) (s .args .code) (s .args .first) (s .args .second)
     ≡ withSign (eqb (s .args .code % 2) 1) (c .cut .result)

@@ -6,6 +6,7 @@ use lib.Dec.{eqb}
 use lib.ListN.{length, getD}
 use Rattle.model.specs.Mesh.{maxCells}
 use Rattle.step_cell.specs.Work.{ofCell, overQ, lowIn}
+use Rattle.step_face.specs.Correction.{overSign}
 use Rattle.step_smoothing.specs.Corrections.{enters, leaves}
 use Rattle.step_smoothing.specs.Smoothing.{counted}
 use Rattle.step_smoothing.proofs.CorrectionLaws.{end-holds}
@@ -20,7 +21,7 @@ start c = c .before .before .before .before .before
 abbrev code : tie.Start → ℕ
 code s = getD (s .args .work .now) (s .args .at) 0
 
-some : (c : tie.After-end-to2) → code (start c) / 2 ≡ 0 → ⊥
+some : (c : tie.After-end-to2) → code (start c) / overSign ≡ 0 → ⊥
 some c = c .before .before .if1 .left
 
 -- the ends, as the code has them
@@ -70,12 +71,12 @@ count-requires c κs =
       (
         receiver-long w,
         receiver-few w,
-        subst (λ (e : ℕ). ofCell (s .args .work .now) e 0 + overQ * (code s / 2) < 2 ^ 64) (sym (w .before .end-to .ensures)) (s .pre .p-room (some w)),
+        subst (λ (e : ℕ). ofCell (s .args .work .now) e 0 + overQ * (code s / overSign) < 2 ^ 64) (sym (w .before .end-to .ensures)) (s .pre .p-room (some w)),
       ),
       (
         giver-long w,
         giver-few w,
-        subst (λ (e : ℕ). ofCell (s .args .work .now) e 3 + code s / 2 < 2 ^ 64) (sym (w .end-to2 .ensures)) (s .pre .n-room (some w)),
+        subst (λ (e : ℕ). ofCell (s .args .work .now) e 3 + code s / overSign < 2 ^ 64) (sym (w .end-to2 .ensures)) (s .pre .n-room (some w)),
       ),
     )
 
@@ -87,8 +88,8 @@ returns-3 c =
     let w = ends u in
     let s = start w in
     t .count .ensures
-    ∙ ap (λ (r : ℕ). counted (s .args .work .now) r (w .end-to2 .result) (code s / 2)) (w .before .end-to .ensures)
-    ∙ ap (λ (g : ℕ). counted (s .args .work .now) (to-cell s) g (code s / 2)) (w .end-to2 .ensures)
+    ∙ ap (λ (r : ℕ). counted (s .args .work .now) r (w .end-to2 .result) (code s / overSign)) (w .before .end-to .ensures)
+    ∙ ap (λ (g : ℕ). counted (s .args .work .now) (to-cell s) g (code s / overSign)) (w .end-to2 .ensures)
     ∙ keeps (s .args .work .now) (s .args .at) (s .args .first) (s .args .second) (code s) (some w) _ _ (from-is u) (to-is u) (i .if2 .left)
 
 pub keep-at-spec : {M : Type 1} → statement M
