@@ -104,11 +104,11 @@ pub fn carry_wet(
     ensures { λ _. ⌜ FaceDone f first second share reach a b cells (sizeOf (carriedBy flux a b)) flux (carriedBy flux a b)
         (now (next .entry)) (now (next .exit)) (now (moved .entry)) (now (moved .exit)) (now (work .entry)) (now (work .exit)) ⌝ }
 {
+    widen(work, first as usize, b);
+    widen(work, second as usize, a);
     let carried = signed::times(flux, upwind(signed::is_negative(flux), a, b));
     moved[f] = carried;
     pass(next, first, second, carried);
-    widen(work, first as usize, b);
-    widen(work, second as usize, a);
     let code = correction_code(flux, a, b, share, reach);
     work[4 * cells + f] = code;
 }

@@ -20,23 +20,30 @@ use Rattle.step_carrying_face.proofs.carry_wet.Statement.{statement}
 use Rattle.step_carrying_face.proofs.carry_wet.Tie as tie
 
 -- from each call back to the one before
-abbrev start : tie.After-upwind → tie.Start
-start c = c .before .before .before .before
-
-abbrev noted : tie.After-pass → tie.After-times
-noted c = c .before .before
-
-abbrev passed : tie.After-widen → tie.After-pass
-passed c = c .before .before .before .before
+abbrev start-met : tie.After-widen → tie.Start
+start-met c = c .before .before .before .before
 
 abbrev first-met : tie.After-widen2 → tie.After-widen
 first-met c = c .before .before .before .before
 
-abbrev met : tie.After-correction-code → tie.After-widen2
-met c = c .before .before .before
+abbrev met : tie.After-upwind → tie.After-widen2
+met c = c .before .before .before .before
 
-abbrev start-met : tie.After-widen → tie.Start
-start-met c = start (noted (passed c) .before)
+abbrev noted : tie.After-pass → tie.After-times
+noted c = c .before .before
+
+abbrev passed : tie.After-correction-code → tie.After-pass
+passed c = c .before .before .before
+
+abbrev start : tie.After-upwind → tie.Start
+start c = start-met (first-met (met c))
+
+-- from the end
+abbrev met-last : tie.After-correction-code → tie.After-widen2
+met-last c = met (noted (passed c) .before)
+
+abbrev start-last : tie.After-correction-code → tie.Start
+start-last c = start-met (first-met (met-last c))
 
 either-most : (p : Bool) (a b m : ℕ) → a ≤ m → b ≤ m → cond p b a ≤ m
 either-most true a b m h k = k
@@ -85,44 +92,46 @@ widen-requires-2 c κs =
 
 correction-code-requires : tie.Need-correction-code-requires
 correction-code-requires c κs =
-    let s = start-met (first-met (c .before .before)) in
+    let s = start (noted (c .before .before) .before) in
     let p = s .pre .0 in
     let i = s .pre .1 .0 in
     rw (toZ-ofZ w64 (s .args .flux) (s .fits .flux)) (p .within-reach i, p .first-most, p .beyond-most, p .share-most, p .reach-some i, p .reach-most)
 
 mul-work : tie.Need-mul-work
-mul-work c = omega (arith, start-met (first-met (met c)) .pre .0 .ends .few)
+mul-work c = omega (arith, start-last c .pre .0 .ends .few)
 
 add-work : tie.Need-add-work
-add-work c = let s = start-met (first-met (met c)) in omega (arith, s .pre .0 .ends .few, s .pre .0 .in-work, s .good)
+add-work c = let s = start-last c in omega (arith, s .pre .0 .ends .few, s .pre .0 .in-work, s .good)
 
 mul-work-2 : tie.Need-mul-work-2
-mul-work-2 c = let s = start-met (first-met (met c)) in omega (arith, s .pre .0 .in-work, s .good)
+mul-work-2 c = let s = start-last c in omega (arith, s .pre .0 .in-work, s .good)
 
 write-work : tie.Need-slice-write-work
-write-work c = rw (met c .widen2 .ensures, length-widened, first-met (met c) .widen .ensures, length-widened) (start-met (first-met (met c)) .pre .0 .in-work)
+write-work c =
+    let m = met-last c in
+    rw (m .widen2 .ensures, length-widened, first-met m .widen .ensures, length-widened) (start-last c .pre .0 .in-work)
 
 same-work : tie.Need-same-length-3
-same-work c = simp length-set (rw (met c .widen2 .ensures, length-widened, first-met (met c) .widen .ensures, length-widened))
+same-work c = let m = met-last c in simp length-set (rw (m .widen2 .ensures, length-widened, first-met m .widen .ensures, length-widened))
 
 returns : tie.Need-returns
 returns c =
-    let m = first-met (met c) in
-    let t = passed m in
+    let m = met-last c in
+    let t = passed c in
     let w = noted t in
-    let s = start (w .before) in
+    let s = start-last c in
     let z = s .args .flux in
     wet-done (s .args .f) (s .args .first) (s .args .second) (s .args .share) (s .args .reach) (s .args .a) (s .args .b) (s .args .cells)
     (c .correction-code .result) z _
     (s .args .next .now) _ (s .args .moved .now) _ (s .args .work .now) _ _ _ (s .pre .1 .0) (s .pre .1 .1)
     (toZ-ofZ w64 (w .times .result) (record { sfits = w .times .ok }) ∙ carried-is w) (t .pass .ensures) refl
-    (m .widen .ensures) (met c .widen2 .ensures)
+    (first-met m .widen .ensures) (m .widen2 .ensures)
     (c .correction-code .ensures ∙ ap (λ (y : ℤ). correctionOf y (s .args .a) (s .args .b) (s .args .share) (s .args .reach)) (toZ-ofZ w64 z (s .fits .flux)))
     refl
 
 pub carry-wet-spec : {M : Type 1} → statement M
 carry-wet-spec =
     tie.close
-    (tie.spec (search needs) (search needs) times-requires (search needs) (search needs) pass-requires (search needs) widen-requires-2 correction-code-requires
+    (tie.spec (search needs) widen-requires-2 (search needs) (search needs) times-requires (search needs) (search needs) pass-requires correction-code-requires
     mul-work add-work mul-work-2 write-work (search needs)
     (search needs) same-work returns)
