@@ -31,7 +31,7 @@ run:
 	@mkdir -p target
 	@made=; [ -e target/bin/run ] || { made='target/bin/run is made: it reads a session from standard input'; \
 	    echo 'proving the run program, some minutes the first time; target/run.log tells all' >&2; }; \
-	    tools/prove.sh run target/run.log rt check run && { [ -z "$$made" ] || echo "$$made" >&2; }
+	    tools/prove.py run target/run.log rt check run && { [ -z "$$made" ] || echo "$$made" >&2; }
 	@target/bin/run < tests/sessions/channel.in
 
 # the gate: proofs, must-fail edits, programs, and tests beside them
@@ -48,8 +48,8 @@ lib:
 	@echo "target/lib/liblagoon.a, $$(stat -c %s target/lib/liblagoon.a) bytes, and target/lib/liblagoon.so; include/lagoon.h tells what is in them"
 
 install: lib
-	@[ -e target/bin/run ] || tools/prove.sh run target/run.log rt check run
-	@[ -e target/bin/calls ] || tools/prove.sh calls target/calls.log rt check calls
+	@[ -e target/bin/run ] || tools/prove.py run target/run.log rt check run
+	@[ -e target/bin/calls ] || tools/prove.py calls target/calls.log rt check calls
 	install -d $(TO)/include $(TO)/lib/pkgconfig $(TO)/bin $(MANUAL)/man1 $(MANUAL)/man3 $(PAPERS)/examples $(MODULES)/built
 	install -m 644 include/lagoon.h examples/lagoon_records.h $(TO)/include/
 	install -m 644 target/lib/liblagoon.a $(TO)/lib/

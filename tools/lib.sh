@@ -26,7 +26,7 @@ for crate in $(grep -l no_mangle crates/*/src/*.rt | cut -d/ -f2 | sort -u); do
   made=$out/objects/$crate
   all="$all $made/*"
   if [ ! -e "$made" ] || [ -n "$(find $(folders "$crate") crates.txt -name must-fail -prune -o -newer "$made" -print -quit)" ]; then
-    tools/prove.sh "$crate" $out/log rt staticlib "$crate"
+    tools/prove.py "$crate" $out/log rt staticlib "$crate"
     rm -rf "$made" $out/liblagoon.a
     mkdir "$made"
     (cd "$made" && ar x "../../../staticlib/lib$crate.a" && for object in *; do mv "$object" "$crate-$object"; done)
