@@ -10,6 +10,7 @@ SONAME = liblagoon.so.$(firstword $(subst ., ,$(VERSION)))
 
 # as in .ci/run
 export RT_JOBS ?= 4
+export MIMALLOC_PURGE_DELAY ?= -1
 export TMPDIR := $(shell tools/scratch.sh)
 
 help:
