@@ -247,14 +247,20 @@ def main():
     parser.add_argument("--rounds", type=int, default=4, help="rounds on 4,095 cells, more on fewer (4)")
     parser.add_argument("--built", action="store_true", help="measure the engine as target/ has it")
     parser.add_argument("--counts-only", action="store_true", help="instructions and stack alone, which do not mind other load")
+    parser.add_argument("--times-only", action="store_true", help="times alone")
+    parser.add_argument("--divider", metavar="WORDS", help="of bench/slow_divider.py: what a division takes in these programs")
     parser.add_argument("--write", metavar="PAGE", type=Path, help="put the tables into this page, between its marks")
     options = parser.parse_args()
     build(engine_too=not options.built)
     check_answers(options.rounds)
-    tables = {"counts": table_of("Instructions of a step for each face", counts(), 0), "stack": table_of_stacks(stacks())}
+    tables = {}
+    if not options.times_only:
+        tables = {"counts": table_of("Instructions of a step for each face", counts(), 0), "stack": table_of_stacks(stacks())}
     if not options.counts_only:
-        name = processor()
-        tables[f"times on {name}"] = f"On {name}:\n\n" + table_of("One step, in microseconds", times(options.repeats, options.rounds), 1)
+        name, told = processor(), f" ({options.divider})" if options.divider else ""
+        if options.divider:
+            name += ", with a divider made slow"
+        tables[f"times on {name}"] = f"On {name}{told}:\n\n" + table_of("One step, in microseconds", times(options.repeats, options.rounds), 1)
     print("\n".join(tables.values()))
     if options.write:
         page = options.write.read_text()
