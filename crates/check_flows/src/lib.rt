@@ -2,6 +2,7 @@
 use lists::raise;
 use model::Answer;
 use model::Cause;
+use model::ENDS;
 use model::Refusal;
 use model::needs::and_then;
 use signed::is_negative_at;
@@ -16,9 +17,6 @@ ghost use Rattle.model.specs.Mesh.{maxCells, maxFaces};
 ghost use Rattle.model.specs.Causes.{each};
 ghost use Rattle.model.specs.Answers.{said};
 ghost use Rattle.check_flows.specs.Flows.{inflow as inflowOf, outflow as outflowOf, FacesFit, LongEnough, flowsVerdict};
-
-// One entry for each cell, and one at the rim's mark: a rim face needs no case of its own.
-const ENDS: usize = model::MAX_CELLS + 1;
 
 // The end of a face that the water reaches.
 pub fn receiver(negative: bool, first: u64, second: u64) -> u64

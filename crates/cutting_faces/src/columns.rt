@@ -2,6 +2,7 @@
 use crate::faces;
 use cutting_pieces::cells::concentrations;
 use cutting_pieces::cells::numbers;
+use model::ENDS;
 ghost use mathlib.Core.Path.{_≡_};
 ghost use Prim.Native.Nat.{ℕ, _^_, _≤_, _<_};
 ghost use lib.IntN.{pos};
@@ -11,9 +12,6 @@ ghost use Rattle.lists.specs.Marked.{count, picked};
 ghost use Rattle.signed.specs.Sign.{size};
 ghost use Rattle.model.specs.Step.{raised, rounded};
 ghost use Rattle.cutting_pieces.specs.Pieces.{touchingAt, newFirstAt, newSecondAt, newOutsideAt, JoinedFaces, CellsGood};
-
-// One entry for each cell, and one at the rim's mark.
-const ENDS: usize = model::MAX_CELLS + 1;
 
 // The first cells of a part's faces.
 pub fn firsts(

@@ -2,6 +2,7 @@
 use check_flows::gather;
 use model::Answer;
 use model::Cause;
+use model::ENDS;
 use model::Refusal;
 use model::needs::between;
 use step_cell::HI;
@@ -16,9 +17,6 @@ ghost use Rattle.model.specs.Claims.{boundsFit};
 ghost use Rattle.model.specs.Answers.{said};
 ghost use Rattle.check_flows.specs.Flows.{FacesFit, LongEnough};
 ghost use Rattle.judging_bounds.specs.Bounds.{holds as holdsOf, boundsAt, entry, Salted, Summed, Bordered, boundsVerdict};
-
-// One entry for each cell, and one at the rim's mark, as amounts are gathered.
-pub const ENDS: usize = model::MAX_CELLS + 1;
 
 // What a cell holds once its release is added.
 pub fn holds(c: usize, masses: &[u64], releases: &[u64]) -> u64

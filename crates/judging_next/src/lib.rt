@@ -1,7 +1,7 @@
 // The next masses by a claim that has passed causes 21 and 22.
 use check_flows::gather;
-use judging_bounds::ENDS;
 use judging_bounds::holds;
+use model::ENDS;
 ghost use mathlib.Core.Path.{_≡_};
 ghost use Prim.Native.Nat.{_≤_, _<_, _+_};
 ghost use lib.ListN.{length};

@@ -24,6 +24,9 @@ pub const RUN_WORK: usize = 4 * RUN_CELLS + RUN_FACES;
 // The mark in the place of a second cell: beyond the face is the rim.
 pub const RIM: u64 = 4095;
 
+// Entries for each cell and one at that mark: in a table so long a rim face needs no case of its own.
+pub const ENDS: usize = MAX_CELLS + 1;
+
 // The ceiling of volumes, of reaches and of the sizes of fluxes over the rim; and the one that records of the old kinds hold.
 pub const CEILING: u64 = 65535;
 
