@@ -44,20 +44,21 @@ def under(name, lines):
     return found
 
 
-def changed(name):
-    """Whether a crate's texts are younger than its proof, or it has none. rt itself goes by what they hold."""
-    stamp = TARGET / "stamp" / name
-    if not stamp.exists():
+def changed(name, uses):
+    """Whether a crate's texts, or the proofs of what it uses, are younger than its own proof, or it has none. rt itself goes by what they hold."""
+    stamps = TARGET / "stamp"
+    if not (stamps / name).exists():
         return True
-    proved = stamp.stat().st_mtime
-    return any(path.stat().st_mtime > proved for part in TEXTS for path in (TOP / "crates" / name / part).rglob("*"))
+    proved = (stamps / name).stat().st_mtime
+    texts = (path for part in TEXTS for path in (TOP / "crates" / name / part).rglob("*"))
+    return any(path.stat().st_mtime > proved for path in (*texts, *(stamps / other for other in uses)))
 
 
 def left_to_prove(needs):
     """What is changed or uses what is. The last is the command's."""
     left = []
     for name, uses in list(needs.items())[:-1]:
-        if changed(name) or any(other in left for other in uses):
+        if any(other in left for other in uses) or changed(name, uses):
             left.append(name)
     return left
 
