@@ -3,7 +3,6 @@ use record_layouts::StepKind;
 use record_layouts::Width;
 use record_layouts::body::Body;
 use record_layouts::lengths;
-use record_sections::count_marked;
 use record_sections::read_column;
 use record_sections::read_marked;
 use record_sections::read_signed;
@@ -121,11 +120,9 @@ pub fn step(
 {
     let value = lengths::value_width(width);
     let first = Body::new(faces * (Body::SIGN + value));
-    let outside = count_marked(model::RIM, faces, seconds);
-    let release = lengths::after_outsides(first.at, outside);
     let bits = lengths::release_width(width, kind);
     read_signed(body, 0, value, faces, fluxes);
-    read_marked(
+    let release = read_marked(
         body,
         first.at,
         Body::OUTSIDE,

@@ -28,6 +28,10 @@ use Rattle.record_sections.proofs.Sections.{width-fields, place-end, va
 pub over-whole : {A : Type 0} {i n : ℕ} (f : ℕ → A) (ys : List A) {s : List A} → i ≤ n → n ≤ i → s ≡ over (table i f) ys → s ≡ over (table n f) ys
 over-whole {A} {i} {n} f ys l m e = let q : i ≡ n = omega arith in rw q at e
 
+-- and the place that it has come to
+pub place-whole : {i n p : ℕ} (pl : ℕ → ℕ) → i ≤ n → n ≤ i → p ≡ pl i → p ≡ pl n
+place-whole {i} {n} pl l m e = let q : i ≡ n = omega arith in e ∙ ap pl q
+
 -- a loop that puts a column: its first state and its turn
 
 pub column-start : (bs : List ℕ) (test : ℕ → Bool) (pl : ℕ → ℕ) (w : ℕ) (v : ℕ → ℕ) → PutColumn bs 0 test pl w v bs

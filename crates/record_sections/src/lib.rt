@@ -207,7 +207,8 @@ fn field_if(bytes: &[u8], at: usize, width: usize, here: bool) -> u64
     ABSENT
 }
 
-// One field for each of n rows that the table of marks marks, one after another from `first` on; other entries below n become 0.
+// One field for each of n rows that the table of marks marks, one after another from `first` on; other entries below n become 0. Answers the
+// place after the last.
 pub fn read_marked(
     bytes: &[u8],
     first: usize,
@@ -216,16 +217,17 @@ pub fn read_marked(
     n: usize,
     marks: &[u64],
     out: &mut [u64],
-)
+) -> usize
     requires { do
       ⌜ (8 * length (now bytes) + width < 2 ^ 64)
           × (width ≤ (← ⟦record_bits::WIDEST⟧))
           × (n ≤ length (now out))
           × (n ≤ length (now marks))
           × (first + those (marked mark (now marks)) n * width ≤ 8 * length (now bytes)) ⌝ }
-    ensures { λ _. ⌜ now (out .exit) ≡ over (table n (λ i. cond (marked mark (now (marks .entry)) i)
+    ensures { λ r. ⌜ (r ≡ first + those (marked mark (now (marks .entry))) n * width)
+        × (now (out .exit) ≡ over (table n (λ i. cond (marked mark (now (marks .entry)) i)
         (bitsAt (now (bytes .entry)) (first + those (marked mark (now (marks .entry))) i * width) width)
-        0)) (now (out .entry)) ⌝ }
+        0)) (now (out .entry))) ⌝ }
 {
     let mut at = first;
     let mut i = 0;
@@ -235,6 +237,7 @@ pub fn read_marked(
         at = after(at, width, here);
         i += 1;
     }
+    at
 }
 
 // A field put at a place, where there is one.

@@ -8,7 +8,7 @@ use Rattle.lists.specs.Table.{table, over}
 use Rattle.lists.proofs.Tables.{over-start, over-step}
 use Rattle.record_bits.specs.Field.{bitsAt}
 use Rattle.record_sections.specs.Sections.{marked, those}
-use Rattle.record_sections.proofs.Columns.{over-whole, those-none, those-next, those-room, those-most, first-at}
+use Rattle.record_sections.proofs.Columns.{over-whole, place-whole, those-none, those-next, those-room, those-most, first-at}
 use Rattle.record_sections.proofs.Turns.{more-small}
 use Rattle.record_sections.proofs.read_marked.Statement.{statement}
 use Rattle.record_sections.proofs.read_marked.Tie as tie
@@ -85,9 +85,17 @@ loop-again c =
       over-step _ _ _ (turn-in (t .loop-test .taken) (s .pre .2)) (l .inv .3) (c .before .field-if .ensures ∙ rw (l .inv .2)),
     )
 
+returns : tie.Need-returns Inv-loop μ-loop
+returns c =
+    let s = c .before .before .before .before .before in
+    let l = c .before .loop in (
+      place-whole (λ k. s .args .first + those (marked (s .args .mark) (s .args .marks .now)) k * s .args .width) (l .inv .1) (c .loop-test .left) (l .inv .2),
+      over-whole _ _ (l .inv .1) (c .loop-test .left) (l .inv .3),
+    )
+
 pub read-marked-spec : {M : Type 1} → statement M
 read-marked-spec =
     tie.close
     (tie.spec Inv-loop μ-loop loop-holds mul-here read-here field-if-requires mul-out write-out after-requires add-i
     (λ c. turn-less (c .before .before .before .loop-test .taken)) loop-again
-    (λ c. c .before .loop .inv .0) (λ c. over-whole _ _ (c .before .loop .inv .1) (c .loop-test .left) (c .before .loop .inv .3)))
+    (λ c. c .before .loop .inv .0) returns)
