@@ -36,8 +36,8 @@ extern "C" {
 
 /* ---------------------------------------------------------------- 1  Version, answers and causes */
 
-#define LAGOON_VERSION "2.8.0"
-#define LAGOON_VERSION_NUMBER 2008000 /* 1,000,000 times the first number, 1,000 times the second, and the third */
+#define LAGOON_VERSION "2.8.1"
+#define LAGOON_VERSION_NUMBER 2008001 /* 1,000,000 times the first number, 1,000 times the second, and the third */
 
 /* The LAGOON_VERSION_NUMBER that the library was built with. The first number changes where a figure that was given before changes. */
 uint64_t lagoon_version(void);

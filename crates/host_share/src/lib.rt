@@ -16,7 +16,7 @@ const MAJOR: u64 = 2;
 
 const MINOR: u64 = 8;
 
-const PATCH: u64 = 0;
+const PATCH: u64 = 1;
 
 // The answer of a share: found is the share.
 fn answered(answer: ShareAnswer, found: &mut [u64]) -> u64
@@ -86,7 +86,7 @@ pub extern "C" fn lagoon_share(
 // The library's version as one number.
 #[no_mangle]
 pub extern "C" fn lagoon_version() -> u64
-    ensures { λ r. ⌜ r ≡ version 2 8 0 ⌝ }
+    ensures { λ r. ⌜ r ≡ version 2 8 1 ⌝ }
 {
     MAJOR * 1000000 + MINOR * 1000 + PATCH
 }
