@@ -9,6 +9,7 @@ ghost use mathlib.Core.Bool.{true};
 ghost use Prim.Native.Nat.{_≤_};
 ghost use lib.ListN.{length, getD};
 ghost use Rattle.model.specs.Mesh.{meshOf};
+ghost use Rattle.model.specs.Accepted.{MeshLent};
 ghost use Rattle.model.specs.Causes.{fine, _andThen_, each, volumeFits, endsFit, spacingFit, meshValues};
 ghost use Rattle.model.specs.Answers.{said};
 
@@ -162,11 +163,7 @@ pub fn values(
     reaches: &[u64],
     most: u64,
 ) -> Answer
-    requires { ⌜ (cells ≤ length (now volumes))
-        × (faces ≤ length (now firsts))
-        × (faces ≤ length (now seconds))
-        × (faces ≤ length (now shares))
-        × (faces ≤ length (now reaches)) ⌝ }
+    requires { ⌜ MeshLent (meshOf cells faces (now volumes) (now firsts) (now seconds) (now shares) (now reaches)) ⌝ }
     ensures { λ r. ⌜ said r ≡ meshValues most
         (meshOf cells faces (now (volumes .entry)) (now (firsts .entry)) (now (seconds .entry)) (now (shares .entry)) (now (reaches .entry))) ⌝ }
 {

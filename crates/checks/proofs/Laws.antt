@@ -126,10 +126,6 @@ module _ (M : Mesh) (field : List ℕ) (k : Call) where
       }
 
   module _ (l : StepLent M field k) where
-    pub shape-asks : (M .cells ≤ length (M .volumes)) × (M .faces ≤ length (M .firsts)) × (M .faces ≤ length (M .seconds)) × (M .faces ≤ length (M .shares))
-        × (M .faces ≤ length (M .reaches))
-    shape-asks = let m = l .lent in (m .volumes-long, m .firsts-long, m .seconds-long, m .shares-long, m .reaches-long)
-
     pub water-asks : (M .faces ≤ length (M .seconds)) × (M .faces ≤ length (M .reaches)) × (M .faces ≤ length (k .fluxes)) × (M .faces ≤ length (k .outsides))
     water-asks = (l .lent .seconds-long, l .lent .reaches-long, l .fluxes-long, l .outsides-long)
 

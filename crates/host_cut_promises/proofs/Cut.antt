@@ -5,7 +5,8 @@ use mathlib.Core.List.{List}
 use lib.IntN.{ℤ}
 use lib.ListN.{length, take}
 use Rattle.lists.specs.Table.{over}
-use Rattle.model.specs.Mesh.{Mesh, meshOf, runCells, runFaces}
+use Rattle.model.specs.Mesh.{Mesh, runCells, runFaces}
+use Rattle.model.specs.Meshes.{parted}
 use Rattle.model.specs.Causes.{Outcome, accepted, Verdict, fine, _andThen_, granted}
 use Rattle.model.specs.Answers.{told}
 use Rattle.model.specs.declared.Refusal.{Refusal}
@@ -25,7 +26,7 @@ use Rattle.host_taking.specs.Taken.{RecordsTaking}
 use Rattle.host_taking.specs.declared.FieldCounts.{FieldCounts}
 use Rattle.host_taking.specs.declared.FieldTaken.{FieldTaken}
 use Rattle.host_taking.specs.declared.FieldTaken.the-variants.{Taken}
-use Rattle.host_taking.proofs.Held.{tested-fine, all-as}
+use Rattle.host_taking.proofs.Held.{tested-fine, countedBy, all-as}
 use Rattle.host_record_promises.proofs.Read.{unread, read-fine, kind-read}
 use Rattle.host_cut_promises.specs.Cut.{Records, recordsOf, lengthsOf, recordsOver, piece, lagoonOn}
 use Rattle.host_cut_promises.specs.Inner.{writersFind, recordsFind, cutJudged, Wrote, PieceWritten, CutWritten, CutIn, CutOn, CutTaking}
@@ -115,14 +116,9 @@ module _ (mesh field step labels : List ℕ) (lent₀ lent₁ : Records) where
   pub records-refused : {r : Refusal} → fieldTested mesh field ≡ told r → CutTaking mesh field step labels lent₀ lent₁ (Refused r) lent₀ lent₁
   records-refused {r = r} e = cut-refused (widthIn mesh) (kindIn step) _ labels lent₀ lent₁ r (out _ (out _ e))
 
-  pub records-taken : {a : FieldTaken} {volumes firsts seconds shares reaches masses : List ℕ} (t : RecordsTaking mesh field a volumes firsts seconds shares
-      reaches masses)
-      {n : FieldCounts} (d : a ≡ Taken n) {r : RecordsCut} {after₀ after₁ : Records}
-      → CutOn (n .width)
-      (meshOf (n .cells) (n .faces) (take (n .cells) volumes) (take (n .faces) firsts) (take (n .faces) seconds) (take (n .faces) shares) (take (n .faces)
-      reaches))
-      (take (n .cells) masses) step labels lent₀ lent₁ r after₀ after₁
+  pub records-taken : {a : FieldTaken} {left : Mesh} {masses : List ℕ} (t : RecordsTaking mesh field a left masses) {n : FieldCounts} (d : a ≡ Taken n)
+      {r : RecordsCut} {after₀ after₁ : Records}
+      → CutOn (n .width) (parted (countedBy n left)) (take (n .cells) masses) step labels lent₀ lent₁ r after₀ after₁
       → CutTaking mesh field step labels lent₀ lent₁ r after₀ after₁
   records-taken t d {r = r} {after₀ = after₀} {after₁ = after₁} p =
-      cut-past (tested-fine mesh field (t .answer) d) (all-as mesh field t d (λ w m f vs fs ss ws ks ms. CutOn w (meshOf m f vs fs ss ws ks) ms step
-      labels lent₀ lent₁ r after₀ after₁) p)
+      cut-past (tested-fine mesh field (t .answer) d) (all-as mesh field t d (λ w M ms. CutOn w M ms step labels lent₀ lent₁ r after₀ after₁) p)

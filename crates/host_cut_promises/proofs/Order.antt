@@ -9,14 +9,14 @@ use lib.ListN.{length}
 use Rattle.lists.proofs.Tables.{length-table}
 use Rattle.model.specs.Mesh.{Mesh, runCells, runFaces, ceiling}
 use Rattle.model.specs.Causes.{fine, _andThen_, Call, inTurn, long, workEntries, cellsOnly, counts, meshTables, meshValues, meshVerdict, meshFieldVerdict, fieldTable, saltGood, fieldValues, stepLengths, stepTables, raisedGood, raisedValues, outsideGood, fluxGood, balanceGood, outflowGood, stepValues, verdict}
-use Rattle.model.proofs.Verdicts.{both-fine, all-fine, fine-all, long-fine}
-use Rattle.model.proofs.Parts.{long-met}
+use Rattle.model.proofs.Verdicts.{both-fine, all-fine, fine-all, long-fine, long-met}
 use Rattle.cutting_parts.specs.Cut.{Lagoon}
 use Rattle.cutting_parts.specs.Refusals.{labelGood, partGood, labelValues, cutLengths, cutTables, cutVerdict}
 use Rattle.record_heads.specs.Heads.{widthIn}
 use Rattle.record_reading.specs.Reading.{meshIn, fluxesIn, outsidesIn}
 use Rattle.taking_mesh.specs.MeshTaking.{meshRecordFound, meshJudged}
-use Rattle.taking_mesh.proofs.MeshLaws.{limits, mesh-cut, values-left}
+use Rattle.record_reading.proofs.ReadLaws.{mesh-cut}
+use Rattle.taking_mesh.proofs.MeshLaws.{limits, values-left}
 use Rattle.taking.specs.Taking.{blank, fieldJudged, stepIn, stepRecordFound, stepJudged}
 use Rattle.taking.proofs.KindThree.{all-there}
 use Rattle.host_tested.specs.Tested.{fieldTested, fieldIn}

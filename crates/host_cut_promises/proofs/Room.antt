@@ -19,10 +19,9 @@ use Rattle.model.specs.Step.{flux}
 use Rattle.model.specs.Causes.{accepted, refused, Verdict, fine, _andThen_, each, Call, waterOf, workEntries, bytesLong, stepLengths, meshLengths, meshTables, meshValues, fieldTable, stepTables, raisedGood, raisedValues, outsideGood, fluxGood, balanceGood, outflowGood, waterCauses, causesWithin, stepValues, stepCauses, verdict}
 use Rattle.model.specs.Calls.{stepAnswer}
 use Rattle.model.specs.Ceilings.{StepSmall}
-use Rattle.model.proofs.Verdicts.{both-fine, all-fine, fine-all, fine-each, past}
+use Rattle.model.proofs.Verdicts.{both-fine, all-fine, fine-all, fine-each, past, long-met}
 use Rattle.model.proofs.Accepted.{Passed, passed}
 use Rattle.model.proofs.Ceilings.{old-steps}
-use Rattle.model.proofs.Parts.{long-met}
 use Rattle.cutting_parts.specs.Cut.{Tables, Lagoon, wholeMesh, stepOn, stepInput, inPart, touches, isCut, isTurned}
 use Rattle.cutting_parts.specs.Refusals.{cutCauses, cutVerdict}
 use Rattle.cutting_parts.specs.Parts.{TablesLong, LentAtCounts}

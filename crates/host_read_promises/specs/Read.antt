@@ -14,7 +14,7 @@ use Rattle.record_layouts.specs.declared.Width.{Width}
 use Rattle.record_layouts.specs.declared.Width.the-variants.{Narrow, Wide}
 use Rattle.record_reading.specs.declared.MeshCounts.{MeshCounts}
 use Rattle.record_reading.specs.Reading.{meshIn, massesIn, fluxesIn, outsidesIn, releasesIn, meshReadInto, fieldRead, stepRead}
-use Rattle.record_reading.specs.Meshes.{overMesh}
+use Rattle.model.specs.Meshes.{overMesh}
 use Rattle.host_answer.specs.Number.{numberOf}
 use Rattle.host_answer.specs.Found.{alone, Answered}
 

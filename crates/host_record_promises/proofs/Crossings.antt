@@ -3,7 +3,8 @@ use Prim.Native.Nat.{ℕ, _^_, _<_}
 use mathlib.Core.Path.{_≡_, sym, ap, _∙_}
 use mathlib.Core.List.{List, [], _∷_}
 use lib.ListN.{take}
-use Rattle.model.specs.Mesh.{meshOf}
+use Rattle.model.specs.Mesh.{Mesh}
+use Rattle.model.specs.Meshes.{parted}
 use Rattle.model.specs.Causes.{accepted, Verdict, fine, _andThen_}
 use Rattle.model.specs.Answers.{number, told}
 use Rattle.model.specs.declared.Refusal.{Refusal}
@@ -23,7 +24,7 @@ use Rattle.host_taking.specs.Taken.{RecordsTaking}
 use Rattle.host_taking.specs.declared.FieldCounts.{FieldCounts}
 use Rattle.host_taking.specs.declared.FieldTaken.{FieldTaken}
 use Rattle.host_taking.specs.declared.FieldTaken.the-variants.{Taken}
-use Rattle.host_taking.proofs.Held.{tested-fine as taken-fine, all-as}
+use Rattle.host_taking.proofs.Held.{tested-fine as taken-fine, countedBy, all-as}
 use Rattle.host_tested.proofs.Small.{field-tested-small, step-judged-small}
 use Rattle.host_record_promises.specs.Crossing.{stepFound, crossedIn}
 
@@ -31,16 +32,11 @@ module _ (mesh field step : List ℕ) where
   pub step-untaken : (r : Refusal) → fieldTested mesh field ≡ told r → takenSaid (step-taken.Refused r) ≡ stepFound mesh field step
   step-untaken r e = sym (out _ (out _ e))
 
-  pub step-made : {a : FieldTaken} {volumes firsts seconds shares reaches masses : List ℕ} (t : RecordsTaking mesh field a volumes firsts seconds shares
-      reaches masses) {n : FieldCounts} (d : a ≡ Taken n)
-      {r : StepTaken} {masses′ : List ℕ}
-      → StepTaking (n .width)
-      (meshOf (n .cells) (n .faces) (take (n .cells) volumes) (take (n .faces) firsts) (take (n .faces) seconds) (take (n .faces) shares) (take (n .faces)
-      reaches))
-      (take (n .cells) masses) step r masses′
+  pub step-made : {a : FieldTaken} {left : Mesh} {masses : List ℕ} (t : RecordsTaking mesh field a left masses) {n : FieldCounts} (d : a ≡ Taken n)
+      {r : StepTaken} {masses′ : List ℕ} → StepTaking (n .width) (parted (countedBy n left)) (take (n .cells) masses) step r masses′
       → takenSaid r ≡ stepFound mesh field step
   step-made t d {r = r} {masses′ = masses′} u =
-      let x = all-as mesh field t d (λ w m f vs fs ss ws ks ms. StepTaking w (meshOf m f vs fs ss ws ks) ms step r masses′) u in
+      let x = all-as mesh field t d (λ w M ms. StepTaking w M ms step r masses′) u in
       x .answer ∙ sym (ap (λ (v : Verdict). v andThen accepted (printedOf (meshIn mesh) (fieldIn mesh field) (stepIn (meshIn mesh) step)))
       (past _ (taken-fine mesh field (t .answer) d)))
 

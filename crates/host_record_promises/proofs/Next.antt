@@ -7,7 +7,8 @@ use native.Mathlib.Nat.{le-trans}
 use native.Mathlib.Omega.{arith}
 use lib.ListN.{length, take}
 use Rattle.lists.proofs.Tables.{length-table, getD-table}
-use Rattle.model.specs.Mesh.{Mesh, meshOf, updated, ceiling}
+use Rattle.model.specs.Mesh.{Mesh, updated, ceiling}
+use Rattle.model.specs.Meshes.{parted}
 use Rattle.model.specs.Step.{mass}
 use Rattle.model.specs.Causes.{accepted, refused, Verdict, fine, _andThen_, Call, inputOf, counts, meshTables, meshValues, fieldTable, fieldValues, fieldVerdict, bytesLong}
 use Rattle.model.specs.Answers.{number, told}
@@ -35,7 +36,7 @@ use Rattle.host_taking.specs.Taken.{RecordsTaking}
 use Rattle.host_taking.specs.declared.FieldCounts.{FieldCounts}
 use Rattle.host_taking.specs.declared.FieldTaken.{FieldTaken}
 use Rattle.host_taking.specs.declared.FieldTaken.the-variants.{Taken}
-use Rattle.host_taking.proofs.Held.{width-is, cells-are, faces-are, held}
+use Rattle.host_taking.proofs.Held.{width-is, countedBy, mesh-same}
 use Rattle.host_record_promises.specs.Next.{withRoom, NextWritten, nextBy, StepWritten}
 
 pub written-refused : {v : Verdict} (x : Crossing) (w : Width) (cells : ℕ) (next bytes : List ℕ) (r : Refusal) → v ≡ told r → NextWritten v x w cells next
@@ -129,21 +130,6 @@ record-within bs = go (widthIn bs) refl
     go Narrow e = sym (old-meshes (meshIn bs) (mesh-small bs e))
     go Wide e = refl
 
-pub within-taken : (mesh field : List ℕ) {a : FieldTaken} {volumes firsts seconds shares reaches masses : List ℕ}
-    (t : RecordsTaking mesh field a volumes firsts seconds shares reaches masses) {n : FieldCounts} (d : a ≡ Taken n)
-    → meshValues (mostOf (n .width)) (meshOf (n .cells) (n .faces) (take (n .cells) volumes) (take (n .faces) firsts) (take (n .faces) seconds)
-    (take (n .faces) shares) (take (n .faces) reaches))
-    ≡ meshValues ceiling (meshOf (n .cells) (n .faces) (take (n .cells) volumes) (take (n .faces) firsts) (take (n .faces) seconds) (take (n .faces)
-    shares) (take (n .faces) reaches))
-within-taken mesh field t d =
-    let h = held mesh field t d in
-    rw (
-      width-is mesh field (t .answer) d,
-      cells-are mesh field (t .answer) d,
-      faces-are mesh field (t .answer) d,
-      h .volumes-held .part,
-      h .firsts-held .part,
-      h .seconds-held .part,
-      h .shares-held .part,
-      h .reaches-held .part,
-    ) (record-within mesh)
+pub within-taken : (mesh field : List ℕ) {a : FieldTaken} {left : Mesh} {masses : List ℕ} (t : RecordsTaking mesh field a left masses) {n : FieldCounts}
+    (d : a ≡ Taken n) → meshValues (mostOf (n .width)) (parted (countedBy n left)) ≡ meshValues ceiling (parted (countedBy n left))
+within-taken mesh field t d = rw (width-is mesh field (t .answer) d, mesh-same mesh field t d) (record-within mesh)

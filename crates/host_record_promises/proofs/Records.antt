@@ -5,7 +5,8 @@ use mathlib.Core.Path.{_≡_}
 use mathlib.Core.List.{List}
 use lib.IntN.{ℤ}
 use lib.ListN.{length, take}
-use Rattle.model.specs.Mesh.{Mesh, meshOf, runCells, runFaces}
+use Rattle.model.specs.Mesh.{Mesh, runCells, runFaces}
+use Rattle.model.specs.Meshes.{parted}
 use Rattle.model.specs.Causes.{Verdict, _andThen_, Call}
 use Rattle.model.specs.Answers.{told}
 use Rattle.model.specs.Calls.{Scheme}
@@ -27,7 +28,7 @@ use Rattle.host_taking.specs.Taken.{RecordsTaking}
 use Rattle.host_taking.specs.declared.FieldCounts.{FieldCounts}
 use Rattle.host_taking.specs.declared.FieldTaken.{FieldTaken}
 use Rattle.host_taking.specs.declared.FieldTaken.the-variants.{Taken}
-use Rattle.host_taking.proofs.Held.{tested-fine, all-as}
+use Rattle.host_taking.proofs.Held.{tested-fine, countedBy, all-as}
 use Rattle.host_record_promises.specs.Next.{StepWritten}
 use Rattle.host_record_promises.proofs.Next.{written-refused, written-past}
 use Rattle.host_record_promises.proofs.Read.{unread, read-fine}
@@ -72,13 +73,8 @@ module _ (s : Scheme) (callOn : List ℤ → List ℕ → List ℕ → Call) whe
     pub records-refused : {r : Refusal} → fieldTested mesh field ≡ told r → OnRecords (Refused r) bytes
     records-refused {r = r} e = written-refused _ (widthIn mesh) (meshIn mesh .cells) _ bytes r (out _ e)
 
-    pub records-taken : {a : FieldTaken} {volumes firsts seconds shares reaches masses : List ℕ} (t : RecordsTaking mesh field a volumes firsts seconds shares
-        reaches masses) {n : FieldCounts} (d : a ≡ Taken n) {r : StepAnswer} {bytes′ : List ℕ}
-        → OnRecord (n .width)
-        (meshOf (n .cells) (n .faces) (take (n .cells) volumes) (take (n .faces) firsts) (take (n .faces) seconds) (take (n .faces) shares) (take (n .faces)
-        reaches))
-        (take (n .cells) masses) step bytes r bytes′
+    pub records-taken : {a : FieldTaken} {left : Mesh} {masses : List ℕ} (t : RecordsTaking mesh field a left masses) {n : FieldCounts} (d : a ≡ Taken n)
+        {r : StepAnswer} {bytes′ : List ℕ} → OnRecord (n .width) (parted (countedBy n left)) (take (n .cells) masses) step bytes r bytes′
         → OnRecords r bytes′
     records-taken t d {r = r} {bytes′ = bytes′} p =
-        written-past (tested-fine mesh field (t .answer) d) (all-as mesh field t d (λ w m f vs fs ss ws ks ms. OnRecord w (meshOf m f vs fs ss ws ks) ms step
-        bytes r bytes′) p)
+        written-past (tested-fine mesh field (t .answer) d) (all-as mesh field t d (λ w M ms. OnRecord w M ms step bytes r bytes′) p)

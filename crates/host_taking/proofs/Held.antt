@@ -1,13 +1,17 @@
 -- What a call makes of tables that have been taken, it makes of what the records hold.
 use Prim.Native.Nat.{ℕ, _≤_}
-use mathlib.Core.Path.{_≡_, sym, ap, _∙_}
+use mathlib.Core.Path.{_≡_, sym, ap, _∙_, subst}
 use mathlib.Core.List.{List}
 use lib.ListN.{length, take}
 use lib.Seq.{length-take-le}
+use Rattle.model.specs.Mesh.{Mesh, meshOf}
+use Rattle.model.specs.Meshes.{parted, MeshCut}
+use Rattle.model.specs.Accepted.{MeshLent}
 use Rattle.model.specs.Causes.{accepted, fine, _andThen_}
 use Rattle.model.specs.Answers.{number, told}
 use Rattle.model.specs.declared.Refusal.{Refusal}
 use Rattle.model.proofs.Verdicts.{refused-of, accepted-of}
+use Rattle.model.proofs.Parts.{parted-cut}
 use Rattle.record_heads.specs.Heads.{widthIn}
 use Rattle.record_layouts.specs.declared.Width.{Width}
 use Rattle.record_reading.specs.Reading.{meshIn}
@@ -69,56 +73,48 @@ module _ (mesh field : List ℕ) {a : FieldTaken} {volumes masses : List ℕ} (t
   pub masses-long : n .cells ≡ length (take (n .cells) masses)
   masses-long = front-long (cells-are mesh field (t .answer) d) (t .masses-held (tested-fine mesh field (t .answer) d))
 
+-- lent tables at the counts that were taken
+abbrev pub countedBy : FieldCounts → Mesh → Mesh
+countedBy n left = meshOf (n .cells) (n .faces) (left .volumes) (left .firsts) (left .seconds) (left .shares) (left .reaches)
+
 -- the counted parts of such tables can be lent
-pub record Lendable (n : FieldCounts) (volumes firsts seconds shares reaches masses : List ℕ) : Type 0 where
-  pub volumes-fit : n .cells ≤ length volumes
-  pub volumes-long : n .cells ≡ length (take (n .cells) volumes)
-  pub firsts-fit : n .faces ≤ length firsts
-  pub firsts-long : n .faces ≡ length (take (n .faces) firsts)
-  pub seconds-fit : n .faces ≤ length seconds
-  pub seconds-long : n .faces ≡ length (take (n .faces) seconds)
-  pub shares-fit : n .faces ≤ length shares
-  pub shares-long : n .faces ≡ length (take (n .faces) shares)
-  pub reaches-fit : n .faces ≤ length reaches
-  pub reaches-long : n .faces ≡ length (take (n .faces) reaches)
+pub record Lendable (n : FieldCounts) (left : Mesh) (masses : List ℕ) : Type 0 where
+  pub mesh-fits : MeshLent (countedBy n left)
+  pub mesh-cut : MeshCut (parted (countedBy n left))
   pub masses-fit : n .cells ≤ length masses
   pub masses-long : n .cells ≡ length (take (n .cells) masses)
 
 -- of a call on the whole mesh
-module _ (mesh field : List ℕ) {a : FieldTaken} {volumes firsts seconds shares reaches masses : List ℕ}
-    (t : RecordsTaking mesh field a volumes firsts seconds shares reaches masses) {n : FieldCounts} (d : a ≡ taken.Taken n) where
-  pub held : TablesHeld mesh field volumes firsts seconds shares reaches masses
+module _ (mesh field : List ℕ) {a : FieldTaken} {left : Mesh} {masses : List ℕ} (t : RecordsTaking mesh field a left masses) {n : FieldCounts}
+    (d : a ≡ taken.Taken n) where
+  held : TablesHeld mesh field left masses
   held = t .tables (tested-fine mesh field (t .answer) d)
 
-  pub lendable : Lendable n volumes firsts seconds shares reaches masses
+  counts-are : n ≡ takenIn mesh field
+  counts-are = is-taken mesh field (t .answer) d .1
+
+  fits : MeshLent (countedBy n left)
+  fits = rw counts-are (held .mesh-long)
+
+  pub lendable : Lendable n left masses
   lendable =
-      let h = held in
       let c = cells-are mesh field (t .answer) d in
-      let f = faces-are mesh field (t .answer) d in
       record {
-        volumes-fit = front-fits c (h .volumes-held);
-        volumes-long = front-long c (h .volumes-held);
-        firsts-fit = front-fits f (h .firsts-held);
-        firsts-long = front-long f (h .firsts-held);
-        seconds-fit = front-fits f (h .seconds-held);
-        seconds-long = front-long f (h .seconds-held);
-        shares-fit = front-fits f (h .shares-held);
-        shares-long = front-long f (h .shares-held);
-        reaches-fit = front-fits f (h .reaches-held);
-        reaches-long = front-long f (h .reaches-held);
-        masses-fit = front-fits c (h .masses-held);
-        masses-long = front-long c (h .masses-held);
+        mesh-fits = fits;
+        mesh-cut = parted-cut (countedBy n left) fits;
+        masses-fit = front-fits c (held .masses-held);
+        masses-long = front-long c (held .masses-held);
       }
 
-  pub all-as : (P : Width → ℕ → ℕ → List ℕ → List ℕ → List ℕ → List ℕ → List ℕ → List ℕ → Type 0)
-      → P (n .width) (n .cells) (n .faces) (take (n .cells) volumes) (take (n .faces) firsts) (take (n .faces) seconds) (take (n .faces) shares)
-      (take (n .faces) reaches) (take (n .cells) masses)
-      → P (widthIn mesh) (meshIn mesh .cells) (meshIn mesh .faces) (meshIn mesh .volumes) (meshIn mesh .firsts) (meshIn mesh .seconds) (meshIn mesh .shares)
-      (meshIn mesh .reaches) (fieldIn mesh field)
+  pub mesh-same : parted (countedBy n left) ≡ meshIn mesh
+  mesh-same = ap (λ (k : FieldCounts). parted (countedBy k left)) counts-are ∙ held .mesh-held
+
+  masses-same : take (n .cells) masses ≡ fieldIn mesh field
+  masses-same = rw (cells-are mesh field (t .answer) d) (held .masses-held .part)
+
+  pub all-as : (P : Width → Mesh → List ℕ → Type 0) → P (n .width) (parted (countedBy n left)) (take (n .cells) masses)
+      → P (widthIn mesh) (meshIn mesh) (fieldIn mesh field)
   all-as P p =
-      let h = held in
-      let x : P (widthIn mesh) (meshIn mesh .cells) (meshIn mesh .faces) (take (meshIn mesh .cells) volumes) (take (meshIn mesh .faces) firsts)
-      (take (meshIn mesh .faces) seconds)
-      (take (meshIn mesh .faces) shares) (take (meshIn mesh .faces) reaches) (take (meshIn mesh .cells) masses) =
-      rw (width-is mesh field (t .answer) d, cells-are mesh field (t .answer) d, faces-are mesh field (t .answer) d) at p in
-      rw (h .volumes-held .part, h .firsts-held .part, h .seconds-held .part, h .shares-held .part, h .reaches-held .part, h .masses-held .part) at x
+      let x = subst (λ (M : Mesh). P (n .width) M (take (n .cells) masses)) mesh-same p in
+      let y = subst (λ (m : List ℕ). P (n .width) (meshIn mesh) m) masses-same x in
+      subst (λ (w : Width). P w (meshIn mesh) (fieldIn mesh field)) (width-is mesh field (t .answer) d) y

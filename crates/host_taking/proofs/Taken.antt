@@ -1,6 +1,6 @@
 -- What taking a mesh and a field comes to, from what the calls that `take_field` makes promise.
 use Prim.Native.Nat.{ℕ, _≤_}
-use mathlib.Core.Path.{_≡_, refl, sym, ap, _∙_}
+use mathlib.Core.Path.{_≡_, sym, ap, _∙_}
 use mathlib.Core.List.{List}
 use native.Mathlib.Omega.{arith}
 use lib.ListN.{length, take}
@@ -13,18 +13,18 @@ use Rattle.checks.specs.Total.{totalSaid}
 use Rattle.checks.specs.declared.TotalAnswer.{TotalAnswer}
 use Rattle.checks.specs.declared.TotalAnswer.the-variants as total-answer
 use Rattle.record_heads.specs.Heads.{widthIn, cellsIn}
-use Rattle.record_reading.specs.Reading.{volumesIn, countsIn, meshIn, massesIn}
+use Rattle.record_reading.specs.Reading.{volumesIn, countsIn, massesIn}
 use Rattle.record_reading.specs.Answers.{meshSaid}
 use Rattle.record_reading.specs.declared.MeshCounts.{MeshCounts}
 use Rattle.record_reading.specs.declared.MeshAnswer.{MeshAnswer}
 use Rattle.record_reading.specs.declared.MeshAnswer.the-variants as mesh-answer
-use Rattle.model.proofs.Parts.{PartRead, read-part, part-long}
+use Rattle.model.proofs.Parts.{PartRead, read-part}
 use Rattle.taking_mesh.specs.MeshTaking.{meshJudgedInRun, MeshTaking}
-use Rattle.taking_mesh.proofs.MeshLaws.{MeshIsRead, taken-said, taken-fine, taken-read}
+use Rattle.taking_mesh.proofs.MeshLaws.{MeshIsRead, parts-cut, taken-said, taken-fine, taken-read}
 use Rattle.taking.specs.Taking.{fieldJudged, FieldTaking as FieldKept}
 use Rattle.taking.proofs.FieldLaws.{field-says}
 use Rattle.host_tested.specs.Tested.{fieldTested, fieldIn, totalHeld}
-use Rattle.host_taking.specs.Taken.{takenIn, Front, RecordsTaking}
+use Rattle.host_taking.specs.Taken.{takenIn, RecordsTaking}
 use Rattle.host_taking.specs.declared.FieldCounts.{FieldCounts}
 use Rattle.host_taking.specs.declared.FieldTaken.the-variants.{Taken, Refused}
 
@@ -32,20 +32,14 @@ use Rattle.host_taking.specs.declared.FieldTaken.the-variants.{Taken, Re
 pub unfine : {A : Type 0} {v : Verdict} {k i : ℕ} → v ≡ refused k i → v ≡ fine → A
 unfine e q = let z : _≡_ {A = ℕ} 0 1 = cc in absurd (omega arith)
 
-front-of : {n m : ℕ} {xs ys : List ℕ} → n ≡ m → PartRead n xs ys → Front m xs ys
-front-of {xs = xs} {ys = ys} e p = let q : PartRead _ xs ys = rw e at p in record { fits = q .fits; part = q .part }
-
 -- the mesh record, taken into tables as long as the run's limits
 module _ (mesh field : List ℕ) {lent left : Mesh} {a : MeshAnswer} (t : MeshTaking mesh lent a left)
     (lv : length (lent .volumes) ≡ runCells) (lf : length (lent .firsts) ≡ runFaces) (ls : length (lent .seconds) ≡ runFaces)
     (lw : length (lent .shares) ≡ runFaces) (lk : length (lent .reaches) ≡ runFaces) where
-  open Mesh left using (volumes as volumes′, firsts as firsts′, seconds as seconds′, shares as shares′, reaches as reaches′)
-
   abbrev judged : Verdict
   judged = fieldJudged (widthIn mesh) (cellsIn mesh) (volumesIn mesh) field runCells
 
-  pub mesh-refused : {r : Refusal} → a ≡ mesh-answer.Refused r → (masses : List ℕ) → RecordsTaking mesh field (Refused r) volumes′ firsts′ seconds′ shares′
-      reaches′ masses
+  pub mesh-refused : {r : Refusal} → a ≡ mesh-answer.Refused r → (masses : List ℕ) → RecordsTaking mesh field (Refused r) left masses
   mesh-refused {r = r} d masses =
       let v : fieldTested mesh field ≡ refused (number (r .cause)) (r .place) =
       out judged (refused-of (meshJudgedInRun mesh) (countsIn mesh) (number (r .cause)) (r .place) (sym (ap meshSaid d) ∙ taken-said mesh t lv lf ls lw lk)) in
@@ -55,27 +49,27 @@ module _ (mesh field : List ℕ) {lent left : Mesh} {a : MeshAnswer} (t : MeshTa
     mesh-fine : (meshJudgedInRun mesh ≡ fine) × (n ≡ countsIn mesh)
     mesh-fine = taken-fine mesh t lv lf ls lw lk d
 
-    mesh-read : MeshIsRead mesh n volumes′ firsts′ seconds′ shares′ reaches′
+    mesh-read : MeshIsRead mesh n left
     mesh-read = taken-read mesh t lv lf ls lw lk d
 
     -- the part of the volumes that the field is taken on
-    pub volumes-fit : n .cells ≤ length volumes′
-    volumes-fit = mesh-read .volumes-part .fits
+    pub volumes-fit : n .cells ≤ length (left .volumes)
+    volumes-fit = mesh-read .held .volumes-long
 
-    pub volumes-long : n .cells ≡ length (take (n .cells) volumes′)
-    volumes-long = part-long (mesh-read .volumes-part)
+    pub volumes-long : n .cells ≡ length (take (n .cells) (left .volumes))
+    volumes-long = parts-cut mesh-read .volumes-cut
 
-    module _ {masses masses′ : List ℕ} {b : TotalAnswer} (u : FieldKept (n .width) (n .cells) (take (n .cells) volumes′) field masses b masses′)
+    module _ {masses masses′ : List ℕ} {b : TotalAnswer} (u : FieldKept (n .width) (n .cells) (take (n .cells) (left .volumes)) field masses b masses′)
         (lm : length masses ≡ runCells) where
       kept : FieldKept (widthIn mesh) (cellsIn mesh) (volumesIn mesh) field masses b masses′
       kept =
-          let x : FieldKept (n .width) (n .cells) (volumesIn mesh) field masses b masses′ = rw (mesh-read .volumes-part .part) at u in
+          let x : FieldKept (n .width) (n .cells) (volumesIn mesh) field masses b masses′ = rw (ap (λ (M : Mesh). M .volumes) (mesh-read .same)) at u in
           rw (mesh-fine .1) at x
 
       field-said : totalSaid b ≡ (judged andThen accepted (totalHeld mesh field))
       field-said = let q = kept .answer in rw lm at q
 
-      pub field-refused : {r : Refusal} → b ≡ total-answer.Refused r → RecordsTaking mesh field (Refused r) volumes′ firsts′ seconds′ shares′ reaches′ masses′
+      pub field-refused : {r : Refusal} → b ≡ total-answer.Refused r → RecordsTaking mesh field (Refused r) left masses′
       field-refused {r = r} f =
           let v : fieldTested mesh field ≡ refused (number (r .cause)) (r .place) =
           past judged (mesh-fine .0) ∙ refused-of judged (totalHeld mesh field) (number (r .cause)) (r .place) (sym (ap totalSaid f) ∙ field-said) in
@@ -97,20 +91,14 @@ module _ (mesh field : List ℕ) {lent left : Mesh} {a : MeshAnswer} (t : MeshTa
         counts-are : _≡_ {A = FieldCounts} (record { cells = n .cells; faces = n .faces; width = n .width; total = total }) (takenIn mesh field)
         counts-are = rw (mesh-fine .1, field-fine .1)
 
-        pub field-taken : RecordsTaking mesh field (Taken (record { cells = n .cells; faces = n .faces; width = n .width; total = total })) volumes′ firsts′
-            seconds′ shares′ reaches′ masses′
+        pub field-taken : RecordsTaking mesh field (Taken (record { cells = n .cells; faces = n .faces; width = n .width; total = total })) left masses′
         field-taken =
             let v : fieldTested mesh field ≡ fine = past judged (mesh-fine .0) ∙ field-fine .0 in
-            let c : n .cells ≡ meshIn mesh .cells = ap (λ (k : MeshCounts). k .cells) (mesh-fine .1) in
-            let g : n .faces ≡ meshIn mesh .faces = ap (λ (k : MeshCounts). k .faces) (mesh-fine .1) in
             record {
               answer = ap accepted counts-are ∙ sym (past _ v);
               tables = λ e. record {
-                volumes-held = front-of c (mesh-read .volumes-part);
-                firsts-held = front-of g (mesh-read .firsts-part);
-                seconds-held = front-of g (mesh-read .seconds-part);
-                shares-held = front-of g (mesh-read .shares-part);
-                reaches-held = front-of g (mesh-read .reaches-part);
-                masses-held = front-of refl masses-part;
+                mesh-long = rw (mesh-fine .1) at (mesh-read .held);
+                mesh-held = rw (mesh-fine .1) at (mesh-read .same);
+                masses-held = record { fits = masses-part .fits; part = masses-part .part };
               };
             }

@@ -4,6 +4,9 @@ use Prim.Native.Nat.{ℕ, _≤_}
 use mathlib.Core.Path.{_≡_}
 use mathlib.Core.List.{List}
 use lib.ListN.{length, take}
+use Rattle.model.specs.Mesh.{Mesh}
+use Rattle.model.specs.Meshes.{atCounts, parted}
+use Rattle.model.specs.Accepted.{MeshLent}
 use Rattle.model.specs.Causes.{Outcome, accepted, fine, _andThen_}
 use Rattle.model.specs.Answers.{told}
 use Rattle.record_heads.specs.Heads.{widthIn}
@@ -28,18 +31,15 @@ pub record Front (n : ℕ) (xs ys : List ℕ) : Type 0 where
   pub part : take n ys ≡ xs
 
 -- tables whose counted parts are the mesh and the field of the records
-pub record TablesHeld (mesh field volumes firsts seconds shares reaches masses : List ℕ) : Type 0 where
-  pub volumes-held : Front (meshIn mesh .cells) (meshIn mesh .volumes) volumes
-  pub firsts-held : Front (meshIn mesh .faces) (meshIn mesh .firsts) firsts
-  pub seconds-held : Front (meshIn mesh .faces) (meshIn mesh .seconds) seconds
-  pub shares-held : Front (meshIn mesh .faces) (meshIn mesh .shares) shares
-  pub reaches-held : Front (meshIn mesh .faces) (meshIn mesh .reaches) reaches
+pub record TablesHeld (mesh field : List ℕ) (left : Mesh) (masses : List ℕ) : Type 0 where
+  pub mesh-long : MeshLent (atCounts (meshIn mesh) left)
+  pub mesh-held : parted (atCounts (meshIn mesh) left) ≡ meshIn mesh
   pub masses-held : Front (meshIn mesh .cells) (fieldIn mesh field) masses
 
 -- The answer, and after acceptance the tables, which are a call's own: nobody looks at them after a refusal.
-pub record RecordsTaking (mesh field : List ℕ) (r : FieldTaken) (volumes firsts seconds shares reaches masses : List ℕ) : Type 0 where
+pub record RecordsTaking (mesh field : List ℕ) (r : FieldTaken) (left : Mesh) (masses : List ℕ) : Type 0 where
   pub answer : fieldTakenSaid r ≡ (fieldTested mesh field andThen accepted (takenIn mesh field))
-  pub tables : fieldTested mesh field ≡ fine → TablesHeld mesh field volumes firsts seconds shares reaches masses
+  pub tables : fieldTested mesh field ≡ fine → TablesHeld mesh field left masses
 
 -- the same of a call that looks at cells alone
 pub record CellsTaking (mesh field : List ℕ) (r : FieldTaken) (volumes masses : List ℕ) : Type 0 where

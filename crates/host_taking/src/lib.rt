@@ -6,7 +6,7 @@ use record_layouts::Width;
 use record_reading::MeshAnswer;
 ghost use mathlib.Core.Path.{_≡_};
 ghost use lib.ListN.{length};
-ghost use Rattle.model.specs.Mesh.{runCells, runFaces};
+ghost use Rattle.model.specs.Mesh.{meshOf, runCells, runFaces};
 ghost use Rattle.host_taking.specs.Taken.{RecordsTaking, CellsTaking};
 
 // The counts of the mesh, the width of its record, and the total of the field.
@@ -36,7 +36,8 @@ pub fn take_field(
     requires { ⌜ (length (now volumes) ≡ runCells) × (length (now masses) ≡ runCells) ⌝ }
     requires { ⌜ (length (now firsts) ≡ runFaces) × (length (now seconds) ≡ runFaces) × (length (now shares) ≡ runFaces) × (length (now reaches) ≡ runFaces) ⌝ }
     ensures { λ r. ⌜ RecordsTaking (now (mesh .entry)) (now (field .entry)) r
-        (now (volumes .exit)) (now (firsts .exit)) (now (seconds .exit)) (now (shares .exit)) (now (reaches .exit)) (now (masses .exit)) ⌝ }
+        (meshOf runCells runFaces (now (volumes .exit)) (now (firsts .exit)) (now (seconds .exit)) (now (shares .exit)) (now (reaches .exit)))
+        (now (masses .exit)) ⌝ }
 {
     let a = taking_mesh::take_mesh(mesh, volumes, firsts, seconds, shares, reaches);
     match a {

@@ -9,13 +9,14 @@ use borrow.Author.Tests.{le-leb}
 use lib.IntN.{ℤ}
 use lib.ListN.{length, take}
 use Rattle.lists.specs.Table.{table, over}
-use Rattle.model.specs.Mesh.{Mesh, meshOf, runCells, runFaces, maxCells, maxFaces, ceiling}
+use Rattle.model.specs.Mesh.{Mesh, runCells, runFaces, maxCells, maxFaces, ceiling}
+use Rattle.model.specs.Meshes.{parted}
 use Rattle.model.specs.Step.{StepInput, next}
-use Rattle.model.specs.Causes.{fine, each, long, Call, callOf, inputOf, countsWithin, counts, meshLengths, meshTables, volumeGood, meshCauses, meshValues, fieldTable, saltGood, fieldValues, meshFieldVerdict, verdict, cellsOnly}
+use Rattle.model.specs.Causes.{fine, each, long, Call, callOf, inputOf, countsWithin, counts, meshLong, meshTables, volumeGood, meshCauses, meshValues, fieldTable, saltGood, fieldValues, meshFieldVerdict, verdict, cellsOnly}
 use Rattle.model.specs.declared.Answer.{Answer}
 use Rattle.model.specs.declared.Answer.the-variants.{Done}
-use Rattle.model.proofs.Verdicts.{all-fine, fine-all, both-fine, past, passes, long-fine, need-met}
-use Rattle.model.proofs.Accepted.{Passed, passed, counted}
+use Rattle.model.proofs.Verdicts.{all-fine, fine-all, both-fine, past, passes, long-fine, long-met, need-met}
+use Rattle.model.proofs.Accepted.{Passed, passed, counted, all-long, mesh-lent, lent-mesh}
 use Rattle.transport.specs.Promise.{StepMade}
 use Rattle.transport.specs.declared.StepAnswer.{StepAnswer}
 use Rattle.transport.specs.declared.StepAnswer.the-variants as step-answer
@@ -25,16 +26,16 @@ use Rattle.record_heads.specs.Heads.{kindIn, widthIn, cellsIn, facesIn, hasLeng
 use Rattle.record_layouts.specs.declared.Width.{Width}
 use Rattle.record_layouts.specs.declared.StepKind.{StepKind}
 use Rattle.record_reading.specs.Reading.{meshIn, massesIn, fluxesIn, outsidesIn, releasesIn, fieldBodyVerdict, fieldRead, stepRead}
-use Rattle.record_reading.specs.Answers.{FieldReading, StepReading}
+use Rattle.record_reading.specs.Answers.{counting, FieldReading, StepReading}
 use Rattle.record_reading.specs.declared.MeshCounts.{MeshCounts}
 use Rattle.record_reading.specs.declared.StepRead.{StepRead}
 use Rattle.record_reading.specs.declared.StepRead.the-variants as read
 use Rattle.record_putting.specs.Putting.{FieldWhole, Wrote}
 use Rattle.record_writing.specs.Writing.{mostOf}
 use Rattle.record_writing.proofs.WriteLaws.{field-whole}
-use Rattle.model.proofs.Parts.{PartRead, read-part, long-met}
+use Rattle.model.proofs.Parts.{PartRead, read-part}
 use Rattle.taking_mesh.specs.MeshTaking.{meshRecordFound, meshJudged, meshJudgedInRun}
-use Rattle.taking_mesh.proofs.MeshLaws.{MeshIsRead, limits, same}
+use Rattle.taking_mesh.proofs.MeshLaws.{MeshIsRead, within-long, limits}
 use Rattle.taking.specs.Taking.{fieldJudged, stepIn, stepJudged}
 use Rattle.taking.proofs.StepLaws.{own-fine, crossed, nexts-part, fluxes-part, outsides-part, releases-part, few, found-fine}
 use Rattle.lagoon_straight.specs.Straight.{Put, Unrefused, RecordsPut}
@@ -140,17 +141,15 @@ module _ (M : Mesh) (masses : List ℕ) (k : Call) (e : verdict M masses k ≡ f
   cells-counted = past _ (both-fine _ _ (P .counts-fine) .0) ∙ need-met 1 1 (le-leb 0 maxFaces (omega arith))
 
   cells-lent : meshTables C ≡ fine
-  unfolding meshTables
-  cells-lent = fine-all (meshLengths C) (
-    all-fine (meshLengths M) (P .mesh-tables-fine) .0,
-    (
-      long-met 1 0 0 (le-refl 0),
-      (
-        long-met 2 0 0 (le-refl 0),
-        (long-met 3 0 0 (le-refl 0), (long-met 4 0 0 (le-refl 0), tt)),
-      ),
-    ),
-  )
+  cells-lent =
+      let l = mesh-lent M (P .mesh-tables-fine) in
+      lent-mesh C (record {
+        volumes-long = l .volumes-long;
+        firsts-long = le-refl 0;
+        seconds-long = le-refl 0;
+        shares-long = le-refl 0;
+        reaches-long = le-refl 0;
+      })
 
   cells-sized : meshValues ceiling C ≡ fine
   unfolding meshValues volumeGood each
@@ -170,24 +169,8 @@ module _ (mesh field step : List ℕ) (found : meshRecordFound mesh ≡ fine) {r
   unfolding meshJudged
   mesh-found =
       let l = limits mesh found in
-      let t = fine-all (long 0 (cellsIn mesh) runCells ∷ long 1 (facesIn mesh) runFaces ∷ long 2 (facesIn mesh) runFaces ∷ long 3
-      (facesIn mesh) runFaces ∷ long 4 (facesIn mesh) runFaces ∷ []) (
-        long-met 0 _ _ (l .few-cells),
-        (
-          long-met 1 _ _ (l .few-faces),
-          (
-            long-met 2 _ _ (l .few-faces),
-            (
-              long-met 3 _ _ (l .few-faces),
-              (
-                long-met 4 _ _
-                    (l .few-faces),
-                tt,
-              ),
-            ),
-          ),
-        ),
-      ) in
+      let t = fine-all (meshLong (cellsIn mesh) (facesIn mesh) runCells runFaces runFaces runFaces runFaces)
+      (all-long (within-long (l .few-cells) (l .few-faces))) in
       past _ (past _ found ∙ t) ∙ passed _ _ _ v .mesh-values-fine
 
   field-judged : fieldJudged (widthIn mesh) (cellsIn mesh) (meshIn mesh .volumes) field runCells ≡ fine
@@ -208,22 +191,13 @@ put-from mesh field step bytes found w d M e {r = r} {bytes′ = bytes′} c =
     let x : MeshPut (widthIn mesh) (meshIn mesh) field step bytes r bytes′ = rw (d, e) at c in
     record { done = λ t. (unrefused mesh field step found (x .done t .0), x .done t .1); left = x .left }
 
-module _ {mesh : List ℕ} {n : MeshCounts} {volumes′ firsts′ seconds′ shares′ reaches′ : List ℕ}
-    (m : MeshIsRead mesh n volumes′ firsts′ seconds′ shares′ reaches′) where
-  abbrev N : Mesh
-  N = meshOf (n .cells) (n .faces) (take (n .cells) volumes′) (take (n .faces) firsts′) (take (n .faces) seconds′) (take (n .faces) shares′) (take
-      (n .faces) reaches′)
-
+module _ {mesh : List ℕ} {n : MeshCounts} {left : Mesh} (m : MeshIsRead mesh n left) where
   width-read : n .width ≡ widthIn mesh
   width-read = ap (λ (k : MeshCounts). k .width) (m .counts-are)
 
-  pub mesh-within : meshValues (mostOf (n .width)) N ≡ meshValues ceiling N
-  mesh-within = rw (width-read, same m) (record-within mesh)
+  pub mesh-within : meshValues (mostOf (n .width)) (parted (counting n left)) ≡ meshValues ceiling (parted (counting n left))
+  mesh-within = rw (width-read, m .same) (record-within mesh)
 
-  pub records-put : (field step bytes : List ℕ) {r : Bool} {bytes′ : List ℕ}
-      → MeshPut (n .width)
-      (meshOf (n .cells) (n .faces) (take (n .cells) volumes′) (take (n .faces) firsts′) (take (n .faces) seconds′) (take (n .faces) shares′) (take
-      (n .faces) reaches′))
-      field step bytes r bytes′
+  pub records-put : (field step bytes : List ℕ) {r : Bool} {bytes′ : List ℕ} → MeshPut (n .width) (parted (counting n left)) field step bytes r bytes′
       → RecordsPut mesh field step bytes r bytes′
-  records-put field step bytes c = put-from mesh field step bytes (m .passed) (n .width) width-read N (same m) c
+  records-put field step bytes c = put-from mesh field step bytes (m .passed) (n .width) width-read (parted (counting n left)) (m .same) c

@@ -14,9 +14,9 @@ use Rattle.lists.proofs.Tests.{Same, same, other, same?, both-true, either-true
 use Rattle.lists.proofs.Sums.{greatest-le}
 use Rattle.model.specs.Mesh.{Mesh, volume, first, second, share, reach, atRim, rim, incoming, outgoing, maxCells, maxFaces, maxVolume, maxShare, maxConcentration, maxRimFlux, ceiling}
 use Rattle.model.specs.Step.{StepInput, raised, rounded, flux, outside, concentration, adjacent, hi}
-use Rattle.model.specs.Causes.{spacingFit, meshLengths, stepLengths, meshCauses, release, raisedGood, raisedValues, waterCauses, stepCauses, fine, _andThen_, each, between, Call, inputOf, countsWithin, counts, meshTables, volumeGood, endsGood, spacingGood, meshValues, fieldTable, fieldValues, saltGood, fieldVerdict, stepTables, outsideGood, fluxGood, balanceGood, outflowGood, stepValues, verdict, meshFieldVerdict}
-use Rattle.model.specs.Accepted.{Counted, MeshLent, CallLent, MeshFit, WaterFit, Ready, maxMass}
-use Rattle.model.proofs.Verdicts.{both-fine, all-fine, need-fine, need-met, long-fine, each-fine, fine-each}
+use Rattle.model.specs.Causes.{spacingFit, meshLong, meshLengths, stepLengths, meshCauses, release, raisedGood, raisedValues, waterCauses, stepCauses, fine, _andThen_, each, between, Call, inputOf, countsWithin, counts, meshTables, volumeGood, endsGood, spacingGood, meshValues, fieldTable, fieldValues, saltGood, fieldVerdict, stepTables, outsideGood, fluxGood, balanceGood, outflowGood, stepValues, verdict, meshFieldVerdict}
+use Rattle.model.specs.Accepted.{Counted, MeshLong, MeshLent, CallLent, MeshFit, WaterFit, Ready, maxMass}
+use Rattle.model.proofs.Verdicts.{AllFine, both-fine, all-fine, fine-all, need-fine, need-met, long-fine, long-met, each-fine, fine-each}
 use Rattle.model.proofs.Low.{met-any}
 use Rattle.model.proofs.Raised.{raised-long, raised-at}
 use Rattle.model.proofs.Rounded.{rounded-there, rounded-rest}
@@ -29,18 +29,30 @@ counted M e =
     let c = both-true (leb 1 (M .cells)) (leb (M .cells) maxCells) (need-fine 1 0 _ (p .0)) in
     record { some = leb-true _ _ (c .0); few-cells = leb-true _ _ (c .1); few-faces = leb-true _ _ (need-fine 1 1 _ (p .1)) }
 
--- past cause 2
+-- past cause 2, and back
+module _ {cells faces volumes firsts seconds shares reaches : ℕ} where
+  pub long-says : AllFine (meshLong cells faces volumes firsts seconds shares reaches) → MeshLong cells faces volumes firsts seconds shares reaches
+  long-says p = record {
+    volumes-long = long-fine _ _ _ (p .0);
+    firsts-long = long-fine _ _ _ (p .1 .0);
+    seconds-long = long-fine _ _ _ (p .1 .1 .0);
+    shares-long = long-fine _ _ _ (p .1 .1 .1 .0);
+    reaches-long = long-fine _ _ _ (p .1 .1 .1 .1 .0);
+  }
+
+  pub all-long : MeshLong cells faces volumes firsts seconds shares reaches → AllFine (meshLong cells faces volumes firsts seconds shares reaches)
+  all-long l = (
+    long-met 0 _ _ (l .volumes-long),
+    (long-met 1 _ _ (l .firsts-long), (long-met 2 _ _ (l .seconds-long), (long-met 3 _ _ (l .shares-long), (long-met 4 _ _ (l .reaches-long), tt)))),
+  )
+
 pub mesh-lent : (M : Mesh) → meshTables M ≡ fine → MeshLent M
 unfolding meshTables
-mesh-lent M e =
-    let p = all-fine (meshLengths M) e in
-    record {
-      volumes-long = long-fine _ _ _ (p .0);
-      firsts-long = long-fine _ _ _ (p .1 .0);
-      seconds-long = long-fine _ _ _ (p .1 .1 .0);
-      shares-long = long-fine _ _ _ (p .1 .1 .1 .0);
-      reaches-long = long-fine _ _ _ (p .1 .1 .1 .1 .0);
-    }
+mesh-lent M e = long-says (all-fine (meshLengths M) e)
+
+pub lent-mesh : (M : Mesh) → MeshLent M → meshTables M ≡ fine
+unfolding meshTables
+lent-mesh M l = fine-all (meshLengths M) (all-long l)
 
 pub field-lent : (M : Mesh) (field : List ℕ) → fieldTable M field ≡ fine → M .cells ≤ length field
 unfolding fieldTable
@@ -173,12 +185,8 @@ module _ (M : Mesh) (field : List ℕ) (k : Call) where
   courant e c h = leb-true _ _ (each-fine 10 (M .cells) (outflowGood M field k) e c h)
 
 -- the lengths that the tests of values ask for
-pub mesh-long : (M : Mesh) → (counts M andThen meshTables M) ≡ fine
-    → (M .cells ≤ length (M .volumes)) × (M .faces ≤ length (M .firsts)) × (M .faces ≤ length (M .seconds)) × (M .faces ≤ length (M .shares))
-    × (M .faces ≤ length (M .reaches))
-mesh-long M e =
-    let l = mesh-lent M (both-fine _ _ e .1) in
-    (l .volumes-long, l .firsts-long, l .seconds-long, l .shares-long, l .reaches-long)
+pub mesh-long : (M : Mesh) → (counts M andThen meshTables M) ≡ fine → MeshLent M
+mesh-long M e = mesh-lent M (both-fine _ _ e .1)
 
 -- what a field whose causes are fine has passed
 pub record FieldPassed (M : Mesh) (field : List ℕ) : Type 0 where
@@ -200,7 +208,7 @@ pub salt-asks-within : (most : ℕ) → most ≤ ceiling → (M : Mesh) (field :
 salt-asks-within most l M field e d =
     let p = both-fine _ _ e in
     let m = fit-within most M d l in
-    ((mesh-long M (p .0) .0, field-lent M field (p .1)), λ c h. (m .volume-some c h, m .volume-most c h))
+    ((mesh-long M (p .0) .volumes-long, field-lent M field (p .1)), λ c h. (m .volume-some c h, m .volume-most c h))
 
 pub salt-asks : (M : Mesh) (field : List ℕ) → (counts M andThen meshTables M andThen fieldTable M field) ≡ fine → meshValues ceiling M ≡ fine
     → ((M .cells ≤ length (M .volumes)) × (M .cells ≤ length field)) × ((c : ℕ) → c < M .cells → (1 ≤ volume M c) × (volume M c ≤ maxVolume))

@@ -15,14 +15,14 @@ use Rattle.signed.specs.Sign.{forward, backward, size, isZero}
 use Rattle.model.specs.Mesh.{Mesh, volume, first, second, atRim, rim, incoming, outgoing, updated, ceiling}
 use Rattle.model.specs.Step.{StepInput, flux, mass, carried, lo, hi, moved}
 use Rattle.model.specs.Alike.{Agree, AgreeCall}
-use Rattle.model.specs.Causes.{accepted, fine, long, between, Call, callOf, inputOf, workLength, meshLengths, stepLengths, counts, meshTables, meshValues, fieldTable, fieldValues, raisedGood, raisedValues, outsideGood, fluxGood, balanceGood, outflowGood, stepTables, stepValues, verdict}
+use Rattle.model.specs.Causes.{accepted, fine, long, between, Call, callOf, inputOf, workLength, stepLengths, counts, meshTables, meshValues, fieldTable, fieldValues, raisedGood, raisedValues, outsideGood, fluxGood, balanceGood, outflowGood, stepTables, stepValues, verdict}
 use Rattle.model.specs.Claims.{maxClaim, claimed, sameAmount, claimFit, claimLengths, claimGood, boundsGood, amountCauses, amountsVerdict, claimTables, unworkedCauses, unworkedVerdict, claimVerdict}
 use Rattle.model.specs.Calls.{massIn, Scheme, judged, stepAnswer, nextTable, movedTable}
 use Rattle.model.specs.Accepted.{MeshLent, ClaimLent, MeshFit, Ready}
 use Rattle.model.specs.OwnSteps.{HandedIn, OwnAccepted, OwnSteps}
-use Rattle.model.proofs.Verdicts.{AllFine, both-fine, past, all-fine, fine-all, long-fine, need-met, each-fine, fine-each}
+use Rattle.model.proofs.Verdicts.{AllFine, both-fine, past, all-fine, fine-all, long-fine, long-met, each-fine, fine-each}
 use Rattle.model.proofs.Next.{Keeps, moved-keeps, carried-keeps, still-carried, still-moved}
-use Rattle.model.proofs.Accepted.{passed, ready-by, ready}
+use Rattle.model.proofs.Accepted.{lent-mesh, passed, ready-by, ready}
 use Rattle.model.proofs.Sizes.{carried-size, moved-size}
 use Rattle.model.proofs.Lists.{Keeping}
 use Rattle.model.proofs.Agree.{carried-agree, moved-agree, incoming-agree, outgoing-agree, inputs-agree, crossing-agree, verdict-agree}
@@ -199,27 +199,15 @@ carried-own = record {
 
 -- tables that are long enough pass cause 2
 module _ (M : Mesh) (field : List ℕ) (k : Call) (mesh-long : MeshLent M) (masses-long : M .cells ≤ length field) (l : ClaimLent M k) where
-  lent-fine : (i wanted has : ℕ) → wanted ≤ has → long i wanted has ≡ fine
-  lent-fine i wanted has h = need-met 2 i (le-leb wanted has h)
-
-  lent-mesh : meshTables M ≡ fine
-  unfolding meshTables
-  lent-mesh =
-      let m = mesh-long in
-      fine-all (meshLengths M) (
-        lent-fine 0 _ _ (m .volumes-long),
-        (lent-fine 1 _ _ (m .firsts-long), (lent-fine 2 _ _ (m .seconds-long), (lent-fine 3 _ _ (m .shares-long), (lent-fine 4 _ _ (m .reaches-long), tt)))),
-      )
-
   lent-field : fieldTable M field ≡ fine
   unfolding fieldTable
-  lent-field = lent-fine 5 _ _ masses-long
+  lent-field = long-met 5 _ _ masses-long
 
   lent-claim : claimTables M field k ≡ fine
   unfolding claimTables
   lent-claim = fine-all (claimLengths (M .cells) (M .faces) k) (
-    lent-fine 6 _ _ (l .fluxes-long),
-    (lent-fine 7 _ _ (l .outsides-long), (lent-fine 8 _ _ (l .nexts-long), (lent-fine 9 _ _ (l .moveds-long), (lent-fine 14 _ _ (l .releases-long), tt)))),
+    long-met 6 _ _ (l .fluxes-long),
+    (long-met 7 _ _ (l .outsides-long), (long-met 8 _ _ (l .nexts-long), (long-met 9 _ _ (l .moveds-long), (long-met 14 _ _ (l .releases-long), tt)))),
   )
 
   -- the same call with work of its own, as a step would be lent it
@@ -234,9 +222,9 @@ module _ (M : Mesh) (field : List ℕ) (k : Call) (mesh-long : MeshLent M) (mass
   lent-step =
       let later : AllFine (long 9 (M .faces) (length (k .moveds)) ∷ long 10 (workLength M) (length (worked .work)) ∷ long 14 (M .cells) (length (k .releases))
       ∷ [])
-      = (lent-fine 9 _ _ (l .moveds-long), (lent-fine 10 _ _ work-long, (lent-fine 14 _ _ (l .releases-long), tt))) in
+      = (long-met 9 _ _ (l .moveds-long), (long-met 10 _ _ work-long, (long-met 14 _ _ (l .releases-long), tt))) in
       fine-all (stepLengths (M .cells) (M .faces) worked)
-      (lent-fine 6 _ _ (l .fluxes-long), (lent-fine 7 _ _ (l .outsides-long), (lent-fine 8 _ _ (l .nexts-long), later)))
+      (long-met 6 _ _ (l .fluxes-long), (long-met 7 _ _ (l .outsides-long), (long-met 8 _ _ (l .nexts-long), later)))
 
   -- a step on it passes what the judging passes
   step-passes : verdict M field worked ≡ fine → ClaimPassed M field k
@@ -283,7 +271,7 @@ module _ (y : StepInput → ℕ → ℤ) (own : Own y) where
     step-fine =
         let p = passed M field k e in
         verdict-agree M M′ field field′ k with-work agreed
-        (lent-mesh M′ field′ k′ (h .mesh-lent) (h .masses-long) (h .claim-lent) ∙ sym (p .mesh-tables-fine))
+        (lent-mesh M′ (h .mesh-lent) ∙ sym (p .mesh-tables-fine))
         (lent-field M′ field′ k′ (h .mesh-lent) (h .masses-long) (h .claim-lent) ∙ sym (p .field-table-fine))
         (lent-step M′ field′ k′ (h .mesh-lent) (h .masses-long) (h .claim-lent) ∙ sym (p .step-tables-fine)) ∙ e
 

@@ -5,7 +5,7 @@ use mathlib.Core.Bool.{Bool, true, false}
 use native.Mathlib.Numerals.{add-one}
 use native.Mathlib.Omega.{arith}
 use mathlib.Core.List.{List, [], _∷_, _++_}
-use borrow.Author.Tests.{leb-true}
+use borrow.Author.Tests.{leb-true, le-leb}
 use lib.Dec.{eqb, leb}
 use Rattle.lists.proofs.Tests.{Same, same, other, same?}
 use Rattle.model.specs.Causes.{Outcome, accepted, refused, Verdict, fine, _andThen_, firstOf, inTurn, need, each, long}
@@ -104,6 +104,9 @@ need-unmet k i e = rw e
 
 pub long-fine : (position wanted has : ℕ) → long position wanted has ≡ fine → wanted ≤ has
 long-fine position wanted has e = leb-true wanted has (need-fine 2 position (leb wanted has) e)
+
+pub long-met : (position wanted has : ℕ) → wanted ≤ has → long position wanted has ≡ fine
+long-met position wanted has h = need-met 2 position (le-leb wanted has h)
 
 pub each-fine : (k n : ℕ) (good : ℕ → Bool) → each k n good ≡ fine → (i : ℕ) → i < n → good i ≡ true
 unfolding each

@@ -23,13 +23,16 @@ pub record Counted (M : Mesh) : Type 0 where
   pub few-cells : M .cells ≤ maxCells
   pub few-faces : M .faces ≤ maxFaces
 
--- past cause 2
-pub record MeshLent (M : Mesh) : Type 0 where
-  pub volumes-long : M .cells ≤ length (M .volumes)
-  pub firsts-long : M .faces ≤ length (M .firsts)
-  pub seconds-long : M .faces ≤ length (M .seconds)
-  pub shares-long : M .faces ≤ length (M .shares)
-  pub reaches-long : M .faces ≤ length (M .reaches)
+-- past cause 2: of tables of so many entries, and of those of a mesh
+pub record MeshLong (cells faces volumes firsts seconds shares reaches : ℕ) : Type 0 where
+  pub volumes-long : cells ≤ volumes
+  pub firsts-long : faces ≤ firsts
+  pub seconds-long : faces ≤ seconds
+  pub shares-long : faces ≤ shares
+  pub reaches-long : faces ≤ reaches
+
+abbrev pub MeshLent : Mesh → Type 0
+MeshLent M = MeshLong (M .cells) (M .faces) (length (M .volumes)) (length (M .firsts)) (length (M .seconds)) (length (M .shares)) (length (M .reaches))
 
 pub record CallLent (M : Mesh) (k : Call) : Type 0 where
   pub fluxes-long : M .faces ≤ length (k .fluxes)

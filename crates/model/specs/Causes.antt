@@ -139,6 +139,11 @@ stepLengths cells faces k = lengths01 cells faces k ++ (long 14 cells (length (k
 abbrev pub stepLong : (cells faces : ℕ) → Call → Verdict
 stepLong cells faces k = inTurn (stepLengths cells faces k)
 
+-- the same of a mesh: tables of so many entries, lent for these counts
+abbrev pub meshLong : (cells faces volumes firsts seconds shares reaches : ℕ) → List Verdict
+meshLong cells faces volumes firsts seconds shares reaches =
+    long 0 cells volumes ∷ long 1 faces firsts ∷ long 2 faces seconds ∷ long 3 faces shares ∷ long 4 faces reaches ∷ []
+
 -- a mesh of which a call is lent the cells alone: one without faces
 abbrev pub cellsOnly : ℕ → List ℕ → Mesh
 cellsOnly cells volumes = meshOf cells 0 volumes [] [] [] []
@@ -157,13 +162,7 @@ module _ (M : Mesh) where
   counts = countsWithin maxCells maxFaces (M .cells) (M .faces)
 
   abbrev pub meshLengths : List Verdict
-  meshLengths =
-      long 0 (M .cells) (length (M .volumes))
-      ∷ long 1 (M .faces) (length (M .firsts))
-      ∷ long 2 (M .faces) (length (M .seconds))
-      ∷ long 3 (M .faces) (length (M .shares))
-      ∷ long 4 (M .faces) (length (M .reaches))
-      ∷ []
+  meshLengths = meshLong (M .cells) (M .faces) (length (M .volumes)) (length (M .firsts)) (length (M .seconds)) (length (M .shares)) (length (M .reaches))
 
   unfoldable pub meshTables : Verdict
   meshTables = inTurn meshLengths

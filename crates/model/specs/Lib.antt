@@ -1,4 +1,5 @@
 pub mod Mesh
+pub mod Meshes
 pub mod Step
 pub mod Causes
 pub mod Claims

@@ -19,7 +19,7 @@ use Rattle.record_heads.specs.Heads.{kindIn, widthIn, cellsIn}
 use Rattle.record_layouts.specs.declared.Width.{Width}
 use Rattle.record_layouts.specs.declared.Width.the-variants.{Narrow}
 use Rattle.record_reading.specs.Reading.{meshIn, massesIn, fluxesIn, outsidesIn, releasesIn}
-use Rattle.record_reading.specs.Meshes.{overMesh}
+use Rattle.model.specs.Meshes.{overMesh}
 use Rattle.record_reading.specs.declared.MeshAnswer.{MeshAnswer}
 use Rattle.taking_mesh.specs.MeshTaking.{MeshKept, meshRecordFound, meshJudged}
 use Rattle.taking.specs.Taking.{fieldJudged, stepIn, stepRecordFound, stepJudged, printedOf, Stepping}

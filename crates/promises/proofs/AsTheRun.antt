@@ -9,13 +9,17 @@ use lib.ListN.{length, getD}
 use Rattle.lists.specs.Table.{table, over}
 use Rattle.lists.proofs.Tables.{length-table, getD-table, length-over, getD-over}
 use Rattle.model.specs.Mesh.{Mesh, meshOf, runCells, runFaces}
+use Rattle.model.specs.Meshes.{overMesh, atCounts, MeshCut}
+use Rattle.model.specs.Accepted.{MeshLent}
 use Rattle.model.specs.Alike.{AgreeMesh, AgreeCall}
 use Rattle.model.specs.Causes.{fine, long, cellsOnly, counts, meshTables, meshVerdict, fieldTable, fieldValues, fieldVerdict, stepTables, meshFieldVerdict}
 use Rattle.model.proofs.Verdicts.{need-met}
-use Rattle.model.proofs.Accepted.{field-fit, field-passed, field-accepted}
+use Rattle.model.proofs.Accepted.{lent-mesh, field-fit, field-passed, field-accepted}
+use Rattle.model.proofs.Parts.{cut-lent, over-lent, over-agrees}
 use Rattle.model.proofs.Agree.{mesh-values-agree, field-values-agree, verdict-agree}
 use Rattle.record_heads.specs.Heads.{widthIn, cellsIn, facesIn}
-use Rattle.record_reading.specs.Reading.{volumesIn, firstsIn, secondsIn, sharesIn, reachesIn, meshIn, massesIn, outsidesIn, releasesIn}
+use Rattle.record_reading.specs.Reading.{volumesIn, secondsIn, meshIn, massesIn, outsidesIn, releasesIn}
+use Rattle.record_reading.proofs.ReadLaws.{mesh-cut}
 use Rattle.taking_mesh.specs.MeshTaking.{meshJudged, meshJudgedInRun}
 use Rattle.taking.specs.Taking.{fieldJudged, stepIn, stepRecordFound, stepJudged}
 use Rattle.taking_mesh.proofs.MeshLaws.{MeshSays, mesh-says, limits, values-left}
@@ -37,18 +41,16 @@ full : (n : ℕ) (f : ℕ → ℕ) → n ≤ length (table n f)
 full n f = omega (arith, length-table n f)
 
 -- the run's tables, whatever they held
-module _ (mesh field step volumes firsts seconds shares reaches masses : List ℕ)
-    (lv : length volumes ≡ runCells) (lf : length firsts ≡ runFaces) (ls : length seconds ≡ runFaces) (lw : length shares ≡ runFaces)
-    (lk : length reaches ≡ runFaces)
+module _ (mesh field step : List ℕ) (tables : Mesh) (masses : List ℕ)
+    (long : MeshCut (meshOf runCells runFaces (tables .volumes) (tables .firsts) (tables .seconds) (tables .shares) (tables .reaches)))
     (lm : length masses ≡ runCells) where
-  pub mesh-as-the-run : meshJudged mesh (length volumes) (length firsts) (length seconds) (length shares) (length reaches) ≡ meshJudgedInRun mesh
-  mesh-as-the-run = rw (lv, lf, ls, lw, lk)
+  pub mesh-as-the-run : meshJudged mesh (length (tables .volumes)) (length (tables .firsts)) (length (tables .seconds)) (length (tables .shares))
+      (length (tables .reaches)) ≡ meshJudgedInRun mesh
+  mesh-as-the-run = rw (← long .volumes-cut, ← long .firsts-cut, ← long .seconds-cut, ← long .shares-cut, ← long .reaches-cut)
 
   -- what they hold of an accepted mesh, and of a field on it
   abbrev pub lent : Mesh
-  lent = meshOf (cellsIn mesh) (facesIn mesh) (over (volumesIn mesh) volumes) (over (firstsIn mesh) firsts) (over (secondsIn mesh) seconds)
-      (over (sharesIn mesh) shares)
-      (over (reachesIn mesh) reaches)
+  lent = atCounts (meshIn mesh) (overMesh (meshIn mesh) tables)
 
   abbrev pub lentField : List ℕ
   lentField = over (massesIn field (cellsIn mesh)) masses
@@ -57,54 +59,21 @@ module _ (mesh field step volumes firsts seconds shares reaches masses : List �
     passed : MeshSays mesh runCells runFaces runFaces runFaces runFaces
     passed = mesh-says mesh runCells runFaces runFaces runFaces runFaces mesh-fine
 
-    within : (cellsIn mesh ≤ runCells) × (facesIn mesh ≤ runFaces)
-    within = let l = limits mesh (passed .found) in (l .few-cells, l .few-faces)
-
     agrees : AgreeMesh (meshIn mesh) lent
-    unfolding volumesIn firstsIn secondsIn sharesIn reachesIn
-    agrees = record {
-      cells-same = refl;
-      faces-same = refl;
-      volumes = held-same _ _ volumes;
-      firsts = held-same _ _ firsts;
-      seconds = held-same _ _ seconds;
-      shares = held-same _ _ shares;
-      reaches = held-same _ _ reaches;
-    }
+    agrees = over-agrees (meshIn mesh) tables (mesh-cut mesh)
 
-    volumes-long : (cellsIn mesh ≤ length (volumesIn mesh)) × (cellsIn mesh ≤ length (over (volumesIn mesh) volumes))
-    unfolding volumesIn
-    volumes-long = (full _ _, held-long _ _ volumes (omega (arith, lv, within)))
+    lent-long : MeshLent lent
+    lent-long = over-lent (meshIn mesh) tables (mesh-cut mesh)
 
-    firsts-long : (facesIn mesh ≤ length (firstsIn mesh)) × (facesIn mesh ≤ length (over (firstsIn mesh) firsts))
-    unfolding firstsIn
-    firsts-long = (full _ _, held-long _ _ firsts (omega (arith, lf, within)))
-
-    seconds-long : (facesIn mesh ≤ length (secondsIn mesh)) × (facesIn mesh ≤ length (over (secondsIn mesh) seconds))
-    unfolding secondsIn
-    seconds-long = (full _ _, held-long _ _ seconds (omega (arith, ls, within)))
-
-    shares-long : (facesIn mesh ≤ length (sharesIn mesh)) × (facesIn mesh ≤ length (over (sharesIn mesh) shares))
-    unfolding sharesIn
-    shares-long = (full _ _, held-long _ _ shares (omega (arith, lw, within)))
-
-    reaches-long : (facesIn mesh ≤ length (reachesIn mesh)) × (facesIn mesh ≤ length (over (reachesIn mesh) reaches))
-    unfolding reachesIn
-    reaches-long = (full _ _, held-long _ _ reaches (omega (arith, lk, within)))
+    whole-long : MeshLent (meshIn mesh)
+    whole-long = cut-lent (mesh-cut mesh)
 
     pub masses-long : (cellsIn mesh ≤ length (massesIn field (cellsIn mesh))) × (cellsIn mesh ≤ length lentField)
     unfolding massesIn
-    masses-long = (full _ _, held-long _ _ masses (omega (arith, lm, within)))
+    masses-long = (full _ _, held-long _ _ masses (omega (arith, lm, limits mesh (passed .found) .few-cells)))
 
     tables-same : meshTables lent ≡ meshTables (meshIn mesh)
-    unfolding meshTables
-    tables-same = rw (
-      enough 0 volumes-long,
-      enough 1 firsts-long,
-      enough 2 seconds-long,
-      enough 3 shares-long,
-      enough 4 reaches-long,
-    )
+    tables-same = lent-mesh lent lent-long ∙ sym (lent-mesh (meshIn mesh) whole-long)
 
     -- the mesh in the run's tables is an accepted one
     pub lent-fine : meshVerdict lent ≡ fine
@@ -113,7 +82,7 @@ module _ (mesh field step volumes firsts seconds shares reaches masses : List �
         let whole : meshVerdict (meshIn mesh) ≡ fine = values-left mesh (passed .found) ∙ passed .values in
         rw (tables-same, mesh-values-agree (meshIn mesh) lent agrees) whole
 
-    cells-agree : AgreeMesh (cellsOnly (cellsIn mesh) (volumesIn mesh)) (cellsOnly (cellsIn mesh) (over (volumesIn mesh) volumes))
+    cells-agree : AgreeMesh (cellsOnly (cellsIn mesh) (volumesIn mesh)) (cellsOnly (cellsIn mesh) (lent .volumes))
     cells-agree = record {
       cells-same = refl;
       faces-same = refl;
@@ -124,11 +93,11 @@ module _ (mesh field step volumes firsts seconds shares reaches masses : List �
       reaches = λ f l. refl;
     }
 
-    cells-tables : meshTables (cellsOnly (cellsIn mesh) (over (volumesIn mesh) volumes)) ≡ meshTables (cellsOnly (cellsIn mesh) (volumesIn mesh))
+    cells-tables : meshTables (cellsOnly (cellsIn mesh) (lent .volumes)) ≡ meshTables (cellsOnly (cellsIn mesh) (volumesIn mesh))
     unfolding meshTables
-    cells-tables = rw (enough 0 volumes-long)
+    cells-tables = rw (enough 0 (whole-long .volumes-long, lent-long .volumes-long))
 
-    pub field-as-the-run : fieldJudged (widthIn mesh) (cellsIn mesh) (over (volumesIn mesh) volumes) field (length masses) ≡ fieldAlone mesh field
+    pub field-as-the-run : fieldJudged (widthIn mesh) (cellsIn mesh) (lent .volumes) field (length masses) ≡ fieldAlone mesh field
     unfolding fieldJudged meshFieldVerdict counts fieldTable
     field-as-the-run = rw (
       lm,
@@ -147,15 +116,15 @@ module _ (mesh field step volumes firsts seconds shares reaches masses : List �
         (λ c h. rw (held-same _ _ masses c h, agrees .volumes c h)
         (field-fit (cellsOnly (cellsIn mesh) (volumesIn mesh)) (massesIn field (cellsIn mesh)) salt c h))
 
-    seconds-same : (f : ℕ) → f < facesIn mesh → getD (over (secondsIn mesh) seconds) f 0 ≡ getD (secondsIn mesh) f 0
+    seconds-same : (f : ℕ) → f < facesIn mesh → getD (lent .seconds) f 0 ≡ getD (secondsIn mesh) f 0
     seconds-same = agrees .seconds
 
-    outsides-are : outsidesIn step (facesIn mesh) (over (secondsIn mesh) seconds) ≡ outsidesIn step (facesIn mesh) (secondsIn mesh)
-    outsides-are = outsides-same step (cellsIn mesh) (facesIn mesh) (secondsIn mesh) (over (secondsIn mesh) seconds) seconds-same
+    outsides-are : outsidesIn step (facesIn mesh) (lent .seconds) ≡ outsidesIn step (facesIn mesh) (secondsIn mesh)
+    outsides-are = outsides-same step (cellsIn mesh) (facesIn mesh) (secondsIn mesh) (lent .seconds) seconds-same
 
-    releases-are : releasesIn step (cellsIn mesh) (facesIn mesh) (over (secondsIn mesh) seconds)
+    releases-are : releasesIn step (cellsIn mesh) (facesIn mesh) (lent .seconds)
         ≡ releasesIn step (cellsIn mesh) (facesIn mesh) (secondsIn mesh)
-    releases-are = releases-same step (cellsIn mesh) (facesIn mesh) (secondsIn mesh) (over (secondsIn mesh) seconds) seconds-same
+    releases-are = releases-same step (cellsIn mesh) (facesIn mesh) (secondsIn mesh) (lent .seconds) seconds-same
 
     step-agrees : AgreeCall (meshIn mesh) lent (massesIn field (cellsIn mesh)) lentField (stepIn (meshIn mesh) step) (stepIn lent step)
     unfolding massesIn
@@ -178,8 +147,8 @@ module _ (mesh field step volumes firsts seconds shares reaches masses : List �
     pub step-as-the-run : stepJudged (widthIn mesh) lent lentField step ≡ stepAlone mesh field step
     unfolding stepJudged stepRecordFound
     step-as-the-run = rw (
-      found-same step (cellsIn mesh) (facesIn mesh) (secondsIn mesh) (over (secondsIn mesh) seconds) seconds-same (widthIn mesh) (seconds-long .0)
-          (seconds-long .1),
+      found-same step (cellsIn mesh) (facesIn mesh) (secondsIn mesh) (lent .seconds) seconds-same (widthIn mesh) (whole-long .seconds-long)
+          (lent-long .seconds-long),
       verdict-agree (meshIn mesh) lent (massesIn field (cellsIn mesh)) lentField (stepIn (meshIn mesh) step) (stepIn lent step) step-agrees tables-same
           field-lent call-lent,
     )

@@ -18,7 +18,7 @@ use Rattle.record_reading.specs.declared.MeshCounts.{MeshCounts}
 use Rattle.record_writing.specs.Writing.{mostOf}
 use Rattle.record_writing.proofs.Accepting.{mesh-passed}
 use Rattle.record_writing.proofs.RoundTrip.{mesh-read-back, field-read-back, masses-read-back, mesh-is-back}
-use Rattle.taking_mesh.proofs.MeshLaws.{mesh-small}
+use Rattle.taking_mesh.proofs.MeshLaws.{within-long, mesh-small}
 use Rattle.promises.specs.Held.{trimmed, HoldsMesh, HoldsField}
 
 -- V and K within the old ceilings, of a mesh that a record holds
@@ -58,8 +58,7 @@ module _ (w : Width) (M : Mesh) (mesh-fine : meshVerdict M ≡ fine) (fits : mes
   unfolding counts
   mesh-holds = record {
     mesh-read = mesh-read-back w M inside fits maxCells maxFaces (M .cells) (M .faces) (M .faces) (M .faces) (M .faces)
-        inside (omega arith) (omega arith) (omega arith)
-        (omega arith) (omega arith);
+        inside (within-long (omega arith) (omega arith));
     mesh-held = mesh-is-back w M inside fits;
   }
 

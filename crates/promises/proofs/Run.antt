@@ -19,7 +19,7 @@ use Rattle.model.proofs.Verdicts.{accepted-of, refused-of}
 use Rattle.record_heads.specs.Heads.{widthIn, cellsIn}
 use Rattle.record_layouts.specs.declared.Width.{Width}
 use Rattle.record_reading.specs.Reading.{volumesIn, massesIn, countsIn, meshIn}
-use Rattle.record_reading.specs.Meshes.{overMesh}
+use Rattle.model.specs.Meshes.{overMesh, MeshCut}
 use Rattle.record_reading.specs.Answers.{counting}
 use Rattle.record_reading.specs.declared.MeshCounts.{MeshCounts}
 use Rattle.taking_mesh.specs.MeshTaking.{meshJudged, meshJudgedInRun}
@@ -86,29 +86,34 @@ cells-long = length-table runCells (λ i. 0)
 faces-long : length faceZeros ≡ runFaces
 faces-long = length-table runFaces (λ i. 0)
 
+tables-long : MeshCut emptyTables
+tables-long = record {
+  volumes-cut = sym cells-long;
+  firsts-cut = sym faces-long;
+  seconds-cut = sym faces-long;
+  shares-cut = sym faces-long;
+  reaches-cut = sym faces-long;
+}
+
 -- The mesh of a record that the run accepts, as its tables hold it, and a field on it.
 module _ (bs : List ℕ) (mesh-tested : meshJudgedInRun bs ≡ fine) where
   abbrev held : Mesh
   held = counting (countsIn bs) (overMesh (meshIn bs) emptyTables)
 
   held-fine : meshVerdict held ≡ fine
-  held-fine = lent-fine bs [] [] cellZeros faceZeros faceZeros faceZeros faceZeros cellZeros cells-long faces-long faces-long faces-long faces-long cells-long
-      mesh-tested
+  held-fine = lent-fine bs [] [] emptyTables cellZeros tables-long cells-long mesh-tested
 
   module _ (field : List ℕ) (judged : fieldJudged (widthIn bs) (cellsIn bs) (over (volumesIn bs) cellZeros) field (length cellZeros) ≡ fine) where
     abbrev heldField : List ℕ
     heldField = over (massesIn field (cellsIn bs)) cellZeros
 
     field-long : cellsIn bs ≤ length heldField
-    field-long = masses-long bs field [] cellZeros faceZeros faceZeros faceZeros faceZeros cellZeros cells-long faces-long faces-long faces-long faces-long
-        cells-long mesh-tested .1
+    field-long = masses-long bs field [] emptyTables cellZeros tables-long cells-long mesh-tested .1
 
     held-field-fine : fieldVerdict held heldField ≡ fine
     held-field-fine =
-        let same = field-as-the-run bs field [] cellZeros faceZeros faceZeros faceZeros faceZeros cellZeros cells-long faces-long faces-long faces-long
-        faces-long cells-long mesh-tested in
-        lent-field-fine bs field [] cellZeros faceZeros faceZeros faceZeros faceZeros cellZeros cells-long faces-long faces-long faces-long faces-long
-        cells-long mesh-tested (sym same ∙ judged)
+        let same = field-as-the-run bs field [] emptyTables cellZeros tables-long cells-long mesh-tested in
+        lent-field-fine bs field [] emptyTables cellZeros tables-long cells-long mesh-tested (sym same ∙ judged)
 
   -- the run goes on with the mesh and the width that the taking of the record left
   module _ (w : Width) (M : Mesh) (width-is : w ≡ widthIn bs) (mesh-is : M ≡ held) where

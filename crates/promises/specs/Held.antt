@@ -8,7 +8,7 @@ use Rattle.model.specs.Causes.{accepted, fine}
 use Rattle.model.specs.Calls.{massIn}
 use Rattle.record_layouts.specs.declared.Width.{Width}
 use Rattle.record_reading.specs.Reading.{meshIn, massesIn, meshRead, fieldRead}
-pub use Rattle.record_reading.specs.Meshes.{trimmed}
+pub use Rattle.model.specs.Meshes.{trimmed}
 
 -- a field with its table trimmed to the count, as a mesh is by `trimmed`
 abbrev pub trimmedField : Mesh → List ℕ → List ℕ

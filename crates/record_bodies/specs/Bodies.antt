@@ -7,6 +7,8 @@ use lib.IntN.{ℤ}
 use lib.ListN.{length}
 use Rattle.lists.specs.Table.{table, over}
 use Rattle.signed.specs.Sign.{withSign}
+use Rattle.model.specs.Mesh.{Mesh, meshOf}
+use Rattle.model.specs.Accepted.{MeshLent}
 use Rattle.record_sections.specs.Sections.{Section, shapeBits, valueIn, columnIn}
 use Rattle.record_bits.specs.Field.{bitsAt}
 use Rattle.record_layouts.specs.declared.Width.the-variants.{Wide}
@@ -29,24 +31,16 @@ pub record FacesFilled (value : ℕ) (bs : List ℕ) (first n : ℕ) (firsts sec
   pub shares-in : shares′ ≡ over (table n (λ f. bitsAt bs (first + endBits + endBits + f * faceOf value) shareBits)) shares
   pub reaches-in : reaches′ ≡ over (table n (λ f. bitsAt bs (first + endBits + endBits + shareBits + f * faceOf value) value)) reaches
 
--- a mesh's body holds what its tables are to take
-pub record MeshRoom (kind cells faces : ℕ) (body : List ℕ) (volumes firsts seconds shares reaches : ℕ) : Type 0 where
+-- a mesh's body holds what the lent tables are to take
+pub record MeshRoom (kind : ℕ) (body : List ℕ) (lent : Mesh) : Type 0 where
   pub small : 8 * length body + faceBits kind < 2 ^ 64
-  pub holds : shapeBits (meshBody kind cells faces) ≤ 8 * length body
-  pub volumes-long : cells ≤ volumes
-  pub firsts-long : faces ≤ firsts
-  pub seconds-long : faces ≤ seconds
-  pub shares-long : faces ≤ shares
-  pub reaches-long : faces ≤ reaches
+  pub holds : shapeBits (meshBody kind (lent .cells) (lent .faces)) ≤ 8 * length body
+  pub long : MeshLent lent
 
--- the tables hold the columns of the sections k and k + 1
-pub record MeshFilled (bs : List ℕ) (S : List Section) (k : ℕ)
-    (volumes firsts seconds shares reaches volumes′ firsts′ seconds′ shares′ reaches′ : List ℕ) : Type 0 where
-  pub volumes-full : volumes′ ≡ over (columnIn bs S k 0) volumes
-  pub firsts-full : firsts′ ≡ over (columnIn bs S (suc k) 0) firsts
-  pub seconds-full : seconds′ ≡ over (columnIn bs S (suc k) 1) seconds
-  pub shares-full : shares′ ≡ over (columnIn bs S (suc k) 2) shares
-  pub reaches-full : reaches′ ≡ over (columnIn bs S (suc k) 3) reaches
+-- the mesh that a body holds: the columns of its two sections
+abbrev pub bodyMesh : (kind cells faces : ℕ) → List ℕ → Mesh
+bodyMesh kind cells faces body =
+    let column = columnIn body (meshBody kind cells faces) in meshOf cells faces (column 0 0) (column 1 0) (column 1 1) (column 1 2) (column 1 3)
 
 -- a step's body, likewise
 pub record StepRoom (kind cells faces : ℕ) (seconds body : List ℕ) (fluxes outsides releases : ℕ) : Type 0 where

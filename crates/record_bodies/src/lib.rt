@@ -10,10 +10,12 @@ ghost use mathlib.Core.Path.{_≡_};
 ghost use Prim.Native.Nat.{ℕ, _+_, _*_, _^_, _≤_, _<_};
 ghost use lib.ListN.{length};
 ghost use Rattle.lists.specs.Table.{table, over};
+ghost use Rattle.model.specs.Mesh.{meshOf};
+ghost use Rattle.model.specs.Meshes.{overMesh};
 ghost use Rattle.record_bits.specs.Field.{bitsAt};
 ghost use Rattle.record_sections.specs.Sections.{shapeBits, columnIn};
-ghost use Rattle.record_layouts.specs.Layouts.{meshKind, fieldKind, kindNumber, massWidth, meshBody, fieldBody, stepBody};
-ghost use Rattle.record_bodies.specs.Bodies.{FacesRoom, FacesFilled, MeshRoom, MeshFilled, StepRoom, StepFilled};
+ghost use Rattle.record_layouts.specs.Layouts.{meshKind, fieldKind, kindNumber, massWidth, fieldBody, stepBody};
+ghost use Rattle.record_bodies.specs.Bodies.{FacesRoom, FacesFilled, MeshRoom, bodyMesh, StepRoom, StepFilled};
 
 // The four fields of each of n faces from a bit on: they stand one after another, and are read as one number.
 fn read_faces(
@@ -56,11 +58,11 @@ pub fn mesh(
     shares: &mut [u64],
     reaches: &mut [u64],
 )
-    requires { ⌜ MeshRoom (meshKind width) cells faces (now body)
-        (length (now volumes)) (length (now firsts)) (length (now seconds)) (length (now shares)) (length (now reaches)) ⌝ }
-    ensures { λ _. ⌜ MeshFilled (now (body .entry)) (meshBody (meshKind width) cells faces) 0
-        (now (volumes .entry)) (now (firsts .entry)) (now (seconds .entry)) (now (shares .entry)) (now (reaches .entry))
-        (now (volumes .exit)) (now (firsts .exit)) (now (seconds .exit)) (now (shares .exit)) (now (reaches .exit)) ⌝ }
+    requires { ⌜ MeshRoom (meshKind width) (now body)
+        (meshOf cells faces (now volumes) (now firsts) (now seconds) (now shares) (now reaches)) ⌝ }
+    ensures { λ _. ⌜ meshOf cells faces (now (volumes .exit)) (now (firsts .exit)) (now (seconds .exit)) (now (shares .exit)) (now (reaches .exit))
+        ≡ overMesh (bodyMesh (meshKind width) cells faces (now (body .entry)))
+        (meshOf cells faces (now (volumes .entry)) (now (firsts .entry)) (now (seconds .entry)) (now (shares .entry)) (now (reaches .entry))) ⌝ }
 {
     let value = lengths::value_width(width);
     read_column(body, 0, value, value, cells, volumes);

@@ -9,15 +9,16 @@ use lib.ListN.{length}
 use Rattle.lists.specs.Table.{over}
 use Rattle.lists.proofs.Tables.{table-cong}
 use Rattle.signed.specs.Sign.{withSign}
-use Rattle.model.specs.Mesh.{maxCells, maxFaces}
+use Rattle.model.specs.Mesh.{Mesh, maxCells, maxFaces}
+use Rattle.model.specs.Meshes.{overMesh, atCounts}
 use Rattle.record_bits.proofs.Layouts.{bytes-hold, bytes-most}
 use Rattle.record_sections.specs.Sections.{Section, shapeBits, valueIn, columnIn}
 use Rattle.record_sections.proofs.Bodies.{bodyOf, body-length, body-value, body-column}
 use Rattle.record_layouts.specs.Layouts.{meshHead, meshBody, fieldHead, fieldBody, stepHead, stepBody, meshBits, fieldBits, stepBits}
 use Rattle.record_heads.specs.Heads.{kindIn, cellsIn, facesIn}
 use Rattle.record_layouts.proofs.Layouts.{value-most, mesh-most, field-most, step-most}
-use Rattle.record_reading.specs.Reading.{shapeIn, massesIn, stepShapeIn}
-use Rattle.record_bodies.specs.Bodies.{MeshRoom, MeshFilled, StepRoom, StepFilled}
+use Rattle.record_reading.specs.Reading.{shapeIn, volumesIn, firstsIn, secondsIn, sharesIn, reachesIn, meshIn, massesIn, stepShapeIn}
+use Rattle.record_bodies.specs.Bodies.{MeshRoom, bodyMesh, StepRoom, StepFilled}
 use Rattle.record_reading.proofs.ReadLaws.{MeshTablesSay, FieldTablesSay, StepTablesSay}
 
 -- heads in bytes
@@ -32,42 +33,31 @@ stepHeadBytes = 4
 
 -- a mesh
 module _ (bs : List ℕ) where
-  pub mesh-room : {v f s g k : ℕ} → cellsIn bs ≤ maxCells → facesIn bs ≤ maxFaces → MeshTablesSay bs v f s g k
-      → (meshHeadBytes ≤ length bs) × MeshRoom (kindIn bs) (cellsIn bs) (facesIn bs) (bodyOf meshHeadBytes bs) v f s g k
-  mesh-room few-cells few-faces says =
+  pub mesh-room : (lent : Mesh) → cellsIn bs ≤ maxCells → facesIn bs ≤ maxFaces
+      → MeshTablesSay bs (length (lent .volumes)) (length (lent .firsts)) (length (lent .seconds)) (length (lent .shares)) (length (lent .reaches))
+      → (meshHeadBytes ≤ length bs) × MeshRoom (kindIn bs) (bodyOf meshHeadBytes bs) (atCounts (meshIn bs) lent)
+  mesh-room lent few-cells few-faces says =
       let end = meshBits (kindIn bs) (cellsIn bs) (facesIn bs) in
       let held = bytes-hold end in
       let most = bytes-most end in
       let small = mesh-most (kindIn bs) (cellsIn bs) (facesIn bs) few-cells few-faces in
       let same = says .same-length in
       let value = value-most (kindIn bs) in
-      let body = body-length meshHeadBytes bs in (
-        omega arith,
-        record {
-          small = omega arith;
-          holds = omega arith;
-          volumes-long = says .volumes-long;
-          firsts-long = says .firsts-long;
-          seconds-long = says .seconds-long;
-          shares-long = says .shares-long;
-          reaches-long = says .reaches-long;
-        },
-      )
+      let body = body-length meshHeadBytes bs in
+      (omega arith, record { small = omega arith; holds = omega arith; long = says .mesh-long })
 
-  full : (k j : ℕ) (ys : List ℕ) {zs : List ℕ} → zs ≡ over (columnIn (bodyOf meshHeadBytes bs) (meshBody (kindIn bs) (cellsIn bs) (facesIn bs)) k j) ys → zs
-      ≡ over (columnIn bs (shapeIn bs) (suc k) j) ys
-  full k j ys e = e ∙ ap (λ xs. over xs ys) (body-column meshHeadBytes bs meshHead (meshBody (kindIn bs) (cellsIn bs) (facesIn bs)) k j refl)
+  -- the body's mesh is the record's
+  column : (k j : ℕ) → columnIn (bodyOf meshHeadBytes bs) (meshBody (kindIn bs) (cellsIn bs) (facesIn bs)) k j ≡ columnIn bs (shapeIn bs) (suc k) j
+  column k j = body-column meshHeadBytes bs meshHead (meshBody (kindIn bs) (cellsIn bs) (facesIn bs)) k j refl
 
-  pub mesh-filled : {v f s g k v′ f′ s′ g′ k′ : List ℕ} → MeshFilled (bodyOf meshHeadBytes bs) (meshBody (kindIn bs) (cellsIn bs) (facesIn bs)) 0 v f s g k v′
-      f′ s′ g′ k′
-      → MeshFilled bs (shapeIn bs) 1 v f s g k v′ f′ s′ g′ k′
-  mesh-filled {v} {f} {s} {g} {k} b = record {
-    volumes-full = full 0 0 v (b .volumes-full);
-    firsts-full = full 1 0 f (b .firsts-full);
-    seconds-full = full 1 1 s (b .seconds-full);
-    shares-full = full 1 2 g (b .shares-full);
-    reaches-full = full 1 3 k (b .reaches-full);
-  }
+  body-mesh : bodyMesh (kindIn bs) (cellsIn bs) (facesIn bs) (bodyOf meshHeadBytes bs) ≡ meshIn bs
+  unfolding volumesIn firstsIn secondsIn sharesIn reachesIn
+  body-mesh = rw (column 0 0, column 1 0, column 1 1, column 1 2, column 1 3)
+
+  -- whatever counts the tables are lent at
+  pub mesh-filled : (lent M : Mesh) {left : Mesh} → left ≡ overMesh (bodyMesh (kindIn bs) (cellsIn bs) (facesIn bs) (bodyOf meshHeadBytes bs)) lent
+      → atCounts M left ≡ overMesh (meshIn bs) (atCounts M lent)
+  mesh-filled lent M e = ap (atCounts M) e ∙ ap (λ (N : Mesh). overMesh N (atCounts M lent)) body-mesh
 
 -- a field
 module _ (cells : ℕ) (bs : List ℕ) where

@@ -9,21 +9,25 @@ use Rattle.lists.proofs.Tests.{Same, same, same?}
 use lib.ListN.{length}
 use borrow.Author.Tests.{eqb-true}
 use Rattle.lists.specs.Table.{over}
-use Rattle.model.specs.Mesh.{Mesh, meshOf}
+use Rattle.lists.proofs.Tables.{length-table}
+use Rattle.model.specs.Mesh.{Mesh}
+use Rattle.model.specs.Meshes.{overMesh, MeshCut}
+use Rattle.model.specs.Accepted.{MeshLong}
 use Rattle.model.specs.Causes.{Outcome, accepted, Verdict, fine, _andThen_, inTurn, each}
 use Rattle.model.specs.Answers.{told}
 use Rattle.model.specs.declared.Answer.the-variants as call
 use Rattle.model.specs.declared.Refusal.{Refusal}
 use Rattle.model.proofs.Verdicts.{both-fine, all-fine, need-fine, long-fine}
+use Rattle.model.proofs.Accepted.{long-says}
 use Rattle.record_bits.specs.Layout.{bytesFor}
 use Rattle.record_layouts.specs.Layouts.{meshKind, widthOf, kindNumber, meshBits, fieldBits, stepBits, meshLength, fieldLength, stepLength}
 use Rattle.record_heads.specs.Heads.{kindIn, isMeshKind, cellsIn, facesIn, meshHeadVerdict, stepHeadVerdict}
 use Rattle.record_layouts.specs.declared.Width.{Width}
 use Rattle.record_layouts.specs.declared.StepKind.{StepKind}
 use Rattle.record_heads.proofs.HeadLaws.{MeshHeadSays, mesh-head-says, FieldHeadSays, field-head-says, StepHeadSays, step-head-says}
-use Rattle.record_reading.specs.Reading.{shapeIn, countsIn, volumesIn, firstsIn, secondsIn, sharesIn, reachesIn, massesIn, fluxesIn, outsidesIn, stepShapeIn, releasesIn, meshBitGood, stepBitGood, meshTableCauses, fieldBodyCauses, stepTableCauses, meshBodyVerdict, fieldBodyVerdict, stepBodyVerdict, meshRead, fieldRead, stepRead}
+use Rattle.record_reading.specs.Reading.{countsIn, volumesIn, firstsIn, secondsIn, sharesIn, reachesIn, meshIn, massesIn, fluxesIn, outsidesIn, stepShapeIn, releasesIn, meshBitGood, stepBitGood, meshTableCauses, fieldBodyCauses, stepTableCauses, meshBodyVerdict, fieldBodyVerdict, stepBodyVerdict, meshRead, fieldRead, stepRead}
 use Rattle.record_reading.specs.Answers.{MeshReading, FieldReading, StepReading}
-use Rattle.record_bodies.specs.Bodies.{MeshFilled, StepFilled}
+use Rattle.record_bodies.specs.Bodies.{StepFilled}
 use Rattle.record_reading.specs.declared.MeshCounts.{MeshCounts}
 use Rattle.record_reading.specs.declared.MeshAnswer.the-variants as mesh
 use Rattle.record_reading.specs.declared.StepRead.the-variants as step
@@ -36,28 +40,28 @@ mesh-kind-is k e = go (eqb k 1) (same? k 1) e
     go true (same q) d = rw q
     go false o d = let q = eqb-true k 5 d in rw q
 
+-- a mesh as it is read: its tables are as long as its counts
+pub mesh-cut : (bs : List ℕ) → MeshCut (meshIn bs)
+unfolding volumesIn firstsIn secondsIn sharesIn reachesIn
+mesh-cut bs = record {
+  volumes-cut = sym (length-table _ _);
+  firsts-cut = sym (length-table _ _);
+  seconds-cut = sym (length-table _ _);
+  shares-cut = sym (length-table _ _);
+  reaches-cut = sym (length-table _ _);
+}
+
 -- what a record that passed its length and its tables says
 pub record MeshTablesSay (bs : List ℕ) (volumes firsts seconds shares reaches : ℕ) : Type 0 where
   pub same-length : length bs ≡ bytesFor (meshBits (kindIn bs) (cellsIn bs) (facesIn bs))
-  pub volumes-long : cellsIn bs ≤ volumes
-  pub firsts-long : facesIn bs ≤ firsts
-  pub seconds-long : facesIn bs ≤ seconds
-  pub shares-long : facesIn bs ≤ shares
-  pub reaches-long : facesIn bs ≤ reaches
+  pub mesh-long : MeshLong (cellsIn bs) (facesIn bs) volumes firsts seconds shares reaches
 
 pub mesh-tables-say : (bs : List ℕ) (volumes firsts seconds shares reaches : ℕ) → inTurn (meshTableCauses bs volumes firsts seconds shares reaches) ≡ fine
     → MeshTablesSay bs volumes firsts seconds shares reaches
 unfolding meshLength
 mesh-tables-say bs volumes firsts seconds shares reaches e =
     let p = all-fine (meshTableCauses bs volumes firsts seconds shares reaches) e in
-    record {
-      same-length = eqb-true _ _ (need-fine 11 0 _ (p .0));
-      volumes-long = long-fine 0 _ _ (p .1 .0);
-      firsts-long = long-fine 1 _ _ (p .1 .1 .0);
-      seconds-long = long-fine 2 _ _ (p .1 .1 .1 .0);
-      shares-long = long-fine 3 _ _ (p .1 .1 .1 .1 .0);
-      reaches-long = long-fine 4 _ _ (p .1 .1 .1 .1 .1 .0);
-    }
+    record { same-length = eqb-true _ _ (need-fine 11 0 _ (p .0)); mesh-long = long-says (p .1) }
 
 pub record FieldTablesSay (cells : ℕ) (bs : List ℕ) (masses : ℕ) : Type 0 where
   pub same-length : length bs ≡ bytesFor (fieldBits (kindIn bs) cells)
@@ -134,14 +138,8 @@ module _ {bs : List ℕ} {lent : Mesh} {o : Outcome MeshCounts} where
   pub mesh-refused : {r : Refusal} → o ≡ told r → MeshReading o bs lent (mesh.Refused r) lent
   mesh-refused e = record { answer = sym e; mesh-read = rw e }
 
-  pub mesh-accepted : {n : MeshCounts} {v f s w k : List ℕ} → o ≡ accepted n
-      → MeshFilled bs (shapeIn bs) 1 (lent .volumes) (lent .firsts) (lent .seconds) (lent .shares) (lent .reaches) v f s w k
-      → MeshReading o bs lent (mesh.Read n) (meshOf (lent .cells) (lent .faces) v f s w k)
-  unfolding volumesIn firstsIn secondsIn sharesIn reachesIn
-  mesh-accepted e d = record {
-    answer = sym e;
-    mesh-read = rw (e, d .volumes-full, d .firsts-full, d .seconds-full, d .shares-full, d .reaches-full);
-  }
+  pub mesh-accepted : {n : MeshCounts} {left : Mesh} → o ≡ accepted n → left ≡ overMesh (meshIn bs) lent → MeshReading o bs lent (mesh.Read n) left
+  mesh-accepted e d = record { answer = sym e; mesh-read = rw e d }
 
 module _ {cells : ℕ} {bs m : List ℕ} {o : Verdict} where
   pub field-refused : {r : Refusal} → o ≡ told r → FieldReading o cells bs m (call.Refused r) m

@@ -16,7 +16,7 @@ use Rattle.record_reading.specs.declared.MeshAnswer.the-variants as mesh
 use Rattle.record_reading.specs.declared.StepRead.{StepRead}
 use Rattle.record_reading.specs.declared.StepRead.the-variants as step
 use Rattle.record_reading.specs.Reading.{meshIn, meshReadInto, massesIn, fluxesIn, outsidesIn, releasesIn}
-use Rattle.record_reading.specs.Meshes.{overMesh}
+use Rattle.model.specs.Meshes.{overMesh}
 
 abbrev pub meshSaid : MeshAnswer → Outcome MeshCounts
 meshSaid (mesh.Read n) = accepted n

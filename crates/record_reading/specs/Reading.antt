@@ -8,7 +8,7 @@ use lib.IntN.{ℤ}
 use Rattle.lists.specs.Table.{table}
 use Rattle.signed.specs.Sign.{withSign}
 use Rattle.model.specs.Mesh.{Mesh, meshOf}
-use Rattle.model.specs.Causes.{Outcome, accepted, Verdict, _andThen_, inTurn, each, long}
+use Rattle.model.specs.Causes.{Outcome, accepted, Verdict, _andThen_, inTurn, each, long, meshLong}
 use Rattle.record_sections.specs.Sections.{Section, place, valueIn, columnIn}
 use Rattle.record_layouts.specs.Layouts.{valueBits, meshZeroBits, stepZeroBits, meshHeadBits, stepHeadBits, Column, volumeColumn, firstColumn, secondColumn, shareColumn, reachColumn, massColumn, signColumn, sizeColumn, outsideColumn, releaseColumn, meshShape, fieldShape, stepHead, fluxSection, outsideSection, stepShape, meshBits, stepBits, meshLength, fieldLength, stepLength}
 use Rattle.record_heads.specs.Heads.{kindIn, widthIn, cellsIn, facesIn, hasLength, meshHeadVerdict, fieldHeadVerdict, stepHeadVerdict}
@@ -91,13 +91,7 @@ stepBitGood bs cells faces seconds i = zeroBitGood bs stepZeroBits stepHeadBits 
 -- many entries.
 abbrev pub meshTableCauses : List ℕ → (volumes firsts seconds shares reaches : ℕ) → List Verdict
 meshTableCauses bs volumes firsts seconds shares reaches =
-    hasLength bs (meshLength (kindIn bs) (cellsIn bs) (facesIn bs))
-    ∷ long 0 (cellsIn bs) volumes
-    ∷ long 1 (facesIn bs) firsts
-    ∷ long 2 (facesIn bs) seconds
-    ∷ long 3 (facesIn bs) shares
-    ∷ long 4 (facesIn bs) reaches
-    ∷ []
+    hasLength bs (meshLength (kindIn bs) (cellsIn bs) (facesIn bs)) ∷ meshLong (cellsIn bs) (facesIn bs) volumes firsts seconds shares reaches
 
 abbrev pub meshBodyCauses : List ℕ → (volumes firsts seconds shares reaches : ℕ) → List Verdict
 meshBodyCauses bs volumes firsts seconds shares reaches =

@@ -1,6 +1,6 @@
 -- What makes a reading accepted, and what an accepted one has passed.
 use Prim.Native.Nat.{ℕ, _*_, _≤_, _<_, min}
-use mathlib.Core.Path.{_≡_, refl}
+use mathlib.Core.Path.{_≡_, refl, _∙_}
 use mathlib.Core.Bool.{true, not, _&&_}
 use mathlib.Core.List.{List, [], _∷_}
 use native.Mathlib.Omega.{arith}
@@ -8,13 +8,15 @@ use lib.ListN.{length}
 use borrow.Author.Tests.{eq-eqb, le-leb}
 use Rattle.lists.proofs.Tests.{both-true}
 use Rattle.model.specs.Mesh.{maxCells, maxFaces}
+use Rattle.model.specs.Accepted.{MeshLong}
 use Rattle.model.specs.Causes.{accepted, fine, countsWithin}
 use Rattle.model.proofs.Verdicts.{need-met, fine-each, each-fine, past, fine-all}
+use Rattle.model.proofs.Accepted.{all-long}
 use Rattle.record_bits.specs.Layout.{bytesFor}
 use Rattle.record_layouts.specs.Layouts.{fieldKind, valueBits, meshZeroBits, stepZeroBits, meshHeadBits, stepHeadBits, meshBits, fieldBits, stepBits, meshLength, fieldLength, stepLength}
 use Rattle.record_heads.specs.Heads.{kindIn, cellsIn, facesIn, stepFacesIn, isMeshKind, isStepKind, meshHeadCauses, stepHeadCauses, meshHeadVerdict, fieldHeadVerdict, stepHeadVerdict}
 use Rattle.record_zeros.specs.Zeros.{zeroBitGood, minusZero}
-use Rattle.record_reading.specs.Reading.{countsIn, meshBitGood, stepBitGood, meshBodyCauses, stepBodyCauses, meshBodyVerdict, fieldBodyVerdict, stepBodyVerdict, meshRead, fieldRead, stepRead}
+use Rattle.record_reading.specs.Reading.{countsIn, meshBitGood, stepBitGood, meshTableCauses, stepBodyCauses, meshBodyVerdict, fieldBodyVerdict, stepBodyVerdict, meshRead, fieldRead, stepRead}
 use Rattle.record_layouts.specs.declared.Width.{Width}
 use Rattle.record_reading.specs.declared.MeshCounts.{MeshCounts}
 use Rattle.record_reading.proofs.ReadLaws.{read-says, field-read-says, step-read-says}
@@ -23,31 +25,15 @@ module _ (bs : List ℕ) where
   pub mesh-reads : (mostCells mostFaces v f s w k : ℕ) → isMeshKind (kindIn bs) ≡ true
       → countsWithin (min mostCells maxCells) (min mostFaces maxFaces) (cellsIn bs) (facesIn bs) ≡ fine → length bs
       ≡ bytesFor (meshBits (kindIn bs) (cellsIn bs) (facesIn bs))
-      → cellsIn bs ≤ v → facesIn bs ≤ f → facesIn bs ≤ s → facesIn bs ≤ w → facesIn bs ≤ k
+      → MeshLong (cellsIn bs) (facesIn bs) v f s w k
       → ((i : ℕ) → zeroBitGood bs meshZeroBits meshHeadBits (meshBits (kindIn bs) (cellsIn bs) (facesIn bs)) i ≡ true)
       → meshRead mostCells mostFaces bs v f s w k ≡ accepted (countsIn bs)
   unfolding meshRead meshHeadVerdict meshBodyVerdict meshLength meshBitGood bytesFor
-  mesh-reads mostCells mostFaces v f s w k kind within len lv lf ls lw lk good =
-      past _
-      (fine-all (_ ∷ _ ∷ []) (
-        fine-all (meshHeadCauses mostCells mostFaces bs) (need-met 11 0 (le-leb 4 (length bs) (omega (arith, len))), (need-met 13 0 kind, (within, tt))),
-        (
-          fine-all (meshBodyCauses bs v f s w k) (
-            need-met 11 0 (eq-eqb _ _ len),
-            (
-              need-met 2 0 (le-leb _ _ lv),
-              (
-                need-met 2 1 (le-leb _ _ lf),
-                (
-                  need-met 2 2 (le-leb _ _ ls),
-                  (need-met 2 3 (le-leb _ _ lw), (need-met 2 4 (le-leb _ _ lk), (fine-each 12 _ _ (λ i l. good i), tt))),
-                ),
-              ),
-            ),
-          ),
-          tt,
-        ),
-      ))
+  mesh-reads mostCells mostFaces v f s w k kind within len long good =
+      let head = fine-all (meshHeadCauses mostCells mostFaces bs)
+      (need-met 11 0 (le-leb 4 (length bs) (omega (arith, len))), (need-met 13 0 kind, (within, tt))) in
+      let tables = fine-all (meshTableCauses bs v f s w k) (need-met 11 0 (eq-eqb _ _ len), all-long long) in
+      past _ (past _ head ∙ past _ tables ∙ fine-each 12 _ _ (λ i l. good i))
 
   pub field-reads : (w : Width) (cells m : ℕ) → kindIn bs ≡ fieldKind w → cellsIn bs ≡ cells → 1 ≤ cells → cells ≤ maxCells → length bs
       ≡ bytesFor (fieldBits (fieldKind w) cells) → cells ≤ m → fieldRead w cells bs m ≡ fine

@@ -16,12 +16,13 @@ use Rattle.lists.specs.Table.{table, over}
 use Rattle.lists.proofs.Tables.{getD-over, table-cong}
 use Rattle.signed.specs.Sign.{size, isNegative, withSign}
 use Rattle.signed.proofs.Laws.{size-withSign, withSign-of}
-use Rattle.model.specs.Mesh.{Mesh, meshOf, volume, first, second, share, reach}
+use Rattle.model.specs.Mesh.{Mesh}
+use Rattle.model.specs.Meshes.{trimmed, overMesh, atCounts}
 use Rattle.record_bits.specs.Field.{bitAt, bitsAt}
 use Rattle.record_bits.specs.Layout.{bytesFor}
 use Rattle.record_bits.proofs.Fields.{bits-lt, zero-field}
 use Rattle.record_bits.proofs.Layouts.{bytes-hold}
-use Rattle.record_sections.specs.Sections.{Section, Values, Has, rowsOf, sectionIn, shapeBits, place, fieldsOf, recordOf, Fits, valueIn, entryIn, columnIn}
+use Rattle.record_sections.specs.Sections.{Section, Values, Has, rowsOf, widthsOf, hasRow, sectionIn, shapeBits, place, fieldsOf, recordOf, Fits, valueIn, entryIn, columnIn}
 use Rattle.record_sections.proofs.Sections.{width-fields, length-record, value-back, column-back, record-again}
 use Rattle.record_sections.proofs.Bodies.{column-has}
 use Rattle.record_layouts.specs.Layouts.{meshZeroBits, stepZeroBits, signBits, valueBits, massBits, massWidth, widthOf, fluxBits, meshHeadBits, stepHeadBits, isRim, signOf, sizeOf, outsideOf, releaseOf, massOf, meshShape, meshValue, fieldShape, fieldValue, stepShape, stepValue, meshBits, fieldBits, stepBits, meshRecord, fieldRecord, stepRecord}
@@ -29,7 +30,7 @@ use Rattle.record_heads.specs.Heads.{kindIn, cellsIn, facesIn, stepFacesIn}
 use Rattle.record_layouts.proofs.Layouts.{mesh-kind-in, mesh-cells-in, mesh-faces-in, mesh-zeros-in, mesh-some, field-kind-in, field-cells-in, step-kind-in, step-faces-in, step-zeros-in, signs-in, sizes-in, step-some}
 use Rattle.record_zeros.specs.Zeros.{zeroBitGood, minusZero}
 use Rattle.record_zeros.proofs.ZeroLaws.{good-clear, zeros-good, minus-at, no-minus}
-use Rattle.record_reading.specs.Reading.{shapeIn, volumesIn, firstsIn, secondsIn, sharesIn, reachesIn, massesIn, minusIn, sizeIn, fluxesIn, outsidesIn, stepShapeIn, waterShape, releasesIn}
+use Rattle.record_reading.specs.Reading.{shapeIn, volumesIn, firstsIn, secondsIn, sharesIn, reachesIn, meshIn, massesIn, minusIn, sizeIn, fluxesIn, outsidesIn, stepShapeIn, waterShape, releasesIn}
 use Rattle.record_reading.specs.declared.MeshCounts.{MeshCounts}
 use Rattle.record_layouts.specs.declared.Width.{Width}
 use Rattle.record_layouts.specs.declared.Width.the-variants.{Narrow, Wide}
@@ -68,25 +69,23 @@ module _ (kind : ℕ) (M : Mesh) (fits : Fits (meshShape kind (M .cells) (M .fac
   mesh-bits-good = zeros-good (fieldsOf MS (meshValue kind M)) meshZeroBits meshHeadBits (shapeBits MS) (omega arith) (mesh-some kind (M .cells) (M .faces))
       (width-fields MS (meshValue kind M)) mesh-zeros-back
 
-  pub volumes-back : volumesIn (meshRecord kind M) ≡ table (M .cells) (volume M)
-  unfolding volumesIn meshRecord
-  volumes-back = ap (λ T. columnIn (meshRecord kind M) T 1 0) mesh-shape-back ∙ column-back MS (meshValue kind M) fits 1 0 (omega arith)
+  -- each column, and with the counts the whole mesh
+  column : (k j : ℕ) → j < length (widthsOf (sectionIn MS k)) → columnIn (meshRecord kind M) (shapeIn (meshRecord kind M)) k j
+      ≡ table (rowsOf (sectionIn MS k)) (λ i. cond (hasRow (sectionIn MS k) i) (meshValue kind M k j i) 0)
+  unfolding meshRecord
+  column k j l = ap (λ T. columnIn (meshRecord kind M) T k j) mesh-shape-back ∙ column-back MS (meshValue kind M) fits k j l
 
-  pub firsts-back : firstsIn (meshRecord kind M) ≡ table (M .faces) (first M)
-  unfolding firstsIn meshRecord
-  firsts-back = ap (λ T. columnIn (meshRecord kind M) T 2 0) mesh-shape-back ∙ column-back MS (meshValue kind M) fits 2 0 (omega arith)
-
-  pub seconds-back : secondsIn (meshRecord kind M) ≡ table (M .faces) (second M)
-  unfolding secondsIn meshRecord
-  seconds-back = ap (λ T. columnIn (meshRecord kind M) T 2 1) mesh-shape-back ∙ column-back MS (meshValue kind M) fits 2 1 (omega arith)
-
-  pub shares-back : sharesIn (meshRecord kind M) ≡ table (M .faces) (share M)
-  unfolding sharesIn meshRecord
-  shares-back = ap (λ T. columnIn (meshRecord kind M) T 2 2) mesh-shape-back ∙ column-back MS (meshValue kind M) fits 2 2 (omega arith)
-
-  pub reaches-back : reachesIn (meshRecord kind M) ≡ table (M .faces) (reach M)
-  unfolding reachesIn meshRecord
-  reaches-back = ap (λ T. columnIn (meshRecord kind M) T 2 3) mesh-shape-back ∙ column-back MS (meshValue kind M) fits 2 3 (omega arith)
+  pub mesh-back : meshIn (meshRecord kind M) ≡ trimmed M
+  unfolding volumesIn firstsIn secondsIn sharesIn reachesIn
+  mesh-back = rw (
+    column 1 0 (omega arith),
+    column 2 0 (omega arith),
+    column 2 1 (omega arith),
+    column 2 2 (omega arith),
+    column 2 3 (omega arith),
+    mesh-cells-back,
+    mesh-faces-back,
+  )
 
 -- a field
 module _ (kind cells : ℕ) (masses : List ℕ) where
@@ -209,10 +208,9 @@ head-zeros : (bs : List ℕ) (z h e : ℕ) → z ≤ h → h ≤ e → e ≤ 8 *
     ≡ bitsAt bs (h - z) z
 head-zeros bs z h e k m n good = sym (zero-field bs (h - z) z (λ i l q. good-clear bs z h e i (good i (omega arith)) (inl (l, omega arith))))
 
-module _ (bs : List ℕ) (bytes : (j : ℕ) → getD bs j 0 < 256) {n : MeshCounts} (passed : MeshPassed bs n) (volumes firsts seconds shares reaches : List ℕ) where
+module _ (bs : List ℕ) (bytes : (j : ℕ) → getD bs j 0 < 256) {n : MeshCounts} (passed : MeshPassed bs n) (lent : Mesh) where
   abbrev MN : Mesh
-  MN = meshOf (cellsIn bs) (facesIn bs) (over (volumesIn bs) volumes) (over (firstsIn bs) firsts) (over (secondsIn bs) seconds) (over (sharesIn bs) shares)
-      (over (reachesIn bs) reaches)
+  MN = atCounts (meshIn bs) (overMesh (meshIn bs) lent)
 
   mesh-zeros : 0 ≡ bitsAt bs (meshHeadBits - meshZeroBits) meshZeroBits
   mesh-zeros =
@@ -230,12 +228,12 @@ module _ (bs : List ℕ) (bytes : (j : ℕ) → getD bs j 0 < 256) {n : MeshCoun
   mesh-agrees : (k j i : ℕ) → Has (shapeIn bs) k j i → meshValue (kindIn bs) MN k j i ≡ valueIn bs (shapeIn bs) k j i
   unfolding volumesIn firstsIn secondsIn sharesIn reachesIn
   mesh-agrees zero j i h = let z : i ≡ 0 = omega (arith, h .below) in rw z (mesh-head j (h .among))
-  mesh-agrees (suc zero) zero i h = entry-over bs (shapeIn bs) 1 0 i volumes h
+  mesh-agrees (suc zero) zero i h = entry-over bs (shapeIn bs) 1 0 i (lent .volumes) h
   mesh-agrees (suc zero) (suc j) i h = absurd (omega (arith, h .among))
-  mesh-agrees (suc (suc zero)) zero i h = entry-over bs (shapeIn bs) 2 0 i firsts h
-  mesh-agrees (suc (suc zero)) (suc zero) i h = entry-over bs (shapeIn bs) 2 1 i seconds h
-  mesh-agrees (suc (suc zero)) (suc (suc zero)) i h = entry-over bs (shapeIn bs) 2 2 i shares h
-  mesh-agrees (suc (suc zero)) (suc (suc (suc zero))) i h = entry-over bs (shapeIn bs) 2 3 i reaches h
+  mesh-agrees (suc (suc zero)) zero i h = entry-over bs (shapeIn bs) 2 0 i (lent .firsts) h
+  mesh-agrees (suc (suc zero)) (suc zero) i h = entry-over bs (shapeIn bs) 2 1 i (lent .seconds) h
+  mesh-agrees (suc (suc zero)) (suc (suc zero)) i h = entry-over bs (shapeIn bs) 2 2 i (lent .shares) h
+  mesh-agrees (suc (suc zero)) (suc (suc (suc zero))) i h = entry-over bs (shapeIn bs) 2 3 i (lent .reaches) h
   mesh-agrees (suc (suc zero)) (suc (suc (suc (suc j)))) i h = absurd (omega (arith, h .among))
   mesh-agrees (suc (suc (suc k))) j i h = absurd (omega (arith, h .below))
 

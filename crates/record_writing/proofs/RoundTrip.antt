@@ -15,7 +15,9 @@ use lib.IntN.{ℤ, pos}
 use lib.ListN.{length, getD, take, drop, drop-of-length-le}
 use lib.Seq.{take-at}
 use Rattle.lists.specs.Table.{table, over}
-use Rattle.model.specs.Mesh.{Mesh, volume, first, second, share, reach, maxCells, maxFaces}
+use Rattle.model.specs.Mesh.{Mesh, meshOf, maxCells, maxFaces}
+use Rattle.model.specs.Meshes.{trimmed, overMesh, atCounts}
+use Rattle.model.specs.Accepted.{MeshLong, MeshLent}
 use Rattle.model.specs.Causes.{accepted, Verdict, fine, _andThen_, each, Call, counts, countsWithin, meshValues, fieldValues, outsideGood, fluxGood, waterOf}
 use Rattle.model.specs.Answers.{said}
 use Rattle.model.specs.declared.Answer.{Answer}
@@ -29,7 +31,6 @@ use Rattle.record_layouts.specs.declared.Width.the-variants.{Narrow, Wide}
 use Rattle.record_layouts.specs.declared.StepKind.{StepKind}
 use Rattle.record_layouts.specs.declared.StepKind.the-variants.{Water, Outfalls}
 use Rattle.record_reading.specs.Reading.{meshIn, countsIn, volumesIn, firstsIn, secondsIn, sharesIn, reachesIn, massesIn, fluxesIn, outsidesIn, releasesIn, meshRead, fieldRead, stepRead}
-use Rattle.record_reading.specs.Meshes.{trimmed, overMesh}
 use Rattle.record_reading.specs.Answers.{meshSaid, stepReadSaid, counting, MeshReading, MeshReads, FieldReading, StepReading}
 use Rattle.record_reading.specs.declared.MeshCounts.{MeshCounts}
 use Rattle.record_reading.specs.declared.MeshAnswer.{MeshAnswer}
@@ -41,7 +42,7 @@ use Rattle.record_writing.specs.declared.WriteAnswer.{WriteAnswer}
 use Rattle.record_writing.specs.Writing.{mostOf, releasesFit, writeSaid, Writing, MeshWriting, FieldWriting, StepWriting}
 use Rattle.record_writing.proofs.WidthLaws.{mesh-fits, masses-fit, field-fits, step-fits, none-inside}
 use Rattle.record_writing.proofs.Accepting.{mesh-reads, field-reads, step-reads, mesh-passed, field-passed, step-passed}
-use Rattle.record_writing.proofs.Back.{mesh-kind-back, mesh-cells-back, mesh-faces-back, mesh-record-length, mesh-bits-good, volumes-back, firsts-back, seconds-back, shares-back, reaches-back, field-kind-back, field-cells-back, field-record-length, masses-back, step-kind-back, step-faces-back, step-record-length, step-bits-good, fluxes-back, outsides-back, releases-back, mesh-again, field-again, step-again}
+use Rattle.record_writing.proofs.Back.{mesh-kind-back, mesh-cells-back, mesh-faces-back, mesh-record-length, mesh-bits-good, mesh-back, field-kind-back, field-cells-back, field-record-length, masses-back, step-kind-back, step-faces-back, step-record-length, step-bits-good, fluxes-back, outsides-back, releases-back, mesh-again, field-again, step-again}
 
 -- each kind of a step is one that its reader takes
 step-kind : (w : Width) (kind : StepKind) → isStepKind w (kindNumber w kind) ≡ true
@@ -69,10 +70,10 @@ module _ (w : Width) (M : Mesh) (within : counts M ≡ fine) (passes : meshValue
 
   pub mesh-read-back : (mostCells mostFaces volumes firsts seconds shares reaches : ℕ)
       → countsWithin (min mostCells maxCells) (min mostFaces maxFaces) (M .cells) (M .faces) ≡ fine
-      → M .cells ≤ volumes → M .faces ≤ firsts → M .faces ≤ seconds → M .faces ≤ shares → M .faces ≤ reaches
+      → MeshLong (M .cells) (M .faces) volumes firsts seconds shares reaches
       → meshRead mostCells mostFaces (meshRecord (meshKind w) M) volumes firsts seconds shares reaches
       ≡ accepted (record { cells = M .cells; faces = M .faces; width = w })
-  mesh-read-back mostCells mostFaces volumes firsts seconds shares reaches limits lv lf ls lw lk =
+  mesh-read-back mostCells mostFaces volumes firsts seconds shares reaches limits long =
       let s = mesh-fits w M within passes in
       let c = mesh-cells-back (meshKind w) M s in
       let n = mesh-faces-back (meshKind w) M s in
@@ -80,26 +81,11 @@ module _ (w : Width) (M : Mesh) (within : counts M ≡ fine) (passes : meshValue
       let same-counts : countsIn (meshRecord (meshKind w) M) ≡ record { cells = M .cells; faces = M .faces; width = w } = rw (q, c, n, width-is w) in
       mesh-reads (meshRecord (meshKind w) M) mostCells mostFaces volumes firsts seconds shares reaches (rw q (mesh-kind w)) (rw (c, n) limits)
       (rw (q, c, n) (mesh-record-length (meshKind w) M s))
-      (rw c lv) (rw n lf) (rw n ls) (rw n lw) (rw n lk) (λ i. rw (q, c, n) (mesh-bits-good (meshKind w) M s i)) ∙ ap accepted same-counts
-
-  pub volumes-read-back : volumesIn (meshRecord (meshKind w) M) ≡ table (M .cells) (volume M)
-  volumes-read-back = volumes-back (meshKind w) M (mesh-fits w M within passes)
-
-  pub firsts-read-back : firstsIn (meshRecord (meshKind w) M) ≡ table (M .faces) (first M)
-  firsts-read-back = firsts-back (meshKind w) M (mesh-fits w M within passes)
-
-  pub seconds-read-back : secondsIn (meshRecord (meshKind w) M) ≡ table (M .faces) (second M)
-  seconds-read-back = seconds-back (meshKind w) M (mesh-fits w M within passes)
-
-  pub shares-read-back : sharesIn (meshRecord (meshKind w) M) ≡ table (M .faces) (share M)
-  shares-read-back = shares-back (meshKind w) M (mesh-fits w M within passes)
-
-  pub reaches-read-back : reachesIn (meshRecord (meshKind w) M) ≡ table (M .faces) (reach M)
-  reaches-read-back = reaches-back (meshKind w) M (mesh-fits w M within passes)
+      (rw (c, n) long) (λ i. rw (q, c, n) (mesh-bits-good (meshKind w) M s i)) ∙ ap accepted same-counts
 
   -- the whole of it: the counts, and each table cut to them
   pub mesh-is-back : meshIn (meshRecord (meshKind w) M) ≡ trimmed M
-  mesh-is-back = rw (cells-read-back, faces-read-back, volumes-read-back, firsts-read-back, seconds-read-back, shares-read-back, reaches-read-back)
+  mesh-is-back = mesh-back (meshKind w) M (mesh-fits w M within passes)
 
 -- A field on it.
 module _ (w : Width) (M : Mesh) (within : counts M ≡ fine) (passes : meshValues (mostOf w) M ≡ fine) (field : List ℕ) (salt : fieldValues M field ≡ fine) where
@@ -168,17 +154,15 @@ module _ {v : Verdict} {N : ℕ} {rec bytes bytes′ : List ℕ} {r : WriteAnswe
 pub mesh-joined : (w : Width) (M : Mesh) {bytes bytes′ : List ℕ} {r : WriteAnswer} {n : ℕ} → MeshWriting w M bytes r bytes′ → writeSaid r ≡ accepted n
     → {lent left : Mesh} {a : MeshAnswer}
     → countsWithin (min (lent .cells) maxCells) (min (lent .faces) maxFaces) (M .cells) (M .faces) ≡ fine
-    → M .cells ≤ length (lent .volumes) → M .faces ≤ length (lent .firsts) → M .faces ≤ length (lent .seconds) → M .faces ≤ length (lent .shares)
-    → M .faces ≤ length (lent .reaches)
-    → MeshReads (take n bytes′) lent a left
+    → MeshLent (atCounts M lent) → MeshReads (take n bytes′) lent a left
     → (meshSaid a ≡ accepted (record { cells = M .cells; faces = M .faces; width = w })) × (left ≡ overMesh (trimmed M) lent)
 unfolding meshLength
-mesh-joined w M {bytes} {bytes′} {r} {n} done e {lent} {left} {a} limits lv lf ls lw lk read =
+mesh-joined w M {bytes} {bytes′} {r} {n} done e {lent} {left} {a} limits long read =
     let p = mesh-write-says w M (length bytes) (wrote done e .0) in
     let c = p .counts-fine in
     let v = p .values-fine in
     let t = begins done e (mesh-record-length (meshKind w) M (mesh-fits w M c v)) in
-    let back = mesh-read-back w M c v (lent .cells) (lent .faces) _ _ _ _ _ limits lv lf ls lw lk in
+    let back = mesh-read-back w M c v (lent .cells) (lent .faces) _ _ _ _ _ limits long in
     let same : MeshCounts = record { cells = M .cells; faces = M .faces; width = w } in
     let q : MeshReading (accepted same) (meshRecord (meshKind w) M) lent a left = rw back at (rw t at read) in
     (q .answer, q .mesh-read ∙ ap (λ (K : Mesh). overMesh K lent) (mesh-is-back w M c v))
@@ -236,7 +220,7 @@ module _ (bs : List ℕ) (bytes : (j : ℕ) → getD bs j 0 < 256) where
       → meshRecord (kindIn bs) (meshIn bs) ≡ bs
   mesh-written-back mostCells mostFaces v f s w k e =
       rw (over-nil (volumesIn bs), over-nil (firstsIn bs), over-nil (secondsIn bs), over-nil (sharesIn bs), over-nil (reachesIn bs)) at
-      (mesh-again bs bytes (mesh-passed mostCells mostFaces bs v f s w k e) [] [] [] [] [])
+      (mesh-again bs bytes (mesh-passed mostCells mostFaces bs v f s w k e) (meshOf 0 0 [] [] [] [] []))
 
   pub field-written-back : (w : Width) (cells m : ℕ) → fieldRead w cells bs m ≡ fine → fieldRecord (kindIn bs) cells (massesIn bs cells) ≡ bs
   field-written-back w cells m e = rw (over-nil (massesIn bs cells)) at (field-again w cells bs bytes (field-passed w cells bs m e) [])
@@ -265,7 +249,7 @@ module _ (bs : List ℕ) (bytes : (j : ℕ) → getD bs j 0 < 256) where
       let N : Mesh = counting n left in
       let kind : meshKind (n .width) ≡ kindIn bs = rw (passed .counts-are) (mesh-kind-is (kindIn bs) (passed .kind)) in
       let same : meshRecord (meshKind (n .width)) N ≡ bs =
-      rw (kind, passed .counts-are, q .mesh-read) (mesh-again bs bytes passed (lent .volumes) (lent .firsts) (lent .seconds) (lent .shares) (lent .reaches)) in
+      rw (kind, passed .counts-are, q .mesh-read) (mesh-again bs bytes passed lent) in
       let p = mesh-write-says (n .width) N (length old) (wrote done e .0) in
       rewrote done e same (mesh-record-length (meshKind (n .width)) N (mesh-fits (n .width) N (p .counts-fine) (p .values-fine)))
 

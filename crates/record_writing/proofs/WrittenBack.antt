@@ -18,18 +18,20 @@ use Rattle.model.specs.Causes.{accepted, Verdict, fine, _andThen_, each, counts
 use Rattle.model.specs.Answers.{said}
 use Rattle.model.specs.declared.Answer.{Answer}
 use Rattle.model.proofs.Verdicts.{all-fine, fine-all, need-met, fine-each, past}
+use Rattle.model.proofs.Accepted.{lent-mesh}
+use Rattle.model.proofs.Parts.{over-lent}
 use Rattle.record_bits.proofs.Fields.{bits-lt}
 use Rattle.record_sections.specs.Sections.{place}
 use Rattle.record_layouts.specs.Layouts.{meshKind, fieldKind, releaseBits, stepShape, meshLength, fieldLength, stepLength}
 use Rattle.record_heads.specs.Heads.{kindIn, cellsIn, facesIn}
 use Rattle.record_layouts.specs.declared.Width.{Width}
 use Rattle.record_heads.proofs.HeadLaws.{within-met}
-use Rattle.record_reading.specs.Reading.{volumesIn, firstsIn, secondsIn, sharesIn, reachesIn, massesIn, fluxesIn, outsidesIn, releasesIn, fieldRead, stepRead}
+use Rattle.record_reading.specs.Reading.{meshIn, massesIn, fluxesIn, outsidesIn, releasesIn, fieldRead, stepRead}
 use Rattle.record_reading.specs.Answers.{meshSaid, stepReadSaid, counting, MeshReading, MeshReads, FieldReading, StepReading}
 use Rattle.record_reading.specs.declared.MeshCounts.{MeshCounts}
 use Rattle.record_reading.specs.declared.MeshAnswer.{MeshAnswer}
 use Rattle.record_reading.specs.declared.StepRead.{StepRead}
-use Rattle.record_reading.proofs.ReadLaws.{mesh-kind-is, read-says, field-read-says, step-read-says}
+use Rattle.record_reading.proofs.ReadLaws.{mesh-kind-is, mesh-cut, read-says, field-read-says, step-read-says}
 use Rattle.record_causes.specs.Verdicts.{meshWriteCauses, fieldWriteCauses, stepWriteCauses}
 use Rattle.record_writing.specs.declared.WriteAnswer.{WriteAnswer}
 use Rattle.record_writing.specs.Writing.{mostOf, releasesFit, meshWriteVerdict, fieldWriteVerdict, stepWriteVerdict, writeSaid, Writing, MeshWriting, FieldWriting, StepWriting}
@@ -55,32 +57,18 @@ module _ (bs : List ℕ) (bytes : (j : ℕ) → getD bs j 0 < 256) where
   pub mesh-written-again : {lent left : Mesh} {a : MeshAnswer} {n : MeshCounts} {old new : List ℕ} {r : WriteAnswer} → MeshReads bs lent a left
       → meshSaid a ≡ accepted n → meshValues (mostOf (n .width)) (counting n left) ≡ fine → length bs ≤ length old
       → MeshWriting (n .width) (counting n left) old r new → (writeSaid r ≡ accepted (length bs)) × (new ≡ over bs old)
-  unfolding counts meshTables meshWriteVerdict meshLength volumesIn firstsIn secondsIn sharesIn reachesIn
+  unfolding counts meshWriteVerdict meshLength
   mesh-written-again {lent} {left} {a} {n} {old} {new} {r} read told values room w =
       let came = sym (read .answer) ∙ told in
       let says = read-says (lent .cells) (lent .faces) bs _ _ _ _ _ came in
-      let held = says .tables in
       let q : MeshReading (accepted n) bs lent a left = rw came at read in
       let N : Mesh = counting n left in
-      let v : cellsIn bs ≤ length (left .volumes) = rw (q .mesh-read) (filled-long _ _ (lent .volumes) (held .volumes-long)) in
-      let f : facesIn bs ≤ length (left .firsts) = rw (q .mesh-read) (filled-long _ _ (lent .firsts) (held .firsts-long)) in
-      let s : facesIn bs ≤ length (left .seconds) = rw (q .mesh-read) (filled-long _ _ (lent .seconds) (held .seconds-long)) in
-      let g : facesIn bs ≤ length (left .shares) = rw (q .mesh-read) (filled-long _ _ (lent .shares) (held .shares-long)) in
-      let k : facesIn bs ≤ length (left .reaches) = rw (q .mesh-read) (filled-long _ _ (lent .reaches) (held .reaches-long)) in
       let kind : meshKind (n .width) ≡ kindIn bs = rw (says .counts-are) (mesh-kind-is (kindIn bs) (says .head .kind)) in
-      let long : meshLength (meshKind (n .width)) (n .cells) (n .faces) ≤ length old = rw (kind, says .counts-are) (omega (arith, held .same-length)) in
+      let long : meshLength (meshKind (n .width)) (n .cells) (n .faces) ≤ length old = rw (kind, says .counts-are) (omega (arith, says .tables .same-length)) in
+      let tables : meshTables N ≡ fine = rw (says .counts-are, q .mesh-read) (lent-mesh _ (over-lent (meshIn bs) lent (mesh-cut bs))) in
       let ok : meshWriteVerdict (n .width) N (length old) ≡ fine = fine-all (meshWriteCauses (n .width) N (length old)) (
         rw (says .counts-are) (within-met maxCells maxFaces (cellsIn bs) (facesIn bs) (says .head .some-cells) (says .head .few-cells) (says .head .few-faces)),
-        (
-          rw (says .counts-are) (fine-all (_ ∷ _ ∷ _ ∷ _ ∷ _ ∷ []) (
-            need-met 2 0 (le-leb _ _ v),
-            (
-              need-met 2 1 (le-leb _ _ f),
-              (need-met 2 2 (le-leb _ _ s), (need-met 2 3 (le-leb _ _ g), (need-met 2 4 (le-leb _ _ k), tt))),
-            ),
-          )),
-          (need-met 2 11 (le-leb _ _ long), (values, tt)),
-        ),
+        (tables, (need-met 2 11 (le-leb _ _ long), (values, tt))),
       ) in
       let e = answers w ok in
       let p = mesh-rejoined bs bytes read told w e in

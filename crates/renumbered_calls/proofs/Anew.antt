@@ -34,12 +34,12 @@ use Rattle.record_heads.proofs.HeadLaws.{mesh-head-says, step-head-says}
 use Rattle.record_reading.specs.Reading.{meshIn, massesIn, fluxesIn, outsidesIn, releasesIn, minusIn, sizeIn, outsidePlace, meshRead, fieldRead, stepRead}
 use Rattle.record_writing.proofs.WidthLaws.{mesh-fits, field-fits}
 use Rattle.record_writing.specs.Writing.{mostOf}
-use Rattle.record_reading.proofs.ReadLaws.{mesh-kind-is}
+use Rattle.record_reading.proofs.ReadLaws.{mesh-kind-is, mesh-cut}
 use Rattle.record_writing.proofs.Accepting.{field-passed, field-reads, step-reads}
 use Rattle.record_writing.proofs.Back.{mesh-kind-back, field-kind-back, field-cells-back, field-record-length, masses-back, step-kind-back, step-faces-back, step-record-length, step-bits-good, fluxes-back, outsides-back, releases-back}
-use Rattle.record_writing.proofs.RoundTrip.{width-is, cells-read-back, faces-read-back, mesh-read-back, volumes-read-back, firsts-read-back, seconds-read-back, shares-read-back, reaches-read-back}
+use Rattle.record_writing.proofs.RoundTrip.{width-is, cells-read-back, faces-read-back, mesh-read-back, mesh-is-back}
 use Rattle.taking_mesh.specs.MeshTaking.{meshRecordFound, meshRoomCauses, meshJudged}
-use Rattle.taking_mesh.proofs.MeshLaws.{mesh-says, limits, mesh-cut, mesh-small}
+use Rattle.taking_mesh.proofs.MeshLaws.{within-long, mesh-says, limits, mesh-small}
 use Rattle.taking.specs.Taking.{stepIn, stepRecordFound}
 use Rattle.renumbered.specs.Renumbered.{amountIn, isTurned, newSecond}
 use Rattle.renumbered.proofs.TwoSteps.{fine-counts, fine-values}
@@ -108,22 +108,14 @@ module _ (mesh : List ℕ) (cell : Renumbering (cellsIn mesh)) (face : Renumberi
   -- the mesh
   pub mesh-held : meshIn (meshAnew mesh cell face turns) ≡ M′
   mesh-held =
-      rw (
-        cells-read-back w M′ within passes,
-        faces-read-back w M′ within passes,
-        volumes-read-back w M′ within passes,
-        firsts-read-back w M′ within passes,
-        seconds-read-back w M′ within passes,
-        shares-read-back w M′ within passes,
-        reaches-read-back w M′ within passes,
+      mesh-is-back w M′ within passes
+      ∙ rw (
+        exact 0 (M .cells) (M′ .volumes) (length-carried (M .cells) cell _ 0 (M .volumes) ∙ sym (mesh-cut mesh .volumes-cut)),
+        exact 0 (M .faces) (M′ .firsts) (length-carried (M .faces) face _ 0 (M .firsts) ∙ sym (mesh-cut mesh .firsts-cut)),
+        exact 0 (M .faces) (M′ .seconds) (length-carried (M .faces) face _ 0 (M .seconds) ∙ sym (mesh-cut mesh .seconds-cut)),
+        exact 0 (M .faces) (M′ .shares) (length-carried (M .faces) face _ 0 (M .shares) ∙ sym (mesh-cut mesh .shares-cut)),
+        exact 0 (M .faces) (M′ .reaches) (length-carried (M .faces) face _ 0 (M .reaches) ∙ sym (mesh-cut mesh .reaches-cut)),
       )
-      (rw (
-        exact 0 (M .cells) (M′ .volumes) (length-carried (M .cells) cell _ 0 (M .volumes) ∙ mesh-cut mesh .volumes-cut),
-        exact 0 (M .faces) (M′ .firsts) (length-carried (M .faces) face _ 0 (M .firsts) ∙ mesh-cut mesh .firsts-cut),
-        exact 0 (M .faces) (M′ .seconds) (length-carried (M .faces) face _ 0 (M .seconds) ∙ mesh-cut mesh .seconds-cut),
-        exact 0 (M .faces) (M′ .shares) (length-carried (M .faces) face _ 0 (M .shares) ∙ mesh-cut mesh .shares-cut),
-        exact 0 (M .faces) (M′ .reaches) (length-carried (M .faces) face _ 0 (M .reaches) ∙ mesh-cut mesh .reaches-cut),
-      ))
 
   mesh-kind-anew : kindIn (meshAnew mesh cell face turns) ≡ meshKind w
   mesh-kind-anew = mesh-kind-back (meshKind w) M′ (mesh-fits w M′ within passes)
@@ -138,7 +130,7 @@ module _ (mesh : List ℕ) (cell : Renumbering (cellsIn mesh)) (face : Renumberi
   mesh-found : meshRecordFound (meshAnew mesh cell face turns) ≡ fine
   unfolding meshRecordFound meshRead meshHeadVerdict
   mesh-found = both-fine _ _ (mesh-read-back w M′ within passes runCells runFaces runCells runFaces runFaces runFaces runFaces limited
-      (small .0) (small .1) (small .1) (small .1) (small .1)) .0
+      (within-long (small .0) (small .1))) .0
     where
       limited : countsWithin (min runCells maxCells) (min runFaces maxFaces) (M .cells) (M .faces) ≡ fine
       limited = both-fine _ _ (both-fine _ _ (found mesh field step reads) .0) .1

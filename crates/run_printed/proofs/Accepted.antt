@@ -18,7 +18,7 @@ use Rattle.record_layouts.specs.declared.Width.{Width}
 use Rattle.record_heads.specs.Heads.{meshNeeds, fieldNeeds, stepNeeds, stepHeadVerdict}
 use Rattle.record_heads.specs.declared.LengthAnswer.the-variants as length-of
 use Rattle.record_reading.specs.Reading.{meshIn, countsIn, massesIn}
-use Rattle.record_reading.specs.Meshes.{overMesh}
+use Rattle.model.specs.Meshes.{overMesh}
 use Rattle.board.specs.Board.{boardVerdict, boardEntries, boardSize, unused}
 use Rattle.taking_mesh.specs.MeshTaking.{meshJudgedInRun}
 use Rattle.run_lines.specs.Lines.{Holds, stepLine}

@@ -16,7 +16,7 @@ use Rattle.record_layouts.specs.Layouts.{stepHeadBits}
 use Rattle.record_heads.specs.Heads.{stepNeeds}
 use Rattle.record_layouts.specs.declared.Width.{Width}
 use Rattle.record_reading.specs.Reading.{meshIn, massesIn}
-use Rattle.record_reading.specs.Meshes.{overMesh}
+use Rattle.model.specs.Meshes.{overMesh}
 use Rattle.record_reading.specs.Answers.{counting}
 use Rattle.record_reading.specs.declared.MeshCounts.{MeshCounts}
 use Rattle.board.specs.Board.{entryAt, listed, entriesOf, boardVerdict, boardEntries, boardSize, unused}

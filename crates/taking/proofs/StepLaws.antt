@@ -16,7 +16,7 @@ use Rattle.model.specs.Causes.{accepted, Verdict, fine, _andThen_, Call, callOf
 use Rattle.model.specs.Answers.{number, told}
 use Rattle.model.specs.Calls.{Crossing, crossingOf, massIn, stepAnswer}
 use Rattle.model.specs.declared.Refusal.{Refusal}
-use Rattle.model.proofs.Verdicts.{AllFine, all-fine, fine-all, both-fine, past, out, refused-of, accepted-of, long-fine}
+use Rattle.model.proofs.Verdicts.{AllFine, all-fine, fine-all, both-fine, past, out, refused-of, accepted-of, long-fine, long-met}
 use Rattle.model.proofs.Accepted.{ready, passed, field-lent, call-lent}
 use Rattle.model.proofs.Sizes.{next-most, total-most}
 use Rattle.model.specs.Accepted.{Ready}
@@ -37,7 +37,7 @@ use Rattle.model.specs.declared.StepTaken.{StepTaken}
 use Rattle.model.specs.declared.StepTaken.the-variants as step-taken
 use Rattle.taking.specs.Taking.{blank, ownTables, printedOf, Stepping, stepIn, stepRecordFound, stepJudged, StepTaking}
 use Rattle.taking.specs.Inner.{SteppedIn}
-use Rattle.model.proofs.Parts.{PartRead, read-part, long-met}
+use Rattle.model.proofs.Parts.{PartRead, read-part}
 
 stepping-refused : (M : Mesh) (masses : List ℕ) {v : Verdict} (k : Call) (r : Refusal) → v ≡ told r → Stepping M masses v k (step-taken.Refused r) masses
 stepping-refused M masses k r e = record { answer = sym (out _ e); masses-after = rw e }

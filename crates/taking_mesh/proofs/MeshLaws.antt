@@ -1,22 +1,22 @@
 -- What a mesh record comes to, from what the calls that `take_mesh` and `keep` make promise. What is read has tables as long as its counts,
 -- within the run's limits; so of the verdict on it only the values are left.
 use Prim.Native.Nat.{ℕ, _^_, _≤_, _<_, min}
-use mathlib.Core.Path.{_≡_, refl, sym, ap, _∙_}
+use mathlib.Core.Path.{_≡_, refl, sym, ap, _∙_, subst}
 use mathlib.Core.List.{List, [], _∷_}
 use native.Mathlib.Nat.{le-trans, le-refl}
 use native.Mathlib.Omega.{arith}
-use borrow.Author.Tests.{le-leb}
-use lib.ListN.{length, take}
-use Rattle.lists.specs.Table.{over}
-use Rattle.lists.proofs.Tables.{length-table, getD-table}
-use Rattle.model.specs.Mesh.{Mesh, meshOf, runCells, runFaces, maxCells, maxFaces, ceiling, oldCeiling}
-use Rattle.model.specs.Accepted.{MeshLent}
+use lib.ListN.{length}
+use Rattle.lists.proofs.Tables.{getD-table}
+use Rattle.model.specs.Mesh.{Mesh, runCells, runFaces, maxCells, maxFaces, ceiling, oldCeiling}
+use Rattle.model.specs.Meshes.{overMesh, parted, MeshCut}
+use Rattle.model.specs.Accepted.{MeshLong, MeshLent}
 use Rattle.model.specs.Causes.{Outcome, accepted, refused, Verdict, fine, _andThen_, granted, inTurn, countsWithin, counts, meshTables, meshValues, meshVerdict}
 use Rattle.model.specs.Ceilings.{MeshSmall}
 use Rattle.model.specs.Answers.{number}
 use Rattle.model.specs.declared.Refusal.{Refusal}
-use Rattle.model.proofs.Verdicts.{AllFine, all-fine, fine-all, refused-at, both-fine, past, out, refused-of, accepted-of, need-met, long-fine}
-use Rattle.model.proofs.Accepted.{mesh-lent}
+use Rattle.model.proofs.Verdicts.{AllFine, all-fine, fine-all, refused-at, both-fine, past, out, refused-of, accepted-of}
+use Rattle.model.proofs.Accepted.{all-long, lent-mesh}
+use Rattle.model.proofs.Parts.{cut-lent, parted-cut, over-lent, over-parted}
 use Rattle.record_bits.proofs.Fields.{bits-lt}
 use Rattle.record_sections.specs.Sections.{place, entryIn}
 use Rattle.record_layouts.specs.Layouts.{widthOf, valueOf, valueBits, meshShape}
@@ -24,45 +24,23 @@ use Rattle.record_heads.specs.Heads.{kindIn, widthIn, cellsIn, facesIn, meshHea
 use Rattle.record_heads.proofs.HeadLaws.{within-says, within-met, mesh-head-says}
 use Rattle.record_layouts.specs.declared.Width.{Width}
 use Rattle.record_layouts.specs.declared.Width.the-variants.{Narrow}
-use Rattle.record_reading.specs.Reading.{volumesIn, firstsIn, secondsIn, sharesIn, reachesIn, countsIn, meshIn, meshBodyCauses, meshBodyVerdict, meshRead}
-use Rattle.record_reading.specs.Meshes.{overMesh}
-use Rattle.record_reading.specs.Answers.{meshSaid, MeshReading}
+use Rattle.record_reading.specs.Reading.{volumesIn, reachesIn, countsIn, meshIn, meshTableCauses, meshBodyCauses, meshBodyVerdict, meshRead}
+use Rattle.record_reading.specs.Answers.{meshSaid, counting, MeshReading}
+use Rattle.record_reading.proofs.ReadLaws.{mesh-cut}
 use Rattle.record_reading.specs.declared.MeshAnswer.{MeshAnswer}
 use Rattle.record_reading.specs.declared.MeshAnswer.the-variants as mesh-answer
 use Rattle.record_reading.specs.declared.MeshCounts.{MeshCounts}
 use Rattle.taking_mesh.specs.MeshTaking.{meshRecordFound, meshRoomCauses, meshJudgedCauses, meshJudged, meshJudgedInRun, MeshKept, MeshTaking}
-use Rattle.taking_mesh.specs.Inner.{MeshCut, keptFound}
-use Rattle.model.proofs.Parts.{PartRead, read-part, long-met}
+use Rattle.taking_mesh.specs.Inner.{keptFound}
 
 -- a mesh of which v is found: refused, and accepted
 pub kept-refused : {v : Verdict} (w : Width) (M lent : Mesh) (a : MeshAnswer) (k i : ℕ) → v ≡ refused k i → meshSaid a ≡ refused k i
     → MeshKept v w M lent a lent
 kept-refused w M lent a k i e s = record { answer = s ∙ sym (out _ e); mesh-after = rw e }
 
-pub kept-accepted : {v : Verdict} (w : Width) (M lent : Mesh) {volumes firsts seconds shares reaches : List ℕ} → v ≡ fine
-    → volumes ≡ over (M .volumes) (lent .volumes) → firsts ≡ over (M .firsts) (lent .firsts) → seconds ≡ over (M .seconds) (lent .seconds)
-    → shares ≡ over (M .shares) (lent .shares) → reaches ≡ over (M .reaches) (lent .reaches)
-    → MeshKept v w M lent (mesh-answer.Read (record { cells = M .cells; faces = M .faces; width = w }))
-    (meshOf (lent .cells) (lent .faces) volumes firsts seconds shares reaches)
-kept-accepted w M lent e a b c d f = record { answer = sym (past _ e); mesh-after = rw (e, a, b, c, d, f) }
-
--- the lent tables hold a mesh of which nothing is found
-pub record Room (M lent : Mesh) : Type 0 where
-  pub volumes-room : length (M .volumes) ≤ length (lent .volumes)
-  pub firsts-room : length (M .firsts) ≤ length (lent .firsts)
-  pub seconds-room : length (M .seconds) ≤ length (lent .seconds)
-  pub shares-room : length (M .shares) ≤ length (lent .shares)
-  pub reaches-room : length (M .reaches) ≤ length (lent .reaches)
-
-pub room : (M lent : Mesh) → MeshCut M → keptFound lent M ≡ fine → Room M lent
-room M lent c e =
-    let l = mesh-lent _ (both-fine _ _ e .0) in record {
-      volumes-room = omega (arith, c .volumes-cut, l .volumes-long);
-      firsts-room = omega (arith, c .firsts-cut, l .firsts-long);
-      seconds-room = omega (arith, c .seconds-cut, l .seconds-long);
-      shares-room = omega (arith, c .shares-cut, l .shares-long);
-      reaches-room = omega (arith, c .reaches-cut, l .reaches-long);
-    }
+pub kept-accepted : {v : Verdict} (w : Width) (M lent : Mesh) {left : Mesh} → v ≡ fine → left ≡ overMesh M lent
+    → MeshKept v w M lent (mesh-answer.Read (record { cells = M .cells; faces = M .faces; width = w })) left
+kept-accepted w M lent e d = record { answer = sym (past _ e); mesh-after = rw e d }
 
 -- what a mesh of which nothing is found has passed
 pub record MeshSays (bs : List ℕ) (volumes firsts seconds shares reaches : ℕ) : Type 0 where
@@ -83,15 +61,10 @@ pub record Limits (bs : List ℕ) : Type 0 where
   pub few-cells : cellsIn bs ≤ runCells
   pub few-faces : facesIn bs ≤ runFaces
 
-pub mesh-cut : (bs : List ℕ) → MeshCut (meshIn bs)
-unfolding volumesIn firstsIn secondsIn sharesIn reachesIn
-mesh-cut bs = record {
-  volumes-cut = length-table _ _;
-  firsts-cut = length-table _ _;
-  seconds-cut = length-table _ _;
-  shares-cut = length-table _ _;
-  reaches-cut = length-table _ _;
-}
+-- tables as long as the limits hold what is within them
+pub within-long : {cells faces most-cells most-faces : ℕ} → cells ≤ most-cells → faces ≤ most-faces
+    → MeshLong cells faces most-cells most-faces most-faces most-faces most-faces
+within-long c f = record { volumes-long = c; firsts-long = f; seconds-long = f; shares-long = f; reaches-long = f }
 
 -- V and K of 12 bits are within the old ceilings
 value-narrow : (kind : ℕ) → widthOf kind ≡ Narrow → valueBits kind ≡ valueOf Narrow
@@ -123,14 +96,7 @@ module _ (bs : List ℕ) (e : meshRecordFound bs ≡ fine) where
       within-met maxCells maxFaces (cellsIn bs) (facesIn bs) (m .some-cells) (omega (arith, m .few-cells)) (omega (arith, m .few-faces))
 
   tables-pass : meshTables (meshIn bs) ≡ fine
-  unfolding meshTables _andThen_
-  tables-pass = let c = mesh-cut bs in rw (
-    need-met 2 0 (le-leb (cellsIn bs) (length (volumesIn bs)) (omega (arith, c .volumes-cut))),
-    need-met 2 1 (le-leb (facesIn bs) (length (firstsIn bs)) (omega (arith, c .firsts-cut))),
-    need-met 2 2 (le-leb (facesIn bs) (length (secondsIn bs)) (omega (arith, c .seconds-cut))),
-    need-met 2 3 (le-leb (facesIn bs) (length (sharesIn bs)) (omega (arith, c .shares-cut))),
-    need-met 2 4 (le-leb (facesIn bs) (length (reachesIn bs)) (omega (arith, c .reaches-cut))),
-  )
+  tables-pass = lent-mesh (meshIn bs) (cut-lent (mesh-cut bs))
 
   pub values-left : meshVerdict (meshIn bs) ≡ meshValues ceiling (meshIn bs)
   unfolding meshVerdict counts _andThen_
@@ -141,33 +107,20 @@ module _ (bs : List ℕ) (e : meshRecordFound bs ≡ fine) where
   unfolding meshJudged meshTables _andThen_
   found-is lent = rw (values-left, e)
 
--- the tables read into, and the mesh of their parts
-pub record MeshIsRead (bs : List ℕ) (n : MeshCounts) (volumes′ firsts′ seconds′ shares′ reaches′ : List ℕ) : Type 0 where
+-- the tables read into: they hold the record's mesh, and no less than its counts
+pub record MeshIsRead (bs : List ℕ) (n : MeshCounts) (left : Mesh) : Type 0 where
   pub passed : meshRecordFound bs ≡ fine
   pub counts-are : n ≡ countsIn bs
-  pub volumes-part : PartRead (n .cells) (volumesIn bs) volumes′
-  pub firsts-part : PartRead (n .faces) (firstsIn bs) firsts′
-  pub seconds-part : PartRead (n .faces) (secondsIn bs) seconds′
-  pub shares-part : PartRead (n .faces) (sharesIn bs) shares′
-  pub reaches-part : PartRead (n .faces) (reachesIn bs) reaches′
+  pub held : MeshLent (counting n left)
+  pub same : parted (counting n left) ≡ meshIn bs
 
--- of a mesh laid over lent tables that have room for it
-pub is-read : {A : Type 0} {o : Outcome A} {x : A} (bs : List ℕ) (lent left : Mesh) → meshRecordFound bs ≡ fine → o ≡ accepted x
-    → MeshLent (meshOf (cellsIn bs) (facesIn bs) (lent .volumes) (lent .firsts) (lent .seconds) (lent .shares) (lent .reaches))
-    → left ≡ granted o (overMesh (meshIn bs) lent) lent
-    → MeshIsRead bs (countsIn bs) (left .volumes) (left .firsts) (left .seconds) (left .shares) (left .reaches)
-unfolding volumesIn firstsIn secondsIn sharesIn reachesIn
-is-read bs lent left found e l q =
+-- of a mesh laid over lent tables
+pub is-read : {A : Type 0} {o : Outcome A} {x : A} (bs : List ℕ) (lent : Mesh) {left : Mesh} → meshRecordFound bs ≡ fine → o ≡ accepted x
+    → left ≡ granted o (overMesh (meshIn bs) lent) lent → MeshIsRead bs (countsIn bs) left
+is-read bs lent {left} found e q =
     let z : left ≡ overMesh (meshIn bs) lent = rw e at q in
-    rw z (record {
-      passed = found;
-      counts-are = refl;
-      volumes-part = read-part {v = fine} _ _ _ _ refl (l .volumes-long) refl;
-      firsts-part = read-part {v = fine} _ _ _ _ refl (l .firsts-long) refl;
-      seconds-part = read-part {v = fine} _ _ _ _ refl (l .seconds-long) refl;
-      shares-part = read-part {v = fine} _ _ _ _ refl (l .shares-long) refl;
-      reaches-part = read-part {v = fine} _ _ _ _ refl (l .reaches-long) refl;
-    })
+    let c = mesh-cut bs in
+    rw z (record { passed = found; counts-are = refl; held = over-lent (meshIn bs) lent c; same = over-parted (meshIn bs) lent c })
 
 -- the tables read into are as long as the run's limits
 module _ {bs : List ℕ} {lent left : Mesh} {a : MeshAnswer}
@@ -216,68 +169,32 @@ module _ (mostCells mostFaces : ℕ) {bs : List ℕ} {lent left : Mesh} {a : Mes
 
   run-body : meshBodyVerdict bs runCells runFaces runFaces runFaces runFaces ≡ fine
   unfolding meshBodyVerdict
-  run-body = fine-all (meshBodyCauses bs runCells runFaces runFaces runFaces runFaces) (
-    body-fine .0,
-    (
-      long-met 0 _ _ (within .1),
-      (
-        long-met 1 _ _ (within .2),
-        (
-          long-met 2 _ _ (within .2),
-          (
-            long-met 3 _ _ (within .2),
-            (
-              long-met 4 _ _
-                  (within .2),
-              (body-fine .1 .1 .1 .1 .1 .1 .0, tt),
-            ),
-          ),
-        ),
-      ),
-    ),
-  )
+  run-body = past _ (fine-all (meshTableCauses bs runCells runFaces runFaces runFaces runFaces) (body-fine .0, all-long (within-long (within .1) (within .2))))
+      ∙ body-fine .1 .1 .1 .1 .1 .1 .0
 
   found : meshRecordFound bs ≡ fine
   unfolding meshRecordFound
   found = past _ run-head ∙ run-body
 
-  pub read-within : MeshIsRead bs n (left .volumes) (left .firsts) (left .seconds) (left .shares) (left .reaches)
-  read-within =
-      let l = body-fine .1 in
-      rw (read-fine .1) (is-read bs lent left found (sym (s .answer) ∙ ap meshSaid d) (record {
-        volumes-long = long-fine 0 _ _ (l .0);
-        firsts-long = long-fine 1 _ _ (l .1 .0);
-        seconds-long = long-fine 2 _ _ (l .1 .1 .0);
-        shares-long = long-fine 3 _ _ (l .1 .1 .1 .0);
-        reaches-long = long-fine 4 _ _ (l .1 .1 .1 .1 .0);
-      }) (s .mesh-read))
+  pub read-within : MeshIsRead bs n left
+  read-within = rw (read-fine .1) (is-read bs lent found (sym (s .answer) ∙ ap meshSaid d) (s .mesh-read))
 
 -- within those of the run
 pub mesh-read : {bs : List ℕ} {lent left : Mesh} {a : MeshAnswer}
     → MeshReading (meshRead runCells runFaces bs (length (lent .volumes)) (length (lent .firsts)) (length (lent .seconds)) (length (lent .shares))
     (length (lent .reaches))) bs lent a left
-    → {n : MeshCounts} → a ≡ mesh-answer.Read n → MeshIsRead bs n (left .volumes) (left .firsts) (left .seconds) (left .shares) (left .reaches)
+    → {n : MeshCounts} → a ≡ mesh-answer.Read n → MeshIsRead bs n left
 mesh-read s d = read-within runCells runFaces s (le-refl runCells) (le-refl runFaces) d
 
-module _ {bs : List ℕ} {n : MeshCounts} {volumes′ firsts′ seconds′ shares′ reaches′ : List ℕ}
-    (m : MeshIsRead bs n volumes′ firsts′ seconds′ shares′ reaches′) where
-  abbrev R : Mesh
-  R = meshOf (n .cells) (n .faces) (take (n .cells) volumes′) (take (n .faces) firsts′) (take (n .faces) seconds′) (take (n .faces) shares′)
-      (take (n .faces) reaches′)
+module _ {bs : List ℕ} {n : MeshCounts} {left : Mesh} (m : MeshIsRead bs n left) where
+  pub parts-cut : MeshCut (parted (counting n left))
+  parts-cut = parted-cut (counting n left) (m .held)
 
-  pub same : R ≡ meshIn bs
-  same =
-      let q : R ≡ meshOf (n .cells) (n .faces) (volumesIn bs) (firstsIn bs) (secondsIn bs) (sharesIn bs) (reachesIn bs) = rw
-      (m .volumes-part .part, m .firsts-part .part, m .seconds-part .part, m .shares-part .part, m .reaches-part .part) in
-      q ∙ rw (m .counts-are)
-
-  pub keep-asks : MeshCut R
-  keep-asks = rw same (mesh-cut bs)
-
-  pub mesh-done : {lent left : Mesh} {r : MeshAnswer} → MeshKept (keptFound lent R) (n .width) R lent r left → MeshTaking bs lent r left
-  mesh-done {lent} {left} {r} t =
-      let x : MeshKept (keptFound lent (meshIn bs)) (n .width) (meshIn bs) lent r left = rw same at t in
-      let y : MeshKept (keptFound lent (meshIn bs)) (widthIn bs) (meshIn bs) lent r left = rw (m .counts-are) at x in
+  pub mesh-done : {lent after : Mesh} {r : MeshAnswer} → MeshKept (keptFound lent (parted (counting n left))) (n .width) (parted (counting n left)) lent r after
+      → MeshTaking bs lent r after
+  mesh-done {lent} {after} {r} t =
+      let x = subst (λ (N : Mesh). MeshKept (keptFound lent N) (n .width) N lent r after) (m .same) t in
+      let y : MeshKept (keptFound lent (meshIn bs)) (widthIn bs) (meshIn bs) lent r after = rw (m .counts-are) at x in
       rw (found-is bs (m .passed) lent) at y
 
 -- A mesh record taken into tables as long as the run's limits: what it is said to be, and the mesh of the counted parts.
@@ -294,15 +211,8 @@ module _ (bs : List ℕ) {lent left : Mesh} {a : MeshAnswer} (t : MeshTaking bs 
     record-fine : meshRecordFound bs ≡ fine
     record-fine = mesh-says bs runCells runFaces runFaces runFaces runFaces (taken-fine .0) .found
 
-    pub taken-read : MeshIsRead bs n (left .volumes) (left .firsts) (left .seconds) (left .shares) (left .reaches)
+    pub taken-read : MeshIsRead bs n left
     taken-read =
         let v : meshJudged bs (length (lent .volumes)) (length (lent .firsts)) (length (lent .seconds)) (length (lent .shares)) (length (lent .reaches))
         ≡ fine = rw (lv, lf, ls, lw, lk) (taken-fine .0) in
-        let k = limits bs record-fine in
-        rw (taken-fine .1) (is-read bs lent left record-fine v (record {
-          volumes-long = omega (arith, lv, k .few-cells);
-          firsts-long = omega (arith, lf, k .few-faces);
-          seconds-long = omega (arith, ls, k .few-faces);
-          shares-long = omega (arith, lw, k .few-faces);
-          reaches-long = omega (arith, lk, k .few-faces);
-        }) (t .mesh-after))
+        rw (taken-fine .1) (is-read bs lent record-fine v (t .mesh-after))

@@ -5,11 +5,11 @@ use mathlib.Core.Path.{_≡_}
 use mathlib.Core.List.{List, [], _∷_}
 use lib.ListN.{length}
 use Rattle.model.specs.Mesh.{Mesh, runCells, runFaces, ceiling}
-use Rattle.model.specs.Causes.{accepted, Verdict, _andThen_, inTurn, granted, long, meshValues}
+use Rattle.model.specs.Causes.{accepted, Verdict, _andThen_, inTurn, granted, meshLong, meshValues}
 use Rattle.record_heads.specs.Heads.{widthIn, cellsIn, facesIn, meshHeadVerdict}
 use Rattle.record_layouts.specs.declared.Width.{Width}
 use Rattle.record_reading.specs.Reading.{meshIn, meshBodyVerdict}
-use Rattle.record_reading.specs.Meshes.{overMesh}
+use Rattle.model.specs.Meshes.{overMesh}
 use Rattle.record_reading.specs.Answers.{meshSaid}
 use Rattle.record_reading.specs.declared.MeshAnswer.{MeshAnswer}
 
@@ -21,9 +21,7 @@ meshRecordFound bs = meshHeadVerdict runCells runFaces bs andThen meshBodyVerdic
 -- "Causes", 2: the lent tables, of so many entries, have to hold it. Then 3 to 5.
 module _ (bs : List ℕ) (volumes firsts seconds shares reaches : ℕ) where
   abbrev pub meshRoomCauses : List Verdict
-  meshRoomCauses =
-      long 0 (cellsIn bs) volumes ∷ long 1 (facesIn bs) firsts ∷ long 2 (facesIn bs) seconds ∷ long 3 (facesIn bs) shares ∷ long 4 (facesIn bs) reaches
-      ∷ []
+  meshRoomCauses = meshLong (cellsIn bs) (facesIn bs) volumes firsts seconds shares reaches
 
   abbrev pub meshJudgedCauses : List Verdict
   meshJudgedCauses = meshRecordFound bs ∷ inTurn meshRoomCauses ∷ meshValues ceiling (meshIn bs) ∷ []

@@ -10,10 +10,11 @@ use record_reading::MeshAnswer;
 use record_reading::MeshCounts;
 ghost use mathlib.Core.Path.{_≡_};
 ghost use Rattle.model.specs.Mesh.{meshOf, runCells, runFaces};
-ghost use Rattle.model.specs.Causes.{_andThen_, long as longOf};
+ghost use Rattle.model.specs.Meshes.{MeshCut};
+ghost use Rattle.model.specs.Causes.{inTurn, meshLong};
 ghost use Rattle.model.specs.Answers.{said};
 ghost use Rattle.taking_mesh.specs.MeshTaking.{MeshKept, MeshTaking};
-ghost use Rattle.taking_mesh.specs.Inner.{MeshCut, keptFound};
+ghost use Rattle.taking_mesh.specs.Inner.{keptFound};
 
 // Cause 2: whether lent tables of so many entries hold the mesh.
 fn holds(
@@ -25,8 +26,7 @@ fn holds(
     shares: usize,
     reaches: usize,
 ) -> Answer
-    ensures { λ r. ⌜ said r ≡ (longOf 0 cells volumes andThen longOf 1 faces firsts andThen longOf 2 faces seconds andThen longOf 3 faces shares
-        andThen longOf 4 faces reaches) ⌝ }
+    ensures { λ r. ⌜ said r ≡ inTurn (meshLong cells faces volumes firsts seconds shares reaches) ⌝ }
 {
     let a = long(positions::VOLUMES, cells, volumes);
     let b = and_then(a, long(positions::FIRSTS, faces, firsts));

@@ -5,7 +5,7 @@ use borrow.Author.Needs.{needs}
 use Rattle.model.specs.Mesh.{incoming, outgoing, entering, leaving}
 use Rattle.model.specs.Causes.{fieldValues, saltGood, raisedValues, raisedGood, outsideGood, fluxGood, balanceGood, outflowGood}
 use Rattle.model.proofs.Verdicts.{refused-at, past, refuses, passes, both-are}
-use Rattle.checks.proofs.Laws.{in-groups, shape-asks, water-asks, field-asks, raised-asks, flows-ask}
+use Rattle.checks.proofs.Laws.{in-groups, water-asks, field-asks, raised-asks, flows-ask}
 use Rattle.checks.proofs.step_values.Statement.{statement}
 use Rattle.checks.proofs.step_values.Tie as tie
 
@@ -21,7 +21,7 @@ abbrev meshed : tie.After-enum-told → tie.After-values
 meshed c = c .before .before
 
 values-requires : tie.Need-values-requires
-values-requires c κs = shape-asks _ _ _ (c .before .before .before .before .before .before .before .before .pre)
+values-requires c κs = c .before .before .before .before .before .before .before .before .pre .lent
 
 returns : tie.Need-returns
 returns c = sym (in-groups _ _ _ ∙ refused-at [] (_ ∷ _ ∷ []) tt (refuses (c .before .before .before .values .ensures) (c .before .a .given .1)))

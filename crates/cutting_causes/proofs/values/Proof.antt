@@ -1,7 +1,6 @@
 -- The mesh, the labels, then salt and water; what is found of the mesh twice counts once.
 use borrow.Author.Needs.{needs}
 use Rattle.model.specs.Causes.{valuesVerdict}
-use Rattle.checks.proofs.Laws.{shape-asks}
 use Rattle.cutting_parts.specs.Refusals.{labelGood, partGood, labelValues}
 use Rattle.cutting_causes.specs.Lengths.{valuesFound}
 use Rattle.cutting_causes.proofs.Groups.{mesh-once}
@@ -13,7 +12,7 @@ abbrev start : tie.After-values → tie.Start
 start c = let lent = c .before .before .before .before .before in lent .before .before .before .before .before
 
 values-requires : tie.Need-values-requires
-values-requires c κs = let lent = c .before .before .before .before in shape-asks _ _ _ (lent .before .before .before .before .before .pre .0)
+values-requires c κs = let lent = c .before .before .before .before in lent .before .before .before .before .before .pre .0 .lent
 
 returns : tie.Need-returns
 unfolding valuesFound valuesVerdict labelValues labelGood partGood

@@ -52,59 +52,59 @@ array-share-prefix-volumes : tie.Need-array-share-prefix-volumes
 array-share-prefix-volumes c =
     let a = (start-from-volumes2 (c .before .before .before .before .before .before .before .before)) .args in
     lendable (a .mesh .now) (a .field .now) (c .before .before .before .before .before .before .before .before .before .take-field .ensures)
-    (c .before .a2 .given .1) .volumes-fit
+    (c .before .a2 .given .1) .mesh-fits .volumes-long
 
 slice-aggregate-on-field : tie.Need-slice-aggregate-on-field
 slice-aggregate-on-field c =
     let a = (start-from-volumes3 c) .args in
-    lendable (a .mesh .now) (a .field .now) ((volumes2-from-volumes3 c) .before .take-field .ensures) (c .before .before .a2 .given .1) .volumes-long
+    lendable (a .mesh .now) (a .field .now) ((volumes2-from-volumes3 c) .before .take-field .ensures) (c .before .before .a2 .given .1) .mesh-cut .volumes-cut
 
 array-share-prefix-firsts : tie.Need-array-share-prefix-firsts
 array-share-prefix-firsts c =
     let a = (start-from-volumes3 c) .args in
-    lendable (a .mesh .now) (a .field .now) ((volumes2-from-volumes3 c) .before .take-field .ensures) (c .before .before .a2 .given .1) .firsts-fit
+    lendable (a .mesh .now) (a .field .now) ((volumes2-from-volumes3 c) .before .take-field .ensures) (c .before .before .a2 .given .1) .mesh-fits .firsts-long
 
 slice-aggregate-on-field-2 : tie.Need-slice-aggregate-on-field-2
 slice-aggregate-on-field-2 c =
     let a = (start-from-volumes3 (c .before)) .args in
     lendable (a .mesh .now) (a .field .now) ((volumes2-from-volumes3 (c .before)) .before .take-field .ensures)
-    (c .before .before .before .a2 .given .1) .firsts-long
+    (c .before .before .before .a2 .given .1) .mesh-cut .firsts-cut
 
 array-share-prefix-seconds : tie.Need-array-share-prefix-seconds
 array-share-prefix-seconds c =
     let a = (start-from-volumes3 (c .before)) .args in
     lendable (a .mesh .now) (a .field .now) ((volumes2-from-volumes3 (c .before)) .before .take-field .ensures)
-    (c .before .before .before .a2 .given .1) .seconds-fit
+    (c .before .before .before .a2 .given .1) .mesh-fits .seconds-long
 
 slice-aggregate-on-field-3 : tie.Need-slice-aggregate-on-field-3
 slice-aggregate-on-field-3 c =
     let a = (start-from-volumes3 (c .before .before)) .args in
     lendable (a .mesh .now) (a .field .now) ((volumes2-from-volumes3 (c .before .before)) .before .take-field .ensures)
-    (c .before .before .before .before .a2 .given .1) .seconds-long
+    (c .before .before .before .before .a2 .given .1) .mesh-cut .seconds-cut
 
 array-share-prefix-shares : tie.Need-array-share-prefix-shares
 array-share-prefix-shares c =
     let a = (start-from-volumes3 (c .before .before)) .args in
     lendable (a .mesh .now) (a .field .now) ((volumes2-from-volumes3 (c .before .before)) .before .take-field .ensures)
-    (c .before .before .before .before .a2 .given .1) .shares-fit
+    (c .before .before .before .before .a2 .given .1) .mesh-fits .shares-long
 
 slice-aggregate-on-field-4 : tie.Need-slice-aggregate-on-field-4
 slice-aggregate-on-field-4 c =
     let a = (start-from-volumes3 (c .before .before .before)) .args in
     lendable (a .mesh .now) (a .field .now) ((volumes2-from-volumes3 (c .before .before .before)) .before .take-field .ensures)
-    (c .before .before .before .before .before .a2 .given .1) .shares-long
+    (c .before .before .before .before .before .a2 .given .1) .mesh-cut .shares-cut
 
 array-share-prefix-reaches : tie.Need-array-share-prefix-reaches
 array-share-prefix-reaches c =
     let a = (start-from-volumes3 (c .before .before .before)) .args in
     lendable (a .mesh .now) (a .field .now) ((volumes2-from-volumes3 (c .before .before .before)) .before .take-field .ensures)
-    (c .before .before .before .before .before .a2 .given .1) .reaches-fit
+    (c .before .before .before .before .before .a2 .given .1) .mesh-fits .reaches-long
 
 slice-aggregate-on-field-5 : tie.Need-slice-aggregate-on-field-5
 slice-aggregate-on-field-5 c =
     let a = (start-from-volumes3 (c .before .before .before .before)) .args in
     lendable (a .mesh .now) (a .field .now) ((volumes2-from-volumes3 (c .before .before .before .before)) .before .take-field .ensures)
-    (c .before .before .before .before .before .before .a2 .given .1) .reaches-long
+    (c .before .before .before .before .before .before .a2 .given .1) .mesh-cut .reaches-cut
 
 array-share-prefix-masses : tie.Need-array-share-prefix-masses
 array-share-prefix-masses c =

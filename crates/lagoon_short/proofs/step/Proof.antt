@@ -3,8 +3,7 @@ use Prim.Native.Nat.{_≤_}
 use native.Mathlib.Omega.{arith}
 use borrow.Author.Needs.{needs}
 use Rattle.model.specs.Mesh.{runCells, runFaces}
-use Rattle.model.proofs.Parts.{part-long}
-use Rattle.taking_mesh.proofs.MeshLaws.{read-within}
+use Rattle.taking_mesh.proofs.MeshLaws.{read-within, parts-cut}
 use Rattle.lagoon_straight.proofs.Laws.{undone, mesh-within, records-put}
 use Rattle.lagoon_short.proofs.step.Statement.{statement}
 use Rattle.lagoon_short.proofs.step.Tie as tie
@@ -44,21 +43,21 @@ pub step-spec : {M : Type 1} → statement M
 step-spec =
     tie.close
     (tie.spec (search needs) (search needs) (search needs) (search needs) (search needs) (search needs) (search needs) (search needs) (λ c. undone)
-    (λ d. read-within 256 512 (reading d .read-mesh .ensures) few-cells few-faces (d .before .answer .given .1) .volumes-part .fits)
-    (λ c. let d = c .before in part-long (read-within 256 512 (reading d .read-mesh .ensures) few-cells few-faces (d .before .answer .given .1) .volumes-part))
-    (λ c. let d = c .before in read-within 256 512 (reading d .read-mesh .ensures) few-cells few-faces (d .before .answer .given .1) .firsts-part .fits)
+    (λ d. read-within 256 512 (reading d .read-mesh .ensures) few-cells few-faces (d .before .answer .given .1) .held .volumes-long)
+    (λ c. let d = c .before in parts-cut (read-within 256 512 (reading d .read-mesh .ensures) few-cells few-faces (d .before .answer .given .1)) .volumes-cut)
+    (λ c. let d = c .before in read-within 256 512 (reading d .read-mesh .ensures) few-cells few-faces (d .before .answer .given .1) .held .firsts-long)
     (λ c. let d = c .before .before in
-    part-long (read-within 256 512 (reading d .read-mesh .ensures) few-cells few-faces (d .before .answer .given .1) .firsts-part))
+    parts-cut (read-within 256 512 (reading d .read-mesh .ensures) few-cells few-faces (d .before .answer .given .1)) .firsts-cut)
     (λ c. let d = c .before .before in
-    read-within 256 512 (reading d .read-mesh .ensures) few-cells few-faces (d .before .answer .given .1) .seconds-part .fits)
+    read-within 256 512 (reading d .read-mesh .ensures) few-cells few-faces (d .before .answer .given .1) .held .seconds-long)
     (λ c. let d = c .before .before .before in
-    part-long (read-within 256 512 (reading d .read-mesh .ensures) few-cells few-faces (d .before .answer .given .1) .seconds-part))
+    parts-cut (read-within 256 512 (reading d .read-mesh .ensures) few-cells few-faces (d .before .answer .given .1)) .seconds-cut)
     (λ c. let d = c .before .before .before in
-    read-within 256 512 (reading d .read-mesh .ensures) few-cells few-faces (d .before .answer .given .1) .shares-part .fits)
+    read-within 256 512 (reading d .read-mesh .ensures) few-cells few-faces (d .before .answer .given .1) .held .shares-long)
     (λ c. let d = c .before .before .before .before in
-    part-long (read-within 256 512 (reading d .read-mesh .ensures) few-cells few-faces (d .before .answer .given .1) .shares-part))
+    parts-cut (read-within 256 512 (reading d .read-mesh .ensures) few-cells few-faces (d .before .answer .given .1)) .shares-cut)
     (λ c. let d = c .before .before .before .before in
-    read-within 256 512 (reading d .read-mesh .ensures) few-cells few-faces (d .before .answer .given .1) .reaches-part .fits)
+    read-within 256 512 (reading d .read-mesh .ensures) few-cells few-faces (d .before .answer .given .1) .held .reaches-long)
     (λ c. let d = c .before .before .before .before .before in
-    part-long (read-within 256 512 (reading d .read-mesh .ensures) few-cells few-faces (d .before .answer .given .1) .reaches-part))
+    parts-cut (read-within 256 512 (reading d .read-mesh .ensures) few-cells few-faces (d .before .answer .given .1)) .reaches-cut)
     on-mesh-requires (search needs) returns-2)

@@ -1,7 +1,6 @@
 -- `step`: the counted parts of the call's own tables are the mesh that its record holds.
 use borrow.Author.Needs.{needs}
-use Rattle.model.proofs.Parts.{part-long}
-use Rattle.taking_mesh.proofs.MeshLaws.{mesh-read}
+use Rattle.taking_mesh.proofs.MeshLaws.{mesh-read, parts-cut}
 use Rattle.lagoon_straight.proofs.Laws.{undone, mesh-within, records-put}
 use Rattle.lagoon_straight.proofs.step.Statement.{statement}
 use Rattle.lagoon_straight.proofs.step.Tie as tie
@@ -35,15 +34,15 @@ pub step-spec : {M : Type 1} → statement M
 step-spec =
     tie.close
     (tie.spec (search needs) (search needs) (search needs) (search needs) (search needs) (search needs) (search needs) (search needs) (λ c. undone)
-    (λ d. mesh-read (reading d .read-mesh .ensures) (d .before .answer .given .1) .volumes-part .fits)
-    (λ c. let d = c .before in part-long (mesh-read (reading d .read-mesh .ensures) (d .before .answer .given .1) .volumes-part))
-    (λ c. let d = c .before in mesh-read (reading d .read-mesh .ensures) (d .before .answer .given .1) .firsts-part .fits)
-    (λ c. let d = c .before .before in part-long (mesh-read (reading d .read-mesh .ensures) (d .before .answer .given .1) .firsts-part))
-    (λ c. let d = c .before .before in mesh-read (reading d .read-mesh .ensures) (d .before .answer .given .1) .seconds-part .fits)
-    (λ c. let d = c .before .before .before in part-long (mesh-read (reading d .read-mesh .ensures) (d .before .answer .given .1) .seconds-part))
-    (λ c. let d = c .before .before .before in mesh-read (reading d .read-mesh .ensures) (d .before .answer .given .1) .shares-part .fits)
-    (λ c. let d = c .before .before .before .before in part-long (mesh-read (reading d .read-mesh .ensures) (d .before .answer .given .1) .shares-part))
-    (λ c. let d = c .before .before .before .before in mesh-read (reading d .read-mesh .ensures) (d .before .answer .given .1) .reaches-part .fits)
+    (λ d. mesh-read (reading d .read-mesh .ensures) (d .before .answer .given .1) .held .volumes-long)
+    (λ c. let d = c .before in parts-cut (mesh-read (reading d .read-mesh .ensures) (d .before .answer .given .1)) .volumes-cut)
+    (λ c. let d = c .before in mesh-read (reading d .read-mesh .ensures) (d .before .answer .given .1) .held .firsts-long)
+    (λ c. let d = c .before .before in parts-cut (mesh-read (reading d .read-mesh .ensures) (d .before .answer .given .1)) .firsts-cut)
+    (λ c. let d = c .before .before in mesh-read (reading d .read-mesh .ensures) (d .before .answer .given .1) .held .seconds-long)
+    (λ c. let d = c .before .before .before in parts-cut (mesh-read (reading d .read-mesh .ensures) (d .before .answer .given .1)) .seconds-cut)
+    (λ c. let d = c .before .before .before in mesh-read (reading d .read-mesh .ensures) (d .before .answer .given .1) .held .shares-long)
+    (λ c. let d = c .before .before .before .before in parts-cut (mesh-read (reading d .read-mesh .ensures) (d .before .answer .given .1)) .shares-cut)
+    (λ c. let d = c .before .before .before .before in mesh-read (reading d .read-mesh .ensures) (d .before .answer .given .1) .held .reaches-long)
     (λ c. let d = c .before .before .before .before .before in
-    part-long (mesh-read (reading d .read-mesh .ensures) (d .before .answer .given .1) .reaches-part))
+    parts-cut (mesh-read (reading d .read-mesh .ensures) (d .before .answer .given .1)) .reaches-cut)
     on-mesh-requires (search needs) returns-2)

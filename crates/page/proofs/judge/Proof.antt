@@ -23,7 +23,7 @@ page-bytes-requires c κs =
     (c .rest-places .ensures .1, few _ _ (passes (told .before .before .field-lent .ensures) (told .enum-told .given .1)) .0)
 
 rest-places-requires : tie.Need-rest-places-requires
-rest-places-requires c κs = mesh-long _ (both-fine _ _ (passes (c .before .before .field-lent .ensures) (c .enum-told .given .1)) .0) .0
+rest-places-requires c κs = mesh-long _ (both-fine _ _ (passes (c .before .before .field-lent .ensures) (c .enum-told .given .1)) .0) .volumes-long
 
 pages-requires : tie.Need-pages-requires
 pages-requires c κs =

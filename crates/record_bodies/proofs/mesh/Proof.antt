@@ -6,11 +6,14 @@ use native.Mathlib.Omega.{arith}
 use borrow.Author.Needs.{needs}
 use lib.ListN.{length}
 use Rattle.lists.specs.Table.{table, over}
+use Rattle.model.specs.Mesh.{meshOf}
+use Rattle.model.proofs.Parts.{laid-over}
 use Rattle.record_bits.specs.Field.{bitsAt, widest}
 use Rattle.record_sections.specs.Sections.{Section, columnIn}
 use Rattle.record_sections.proofs.Bodies.{Column, column-is, column-room}
 use Rattle.record_layouts.specs.Layouts.{meshKind, endBits, shareBits, valueBits, faceBits, meshBody}
 use Rattle.record_layouts.proofs.Layouts.{value-most, mesh-value, volumes-at, firsts-at, seconds-at, shares-at, reaches-at}
+use Rattle.record_bodies.specs.Bodies.{bodyMesh}
 use Rattle.record_bodies.proofs.mesh.Statement.{statement}
 use Rattle.record_bodies.proofs.mesh.Tie as tie
 
@@ -49,7 +52,7 @@ read-column-requires : tie.Need-read-column-requires
 read-column-requires c κs =
     let v = c .before in
     let s = start v in
-    rw (value-is v) (asks s (volumes-at (kind s) (s .args .cells) (s .args .faces)) (value-small v) (s .pre .volumes-long))
+    rw (value-is v) (asks s (volumes-at (kind s) (s .args .cells) (s .args .faces)) (value-small v) (s .pre .long .volumes-long))
 
 mul-read-faces : tie.Need-mul-read-faces
 mul-read-faces c =
@@ -66,10 +69,10 @@ read-faces-requires c κs =
       narrow = omega (arith, value-most (kind s));
       small = omega (arith, s .pre .small);
       holds = λ f h. omega (arith, column-room reach (s .pre .holds) f h);
-      firsts-long = s .pre .firsts-long;
-      seconds-long = s .pre .seconds-long;
-      shares-long = s .pre .shares-long;
-      reaches-long = s .pre .reaches-long;
+      firsts-long = s .pre .long .firsts-long;
+      seconds-long = s .pre .long .seconds-long;
+      shares-long = s .pre .long .shares-long;
+      reaches-long = s .pre .long .reaches-long;
     })
 
 returns : tie.Need-returns
@@ -83,13 +86,13 @@ returns c =
     let f = s .args .faces in
     let at = n * valueBits k in
     let read = rw (value-is v) at (faces .read-faces .ensures) in
-    record {
-      volumes-full = taken s (volumes-at k n f) (s .args .volumes .now) (rw (value-is v) at (volumes .read-column .ensures));
-      firsts-full = taken s (firsts-at k n f {p = at} refl) (s .args .firsts .now) (read .firsts-in);
-      seconds-full = taken s (seconds-at k n f {p = at + endBits} refl) (s .args .seconds .now) (read .seconds-in);
-      shares-full = taken s (shares-at k n f {p = at + endBits + endBits} refl) (s .args .shares .now) (read .shares-in);
-      reaches-full = taken s (reaches-at k n f {p = at + endBits + endBits + shareBits} refl) (s .args .reaches .now) (read .reaches-in);
-    }
+    laid-over (bodyMesh k n f (s .args .body .now)) (meshOf n f (s .args .volumes .now) (s .args .firsts .now) (s .args .seconds .now) (s .args .shares .now)
+    (s .args .reaches .now))
+    (taken s (volumes-at k n f) (s .args .volumes .now) (rw (value-is v) at (volumes .read-column .ensures)))
+    (taken s (firsts-at k n f {p = at} refl) (s .args .firsts .now) (read .firsts-in))
+    (taken s (seconds-at k n f {p = at + endBits} refl) (s .args .seconds .now) (read .seconds-in))
+    (taken s (shares-at k n f {p = at + endBits + endBits} refl) (s .args .shares .now) (read .shares-in))
+    (taken s (reaches-at k n f {p = at + endBits + endBits + shareBits} refl) (s .args .reaches .now) (read .reaches-in))
 
 pub mesh-spec : {M : Type 1} → statement M
 mesh-spec =

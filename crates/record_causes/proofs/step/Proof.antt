@@ -64,7 +64,7 @@ step-bytes-requires c κs =
     let told = c .before .before .before in
     let lent = passes (told .before .before .mesh-lent .ensures) (told .enum-told .given .1) in
     let n = counted _ (both-fine _ _ lent .0) in
-    (n .few-cells, n .few-faces, mesh-long _ lent .2)
+    (n .few-cells, n .few-faces, mesh-long _ lent .seconds-long)
 
 returns-2 : tie.Need-returns-2
 returns-2 c =
@@ -83,7 +83,7 @@ values-requires-3 c κs =
     let k = told .before .before in
     let mesh = mesh-long _ (lent k) in
     let water = longs k (told .enum-told2 .given .1) in
-    (mesh .2, mesh .4, water .0, water .1)
+    (mesh .seconds-long, mesh .reaches-long, water .0, water .1)
 
 returns-3 : tie.Need-returns-3
 unfolding outsideGood fluxGood

@@ -3,12 +3,14 @@ use Prim.Native.Nat.{_≤_}
 use mathlib.Core.Path.{_≡_, sym, ap, _∙_}
 use borrow.Author.Needs.{needs}
 use lib.ListN.{length}
+use Rattle.model.specs.Mesh.{Mesh, meshOf}
+use Rattle.model.specs.Meshes.{atCounts}
 use Rattle.model.specs.Causes.{accepted}
-use Rattle.record_heads.specs.Heads.{kindIn, cellsIn, facesIn}
+use Rattle.record_heads.specs.Heads.{kindIn}
 use Rattle.record_sections.proofs.Bodies.{bodyOf}
 use Rattle.record_reading.specs.declared.MeshCounts.{MeshCounts}
 use Rattle.record_reading.specs.declared.MeshAnswer.the-variants as mesh
-use Rattle.record_reading.specs.Reading.{meshRead}
+use Rattle.record_reading.specs.Reading.{meshIn, meshReadInto}
 use Rattle.record_reading.specs.Answers.{meshSaid}
 use Rattle.record_bodies.specs.Bodies.{MeshRoom}
 use Rattle.record_reading.proofs.ReadLaws.{mesh-kind-is, ReadSays, read-says, mesh-refused, mesh-accepted}
@@ -16,21 +18,21 @@ use Rattle.record_reading.proofs.BodyLaws.{meshHeadBytes, mesh-room, me
 use Rattle.record_reading.proofs.read_mesh.Statement.{statement}
 use Rattle.record_reading.proofs.read_mesh.Tie as tie
 
+abbrev lent : tie.Start → Mesh
+lent s = meshOf (s .args .most-cells) (s .args .most-faces) (s .args .volumes .now) (s .args .firsts .now) (s .args .seconds .now) (s .args .shares .now)
+    (s .args .reaches .now)
+
 abbrev comes : tie.Start → MeshCounts → Type 0
-comes s n = meshRead (s .args .most-cells) (s .args .most-faces) (s .args .bytes .now)
-    (length (s .args .volumes .now)) (length (s .args .firsts .now)) (length (s .args .seconds .now)) (length (s .args .shares .now))
-    (length (s .args .reaches .now)) ≡ accepted n
+comes s n = meshReadInto (s .args .bytes .now) (lent s) ≡ accepted n
 
 says : (s : tie.Start) {n : MeshCounts} → comes s n → ReadSays (s .args .most-cells) (s .args .most-faces) (s .args .bytes .now) n
     (length (s .args .volumes .now)) (length (s .args .firsts .now)) (length (s .args .seconds .now)) (length (s .args .shares .now))
     (length (s .args .reaches .now))
 says s e = read-says _ _ _ _ _ _ _ _ e
 
-room : (s : tie.Start) {n : MeshCounts} → comes s n → let bs = s .args .bytes .now in (meshHeadBytes ≤ length bs)
-    × MeshRoom (kindIn bs) (cellsIn bs) (facesIn bs) (bodyOf meshHeadBytes bs)
-    (length (s .args .volumes .now)) (length (s .args .firsts .now)) (length (s .args .seconds .now)) (length (s .args .shares .now))
-    (length (s .args .reaches .now))
-room s e = let k = says s e in mesh-room (s .args .bytes .now) (k .head .few-cells) (k .head .few-faces) (k .tables)
+room : (s : tie.Start) {n : MeshCounts} → comes s n → let bs = s .args .bytes .now in
+    (meshHeadBytes ≤ length bs) × MeshRoom (kindIn bs) (bodyOf meshHeadBytes bs) (atCounts (meshIn bs) (lent s))
+room s e = let k = says s e in mesh-room (s .args .bytes .now) (lent s) (k .head .few-cells) (k .head .few-faces) (k .tables)
 
 -- the start from where the tests were made
 abbrev start : tie.After-mesh → tie.Start
@@ -72,7 +74,7 @@ returns-2 c =
     let t = told .before .before in
     let s = start t in
     let e = sym (t .mesh .ensures) ∙ ap meshSaid (told .a .given .1) in
-    mesh-accepted e (mesh-filled (s .args .bytes .now)
+    mesh-accepted e (mesh-filled (s .args .bytes .now) (atCounts (meshIn (s .args .bytes .now)) (lent s)) (lent s)
     (rw (says s e .counts-are, mesh-kind-is (kindIn (s .args .bytes .now)) (says s e .head .kind)) at (body .mesh2 .ensures)))
 
 -- the tables that were filled keep their lengths

@@ -1,11 +1,18 @@
 -- `keep`: where nothing is found the lent tables hold the mesh, and each copy fills one of them.
+use Prim.Native.Nat.{ℕ, _≤_}
 use mathlib.Core.Path.{_≡_, refl, sym, ap, _∙_}
+use native.Mathlib.Omega.{arith}
 use borrow.Author.Needs.{needs}
 use Rattle.model.specs.Mesh.{Mesh, meshOf, runCells, runFaces}
+use Rattle.model.specs.Meshes.{atCounts, MeshCut}
+use Rattle.model.specs.Accepted.{MeshLent}
 use Rattle.model.specs.Causes.{fine, meshTables}
 use Rattle.model.specs.Answers.{said}
+use Rattle.model.proofs.Verdicts.{both-fine}
+use Rattle.model.proofs.Accepted.{mesh-lent}
+use Rattle.model.proofs.Parts.{laid-over}
 use Rattle.taking_mesh.specs.Inner.{keptFound}
-use Rattle.taking_mesh.proofs.MeshLaws.{kept-refused, kept-accepted, Room, room}
+use Rattle.taking_mesh.proofs.MeshLaws.{kept-refused, kept-accepted}
 use Rattle.taking_mesh.proofs.mesh.keep.Statement.{statement}
 use Rattle.taking_mesh.proofs.mesh.keep.Tie as tie
 
@@ -39,8 +46,15 @@ returns c =
 passes : (c : tie.After-enum-told) → let s = start (c .before .before) in keptFound (lent s) (read s) ≡ fine
 passes c = sym (found (c .before .before)) ∙ ap said (c .enum-told .given .1)
 
-rooms : (c : tie.After-enum-told) → let s = start (c .before .before) in Room (read s) (lent s)
-rooms c = let s = start (c .before .before) in room (read s) (lent s) (s .pre) (passes c)
+-- so each column fits into its table
+held : (c : tie.After-enum-told) → let s = start (c .before .before) in MeshLent (atCounts (read s) (lent s))
+held c = let s = start (c .before .before) in mesh-lent (atCounts (read s) (lent s)) (both-fine _ _ (passes c) .0)
+
+cut : (c : tie.After-enum-told) → MeshCut (read (start (c .before .before)))
+cut c = start (c .before .before) .pre
+
+fits : {m n k : ℕ} → n ≡ m → n ≤ k → m ≤ k
+fits e l = omega (arith, e, l)
 
 -- from each copy back to the one before
 abbrev volumes : tie.After-copy2 → tie.After-copy
@@ -59,19 +73,19 @@ abbrev told : tie.After-copy → tie.After-enum-told
 told c = c .before .before
 
 copy-requires : tie.Need-copy-requires
-copy-requires c κs = rooms (c .before) .volumes-room
+copy-requires c κs = let t = c .before in fits (cut t .volumes-cut) (held t .volumes-long)
 
 copy-requires-2 : tie.Need-copy-requires-2
-copy-requires-2 c κs = rooms (told (c .before .before .before)) .firsts-room
+copy-requires-2 c κs = let t = told (c .before .before .before) in fits (cut t .firsts-cut) (held t .firsts-long)
 
 copy-requires-3 : tie.Need-copy-requires-3
-copy-requires-3 c κs = rooms (told (volumes (c .before .before .before))) .seconds-room
+copy-requires-3 c κs = let t = told (volumes (c .before .before .before)) in fits (cut t .seconds-cut) (held t .seconds-long)
 
 copy-requires-4 : tie.Need-copy-requires-4
-copy-requires-4 c κs = rooms (told (volumes (firsts (c .before .before .before)))) .shares-room
+copy-requires-4 c κs = let t = told (volumes (firsts (c .before .before .before))) in fits (cut t .shares-cut) (held t .shares-long)
 
 copy-requires-5 : tie.Need-copy-requires-5
-copy-requires-5 c κs = rooms (told (volumes (firsts (seconds (c .before .before .before))))) .reaches-room
+copy-requires-5 c κs = let t = told (volumes (firsts (seconds (c .before .before .before)))) in fits (cut t .reaches-cut) (held t .reaches-long)
 
 -- each table is as long as it was: what was left of it stands right after its copy
 same-length : tie.Need-same-length
@@ -98,7 +112,7 @@ returns-2 c =
     let v = volumes f in
     let s = start (told v .before .before) in
     kept-accepted (s .args .width) (read s) (lent s) (passes (told v))
-    (v .copy .ensures) (f .copy2 .ensures) (k .copy3 .ensures) (w .copy4 .ensures) (r .copy5 .ensures)
+    (laid-over (read s) (lent s) (v .copy .ensures) (f .copy2 .ensures) (k .copy3 .ensures) (w .copy4 .ensures) (r .copy5 .ensures))
 
 pub keep-spec : {M : Type 1} → statement M
 keep-spec =

@@ -2,8 +2,7 @@
 use mathlib.Core.Path.{refl}
 use borrow.Author.Needs.{needs}
 use Rattle.model.specs.Mesh.{meshOf, runCells, runFaces}
-use Rattle.model.proofs.Parts.{part-long}
-use Rattle.taking_mesh.proofs.MeshLaws.{mesh-unread, mesh-read, keep-asks, mesh-done}
+use Rattle.taking_mesh.proofs.MeshLaws.{mesh-unread, mesh-read, parts-cut, mesh-done}
 use Rattle.taking_mesh.proofs.mesh.take_mesh.Statement.{statement}
 use Rattle.taking_mesh.proofs.mesh.take_mesh.Tie as tie
 
@@ -35,7 +34,7 @@ returns c =
     (meshOf runCells runFaces (a .volumes .now) (a .firsts .now) (a .seconds .now) (a .shares .now) (a .reaches .now))
 
 keep-requires : tie.Need-keep-requires
-keep-requires c κs = let d = lent (c .before .before .before .before) in keep-asks (mesh-read (reading d .read-mesh .ensures) (d .before .answer .given .1))
+keep-requires c κs = let d = lent (c .before .before .before .before) in parts-cut (mesh-read (reading d .read-mesh .ensures) (d .before .answer .given .1))
 
 returns-2 : tie.Need-returns-2
 returns-2 c =
@@ -47,17 +46,17 @@ pub take-mesh-spec : {M : Type 1} → statement M
 take-mesh-spec =
     tie.close
     (tie.spec (search needs) (search needs) (search needs) (search needs) (search needs) (search needs) (search needs) (search needs) returns
-    (λ d. mesh-read (reading d .read-mesh .ensures) (d .before .answer .given .1) .volumes-part .fits)
-    (λ c. let d = c .before in part-long (mesh-read (reading d .read-mesh .ensures) (d .before .answer .given .1) .volumes-part))
-    (λ c. let d = c .before in mesh-read (reading d .read-mesh .ensures) (d .before .answer .given .1) .firsts-part .fits)
-    (λ c. let d = c .before .before in part-long (mesh-read (reading d .read-mesh .ensures) (d .before .answer .given .1) .firsts-part))
-    (λ c. let d = c .before .before in mesh-read (reading d .read-mesh .ensures) (d .before .answer .given .1) .seconds-part .fits)
-    (λ c. let d = c .before .before .before in part-long (mesh-read (reading d .read-mesh .ensures) (d .before .answer .given .1) .seconds-part))
-    (λ c. let d = c .before .before .before in mesh-read (reading d .read-mesh .ensures) (d .before .answer .given .1) .shares-part .fits)
-    (λ c. let d = c .before .before .before .before in part-long (mesh-read (reading d .read-mesh .ensures) (d .before .answer .given .1) .shares-part))
-    (λ c. let d = c .before .before .before .before in mesh-read (reading d .read-mesh .ensures) (d .before .answer .given .1) .reaches-part .fits)
+    (λ d. mesh-read (reading d .read-mesh .ensures) (d .before .answer .given .1) .held .volumes-long)
+    (λ c. let d = c .before in parts-cut (mesh-read (reading d .read-mesh .ensures) (d .before .answer .given .1)) .volumes-cut)
+    (λ c. let d = c .before in mesh-read (reading d .read-mesh .ensures) (d .before .answer .given .1) .held .firsts-long)
+    (λ c. let d = c .before .before in parts-cut (mesh-read (reading d .read-mesh .ensures) (d .before .answer .given .1)) .firsts-cut)
+    (λ c. let d = c .before .before in mesh-read (reading d .read-mesh .ensures) (d .before .answer .given .1) .held .seconds-long)
+    (λ c. let d = c .before .before .before in parts-cut (mesh-read (reading d .read-mesh .ensures) (d .before .answer .given .1)) .seconds-cut)
+    (λ c. let d = c .before .before .before in mesh-read (reading d .read-mesh .ensures) (d .before .answer .given .1) .held .shares-long)
+    (λ c. let d = c .before .before .before .before in parts-cut (mesh-read (reading d .read-mesh .ensures) (d .before .answer .given .1)) .shares-cut)
+    (λ c. let d = c .before .before .before .before in mesh-read (reading d .read-mesh .ensures) (d .before .answer .given .1) .held .reaches-long)
     (λ c. let d = c .before .before .before .before .before in
-    part-long (mesh-read (reading d .read-mesh .ensures) (d .before .answer .given .1) .reaches-part))
+    parts-cut (mesh-read (reading d .read-mesh .ensures) (d .before .answer .given .1)) .reaches-cut)
     keep-requires
     (λ c. c .before .before .before .before .before .before .before .before .before .volumes .given)
     (λ c. c .before .before .before .before .before .before .before .firsts .given)
