@@ -1,5 +1,5 @@
 -- As `step`; the tests have spent the counted entries of the next masses, which the passes write over.
-use mathlib.Core.Path.{_≡_, sym, _∙_, ap}
+use mathlib.Core.Path.{_≡_, refl, sym, _∙_, ap}
 use native.Mathlib.Omega.{arith}
 use borrow.Author.Needs.{needs}
 use Rattle.model.specs.Mesh.{Mesh, meshOf}
@@ -72,5 +72,6 @@ returns-2 c =
 pub step-in-spec : {M : Type 1} → statement M
 step-in-spec =
     tie.close
-    (tie.spec (λ c κs. tables (c .before .before .before .before) .pre) (search needs) (search needs) (search needs) (search needs) returns
-    (search needs) advance-requires sum-of-requires (search needs) (search needs) (search needs) returns-2)
+    (tie.spec (λ c κs. tables (c .before .before .before .before) .pre) (search needs) (λ c. c .before .before .before .before .next .given)
+    (λ c. refl) (λ c. refl) returns (search needs) advance-requires sum-of-requires (search needs) (λ c. c .before .before .before .moved .given)
+    (λ c. c .before .before .work .given) returns-2)

@@ -44,6 +44,10 @@ returns-2 c =
     step-done (stepped t .step-in .ensures) (s .pre .0 .0) (s .pre .0 .1) (s .pre .0 .2) (t .before .answer2 .given .1) (copied .copy .ensures)
     (c .sum-of .ensures)
 
+-- each lent table is as long as it was: what is given of it right after the call that filled it
+abbrev told : tie.After-sum-of → tie.After-known-told2
+told c = c .before .before .before .before .before .before .before
+
 pub stepped-spec : {M : Type 1} → statement M
 stepped-spec =
     tie.close
@@ -56,12 +60,12 @@ stepped-spec =
     copy-requires
     sum-of-requires
     (search needs)
-    (search needs)
-    (search needs)
-    (search needs)
+    (λ c. c .before .before .before .before .before .before .before .next .given)
+    (λ c. c .before .before .before .before .before .moved .given)
+    (λ c. c .before .before .before .before .work .given)
     returns
-    (search needs)
-    (search needs)
-    (search needs)
-    (search needs)
+    (λ c. c .before .before .before .masses .given)
+    (λ c. told c .before .before .before .before .before .before .before .next .given)
+    (λ c. told c .before .before .before .before .before .moved .given)
+    (λ c. told c .before .before .before .before .work .given)
     returns-2)

@@ -72,15 +72,21 @@ returns-2 c =
     step-took (s .args .width) (mesh s) (s .args .masses .now) (reading t .read-step .ensures) (s .pre .0 .0) (s .pre .0 .1) (s .pre .0 .2)
     (t .enum-told .given .1) (u .stepped .ensures)
 
+-- each lent table is as long as it was: what is given of it right after the call that filled it
+abbrev accepted : tie.After-slice-known10 → tie.After-enum-told
+accepted c =
+    let called = c .before .before .before .before .before .before .before in
+    called .before .before .before .before .before .before .before .before
+
 pub take-step-in-spec : {M : Type 1} → statement M
 take-step-in-spec =
     tie.close
     (tie.spec
     (search needs)
     (search needs)
-    (search needs)
-    (search needs)
-    (search needs)
+    (λ c. c .before .before .before .before .before .before .before .fluxes .given)
+    (λ c. c .before .before .before .before .before .before .outsides .given)
+    (λ c. c .before .before .before .before .releases .given)
     returns
     (search needs)
     slice-reshare-prefix-stepped
@@ -90,11 +96,11 @@ take-step-in-spec =
     slice-reshare-prefix-stepped-3
     slice-aggregate-stepped-3
     stepped-requires
-    (search needs)
-    (search needs)
-    (search needs)
-    (search needs)
-    (search needs)
-    (search needs)
-    (search needs)
+    (λ c. c .before .before .before .before .before .before .masses .given)
+    (λ c. accepted c .before .before .before .before .before .before .fluxes .given)
+    (λ c. accepted c .before .before .before .before .before .outsides .given)
+    (λ c. accepted c .before .before .before .releases .given)
+    (λ c. c .before .before .before .before .next .given)
+    (λ c. c .before .before .moved .given)
+    (λ c. c .before .work .given)
     returns-2)
