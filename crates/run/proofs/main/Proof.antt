@@ -1,5 +1,6 @@
 -- The mesh that is taken is accepted, so that its values are not judged again at each step.
 use borrow.Author.Needs.{needs}
+use mathlib.Core.Path.{refl}
 use Rattle.run.proofs.Kept.{kept-values}
 use Rattle.run.proofs.main.Statement.{statement}
 use Rattle.run.proofs.main.Tie as tie
@@ -13,26 +14,26 @@ pub main-spec : {M : Type 1} → statement M
 main-spec =
     tie.close
     (tie.spec
+    (λ c κs. tt)
+    (λ c. refl)
+    (search needs)
+    (λ c. tt)
+    (search needs)
+    (search needs)
+    (λ c. refl)
+    (λ c. refl)
+    (λ c. refl)
+    (λ c. refl)
+    (λ c. refl)
+    (λ c κs. tt)
     (search needs)
     (search needs)
     (search needs)
+    (λ c κs. tt)
     (search needs)
     (search needs)
-    (search needs)
-    (search needs)
-    (search needs)
-    (search needs)
-    (search needs)
-    (search needs)
-    (search needs)
-    (search needs)
-    (search needs)
-    (search needs)
-    (search needs)
-    (search needs)
-    (search needs)
-    (search needs)
-    (search needs)
+    (λ c. tt)
+    (λ c. tt)
     (search needs)
     (search needs)
     (search needs)
@@ -40,4 +41,4 @@ main-spec =
     (search needs)
     (search needs)
     run-on-requires
-    (search needs))
+    (λ c. tt))
