@@ -41,7 +41,8 @@ limited-start M work next moved e =
 pub no-cut : (f l k code : ℕ) (work next : List ℕ) (moved : List ℤ) → code / overSign ≡ 0 → CutDone f l k code work next next moved moved
 unfolding limitedOf
 no-cut f l k code work next moved e = record {
-  flowed = rw (eq-eqb (code / overSign) 0 e) (record { same-length = refl; at = λ c h. omega (arith, cond-same {A = ℕ} (eqb l c) 0, cond-same {A = ℕ} (eqb k c) 0) });
+  flowed = rw (eq-eqb (code / overSign) 0 e)
+      (record { same-length = refl; at = λ c h. omega (arith, cond-same {A = ℕ} (eqb l c) 0, cond-same {A = ℕ} (eqb k c) 0) });
   moved-long = refl;
   moved-at = λ g. rw (eq-eqb (code / overSign) 0 e, +ℤ-idr (getD moved f (pos 0))) (either g (eqb f g) (same? f g));
 }

@@ -78,7 +78,8 @@ returns c =
     let k = number s in
     let q = s .args .seconds .now in
     record {
-      fluxes-full = r .read-signed .ensures ∙ ap (λ zs. over zs (s .args .fluxes .now)) (fluxes-taken b k (s .args .cells) (s .args .faces) q (value-is (n .before)));
+      fluxes-full = r .read-signed .ensures ∙ ap (λ zs. over zs (s .args .fluxes .now))
+          (fluxes-taken b k (s .args .cells) (s .args .faces) q (value-is (n .before)));
       outsides-full = m .read-marked .ensures .1 ∙ ap (λ xs. over xs (s .args .outsides .now))
           (outsides-taken b k (s .args .cells) (s .args .faces) q {p = n .new .result .at} (outside-first n));
       releases-full = l .read-column .ensures ∙ ap (λ xs. over xs (s .args .releases .now))
