@@ -70,19 +70,19 @@ pub fn cut(words: &[u64], ints: &[i64]) {
     let mut fluxes1 = held_amounts(words, ints, 27);
     let mut outsides1 = held(words, 28);
     let mut releases1 = held(words, 29);
+    let cells = number(words, 0);
+    let faces = number(words, 1);
+    let volumes = table(words, 2);
+    let firsts = table(words, 3);
+    let seconds = table(words, 4);
+    let shares = table(words, 5);
+    let reaches = table(words, 6);
+    let masses = table(words, 7);
+    let fluxes = amounts(words, ints, 8);
+    let outsides = table(words, 9);
+    let releases = table(words, 10);
+    let labels = table(words, 11);
     answer(cutting::cut(
-        number(words, 0),
-        number(words, 1),
-        table(words, 2),
-        table(words, 3),
-        table(words, 4),
-        table(words, 5),
-        table(words, 6),
-        table(words, 7),
-        amounts(words, ints, 8),
-        table(words, 9),
-        table(words, 10),
-        table(words, 11),
         &mut volumes0[..size(words, 12)],
         &mut firsts0[..size(words, 13)],
         &mut seconds0[..size(words, 14)],
@@ -101,6 +101,18 @@ pub fn cut(words: &[u64], ints: &[i64]) {
         &mut fluxes1[..size(words, 27)],
         &mut outsides1[..size(words, 28)],
         &mut releases1[..size(words, 29)],
+        cells,
+        faces,
+        volumes,
+        firsts,
+        seconds,
+        shares,
+        reaches,
+        masses,
+        fluxes,
+        outsides,
+        releases,
+        labels,
     ));
     show::part_numbers(b"; volumes0", size(words, 12), &volumes0);
     show::part_numbers(b"; firsts0", size(words, 13), &firsts0);

@@ -19,20 +19,9 @@ pub enum CutAnswer {
     Refused(Refusal),
 }
 
-// A lagoon cut along its labels. The tables of each part are lent at the whole's counts.
+// A lagoon cut along its labels. The tables of each part are lent at the whole's counts; they stand first, since a lent table that is handed
+// on costs the check by how many arguments stand before it.
 pub fn cut(
-    cells: usize,
-    faces: usize,
-    volumes: &[u64],
-    firsts: &[u64],
-    seconds: &[u64],
-    shares: &[u64],
-    reaches: &[u64],
-    masses: &[u64],
-    fluxes: &[i64],
-    outsides: &[u64],
-    releases: &[u64],
-    labels: &[u64],
     volumes0: &mut [u64],
     firsts0: &mut [u64],
     seconds0: &mut [u64],
@@ -51,6 +40,18 @@ pub fn cut(
     fluxes1: &mut [i64],
     outsides1: &mut [u64],
     releases1: &mut [u64],
+    cells: usize,
+    faces: usize,
+    volumes: &[u64],
+    firsts: &[u64],
+    seconds: &[u64],
+    shares: &[u64],
+    reaches: &[u64],
+    masses: &[u64],
+    fluxes: &[i64],
+    outsides: &[u64],
+    releases: &[u64],
+    labels: &[u64],
 ) -> CutAnswer
     ensures { λ r. ⌜ CutPromise (lagoonOf cells faces (tablesOf (now (volumes .entry)) (now (firsts .entry)) (now (seconds .entry)) (now (shares .entry))
         (now (reaches .entry)) (now (masses .entry)) (now (fluxes .entry)) (now (outsides .entry)) (now (releases .entry)))) (now (labels .entry))

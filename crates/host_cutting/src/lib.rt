@@ -52,18 +52,6 @@ pub extern "C" fn lagoon_table_cut(
         (now (found .exit)) ⌝ }
 {
     let answer = cutting::cut(
-        cells,
-        faces,
-        volumes,
-        firsts,
-        seconds,
-        shares,
-        reaches,
-        masses,
-        fluxes,
-        outsides,
-        releases,
-        labels,
         volumes0,
         firsts0,
         seconds0,
@@ -82,6 +70,18 @@ pub extern "C" fn lagoon_table_cut(
         fluxes1,
         outsides1,
         releases1,
+        cells,
+        faces,
+        volumes,
+        firsts,
+        seconds,
+        shares,
+        reaches,
+        masses,
+        fluxes,
+        outsides,
+        releases,
+        labels,
     );
     answered(answer, found)
 }

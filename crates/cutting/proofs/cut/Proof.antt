@@ -9,14 +9,14 @@ use Rattle.cutting.proofs.cut.Statement.{statement}
 use Rattle.cutting.proofs.cut.Tie as tie
 
 -- from where the causes were tested back to the start
-abbrev shared : tie.After-shared-slice-known9 → tie.Start
+abbrev shared : tie.After-shared-slice-known9 → tie.After-slice-known16
 shared c = c .before .before .before .before .before .before .before .before .before
 
-abbrev half : tie.After-slice-known8 → tie.After-shared-slice-known9
+abbrev half : tie.After-slice-known16 → tie.After-slice-known8
 half c = c .before .before .before .before .before .before .before .before
 
 abbrev start : tie.After-verdict → tie.Start
-start c = shared (half (c .before .before .before .before .before .before .before .before .before))
+start c = half (shared (c .before)) .before .before .before .before .before .before .before .before
 
 -- what is lent
 abbrev whole : tie.Start → Lagoon
