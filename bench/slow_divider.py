@@ -1,7 +1,7 @@
 #!/usr/bin/env python3
 """The engine beside plain C on a processor whose divider is slow, made of one whose divider is fast.
 
-slow_divider.py [--repeats N] [--write PAGE]
+slow_divider.py [--built] [--repeats N] [--write PAGE]
 
 Every division in the machine code of all programs, the engine's and plain C's, is done several times, each once more only when the one before
 has its quotient: twice one of 32 bits, four times one of 64. So long it takes, and so long the divider is taken. What a division then takes is
@@ -69,7 +69,7 @@ def wrapper(path, compiler):
 
 
 def tree():
-    """The copy of the tree, with libraries and stamps of target/ but no programs; the environment in which compilers are slowed."""
+    """The copy of the tree, with libraries and stamps of target/ but no programs, and the compilers that are slowed."""
     shutil.rmtree(SLOW, ignore_errors=True)
     (SLOW / "target" / "stamp").mkdir(parents=True)
     for name in COPIED:
@@ -87,13 +87,16 @@ def tree():
             if not link.exists():
                 link.symlink_to(path)
     wrapper(SLOW / "bin" / "gcc", shutil.which("gcc"))
-    return {**os.environ, "RATTLE_HOME": str(kit), "PATH": f"{SLOW / 'bin'}:{os.environ['PATH']}"}
 
 
-def proved(words, environment):
-    done = subprocess.run(["rt", *words], cwd=SLOW, env=environment, capture_output=True, text=True)
-    if done.returncode:
-        sys.exit((done.stdout + done.stderr)[-2000:])
+def programs(environment):
+    """The engine's, proved once more and compiled by the slowed compiler."""
+    for words in (["check", *PROGRAMS], ["staticlib", LIBRARY]):
+        done = subprocess.run(["rt", *words], cwd=SLOW, env=environment, capture_output=True, text=True)
+        if done.returncode:
+            sys.exit((done.stdout + done.stderr)[-2000:])
+    (SLOW / "target" / "lib").mkdir()
+    shutil.copy(SLOW / "target" / "staticlib" / f"lib{LIBRARY}.a", SLOW / "target" / "lib" / "liblagoon.a")
 
 
 def division_times(environment):
@@ -123,14 +126,14 @@ int main(void) {{
 def main():
     parser = argparse.ArgumentParser(description=__doc__, formatter_class=argparse.RawDescriptionHelpFormatter)
     parser.add_argument("--repeats", type=int, default=40, help="as of bench/run.py (40)")
+    parser.add_argument("--built", action="store_true", help="measure the engine as target/slow/ has it")
     parser.add_argument("--write", metavar="PAGE", type=Path, help="put the table into this page")
     options = parser.parse_args()
     page = options.write and options.write.resolve()
-    environment = tree()
-    for words in (["check", *PROGRAMS], ["staticlib", LIBRARY]):
-        proved(words, environment)
-    (SLOW / "target" / "lib").mkdir()
-    shutil.copy(SLOW / "target" / "staticlib" / f"lib{LIBRARY}.a", SLOW / "target" / "lib" / "liblagoon.a")
+    environment = {**os.environ, "RATTLE_HOME": str(SLOW / "kit"), "PATH": f"{SLOW / 'bin'}:{os.environ['PATH']}"}
+    if not options.built:
+        tree()
+        programs(environment)
     taken = division_times(environment)
     told = " and ".join(f"one of {bits} bits {taken[bits, 'slow']:.1f} ns, not {taken[bits, 'fast']:.1f}" for bits in (32, 64))
     words = ["--built", "--times-only", "--repeats", options.repeats, "--divider", f"a division waits for the one before; {told}",
