@@ -103,9 +103,10 @@ def prove(needs, lines, log):
         ready = [name for name in left if not missing.intersection(needs[name])]
         for name in ready[:AT_ONCE - len(under_way)]:
             left.remove(name)
-            under_way[started(name, lines[name]).pid] = name
+            process = started(name, lines[name])
+            under_way[process.pid] = name, process          # kept, since subprocess itself waits for one that nobody holds
         pid, status = os.wait()
-        name = under_way.pop(pid)
+        name, _ = under_way.pop(pid)
         missing.discard(name)
         said = (TARGET / "prove" / name / "said").read_text()
         log.write(said)
