@@ -33,12 +33,12 @@ fn first_passes(
     carried: &mut [i64],
     work: &mut [u64],
 ) -> Carried
-    ghost { StepInput }
-    requires* releases_value { λ S. ⌜ input_from cells faces volumes.now firsts.now seconds.now shares.now reaches.now masses.now fluxes.now outsides.now
-        releases.now ≡ S ⌝ }
-    requires* fact { λ S. ⌜ Ready S × (cells ≤ length masses.now) × (cells ≤ length releases.now) ⌝ }
-    requires* fact_2 { λ S. ⌜ (length low.old ≡ cells) × (length carried.old ≡ faces) × (length work.old ≡ 4 * cells + faces) ⌝ }
-    ensures* { λ S r. ⌜ CarriedTo S faces r.entered r.gone low.new carried.new work.new ⌝ }
+    ghost S: { StepInput }
+    requires releases_value { input_from cells faces volumes.now firsts.now seconds.now shares.now reaches.now masses.now fluxes.now outsides.now
+        releases.now ≡ S }
+    requires fact { Ready S × (cells ≤ length masses.now) × (cells ≤ length releases.now) }
+    requires fact_2 { (length low.old ≡ cells) × (length carried.old ≡ faces) × (length work.old ≡ 4 * cells + faces) }
+    ensures { CarriedTo S faces result.entered result.gone low.new carried.new work.new }
 {
     concentrations(cells, volumes, masses, releases, low, work);
     carry(
@@ -64,12 +64,12 @@ fn judged_in(
     carried: &mut [i64],
     work: &mut [u64],
 ) -> StepAnswer
-    ghost { StepInput }
-    requires* releases_value { λ S. ⌜ input_from cells faces volumes.now firsts.now seconds.now shares.now reaches.now masses.now fluxes.now outsides.now
-        releases.now ≡ S ⌝ }
-    requires* fact { λ S. ⌜ Ready S × (cells ≤ length masses.now) × (cells ≤ length releases.now) × (faces ≤ length claim.now) ⌝ }
-    requires* fact_2 { λ S. ⌜ (length low.old ≡ cells) × (length carried.old ≡ faces) × (length work.old ≡ 4 * cells + faces) ⌝ }
-    ensures* { λ S r. ⌜ step_said r ≡ amounts_answer S claim.now releases.now ⌝ }
+    ghost S: { StepInput }
+    requires releases_value { input_from cells faces volumes.now firsts.now seconds.now shares.now reaches.now masses.now fluxes.now outsides.now
+        releases.now ≡ S }
+    requires fact { Ready S × (cells ≤ length masses.now) × (cells ≤ length releases.now) × (faces ≤ length claim.now) }
+    requires fact_2 { (length low.old ≡ cells) × (length carried.old ≡ faces) × (length work.old ≡ 4 * cells + faces) }
+    ensures { step_said result ≡ amounts_answer S claim.now releases.now }
 {
     let crossed = first_passes(
         cells, faces, volumes, firsts, seconds, shares, reaches, masses, fluxes, outsides,
@@ -107,11 +107,11 @@ fn judged(
     claim: &[i64],
     releases: &[u64],
 ) -> StepAnswer
-    ghost { StepInput }
-    requires* releases_value { λ S. ⌜ input_from cells faces volumes.now firsts.now seconds.now shares.now reaches.now masses.now fluxes.now outsides.now
-        releases.now ≡ S ⌝ }
-    requires* fact { λ S. ⌜ Ready S × (cells ≤ length masses.now) × (cells ≤ length releases.now) × (faces ≤ length claim.now) ⌝ }
-    ensures* { λ S r. ⌜ step_said r ≡ amounts_answer S claim.now releases.now ⌝ }
+    ghost S: { StepInput }
+    requires releases_value { input_from cells faces volumes.now firsts.now seconds.now shares.now reaches.now masses.now fluxes.now outsides.now
+        releases.now ≡ S }
+    requires fact { Ready S × (cells ≤ length masses.now) × (cells ≤ length releases.now) × (faces ≤ length claim.now) }
+    ensures { step_said result ≡ amounts_answer S claim.now releases.now }
 {
     let mut low = [0u64; MAX_CELLS];
     let mut carried = [0i64; MAX_FACES];

@@ -2,6 +2,7 @@
 ghost use Rattle.std.specs.Prelude.{◌≡◌, true, cond, ℕ, ◌+◌, ◌-◌, ◌*◌, ◌/◌, ◌%◌, ◌^◌, ◌≤◌, ◌<◌, eqb, pos, length, get_or, set};
 ghost use Rattle.signed.specs.Sign.{is_negative, size as size_of, with_sign};
 ghost use Rattle.lists.specs.Table.{table, over};
+ghost use Rattle.record_bits.specs.declared.TheConstants.{HELD, WIDEST};
 ghost use Rattle.record_bits.specs.Field.{bits_at};
 ghost use Rattle.record_bits.specs.Put.{Put};
 ghost use Rattle.record_bits.specs.Layout.{bytes_for};
@@ -23,7 +24,7 @@ pub fn read_column(
     n: usize,
     out: &mut [u64],
 )
-    requires* fact { do ⌜ (8 * length bytes.now < 2 ^ 64) × (width ≤ (← ⟦record_bits::WIDEST⟧)) × (n ≤ length out.old) ⌝ }
+    requires fact { (8 * length bytes.now < 2 ^ 64) × (width ≤ WIDEST) × (n ≤ length out.old) }
     requires by_index { (i : ℕ) → i < n → first + i * stride + width ≤ 8 * length bytes.now }
     ensures { out.new
         ≡ over (table n (λ i. bits_at bytes.now (first + i * stride) width)) out.old }
@@ -44,7 +45,7 @@ pub fn put_column(
     n: usize,
     values: &[u64],
 )
-    requires* fact { do ⌜ (width ≤ (← ⟦record_bits::WIDEST⟧)) × (width ≤ stride) × (n ≤ length values.now) ⌝ }
+    requires fact { (width ≤ WIDEST) × (width ≤ stride) × (n ≤ length values.now) }
     requires by_index { ((i : ℕ) → i < n
         → (first + i * stride + width ≤ 8 * length bytes.old)
         × (first + i * stride + width < 2 ^ 64))
@@ -92,7 +93,7 @@ pub fn put_sizes(
     n: usize,
     values: &[i64],
 )
-    requires* fact { do ⌜ (width ≤ (← ⟦record_bits::WIDEST⟧)) × (width ≤ stride) × (n ≤ length values.now) ⌝ }
+    requires fact { (width ≤ WIDEST) × (width ≤ stride) × (n ≤ length values.now) }
     requires by_index { ((i : ℕ) → i < n
         → (first + i * stride + width ≤ 8 * length bytes.old)
         × (first + i * stride + width < 2 ^ 64))
@@ -133,7 +134,7 @@ fn put_three(out: &mut [i64], i: usize, width: usize, codes: u64)
 
 // A sign and a size for each of n entries, from `first` on, three entries at a time; how many were read. Entries past them stay.
 fn read_threes(bytes: &[u8], first: usize, width: usize, n: usize, out: &mut [i64]) -> usize
-    requires* fact { do ⌜ (8 * length bytes.now < 2 ^ 64) × (3 * (1 + width) ≤ (← ⟦record_bits::HELD⟧)) × (n ≤ length out.old) ⌝ }
+    requires fact { (8 * length bytes.now < 2 ^ 64) × (3 * (1 + width) ≤ HELD) × (n ≤ length out.old) }
     requires by_index { (i : ℕ) → i < n → first + i * (1 + width) + (1 + width) ≤ 8 * length bytes.now }
     ensures { (result ≤ n) × (out.new ≡ over (table result (λ i. with_sign
         (eqb (bits_at bytes.now (first + i * (1 + width)) 1) 1)
@@ -151,7 +152,7 @@ fn read_threes(bytes: &[u8], first: usize, width: usize, n: usize, out: &mut [i6
 
 // A sign and a size for each of n entries, from `first` on; entries from n on stay.
 pub fn read_signed(bytes: &[u8], first: usize, width: usize, n: usize, out: &mut [i64])
-    requires* fact { do ⌜ (8 * length bytes.now < 2 ^ 64) × (3 * (1 + width) ≤ (← ⟦record_bits::HELD⟧)) × (n ≤ length out.old) ⌝ }
+    requires fact { (8 * length bytes.now < 2 ^ 64) × (3 * (1 + width) ≤ HELD) × (n ≤ length out.old) }
     requires by_index { (i : ℕ) → i < n → first + i * (1 + width) + (1 + width) ≤ 8 * length bytes.now }
     ensures { out.new ≡ over (table n (λ i. with_sign
         (eqb (bits_at bytes.now (first + i * (1 + width)) 1) 1)
@@ -193,7 +194,7 @@ pub fn count_marked(mark: u64, n: usize, marks: &[u64]) -> usize
 
 // The field at a place, where there is one, and 0 where not.
 fn field_if(bytes: &[u8], at: usize, width: usize, here: bool) -> u64
-    requires* { do ⌜ (at + cond here width 0 ≤ 8 * length bytes.now) × (at + width < 2 ^ 64) × (width ≤ (← ⟦record_bits::WIDEST⟧)) ⌝ }
+    requires { (at + cond here width 0 ≤ 8 * length bytes.now) × (at + width < 2 ^ 64) × (width ≤ WIDEST) }
     ensures { result ≡ cond here (bits_at bytes.now at width) 0 }
 {
     if here {
@@ -213,12 +214,11 @@ pub fn read_marked(
     marks: &[u64],
     out: &mut [u64],
 ) -> usize
-    requires* { do
-      ⌜ (8 * length bytes.now + width < 2 ^ 64)
-          × (width ≤ (← ⟦record_bits::WIDEST⟧))
-          × (n ≤ length out.old)
-          × (n ≤ length marks.now)
-          × (first + those (marked mark marks.now) n * width ≤ 8 * length bytes.now) ⌝ }
+    requires { (8 * length bytes.now + width < 2 ^ 64)
+        × (width ≤ WIDEST)
+        × (n ≤ length out.old)
+        × (n ≤ length marks.now)
+        × (first + those (marked mark marks.now) n * width ≤ 8 * length bytes.now) }
     ensures { (result ≡ first + those (marked mark marks.now) n * width)
         × (out.new ≡ over (table n (λ i. cond (marked mark marks.now i)
         (bits_at bytes.now (first + those (marked mark marks.now) i * width) width)
@@ -237,7 +237,7 @@ pub fn read_marked(
 
 // A field put at a place, where there is one.
 fn put_if(bytes: &mut [u8], at: usize, width: usize, here: bool, value: u64)
-    requires* { do ⌜ (at + cond here width 0 ≤ 8 * length bytes.old) × (at + width < 2 ^ 64) × (width ≤ (← ⟦record_bits::WIDEST⟧)) × (value < 2 ^ width) ⌝ }
+    requires { (at + cond here width 0 ≤ 8 * length bytes.old) × (at + width < 2 ^ 64) × (width ≤ WIDEST) × (value < 2 ^ width) }
     ensures { PutIf here bytes.old at width value bytes.new }
 {
     if here {
@@ -255,12 +255,11 @@ pub fn put_marked(
     marks: &[u64],
     values: &[u64],
 )
-    requires* fact { do
-      ⌜ (width ≤ (← ⟦record_bits::WIDEST⟧))
-          × (n ≤ length marks.now)
-          × (n ≤ length values.now)
-          × (first + those (marked mark marks.now) n * width ≤ 8 * length bytes.old)
-          × (first + those (marked mark marks.now) n * width + width < 2 ^ 64) ⌝ }
+    requires fact { (width ≤ WIDEST)
+        × (n ≤ length marks.now)
+        × (n ≤ length values.now)
+        × (first + those (marked mark marks.now) n * width ≤ 8 * length bytes.old)
+        × (first + those (marked mark marks.now) n * width + width < 2 ^ 64) }
     requires by_index { (i : ℕ) → i < n → get_or values.now i 0 < 2 ^ width }
     ensures { PutColumn bytes.old n (marked mark marks.now)
         (λ i. first + those (marked mark marks.now) i * width) width
