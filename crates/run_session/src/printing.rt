@@ -10,7 +10,7 @@ use run_lines::{LINE, Line};
 pub const LINES: usize = 4096;
 
 // How many bytes of lines are not yet written, and whether a write failed.
-#[derive(Drop)]
+#[derive(Clone, Copy)]
 pub struct Unwritten {
     pub count: usize,
     pub failed: bool,
