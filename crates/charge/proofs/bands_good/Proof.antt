@@ -37,7 +37,7 @@ returns c =
     let l = t.before.loop in
     let s = t.before.before.before.before.args in
     scan-hit _ _ _ _ t.loop-test.true l.invariant.2 (band-is s.ends.now s.prices.now s.bands l.i l.invariant.1 c.before.band-fits.ensures)
-    (not-true _ c.if1.true)
+    c.if1.true
 
 add-i : tie.Need-overflow-add-i invariant-loop decreases-loop
 add-i c =
@@ -56,7 +56,7 @@ loop-again c =
       turn-within t.loop-test.true,
       begin-next s.ends.now l.i,
       scan-pass _ _ _ l.invariant.2 (band-is s.ends.now s.prices.now s.bands l.i l.invariant.1 c.before.band-fits.ensures)
-          (not-false _ c.if1.false),
+          c.if1.false,
     )
 
 returns-2 : tie.Need-returns-2 invariant-loop decreases-loop

@@ -32,7 +32,7 @@ unfolding gain_good
 returns c =
     let said = rw c.before.before.gain_at.ensures at c.before.gain-fits.ensures in
     scan-hit _ _ _ _ c.before.before.before.before.loop-test.true c.before.before.before.before.before.loop.invariant.1 said
-    (not-true _ c.if1.true)
+    c.if1.true
 
 add-f : tie.Need-overflow-add-f invariant-loop decreases-loop
 add-f c =
@@ -48,7 +48,7 @@ unfolding gain_good
 loop-again c =
     let said = rw c.before.before.gain_at.ensures at c.before.gain-fits.ensures in (
       turn-within c.before.before.before.before.loop-test.true,
-      scan-pass _ _ _ c.before.before.before.before.before.loop.invariant.1 said (not-false _ c.if1.false),
+      scan-pass _ _ _ c.before.before.before.before.before.loop.invariant.1 said c.if1.false,
     )
 
 returns-2 : tie.Need-returns-2 invariant-loop decreases-loop
