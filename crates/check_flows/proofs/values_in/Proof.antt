@@ -11,10 +11,10 @@ abbrev start : tie.After-gather → tie.Start
 start c = c.before.before.before.before.before.before.before.before
 
 abbrev gathered : tie.After-balanced-a → tie.After-gather
-gathered c = c.before.before.before.before.before.before.before
+gathered c = c.before.before.before.before.before
 
 abbrev balanced-at : tie.After-outflow_fits → tie.After-balanced-a
-balanced-at c = c.before.before
+balanced-at c = c.before
 
 gather-requires : tie.Need-gather-requires
 gather-requires c κs = let s = c.before.before.before.before.before.before.before in

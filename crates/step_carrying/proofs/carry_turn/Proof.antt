@@ -50,7 +50,7 @@ crossed c = c.before.before.before.before.before.before
 
 -- inside
 abbrev inside : tie.After-concentration-b → tie.Else-second-eq-RIM
-inside c = c.before.before
+inside c = c.before
 
 abbrev read : tie.After-carry_inside → tie.After-concentration-b
 read c = c.before.before.before.before.before.before.before
