@@ -110,7 +110,7 @@ fn judged(
     claim: &[i64],
     releases: &[u64],
 ) -> StepAnswer
-    requires ready { let S = input_from cells faces volumes.now firsts.now seconds.now shares.now reaches.now masses.now fluxes.now outsides.now
+    requires { let S = input_from cells faces volumes.now firsts.now seconds.now shares.now reaches.now masses.now fluxes.now outsides.now
         releases.now in
         Ready S × (cells ≤ length masses.now) × (cells ≤ length releases.now) × (faces ≤ length claim.now) }
     ensures { let S = input_from cells faces volumes.now firsts.now seconds.now shares.now reaches.now masses.now fluxes.now outsides.now
