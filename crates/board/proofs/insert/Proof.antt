@@ -37,10 +37,10 @@ loop-again : tie.Need-loop-i-preserved invariant-loop decreases-loop
 loop-again c =
     let p = c.before.before.before.before.loop-i in
     elim c.if-displaces.branch [
-      then-displaces w ↦ carried_on comes_before _ _ _ _ p.ranks p.i p.moving p.carried _ unranked c.before.before.before.loop-i-test.true (omega arith)
-    p.invariant refl c.before.displaces.ensures w.if-displaces.true w.ranks-is w.carried-is w.moving-is
-    | else-displaces w ↦ passed comes_before _ _ _ _ p.ranks p.i p.moving p.carried _ unranked c.before.before.before.loop-i-test.true (omega arith)
-    p.invariant refl c.before.displaces.ensures w.if-displaces.false w.ranks-is w.carried-is w.moving-is
+      | then-displaces w ↦ carried_on comes_before _ _ _ _ p.ranks p.i p.moving p.carried _ unranked c.before.before.before.loop-i-test.true (omega arith)
+          p.invariant refl c.before.displaces.ensures w.if-displaces.true w.ranks-is w.carried-is w.moving-is
+      | else-displaces w ↦ passed comes_before _ _ _ _ p.ranks p.i p.moving p.carried _ unranked c.before.before.before.loop-i-test.true (omega arith)
+          p.invariant refl c.before.displaces.ensures w.if-displaces.false w.ranks-is w.carried-is w.moving-is
     ]
 
 returns : tie.Need-returns-then-used-lt-BOARD_SIZE invariant-loop decreases-loop
