@@ -1,3 +1,4 @@
+#![tactic(auto)]
 // The lines of the run program, as values.
 ghost use Rattle.run_lines.specs.Lines.{Holds, refusal_line, step_line, refused_step_line, board_line};
 

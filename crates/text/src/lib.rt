@@ -1,3 +1,4 @@
+#![tactic(auto)]
 // Numbers and letters as text, put one after another into bytes that are lent.
 ghost use Rattle.std.specs.Prelude.{◌≡◌, ◌+◌, ◌-◌, ◌≤◌, length};
 ghost use Rattle.std.proofs.Math.Seq.{paste};
