@@ -1,3 +1,4 @@
+#![tactic(auto)]
 // The board's lines, put one after another into lent bytes.
 ghost use Rattle.std.specs.Prelude.{◌≡◌, ◌++◌, ◌+◌, ◌≤◌, length, take};
 ghost use Rattle.board.specs.Board.{board_size};
