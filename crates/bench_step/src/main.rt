@@ -19,7 +19,7 @@ const WORK: usize = 4 * MAX_CELLS + MAX_FACES;
 const PAIRS: u64 = 8;
 
 // What crossed the rim in all steps, and how many steps were refused.
-#[derive(Drop)]
+#[derive(Clone, Copy)]
 struct Sums {
     entered: u64,
     gone: u64,

@@ -17,7 +17,7 @@ use public_marks::is_open;
 pub const BOARD_SIZE: usize = 8;
 
 // A listed cell: its number, its concentration q and the rest of its mass, m − qV.
-#[derive(Drop)]
+#[derive(Clone, Copy)]
 pub struct Entry {
     pub cell: u64,
     pub q: u64,
@@ -25,14 +25,14 @@ pub struct Entry {
 }
 
 // The first `used` stand in the board's order; those after them are 0.
-#[derive(Drop)]
+#[derive(Clone, Copy)]
 struct Ranking {
     used: usize,
     ranks: [Ranked; BOARD_SIZE],
 }
 
 // Entries after a refusal are 0, and so is their number.
-#[derive(Drop)]
+#[derive(Clone, Copy)]
 pub struct BoardAnswer {
     pub verdict: Answer,
     pub used: usize,

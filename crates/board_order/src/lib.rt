@@ -3,7 +3,7 @@ ghost use Rattle.std.specs.Prelude.{◌≡◌, ◌*◌, ◌≤◌};
 ghost use Rattle.board_order.specs.Order.{max_ranked, ranked_of, comes_before};
 
 // A cell as the order sees it. Rest and volume are narrow, so that the product of any two of them fits 64 bits.
-#[derive(Drop)]
+#[derive(Clone, Copy)]
 pub struct Ranked {
     pub cell: u64,
     pub q: u64,

@@ -26,7 +26,7 @@ pub fn number(words: &[u64], argument: usize) -> usize {
 }
 
 // Where a table begins and ends.
-#[derive(Drop)]
+#[derive(Clone, Copy)]
 struct Extent {
     from: usize,
     to: usize,

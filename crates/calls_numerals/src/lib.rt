@@ -25,14 +25,14 @@ const ZERO: u8 = 48;
 const PAST_NINE: u8 = 58;
 
 // A sign and a size.
-#[derive(Drop)]
+#[derive(Clone, Copy)]
 pub struct Number {
     pub minus: bool,
     pub size: u64,
 }
 
 // What reading has come to. After one of the last four it is done.
-#[derive(Drop)]
+#[derive(Clone, Copy)]
 pub enum Token {
     Blank,
     Comment,

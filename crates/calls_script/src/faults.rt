@@ -3,7 +3,7 @@ use crate::input::Input;
 use calls_arguments::show;
 
 // What is wrong with a script.
-#[derive(Drop)]
+#[derive(Clone, Copy)]
 pub enum Fault {
     Nothing,
     Strange,

@@ -3,7 +3,7 @@ use calls_numerals::Token;
 use libc::STDIN_FILENO;
 
 // Where reading stands: the next byte of the chunk and how many it holds, the line, and the bytes read before.
-#[derive(Drop)]
+#[derive(Clone, Copy)]
 pub struct Input {
     pub at: usize,
     pub got: usize,
@@ -12,7 +12,7 @@ pub struct Input {
 }
 
 // A number, and where reading stands after it.
-#[derive(Drop)]
+#[derive(Clone, Copy)]
 pub struct Found {
     pub token: Token,
     pub input: Input,

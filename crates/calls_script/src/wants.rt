@@ -24,14 +24,14 @@ const HALF: u64 = 9223372036854775808;
 const MOST_BYTE: u64 = 255;
 
 // Where reading stands after a call, or where a fault was seen.
-#[derive(Drop)]
+#[derive(Clone, Copy)]
 pub struct Told {
     pub fault: Fault,
     pub input: Input,
 }
 
 // What a call still asks for: the kinds of arguments to come, the kind of the last, its entries to come, and how many arguments have begun.
-#[derive(Drop)]
+#[derive(Clone, Copy)]
 struct Want {
     shape: u64,
     later: u64,
@@ -41,7 +41,7 @@ struct Want {
 }
 
 // What one number of a call comes to.
-#[derive(Drop)]
+#[derive(Clone, Copy)]
 struct Turn {
     want: Want,
     fault: Fault,

@@ -20,13 +20,13 @@ pub const MAX_PRICE: u64 = 1000000;
 pub const PRICE_UNITS: u64 = 1000000;
 
 // Whole cents, and what is left of the division.
-#[derive(Drop)]
+#[derive(Clone, Copy)]
 pub struct Billed {
     pub cents: u64,
     pub remainder: u64,
 }
 
-#[derive(Drop)]
+#[derive(Clone, Copy)]
 pub enum ChargeAnswer {
     Charged(Billed),
     Refused(Refusal),

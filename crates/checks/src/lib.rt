@@ -21,7 +21,7 @@ use model::{Answer, Refusal};
 const FEW: usize = 512;
 
 // The total of a field, or why there is none.
-#[derive(Drop)]
+#[derive(Clone, Copy)]
 pub enum TotalAnswer {
     Total(u64),
     Refused(Refusal),

@@ -6,7 +6,7 @@ use cutting_tables::part;
 use model::{Answer, Refusal};
 
 // How many cells and faces each part has.
-#[derive(Drop)]
+#[derive(Clone, Copy)]
 pub struct Counts {
     pub cells_0: usize,
     pub faces_0: usize,
@@ -15,7 +15,7 @@ pub struct Counts {
 }
 
 // What cutting answers.
-#[derive(Drop)]
+#[derive(Clone, Copy)]
 pub enum CutAnswer {
     Cut(Counts),
     Refused(Refusal),

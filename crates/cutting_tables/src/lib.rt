@@ -7,7 +7,7 @@ use cutting_faces::faces::spacings;
 use cutting_pieces::by_cell;
 
 // The cells and faces of one part.
-#[derive(Drop)]
+#[derive(Clone, Copy)]
 pub struct PartCounts {
     pub cells: usize,
     pub faces: usize,

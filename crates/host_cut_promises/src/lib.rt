@@ -2,7 +2,7 @@
 use model::Refusal;
 
 // The bytes that the records of one part take.
-#[derive(Drop)]
+#[derive(Clone, Copy)]
 pub struct PartLengths {
     pub mesh: u64,
     pub field: u64,
@@ -10,7 +10,7 @@ pub struct PartLengths {
 }
 
 // Those of part 0, then of part 1.
-#[derive(Drop)]
+#[derive(Clone, Copy)]
 pub struct CutLengths {
     pub mesh_0: u64,
     pub field_0: u64,
@@ -20,7 +20,7 @@ pub struct CutLengths {
     pub step_1: u64,
 }
 
-#[derive(Drop)]
+#[derive(Clone, Copy)]
 pub enum RecordsCut {
     Cut(CutLengths),
     Refused(Refusal),

@@ -9,7 +9,7 @@ use record_layouts::Width;
 use record_reading::MeshAnswer;
 
 // The counts of the mesh, the width of its record, and the total of the field.
-#[derive(Drop)]
+#[derive(Clone, Copy)]
 pub struct FieldCounts {
     pub cells: usize,
     pub faces: usize,
@@ -17,7 +17,7 @@ pub struct FieldCounts {
     pub total: u64,
 }
 
-#[derive(Drop)]
+#[derive(Clone, Copy)]
 pub enum FieldTaken {
     Taken(FieldCounts),
     Refused(Refusal),

@@ -37,7 +37,7 @@ pub const MAX_SHARE: u64 = 255;
 pub const MAX_CONCENTRATION: u64 = 1000000;
 
 // Why a call is refused, in the order of the papers' numbers: document 01's 1 to 13, then those that document 02's requests add.
-#[derive(Drop)]
+#[derive(Clone, Copy)]
 pub enum Cause {
     Limits,
     Table,
@@ -68,21 +68,21 @@ pub enum Cause {
     Mark,
 }
 
-#[derive(Drop)]
+#[derive(Clone, Copy)]
 pub struct Refusal {
     pub cause: Cause,
     pub place: u64,
 }
 
 // The answer of a call that gives nothing but acceptance.
-#[derive(Drop)]
+#[derive(Clone, Copy)]
 pub enum Answer {
     Done,
     Refused(Refusal),
 }
 
 // What is printed of an accepted step.
-#[derive(Drop)]
+#[derive(Clone, Copy)]
 pub struct Printed {
     pub entered: u64,
     pub gone: u64,
@@ -91,7 +91,7 @@ pub struct Printed {
 }
 
 // What a step record comes to, by value: who takes it and who prints it know the answer, and need nothing of each other.
-#[derive(Drop)]
+#[derive(Clone, Copy)]
 pub enum StepTaken {
     Stepped(Printed),
     Refused(Refusal),

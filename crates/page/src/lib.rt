@@ -17,7 +17,7 @@ use page_lines::{PAGE_CELLS, cells_on, lines, mass_places, rest_places};
 use text::{NEWLINE, column};
 
 // How many bytes the page has.
-#[derive(Drop)]
+#[derive(Clone, Copy)]
 pub enum PageAnswer {
     Printed(u64),
     Refused(Refusal),

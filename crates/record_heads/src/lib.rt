@@ -16,21 +16,21 @@ use record_layouts::{
 use record_reader::Spelled;
 
 // How many bytes a record needs, or why its head is refused.
-#[derive(Drop)]
+#[derive(Clone, Copy)]
 pub enum LengthAnswer {
     Needs(usize),
     Refused(Refusal),
 }
 
 // How many bytes a mesh record needs, and its width, which the records after it have.
-#[derive(Drop)]
+#[derive(Clone, Copy)]
 pub struct MeshLength {
     pub bytes: usize,
     pub width: Width,
 }
 
 // The same, or why the head of the mesh is refused.
-#[derive(Drop)]
+#[derive(Clone, Copy)]
 pub enum MeshLengthAnswer {
     Needs(MeshLength),
     Refused(Refusal),

@@ -32,14 +32,14 @@ pub const OUTFALL_KIND: u64 = 4;
 pub const WIDER: u64 = 4;
 
 // The width of the records: that of a mesh fixes that of those after it.
-#[derive(Drop)]
+#[derive(Clone, Copy)]
 pub enum Width {
     Narrow,
     Wide,
 }
 
 // The kind of a step record: the water alone, or with what outfalls release into the cells.
-#[derive(Drop)]
+#[derive(Clone, Copy)]
 pub enum StepKind {
     Water,
     Outfalls,

@@ -10,21 +10,21 @@ use model::{Answer, Refusal};
 use record_layouts::{StepKind, Width};
 
 // The counts of a mesh that has been read, and the width of its record.
-#[derive(Drop)]
+#[derive(Clone, Copy)]
 pub struct MeshCounts {
     pub cells: usize,
     pub faces: usize,
     pub width: Width,
 }
 
-#[derive(Drop)]
+#[derive(Clone, Copy)]
 pub enum MeshAnswer {
     Read(MeshCounts),
     Refused(Refusal),
 }
 
 // The kind of a step that has been read.
-#[derive(Drop)]
+#[derive(Clone, Copy)]
 pub enum StepRead {
     Read(StepKind),
     Refused(Refusal),

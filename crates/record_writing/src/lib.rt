@@ -7,7 +7,7 @@ use model::{Answer, Refusal};
 use record_layouts::{StepKind, Width};
 
 // How many bytes have been written.
-#[derive(Drop)]
+#[derive(Clone, Copy)]
 pub enum WriteAnswer {
     Written(u64),
     Refused(Refusal),

@@ -21,7 +21,7 @@ const RIM_FACE: usize = Body::SIGN + Body::WIDE_VALUE + Body::OUTSIDE;
 pub const RECORD: usize = STEP_HEAD + (RUN_FACES * RIM_FACE + RUN_CELLS * Body::WIDE_MASS + 7) / 8;
 
 // How many bytes of a record have come, and whether a read failed, which is not the end of the input.
-#[derive(Drop)]
+#[derive(Clone, Copy)]
 pub struct Got {
     pub count: usize,
     pub failed: bool,
@@ -138,7 +138,7 @@ pub fn field(rt: &HostRuntime, width: Width, cells: usize, buffer: &mut [u8]) ->
 
 // What has come and is not yet taken, buffer[from..to], of which buffer[from..end] was asked for; how many bytes of the lines are not yet
 // written; and whether a read or a write failed.
-#[derive(Drop)]
+#[derive(Clone, Copy)]
 pub struct Held {
     pub from: usize,
     pub end: usize,

@@ -8,7 +8,7 @@ use text::{DIGITS, NEWLINE, SPACE, mark, word};
 pub const LINE: usize = 5 * (DIGITS + 1);
 
 // A line of at most LINE bytes, of which the first `used` count.
-#[derive(Drop)]
+#[derive(Clone, Copy)]
 pub struct Line {
     pub bytes: [u8; LINE],
     pub used: usize,

@@ -15,7 +15,7 @@ pub use printing::{LINES, add, flush, greet, make_room, print, write};
 use run_lines::Line;
 
 // What is told of a step: its line, and whether it is the last.
-#[derive(Drop)]
+#[derive(Clone, Copy)]
 pub struct Told {
     pub line: Line,
     pub last: bool,

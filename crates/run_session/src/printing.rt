@@ -12,7 +12,7 @@ use std::io::IsTerminal;
 pub const LINES: usize = 4096;
 
 // How many bytes of lines are not yet written, and whether a write failed.
-#[derive(Drop)]
+#[derive(Clone, Copy)]
 pub struct Unwritten {
     pub count: usize,
     pub failed: bool,

@@ -10,7 +10,7 @@ use step_cell::Q;
 use step_face::upwind::{entered, gone};
 
 // What the water has carried over the rim: the in-mass and the out-mass.
-#[derive(Drop)]
+#[derive(Clone, Copy)]
 pub struct Carried {
     pub entered: u64,
     pub gone: u64,

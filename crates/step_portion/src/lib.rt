@@ -8,7 +8,7 @@ const HALF_WIDTH: u64 = 4294967296;
 const LARGEST: u64 = 18446744073709551615;
 
 // A number divided by p: how often p goes into it, and what is left.
-#[derive(Drop)]
+#[derive(Clone, Copy)]
 struct Divided {
     quotient: u64,
     rest: u64,

@@ -11,21 +11,21 @@ use survey_points::{COORDINATES, Face, coordinates_of, first_side, is_allowed, s
 const PART: f64 = 0.00390625;
 
 // A coordinate that is refused, and its place: 0 to 7 in the order of the points, x before y.
-#[derive(Drop)]
+#[derive(Clone, Copy)]
 pub struct Coordinate {
     pub place: u64,
     pub value: f64,
 }
 
 // The middle stage: the ratio a / (a + b), the first coordinate that is not allowed, or that a + b is 0.
-#[derive(Drop)]
+#[derive(Clone, Copy)]
 pub enum Stage {
     Ratio(f64),
     Bad(Coordinate),
     Nothing,
 }
 
-#[derive(Drop)]
+#[derive(Clone, Copy)]
 pub enum ShareAnswer {
     Share(u64),
     Refused(Refusal),

@@ -9,14 +9,14 @@ pub const MAX_COORDINATE: f64 = 1000000.0;
 pub const COORDINATES: usize = 8;
 
 // A survey point, in plane coordinates.
-#[derive(Drop)]
+#[derive(Clone, Copy)]
 pub struct Point {
     pub x: f64,
     pub y: f64,
 }
 
 // What a face is surveyed by: its two ends and the centres of its two cells.
-#[derive(Drop)]
+#[derive(Clone, Copy)]
 pub struct Face {
     pub end1: Point,
     pub end2: Point,
