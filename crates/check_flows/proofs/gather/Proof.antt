@@ -42,14 +42,14 @@ entered c = c.before.before.before.before.before
 
 loop-holds : tie.Need-loop-f-init invariant-loop decreases-loop
 unfolding sum
-loop-holds c = let s = c.before.before.before.before in (zero-le, s.requires.faces_fit.1.0, s.requires.faces_fit.1.1)
+loop-holds c = let s = c.before.before.before.before in (zero-le, s.requires.1.1.0, s.requires.1.1.1)
 
 raise-requires : tie.Need-raise-requires invariant-loop decreases-loop
 raise-requires c κs =
     let z = read c in
     let t = turn z in
     let s = begun t in
-    in-asks s.args.faces s.args.firsts.now s.args.seconds.now s.args.fluxes.now s.requires.faces_le_max_faces.0 s.requires.faces_fit.0 t.before.loop-f.f
+    in-asks s.args.faces s.args.firsts.now s.args.seconds.now s.args.fluxes.now s.requires.0.0 s.requires.1.0 t.before.loop-f.f
     t.loop-f-test.true
     _ _ z.before.is_negative_at-negative.ensures z.size_at-size.ensures _ _ c.receiver.ensures t.before.loop-f.invariant.1
 
@@ -58,7 +58,7 @@ raise-requires-2 c κs =
     let z = read (entered c) in
     let t = turn z in
     let s = begun t in
-    out-asks s.args.faces s.args.firsts.now s.args.seconds.now s.args.fluxes.now s.requires.faces_le_max_faces.0 s.requires.faces_fit.0 t.before.loop-f.f
+    out-asks s.args.faces s.args.firsts.now s.args.seconds.now s.args.fluxes.now s.requires.0.0 s.requires.1.0 t.before.loop-f.f
     t.loop-f-test.true
     _ _ z.before.is_negative_at-negative.ensures z.size_at-size.ensures _ _ c.giver.ensures t.before.loop-f.invariant.2
 
@@ -73,17 +73,17 @@ loop-again c =
     let less = t.loop-f-test.true in
     let n = z.before.is_negative_at-negative.ensures in (
       turn-within less,
-      in-turn s.args.faces s.args.firsts.now s.args.seconds.now s.args.fluxes.now s.requires.faces_le_max_faces.0 s.requires.faces_fit.0 l.f less
+      in-turn s.args.faces s.args.firsts.now s.args.seconds.now s.args.fluxes.now s.requires.0.0 s.requires.1.0 l.f less
           _ _ n z.size_at-size.ensures _ _ r.receiver.ensures l.invariant.1 _ g.before.before.before.before.raise.ensures,
-      out-turn s.args.faces s.args.firsts.now s.args.seconds.now s.args.fluxes.now s.requires.faces_le_max_faces.0 s.requires.faces_fit.0 l.f less
+      out-turn s.args.faces s.args.firsts.now s.args.seconds.now s.args.fluxes.now s.requires.0.0 s.requires.1.0 l.f less
           _ _ n z.size_at-size.ensures _ _ g.giver.ensures l.invariant.2 _ c.before.before.raise-in-loop-f.ensures,
     )
 
 same_length : tie.Need-shape_of-inflow invariant-loop decreases-loop
-same_length c = ap length c.before.loop-f.invariant.1 ∙ length-table _ _ ∙ sym (ap length (ended c).requires.faces_fit.1.0 ∙ length-table _ _)
+same_length c = ap length c.before.loop-f.invariant.1 ∙ length-table _ _ ∙ sym (ap length (ended c).requires.1.1.0 ∙ length-table _ _)
 
 same-length-2 : tie.Need-shape_of-outflow invariant-loop decreases-loop
-same-length-2 c = ap length c.before.loop-f.invariant.2 ∙ length-table _ _ ∙ sym (ap length (ended c).requires.faces_fit.1.1 ∙ length-table _ _)
+same-length-2 c = ap length c.before.loop-f.invariant.2 ∙ length-table _ _ ∙ sym (ap length (ended c).requires.1.1.1 ∙ length-table _ _)
 
 returns : tie.Need-returns invariant-loop decreases-loop
 unfolding incoming outgoing
@@ -99,14 +99,14 @@ size-at-requires c κs = turn_in c.before.loop-f-test.true (search rules)
 
 mul-first : tie.Need-offset_bounds-firsts-f invariant-loop decreases-loop
 mul-first c = let t = turn c in let s = begun t in
-    turn-bytes t.loop-f-test.true s.requires.faces_le_max_faces.1 s.well_formed.1.0.1
+    turn-bytes t.loop-f-test.true s.requires.0.1 s.well_formed.1.0.1
 
 read_first : tie.Need-bounds-firsts-f invariant-loop decreases-loop
 read_first c = turn_in c.before.before.before.loop-f-test.true (search rules)
 
 mul-second : tie.Need-offset_bounds-seconds-f invariant-loop decreases-loop
 mul-second c = let t = c.before.before.before in let s = begun t in
-    turn-bytes t.loop-f-test.true s.requires.faces_le_max_faces.2 s.well_formed.1.1.0.1
+    turn-bytes t.loop-f-test.true s.requires.0.2 s.well_formed.1.1.0.1
 
 read-second : tie.Need-bounds-seconds-f invariant-loop decreases-loop
 read-second c = turn_in c.before.before.before.before.loop-f-test.true (search rules)
@@ -115,7 +115,7 @@ add-f : tie.Need-overflow_add-f invariant-loop decreases-loop
 add-f c =
     let t = turn (read (entered c.before.before.before)) in
     let s = begun t in
-    turn-next t.loop-f-test.true s.requires.faces_le_max_faces.1 s.well_formed.1.0.0
+    turn-next t.loop-f-test.true s.requires.0.1 s.well_formed.1.0.0
 
 loop-less : tie.Need-loop-f-smaller invariant-loop decreases-loop
 loop-less c = turn-less (turn (read (entered c.before.before.before))).loop-f-test.true

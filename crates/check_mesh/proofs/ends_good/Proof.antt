@@ -30,11 +30,11 @@ in_bytes t = turn-bytes t.loop-f-test.true (start t).requires.0 (start t).well_f
 
 returns : tie.Need-returns-then-not-ends_fit invariant-loop decreases-loop
 returns c = let t = turn c.before in
-    scan-hit _ _ _ _ t.loop-f-test.true t.before.loop-f.invariant.1 c.before.ends_fit.ensures (not-true _ c.if-not-ends_fit.true)
+    scan-hit _ _ _ _ t.loop-f-test.true t.before.loop-f.invariant.1 c.before.ends_fit.ensures c.if-not-ends_fit.true
 
 loop-again : tie.Need-loop-f-preserved invariant-loop decreases-loop
 loop-again c = let t = turn c.before in
-    (turn-within t.loop-f-test.true, scan-pass _ _ _ t.before.loop-f.invariant.1 c.before.ends_fit.ensures (not-false _ c.if-not-ends_fit.false))
+    (turn-within t.loop-f-test.true, scan-pass _ _ _ t.before.loop-f.invariant.1 c.before.ends_fit.ensures c.if-not-ends_fit.false)
 
 returns-2 : tie.Need-returns invariant-loop decreases-loop
 returns-2 c = let l = c.before.loop-f in scan-end _ _ _ _ l.invariant.0 c.loop-f-test.false l.invariant.1

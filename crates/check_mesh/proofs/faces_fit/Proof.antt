@@ -41,8 +41,8 @@ loop-again c =
     let t = turn e in
     let l = t.before.loop-f in (
       turn-within t.loop-f-test.true,
-      scan-pass _ _ _ l.invariant.1 e.ends_fit.ensures (not-false _ c.before.before.before.before.if-not-ends_fit.false),
-      scan-pass _ _ _ l.invariant.2 c.before.spacing_fits.ensures (not-false _ c.if-not-spacing_fits.false),
+      scan-pass _ _ _ l.invariant.1 e.ends_fit.ensures c.before.before.before.before.if-not-ends_fit.false,
+      scan-pass _ _ _ l.invariant.2 c.before.spacing_fits.ensures c.if-not-spacing_fits.false,
     )
 
 returns-3 : tie.Need-returns invariant-loop decreases-loop

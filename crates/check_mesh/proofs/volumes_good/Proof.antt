@@ -16,10 +16,10 @@ abbrev decreases-loop : tie.decreases-loop-c
 decreases-loop cells volumes most c₀ c = cells - c
 
 returns : tie.Need-returns-then-not-between invariant-loop decreases-loop
-returns c = scan-hit _ _ _ _ (search rules) c.before.before.before.before.loop-c.invariant.1 c.before.between.ensures (not-true _ c.if-not-between.true)
+returns c = scan-hit _ _ _ _ (search rules) c.before.before.before.before.loop-c.invariant.1 c.before.between.ensures c.if-not-between.true
 
 loop-again : tie.Need-loop-c-preserved invariant-loop decreases-loop
-loop-again c = (search rules, scan-pass _ _ _ c.before.before.before.before.loop-c.invariant.1 c.before.between.ensures (not-false _ c.if-not-between.false))
+loop-again c = (search rules, scan-pass _ _ _ c.before.before.before.before.loop-c.invariant.1 c.before.between.ensures c.if-not-between.false)
 
 returns-2 : tie.Need-returns invariant-loop decreases-loop
 returns-2 c = scan-end _ _ _ _ (search rules) (search rules) c.before.loop-c.invariant.1

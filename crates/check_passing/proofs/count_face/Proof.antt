@@ -15,7 +15,7 @@ fine : (c : tie.Else-not-watered) → let s = start c in FaceFine s.args.cells s
     s.args.size s.args.outside
 fine c =
     let i = c.before.before in
-    (i.before.shaped.ensures (not-false _ i.if-not-shaped.false), c.before.watered.ensures (not-false _ c.if-not-watered.false))
+    (i.before.shaped.ensures i.if-not-shaped.false, c.before.watered.ensures c.if-not-watered.false)
 
 count-flux-requires : tie.Need-count_flux-requires
 count-flux-requires c κs =
@@ -24,10 +24,10 @@ count-flux-requires c κs =
     let f = fine i in (
       (
         ends-in s.args.cells s.args.first s.args.second f.0.0,
-        s.requires.cells_le_max_cells.0,
+        s.requires.0.0,
         amount-most s.args.second s.args.share s.args.reach s.args.size f.0.1 f.1.1,
       ),
-      (s.requires.cells_le_max_cells.1, s.requires.room_left),
+      (s.requires.0.1, s.requires.1),
     )
 
 returns-3 : tie.Need-returns
@@ -36,5 +36,5 @@ returns-3 c = let u = c.before.before in λ e. (fine u.before.before, u.count_fl
 pub count_face_spec : {M : Type 1} → statement M
 count_face_spec =
     tie.close
-    (tie.spec (λ c κs. (c.before.requires.cells_le_max_cells.0, c.before.requires.cells_le_max_cells.2)) (λ c e. absurd (true≢false (sym e))) (search rules)
+    (tie.spec (λ c κs. (c.before.requires.0.0, c.before.requires.0.2)) (λ c e. absurd (true≢false (sym e))) (search rules)
     (λ c e. absurd (true≢false (sym e))) count-flux-requires (search rules) returns-3)

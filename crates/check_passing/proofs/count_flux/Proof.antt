@@ -12,8 +12,8 @@ raise-requires : tie.Need-raise-requires
 raise-requires c κs =
     let s = c.before.before.before.before in
     rw c.over_rim.ensures
-    (over-asks s.args.cells s.args.first s.args.sums.now s.requires.cells_in_bounds.0 s.requires.cells_in_bounds.1 s.args.inward s.args.size s.requires.ends_in.2
-    s.requires.ends_in.0.0)
+    (over-asks s.args.cells s.args.first s.args.sums.now s.requires.1.0 s.requires.1.1 s.args.inward s.args.size s.requires.0.2
+    s.requires.0.0.0)
 
 returns : tie.Need-returns-then-second-eq-RIM
 returns c =
@@ -22,20 +22,20 @@ returns c =
     let q : c.before.before.raise.new.0 ≡ plus s.args.sums.now s.args.first (cond s.args.inward s.args.size (half * s.args.size)) =
     rw o.over_rim.ensures at c.before.before.raise.ensures in
     rw o.before.before.if-second-eq-RIM.true
-    (over-counted s.args.cells s.args.first s.args.sums.now s.requires.cells_in_bounds.0 s.requires.cells_in_bounds.1 s.args.inward s.args.size s.requires.ends_in.2
-    s.requires.ends_in.0.0 s.requires.ends_in.1 _ q)
+    (over-counted s.args.cells s.args.first s.args.sums.now s.requires.1.0 s.requires.1.1 s.args.inward s.args.size s.requires.0.2
+    s.requires.0.0.0 s.requires.0.1 _ q)
 
 -- a face inside: the receiver's entry raised, and the giver's
 second_in : (c : tie.Else-second-eq-RIM) → let s = c.before.before in s.args.second < s.args.cells
-second_in c = c.before.before.requires.ends_in.0.1 c.if-second-eq-RIM.false
+second_in c = c.before.before.requires.0.0.1 c.if-second-eq-RIM.false
 
 raise-requires-2 : tie.Need-raise-requires-2
 raise-requires-2 c κs =
     let e = c.before.before in
     let s = e.before.before.before in
     rw e.end_of_lem.ensures
-    (reached-asks s.args.cells s.args.first s.args.sums.now s.requires.cells_in_bounds.0 s.requires.cells_in_bounds.1 s.args.inward s.args.size s.requires.ends_in.2
-    s.requires.ends_in.0.0 s.args.second (second_in e.before))
+    (reached-asks s.args.cells s.args.first s.args.sums.now s.requires.1.0 s.requires.1.1 s.args.inward s.args.size s.requires.0.2
+    s.requires.0.0.0 s.args.second (second_in e.before))
 
 abbrev start : tie.After-raise-2 → tie.Start
 start c = c.before.before.before.before.before.before
@@ -49,8 +49,8 @@ raise-requires-3 c κs =
     let w = c.before.before.before in
     let s = start w in
     rw w.before.before.end_of-giver.ensures
-    (left-asks s.args.cells s.args.first s.args.sums.now s.requires.cells_in_bounds.0 s.requires.cells_in_bounds.1 s.args.inward s.args.size s.requires.ends_in.2
-    s.requires.ends_in.0.0 s.args.second (second_in w.before.before.before.before) _ (raised w))
+    (left-asks s.args.cells s.args.first s.args.sums.now s.requires.1.0 s.requires.1.1 s.args.inward s.args.size s.requires.0.2
+    s.requires.0.0.0 s.args.second (second_in w.before.before.before.before) _ (raised w))
 
 returns-2 : tie.Need-returns
 returns-2 c =
@@ -59,8 +59,8 @@ returns-2 c =
     let s = start w in
     let p : u.raise-3.new.0 ≡ plus w.raise-2.new.0 (cond s.args.inward s.args.second s.args.first) (half * s.args.size) =
     rw w.before.before.end_of-giver.ensures at u.raise-3.ensures in
-    inside-counted s.args.cells s.args.first s.args.sums.now s.requires.cells_in_bounds.0 s.requires.cells_in_bounds.1 s.args.inward s.args.size s.requires.ends_in.2
-    s.requires.ends_in.0.0 s.args.second (second_in w.before.before.before.before) _ _ (raised w) p
+    inside-counted s.args.cells s.args.first s.args.sums.now s.requires.1.0 s.requires.1.1 s.args.inward s.args.size s.requires.0.2
+    s.requires.0.0.0 s.args.second (second_in w.before.before.before.before) _ _ (raised w) p
 
 pub count_flux_spec : {M : Type 1} → statement M
 count_flux_spec =

@@ -38,12 +38,12 @@ loop-holds c =
       zero-le,
       refl,
       below_none _,
-      sums-start s.args.firsts.now s.args.seconds.now s.args.fluxes.now s.args.cells s.args.sums.now s.requires.tables_long.1.1,
+      sums-start s.args.firsts.now s.args.seconds.now s.args.fluxes.now s.args.cells s.args.sums.now s.requires.1.1.1,
     )
 
 -- the places of a turn's entries are small
 bytes : (t : tie.In-loop-f invariant-loop decreases-loop) → Fits w64 (t.before.loop-f.f * 8)
-bytes t = turn-bytes t.loop-f-test.true (begun t).requires.cells_le_max_cells.1 (omega arith)
+bytes t = turn-bytes t.loop-f-test.true (begun t).requires.0.1 (omega arith)
 
 count-face-requires : tie.Need-count_face-requires invariant-loop decreases-loop
 count-face-requires c κs =
@@ -52,9 +52,9 @@ count-face-requires c κs =
     let l = t.before.loop-f in
     let small = amounts-small s.args.firsts.now s.args.seconds.now s.args.fluxes.now s.args.cells l.f s.args.shares.now
     s.args.reaches.now s.args.outsides.now l.invariant.2 in (
-      (s.requires.cells_le_max_cells.0, omega (arith, l.invariant.1, s.requires.cells_le_max_cells.2), λ e. s.requires.tables_long.1.0 e l.f t.loop-f-test.true),
+      (s.requires.0.0, omega (arith, l.invariant.1, s.requires.0.2), λ e. s.requires.1.1.0 e l.f t.loop-f-test.true),
       room-left s.args.firsts.now s.args.seconds.now s.args.fluxes.now s.args.cells l.f l.sums
-          (omega (arith, t.loop-f-test.true, s.requires.cells_le_max_cells.1)) small l.invariant.3,
+          (omega (arith, t.loop-f-test.true, s.requires.0.1)) small l.invariant.3,
     )
 
 -- the turn of a face that is counted
@@ -72,7 +72,7 @@ loop-again c =
     let l = t.before.loop-f in
     let z = q.before.before.before.before.before.before.before in
     let n = z.before.is_negative_at-inward.ensures in
-    let done = q.count_face.ensures (not-false _ c.if-not-count_face.false) in (
+    let done = q.count_face.ensures c.if-not-count_face.false in (
       turn-within t.loop-f-test.true,
       c.before.before.sums-1.given ∙ l.invariant.1,
       below_more (λ g. FaceFine s.args.cells (get_or s.args.firsts.now g 0) (get_or s.args.seconds.now g 0) (get_or s.args.shares.now g 0)
@@ -94,15 +94,15 @@ pub faces_fit_spec : {M : Type 1} → statement M
 faces_fit_spec =
     tie.close
     (tie.spec invariant-loop decreases-loop loop-holds
-    (λ c κs. turn_in c.loop-f-test.true (begun c).requires.tables_long.0.4) (λ c κs. let t = c.before in turn_in t.loop-f-test.true (begun t).requires.tables_long.0.4)
-    (λ c. bytes c.before.before) (λ c. let t = c.before.before.before in turn_in t.loop-f-test.true (begun t).requires.tables_long.0.0)
-    (λ c. bytes c.before.before.before) (λ c. let t = c.before.before.before.before in turn_in t.loop-f-test.true (begun t).requires.tables_long.0.1)
+    (λ c κs. turn_in c.loop-f-test.true (begun c).requires.1.0.4) (λ c κs. let t = c.before in turn_in t.loop-f-test.true (begun t).requires.1.0.4)
+    (λ c. bytes c.before.before) (λ c. let t = c.before.before.before in turn_in t.loop-f-test.true (begun t).requires.1.0.0)
+    (λ c. bytes c.before.before.before) (λ c. let t = c.before.before.before.before in turn_in t.loop-f-test.true (begun t).requires.1.0.1)
     (λ c. bytes c.before.before.before.before) (λ c. let t = c.before.before.before.before.before in
-    turn_in t.loop-f-test.true (begun t).requires.tables_long.0.2)
+    turn_in t.loop-f-test.true (begun t).requires.1.0.2)
     (λ c. bytes c.before.before.before.before.before)
-    (λ c. let t = c.before.before.before.before.before.before in turn_in t.loop-f-test.true (begun t).requires.tables_long.0.3)
+    (λ c. let t = c.before.before.before.before.before.before in turn_in t.loop-f-test.true (begun t).requires.1.0.3)
     (λ c. bytes c.before.before.before.before.before.before)
-    (λ c. let t = c.before.before.before.before.before.before.before in turn_in t.loop-f-test.true (begun t).requires.tables_long.0.5)
+    (λ c. let t = c.before.before.before.before.before.before.before in turn_in t.loop-f-test.true (begun t).requires.1.0.5)
     count-face-requires (search rules) (λ c e. absurd (true≢false (sym e)))
-    (λ c. let t = turned c.before.before.before in turn-next t.loop-f-test.true (begun t).requires.cells_le_max_cells.1 (omega arith))
+    (λ c. let t = turned c.before.before.before in turn-next t.loop-f-test.true (begun t).requires.0.1 (omega arith))
     (λ c. turn-less (turned c.before.before.before).loop-f-test.true) loop-again (λ c. c.before.loop-f.invariant.1) returns-2)

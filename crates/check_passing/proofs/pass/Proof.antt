@@ -21,13 +21,13 @@ faces-fit-requires : tie.Need-faces_fit-requires
 faces-fit-requires c κs =
     let r = cleared c in
     let s = start r in
-    ((s.requires.cells_le_max_cells.0, s.requires.cells_le_max_cells.1, omega (arith, c.before.before.room-1.given, s.requires.cells_le_max_cells.3)), (s.requires.tables_long.0, (s.requires.tables_long.1, r.clear.ensures)))
+    ((s.requires.0.0, s.requires.0.1, omega (arith, c.before.before.room-1.given, s.requires.0.3)), (s.requires.1.0, (s.requires.1.1, r.clear.ensures)))
 
 sums-fit-requires : tie.Need-sums_fit-requires
 sums-fit-requires c κs =
     let a = c.before.before.before.before.before in
     let s = start (cleared a) in
-    (s.requires.cells_le_max_cells.2, omega (arith, c.before.before.room-2-1.given, a.before.room-1.given, s.requires.cells_le_max_cells.3))
+    (s.requires.0.2, omega (arith, c.before.before.room-2-1.given, a.before.room-1.given, s.requires.0.3))
 
 -- the sums as the faces leave them
 abbrev sums : tie.After-faces_fit → List ℕ
@@ -37,9 +37,9 @@ returns-2 : tie.Need-returns
 returns-2 c =
     let q = c.before.before.before.before.before in
     let s = start (cleared q.before) in
-    let done = q.faces-fit.ensures (not-false _ c.before.if-not-faces_fit.false) in
+    let done = q.faces-fit.ensures c.before.if-not-faces_fit.false in
     λ e. faces-pass s.args.firsts.now s.args.seconds.now s.args.fluxes.now s.args.cells s.args.faces s.args.volumes.now
-    s.args.shares.now s.args.reaches.now s.args.outsides.now (sums q) s.requires.cells_le_max_cells.1 done.0 done.1 (c.sums_fit.ensures e)
+    s.args.shares.now s.args.reaches.now s.args.outsides.now (sums q) s.requires.0.1 done.0 done.1 (c.sums_fit.ensures e)
 
 pub pass_spec : {M : Type 1} → statement M
 pass_spec =

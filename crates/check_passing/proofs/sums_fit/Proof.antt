@@ -28,7 +28,7 @@ loop-again c =
     let l = t.before.loop-c in (
       turn-within t.loop-c-test.true,
       below_more (λ k. SumFits (get_or s.args.volumes.now k 0) (get_or s.args.sums.now k 0)) l.c l.invariant.1
-          (c.before.sum_fits.ensures (not-false _ c.if-not-sum_fits.false)),
+          (c.before.sum_fits.ensures c.if-not-sum_fits.false),
     )
 
 abbrev begun-after : tie.After-loop-c invariant-loop decreases-loop → tie.Start invariant-loop decreases-loop

@@ -45,8 +45,8 @@ loop-again c =
     let outside-said = rw at-outside.before.before.before.is_negative_at.ensures at at-outside.before.outside_fits.ensures in
     let flux-said = rw c.before.before.size_at.ensures at c.before.flux_fits.ensures in (
       turn-within t.loop-f-test.true,
-      scan-pass _ _ _ l.invariant.1 outside-said (not-false _ at-outside.if-not-outside_fits.false),
-      scan-pass _ _ _ l.invariant.2 flux-said (not-false _ c.if-not-flux_fits.false),
+      scan-pass _ _ _ l.invariant.1 outside-said at-outside.if-not-outside_fits.false,
+      scan-pass _ _ _ l.invariant.2 flux-said c.if-not-flux_fits.false,
     )
 
 returns-3 : tie.Need-returns invariant-loop decreases-loop

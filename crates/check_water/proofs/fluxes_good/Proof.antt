@@ -35,13 +35,13 @@ returns : tie.Need-returns-then-not-flux_fits invariant-loop decreases-loop
 returns c =
     let t = turn c.before in
     let said = rw c.before.before.size_at.ensures at c.before.flux_fits.ensures in
-    scan-hit _ _ _ _ t.loop-f-test.true t.before.loop-f.invariant.1 said (not-true _ c.if-not-flux_fits.true)
+    scan-hit _ _ _ _ t.loop-f-test.true t.before.loop-f.invariant.1 said c.if-not-flux_fits.true
 
 loop-again : tie.Need-loop-f-preserved invariant-loop decreases-loop
 loop-again c =
     let t = turn c.before in
     let said = rw c.before.before.size_at.ensures at c.before.flux_fits.ensures in
-    (turn-within t.loop-f-test.true, scan-pass _ _ _ t.before.loop-f.invariant.1 said (not-false _ c.if-not-flux_fits.false))
+    (turn-within t.loop-f-test.true, scan-pass _ _ _ t.before.loop-f.invariant.1 said c.if-not-flux_fits.false)
 
 returns-2 : tie.Need-returns invariant-loop decreases-loop
 returns-2 c = let l = c.before.loop-f in scan-end _ _ _ _ l.invariant.0 c.loop-f-test.false l.invariant.1

@@ -29,7 +29,7 @@ abbrev opened : tie.After-first_passes-crossed → tie.Start
 opened c = begun c.before.before.before.before.before.before
 
 abbrev first : tie.After-claims_good-a → tie.After-first_passes-crossed
-first c = c.before.before.before.before.before.before.before
+first c = c.before.before.before.before.before.before
 
 claims-good-requires : tie.Need-claims_good-a-requires
 claims-good-requires c κs =
@@ -72,7 +72,7 @@ values-requires c κs =
 
 -- past 21, from where 22 has been tested
 abbrev tested : tie.After-values-b → tie.After-claims_good-a
-tested c = c.before.before.before
+tested c = c.before.before
 
 returns-2 : tie.Need-returns-in-Refused-b
 returns-2 c =

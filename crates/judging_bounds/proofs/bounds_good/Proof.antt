@@ -25,14 +25,14 @@ cell-fits-requires c κs = (c.loop-c-test.true, (start c).requires)
 
 returns : tie.Need-returns-then-not-cell_fits invariant-loop decreases-loop
 returns c = let t = c.before.before in scan-hit _ _ _ _ t.loop-c-test.true t.before.loop-c.invariant.1 c.before.cell_fits.ensures
-    (not-true _ c.if-not-cell_fits.true)
+    c.if-not-cell_fits.true
 
 add-c : tie.Need-overflow_add-c invariant-loop decreases-loop
 add-c c = let t = c.before.before in cell-next (start t).requires.0 t.loop-c-test.true
 
 loop-again : tie.Need-loop-c-preserved invariant-loop decreases-loop
 loop-again c = let t = c.before.before in
-    (turn-within t.loop-c-test.true, scan-pass _ _ _ t.before.loop-c.invariant.1 c.before.cell_fits.ensures (not-false _ c.if-not-cell_fits.false))
+    (turn-within t.loop-c-test.true, scan-pass _ _ _ t.before.loop-c.invariant.1 c.before.cell_fits.ensures c.if-not-cell_fits.false)
 
 returns-2 : tie.Need-returns invariant-loop decreases-loop
 returns-2 c = let l = c.before.loop-c in scan-end _ _ _ _ l.invariant.0 c.loop-c-test.false l.invariant.1

@@ -12,13 +12,13 @@ abbrev held : tie.After-holds-mass → tie.Start
 held c = start c.before
 
 holds-requires : tie.Need-holds-mass-requires
-holds-requires c κs = let s = start c in holds-asks s.requires.salted.0 s.requires.c_lt_cells
+holds-requires c κs = let s = start c in holds-asks s.requires.1.0 s.requires.0
 
 bounds-fit-requires : tie.Need-bounds_fit-requires
 bounds-fit-requires c κs =
     let h = c.before.before.before.before.before in
     let s = held h in
-    (s.requires.salted.1.volume_some s.args.c s.requires.c_lt_cells, has-fits s.requires.salted.0 s.requires.c_lt_cells s.requires.salted.2 h.holds-mass.ensures)
+    (s.requires.1.1.volume_some s.args.c s.requires.0, has-fits s.requires.1.0 s.requires.0 s.requires.1.2 h.holds-mass.ensures)
 
 returns : tie.Need-returns
 returns c = let h = c.before.before.before.before.before.before in rw (← h.holds-mass.ensures) c.bounds_fit.ensures
@@ -34,18 +34,18 @@ pub cell_fits_spec : {M : Type 1} → statement M
 cell_fits_spec =
     tie.close
     (tie.spec holds-requires
-    (λ c. let s = held c in (work-fits s.requires.salted.0 s.requires.c_lt_cells 1 least-one).0)
-    (λ c. let s = held c in (work-fits s.requires.salted.0 s.requires.c_lt_cells 1 least-one).1)
-    (λ c. let s = held c in (work-fits s.requires.salted.0 s.requires.c_lt_cells 1 least-one).2)
-    (λ c. let s = held c.before in work_in s.requires.c_lt_cells s.requires.salted.1 1 least-one)
-    (λ c. let s = held c.before in (work-fits s.requires.salted.0 s.requires.c_lt_cells 2 most-two).0)
-    (λ c. let s = held c.before in (work-fits s.requires.salted.0 s.requires.c_lt_cells 2 most-two).1)
-    (λ c. let s = held c.before in (work-fits s.requires.salted.0 s.requires.c_lt_cells 2 most-two).2)
-    (λ c. let s = held c.before.before in work_in s.requires.c_lt_cells s.requires.salted.1 2 most-two)
-    (λ c. let s = held c.before.before in cell-bytes s.requires.salted.0 s.requires.c_lt_cells)
-    (λ c. let s = held c.before.before.before in volume-in s.requires.c_lt_cells s.requires.salted.1)
-    (λ c. let s = held c.before.before.before in cell-bytes s.requires.salted.0 s.requires.c_lt_cells)
-    (λ c. let s = held c.before.before.before.before in enters-in s.requires.c_lt_cells s.requires.salted.2)
-    (λ c. let s = held c.before.before.before.before in cell-bytes s.requires.salted.0 s.requires.c_lt_cells)
-    (λ c. let s = held c.before.before.before.before.before in leaves_in s.requires.c_lt_cells s.requires.salted.2)
+    (λ c. let s = held c in (work-fits s.requires.1.0 s.requires.0 1 least-one).0)
+    (λ c. let s = held c in (work-fits s.requires.1.0 s.requires.0 1 least-one).1)
+    (λ c. let s = held c in (work-fits s.requires.1.0 s.requires.0 1 least-one).2)
+    (λ c. let s = held c.before in work_in s.requires.0 s.requires.1.1 1 least-one)
+    (λ c. let s = held c.before in (work-fits s.requires.1.0 s.requires.0 2 most-two).0)
+    (λ c. let s = held c.before in (work-fits s.requires.1.0 s.requires.0 2 most-two).1)
+    (λ c. let s = held c.before in (work-fits s.requires.1.0 s.requires.0 2 most-two).2)
+    (λ c. let s = held c.before.before in work_in s.requires.0 s.requires.1.1 2 most-two)
+    (λ c. let s = held c.before.before in cell-bytes s.requires.1.0 s.requires.0)
+    (λ c. let s = held c.before.before.before in volume-in s.requires.0 s.requires.1.1)
+    (λ c. let s = held c.before.before.before in cell-bytes s.requires.1.0 s.requires.0)
+    (λ c. let s = held c.before.before.before.before in enters-in s.requires.0 s.requires.1.2)
+    (λ c. let s = held c.before.before.before.before in cell-bytes s.requires.1.0 s.requires.0)
+    (λ c. let s = held c.before.before.before.before.before in leaves_in s.requires.0 s.requires.1.2)
     bounds-fit-requires returns)

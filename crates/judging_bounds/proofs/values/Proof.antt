@@ -8,7 +8,7 @@ use Rattle.judging_bounds.proofs.values.Tie as tie
 values-in-requires : tie.Need-values_in-requires
 values-in-requires c κs =
     let s = c.before.before.before.before.before.before.before.before in
-    (s.requires.long_enough, (s.requires.faces_fit.0, (s.requires.faces_fit.1, (zeros (max_cells + 1), zeros (max_cells + 1)))))
+    (s.requires.0, (s.requires.1.0, (s.requires.1.1, (zeros (max_cells + 1), zeros (max_cells + 1)))))
 
 pub values_spec : {M : Type 1} → statement M
 values_spec = tie.close (tie.spec (search rules) (search rules) values-in-requires (λ c. c.before.before.values_in.ensures))

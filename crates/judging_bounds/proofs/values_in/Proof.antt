@@ -15,16 +15,16 @@ start c = entered c.before.before.before.before.before
 gather-requires : tie.Need-gather-requires
 gather-requires c κs =
     let s = entered c.before.before.before.before in
-    ((s.requires.long_enough.1, s.requires.long_enough.3, s.requires.long_enough.4, s.requires.long_enough.5), (s.requires.faces_fit.0, s.requires.faces_fit.1.1))
+    ((s.requires.0.1, s.requires.0.3, s.requires.0.4, s.requires.0.5), (s.requires.1.0, s.requires.1.1.1))
 
 bounds-good-requires : tie.Need-bounds_good-requires
 bounds-good-requires c κs =
     let g = c.before.before.before.before.before.before in
     let s = start g in
-    let t = s.requires.faces_fit.1.0 in (
+    let t = s.requires.1.1.0 in (
       t.0,
       t.1,
-      summed s.args.cells s.args.faces s.args.firsts.now s.args.seconds.now s.args.claim.now s.requires.long_enough.0 s.requires.long_enough.1 s.requires.faces_fit.0
+      summed s.args.cells s.args.faces s.args.firsts.now s.args.seconds.now s.args.claim.now s.requires.0.0 s.requires.0.1 s.requires.1.0
           _ _ g.gather.ensures.0 g.gather.ensures.1,
     )
 
@@ -33,8 +33,8 @@ returns c =
     let g = c.before.before.before.before.before.before.before in
     let s = start g in
     c.bounds_good.ensures
-    ∙ bounds-read s.args.cells s.args.faces s.args.firsts.now s.args.seconds.now s.args.claim.now s.requires.long_enough.0 s.requires.long_enough.1
-    s.requires.faces_fit.0
+    ∙ bounds-read s.args.cells s.args.faces s.args.firsts.now s.args.seconds.now s.args.claim.now s.requires.0.0 s.requires.0.1
+    s.requires.1.0
     _ _ g.gather.ensures.0 g.gather.ensures.1 s.args.volumes.now s.args.masses.now s.args.releases.now s.args.work.now
 
 pub values_in_spec : {M : Type 1} → statement M

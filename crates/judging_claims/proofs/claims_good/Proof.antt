@@ -26,14 +26,14 @@ face-fits-requires c κs =
 
 returns : tie.Need-returns-then-not-face_fits invariant-loop decreases-loop
 returns c = let t = c.before.before in scan-hit _ _ _ _ t.loop-f-test.true t.before.loop-f.invariant.1 c.before.face_fits.ensures
-    (not-true _ c.if-not-face_fits.true)
+    c.if-not-face_fits.true
 
 add-f : tie.Need-overflow_add-f invariant-loop decreases-loop
 add-f c = let t = c.before.before in let s = start t in turn-next t.loop-f-test.true s.requires.0 s.well_formed.1.0.0
 
 loop-again : tie.Need-loop-f-preserved invariant-loop decreases-loop
 loop-again c = let t = c.before.before in
-    (turn-within t.loop-f-test.true, scan-pass _ _ _ t.before.loop-f.invariant.1 c.before.face_fits.ensures (not-false _ c.if-not-face_fits.false))
+    (turn-within t.loop-f-test.true, scan-pass _ _ _ t.before.loop-f.invariant.1 c.before.face_fits.ensures c.if-not-face_fits.false)
 
 returns-2 : tie.Need-returns invariant-loop decreases-loop
 returns-2 c = let l = c.before.loop-f in scan-end _ _ _ _ l.invariant.0 c.loop-f-test.false l.invariant.1

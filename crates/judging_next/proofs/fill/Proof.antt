@@ -25,20 +25,20 @@ next-of-requires : tie.Need-next_of-mass-requires invariant-loop decreases-loop
 next-of-requires c κs = let p = (start c).requires in (c.loop-c-test.true, (p.1.0, p.1.1))
 
 mul_next : tie.Need-offset_bounds-next-c invariant-loop decreases-loop
-mul_next c = let t = c.before in cell-bytes (start t).requires.salted.0.0 t.loop-c-test.true
+mul_next c = let t = c.before in cell-bytes (start t).requires.1.0.0 t.loop-c-test.true
 
 write-next : tie.Need-bounds-next-c invariant-loop decreases-loop
-write-next c = let t = c.before in turn-in-same t.loop-c-test.true (start t).requires.cells_in_bounds t.before.loop-c.invariant.0
+write-next c = let t = c.before in turn-in-same t.loop-c-test.true (start t).requires.0 t.before.loop-c.invariant.0
 
 add-c : tie.Need-overflow_add-c invariant-loop decreases-loop
-add-c c = let t = c.before in cell-next (start t).requires.salted.0.0 t.loop-c-test.true
+add-c c = let t = c.before in cell-next (start t).requires.1.0.0 t.loop-c-test.true
 
 loop-again : tie.Need-loop-c-preserved invariant-loop decreases-loop
 loop-again c =
     let t = c.before in
     let l = t.before.loop-c in
     let h = t.loop-c-test.true in
-    (simp length-set l.invariant.0, turn-within h, over-step _ _ _ (turn_in h (start t).requires.cells_in_bounds) l.invariant.2 c.next_of-mass.ensures)
+    (simp length-set l.invariant.0, turn-within h, over-step _ _ _ (turn_in h (start t).requires.0) l.invariant.2 c.next_of-mass.ensures)
 
 returns : tie.Need-returns invariant-loop decreases-loop
 returns c =

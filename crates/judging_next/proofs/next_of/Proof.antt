@@ -7,13 +7,13 @@ abbrev start : tie.After-holds-mass → tie.Start
 start c = c.before.before.before.before.before
 
 holds-requires : tie.Need-holds-mass-requires
-holds-requires c κs = let s = c.before.before.before.before in holds-asks s.requires.salted.0.0 s.requires.c_lt_cells
+holds-requires c κs = let s = c.before.before.before.before in holds-asks s.requires.1.0.0 s.requires.0
 
 add-result : tie.Need-overflow_add-result
-add-result c = let h = c.before in let s = start h in sum_fits s.requires.salted.0.0 s.requires.c_lt_cells s.requires.salted.0.1 h.holds-mass.ensures
+add-result c = let h = c.before in let s = start h in sum_fits s.requires.1.0.0 s.requires.0 s.requires.1.0.1 h.holds-mass.ensures
 
 sub-result : tie.Need-overflow_sub-result
-sub-result c = let h = c.before.before in let s = start h in rw h.holds-mass.ensures (s.requires.salted.1 s.args.c s.requires.c_lt_cells)
+sub-result c = let h = c.before.before in let s = start h in rw h.holds-mass.ensures (s.requires.1.1 s.args.c s.requires.0)
 
 returns : tie.Need-returns
 returns c = rw c.before.before.holds-mass.ensures

@@ -12,10 +12,10 @@ abbrev to-next : tie.After-field-arg-1 → tie.After-next-1
 to-next c = c.before.before.before.before.before.before.before.before
 
 abbrev to-moved : tie.After-field → tie.After-moved-1
-to-moved c = c.before.before.before.before.before.before.before.before
+to-moved c = c.before.before.before.before.before.before.before
 
 abbrev to-work : tie.After-bytes-1 → tie.After-work-1
-to-work c = c.before.before.before.before.before.before.before.before
+to-work c = c.before.before.before.before.before.before.before
 
 abbrev to_step : tie.Else-bytes-field_bytes → tie.After-step_in-answer
 to_step c = c.before.before.before.before.before.before.before.before

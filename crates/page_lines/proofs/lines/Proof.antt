@@ -26,7 +26,7 @@ line-if-requires : tie.Need-line_if-at-requires invariant-loop decreases-loop
 line-if-requires c κs =
     let at-loop = c.before.before.before.before.before in
     let start = at-loop.before.before.before.before.before in
-    (start.requires.by_index (start.args.first + at-loop.loop-i.i) (omega arith), omega arith)
+    (start.requires.1 (start.args.first + at-loop.loop-i.i) (omega arith), omega arith)
 
 loop-again : tie.Need-loop-i-preserved invariant-loop decreases-loop
 unfolding line_of

@@ -20,7 +20,7 @@ decreases-loop bytes₀ first stride width n values i₀ bytes i = n - i
 row_in : (c : tie.In-loop-i invariant-loop decreases-loop)
     → let s = c.before.before.before.before in let at = s.args.first + c.before.loop-i.i * s.args.stride in
     (at + s.args.width ≤ 8 * length s.args.bytes.now) × (at + s.args.width < 2 ^ 64)
-row_in c = c.before.before.before.before.requires.by_index.0 c.before.loop-i.i c.loop-i-test.true
+row_in c = c.before.before.before.before.requires.1.0 c.before.loop-i.i c.loop-i-test.true
 
 mul-write-bits : tie.Need-overflow_mul-i invariant-loop decreases-loop
 mul-write-bits c = offset-fits _ _ _ (row_in c.before).1
@@ -31,23 +31,23 @@ add-write-bits c = place-fits _ _ _ (row_in c.before).1
 mul-value : tie.Need-offset_bounds-values-i invariant-loop decreases-loop
 mul-value c =
     let s = c.before.before.before.before.before in
-    turn-bytes c.before.loop-i-test.true s.requires.fact.2 s.well_formed.1.1.1.1.1.0.1
+    turn-bytes c.before.loop-i-test.true s.requires.0.2 s.well_formed.1.1.1.1.1.0.1
 
 read-value : tie.Need-bounds-values-i invariant-loop decreases-loop
-read-value c = let s = c.before.before.before.before.before.before in turn_in c.before.before.loop-i-test.true s.requires.fact.2
+read-value c = let s = c.before.before.before.before.before.before in turn_in c.before.before.loop-i-test.true s.requires.0.2
 
 write-bits-requires : tie.Need-write_bits-requires invariant-loop decreases-loop
 write-bits-requires c κs =
     let t = c.before.before in
     let s = t.before.before.before.before in
     let l = t.before.loop-i in
-    (rw l.invariant.1.same_length (row_in t).0, (row_in t).1, s.requires.fact.0, s.requires.by_index.1 l.i t.loop-i-test.true)
+    (rw l.invariant.1.same_length (row_in t).0, (row_in t).1, s.requires.0.0, s.requires.1.1 l.i t.loop-i-test.true)
 
 add-i : tie.Need-overflow_add-i invariant-loop decreases-loop
 add-i c =
     let t = c.before.before.before.before.before in
     let s = t.before.before.before.before in
-    turn-next t.loop-i-test.true s.requires.fact.2 s.well_formed.1.1.1.1.1.0.0
+    turn-next t.loop-i-test.true s.requires.0.2 s.well_formed.1.1.1.1.1.0.0
 
 loop-again : tie.Need-loop-i-preserved invariant-loop decreases-loop
 loop-again c =
@@ -57,7 +57,7 @@ loop-again c =
     let apart = row_apart s.args.first s.args.stride s.args.width in (
       turn-within t.loop-i-test.true,
       column-turn l.invariant.1 refl c.before.before.write_bits.ensures refl
-          (λ i m _. apart i l.i s.requires.fact.1 m),
+          (λ i m _. apart i l.i s.requires.0.1 m),
     )
 
 pub put_column_spec : {M : Type 1} → statement M

@@ -26,19 +26,19 @@ loop-holds c =
     (zero-le, sym (ap (λ k. s.args.first + k * s.args.width) none ∙ first-at s.args.first s.args.width), column-start _ _ _ _ _)
 
 mul-here : tie.Need-offset_bounds-marks-i invariant-loop decreases-loop
-mul-here c = let s = c.before.before.before.before.before in turn-bytes c.loop-i-test.true s.requires.fact.1 s.well_formed.1.1.1.1.1.0.1
+mul-here c = let s = c.before.before.before.before.before in turn-bytes c.loop-i-test.true s.requires.0.1 s.well_formed.1.1.1.1.1.0.1
 
 read_here : tie.Need-bounds-marks-i invariant-loop decreases-loop
-read_here c = turn_in c.before.loop-i-test.true c.before.before.before.before.before.before.requires.fact.1
+read_here c = turn_in c.before.loop-i-test.true c.before.before.before.before.before.before.requires.0.1
 
 mul-put-if : tie.Need-offset_bounds-values-i invariant-loop decreases-loop
 mul-put-if c =
     let t = c.before.before in
     let s = t.before.before.before.before.before in
-    turn-bytes t.loop-i-test.true s.requires.fact.1 s.well_formed.1.1.1.1.1.0.1
+    turn-bytes t.loop-i-test.true s.requires.0.1 s.well_formed.1.1.1.1.1.0.1
 
 read-put-if : tie.Need-bounds-values-i invariant-loop decreases-loop
-read-put-if c = let t = c.before.before.before in turn_in t.loop-i-test.true t.before.before.before.before.before.requires.fact.2
+read-put-if c = let t = c.before.before.before in turn_in t.loop-i-test.true t.before.before.before.before.before.requires.0.2
 
 -- a width after the place is small, whether the row is marked or not
 at_small : (c : tie.In-loop-i invariant-loop decreases-loop) → c.before.loop-i.at + c.before.before.before.before.before.args.width < 2 ^ 64
@@ -47,7 +47,7 @@ at_small c =
     let l = c.before.loop-i in
     let marks = marked s.args.mark s.args.marks.now in
     let most = those-most marks s.args.first s.args.width l.i s.args.n l.invariant.0 (le_refl _) in
-    rw l.invariant.1 (more-small s.args.width most s.requires.fact.4)
+    rw l.invariant.1 (more-small s.args.width most s.requires.0.4)
 
 put-if-requires : tie.Need-put_if-requires invariant-loop decreases-loop
 put-if-requires c κs =
@@ -55,8 +55,8 @@ put-if-requires c κs =
     let s = t.before.before.before.before.before in
     let l = t.before.loop-i in
     let marks = marked s.args.mark s.args.marks.now in
-    let m = those-room marks s.args.first s.args.width l.i s.args.n t.loop-i-test.true s.requires.fact.3 in
-    (rw (l.invariant.1, l.invariant.2.same_length) m, at_small t, s.requires.fact.0, s.requires.by_index l.i t.loop-i-test.true)
+    let m = those-room marks s.args.first s.args.width l.i s.args.n t.loop-i-test.true s.requires.0.3 in
+    (rw (l.invariant.1, l.invariant.2.same_length) m, at_small t, s.requires.0.0, s.requires.1 l.i t.loop-i-test.true)
 
 after-requires : tie.Need-after-at-requires invariant-loop decreases-loop
 after-requires c κs = at_small c.before.before.before.before.before.before
@@ -65,7 +65,7 @@ add-i : tie.Need-overflow_add-i invariant-loop decreases-loop
 add-i c =
     let t = c.before.before.before.before.before.before.before in
     let s = t.before.before.before.before.before in
-    turn-next t.loop-i-test.true s.requires.fact.1 s.well_formed.1.1.1.1.1.0.0
+    turn-next t.loop-i-test.true s.requires.0.1 s.well_formed.1.1.1.1.1.0.0
 
 loop-again : tie.Need-loop-i-preserved invariant-loop decreases-loop
 loop-again c =

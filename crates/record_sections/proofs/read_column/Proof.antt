@@ -22,34 +22,34 @@ decreases-loop bytes first stride width n out₀ i₀ out i = n - i
 -- the row's field is in the record
 row_in : (c : tie.In-loop-i invariant-loop decreases-loop)
     → let s = c.before.before.before.before in s.args.first + c.before.loop-i.i * s.args.stride + s.args.width ≤ 8 * length s.args.bytes.now
-row_in c = c.before.before.before.before.requires.by_index c.before.loop-i.i c.loop-i-test.true
+row_in c = c.before.before.before.before.requires.1 c.before.loop-i.i c.loop-i-test.true
 
 mul-read-bits : tie.Need-overflow_mul-i invariant-loop decreases-loop
-mul-read-bits c = offset-fits _ _ _ (place-small (row_in c) c.before.before.before.before.requires.fact.0)
+mul-read-bits c = offset-fits _ _ _ (place-small (row_in c) c.before.before.before.before.requires.0.0)
 
 add-read-bits : tie.Need-overflow_add-first invariant-loop decreases-loop
-add-read-bits c = place-fits _ _ _ (place-small (row_in c) c.before.before.before.before.requires.fact.0)
+add-read-bits c = place-fits _ _ _ (place-small (row_in c) c.before.before.before.before.requires.0.0)
 
 read-bits-requires : tie.Need-read_bits-requires invariant-loop decreases-loop
-read-bits-requires c κs = let s = c.before.before.before.before in (row_in c, place-small (row_in c) s.requires.fact.0, omega (arith, s.requires.fact.1))
+read-bits-requires c κs = let s = c.before.before.before.before in (row_in c, place-small (row_in c) s.requires.0.0, omega (arith, s.requires.0.1))
 
 mul-out : tie.Need-offset_bounds-out-i invariant-loop decreases-loop
-mul-out c = let s = c.before.before.before.before.before in turn-bytes c.before.loop-i-test.true s.requires.fact.2 s.well_formed.1.1.1.1.1.0.1
+mul-out c = let s = c.before.before.before.before.before in turn-bytes c.before.loop-i-test.true s.requires.0.2 s.well_formed.1.1.1.1.1.0.1
 
 write-out : tie.Need-bounds-out-i invariant-loop decreases-loop
 write-out c =
     let s = c.before.before.before.before.before in
-    turn-in-same c.before.loop-i-test.true s.requires.fact.2 c.before.before.loop-i.invariant.0
+    turn-in-same c.before.loop-i-test.true s.requires.0.2 c.before.before.loop-i.invariant.0
 
 add-i : tie.Need-overflow_add-i invariant-loop decreases-loop
-add-i c = let s = c.before.before.before.before.before in turn-next c.before.loop-i-test.true s.requires.fact.2 s.well_formed.1.1.1.1.1.0.0
+add-i c = let s = c.before.before.before.before.before in turn-next c.before.loop-i-test.true s.requires.0.2 s.well_formed.1.1.1.1.1.0.0
 
 loop-again : tie.Need-loop-i-preserved invariant-loop decreases-loop
 loop-again c =
     let s = c.before.before.before.before.before in
     let l = c.before.before.loop-i in
     let h = c.before.loop-i-test.true in
-    (simp length-set l.invariant.0, turn-within h, over-step _ _ _ (turn_in h s.requires.fact.2) l.invariant.2 c.read_bits.ensures)
+    (simp length-set l.invariant.0, turn-within h, over-step _ _ _ (turn_in h s.requires.0.2) l.invariant.2 c.read_bits.ensures)
 
 pub read_column_spec : {M : Type 1} → statement M
 read_column_spec =

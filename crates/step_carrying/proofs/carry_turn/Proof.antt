@@ -26,10 +26,10 @@ input s = step_through s.args.cells s.args.faces s.args.firsts.now s.args.second
 
 -- the one that the call was made for
 abbrev asked : tie.Start → StepInput
-asked s = input s s.requires.at_face.unseen
+asked s = input s s.requires.1.unseen
 
 ready : (s : tie.Start) → Ready (asked s)
-ready s = s.requires.at_face.ready
+ready s = s.requires.1.ready
 
 -- from each call back to the one before
 abbrev start : tie.After-slice_known-2-1 → tie.Start
@@ -50,7 +50,7 @@ crossed c = c.before.before.before.before.before.before
 
 -- inside
 abbrev inside : tie.After-concentration-b → tie.Else-second-eq-RIM
-inside c = c.before.before
+inside c = c.before
 
 abbrev read : tie.After-carry_inside → tie.After-concentration-b
 read c = c.before.before.before.before.before.before.before
@@ -62,14 +62,14 @@ concentration-requires : tie.Need-concentration-a-requires
 concentration-requires c κs =
     let s = start c.before.before.before in
     let r = ready s in (
-      in-first (asked s) r s.args.f s.requires.f_lt_faces _ _ s.args.next.now s.args.work.now s.args.moved.now s.requires.at_face.so_far,
-      lt_of_lt_of_le (r.fit.first-in s.args.f s.requires.f_lt_faces) r.counts_fit.few_cells,
+      in-first (asked s) r s.args.f s.requires.0 _ _ s.args.next.now s.args.work.now s.args.moved.now s.requires.1.so_far,
+      lt_of_lt_of_le (r.fit.first-in s.args.f s.requires.0) r.counts_fit.few_cells,
     )
 
 -- the concentration beyond a face at the rim is that outside
 outside-is : (c : tie.Then-second-eq-RIM) → let s = start-near c.before in
     get_or s.args.outsides.now s.args.f 0
-    ≡ far (asked s) (ready s) s.args.f s.requires.f_lt_faces _ _ s.args.next.now s.args.work.now s.args.moved.now s.requires.at_face.so_far
+    ≡ far (asked s) (ready s) s.args.f s.requires.0 _ _ s.args.next.now s.args.work.now s.args.moved.now s.requires.1.so_far
 outside-is c = rw (eq-eqb _ _ c.if-second-eq-RIM.true)
 
 carry-rim-requires : tie.Need-carry_rim-amount-requires
@@ -81,7 +81,7 @@ carry-rim-requires c κs =
       rim-asks s.args.f _ _ u.size_at-size.result (get_or s.args.shares.now s.args.f 0) (get_or s.args.reaches.now s.args.f 0)
           q.concentration-a.result _ s.args.cells _
           s.args.next.now s.args.moved.now s.args.work.now i.if-second-eq-RIM.true
-          (face-asks (asked s) (ready s) s.args.f s.requires.f_lt_faces _ _ s.args.next.now s.args.work.now s.args.moved.now s.requires.at_face.so_far
+          (face-asks (asked s) (ready s) s.args.f s.requires.0 _ _ s.args.next.now s.args.work.now s.args.moved.now s.requires.1.so_far
           u.before.is_negative_at-negative.result
           u.size_at-size.result q.concentration-a.result _ u.before.is_negative_at-negative.ensures u.size_at-size.ensures q.concentration-a.ensures
           (outside-is i)),
@@ -98,8 +98,8 @@ add-entered c =
     let q = i.before in
     let s = start-near q in
     record {
-      fits = rim-entered-fits (asked s) (ready s) s.args.f s.requires.f_lt_faces _ _ s.args.next.now s.args.work.now s.args.moved.now
-          s.requires.at_face.so_far
+      fits = rim-entered-fits (asked s) (ready s) s.args.f s.requires.0 _ _ s.args.next.now s.args.work.now s.args.moved.now
+          s.requires.1.so_far
           u.before.is_negative_at-negative.result u.size_at-size.result q.concentration-a.result _ t.carry_rim-amount.result
           u.before.is_negative_at-negative.ensures u.size_at-size.ensures q.concentration-a.ensures (outside-is i) _ _ _
           (rim-done s.args.f _ _ _ _ q.concentration-a.result _ s.args.cells t.carry_rim-amount.result _ _ _ _ _ _ _ _ i.if-second-eq-RIM.true
@@ -116,7 +116,7 @@ add-gone c =
     let q = i.before in
     let s = start-near q in
     record {
-      fits = rim-gone-fits (asked s) (ready s) s.args.f s.requires.f_lt_faces _ _ s.args.next.now s.args.work.now s.args.moved.now s.requires.at_face.so_far
+      fits = rim-gone-fits (asked s) (ready s) s.args.f s.requires.0 _ _ s.args.next.now s.args.work.now s.args.moved.now s.requires.1.so_far
           u.before.is_negative_at-negative.result u.size_at-size.result q.concentration-a.result _ t.carry_rim-amount.result
           u.before.is_negative_at-negative.ensures u.size_at-size.ensures q.concentration-a.ensures (outside-is i) _ _ _
           (rim-done s.args.f _ _ _ _ q.concentration-a.result _ s.args.cells t.carry_rim-amount.result _ _ _ _ _ _ _ _ i.if-second-eq-RIM.true
@@ -133,7 +133,7 @@ returns c =
     let i = at-rim u in
     let q = i.before in
     let s = start-near q in
-    λ v r k. rim-turn (input s v) r s.args.f s.requires.f_lt_faces _ _ s.args.next.now s.args.work.now s.args.moved.now k
+    λ v r k. rim-turn (input s v) r s.args.f s.requires.0 _ _ s.args.next.now s.args.work.now s.args.moved.now k
     u.before.is_negative_at-negative.result
     u.size_at-size.result q.concentration-a.result _ t.carry_rim-amount.result
     u.before.is_negative_at-negative.ensures u.size_at-size.ensures q.concentration-a.ensures (outside-is i) _ _ _
@@ -147,14 +147,14 @@ concentration-requires-2 c κs =
     let s = start-near i.before in
     let r = ready s in
     let d = i.if1.false in (
-      in-second (asked s) r s.args.f s.requires.f_lt_faces _ _ s.args.next.now s.args.work.now s.args.moved.now s.requires.at_face.so_far d,
-      lt_of_lt_of_le (r.fit.second_in s.args.f s.requires.f_lt_faces d) r.counts_fit.few_cells,
+      in-second (asked s) r s.args.f s.requires.0 _ _ s.args.next.now s.args.work.now s.args.moved.now s.requires.1.so_far d,
+      lt_of_lt_of_le (r.fit.second_in s.args.f s.requires.0 d) r.counts_fit.few_cells,
     )
 
 -- the one beyond a face inside is that of its second cell
 second_is : (c : tie.After-concentration-b) → let s = start-near (inside c).before in
     c.concentration-b.result
-    ≡ far (asked s) (ready s) s.args.f s.requires.f_lt_faces _ _ s.args.next.now s.args.work.now s.args.moved.now s.requires.at_face.so_far
+    ≡ far (asked s) (ready s) s.args.f s.requires.0 _ _ s.args.next.now s.args.work.now s.args.moved.now s.requires.1.so_far
 second_is c = rw (ne_eqb _ _ (inside c).if-second-eq-RIM.false) c.concentration-b.ensures
 
 carry-inside-requires : tie.Need-carry_inside-requires
@@ -164,7 +164,7 @@ carry-inside-requires c κs =
     let i = inside b in
     let q = i.before in
     let s = start-near q in (
-      inside-asks (asked s) (ready s) s.args.f s.requires.f_lt_faces _ _ s.args.next.now s.args.work.now s.args.moved.now s.requires.at_face.so_far
+      inside-asks (asked s) (ready s) s.args.f s.requires.0 _ _ s.args.next.now s.args.work.now s.args.moved.now s.requires.1.so_far
           _ q.concentration-a.result b.concentration-b.result
           (to_z-of_z w64 (get_or s.args.fluxes.now s.args.f (pos 0)) (record { sfits = w.flux-1.given })) q.concentration-a.ensures (second_is b),
       i.if-second-eq-RIM.false,
@@ -178,9 +178,9 @@ returns-2 c =
     let i = inside b in
     let q = i.before in
     let s = start-near q in
-    λ v r k. inside-turn (input s v) r s.args.f s.requires.f_lt_faces _ _ s.args.next.now s.args.work.now s.args.moved.now k _ _
+    λ v r k. inside-turn (input s v) r s.args.f s.requires.0 _ _ s.args.next.now s.args.work.now s.args.moved.now k _ _
     q.concentration-a.result b.concentration-b.result _ refl refl q.concentration-a.ensures (second_is b) _ _ _
-    (inside-done (input s v) r s.args.f s.requires.f_lt_faces _ _ s.args.next.now s.args.work.now s.args.moved.now k
+    (inside-done (input s v) r s.args.f s.requires.0 _ _ s.args.next.now s.args.work.now s.args.moved.now k
     _ q.concentration-a.result b.concentration-b.result _
     (to_z-of_z w64 (get_or s.args.fluxes.now s.args.f (pos 0)) (record { sfits = w.flux-1.given })) _ _ _ t.carry_inside.ensures)
     i.if-second-eq-RIM.false
@@ -189,20 +189,20 @@ pub carry_turn_spec : {M : Type 1} → statement M
 carry_turn_spec =
     tie.close
     (tie.spec
-    (λ c. face-bytes (start c).requires.f_lt_faces (few (start c))) (λ c. let s = start c.before in lt_of_lt_of_le s.requires.f_lt_faces (ready s).lent.firsts_long)
-    (λ c. let s = start c.before in face-bytes s.requires.f_lt_faces (few s))
-    (λ c. let s = start c.before.before in lt_of_lt_of_le s.requires.f_lt_faces (ready s).lent.seconds_long)
+    (λ c. face-bytes (start c).requires.0 (few (start c))) (λ c. let s = start c.before in lt_of_lt_of_le s.requires.0 (ready s).lent.firsts_long)
+    (λ c. let s = start c.before in face-bytes s.requires.0 (few s))
+    (λ c. let s = start c.before.before in lt_of_lt_of_le s.requires.0 (ready s).lent.seconds_long)
     concentration-requires
-    (λ c κs. let s = start-near c.before in lt_of_lt_of_le s.requires.f_lt_faces (ready s).fluxes_long)
-    (λ c κs. let s = start-near c.before.before in lt_of_lt_of_le s.requires.f_lt_faces (ready s).fluxes_long)
-    (λ c. let s = start-near (at-rim c).before in face-bytes s.requires.f_lt_faces (few s))
-    (λ c. let s = start-near (at-rim c.before).before in lt_of_lt_of_le s.requires.f_lt_faces (ready s).outsides_long)
+    (λ c κs. let s = start-near c.before in lt_of_lt_of_le s.requires.0 (ready s).fluxes_long)
+    (λ c κs. let s = start-near c.before.before in lt_of_lt_of_le s.requires.0 (ready s).fluxes_long)
+    (λ c. let s = start-near (at-rim c).before in face-bytes s.requires.0 (few s))
+    (λ c. let s = start-near (at-rim c.before).before in lt_of_lt_of_le s.requires.0 (ready s).outsides_long)
     carry-rim-requires (search rules) (search rules) add-entered add-gone (search rules) (search rules) (search rules) returns
     concentration-requires-2
-    (λ c. let s = start-near (inside c).before in face-bytes s.requires.f_lt_faces (few s))
-    (λ c. let s = start-near (inside c.before).before in lt_of_lt_of_le s.requires.f_lt_faces (ready s).lent.shares_long)
-    (λ c. let s = start-near (inside c.before).before in face-bytes s.requires.f_lt_faces (few s))
-    (λ c. let s = start-near (inside c.before.before).before in lt_of_lt_of_le s.requires.f_lt_faces (ready s).lent.reaches_long)
-    (λ c. let s = start-near (inside c.before.before).before in face-bytes s.requires.f_lt_faces (few s))
-    (λ c. let s = start-near (inside c.before.before).before in lt_of_lt_of_le s.requires.f_lt_faces (ready s).fluxes_long)
+    (λ c. let s = start-near (inside c).before in face-bytes s.requires.0 (few s))
+    (λ c. let s = start-near (inside c.before).before in lt_of_lt_of_le s.requires.0 (ready s).lent.shares_long)
+    (λ c. let s = start-near (inside c.before).before in face-bytes s.requires.0 (few s))
+    (λ c. let s = start-near (inside c.before.before).before in lt_of_lt_of_le s.requires.0 (ready s).lent.reaches_long)
+    (λ c. let s = start-near (inside c.before.before).before in face-bytes s.requires.0 (few s))
+    (λ c. let s = start-near (inside c.before.before).before in lt_of_lt_of_le s.requires.0 (ready s).fluxes_long)
     carry-inside-requires (search rules) (search rules) (search rules) returns-2)

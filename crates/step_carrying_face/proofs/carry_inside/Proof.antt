@@ -10,13 +10,13 @@ returns : tie.Need-returns-then-flux-eq0
 returns c =
     let s = c.before.before.before in
     still-done s.args.f s.args.first s.args.second s.args.share s.args.reach s.args.a s.args.b s.args.cells s.args.flux
-    s.args.next.now s.args.moved.now _ s.args.work.now _ s.requires.second_nonzero (still-flux s.args.flux s.ranges.flux c.if-flux-eq0.true) refl refl
+    s.args.next.now s.args.moved.now _ s.args.work.now _ s.requires.1 (still-flux s.args.flux s.ranges.flux c.if-flux-eq0.true) refl refl
 
 carry-wet-requires : tie.Need-carry_wet-requires
 carry-wet-requires c κs =
     let i = c.before.before.before in
     let s = i.before.before.before in
-    rw (to_z-of_z w64 s.args.flux s.ranges.flux) (s.requires.face_asks, (s.requires.second_nonzero, some-flux s.args.flux i.if-flux-eq0.false))
+    rw (to_z-of_z w64 s.args.flux s.ranges.flux) (s.requires.0, (s.requires.1, some-flux s.args.flux i.if-flux-eq0.false))
 
 returns-2 : tie.Need-returns
 returns-2 c =

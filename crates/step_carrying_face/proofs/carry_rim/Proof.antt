@@ -6,7 +6,7 @@ come-in-requires : tie.Need-come_in-requires
 come-in-requires c κs =
     let i = c.before.before.before in
     let s = i.before.before.before in
-    (rw i.if-negative.true at s.requires.face_asks, s.requires.size_nonzero i.if-negative.true)
+    (rw i.if-negative.true at s.requires.0, s.requires.1 i.if-negative.true)
 
 returns : tie.Need-returns-then-negative
 returns c =
@@ -16,7 +16,7 @@ returns c =
 go-out-requires : tie.Need-go_out-requires
 go-out-requires c κs =
     let i = c.before.before.before in
-    rw i.if-negative.false at i.before.before.before.requires.face_asks
+    rw i.if-negative.false at i.before.before.before.requires.0
 
 returns-2 : tie.Need-returns
 returns-2 c =

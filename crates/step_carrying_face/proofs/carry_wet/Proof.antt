@@ -59,10 +59,10 @@ upwind-small : (c : tie.After-upwind) → c.upwind.result ≤ max_concentration
 upwind-small c =
     let s = start c in
     rw (upwind-is c)
-    (either-most (is_negative s.args.flux) s.args.a s.args.b max_concentration s.requires.face_asks.first_most s.requires.face_asks.beyond_most)
+    (either-most (is_negative s.args.flux) s.args.a s.args.b max_concentration s.requires.0.first_most s.requires.0.beyond_most)
 
 amount-small : (c : tie.After-upwind) → size (start c).args.flux * c.upwind.result ≤ max_carried
-amount-small c = mul-le-mul (start c).requires.face_asks.size_most (upwind-small c)
+amount-small c = mul-le-mul (start c).requires.0.size_most (upwind-small c)
 
 times-requires : tie.Need-times-carried-requires
 times-requires c κs =
@@ -79,37 +79,37 @@ pass-requires : tie.Need-pass-requires
 pass-requires c κs =
     let w = c.before in
     let s = start w.before in
-    let p = s.requires.face_asks in
-    rw (to_z-of_z w64 w.times-carried.result (record { sfits = w.times-carried.type_inv }), carried-is w, p.next_long) ((p.ends, s.requires.second_nonzero.0), (p.afford, p.room))
+    let p = s.requires.0 in
+    rw (to_z-of_z w64 w.times-carried.result (record { sfits = w.times-carried.type_inv }), carried-is w, p.next_long) ((p.ends, s.requires.1.0), (p.afford, p.room))
 
 widen-requires-2 : tie.Need-widen-requires-2
 widen-requires-2 c κs =
     let w = c.before.before.before in
     let s = start-met w in
-    let p = s.requires.face_asks in
-    let i = p.ends.second_in s.requires.second_nonzero.0 in
+    let p = s.requires.0 in
+    let i = p.ends.second_in s.requires.1.0 in
     rw (w.widen.ensures, length-widened) (omega (arith, i, p.in_work), omega (arith, p.ends.few, i))
 
 correction-code-requires : tie.Need-correction_code-code-requires
 correction-code-requires c κs =
     let s = start (noted c.before.before).before in
-    let p = s.requires.face_asks in
-    let i = s.requires.second_nonzero.0 in
+    let p = s.requires.0 in
+    let i = s.requires.1.0 in
     rw (to_z-of_z w64 s.args.flux s.ranges.flux) (p.within_reach i, p.first_most, p.beyond_most, p.share_most, p.reach_some i, p.reach_most)
 
 mul-work : tie.Need-overflow_mul-work
-mul-work c = omega (arith, (start-last c).requires.face_asks.ends.few)
+mul-work c = omega (arith, (start-last c).requires.0.ends.few)
 
 add-work : tie.Need-overflow_add-work
-add-work c = let s = start-last c in omega (arith, s.requires.face_asks.ends.few, s.requires.face_asks.in_work, s.well_formed)
+add-work c = let s = start-last c in omega (arith, s.requires.0.ends.few, s.requires.0.in_work, s.well_formed)
 
 mul-work-2 : tie.Need-offset_bounds-work-cells
-mul-work-2 c = let s = start-last c in omega (arith, s.requires.face_asks.in_work, s.well_formed)
+mul-work-2 c = let s = start-last c in omega (arith, s.requires.0.in_work, s.well_formed)
 
 write-work : tie.Need-bounds-work-cells
 write-work c =
     let m = met-last c in
-    rw (m.widen-2.ensures, length-widened, (first-met m).widen.ensures, length-widened) (start-last c).requires.face_asks.in_work
+    rw (m.widen-2.ensures, length-widened, (first-met m).widen.ensures, length-widened) (start-last c).requires.0.in_work
 
 same-work : tie.Need-shape_of-work
 same-work c = let m = met-last c in simp length-set (rw (m.widen-2.ensures, length-widened, (first-met m).widen.ensures, length-widened))
@@ -123,7 +123,7 @@ returns c =
     let z = s.args.flux in
     wet-done s.args.f s.args.first s.args.second s.args.share s.args.reach s.args.a s.args.b s.args.cells
     c.correction_code-code.result z _
-    s.args.next.now _ s.args.moved.now _ s.args.work.now _ _ _ s.requires.second_nonzero.0 s.requires.second_nonzero.1
+    s.args.next.now _ s.args.moved.now _ s.args.work.now _ _ _ s.requires.1.0 s.requires.1.1
     (to_z-of_z w64 w.times-carried.result (record { sfits = w.times-carried.ok }) ∙ carried-is w) t.pass.ensures refl
     (first-met m).widen.ensures m.widen-2.ensures
     (c.correction_code-code.ensures ∙ ap (λ (y : ℤ). correction_of y s.args.a s.args.b s.args.share s.args.reach) (to_z-of_z w64 z s.ranges.flux))

@@ -13,7 +13,7 @@ use Rattle.step_cell.proofs.allowance_at.Tie as tie
 
 -- the volume times the greatest concentration is small
 top : (s : tie.Start) → s.args.volume * of_cell s.args.work.now s.args.c 2 ≤ max_volume * max_concentration
-top s = let p = s.requires.cell_asks in mul-le-mul p.volume_most p.most_small
+top s = let p = s.requires.1 in mul-le-mul p.volume_most p.most_small
 
 -- both bounds have been read
 abbrev start : tie.After-slice_known-3-1 → tie.Start
@@ -23,7 +23,7 @@ mul-gain-2 : tie.Need-overflow_mul-gain
 mul-gain-2 c = omega (arith, top (start c))
 
 add-gain-2 : tie.Need-overflow_add-gain-2
-add-gain-2 c = omega (arith, top (start c), (start c).requires.cell_asks.volume_most)
+add-gain-2 c = omega (arith, top (start c), (start c).requires.1.volume_most)
 
 same_length : tie.Need-shape_of-work
 same_length c = rw c.before.before.fill.ensures (length-filled _ _ _ _ _ _)
@@ -35,10 +35,10 @@ returns c = c.before.before.fill.ensures
 pub allowance_at_spec : {M : Type 1} → statement M
 allowance_at_spec =
     tie.close
-    (tie.spec (λ c. base-fits c.before.requires.c_in_bounds.1)
-    (λ c. slot-fits 1 refl c.before.requires.c_in_bounds.1) (λ c. slot-bytes 1 refl c.before.requires.c_in_bounds.1) (λ c. slot-in _ 1 _ refl c.before.before.requires.c_in_bounds.0)
+    (tie.spec (λ c. base-fits c.before.requires.0.1)
+    (λ c. slot-fits 1 refl c.before.requires.0.1) (λ c. slot-bytes 1 refl c.before.requires.0.1) (λ c. slot-in _ 1 _ refl c.before.before.requires.0.0)
     (search rules)
-    (λ c. c.before.before.requires.cell_asks.above)
-    (λ c. slot-fits 2 refl c.before.before.requires.c_in_bounds.1) (λ c. slot-bytes 2 refl c.before.before.requires.c_in_bounds.1)
-    (λ c. slot-in _ 2 _ refl (start c).requires.c_in_bounds.0) mul-gain-2 add-gain-2
-    (search rules) (λ c. (start c).requires.cell_asks.below) (search rules) (λ c κs. (start c.before).requires.c_in_bounds) same_length returns)
+    (λ c. c.before.before.requires.1.above)
+    (λ c. slot-fits 2 refl c.before.before.requires.0.1) (λ c. slot-bytes 2 refl c.before.before.requires.0.1)
+    (λ c. slot-in _ 2 _ refl (start c).requires.0.0) mul-gain-2 add-gain-2
+    (search rules) (λ c. (start c).requires.1.below) (search rules) (λ c κs. (start c.before).requires.0) same_length returns)

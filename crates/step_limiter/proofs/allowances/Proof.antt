@@ -38,7 +38,7 @@ allowance-at-requires c κs =
     let l = w.before.loop-c in
     let s = start w in (
       (rw l.invariant.1.same_length (omega arith), omega arith),
-      rw (l.invariant.1.kept (4 * l.c + 1) (omega arith), l.invariant.1.kept (4 * l.c + 2) (omega arith)) (s.requires.by_index l.c w.loop-c-test.true),
+      rw (l.invariant.1.kept (4 * l.c + 1) (omega arith), l.invariant.1.kept (4 * l.c + 2) (omega arith)) (s.requires.1 l.c w.loop-c-test.true),
     )
 
 loop-again : tie.Need-loop-c-preserved invariant-loop decreases-loop
@@ -59,10 +59,10 @@ pub allowances_spec : {M : Type 1} → statement M
 allowances_spec =
     tie.close
     (tie.spec invariant-loop decreases-loop (λ c. (search rules, filling-start _ _ _ _ _))
-    (λ c. cell-bytes (below c.before) (start c.before).requires.cells_le_max_cells.0)
-    (λ c. lt_of_lt_of_le (below c.before.before) (start c.before.before).requires.cells_le_max_cells.1)
-    (λ c. cell-bytes (below c.before.before) (start c.before.before).requires.cells_le_max_cells.0)
-    (λ c. lt_of_lt_of_le (below c.before.before.before) (start c.before.before.before).requires.cells_le_max_cells.2)
+    (λ c. cell-bytes (below c.before) (start c.before).requires.0.0)
+    (λ c. lt_of_lt_of_le (below c.before.before) (start c.before.before).requires.0.1)
+    (λ c. cell-bytes (below c.before.before) (start c.before.before).requires.0.0)
+    (λ c. lt_of_lt_of_le (below c.before.before.before) (start c.before.before.before).requires.0.2)
     allowance-at-requires
-    (λ c. let w = turned c.before.before in cell-next (below w) (start w).requires.cells_le_max_cells.0) (λ c. falls _ _ (below (turned c.before.before))) loop-again
+    (λ c. let w = turned c.before.before in cell-next (below w) (start w).requires.0.0) (λ c. falls _ _ (below (turned c.before.before))) loop-again
     (λ c. c.before.loop-c.invariant.1.same_length) returns)

@@ -44,10 +44,10 @@ start-cell-requires c κs =
     let w = c.before.before.before.before.before.before in
     let l = w.before.loop-c in
     let s = start w in (
-      (s.requires.cells_in_bounds.1 l.c (below w)).0,
-      rw l.invariant.1 (omega (arith, below w, s.requires.cells_in_bounds.0)),
-      rw l.invariant.2.filling.same_length (omega (arith, below w, s.requires.cells_in_bounds.0)),
-      lt_of_lt_of_le (below w) s.requires.cells_le_max_cells.0,
+      (s.requires.1.1 l.c (below w)).0,
+      rw l.invariant.1 (omega (arith, below w, s.requires.1.0)),
+      rw l.invariant.2.filling.same_length (omega (arith, below w, s.requires.1.0)),
+      lt_of_lt_of_le (below w) s.requires.0.0,
     )
 
 -- the turn is done
@@ -65,7 +65,7 @@ loop-again c =
       ap length t.start_cell.ensures.0 ∙ length-set l.next l.c _ ∙ l.invariant.1,
       concentrations-turn s.args.volumes.now (raised s.args.cells s.args.masses.now s.args.releases.now) s.args.work.now l.c
           l.next l.work _ _
-          (rw l.invariant.1 (omega (arith, below w, s.requires.cells_in_bounds.0))) (omega (arith, below w, s.requires.cells_in_bounds.0)) l.invariant.2
+          (rw l.invariant.1 (omega (arith, below w, s.requires.1.0))) (omega (arith, below w, s.requires.1.0)) l.invariant.2
           (rw (mass-is m) t.start_cell.ensures.0) (rw (mass-is m) t.start_cell.ensures.1),
     )
 
@@ -77,13 +77,13 @@ pub concentrations_spec : {M : Type 1} → statement M
 concentrations_spec =
     tie.close
     (tie.spec invariant-loop decreases-loop (λ c. (search rules, refl, concentrations-start _ _ _ _))
-    (λ c. cell-bytes (below c) (start c).requires.cells_le_max_cells.0) (λ c. lt_of_lt_of_le (below c.before) (start c.before).requires.cells_le_max_cells.2)
-    (λ c. cell-bytes (below c.before) (start c.before).requires.cells_le_max_cells.0)
-    (λ c. lt_of_lt_of_le (below c.before.before) (start c.before.before).requires.cells_le_max_cells.3)
-    (λ c κs. let w = c.before.before in ((start w).requires.cells_in_bounds.1 w.before.loop-c.c (below w)).1)
-    (λ c. let w = c.before.before.before in cell-bytes (below w) (start w).requires.cells_le_max_cells.0)
-    (λ c. let w = c.before.before.before.before in lt_of_lt_of_le (below w) (start w).requires.cells_le_max_cells.1)
+    (λ c. cell-bytes (below c) (start c).requires.0.0) (λ c. lt_of_lt_of_le (below c.before) (start c.before).requires.0.2)
+    (λ c. cell-bytes (below c.before) (start c.before).requires.0.0)
+    (λ c. lt_of_lt_of_le (below c.before.before) (start c.before.before).requires.0.3)
+    (λ c κs. let w = c.before.before in ((start w).requires.1.1 w.before.loop-c.c (below w)).1)
+    (λ c. let w = c.before.before.before in cell-bytes (below w) (start w).requires.0.0)
+    (λ c. let w = c.before.before.before.before in lt_of_lt_of_le (below w) (start w).requires.0.1)
     start-cell-requires
-    (λ c. let w = turned c.before.before.before.before in cell-next (below w) (start w).requires.cells_le_max_cells.0)
+    (λ c. let w = turned c.before.before.before.before in cell-next (below w) (start w).requires.0.0)
     (λ c. falls _ _ (below (turned c.before.before.before.before))) loop-again
     (λ c. c.before.loop-c.invariant.1) (λ c. c.before.loop-c.invariant.2.filling.same_length) returns)

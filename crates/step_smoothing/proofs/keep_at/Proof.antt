@@ -41,7 +41,7 @@ giver-few c = let p = (start c).requires.inside (some c) in end-holds (λ e. e <
 
 -- both low-order q are read
 abbrev ends : tie.After-low_of-to → tie.After-end_to-giver
-ends c = c.before.before.before.before
+ends c = c.before.before
 
 abbrev to_cell : tie.Start → ℕ
 to_cell s = enters (code s) s.args.first s.args.second

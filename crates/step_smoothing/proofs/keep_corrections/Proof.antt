@@ -43,7 +43,7 @@ keep-at-requires c κs =
     let w = c.before.before.before in
     let l = w.before.loop-f in
     let s = start w in
-    rw (as_it_was w) (keep-asks (mesh s) s.args.work.now s.requires.corrections_in s.requires.uncounted l.f (below w) l.work l.invariant.1)
+    rw (as_it_was w) (keep-asks (mesh s) s.args.work.now s.requires.0 s.requires.1 l.f (below w) l.work l.invariant.1)
 
 loop-again : tie.Need-loop-f-preserved invariant-loop decreases-loop
 loop-again c =
@@ -51,7 +51,7 @@ loop-again c =
     let l = w.before.loop-f in
     let s = start w in (
       omega (arith, below w),
-      keep-turn (mesh s) s.args.work.now s.requires.corrections_in s.requires.uncounted l.f (below w) l.work l.invariant.1 _
+      keep-turn (mesh s) s.args.work.now s.requires.0 s.requires.1 l.f (below w) l.work l.invariant.1 _
           (rw (as_it_was w) at c.before.before.keep_at.ensures),
     )
 
@@ -63,13 +63,13 @@ pub keep_corrections_spec : {M : Type 1} → statement M
 keep_corrections_spec =
     tie.close
     (tie.spec invariant-loop decreases-loop (λ c. (search rules, keep-start _ _))
-    (λ c. cells_fit (start c.before).requires.corrections_in.few_cells)
-    (λ c. face-fits (below c.before) (start c.before).requires.corrections_in.few_cells (start c.before).requires.corrections_in.few_faces)
-    (λ c. face-bytes (below c.before) (start c.before).requires.corrections_in.few_faces)
-    (λ c. lt_of_lt_of_le (below c.before.before) (start c.before.before).requires.corrections_in.firsts_long)
-    (λ c. face-bytes (below c.before.before) (start c.before.before).requires.corrections_in.few_faces)
-    (λ c. lt_of_lt_of_le (below c.before.before.before) (start c.before.before.before).requires.corrections_in.seconds_long)
+    (λ c. cells_fit (start c.before).requires.0.few_cells)
+    (λ c. face-fits (below c.before) (start c.before).requires.0.few_cells (start c.before).requires.0.few_faces)
+    (λ c. face-bytes (below c.before) (start c.before).requires.0.few_faces)
+    (λ c. lt_of_lt_of_le (below c.before.before) (start c.before.before).requires.0.firsts_long)
+    (λ c. face-bytes (below c.before.before) (start c.before.before).requires.0.few_faces)
+    (λ c. lt_of_lt_of_le (below c.before.before.before) (start c.before.before.before).requires.0.seconds_long)
     keep-at-requires
-    (λ c. let w = c.before.before.before.before.before.before in face-next (below w) (start w).requires.corrections_in.few_faces)
+    (λ c. let w = c.before.before.before.before.before.before in face-next (below w) (start w).requires.0.few_faces)
     (λ c. let w = c.before.before.before.before.before.before in falls _ _ (below w))
     loop-again (λ c. c.before.loop-f.invariant.1.same_length) returns)

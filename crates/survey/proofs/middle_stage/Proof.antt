@@ -23,7 +23,7 @@ returns c =
     let at-loop = c.before.before.before in
     let p = at-loop.loop-i in
     found-bad _ _ p.i at-loop.before.coordinates_of-values.ensures p.invariant.1 c.before.is_allowed.ensures c.before.before.loop-i-test.true
-    (not-true _ c.if-not-is_allowed.true)
+    c.if-not-is_allowed.true
 
 loop-again : tie.Need-loop-i-preserved invariant-loop decreases-loop
 loop-again c =
@@ -31,7 +31,7 @@ loop-again c =
     let p = at-loop.loop-i in (
       turn-within c.before.before.loop-i-test.true,
       found-pass _ _ p.i at-loop.before.coordinates_of-values.ensures p.invariant.1
-          c.before.is_allowed.ensures (not-false _ c.if-not-is_allowed.false),
+          c.before.is_allowed.ensures c.if-not-is_allowed.false,
     )
 
 returns-2 : tie.Need-returns invariant-loop decreases-loop

@@ -31,7 +31,7 @@ loop-again c =
     let l = t.before.loop-c in (
       turn-within t.loop-c-test.true,
       below_more (λ k. CellFine (get_or s.args.volumes.now k 0) (get_or s.args.masses.now k 0) (get_or s.args.releases.now k 0)) l.c l.invariant.1
-          (c.before.cell_fits.ensures (not-false _ c.if-not-cell_fits.false)),
+          (c.before.cell_fits.ensures c.if-not-cell_fits.false),
     )
 
 returns-2 : tie.Need-returns invariant-loop decreases-loop

@@ -26,33 +26,33 @@ turn c = c.before.before.before.before
 
 -- a cell's place in bytes, of whichever table
 in_bytes : (t : tie.In-loop-c invariant-loop decreases-loop) → Fits w64 (t.before.loop-c.c * 8)
-in_bytes t = turn-bytes t.loop-c-test.true (start t).requires.cells_in_bounds.0 (start t).well_formed.1.0.1
+in_bytes t = turn-bytes t.loop-c-test.true (start t).requires.0.0 (start t).well_formed.1.0.1
 
 raised-fits-requires : tie.Need-raised_fits-requires invariant-loop decreases-loop
-raised-fits-requires c κs = let t = c.before.before.before in (start t).requires.by_index t.before.loop-c.c t.loop-c-test.true
+raised-fits-requires c κs = let t = c.before.before.before in (start t).requires.1 t.before.loop-c.c t.loop-c-test.true
 
 returns : tie.Need-returns-then-not-raised_fits invariant-loop decreases-loop
 returns c = let t = turn c.before in
-    scan-hit _ _ _ _ t.loop-c-test.true t.before.loop-c.invariant.1 c.before.raised_fits.ensures (not-true _ c.if-not-raised_fits.true)
+    scan-hit _ _ _ _ t.loop-c-test.true t.before.loop-c.invariant.1 c.before.raised_fits.ensures c.if-not-raised_fits.true
 
 loop-again : tie.Need-loop-c-preserved invariant-loop decreases-loop
 loop-again c = let t = turn c.before in
-    (turn-within t.loop-c-test.true, scan-pass _ _ _ t.before.loop-c.invariant.1 c.before.raised_fits.ensures (not-false _ c.if-not-raised_fits.false))
+    (turn-within t.loop-c-test.true, scan-pass _ _ _ t.before.loop-c.invariant.1 c.before.raised_fits.ensures c.if-not-raised_fits.false)
 
 returns-2 : tie.Need-returns invariant-loop decreases-loop
 returns-2 c = let l = c.before.loop-c in scan-end _ _ _ _ l.invariant.0 c.loop-c-test.false l.invariant.1
 
 read-raised-fits : tie.Need-bounds-volumes-c invariant-loop decreases-loop
-read-raised-fits c = let t = c.before in turn_in t.loop-c-test.true (start t).requires.cells_in_bounds.0
+read-raised-fits c = let t = c.before in turn_in t.loop-c-test.true (start t).requires.0.0
 
 read-raised-fits-2 : tie.Need-bounds-masses-c invariant-loop decreases-loop
-read-raised-fits-2 c = let t = c.before.before in turn_in t.loop-c-test.true (start t).requires.cells_in_bounds.1
+read-raised-fits-2 c = let t = c.before.before in turn_in t.loop-c-test.true (start t).requires.0.1
 
 read-raised-fits-3 : tie.Need-bounds-releases-c invariant-loop decreases-loop
-read-raised-fits-3 c = let t = c.before.before.before in turn_in t.loop-c-test.true (start t).requires.cells_in_bounds.2
+read-raised-fits-3 c = let t = c.before.before.before in turn_in t.loop-c-test.true (start t).requires.0.2
 
 add-c : tie.Need-overflow_add-c invariant-loop decreases-loop
-add-c c = let t = turn c.before in turn-next t.loop-c-test.true (start t).requires.cells_in_bounds.0 (start t).well_formed.1.0.0
+add-c c = let t = turn c.before in turn-next t.loop-c-test.true (start t).requires.0.0 (start t).well_formed.1.0.0
 
 loop-less : tie.Need-loop-c-smaller invariant-loop decreases-loop
 loop-less c = turn-less (turn c.before).loop-c-test.true

@@ -18,10 +18,10 @@ abbrev decreases-loop : tie.decreases-loop-c
 decreases-loop width kind cells releases c₀ c = cells - c
 
 returns : tie.Need-returns-then-not-release_fits invariant-loop decreases-loop
-returns c = scan-hit _ _ _ _ (search rules) c.before.before.before.before.loop-c.invariant.1 c.before.release_fits.ensures (not-true _ c.if-not-release_fits.true)
+returns c = scan-hit _ _ _ _ (search rules) c.before.before.before.before.loop-c.invariant.1 c.before.release_fits.ensures c.if-not-release_fits.true
 
 loop-again : tie.Need-loop-c-preserved invariant-loop decreases-loop
-loop-again c = (search rules, scan-pass _ _ _ c.before.before.before.before.loop-c.invariant.1 c.before.release_fits.ensures (not-false _ c.if-not-release_fits.false))
+loop-again c = (search rules, scan-pass _ _ _ c.before.before.before.before.loop-c.invariant.1 c.before.release_fits.ensures c.if-not-release_fits.false)
 
 returns-2 : tie.Need-returns invariant-loop decreases-loop
 returns-2 c = scan-end _ _ _ _ (search rules) (search rules) c.before.loop-c.invariant.1

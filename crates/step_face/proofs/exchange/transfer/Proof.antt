@@ -20,17 +20,17 @@ lost c = rw (ends c).before.end_to-giver.ensures at c.lose.ensures
 lose-requires : tie.Need-lose-requires
 lose-requires c κs =
     let s = start c.before in
-    let g = giver-affords s.args.next.now s.args.first s.args.second s.args.negative s.args.amount s.requires.ends_in.0 s.requires.by_index.0
-    s.requires.by_index.1 s.requires.ends_in.1 in
-    rw c.before.before.end_to-giver.ensures (s.requires.ends_in.0.few, g.0, g.1)
+    let g = giver-affords s.args.next.now s.args.first s.args.second s.args.negative s.args.amount s.requires.0.0 s.requires.1.0
+    s.requires.1.1 s.requires.0.1 in
+    rw c.before.before.end_to-giver.ensures (s.requires.0.0.few, g.0, g.1)
 
 gain-requires : tie.Need-gain-requires
 gain-requires c κs =
     let w = c.before.before.before in
     let s = start (ends w) in
-    let g = receiver-has-room s.args.next.now s.args.first s.args.second s.args.negative s.args.amount s.requires.ends_in.0 s.requires.by_index.0
-    s.requires.by_index.1 s.requires.ends_in.1 _ (lost w) in
-    rw (ends w).end_to-receiver.ensures (rw (lost w).same_length s.requires.ends_in.0.few, g.0, g.1)
+    let g = receiver-has-room s.args.next.now s.args.first s.args.second s.args.negative s.args.amount s.requires.0.0 s.requires.1.0
+    s.requires.1.1 s.requires.0.1 _ (lost w) in
+    rw (ends w).end_to-receiver.ensures (rw (lost w).same_length s.requires.0.0.few, g.0, g.1)
 
 returns : tie.Need-returns
 returns c =

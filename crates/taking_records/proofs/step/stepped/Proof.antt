@@ -34,14 +34,14 @@ returns : tie.Need-returns-in-Refused
 returns c =
     let made = c.before.before.before.before.before.before in
     let s = begun made in
-    step-refused made.step_in-answer.ensures s.requires.next_len.0 s.requires.next_len.1 s.requires.next_len.2 c.in-Refused.is
+    step-refused made.step_in-answer.ensures s.requires.0.0 s.requires.0.1 s.requires.0.2 c.in-Refused.is
 
 returns-2 : tie.Need-returns-in-Stepped
 returns-2 c =
     let copied = c.before.before.before.before in
     let t = copied.before in
     let s = begun (stepped t) in
-    step-done (stepped t).step_in-answer.ensures s.requires.next_len.0 s.requires.next_len.1 s.requires.next_len.2 t.before.answer2.given.1 copied.copy.ensures
+    step-done (stepped t).step_in-answer.ensures s.requires.0.0 s.requires.0.1 s.requires.0.2 t.before.answer2.given.1 copied.copy.ensures
     c.sum_of.ensures
 
 -- each lent table is as long as it was: what is given of it right after the call that filled it
@@ -52,7 +52,7 @@ pub stepped_spec : {M : Type 1} → statement M
 stepped_spec =
     tie.close
     (tie.spec
-    (λ c κs. (lent c).requires.reaches_value)
+    (λ c κs. (lent c).requires.1)
     (search rules)
     (search rules)
     slice-reshare-prefix-copy

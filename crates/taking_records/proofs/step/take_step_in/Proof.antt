@@ -22,7 +22,7 @@ returns : tie.Need-returns-in-Refused
 returns c =
     let r = c.before.before.before.before.before.before in
     let s = begun r in
-    step-unread s.args.width (mesh s) s.args.masses.now r.read_step-read.ensures s.requires.fluxes_len.0 s.requires.fluxes_len.1 s.requires.fluxes_len.2
+    step-unread s.args.width (mesh s) s.args.masses.now r.read_step-read.ensures s.requires.0.0 s.requires.0.1 s.requires.0.2
     c.in-Refused.is
 
 slice-reshare-prefix-stepped : tie.Need-slice_bounds-stepped-end
@@ -62,14 +62,14 @@ slice-aggregate-stepped-3 c =
     part-long (releases-part s.args.width (mesh s) s.args.masses.now (reading t).read_step-read.ensures t.enum_told.given.1)
 
 stepped-requires : tie.Need-stepped-requires
-stepped-requires c κs = let s = begun (reading c.before.before.before.before.before.before) in (s.requires.next_len.0, s.requires.next_len.1)
+stepped-requires c κs = let s = begun (reading c.before.before.before.before.before.before) in (s.requires.1.0, s.requires.1.1)
 
 returns-2 : tie.Need-returns
 returns-2 c =
     let u = c.before.before.before.before.before.before.before in
     let t = u.before.before.before.before.before.before.before in
     let s = begun (reading t) in
-    step-took s.args.width (mesh s) s.args.masses.now (reading t).read_step-read.ensures s.requires.fluxes_len.0 s.requires.fluxes_len.1 s.requires.fluxes_len.2
+    step-took s.args.width (mesh s) s.args.masses.now (reading t).read_step-read.ensures s.requires.0.0 s.requires.0.1 s.requires.0.2
     t.enum_told.given.1 u.stepped.ensures
 
 -- each lent table is as long as it was: what is given of it right after the call that filled it
