@@ -1,3 +1,4 @@
+#![tactic(auto)]
 // The arguments of a call that is asked for in text, and its tables printed. Nothing here asks anything of its caller.
 pub mod parts;
 pub mod show;

@@ -1,3 +1,4 @@
+#![tactic(auto)]
 // Calls as text, read from standard input one number after another. Nothing here asks anything of its caller.
 pub mod faults;
 pub mod input;
