@@ -1,3 +1,4 @@
+#![tactic(auto)]
 // A number of a script, read one byte after another.
 ghost use Rattle.std.specs.Prelude.{◌<◌, ◌≤◌, ◌≡◌};
 ghost use Rattle.calls_numerals.specs.Numerals.{grown};
