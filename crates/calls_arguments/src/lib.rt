@@ -1,5 +1,6 @@
-#![tactic(auto)]
 // The arguments of a call that is asked for in text, and its tables printed. Nothing here asks anything of its caller.
+#![tactic(auto)]
+
 pub mod parts;
 pub mod show;
 

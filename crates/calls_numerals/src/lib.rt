@@ -1,5 +1,6 @@
-#![tactic(auto)]
 // A number of a script, read one byte after another.
+#![tactic(auto)]
+
 ghost use Rattle.std.specs.Prelude.{◌<◌, ◌≤◌, ◌≡◌};
 ghost use Rattle.calls_numerals.specs.Numerals.{grown};
 

@@ -1,5 +1,6 @@
-#![tactic(auto)]
 // The calls on tables: tests, total, board, step, plain step and judging.
+#![tactic(auto)]
+
 use calls_arguments::parts::{amounts, copy, copy_amounts, number, table};
 use calls_arguments::{ROOM, show};
 use transport::Way;

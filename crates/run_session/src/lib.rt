@@ -1,5 +1,6 @@
-#![tactic(auto)]
 // When a run ends, its lines of mesh, field and steps, and each line printed.
+#![tactic(auto)]
+
 mod faults;
 mod printing;
 
