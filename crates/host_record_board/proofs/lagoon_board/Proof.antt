@@ -20,21 +20,21 @@ number-of-requires : tie.Need-number_of-requires
 number-of-requires c κs =
     let t = c.before.before.before in
     let a = (start t).args in
-    refusal-of (untaken a.mesh.now a.field.now t.take-Cells.ensures.answer c.in-Refused.is)
+    refusal-of (untaken a.mesh.now a.field.now t.take_cells-a.ensures.answer c.in-Refused.is)
     (small-number _ (field-tested-small a.mesh.now a.field.now))
 
 answered-requires : tie.Need-answered-requires
 answered-requires c κs =
     let k = c.before.before.before.before in
     let a = (start (taking k)).args in
-    rw (board-made a.mesh.now a.field.now (taking k).take-Cells.ensures k.in-Taken.is c.before.board-shown.ensures)
+    rw (board-made a.mesh.now a.field.now (taking k).take_cells-a.ensures k.in-Taken.is c.before.board-shown.ensures)
     (board-fits a.mesh.now a.field.now)
 
 returns : tie.Need-returns-in-Refused
 returns c =
     let t = c.before.before.before.before in
     let a = (start t).args in
-    let e = untaken a.mesh.now a.field.now t.take-Cells.ensures.answer c.before.in-Refused.is in
+    let e = untaken a.mesh.now a.field.now t.take_cells-a.ensures.answer c.before.in-Refused.is in
     answered-refused shown_numbers a.found.now (board-untaken a.mesh.now a.field.now e) c.number_of.ensures
 
 returns-2 : tie.Need-returns-in-Taken
@@ -43,15 +43,15 @@ returns-2 c =
     let k = board.before.before.before in
     let a = (start (taking k)).args in
     answered-as shown_numbers a.found.now
-    (board-made a.mesh.now a.field.now (taking k).take-Cells.ensures k.in-Taken.is board.board-shown.ensures)
+    (board-made a.mesh.now a.field.now (taking k).take_cells-a.ensures k.in-Taken.is board.board-shown.ensures)
     c.before.before.answered.ensures
 
 pub lagoon_board_spec : {M : Type 1} → statement M
 lagoon_board_spec =
     tie.close
     (tie.spec (search rules) (search rules) (search rules) (search rules) number-of-requires (search rules)
-    (λ c. let k = c in volumes-fit _ _ (taking k).take-Cells.ensures k.in-Taken.is)
-    (λ c. let k = c.before in volumes_long _ _ (taking k).take-Cells.ensures k.in-Taken.is)
-    (λ c. let k = c.before in masses_fit _ _ (taking k).take-Cells.ensures k.in-Taken.is)
-    (λ c. let k = c.before.before in masses_long _ _ (taking k).take-Cells.ensures k.in-Taken.is)
+    (λ c. let k = c in volumes-fit _ _ (taking k).take_cells-a.ensures k.in-Taken.is)
+    (λ c. let k = c.before in volumes_long _ _ (taking k).take_cells-a.ensures k.in-Taken.is)
+    (λ c. let k = c.before in masses_fit _ _ (taking k).take_cells-a.ensures k.in-Taken.is)
+    (λ c. let k = c.before.before in masses_long _ _ (taking k).take_cells-a.ensures k.in-Taken.is)
     (search rules) answered-requires returns (search rules) returns-2)

@@ -13,20 +13,20 @@ start-from-masses2 c = c.before.before.before.before.before.before.before.before
 number-of-requires : tie.Need-number_of-requires
 number-of-requires c κs =
     let a = (start-from-masses2 c.before).args in
-    let t = c.before.before.before.take-Cells.ensures in
+    let t = c.before.before.before.take_cells-a.ensures in
     refusal-of (untaken a.mesh.now a.field.now t.answer c.in-Refused.is)
     (small-number _ (field-tested-small a.mesh.now a.field.now))
 
 returns : tie.Need-returns-in-Refused
 returns c =
     let a = (start-from-masses2 c.before.before).args in
-    let t = c.before.before.before.before.take-Cells.ensures in
+    let t = c.before.before.before.before.take_cells-a.ensures in
     total-untaken a.mesh.now a.field.now t.answer a.found.now c.before.in-Refused.is c.number_of.ensures
 
 returns-2 : tie.Need-returns-in-Taken
 returns-2 c =
     let a = (start-from-masses2 c.before.before.before.before.before).args in
-    let t = c.before.before.before.before.before.before.before.take-Cells.ensures in
+    let t = c.before.before.before.before.before.before.before.take_cells-a.ensures in
     total-taken a.mesh.now a.field.now t.answer a.found.now c.before.before.before.before.in-Taken.is
     c.before.before.fill1.ensures
 

@@ -12,7 +12,7 @@ answered-requires c κs = fits-as c.before.before.before.write_step-answer.ensur
 returns : tie.Need-returns
 returns c =
     let d = c.before.before.before.before.before.before in
-    step-named d.before.before.before.width_of_lem.ensures _ d.before.before.kind_named.ensures _ _ _ d.write_step-answer.ensures
+    step-named d.before.before.before.width_of.ensures _ d.before.before.kind_named.ensures _ _ _ d.write_step-answer.ensures
     c.before.before.answered.ensures
 
 pub lagoon_write_step_spec : {M : Type 1} → statement M
