@@ -15,7 +15,7 @@ abbrev start : tie.After-take_mesh-a → tie.Start
 start t = entered t.before.before.before.before.before.before.before.before.before
 
 -- from where the counts are known
-abbrev taking : tie.In-Read-2 → tie.After-take_mesh-a
+abbrev taking : tie.In-Read → tie.After-take_mesh-a
 taking k = (volumes-left k.before).before
 
 slice-reshare-prefix-take-field : tie.Need-slice_bounds-take_field-end
@@ -30,7 +30,7 @@ slice-aggregate-take-field c =
     let k = c in
     let s = start (taking k) in
     volumes_long s.args.mesh.now s.args.field.now (taking k).take_mesh-a.ensures
-    s.requires.0.0 s.requires.1.0 s.requires.1.1 s.requires.1.2 s.requires.1.3 k.a2.given.1
+    s.requires.0.0 s.requires.1.0 s.requires.1.1 s.requires.1.2 s.requires.1.3 k.in-Read.is
 
 returns : tie.Need-returns-in-Refused
 returns c =
@@ -45,7 +45,7 @@ returns-2 c =
     let k = f.before.before in
     let s = start (taking k) in
     field_refused s.args.mesh.now s.args.field.now (taking k).take_mesh-a.ensures
-    s.requires.0.0 s.requires.1.0 s.requires.1.1 s.requires.1.2 s.requires.1.3 k.a2.given.1
+    s.requires.0.0 s.requires.1.0 s.requires.1.1 s.requires.1.2 s.requires.1.3 k.in-Read.is
     f.take_field-b.ensures s.requires.0.1 c.in-Refused-b.is
 
 returns-3 : tie.Need-returns-in-Total
@@ -54,7 +54,7 @@ returns-3 c =
     let k = f.before.before in
     let s = start (taking k) in
     field_taken s.args.mesh.now s.args.field.now (taking k).take_mesh-a.ensures
-    s.requires.0.0 s.requires.1.0 s.requires.1.1 s.requires.1.2 s.requires.1.3 k.a2.given.1
+    s.requires.0.0 s.requires.1.0 s.requires.1.1 s.requires.1.2 s.requires.1.3 k.in-Read.is
     f.take_field-b.ensures s.requires.0.1 c.in-Total.is
 
 pub take_field_spec : {M : Type 1} → statement M
