@@ -1,5 +1,4 @@
-// A reader holds the record and the bit that it has come to. The borrow checker covers no function over such a struct: its few functions
-// are proved by hand, and leave the work to `number_at`, which takes a plain slice.
+// A reader holds the record and the bit that it has come to; its few functions leave the work to `number_at`, which takes a plain slice.
 #![tactic(auto)]
 
 ghost use Rattle.std.specs.Prelude.{◌≡◌, ◌+◌, ◌^◌, ◌<◌};
