@@ -4,5 +4,5 @@ use borrow.Author.Rules.{rules}
 use Rattle.bench_grid.proofs.column.Statement.{statement}
 use Rattle.bench_grid.proofs.column.Tie as tie
 
-pub column-spec : {M : Type 1} → statement M
-column-spec = tie.close (tie.spec (search rules) (λ c. mod-le _ _))
+pub column_spec : {M : Type 1} → statement M
+column_spec = tie.close (tie.spec (search rules) (λ c. mod-le _ _))

@@ -4,5 +4,5 @@ use borrow.Author.Rules.{rules}
 use Rattle.bench_grid.proofs.row.Statement.{statement}
 use Rattle.bench_grid.proofs.row.Tie as tie
 
-pub row-spec : {M : Type 1} → statement M
-row-spec = tie.close (tie.spec (search rules) (λ c. div-le_self _ _))
+pub row_spec : {M : Type 1} → statement M
+row_spec = tie.close (tie.spec (search rules) (λ c. div-le_self _ _))

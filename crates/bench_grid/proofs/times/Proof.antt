@@ -4,11 +4,11 @@ use native.Mathlib.Nat.{mul-le-mul}
 use Rattle.bench_grid.proofs.times.Statement.{statement}
 use Rattle.bench_grid.proofs.times.Tie as tie
 
-mul-result : tie.Need-overflow-mul-result
+mul-result : tie.Need-overflow_mul-result
 mul-result c = omega (arith, mul-le-mul c.requires.0 c.requires.1)
 
 returns : tie.Need-returns
 returns c = omega (arith, mul-le-mul c.requires.0 c.requires.1)
 
-pub times-spec : {M : Type 1} → statement M
-times-spec = tie.close (tie.spec mul-result returns)
+pub times_spec : {M : Type 1} → statement M
+times_spec = tie.close (tie.spec mul-result returns)

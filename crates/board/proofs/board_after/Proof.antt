@@ -7,29 +7,29 @@ use Rattle.board.proofs.Listed.{none-shown, entries-shown, accepted-board, refus
 use Rattle.board.proofs.board_after.Statement.{statement}
 use Rattle.board.proofs.board_after.Tie as tie
 
-none-of-requires : tie.Need-entries-of-requires
-none-of-requires c κs = omega (arith, c.empty-ranking.ensures.0)
+none-of-requires : tie.Need-entries_of-requires
+none-of-requires c κs = omega (arith, c.empty_ranking-none.ensures.0)
 
-returns : tie.Need-returns
+returns : tie.Need-returns-in-Refused
 returns c =
-    let none = c.before.empty-ranking in
+    let none = c.before.empty_ranking-none in
     let at_told = c.before.before in
-    refused-board _ _ _ _ _ _ at_told.enum_told.given.1 refl
-    none.ensures.0 (c.entries-of.ensures ∙ none-shown none.result.ranks none.ensures.0)
+    refused-board _ _ _ _ _ _ at_told.in-Refused.is refl
+    none.ensures.0 (c.entries_of.ensures ∙ none-shown none.result.ranks none.ensures.0)
 
-rank-requires : tie.Need-rank-requires
-rank-requires c κs = c.before.before.before.before.before.requires (ap said c.enum-told2.given.1)
+rank-requires : tie.Need-rank-ranking-requires
+rank-requires c κs = c.before.before.before.before.requires (ap said c.in_default.is)
 
-entries-of-requires : tie.Need-entries-of-requires-2
-entries-of-requires c κs = omega (arith, c.rank.ensures.0)
+entries-of-requires : tie.Need-entries_of-requires-2
+entries-of-requires c κs = omega (arith, c.rank-ranking.ensures.0)
 
-returns-2 : tie.Need-returns-2
+returns-2 : tie.Need-returns
 returns-2 c =
-    let ranked = c.before.rank in
+    let ranked = c.before.rank-ranking in
     let at_told = c.before.before in
-    accepted-board _ _ _ _ _ at_told.enum-told2.given.1 refl
-    ranked.ensures.0 (c.entries-of2.ensures ∙ entries-shown _ _ _ _ ranked.ensures.0 ranked.ensures.1)
+    accepted-board _ _ _ _ _ at_told.in_default.is refl
+    ranked.ensures.0 (c.entries_of-2.ensures ∙ entries-shown _ _ _ _ ranked.ensures.0 ranked.ensures.1)
 
-pub board-after-spec : {M : Type 1} → statement M
-board-after-spec =
+pub board_after_spec : {M : Type 1} → statement M
+board_after_spec =
     tie.close (tie.spec (search rules) (search rules) none-of-requires returns (search rules) rank-requires entries-of-requires returns-2)

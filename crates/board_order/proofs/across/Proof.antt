@@ -6,7 +6,7 @@ use borrow.Author.Rules.{rules}
 use Rattle.board_order.proofs.across.Statement.{statement}
 use Rattle.board_order.proofs.across.Tie as tie
 
-mul-result : tie.Need-overflow-mul-result
+mul-result : tie.Need-overflow_mul-result
 mul-result c =
     let r : c.args.rest < 2 ^ 32 = search rules in
     let v : c.args.volume < 2 ^ 32 = search rules in
@@ -17,5 +17,5 @@ mul-result c =
 returns : tie.Need-returns
 returns c = search rules
 
-pub across-spec : {M : Type 1} → statement M
-across-spec = tie.close (tie.spec mul-result returns)
+pub across_spec : {M : Type 1} → statement M
+across_spec = tie.close (tie.spec mul-result returns)

@@ -13,14 +13,14 @@ ints-long = length-replicate 120032 (pos 0)
 octets-long : length (replicate {A = ℕ} 120032 0) ≡ 120032
 octets-long = length-replicate {A = ℕ} 120032 0
 
-slice-aggregate-make : tie.Need-slice-aggregate-make
-slice-aggregate-make c = sym (c.before.before.before.before.before.signed-numbers.auto.1.0 ∙ ints-long)
+slice-aggregate-make : tie.Need-slice_bounds-make-end
+slice-aggregate-make c = sym (c.before.before.before.before.before.signed_numbers.auto.1.0 ∙ ints-long)
 
-slice-aggregate-make-2 : tie.Need-slice-aggregate-make-2
+slice-aggregate-make-2 : tie.Need-slice_bounds-make-end-2
 slice-aggregate-make-2 c = sym (c.before.before.before.bytes.auto.1.0 ∙ octets-long)
 
-pub made-spec : {M : Type 1} → statement M
-made-spec =
+pub made_spec : {M : Type 1} → statement M
+made_spec =
     tie.close
     (tie.spec (λ c. sym ints-long) (search rules) (λ c. sym octets-long) (search rules) slice-aggregate-make slice-aggregate-make-2
     (search rules) (search rules))

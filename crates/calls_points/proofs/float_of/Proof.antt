@@ -18,8 +18,8 @@ no_nan b h = go (eqb (b % 9223372036854775808 / 4503599627370496) 2047) refl
     go true e = rw (eq-eqb (b % 4503599627370496) 0 (omega (arith, eqb-true (b % 9223372036854775808 / 4503599627370496) 2047 e))) tt
     go false e = tt
 
-float-from-bits-result : tie.Need-float-from-bits-result
-float-from-bits-result c = no_nan c.before.args.pattern c.if1.false
+float-from-bits-result : tie.Need-float_from_bits-result
+float-from-bits-result c = no_nan c.before.args.pattern c.if-pattern-gt-INFINITE.false
 
-pub float-of-spec : {M : Type 1} → statement M
-float-of-spec = tie.close (tie.spec (search rules) float-from-bits-result (search rules))
+pub float_of_spec : {M : Type 1} → statement M
+float_of_spec = tie.close (tie.spec (search rules) float-from-bits-result (search rules))

@@ -13,8 +13,8 @@ is_number nan e = absurd (true≢false e)
 is_number (inf s) e = tt
 is_number (fin s m e) h = tt
 
-float-to-bits-number : tie.Need-float-to-bits-number
-float-to-bits-number c = is_number c.before.args.v c.if1.false
+float-to-bits-number : tie.Need-float_to_bits-v
+float-to-bits-number c = is_number c.before.args.v c.if-v.false
 
-pub show-float-spec : {M : Type 1} → statement M
-show-float-spec = tie.close (tie.spec (search rules) (search rules) (search rules) float-to-bits-number (search rules) (search rules))
+pub show_float_spec : {M : Type 1} → statement M
+show_float_spec = tie.close (tie.spec (search rules) (search rules) (search rules) float-to-bits-number (search rules) (search rules))

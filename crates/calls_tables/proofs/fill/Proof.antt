@@ -3,7 +3,7 @@ use Rattle.calls_tables.proofs.fill.Statement.{statement}
 use Rattle.calls_tables.proofs.fill.Tie as tie
 
 -- as many entries of work are lent as were copied into it
-array-borrow-prefix-work : tie.Need-array-borrow-prefix-work
+array-borrow-prefix-work : tie.Need-slice_bounds-work-end
 array-borrow-prefix-work c = search rules
 
 pub fill_spec : {M : Type 1} → statement M

@@ -7,13 +7,13 @@ returns c =
     let at-ends = at-prices.before.before in
     let at-bands = at-ends.before.before in
     rw (
-      c.and-then3.ensures,
-      c.before.need2.ensures,
-      at-prices.and-then2.ensures,
-      at-prices.before.long2.ensures,
-      at-ends.and_then.ensures,
+      c.and_then.ensures,
+      c.before.need.ensures,
+      at-prices.and_then-c.ensures,
+      at-prices.before.long-2.ensures,
+      at-ends.and_then-b.ensures,
       at-ends.before.long.ensures,
-      at-bands.need.ensures,
+      at-bands.need-a.ensures,
       at-bands.before.between.ensures,
     )
 

@@ -7,38 +7,38 @@ use Rattle.charge_totals.proofs.Laws.{lent-long, not-lent, too_much, added}
 use Rattle.charge_totals.proofs.add.Statement.{statement}
 use Rattle.charge_totals.proofs.add.Tie as tie
 
-returns : tie.Need-returns
-returns c = let at-lent = c.before.before.before in not-lent _ _ _ _ _ at-lent.lent.ensures _ (ap said c.before.tables.given.1)
+returns : tie.Need-returns-in-Refused
+returns c = let at-lent = c.before in not-lent _ _ _ _ _ at-lent.lent-tables.ensures _ (ap said c.in-Refused.is)
 
-gains-good-requires : tie.Need-gains-good-requires
+gains-good-requires : tie.Need-gains_good-gains-requires
 gains-good-requires c κs =
-    let told = c.before in
-    lent-long told.before.before.lent.ensures (ap said told.enum_told.given.1)
+    let told = c in
+    lent-long told.before.lent-tables.ensures (ap said told.enum_told.given.1)
 
-returns-2 : tie.Need-returns-2
+returns-2 : tie.Need-returns-in-Refused-gains
 returns-2 c =
-    let at-gains = c.before.before.before in
-    let told = at-gains.before.before in
-    too_much _ _ _ _ _ told.before.before.lent.ensures (ap said told.enum_told.given.1) _
-    (refuses at-gains.gains-good.ensures c.before.gains.given.1)
+    let at-gains = c.before in
+    let told = at-gains.before in
+    too_much _ _ _ _ _ told.before.lent-tables.ensures (ap said told.enum_told.given.1) _
+    (refuses at-gains.gains_good-gains.ensures c.in-Refused-gains.is)
 
 raise-requires : tie.Need-raise-requires
 raise-requires c κs =
     let told2 = c.before in
-    let at-gains = told2.before.before in
-    let told = at-gains.before.before in (
-      lent-long told.before.before.lent.ensures (ap said told.enum_told.given.1),
-      passes at-gains.gains-good.ensures told2.enum-told2.given.1,
+    let at-gains = told2.before in
+    let told = at-gains.before in (
+      lent-long told.before.lent-tables.ensures (ap said told.enum_told.given.1),
+      passes at-gains.gains_good-gains.ensures told2.in_default-gains.is,
     )
 
-returns-3 : tie.Need-returns-3
+returns-3 : tie.Need-returns
 returns-3 c =
     let at-raise = c.before.before in
     let told2 = at-raise.before.before in
-    let at-gains = told2.before.before in
-    let told = at-gains.before.before in
-    added _ _ _ _ _ told.before.before.lent.ensures (ap said told.enum_told.given.1)
-    (passes at-gains.gains-good.ensures told2.enum-told2.given.1) _ at-raise.raise.ensures
+    let at-gains = told2.before in
+    let told = at-gains.before in
+    added _ _ _ _ _ told.before.lent-tables.ensures (ap said told.enum_told.given.1)
+    (passes at-gains.gains_good-gains.ensures told2.in_default-gains.is) _ at-raise.raise.ensures
 
 pub add_spec : {M : Type 1} → statement M
 add_spec =

@@ -6,13 +6,13 @@ returns c =
     let at_moved = c.before.before in
     let at-seconds = at_moved.before.before in
     rw (
-      c.and-then3.ensures,
-      c.before.long3.ensures,
-      at_moved.and-then2.ensures,
-      at_moved.before.long2.ensures,
-      at-seconds.and_then.ensures,
+      c.and_then.ensures,
+      c.before.long-3.ensures,
+      at_moved.and_then-c.ensures,
+      at_moved.before.long-2.ensures,
+      at-seconds.and_then-b.ensures,
       at-seconds.before.long.ensures,
-      at-seconds.before.before.need.ensures,
+      at-seconds.before.before.need-a.ensures,
     )
 
 pub lent_spec : {M : Type 1} → statement M

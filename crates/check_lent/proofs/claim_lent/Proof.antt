@@ -7,19 +7,19 @@ returns : tie.Need-returns
 returns c =
     let half = c.before.before.before.before.before.before in
     rw (
-      c.and-then4.ensures,
-      c.before.long5.ensures,
-      c.before.before.and-then3.ensures,
-      c.before.before.before.long4.ensures,
-      c.before.before.before.before.and-then2.ensures,
-      c.before.before.before.before.before.long3.ensures,
-      half.and_then.ensures,
-      half.before.long2.ensures,
-      half.before.before.long.ensures,
+      c.and_then.ensures,
+      c.before.long-4.ensures,
+      c.before.before.and_then-b-3.ensures,
+      c.before.before.before.long-3.ensures,
+      c.before.before.before.before.and_then-b-2.ensures,
+      c.before.before.before.before.before.long-2.ensures,
+      half.and_then-b.ensures,
+      half.before.long.ensures,
+      half.before.before.long-b.ensures,
     )
 
-pub claim-lent-spec : {M : Type 1} → statement M
-claim-lent-spec =
+pub claim_lent_spec : {M : Type 1} → statement M
+claim_lent_spec =
     tie.close
     (tie.spec (search rules) (search rules) (search rules) (search rules) (search rules)
     (search rules) (search rules) (search rules) (search rules) returns)

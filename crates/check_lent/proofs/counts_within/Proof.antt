@@ -5,7 +5,7 @@ use Rattle.check_lent.proofs.counts_within.Tie as tie
 
 returns : tie.Need-returns
 unfolding counts_within
-returns c = rw (c.and_then.ensures, c.before.need2.ensures, c.before.before.need.ensures, c.before.before.before.between.ensures)
+returns c = rw (c.and_then.ensures, c.before.need-2.ensures, c.before.before.need.ensures, c.before.before.before.between.ensures)
 
-pub counts-within-spec : {M : Type 1} → statement M
-counts-within-spec = tie.close (tie.spec (search rules) (search rules) (search rules) (search rules) returns)
+pub counts_within_spec : {M : Type 1} → statement M
+counts_within_spec = tie.close (tie.spec (search rules) (search rules) (search rules) (search rules) returns)

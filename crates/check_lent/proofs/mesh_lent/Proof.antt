@@ -9,21 +9,21 @@ unfolding counts mesh_tables
 returns c =
     let half = c.before.before.before.before.before in
     rw (
-      c.and-then5.ensures,
-      c.before.and-then4.ensures,
-      c.before.before.long5.ensures,
-      c.before.before.before.and-then3.ensures,
-      c.before.before.before.before.long4.ensures,
-      half.and-then2.ensures,
-      half.before.long3.ensures,
-      half.before.before.and_then.ensures,
-      half.before.before.before.long2.ensures,
-      half.before.before.before.before.long.ensures,
-      half.before.before.before.before.before.counts-within.ensures,
+      c.and_then.ensures,
+      c.before.and_then-b-4.ensures,
+      c.before.before.long-4.ensures,
+      c.before.before.before.and_then-b-3.ensures,
+      c.before.before.before.before.long-3.ensures,
+      half.and_then-b-2.ensures,
+      half.before.long-2.ensures,
+      half.before.before.and_then-b.ensures,
+      half.before.before.before.long.ensures,
+      half.before.before.before.before.long-b.ensures,
+      half.before.before.before.before.before.counts_within-a.ensures,
     )
 
-pub mesh-lent-spec : {M : Type 1} → statement M
-mesh-lent-spec =
+pub mesh_lent_spec : {M : Type 1} → statement M
+mesh_lent_spec =
     tie.close
     (tie.spec (search rules) (search rules) (search rules) (search rules) (search rules) (search rules) (search rules) (search rules) (search rules)
     (search rules) (search rules) returns)

@@ -4,11 +4,11 @@ use Rattle.model.proofs.Verdicts.{past}
 use Rattle.check_mesh.proofs.faces_good.Statement.{statement}
 use Rattle.check_mesh.proofs.faces_good.Tie as tie
 
-returns : tie.Need-returns
-returns c = let fit = c.before.faces-fit.ensures c.if1.true in sym (past _ fit.0 ∙ fit.1)
+returns : tie.Need-returns-then-faces_fit
+returns c = let fit = c.before.faces_fit.ensures c.if-faces_fit.true in sym (past _ fit.0 ∙ fit.1)
 
-returns-2 : tie.Need-returns-2
-returns-2 c = rw (c.and_then.ensures, c.before.spacing-good.ensures, c.before.before.ends-good.ensures)
+returns-2 : tie.Need-returns
+returns-2 c = rw (c.and_then.ensures, c.before.spacing_good.ensures, c.before.before.ends_good-a.ensures)
 
-pub faces-good-spec : {M : Type 1} → statement M
-faces-good-spec = tie.close (tie.spec (search rules) returns (search rules) (search rules) (search rules) returns-2)
+pub faces_good_spec : {M : Type 1} → statement M
+faces_good_spec = tie.close (tie.spec (search rules) returns (search rules) (search rules) (search rules) returns-2)

@@ -7,7 +7,7 @@ use Rattle.check_mesh.proofs.values.Tie as tie
 
 returns : tie.Need-returns
 unfolding mesh_values volume_good ends_good spacing_good
-returns c = rw (c.and_then.ensures, c.before.faces-good.ensures, c.before.before.volumes-good.ensures) (sym (and_then-assoc _ _ _))
+returns c = rw (c.and_then.ensures, c.before.faces_good.ensures, c.before.before.volumes_good-a.ensures) (sym (and_then-assoc _ _ _))
 
-pub values-spec : {M : Type 1} → statement M
-values-spec = tie.close (tie.spec (search rules) (search rules) (search rules) returns)
+pub values_spec : {M : Type 1} → statement M
+values_spec = tie.close (tie.spec (search rules) (search rules) (search rules) returns)

@@ -9,23 +9,23 @@ use Rattle.model.proofs.Verdicts.{scan-start, scan-pass, scan-hit, scan-end}
 use Rattle.check_mesh.proofs.volumes_good.Statement.{statement}
 use Rattle.check_mesh.proofs.volumes_good.Tie as tie
 
-abbrev invariant-loop : tie.invariant-loop
+abbrev invariant-loop : tie.invariant-loop-c
 invariant-loop cells volumes most c₀ c = (c ≤ cells) × (each 3 c (λ k. volume_fits most (get_or volumes k 0)) ≡ fine)
 
-abbrev decreases-loop : tie.decreases-loop
+abbrev decreases-loop : tie.decreases-loop-c
 decreases-loop cells volumes most c₀ c = cells - c
 
-returns : tie.Need-returns invariant-loop decreases-loop
-returns c = scan-hit _ _ _ _ (search rules) c.before.before.before.before.loop.invariant.1 c.before.between.ensures (not-true _ c.if1.true)
+returns : tie.Need-returns-then-not-between invariant-loop decreases-loop
+returns c = scan-hit _ _ _ _ (search rules) c.before.before.before.before.loop-c.invariant.1 c.before.between.ensures c.if-not-between.true
 
-loop-again : tie.Need-loop-preserved invariant-loop decreases-loop
-loop-again c = (search rules, scan-pass _ _ _ c.before.before.before.before.loop.invariant.1 c.before.between.ensures (not-false _ c.if1.false))
+loop-again : tie.Need-loop-c-preserved invariant-loop decreases-loop
+loop-again c = (search rules, scan-pass _ _ _ c.before.before.before.before.loop-c.invariant.1 c.before.between.ensures c.if-not-between.false)
 
-returns-2 : tie.Need-returns-2 invariant-loop decreases-loop
-returns-2 c = scan-end _ _ _ _ (search rules) (search rules) c.before.loop.invariant.1
+returns-2 : tie.Need-returns invariant-loop decreases-loop
+returns-2 c = scan-end _ _ _ _ (search rules) (search rules) c.before.loop-c.invariant.1
 
-pub volumes-good-spec : {M : Type 1} → statement M
-volumes-good-spec =
+pub volumes_good_spec : {M : Type 1} → statement M
+volumes_good_spec =
     tie.close
     (tie.spec invariant-loop decreases-loop (λ c. (search rules, scan-start _ _)) (search rules) (search rules) (λ c κs. tt)
     returns (search rules) (search rules) loop-again returns-2)

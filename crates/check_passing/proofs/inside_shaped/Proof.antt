@@ -6,17 +6,17 @@ use Rattle.check_passing.proofs.Laws.{inside-shape}
 use Rattle.check_passing.proofs.inside_shaped.Statement.{statement}
 use Rattle.check_passing.proofs.inside_shaped.Tie as tie
 
-returns-6 : tie.Need-returns-6
+returns-6 : tie.Need-returns
 returns-6 c =
     let d = c.before.before.before.before in
     let s = d.before.before.before in
-    λ e. inside-shape s.args.cells s.args.first s.args.second s.args.share s.args.reach s.requires d.before.if2.false
-    d.before.before.if1.false d.if3.false
-    (sym c.before.before.before.between.ensures ∙ not-false _ c.before.before.if4.false)
-    (sym c.before.between2.ensures ∙ not-false _ c.if5.false)
+    λ e. inside-shape s.args.cells s.args.first s.args.second s.args.share s.args.reach s.requires d.before.if-cells-first.false
+    d.before.before.if-cells-second.false d.if-first-second.false
+    (sym c.before.before.before.between.ensures ∙ not-false _ c.before.before.if-not-between.false)
+    (sym c.before.between-2.ensures ∙ not-false _ c.if-not-between-2.false)
 
-pub inside-shaped-spec : {M : Type 1} → statement M
-inside-shaped-spec =
+pub inside_shaped_spec : {M : Type 1} → statement M
+inside_shaped_spec =
     tie.close
     (tie.spec (λ c e. absurd (true≢false (sym e))) (λ c e. absurd (true≢false (sym e))) (λ c e. absurd (true≢false (sym e))) (search rules)
     (λ c e. absurd (true≢false (sym e))) (search rules) (λ c e. absurd (true≢false (sym e))) returns-6)

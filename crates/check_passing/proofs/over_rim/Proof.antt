@@ -2,5 +2,5 @@ use borrow.Author.Rules.{rules}
 use Rattle.check_passing.proofs.over_rim.Statement.{statement}
 use Rattle.check_passing.proofs.over_rim.Tie as tie
 
-pub over-rim-spec : {M : Type 1} → statement M
-over-rim-spec = tie.close (tie.spec (search rules) (λ c. rw c.if1.true) (λ c. rw c.if1.false))
+pub over_rim_spec : {M : Type 1} → statement M
+over_rim_spec = tie.close (tie.spec (search rules) (λ c. rw c.if-inward.true) (λ c. rw c.if-inward.false))

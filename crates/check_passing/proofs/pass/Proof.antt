@@ -11,35 +11,35 @@ use Rattle.check_passing.proofs.pass.Statement.{statement}
 use Rattle.check_passing.proofs.pass.Tie as tie
 
 -- from where the faces are read back to where the room is cleared, and to the start
-abbrev cleared : tie.After-faces-fit-arg → tie.After-clear
+abbrev cleared : tie.After-faces_fit-arg-1 → tie.After-clear
 cleared c = c.before.before.before
 
 abbrev start : tie.After-clear → tie.Start
 start c = c.before.before.before.before.before.before.before.before.before
 
-faces-fit-requires : tie.Need-faces-fit-requires
+faces-fit-requires : tie.Need-faces_fit-requires
 faces-fit-requires c κs =
     let r = cleared c in
     let s = start r in
-    ((s.pre.0.0, s.pre.0.1, omega (arith, c.before.before.room.given, s.pre.0.3)), (s.pre.1.0, (s.pre.1.1, r.clear.ensures)))
+    ((s.requires.0.0, s.requires.0.1, omega (arith, c.before.before.room-1.given, s.requires.0.3)), (s.requires.1.0, (s.requires.1.1, r.clear.ensures)))
 
-sums-fit-requires : tie.Need-sums-fit-requires
+sums-fit-requires : tie.Need-sums_fit-requires
 sums-fit-requires c κs =
     let a = c.before.before.before.before.before in
     let s = start (cleared a) in
-    (s.pre.0.2, omega (arith, c.before.before.before.room2.given, a.before.before.room.given, s.pre.0.3))
+    (s.requires.0.2, omega (arith, c.before.before.room-2-1.given, a.before.room-1.given, s.requires.0.3))
 
 -- the sums as the faces leave them
-abbrev sums : tie.After-faces-fit → List ℕ
-sums c = c.faces-fit.new.1.1.1.1.1.1.1.1.1.0
+abbrev sums : tie.After-faces_fit → List ℕ
+sums c = c.faces_fit.new.1.1.1.1.1.1.1.1.1.0
 
-returns-2 : tie.Need-returns-2
+returns-2 : tie.Need-returns
 returns-2 c =
     let q = c.before.before.before.before.before in
     let s = start (cleared q.before) in
-    let done = q.faces-fit.ensures (not-false _ c.before.before.if1.false) in
+    let done = q.faces-fit.ensures c.before.if-not-faces_fit.false in
     λ e. faces-pass s.args.firsts.now s.args.seconds.now s.args.fluxes.now s.args.cells s.args.faces s.args.volumes.now
-    s.args.shares.now s.args.reaches.now s.args.outsides.now (sums q) s.pre.0.1 done.0 done.1 (c.sums-fit.ensures e)
+    s.args.shares.now s.args.reaches.now s.args.outsides.now (sums q) s.requires.0.1 done.0 done.1 (c.sums_fit.ensures e)
 
 pub pass_spec : {M : Type 1} → statement M
 pass_spec =

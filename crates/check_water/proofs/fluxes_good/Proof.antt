@@ -13,56 +13,56 @@ use Rattle.model.proofs.Verdicts.{scan-start, scan-pass, scan-hit, scan-end}
 use Rattle.check_water.proofs.fluxes_good.Statement.{statement}
 use Rattle.check_water.proofs.fluxes_good.Tie as tie
 
-abbrev invariant-loop : tie.invariant-loop
+abbrev invariant-loop : tie.invariant-loop-f
 invariant-loop faces seconds reaches fluxes most f₀ f = (f ≤ faces)
     × (each 8 f (λ k. flux_fit most (get_or seconds k 0) (get_or reaches k 0) (size (get_or fluxes k (pos 0)))) ≡ fine)
 
-abbrev decreases-loop : tie.decreases-loop
+abbrev decreases-loop : tie.decreases-loop-f
 decreases-loop faces seconds reaches fluxes most f₀ f = faces - f
 
 -- from a turn to the start, and from the test of its face to the turn
-abbrev start : tie.In-loop invariant-loop decreases-loop → tie.Start invariant-loop decreases-loop
+abbrev start : tie.In-loop-f invariant-loop decreases-loop → tie.Start invariant-loop decreases-loop
 start t = t.before.before.before.before
 
-abbrev turn : tie.After-flux-fits invariant-loop decreases-loop → tie.In-loop invariant-loop decreases-loop
+abbrev turn : tie.After-flux_fits invariant-loop decreases-loop → tie.In-loop-f invariant-loop decreases-loop
 turn c = c.before.before.before.before
 
 -- a face's place in bytes, of whichever table
-in_bytes : (t : tie.In-loop invariant-loop decreases-loop) → Fits w64 (t.before.loop.f * 8)
-in_bytes t = turn-bytes t.loop-test.true (start t).requires.0 (start t).well-formed.1.0.1
+in_bytes : (t : tie.In-loop-f invariant-loop decreases-loop) → Fits w64 (t.before.loop-f.f * 8)
+in_bytes t = turn-bytes t.loop-f-test.true (start t).requires.0 (start t).well_formed.1.0.1
 
-returns : tie.Need-returns invariant-loop decreases-loop
+returns : tie.Need-returns-then-not-flux_fits invariant-loop decreases-loop
 returns c =
     let t = turn c.before in
-    let said = rw c.before.before.size-at.ensures at c.before.flux-fits.ensures in
-    scan-hit _ _ _ _ t.loop-test.taken t.before.loop.inv.1 said (not-true _ c.if1.true)
+    let said = rw c.before.before.size_at.ensures at c.before.flux_fits.ensures in
+    scan-hit _ _ _ _ t.loop-f-test.true t.before.loop-f.invariant.1 said c.if-not-flux_fits.true
 
-loop-again : tie.Need-loop-preserved invariant-loop decreases-loop
+loop-again : tie.Need-loop-f-preserved invariant-loop decreases-loop
 loop-again c =
     let t = turn c.before in
-    let said = rw c.before.before.size-at.ensures at c.before.flux-fits.ensures in
-    (turn-within t.loop-test.taken, scan-pass _ _ _ t.before.loop.inv.1 said (not-false _ c.if1.false))
+    let said = rw c.before.before.size_at.ensures at c.before.flux_fits.ensures in
+    (turn-within t.loop-f-test.true, scan-pass _ _ _ t.before.loop-f.invariant.1 said c.if-not-flux_fits.false)
 
-returns-2 : tie.Need-returns-2 invariant-loop decreases-loop
-returns-2 c = let l = c.before.loop in scan-end _ _ _ _ l.invariant.0 c.loop-test.false l.invariant.1
+returns-2 : tie.Need-returns invariant-loop decreases-loop
+returns-2 c = let l = c.before.loop-f in scan-end _ _ _ _ l.invariant.0 c.loop-f-test.false l.invariant.1
 
-read-flux-fits : tie.Need-shared-slice-read-flux-fits invariant-loop decreases-loop
-read-flux-fits c = let t = c.before in turn_in t.loop-test.true (start t).requires.0
+read-flux-fits : tie.Need-bounds-seconds-f invariant-loop decreases-loop
+read-flux-fits c = let t = c.before in turn_in t.loop-f-test.true (start t).requires.0
 
-read-flux-fits-2 : tie.Need-shared-slice-read-flux-fits-2 invariant-loop decreases-loop
-read-flux-fits-2 c = let t = c.before.before in turn_in t.loop-test.true (start t).requires.1
+read-flux-fits-2 : tie.Need-bounds-reaches-f invariant-loop decreases-loop
+read-flux-fits-2 c = let t = c.before.before in turn_in t.loop-f-test.true (start t).requires.1
 
-size-at-requires : tie.Need-size-at-requires invariant-loop decreases-loop
-size-at-requires c κs = let t = c.before.before in turn_in t.loop-test.true (start t).requires.2
+size-at-requires : tie.Need-size_at-requires invariant-loop decreases-loop
+size-at-requires c κs = let t = c.before.before in turn_in t.loop-f-test.true (start t).requires.2
 
-add-f : tie.Need-overflow-add-f invariant-loop decreases-loop
-add-f c = let t = turn c.before in turn-next t.loop-test.taken (start t).pre.0 (start t).good.1.0.0
+add-f : tie.Need-overflow_add-f invariant-loop decreases-loop
+add-f c = let t = turn c.before in turn-next t.loop-f-test.true (start t).requires.0 (start t).well_formed.1.0.0
 
-loop-less : tie.Need-loop-smaller invariant-loop decreases-loop
-loop-less c = turn-less (turn c.before).loop-test.taken
+loop-less : tie.Need-loop-f-smaller invariant-loop decreases-loop
+loop-less c = turn-less (turn c.before).loop-f-test.true
 
-pub fluxes-good-spec : {M : Type 1} → statement M
-fluxes-good-spec =
+pub fluxes_good_spec : {M : Type 1} → statement M
+fluxes_good_spec =
     tie.close
     (tie.spec invariant-loop decreases-loop (λ c. (zero-le, scan-start _ _)) (λ c. in_bytes c) read-flux-fits (λ c. in_bytes c.before) read-flux-fits-2
     size-at-requires (λ c κs. tt) returns add-f loop-less loop-again returns-2)

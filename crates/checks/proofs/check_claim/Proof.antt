@@ -12,10 +12,10 @@ use Rattle.checks.proofs.check_claim.Statement.{statement}
 use Rattle.checks.proofs.check_claim.Tie as tie
 
 -- the call's start, from where its tables are known; half way the first five are
-abbrev half : tie.After-shared-slice-known5 → tie.Start
+abbrev half : tie.After-shared_slice_known-5-1 → tie.Start
 half c = c.before.before.before.before.before
 
-abbrev start : tie.After-and-then → tie.Start
+abbrev start : tie.After-and_then-b → tie.Start
 start c = half c.before.before.before.before.before.before.before
 
 abbrev mesh : tie.Start → Mesh
@@ -26,26 +26,26 @@ abbrev call : tie.Start → Call
 call s = claim_of s.args.fluxes.now s.args.outsides.now s.args.next.now s.args.claim.now s.args.releases.now
 
 -- counts and lengths together
-lent_is : (c : tie.After-and-then) → let s = start c in
-    said c.and_then.result ≡ (counts (mesh s) and_then mesh_tables (mesh s) and_then field_table (mesh s) s.args.masses.now
+lent_is : (c : tie.After-and_then-b) → let s = start c in
+    said c.and_then-b.result ≡ (counts (mesh s) and_then mesh_tables (mesh s) and_then field_table (mesh s) s.args.masses.now
     and_then claim_tables (mesh s) s.args.masses.now (call s))
 unfolding claim_tables
-lent_is c = both-are c.and_then.ensures c.before.before.field-lent.ensures c.before.claim_lent.ensures
+lent_is c = both-are c.and_then-b.ensures c.before.before.field_lent-a.ensures c.before.claim_lent.ensures
 
-returns : tie.Need-returns
-returns c = sym (claim-lengths-first _ _ _ ∙ refused-at [] (_ ∷ []) tt (refuses (lent_is c.before.before.before) c.before.b.given.1))
+returns : tie.Need-returns-in-Refused
+returns c = sym (claim-lengths-first _ _ _ ∙ refused-at [] (_ ∷ []) tt (refuses (lent_is c.before) c.in-Refused.is))
 
-step-values-requires : tie.Need-step-values-requires
+step-values-requires : tie.Need-step_values-requires
 step-values-requires c κs =
-    let t = c.before.before in
+    let t = c.before in
     let s = start t in
-    let p = both-fine _ _ (passes (lent_is t) c.enum_told.given.1) in
+    let p = both-fine _ _ (passes (lent_is t) c.in_default.is) in
     claim-asks (mesh s) s.args.masses.now (call s) p.0 p.1
 
-returns-2 : tie.Need-returns-2
-returns-2 c = c.step-values.ensures ∙ sym (claim-lengths-first _ _ _ ∙ past _ (passes (lent_is c.before.before.before) c.before.enum_told.given.1))
+returns-2 : tie.Need-returns
+returns-2 c = c.step_values.ensures ∙ sym (claim-lengths-first _ _ _ ∙ past _ (passes (lent_is c.before.before) c.before.in_default.is))
 
-pub check-claim-spec : {M : Type 1} → statement M
-check-claim-spec =
+pub check_claim_spec : {M : Type 1} → statement M
+check_claim_spec =
     tie.close
     (tie.spec (search rules) (search rules) (search rules) (search rules) returns (search rules) step-values-requires returns-2)

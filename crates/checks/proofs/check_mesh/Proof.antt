@@ -6,16 +6,16 @@ use Rattle.model.proofs.Accepted.{mesh-long}
 use Rattle.checks.proofs.check_mesh.Statement.{statement}
 use Rattle.checks.proofs.check_mesh.Tie as tie
 
-returns : tie.Need-returns
+returns : tie.Need-returns-in-Refused
 unfolding mesh_verdict
-returns c = sym (out _ (refuses c.before.before.before.mesh_lent.ensures c.before.a.given.1))
+returns c = sym (out _ (refuses c.before.mesh_lent-a.ensures c.in-Refused.is))
 
 values-requires : tie.Need-values-requires
-values-requires c κs = mesh-long _ (passes c.before.before.mesh_lent.ensures c.enum_told.given.1)
+values-requires c κs = mesh-long _ (passes c.before.mesh_lent-a.ensures c.in_default.is)
 
-returns-2 : tie.Need-returns-2
+returns-2 : tie.Need-returns
 unfolding mesh_verdict
-returns-2 c = c.values.ensures ∙ sym (past _ (passes c.before.before.before.mesh_lent.ensures c.before.enum_told.given.1))
+returns-2 c = c.values.ensures ∙ sym (past _ (passes c.before.before.mesh_lent-a.ensures c.before.in_default.is))
 
-pub check-mesh-spec : {M : Type 1} → statement M
-check-mesh-spec = tie.close (tie.spec (search rules) (search rules) returns (search rules) values-requires returns-2)
+pub check_mesh_spec : {M : Type 1} → statement M
+check_mesh_spec = tie.close (tie.spec (search rules) (search rules) returns (search rules) values-requires returns-2)

@@ -20,29 +20,29 @@ mesh s = mesh_of s.args.cells s.args.faces s.args.volumes.now s.args.firsts.now 
 abbrev call : tie.Start → Call
 call s = call_of s.args.fluxes.now s.args.outsides.now s.args.next.now s.args.moved.now s.args.work.now s.args.releases.now
 
-returns : tie.Need-returns
+returns : tie.Need-returns-in-Refused
 returns c =
-    let t = c.before.before.before in
+    let t = c.before in
     let s = start t.before in
-    sym (lengths-first (mesh s) s.args.masses.now (call s) ∙ out _ (refuses t.tables-lent.ensures c.before.a.given.1))
+    sym (lengths-first (mesh s) s.args.masses.now (call s) ∙ out _ (refuses t.tables_lent-a.ensures c.in-Refused.is))
 
-values-in-requires : tie.Need-values-in-requires
+values-in-requires : tie.Need-values_in-requires
 values-in-requires c κs =
-    let t = c.before.before.before in
+    let t = c.before.before in
     let s = start t.before in
-    let p = both-fine _ _ (passes t.tables-lent.ensures c.before.enum_told.given.1) in
+    let p = both-fine _ _ (passes t.tables_lent-a.ensures c.before.in_default.is) in
     let m = mesh s in
     let k = call s in
-    (step-lent m s.args.masses.now k p.0 p.1, ((call-lent m s.args.masses.now k p.1).nexts_long, s.pre))
+    (step-lent m s.args.masses.now k p.0 p.1, ((call-lent m s.args.masses.now k p.1).nexts_long, s.requires))
 
-returns-2 : tie.Need-returns-2
+returns-2 : tie.Need-returns
 returns-2 c =
     let e = c.before.before.before.before in
-    let t = e.before.before in
+    let t = e.before in
     let s = start t.before in
-    c.before.before.values-in.ensures
-    ∙ sym (lengths-first (mesh s) s.args.masses.now (call s) ∙ past _ (passes t.tables-lent.ensures e.enum_told.given.1))
+    c.before.before.values_in.ensures
+    ∙ sym (lengths-first (mesh s) s.args.masses.now (call s) ∙ past _ (passes t.tables_lent-a.ensures e.in_default.is))
 
-pub check-step-in-spec : {M : Type 1} → statement M
-check-step-in-spec =
+pub check_step_in_spec : {M : Type 1} → statement M
+check_step_in_spec =
     tie.close (tie.spec (search rules) (search rules) (search rules) returns (search rules) values-in-requires (search rules) returns-2)

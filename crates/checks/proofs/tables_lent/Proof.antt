@@ -7,15 +7,15 @@ use Rattle.model.proofs.Accepted.{few}
 use Rattle.checks.proofs.tables_lent.Statement.{statement}
 use Rattle.checks.proofs.tables_lent.Tie as tie
 
-returns : tie.Need-returns
-returns c = sym (out _ (refuses c.before.before.before.field-lent.ensures c.before.a.given.1))
+returns : tie.Need-returns-in-Refused
+returns c = sym (out _ (refuses c.before.field_lent-a.ensures c.in-Refused.is))
 
-step-lent-requires : tie.Need-step-lent-requires
-step-lent-requires c κs = few _ _ (passes c.before.before.field-lent.ensures c.enum_told.given.1)
+step-lent-requires : tie.Need-step_lent-requires
+step-lent-requires c κs = few _ _ (passes c.before.field_lent-a.ensures c.in_default.is)
 
-returns-2 : tie.Need-returns-2
+returns-2 : tie.Need-returns
 unfolding step_tables
-returns-2 c = c.step-lent.ensures ∙ sym (past _ (passes c.before.before.before.field-lent.ensures c.before.enum_told.given.1))
+returns-2 c = c.step_lent.ensures ∙ sym (past _ (passes c.before.before.field_lent-a.ensures c.before.in_default.is))
 
-pub tables-lent-spec : {M : Type 1} → statement M
-tables-lent-spec = tie.close (tie.spec (search rules) (search rules) returns (search rules) step-lent-requires returns-2)
+pub tables_lent_spec : {M : Type 1} → statement M
+tables_lent_spec = tie.close (tie.spec (search rules) (search rules) returns (search rules) step-lent-requires returns-2)

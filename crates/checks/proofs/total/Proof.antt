@@ -6,15 +6,15 @@ use Rattle.checks.proofs.Laws.{sum-asks}
 use Rattle.checks.proofs.total.Statement.{statement}
 use Rattle.checks.proofs.total.Tie as tie
 
-returns : tie.Need-returns
-returns c = sym (out _ (refuses c.before.before.before.check-cells.ensures c.before.a.given.1))
+returns : tie.Need-returns-in-Refused
+returns c = sym (out _ (refuses c.before.check_cells-a.ensures c.in-Refused.is))
 
-sum-of-requires : tie.Need-sum-of-requires
-sum-of-requires c κs = sum-asks _ _ (passes c.before.before.check-cells.ensures c.enum_told.given.1)
+sum-of-requires : tie.Need-sum_of-requires
+sum-of-requires c κs = sum-asks _ _ (passes c.before.check_cells-a.ensures c.in_default.is)
 
-returns-2 : tie.Need-returns-2
+returns-2 : tie.Need-returns
 returns-2 c =
-    ap accepted c.sum_of.ensures ∙ sym (past _ (passes c.before.before.before.check-cells.ensures c.before.enum_told.given.1))
+    ap accepted c.sum_of.ensures ∙ sym (past _ (passes c.before.before.check_cells-a.ensures c.before.in_default.is))
 
-pub total-spec : {M : Type 1} → statement M
-total-spec = tie.close (tie.spec (search rules) (search rules) returns (search rules) sum-of-requires returns-2)
+pub total_spec : {M : Type 1} → statement M
+total_spec = tie.close (tie.spec (search rules) (search rules) returns (search rules) sum-of-requires returns-2)

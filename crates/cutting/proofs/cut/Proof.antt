@@ -9,13 +9,13 @@ use Rattle.cutting.proofs.cut.Statement.{statement}
 use Rattle.cutting.proofs.cut.Tie as tie
 
 -- from where the causes were tested back to the start
-abbrev shared : tie.After-shared-slice-known9 → tie.After-slice-known16
+abbrev shared : tie.After-shared_slice_known-9-1 → tie.After-slice_known-16-1
 shared c = c.before.before.before.before.before.before.before.before.before
 
-abbrev half : tie.After-slice-known16 → tie.After-slice-known8
+abbrev half : tie.After-slice_known-16-1 → tie.After-slice_known-8-1
 half c = c.before.before.before.before.before.before.before.before
 
-abbrev start : tie.After-verdict → tie.Start
+abbrev start : tie.After-verdict-a → tie.Start
 start c = (half (shared c.before)).before.before.before.before.before.before.before.before
 
 -- what is lent
@@ -32,120 +32,120 @@ lent-1 s = tables_of s.args.volumes1.now s.args.firsts1.now s.args.seconds1.now 
     s.args.masses1.now s.args.fluxes1.now s.args.outsides1.now s.args.releases1.now
 
 -- where part 0 is lent its tables, back to the causes passed; and where part 1 is, back to the tables that part 0 left
-abbrev asked-0 : tie.After-part-arg9 → tie.After-enum-told
+abbrev asked-0 : tie.After-part-arg-9-1 → tie.In_default
 asked-0 c = c.before.before.before.before.before.before.before.before.before
 
-abbrev asked-1 : tie.After-part-arg18 → tie.After-slice-known24
+abbrev asked-1 : tie.After-part-arg-18-1 → tie.After-slice_known-24-1
 asked-1 c = c.before.before.before.before.before.before.before.before.before
 
-abbrev middle-0 : tie.After-slice-known24 → tie.After-slice-known20
+abbrev middle-0 : tie.After-slice_known-24-1 → tie.After-slice_known-20-1
 middle-0 c = c.before.before.before.before.before.before.before.before.before
 
-abbrev filled-0 : tie.After-slice-known24 → tie.After-part
+abbrev filled-0 : tie.After-slice_known-24-1 → tie.After-part-part_0
 filled-0 c = (middle-0 c).before.before.before.before.before.before.before.before
 
-abbrev told-0 : tie.After-part → tie.After-enum-told
+abbrev told-0 : tie.After-part-part_0 → tie.In_default
 told-0 c = asked-0 c.before
 
 -- the same from the end
-abbrev middle-1 : tie.After-slice-known32 → tie.After-slice-known28
+abbrev middle-1 : tie.After-slice_known-32-1 → tie.After-slice_known-28-1
 middle-1 c = c.before.before.before.before.before.before.before.before.before
 
-abbrev filled-1 : tie.After-slice-known32 → tie.After-part2
+abbrev filled-1 : tie.After-slice_known-32-1 → tie.After-part-part_1
 filled-1 c = (middle-1 c).before.before.before.before.before.before.before.before
 
-abbrev left-0 : tie.After-slice-known32 → tie.After-slice-known24
+abbrev left-0 : tie.After-slice_known-32-1 → tie.After-slice_known-24-1
 left-0 c = asked-1 (filled-1 c).before
 
-fine-past : (c : tie.After-enum-told) → let s = start c.before.before in cut_verdict (whole s) s.args.labels.now (lent-0 s) (lent-1 s) ≡ fine
+fine-past : (c : tie.In_default) → let s = start c.before in cut_verdict (whole s) s.args.labels.now (lent-0 s) (lent-1 s) ≡ fine
 unfolding counts cut_tables
 fine-past c =
-    let v = c.before.before in
+    let v = c.before in
     let s = start v in
-    found-fine (whole s) s.args.labels.now (lent-0 s) (lent-1 s) _ v.verdict.ensures c.enum_told.given.1
+    found-fine (whole s) s.args.labels.now (lent-0 s) (lent-1 s) _ v.verdict-a.ensures c.in_default.is
 
-returns : tie.Need-returns
+returns : tie.Need-returns-in-Refused
 unfolding counts cut_tables
 returns c =
-    let v = c.before.before.before in
+    let v = c.before in
     let s = start v in
-    promise-refused (whole s) s.args.labels.now (lent-0 s) (lent-1 s) _ v.verdict.ensures _ c.before.a.given.1
+    promise-refused (whole s) s.args.labels.now (lent-0 s) (lent-1 s) _ v.verdict-a.ensures _ c.in-Refused.is
 
-part-requires : tie.Need-part-requires
+part-requires : tie.Need-part-part_0-requires
 part-requires c κs =
     let t = asked-0 c in
-    let s = start t.before.before in
+    let s = start t.before in
     cuttable (whole s) s.args.labels.now (lent-0 s) (lent-1 s) (fine-past t) (lent-0 s)
     (room_0 (whole s) s.args.labels.now (lent-0 s) (lent-1 s) (fine-past t))
 
-part-requires-2 : tie.Need-part-requires-2
+part-requires-2 : tie.Need-part-part_1-requires
 part-requires-2 c κs =
     let t = told-0 (filled-0 (asked-1 c)) in
-    let s = start t.before.before in
+    let s = start t.before in
     cuttable (whole s) s.args.labels.now (lent-0 s) (lent-1 s) (fine-past t) (lent-1 s)
     (room-1 (whole s) s.args.labels.now (lent-0 s) (lent-1 s) (fine-past t))
 
 -- each table is as long as it was: what was left of it stands right after its part was cut
-same_length : tie.Need-same-length
-same_length c = (middle-0 (left-0 c)).before.before.before.before.before.before.before.volumes0.given
+same_length : tie.Need-shape_of-volumes0
+same_length c = (middle-0 (left-0 c)).before.before.before.before.before.before.before.volumes0-1.given
 
-same-length-2 : tie.Need-same-length-2
-same-length-2 c = (middle-0 (left-0 c)).before.before.before.before.before.firsts0.given
+same-length-2 : tie.Need-shape_of-firsts0
+same-length-2 c = (middle-0 (left-0 c)).before.before.before.before.before.firsts0-1.given
 
-same-length-3 : tie.Need-same-length-3
-same-length-3 c = (middle-0 (left-0 c)).before.before.before.seconds0.given
+same-length-3 : tie.Need-shape_of-seconds0
+same-length-3 c = (middle-0 (left-0 c)).before.before.before.seconds0-1.given
 
-same-length-4 : tie.Need-same-length-4
-same-length-4 c = (middle-0 (left-0 c)).before.shares0.given
+same-length-4 : tie.Need-shape_of-shares0
+same-length-4 c = (middle-0 (left-0 c)).before.shares0-1.given
 
-same-length-5 : tie.Need-same-length-5
-same-length-5 c = (left-0 c).before.before.before.before.before.before.before.before.reaches0.given
+same-length-5 : tie.Need-shape_of-reaches0
+same-length-5 c = (left-0 c).before.before.before.before.before.before.before.before.reaches0-1.given
 
-same-length-6 : tie.Need-same-length-6
-same-length-6 c = (left-0 c).before.before.before.before.before.before.masses0.given
+same-length-6 : tie.Need-shape_of-masses0
+same-length-6 c = (left-0 c).before.before.before.before.before.before.masses0-1.given
 
-same-length-7 : tie.Need-same-length-7
-same-length-7 c = (left-0 c).before.before.before.before.fluxes0.given
+same-length-7 : tie.Need-shape_of-fluxes0
+same-length-7 c = (left-0 c).before.before.before.before.fluxes0-1.given
 
-same-length-8 : tie.Need-same-length-8
-same-length-8 c = (left-0 c).before.before.before.outsides0.given
+same-length-8 : tie.Need-shape_of-outsides0
+same-length-8 c = (left-0 c).before.before.before.outsides0-1.given
 
-same-length-9 : tie.Need-same-length-9
-same-length-9 c = (left-0 c).before.releases0.given
+same-length-9 : tie.Need-shape_of-releases0
+same-length-9 c = (left-0 c).before.releases0-1.given
 
-same-length-10 : tie.Need-same-length-10
-same-length-10 c = (middle-1 c).before.before.before.before.before.before.before.volumes1.given
+same-length-10 : tie.Need-shape_of-volumes1
+same-length-10 c = (middle-1 c).before.before.before.before.before.before.before.volumes1-1.given
 
-same-length-11 : tie.Need-same-length-11
-same-length-11 c = (middle-1 c).before.before.before.before.before.firsts1.given
+same-length-11 : tie.Need-shape_of-firsts1
+same-length-11 c = (middle-1 c).before.before.before.before.before.firsts1-1.given
 
-same-length-12 : tie.Need-same-length-12
-same-length-12 c = (middle-1 c).before.before.before.seconds1.given
+same-length-12 : tie.Need-shape_of-seconds1
+same-length-12 c = (middle-1 c).before.before.before.seconds1-1.given
 
-same-length-13 : tie.Need-same-length-13
-same-length-13 c = (middle-1 c).before.shares1.given
+same-length-13 : tie.Need-shape_of-shares1
+same-length-13 c = (middle-1 c).before.shares1-1.given
 
-same-length-14 : tie.Need-same-length-14
-same-length-14 c = c.before.before.before.before.before.before.before.before.reaches1.given
+same-length-14 : tie.Need-shape_of-reaches1
+same-length-14 c = c.before.before.before.before.before.before.before.before.reaches1-1.given
 
-same-length-15 : tie.Need-same-length-15
-same-length-15 c = c.before.before.before.before.before.before.masses1.given
+same-length-15 : tie.Need-shape_of-masses1
+same-length-15 c = c.before.before.before.before.before.before.masses1-1.given
 
-same-length-16 : tie.Need-same-length-16
-same-length-16 c = c.before.before.before.before.fluxes1.given
+same-length-16 : tie.Need-shape_of-fluxes1
+same-length-16 c = c.before.before.before.before.fluxes1-1.given
 
-same-length-17 : tie.Need-same-length-17
-same-length-17 c = c.before.before.before.outsides1.given
+same-length-17 : tie.Need-shape_of-outsides1
+same-length-17 c = c.before.before.before.outsides1-1.given
 
-same-length-18 : tie.Need-same-length-18
-same-length-18 c = c.before.releases1.given
+same-length-18 : tie.Need-shape_of-releases1
+same-length-18 c = c.before.releases1-1.given
 
-returns-2 : tie.Need-returns-2
+returns-2 : tie.Need-returns
 returns-2 c =
     let p = filled-0 (left-0 c) in
     let t = told-0 p in
-    let s = start t.before.before in
-    promise-done (whole s) s.args.labels.now (lent-0 s) (lent-1 s) (fine-past t) _ _ _ _ p.part.ensures (filled-1 c).part2.ensures
+    let s = start t.before in
+    promise-done (whole s) s.args.labels.now (lent-0 s) (lent-1 s) (fine-past t) _ _ _ _ p.part-part_0.ensures (filled-1 c).part-part_1.ensures
 
 pub cut_spec : {M : Type 1} → statement M
 cut_spec = tie.close (tie.spec (search rules) (search rules) returns (search rules) part-requires part-requires-2

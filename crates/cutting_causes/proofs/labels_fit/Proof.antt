@@ -8,15 +8,15 @@ returns : tie.Need-returns
 returns c =
     let t = c.before.before.before in
     rw (
-      c.and-then2.ensures,
-      c.before.need2.ensures,
-      c.before.before.count-cells2.ensures,
-      t.and_then.ensures,
+      c.and_then.ensures,
+      c.before.need-2.ensures,
+      c.before.before.count_cells-2.ensures,
+      t.and_then-x.ensures,
       t.before.need.ensures,
-      t.before.before.count-cells.ensures,
-      t.before.before.before.labels-good.ensures,
+      t.before.before.count_cells.ensures,
+      t.before.before.before.labels_good-x.ensures,
     )
     (parts_last _ _)
 
-pub labels-fit-spec : {M : Type 1} → statement M
-labels-fit-spec = tie.close (tie.spec (search rules) (search rules) (search rules) (search rules) (search rules) (search rules) (search rules) returns)
+pub labels_fit_spec : {M : Type 1} → statement M
+labels_fit_spec = tie.close (tie.spec (search rules) (search rules) (search rules) (search rules) (search rules) (search rules) (search rules) returns)

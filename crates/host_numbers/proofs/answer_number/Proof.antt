@@ -6,14 +6,14 @@ use Rattle.host_answer.proofs.Answers.{refusal-of}
 use Rattle.host_numbers.proofs.answer_number.Statement.{statement}
 use Rattle.host_numbers.proofs.answer_number.Tie as tie
 
-number-of-requires : tie.Need-number-of-requires
-number-of-requires c κs = refusal-of (ap said c.before.answer.given.1) c.before.before.before.requires
+number-of-requires : tie.Need-number_of-requires
+number-of-requires c κs = refusal-of (ap said c.in-Refused.is) c.before.requires
 
-returns : tie.Need-returns
-returns c = sym (ap (λ a. number_of (said a)) c.enum_told.given.1)
+returns : tie.Need-returns-in-Done
+returns c = sym (ap (λ a. number_of (said a)) c.in-Done.is)
 
-returns-2 : tie.Need-returns-2
-returns-2 c = c.number-of.ensures ∙ sym (ap (λ a. number_of (said a)) c.before.before.answer.given.1)
+returns-2 : tie.Need-returns-in-Refused
+returns-2 c = c.number_of.ensures ∙ sym (ap (λ a. number_of (said a)) c.before.in-Refused.is)
 
-pub answer-number-spec : {M : Type 1} → statement M
-answer-number-spec = tie.close (tie.spec (search rules) (search rules) number-of-requires returns returns-2)
+pub answer_number_spec : {M : Type 1} → statement M
+answer_number_spec = tie.close (tie.spec (search rules) (search rules) number-of-requires returns returns-2)

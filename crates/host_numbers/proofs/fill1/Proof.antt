@@ -7,5 +7,5 @@ use Rattle.host_numbers.proofs.fill1.Tie as tie
 returns : tie.Need-returns
 returns c = c.before.before.put.ensures ∙ filled-first _ _
 
-pub fill1-spec : {M : Type 1} → statement M
-fill1-spec = tie.close (tie.spec (search rules) (search rules) returns)
+pub fill1_spec : {M : Type 1} → statement M
+fill1_spec = tie.close (tie.spec (search rules) (search rules) returns)

@@ -10,5 +10,5 @@ returns c =
     rw (c.before.before.put.ensures, c.before.before.before.before.before.before.fill1.ensures)
     (filled_on (s.args.a ∷ []) s.args.b s.args.found.now)
 
-pub fill2-spec : {M : Type 1} → statement M
-fill2-spec = tie.close (tie.spec (search rules) (search rules) (search rules) returns)
+pub fill2_spec : {M : Type 1} → statement M
+fill2_spec = tie.close (tie.spec (search rules) (search rules) (search rules) returns)

@@ -10,5 +10,5 @@ returns c =
     rw (c.before.before.put.ensures, c.before.before.before.before.before.before.fill2.ensures)
     (filled_on (s.args.a ∷ s.args.b ∷ []) s.args.c s.args.found.now)
 
-pub fill3-spec : {M : Type 1} → statement M
-fill3-spec = tie.close (tie.spec (search rules) (search rules) (search rules) returns)
+pub fill3_spec : {M : Type 1} → statement M
+fill3_spec = tie.close (tie.spec (search rules) (search rules) (search rules) returns)

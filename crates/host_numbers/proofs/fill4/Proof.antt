@@ -10,5 +10,5 @@ returns c =
     rw (c.before.before.put.ensures, c.before.before.before.before.before.before.fill3.ensures)
     (filled_on (s.args.a ∷ s.args.b ∷ s.args.c ∷ []) s.args.d s.args.found.now)
 
-pub fill4-spec : {M : Type 1} → statement M
-fill4-spec = tie.close (tie.spec (search rules) (search rules) (search rules) returns)
+pub fill4_spec : {M : Type 1} → statement M
+fill4_spec = tie.close (tie.spec (search rules) (search rules) (search rules) returns)

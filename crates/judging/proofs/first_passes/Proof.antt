@@ -15,7 +15,7 @@ input s = input_from s.args.cells s.args.faces s.args.volumes.now s.args.firsts.
     s.args.masses.now s.args.fluxes.now s.args.outsides.now s.args.releases.now
 
 -- from each pass back to the one before
-abbrev begun : tie.After-shared-slice-known8 → tie.Start
+abbrev begun : tie.After-shared_slice_known-8-1 → tie.Start
 begun c = c.before.before.before.before.before.before.before.before
 
 abbrev opened : tie.After-concentrations → tie.Start
@@ -27,11 +27,11 @@ to-first c = c.before.before.before.before.before.before.before.before
 concentrations-requires : tie.Need-concentrations-requires
 concentrations-requires c κs =
     let s = begun c.before.before.before.before in
-    let r = s.pre.0.0 in
+    let r = s.requires.0.0 in
     let k = water_of s.args.fluxes.now s.args.outsides.now s.args.releases.now in (
-      (r.counts_fit.few_cells, r.lent.volumes_long, s.pre.0.1, s.pre.0.2),
+      (r.counts_fit.few_cells, r.lent.volumes_long, s.requires.0.1, s.requires.0.2),
       (
-        (omega (arith, s.pre.1), omega (arith, s.pre.1)),
+        (omega (arith, s.requires.1), omega (arith, s.requires.1)),
         λ c h. (r.fit.volume_some c h, raised-small (input s).mesh s.args.masses.now k r c h),
       ),
     )
@@ -47,19 +47,19 @@ begun-carry : (w : tie.After-concentrations)
 begun-carry w =
     let s = opened w in
     carried-to-start (input s).mesh (input s).masses s.args.fluxes.now s.args.outsides.now _ _ _ _
-    (omega (arith, s.pre.1, w.concentrations.auto)) s.pre.1.1 (omega (arith, s.pre.1, w.concentrations.auto)) w.concentrations.ensures
+    (omega (arith, s.requires.1, w.concentrations.auto)) s.requires.1.1 (omega (arith, s.requires.1, w.concentrations.auto)) w.concentrations.ensures
 
 carry-requires : tie.Need-carry-requires
 carry-requires c κs =
     let w = c.before.before.before.before.before.before.before in
     let s = opened w in
-    record { unseen = unseen s; ready = s.pre.0.0; so_far = begun-carry w }
+    record { unseen = unseen s; ready = s.requires.0.0; so_far = begun-carry w }
 
 returns : tie.Need-returns
 returns c =
     let w = c.before.before.before.before.before in
     let s = opened (to-first w) in
-    w.carry.ensures (unseen s) s.pre.0.0 (begun-carry (to-first w))
+    w.carry.ensures (unseen s) s.requires.0.0 (begun-carry (to-first w))
 
-pub first-passes-spec : {M : Type 1} → statement M
-first-passes-spec = tie.close (tie.spec concentrations-requires carry-requires (search rules) (search rules) (search rules) returns)
+pub first_passes_spec : {M : Type 1} → statement M
+first_passes_spec = tie.close (tie.spec concentrations-requires carry-requires (search rules) (search rules) (search rules) returns)

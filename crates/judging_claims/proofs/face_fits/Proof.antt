@@ -10,17 +10,17 @@ returns : tie.Need-returns
 returns c =
     let z = c.before.before in
     let a = z.before.before.before.before.before.before.args in
-    c.claim-fits.ensures
+    c.claim_fits.ensures
     ∙ rw (
-      z.size-at3.ensures,
-      z.before.is-negative-at2.ensures,
-      z.before.before.size-at2.ensures,
-      z.before.before.before.is-negative-at.ensures,
-      z.before.before.before.before.size-at.ensures,
+      z.size_at-size.ensures,
+      z.before.is_negative_at-back.ensures,
+      z.before.before.size_at-said.ensures,
+      z.before.before.before.is_negative_at-carried_back.ensures,
+      z.before.before.before.before.size_at-flux.ensures,
     ) (claim-by-parts (get_or a.seconds.now a.f 0) (get_or a.fluxes.now a.f (pos 0)) (get_or a.carried.now a.f (pos 0))
     (get_or a.claim.now a.f (pos 0)))
 
-pub face-fits-spec : {M : Type 1} → statement M
-face-fits-spec =
+pub face_fits_spec : {M : Type 1} → statement M
+face_fits_spec =
     tie.close
     (tie.spec (search rules) (search rules) (search rules) (search rules) (search rules) (search rules) (search rules) (search rules) returns)

@@ -2,17 +2,17 @@ use borrow.Author.Tests.{eq-eqb, ne_eqb}
 use Rattle.judging_claims.proofs.rim_fits.Statement.{statement}
 use Rattle.judging_claims.proofs.rim_fits.Tie as tie
 
-returns : tie.Need-returns
-returns c = rw (ne_eqb _ _ c.if1.true)
+returns : tie.Need-returns-then-second-ne-RIM
+returns c = rw (ne_eqb _ _ c.if-second-ne-RIM.true)
 
-returns-2 : tie.Need-returns-2
-returns-2 c = rw (eq-eqb _ _ c.before.if1.false, ne_eqb _ _ c.if2.true)
+returns-2 : tie.Need-returns-then-size-carried
+returns-2 c = rw (eq-eqb _ _ c.before.if-second-ne-RIM.false, ne_eqb _ _ c.if-size-carried.true)
 
-returns-3 : tie.Need-returns-3
-returns-3 c = rw (eq-eqb _ _ c.before.before.if1.false, eq-eqb _ _ c.before.if2.false, c.if3.true)
+returns-3 : tie.Need-returns-then-back
+returns-3 c = rw (eq-eqb _ _ c.before.before.if-second-ne-RIM.false, eq-eqb _ _ c.before.if-size-carried.false, c.if-back.true)
 
-returns-4 : tie.Need-returns-4
-returns-4 c = rw (eq-eqb _ _ c.before.before.if1.false, eq-eqb _ _ c.before.if2.false, c.if3.false)
+returns-4 : tie.Need-returns-else-back
+returns-4 c = rw (eq-eqb _ _ c.before.before.if-second-ne-RIM.false, eq-eqb _ _ c.before.if-size-carried.false, c.if-back.false)
 
-pub rim-fits-spec : {M : Type 1} → statement M
-rim-fits-spec = tie.close (tie.spec returns returns-2 returns-3 returns-4)
+pub rim_fits_spec : {M : Type 1} → statement M
+rim_fits_spec = tie.close (tie.spec returns returns-2 returns-3 returns-4)

@@ -6,7 +6,7 @@ use Rattle.judging_next.proofs.fill_in.Statement.{statement}
 use Rattle.judging_next.proofs.fill_in.Tie as tie
 
 -- the start, past what is known of the lent tables
-abbrev entered : tie.After-slice-known → tie.Start
+abbrev entered : tie.After-slice_known-1 → tie.Start
 entered c = c.before.before.before.before.before.before
 
 abbrev start : tie.After-gather → tie.Start
@@ -15,16 +15,16 @@ start c = entered c.before.before.before.before.before
 gather-requires : tie.Need-gather-requires
 gather-requires c κs =
     let s = entered c.before.before.before.before in
-    let l = s.pre.1.0 in
-    ((l.1, l.3, l.4, l.5), (s.pre.1.1.0, s.pre.1.1.1.1.1))
+    let l = s.requires.1.0 in
+    ((l.1, l.3, l.4, l.5), (s.requires.1.1.0, s.requires.1.1.1.1.1))
 
 fill-requires : tie.Need-fill-requires
 fill-requires c κs =
     let g = c.before.before.before.before.before.before.before in
     let s = start g in
-    let l = s.pre.1.0 in
-    let p = s.pre.1.1 in (
-      s.pre.0,
+    let l = s.requires.1.0 in
+    let p = s.requires.1.1 in (
+      s.requires.0,
       (
         (
           p.1.0,
@@ -41,10 +41,10 @@ returns c =
     let f = c.before.before in
     let g = f.before.before.before.before.before.before.before.before in
     let s = start g in
-    let l = s.pre.1.0 in
+    let l = s.requires.1.0 in
     f.fill.ensures
-    ∙ next-read s.args.cells s.args.faces s.args.firsts.now s.args.seconds.now s.args.claim.now l.0 l.1 s.pre.1.1.0
+    ∙ next-read s.args.cells s.args.faces s.args.firsts.now s.args.seconds.now s.args.claim.now l.0 l.1 s.requires.1.1.0
     _ _ g.gather.ensures.0 g.gather.ensures.1 s.args.masses.now s.args.releases.now s.args.next.now
 
-pub fill-in-spec : {M : Type 1} → statement M
-fill-in-spec = tie.close (tie.spec gather-requires fill-requires (search rules) (search rules) (search rules) returns)
+pub fill_in_spec : {M : Type 1} → statement M
+fill_in_spec = tie.close (tie.spec gather-requires fill-requires (search rules) (search rules) (search rules) returns)

@@ -15,49 +15,49 @@ few_faces : 512 ≤ run_faces
 few_faces = omega arith
 
 -- from where the mesh is known to be read back to its reading and to the start, and from the end to there
-abbrev reading : tie.After-known-told → tie.After-read-mesh
-reading d = d.before.before.before.before.before.before.before.before
+abbrev reading : tie.In-Read → tie.After-read_mesh-answer
+reading d = d.before.before.before.before.before.before
 
-abbrev entered : tie.After-reaches → tie.Start
+abbrev entered : tie.After-reaches-1 → tie.Start
 entered c = c.before.before.before.before.before.before.before.before.before
 
-abbrev start : tie.After-known-told → tie.Start
-start d = entered d.before.before.before.before.before.before.before.before.before
+abbrev start : tie.In-Read → tie.Start
+start d = entered d.before.before.before.before.before.before.before
 
-abbrev told : tie.After-on-mesh → tie.After-known-told
+abbrev told : tie.After-on_mesh → tie.In-Read
 told c = c.before.before.before.before.before.before.before
 
-on-mesh-requires : tie.Need-on-mesh-requires
+on-mesh-requires : tie.Need-on_mesh-requires
 on-mesh-requires c κs =
     let d = c.before.before.before.before.before.before in
-    mesh-within (read-within 256 512 (reading d).read-mesh.ensures few_cells few_faces d.before.answer.given.1)
+    mesh-within (read-within 256 512 (reading d).read_mesh-answer.ensures few_cells few_faces d.in-Read.is)
 
-returns-2 : tie.Need-returns-2
+returns-2 : tie.Need-returns
 returns-2 c =
     let d = told c.before.before in
     let s = start d in
-    records-put (read-within 256 512 (reading d).read-mesh.ensures few_cells few_faces d.before.answer.given.1)
-    s.args.field.now s.args.step.now s.args.bytes.now c.before.before.on-mesh.ensures
+    records-put (read-within 256 512 (reading d).read_mesh-answer.ensures few_cells few_faces d.in-Read.is)
+    s.args.field.now s.args.step.now s.args.bytes.now c.before.before.on_mesh.ensures
 
 pub step_spec : {M : Type 1} → statement M
 step_spec =
     tie.close
     (tie.spec (search rules) (search rules) (search rules) (search rules) (search rules) (search rules) (search rules) (search rules) (λ c. undone)
-    (λ d. (read-within 256 512 (reading d).read-mesh.ensures few_cells few_faces d.before.answer.given.1).held.volumes_long)
-    (λ c. let d = c.before in (parts_cut (read-within 256 512 (reading d).read-mesh.ensures few_cells few_faces d.before.answer.given.1)).volumes_cut)
-    (λ c. let d = c.before in (read-within 256 512 (reading d).read-mesh.ensures few_cells few_faces d.before.answer.given.1).held.firsts_long)
+    (λ d. (read-within 256 512 (reading d).read_mesh-answer.ensures few_cells few_faces d.in-Read.is).held.volumes_long)
+    (λ c. let d = c.before in (parts_cut (read-within 256 512 (reading d).read_mesh-answer.ensures few_cells few_faces d.in-Read.is)).volumes_cut)
+    (λ c. let d = c.before in (read-within 256 512 (reading d).read_mesh-answer.ensures few_cells few_faces d.in-Read.is).held.firsts_long)
     (λ c. let d = c.before.before in
-    (parts_cut (read-within 256 512 (reading d).read-mesh.ensures few_cells few_faces d.before.answer.given.1)).firsts_cut)
+    (parts_cut (read-within 256 512 (reading d).read_mesh-answer.ensures few_cells few_faces d.in-Read.is)).firsts_cut)
     (λ c. let d = c.before.before in
-    (read-within 256 512 (reading d).read-mesh.ensures few_cells few_faces d.before.answer.given.1).held.seconds_long)
+    (read-within 256 512 (reading d).read_mesh-answer.ensures few_cells few_faces d.in-Read.is).held.seconds_long)
     (λ c. let d = c.before.before.before in
-    (parts_cut (read-within 256 512 (reading d).read-mesh.ensures few_cells few_faces d.before.answer.given.1)).seconds_cut)
+    (parts_cut (read-within 256 512 (reading d).read_mesh-answer.ensures few_cells few_faces d.in-Read.is)).seconds_cut)
     (λ c. let d = c.before.before.before in
-    (read-within 256 512 (reading d).read-mesh.ensures few_cells few_faces d.before.answer.given.1).held.shares_long)
+    (read-within 256 512 (reading d).read_mesh-answer.ensures few_cells few_faces d.in-Read.is).held.shares_long)
     (λ c. let d = c.before.before.before.before in
-    (parts_cut (read-within 256 512 (reading d).read-mesh.ensures few_cells few_faces d.before.answer.given.1)).shares_cut)
+    (parts_cut (read-within 256 512 (reading d).read_mesh-answer.ensures few_cells few_faces d.in-Read.is)).shares_cut)
     (λ c. let d = c.before.before.before.before in
-    (read-within 256 512 (reading d).read-mesh.ensures few_cells few_faces d.before.answer.given.1).held.reaches_long)
+    (read-within 256 512 (reading d).read_mesh-answer.ensures few_cells few_faces d.in-Read.is).held.reaches_long)
     (λ c. let d = c.before.before.before.before.before in
-    (parts_cut (read-within 256 512 (reading d).read-mesh.ensures few_cells few_faces d.before.answer.given.1)).reaches_cut)
+    (parts_cut (read-within 256 512 (reading d).read_mesh-answer.ensures few_cells few_faces d.in-Read.is)).reaches_cut)
     on-mesh-requires (search rules) returns-2)

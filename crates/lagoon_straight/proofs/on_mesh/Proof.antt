@@ -14,53 +14,53 @@ mesh s = mesh_of s.args.cells s.args.faces s.args.volumes.now s.args.firsts.now 
     s.args.reaches.now
 
 -- from where the step is known to be read: its reading, where the field is known to be read, that reading, and the start
-abbrev step-read : tie.After-enum-told4 → tie.After-read-step
-step-read k = k.before.before.before.before.before
+abbrev step-read : tie.In_default-b → tie.After-read_step-b
+step-read k = k.before.before.before.before
 
-abbrev field_told : tie.After-enum-told4 → tie.After-enum-told2
-field_told k = k.before.before.before.before.before.before.before.before.before
+abbrev field_told : tie.In_default-b → tie.In_default
+field_told k = k.before.before.before.before.before.before.before.before
 
-abbrev field-read : tie.After-enum-told4 → tie.After-read-field
-field-read k = (field_told k).before.before.before
+abbrev field-read : tie.In_default-b → tie.After-read_field-a
+field-read k = (field_told k).before.before
 
-abbrev entered : tie.After-masses → tie.Start
+abbrev entered : tie.After-masses-1 → tie.Start
 entered c = c.before.before.before.before.before.before.before.before.before
 
-abbrev start : tie.After-enum-told4 → tie.Start
+abbrev start : tie.In_default-b → tie.Start
 start k = entered (field-read k).before
 
 -- and there from the end
-abbrev step-told : tie.After-put-step → tie.After-enum-told4
+abbrev step-told : tie.After-put_step → tie.In_default-b
 step-told c = c.before.before.before.before.before.before.before.before.before
 
-put-step-requires : tie.Need-put-step-requires
+put-step-requires : tie.Need-put_step-requires
 put-step-requires c κs = (start c.before.before.before.before.before.before.before.before).requires
 
-returns-3 : tie.Need-returns-3
+returns-3 : tie.Need-returns
 returns-3 c =
     let p = c.before.before.before.before.before in
     let k = step-told p in
     let s = start k in
-    mesh-put s.args.width (mesh s) s.args.field.now s.args.step.now s.args.bytes.now (field-read k).read-field.ensures
-    (field_told k).enum-told2.given.1 (step-read k).read_step.ensures k.enum-told4.given.1 (le_refl run_faces) (le_refl run_cells)
+    mesh-put s.args.width (mesh s) s.args.field.now s.args.step.now s.args.bytes.now (field-read k).read_field-a.ensures
+    (field_told k).in_default.is (step-read k).read_step-b.ensures k.in_default-b.is (le_refl run_faces) (le_refl run_cells)
     p.put_step.ensures
 
-pub on-mesh-spec : {M : Type 1} → statement M
-on-mesh-spec =
+pub on_mesh_spec : {M : Type 1} → statement M
+on_mesh_spec =
     tie.close
     (tie.spec (search rules) (search rules) (search rules) (λ c. undone) (search rules) (search rules) (search rules) (search rules) (search rules)
     (search rules) (λ c. undone) (search rules)
-    (λ k. (masses-part (start k).args.width (field-read k).read-field.ensures (field_told k).enum-told2.given.1).fits)
-    (λ c. let k = c.before in part-long (masses-part (start k).args.width (field-read k).read-field.ensures (field_told k).enum-told2.given.1))
-    (λ c. let k = c.before in (fluxes-part (start k).args.width (mesh (start k)) [] (step-read k).read_step.ensures k.enum-told4.given.1).fits)
+    (λ k. (masses-part (start k).args.width (field-read k).read_field-a.ensures (field_told k).in_default.is).fits)
+    (λ c. let k = c.before in part-long (masses-part (start k).args.width (field-read k).read_field-a.ensures (field_told k).in_default.is))
+    (λ c. let k = c.before in (fluxes-part (start k).args.width (mesh (start k)) [] (step-read k).read_step-b.ensures k.in_default-b.is).fits)
     (λ c. let k = c.before.before in
-    part-long (fluxes-part (start k).args.width (mesh (start k)) [] (step-read k).read_step.ensures k.enum-told4.given.1))
+    part-long (fluxes-part (start k).args.width (mesh (start k)) [] (step-read k).read_step-b.ensures k.in_default-b.is))
     (λ c. let k = c.before.before in
-    (outsides-part (start k).args.width (mesh (start k)) [] (step-read k).read_step.ensures k.enum-told4.given.1).fits)
+    (outsides-part (start k).args.width (mesh (start k)) [] (step-read k).read_step-b.ensures k.in_default-b.is).fits)
     (λ c. let k = c.before.before.before in
-    part-long (outsides-part (start k).args.width (mesh (start k)) [] (step-read k).read_step.ensures k.enum-told4.given.1))
+    part-long (outsides-part (start k).args.width (mesh (start k)) [] (step-read k).read_step-b.ensures k.in_default-b.is))
     (λ c. let k = c.before.before.before in
-    (releases-part (start k).args.width (mesh (start k)) [] (step-read k).read_step.ensures k.enum-told4.given.1).fits)
+    (releases-part (start k).args.width (mesh (start k)) [] (step-read k).read_step-b.ensures k.in_default-b.is).fits)
     (λ c. let k = c.before.before.before.before in
-    part-long (releases-part (start k).args.width (mesh (start k)) [] (step-read k).read_step.ensures k.enum-told4.given.1))
+    part-long (releases-part (start k).args.width (mesh (start k)) [] (step-read k).read_step-b.ensures k.in_default-b.is))
     (search rules) (search rules) (search rules) put-step-requires (search rules) returns-3)

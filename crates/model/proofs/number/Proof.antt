@@ -3,8 +3,8 @@ use borrow.Author.Rules.{rules}
 use Rattle.model.proofs.number.Statement.{statement}
 use Rattle.model.proofs.number.Tie as tie
 
-pub number-spec : {M : Type 1} → statement M
-number-spec =
+pub number_spec : {M : Type 1} → statement M
+number_spec =
     tie.close
     (tie.spec
     (search rules) (search rules) (search rules) (search rules) (search rules) (search rules)
@@ -12,12 +12,12 @@ number-spec =
     (search rules) (search rules) (search rules) (search rules) (search rules) (search rules)
     (search rules) (search rules) (search rules) (search rules) (search rules) (search rules)
     (search rules) (search rules) (search rules)
-    (λ c. rw c.enum_told.given.1) (λ c. rw c.enum-told2.given.1) (λ c. rw c.enum-told3.given.1)
-    (λ c. rw c.enum-told4.given.1) (λ c. rw c.enum-told5.given.1) (λ c. rw c.enum-told6.given.1)
-    (λ c. rw c.enum-told7.given.1) (λ c. rw c.enum-told8.given.1) (λ c. rw c.enum-told9.given.1)
-    (λ c. rw c.enum-told10.given.1) (λ c. rw c.enum-told11.given.1) (λ c. rw c.enum-told12.given.1)
-    (λ c. rw c.enum-told13.given.1) (λ c. rw c.enum-told14.given.1) (λ c. rw c.enum-told15.given.1)
-    (λ c. rw c.enum-told16.given.1) (λ c. rw c.enum-told17.given.1) (λ c. rw c.enum-told18.given.1)
-    (λ c. rw c.enum-told19.given.1) (λ c. rw c.enum-told20.given.1) (λ c. rw c.enum-told21.given.1)
-    (λ c. rw c.enum-told22.given.1) (λ c. rw c.enum-told23.given.1) (λ c. rw c.enum-told24.given.1)
-    (λ c. rw c.enum-told25.given.1) (λ c. rw c.enum-told26.given.1) (λ c. rw c.enum-told27.given.1))
+    (λ c. rw c.in-Limits.is) (λ c. rw c.in-Table.is) (λ c. rw c.in-Volume.is)
+    (λ c. rw c.in-Ends.is) (λ c. rw c.in-Spacing.is) (λ c. rw c.in-Concentration.is)
+    (λ c. rw c.in-Outside.is) (λ c. rw c.in-Flux.is) (λ c. rw c.in-Balance.is)
+    (λ c. rw c.in-Outflow.is) (λ c. rw c.in-Length.is) (λ c. rw c.in-Bit.is)
+    (λ c. rw c.in-Head.is) (λ c. rw c.in-Page.is) (λ c. rw c.in-Name.is)
+    (λ c. rw c.in-Room.is) (λ c. rw c.in-Unkept.is) (λ c. rw c.in-Release.is)
+    (λ c. rw c.in-Coordinate.is) (λ c. rw c.in-Ratio.is) (λ c. rw c.in-Moved.is)
+    (λ c. rw c.in-Bounds.is) (λ c. rw c.in-Label.is) (λ c. rw c.in-Part.is)
+    (λ c. rw c.in-Bands.is) (λ c. rw c.in-Period.is) (λ c. rw c.in-Mark.is))

@@ -9,5 +9,5 @@ returns : tie.Need-returns
 unfolding pages
 returns c = refl
 
-pub pages-spec : {M : Type 1} → statement M
-pages-spec = tie.close (tie.spec (search rules) (search rules) returns)
+pub pages_spec : {M : Type 1} → statement M
+pages_spec = tie.close (tie.spec (search rules) (search rules) returns)

@@ -9,7 +9,7 @@ use Rattle.page.proofs.Laws.{cells-end, part-asks, part_gives}
 use Rattle.page.proofs.put.Statement.{statement}
 use Rattle.page.proofs.put.Tie as tie
 
-lines-requires : tie.Need-lines-requires
+lines-requires : tie.Need-lines-at-requires
 lines-requires c κs =
     let at_count = c.before.before in
     let start = at_count.before.before.before.before in
@@ -17,7 +17,7 @@ lines-requires c κs =
     let end = cells-end start.args.cells start.args.page (omega arith) in
     ((omega arith, omega arith, omega arith), λ i h. start.requires.1.0 i (omega arith))
 
-sum-of-requires : tie.Need-sum-of-requires
+sum-of-requires : tie.Need-sum_of-mass-requires
 sum-of-requires c κs =
     let at_count = c.before.before.before.before.before.before in
     let start = at_count.before.before.before.before in
@@ -33,8 +33,8 @@ returns c =
     let at_count = at-lines.before.before.before in
     let start = at_count.before.before.before.before.args in
     let count = at_count.cells-on.ensures in
-    let mass = at_sum.sum_of.ensures ∙ part_gives start.volumes.now start.masses.now start.cells start.page count in
-    both _ (rw count at at-lines.lines.ensures) (rw (at-mass.before.mass-places.ensures, mass) at at-mass.column.ensures)
+    let mass = at_sum.sum_of-mass.ensures ∙ part_gives start.volumes.now start.masses.now start.cells start.page count in
+    both _ (rw count at at-lines.lines-at.ensures) (rw (at-mass.before.mass_places.ensures, mass) at at-mass.column.ensures)
 
 pub put_spec : {M : Type 1} → statement M
 put_spec =

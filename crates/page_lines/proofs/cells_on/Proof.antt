@@ -8,5 +8,5 @@ returns : tie.Need-returns
 unfolding cells_on
 returns c = c.least.ensures
 
-pub cells-on-spec : {M : Type 1} → statement M
-cells-on-spec = tie.close (tie.spec (search rules) (search rules) (λ c κs. search rules) returns)
+pub cells_on_spec : {M : Type 1} → statement M
+cells_on_spec = tie.close (tie.spec (search rules) (search rules) (λ c κs. search rules) returns)

@@ -5,13 +5,13 @@ use borrow.Author.Rules.{rules}
 use Rattle.page_lines.proofs.line_if.Statement.{statement}
 use Rattle.page_lines.proofs.line_if.Tie as tie
 
-returns : tie.Need-returns
+returns : tie.Need-returns-then-visible
 returns c =
     let at-line = c.before.before in
-    ((λ e. at-line.cell-line.ensures), λ e. absurd (true≢false (sym at-line.before.before.if1.true ∙ e)))
+    ((λ e. at-line.cell_line.ensures), λ e. absurd (true≢false (sym at-line.before.before.if-visible.true ∙ e)))
 
-returns-2 : tie.Need-returns-2
-returns-2 c = ((λ e. absurd (true≢false (sym e ∙ c.if1.false))), λ e. (refl, refl))
+returns-2 : tie.Need-returns
+returns-2 c = ((λ e. absurd (true≢false (sym e ∙ c.if-visible.false))), λ e. (refl, refl))
 
-pub line-if-spec : {M : Type 1} → statement M
-line-if-spec = tie.close (tie.spec (λ c κs. search rules) (λ c. search rules) returns returns-2)
+pub line_if_spec : {M : Type 1} → statement M
+line_if_spec = tie.close (tie.spec (λ c κs. search rules) (λ c. search rules) returns returns-2)

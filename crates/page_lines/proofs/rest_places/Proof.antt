@@ -6,13 +6,13 @@ use Rattle.page_lines.specs.Lines.{rest_places}
 use Rattle.page_lines.proofs.rest_places.Statement.{statement}
 use Rattle.page_lines.proofs.rest_places.Tie as tie
 
-returns : tie.Need-returns
+returns : tie.Need-returns-then-largest-le-OLD_CEILING
 unfolding rest_places
-returns c = (rw (← c.before.largest.ensures, le-leb _ _ c.if1.true), omega arith)
+returns c = (rw (← c.before.largest.ensures, le-leb _ _ c.if-largest-le-OLD_CEILING.true), omega arith)
 
-returns-2 : tie.Need-returns-2
+returns-2 : tie.Need-returns
 unfolding rest_places
-returns-2 c = (rw (← c.before.largest.ensures, lt-leb _ _ c.if1.false), omega arith)
+returns-2 c = (rw (← c.before.largest.ensures, lt-leb _ _ c.if-largest-le-OLD_CEILING.false), omega arith)
 
-pub rest-places-spec : {M : Type 1} → statement M
-rest-places-spec = tie.close (tie.spec (search rules) returns returns-2)
+pub rest_places_spec : {M : Type 1} → statement M
+rest_places_spec = tie.close (tie.spec (search rules) returns returns-2)

@@ -4,7 +4,7 @@ use Rattle.public_marks.proofs.is_open.Tie as tie
 
 returns : tie.Need-returns
 unfolding is_open
-returns c = rw c.mark-at.ensures
+returns c = rw c.mark_at.ensures
 
-pub is-open-spec : {M : Type 1} → statement M
-is-open-spec = tie.close (tie.spec (λ c κs. tt) returns)
+pub is_open_spec : {M : Type 1} → statement M
+is_open_spec = tie.close (tie.spec (λ c κs. tt) returns)

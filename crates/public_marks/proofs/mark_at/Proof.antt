@@ -4,8 +4,8 @@ use lib.ListN.{get_or-eq_default}
 use Rattle.public_marks.proofs.mark_at.Statement.{statement}
 use Rattle.public_marks.proofs.mark_at.Tie as tie
 
-returns-2 : tie.Need-returns-2
-returns-2 c = sym (get_or-eq_default c.before.args.marks.now 0 c.if1.false)
+returns-2 : tie.Need-returns
+returns-2 c = sym (get_or-eq_default c.before.args.marks.now 0 c.if-c-marks.false)
 
-pub mark-at-spec : {M : Type 1} → statement M
-mark-at-spec = tie.close (tie.spec (search rules) (search rules) (search rules) returns-2)
+pub mark_at_spec : {M : Type 1} → statement M
+mark_at_spec = tie.close (tie.spec (search rules) (search rules) (search rules) returns-2)

@@ -11,21 +11,21 @@ use Rattle.public_page.proofs.judge_public.Statement.{statement}
 use Rattle.public_page.proofs.judge_public.Tie as tie
 
 -- what the page's judge answers, by the marks' table
-whole : (c : tie.After-judge) → let s = c.before.before.before.before.before.args in
-    said c.judge.result ≡ verdict_with (marks_long s.marks.now s.cells) s.volumes.now s.masses.now s.cells s.page s.room
+whole : (c : tie.After-judge-whole) → let s = c.before.before.before.before.before.args in
+    said c.judge-whole.result ≡ verdict_with (marks_long s.marks.now s.cells) s.volumes.now s.masses.now s.cells s.page s.room
 whole c =
     let s = c.before.before.before.before.before.args in
-    c.judge.ensures ∙ ap (λ (v : Verdict). verdict_with v s.volumes.now s.masses.now s.cells s.page s.room) c.before.marks-long.ensures
+    c.judge-whole.ensures ∙ ap (λ (v : Verdict). verdict_with v s.volumes.now s.masses.now s.cells s.page s.room) c.before.marks_long-marked.ensures
 
-returns : tie.Need-returns
+returns : tie.Need-returns-in-Refused
 unfolding public_page_verdict
-returns c = sym (out _ (refuses (whole c.before.before.before) c.before.whole.given.1))
+returns c = sym (out _ (refuses (whole c.before) c.in-Refused.is))
 
-returns-2 : tie.Need-returns-2
+returns-2 : tie.Need-returns
 unfolding public_page_verdict
 returns-2 c =
     let told = c.before in
-    c.marks-good.ensures ∙ sym (past _ (passes (whole told.before.before) told.enum_told.given.1))
+    c.marks_good.ensures ∙ sym (past _ (passes (whole told.before) told.in_default.is))
 
-pub judge-public-spec : {M : Type 1} → statement M
-judge-public-spec = tie.close (tie.spec (λ c κs. tt) (λ c κs. tt) (λ c. search rules) returns (λ c. search rules) (λ c κs. tt) returns-2)
+pub judge_public_spec : {M : Type 1} → statement M
+judge_public_spec = tie.close (tie.spec (λ c κs. tt) (λ c κs. tt) (λ c. search rules) returns (λ c. search rules) (λ c κs. tt) returns-2)

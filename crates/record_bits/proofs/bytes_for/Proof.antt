@@ -9,5 +9,5 @@ returns : tie.Need-returns
 unfolding bytes_for
 returns c = refl
 
-pub bytes-for-spec : {M : Type 1} → statement M
-bytes-for-spec = tie.close (tie.spec (search rules) returns)
+pub bytes_for_spec : {M : Type 1} → statement M
+bytes_for_spec = tie.close (tie.spec (search rules) returns)

@@ -6,10 +6,10 @@ use Rattle.record_bits.proofs.Fields.{bits-zero}
 use Rattle.record_bits.proofs.eight.Statement.{statement}
 use Rattle.record_bits.proofs.eight.Tie as tie
 
-start : tie.Need-joined-requires
+start : tie.Need-joined-one-requires
 start c κs = let s = c.before in (omega (arith, s.requires.0), omega (arith, s.requires.1), omega arith, sym (bits-zero _ _))
 
-pub eight-spec : {M : Type 1} → statement M
-eight-spec =
+pub eight_spec : {M : Type 1} → statement M
+eight_spec =
     tie.close
     (tie.spec start (search rules) (search rules) (search rules) (search rules) (search rules) (search rules) (search rules) (search rules))

@@ -10,8 +10,8 @@ returns c =
     let s = c.before.before.before in
     rw c.mix.ensures (put_byte s.args.dst.now s.args.p s.args.k s.args.v s.requires.0 s.requires.1 s.requires.2)
 
-pub put-piece-spec : {M : Type 1} → statement M
-put-piece-spec =
+pub put_piece_spec : {M : Type 1} → statement M
+put_piece_spec =
     tie.close
     (tie.spec (λ c. c.before.before.requires.0) (search rules) (search rules) (search rules)
     (λ c. c.before.before.before.requires.0) (λ c. simp length-set) returns)

@@ -11,79 +11,79 @@ use Rattle.record_bits.proofs.Turns.{width_some, below-small, byte-start, width_
 use Rattle.record_bits.proofs.read_bits.Statement.{statement}
 use Rattle.record_bits.proofs.read_bits.Tie as tie
 
-abbrev invariant-loop : tie.invariant-loop
+abbrev invariant-loop : tie.invariant-loop-k
 invariant-loop src at width end last below first bytes v₀ k₀ v k = (k ≤ touched at width) × (v ≡ bits_at src (at / 8 * 8) (k * 8))
 
-abbrev decreases-loop : tie.decreases-loop
+abbrev decreases-loop : tie.decreases-loop-k
 decreases-loop src at width end last below first bytes v₀ k₀ v k = touched at width - k
 
-returns : tie.Need-returns invariant-loop decreases-loop
-returns c = let s = c.before.before in rw c.if1.true (sym (bits-zero s.args.src.now s.args.at))
+returns : tie.Need-returns-then-width-eq0 invariant-loop decreases-loop
+returns c = let s = c.before.before in rw c.if-width-eq0.true (sym (bits-zero s.args.src.now s.args.at))
 
 eight-requires : tie.Need-eight-requires invariant-loop decreases-loop
 eight-requires c κs =
     let s = c.before.before.before in
-    let some = width_some c.before.if1.false in (
-      eight-in s.args.at s.args.width s.requires.2 some _ s.requires.0 s.requires.1 c.if2.true,
-      eight-small s.args.at s.args.width s.requires.2 some _ s.requires.0 s.requires.1 c.if2.true,
+    let some = width_some c.before.if-width-eq0.false in (
+      eight-in s.args.at s.args.width s.requires.2 some _ s.requires.0 s.requires.1 c.if-last-ge7.true,
+      eight-small s.args.at s.args.width s.requires.2 some _ s.requires.0 s.requires.1 c.if-last-ge7.true,
     )
 
 part-requires : tie.Need-part-requires invariant-loop decreases-loop
 part-requires c κs =
     let s = c.before.before.before.before in
-    (below-small _, width_small s.args.at s.args.width s.requires.2 (width_some c.before.before.if1.false))
+    (below-small _, width_small s.args.at s.args.width s.requires.2 (width_some c.before.before.if-width-eq0.false))
 
-returns-2 : tie.Need-returns-2 invariant-loop decreases-loop
+returns-2 : tie.Need-returns-then-last-ge7 invariant-loop decreases-loop
 returns-2 c =
     let s = c.before.before.before.before.before in
-    let some = width_some c.before.before.before.if1.false in
-    let far = c.before.before.if2.true in
+    let some = width_some c.before.before.before.if-width-eq0.false in
+    let far = c.before.before.if-last-ge7.true in
     c.part.ensures ∙ bits-ending s.args.src.now s.args.at s.args.width _ 8 some
     (eight-end s.args.at s.args.width s.requires.2 some far) (eight-start s.args.at s.args.width s.requires.2 some) c.before.eight.ensures
 
-joined-requires : tie.Need-joined-requires invariant-loop decreases-loop
+joined-requires : tie.Need-joined-v-requires invariant-loop decreases-loop
 joined-requires c κs =
     let s = c.before.before.before.before.before in
     let few = s.requires.2 in
-    let some = width_some c.before.before.before.if1.false in
-    let turn = c.loop-test.true in (
+    let some = width_some c.before.before.before.if-width-eq0.false in
+    let turn = c.loop-k-test.true in (
       byte-in s.args.at s.args.width few some turn _ s.requires.0,
       byte_small s.args.at s.args.width few some turn s.requires.1,
       turns-few s.args.at s.args.width few some turn,
-      c.before.loop.invariant.1,
+      c.before.loop-k.invariant.1,
     )
 
-add-k : tie.Need-overflow-add-k invariant-loop decreases-loop
+add-k : tie.Need-overflow_add-k invariant-loop decreases-loop
 add-k c =
     let s = c.before.before.before.before.before.before in
-    next_small s.args.at s.args.width s.requires.2 (width_some c.before.before.before.before.if1.false) c.before.loop-test.true
+    next_small s.args.at s.args.width s.requires.2 (width_some c.before.before.before.before.if-width-eq0.false) c.before.loop-k-test.true
 
-loop-less : tie.Need-loop-smaller invariant-loop decreases-loop
+loop-less : tie.Need-loop-k-smaller invariant-loop decreases-loop
 loop-less c =
     let s = c.before.before.before.before.before.before in
-    turn-less s.args.at s.args.width (width_some c.before.before.before.before.if1.false) _ c.before.loop-test.true
+    turn-less s.args.at s.args.width (width_some c.before.before.before.before.if-width-eq0.false) _ c.before.loop-k-test.true
 
-loop-again : tie.Need-loop-preserved invariant-loop decreases-loop
+loop-again : tie.Need-loop-k-preserved invariant-loop decreases-loop
 loop-again c =
     let s = c.before.before.before.before.before.before in
-    let some = width_some c.before.before.before.before.if1.false in
-    (turn-within s.args.at s.args.width some _ c.before.loop-test.true, c.joined.ensures)
+    let some = width_some c.before.before.before.before.if-width-eq0.false in
+    (turn-within s.args.at s.args.width some _ c.before.loop-k-test.true, c.joined-v.ensures)
 
 part-requires-2 : tie.Need-part-requires-2 invariant-loop decreases-loop
 part-requires-2 c κs =
     let s = c.before.before.before.before.before in
-    (below-small _, width_small s.args.at s.args.width s.requires.2 (width_some c.before.before.before.if1.false))
+    (below-small _, width_small s.args.at s.args.width s.requires.2 (width_some c.before.before.before.if-width-eq0.false))
 
-returns-3 : tie.Need-returns-3 invariant-loop decreases-loop
+returns-3 : tie.Need-returns invariant-loop decreases-loop
 returns-3 c =
     let s = c.before.before.before.before.before.before in
-    let l = c.before.before.loop in
-    let some = width_some c.before.before.before.before.if1.false in
-    c.part2.ensures ∙ bits-ending s.args.src.now s.args.at s.args.width (s.args.at / 8) l.k some
-    (turns-end s.args.at s.args.width some _ c.before.loop-test.false l.invariant.0) (byte-start s.args.at) l.invariant.1
+    let l = c.before.before.loop-k in
+    let some = width_some c.before.before.before.before.if-width-eq0.false in
+    c.part-2.ensures ∙ bits-ending s.args.src.now s.args.at s.args.width (s.args.at / 8) l.k some
+    (turns-end s.args.at s.args.width some _ c.before.loop-k-test.false l.invariant.0) (byte-start s.args.at) l.invariant.1
 
-pub read-bits-spec : {M : Type 1} → statement M
-read-bits-spec =
+pub read_bits_spec : {M : Type 1} → statement M
+read_bits_spec =
     tie.close
     (tie.spec invariant-loop decreases-loop returns (search rules) (search rules) (search rules) eight-requires part-requires
     returns-2 (search rules) (search rules) (λ c. (zero-le, sym (bits-zero _ _))) joined-requires add-k

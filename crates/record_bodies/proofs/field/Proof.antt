@@ -8,7 +8,7 @@ use Rattle.record_layouts.proofs.Layouts.{field-mass, masses-at}
 use Rattle.record_bodies.proofs.field.Statement.{statement}
 use Rattle.record_bodies.proofs.field.Tie as tie
 
-read-masses-requires : tie.Need-read-masses-requires
+read-masses-requires : tie.Need-read_masses-requires
 read-masses-requires c κs =
     let s = c.before.before.before in
     let k = field_kind s.args.width in
@@ -18,8 +18,8 @@ returns : tie.Need-returns
 returns c =
     let s = c.before.before.before.before.before.before in
     let k = field_kind s.args.width in
-    (rw (← field-mass s.args.width) at c.before.before.read-masses.ensures) ∙ ap (λ xs. over xs s.args.masses.now) (column-is (masses-at k
+    (rw (← field-mass s.args.width) at c.before.before.read_masses.ensures) ∙ ap (λ xs. over xs s.args.masses.now) (column-is (masses-at k
     s.args.cells) s.args.body.now)
 
-pub field-spec : {M : Type 1} → statement M
-field-spec = tie.close (tie.spec read-masses-requires (search rules) returns)
+pub field_spec : {M : Type 1} → statement M
+field_spec = tie.close (tie.spec read-masses-requires (search rules) returns)

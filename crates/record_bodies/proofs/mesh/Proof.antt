@@ -39,40 +39,40 @@ taken : (s : tie.Start) {k j n first stride w : ℕ} → Column (shape s) k j n 
 taken s c ys e = e ∙ ap (λ xs. over xs ys) (column-is c s.args.body.now)
 
 -- the width of a value is the kind's, and so are the places
-abbrev start : tie.After-value-width → tie.Start
+abbrev start : tie.After-value_width-value → tie.Start
 start c = c.before.before.before.before.before.before.before
 
-value-is : (c : tie.After-value-width) → c.value-width.result ≡ value_bits (kind (start c))
-value-is c = c.value-width.ensures ∙ sym (mesh-value (start c).args.width)
+value-is : (c : tie.After-value_width-value) → c.value_width-value.result ≡ value_bits (kind (start c))
+value-is c = c.value_width-value.ensures ∙ sym (mesh-value (start c).args.width)
 
-value-small : (c : tie.After-value-width) → value_bits (kind (start c)) ≤ widest
+value-small : (c : tie.After-value_width-value) → value_bits (kind (start c)) ≤ widest
 value-small c = omega (arith, value-most (kind (start c)))
 
-read-column-requires : tie.Need-read-column-requires
+read-column-requires : tie.Need-read_column-requires
 read-column-requires c κs =
     let v = c.before in
     let s = start v in
-    rw (value-is v) (asks s (volumes-at (kind s) s.args.cells s.args.faces) (value-small v) s.pre.long.volumes_long)
+    rw (value-is v) (asks s (volumes-at (kind s) s.args.cells s.args.faces) (value-small v) s.requires.long.volumes_long)
 
-mul-read-faces : tie.Need-overflow-mul-read-faces
+mul-read-faces : tie.Need-overflow_mul-cells
 mul-read-faces c =
     let v = c.before.before.before.before in
     rw (value-is v) (omega (arith, within (start v)))
 
 -- a face ends with its reach
-read-faces-requires : tie.Need-read-faces-requires
+read-faces-requires : tie.Need-read_faces-requires
 read-faces-requires c κs =
     let v = c.before.before.before.before.before.before.before.before in
     let s = start v in
     let reach = reaches-at (kind s) s.args.cells s.args.faces {p = s.args.cells * value_bits (kind s) + end_bits + end_bits + share_bits} refl in
     rw (value-is v) (record {
       narrow = omega (arith, value-most (kind s));
-      small = omega (arith, s.pre.small);
-      holds = λ f h. omega (arith, column-room reach s.pre.holds f h);
-      firsts_long = s.pre.long.firsts_long;
-      seconds_long = s.pre.long.seconds_long;
-      shares_long = s.pre.long.shares_long;
-      reaches_long = s.pre.long.reaches_long;
+      small = omega (arith, s.requires.small);
+      holds = λ f h. omega (arith, column-room reach s.requires.holds f h);
+      firsts_long = s.requires.long.firsts_long;
+      seconds_long = s.requires.long.seconds_long;
+      shares_long = s.requires.long.shares_long;
+      reaches_long = s.requires.long.reaches_long;
     })
 
 returns : tie.Need-returns
@@ -85,17 +85,17 @@ returns c =
     let n = s.args.cells in
     let f = s.args.faces in
     let at = n * value_bits k in
-    let read = rw (value-is v) at faces.read-faces.ensures in
+    let read = rw (value-is v) at faces.read_faces.ensures in
     laid-over (body_mesh k n f s.args.body.now) (mesh_of n f s.args.volumes.now s.args.firsts.now s.args.seconds.now s.args.shares.now
     s.args.reaches.now)
-    (taken s (volumes-at k n f) s.args.volumes.now (rw (value-is v) at volumes.read-column.ensures))
+    (taken s (volumes-at k n f) s.args.volumes.now (rw (value-is v) at volumes.read_column.ensures))
     (taken s (firsts_at k n f {p = at} refl) s.args.firsts.now read.firsts_in)
     (taken s (seconds-at k n f {p = at + end_bits} refl) s.args.seconds.now read.seconds_in)
     (taken s (shares_at k n f {p = at + end_bits + end_bits} refl) s.args.shares.now read.shares_in)
     (taken s (reaches-at k n f {p = at + end_bits + end_bits + share_bits} refl) s.args.reaches.now read.reaches_in)
 
-pub mesh-spec : {M : Type 1} → statement M
-mesh-spec =
+pub mesh_spec : {M : Type 1} → statement M
+mesh_spec =
     tie.close
     (tie.spec (search rules) read-column-requires mul-read-faces read-faces-requires
     (search rules) (search rules) (search rules) (search rules) (search rules) returns)

@@ -9,29 +9,29 @@ use Rattle.record_causes.proofs.Refusing.{bytes-said, values-said, past_first}
 use Rattle.record_causes.proofs.mesh.Statement.{statement}
 use Rattle.record_causes.proofs.mesh.Tie as tie
 
-returns : tie.Need-returns
+returns : tie.Need-returns-in-Refused
 unfolding mesh_write_verdict
-returns c = sym (refused-at [] (_ ∷ _ ∷ []) tt (refuses c.before.before.before.mesh_lent.ensures c.before.lent.given.1))
+returns c = sym (refused-at [] (_ ∷ _ ∷ []) tt (refuses c.before.mesh_lent-lent.ensures c.in-Refused.is))
 
-mesh-bytes-requires : tie.Need-mesh-bytes-requires
+mesh-bytes-requires : tie.Need-mesh_bytes-requires
 mesh-bytes-requires c κs =
-    let n = counted _ (both-fine _ _ (passes c.before.before.mesh_lent.ensures c.enum_told.given.1)).0 in
+    let n = counted _ (both-fine _ _ (passes c.before.mesh_lent-lent.ensures c.in_default.is)).0 in
     (n.few_cells, n.few_faces)
 
-values-requires : tie.Need-values-requires
-values-requires c κs = mesh-long _ (passes c.before.before.before.before.before.mesh_lent.ensures c.before.before.before.enum_told.given.1)
+values-requires : tie.Need-values-values-requires
+values-requires c κs = mesh-long _ (passes c.before.before.before.before.mesh_lent-lent.ensures c.before.before.before.in_default.is)
 
-returns-2 : tie.Need-returns-2
+returns-2 : tie.Need-returns
 unfolding mesh_write_verdict
 returns-2 c =
     let long = c.before.before.before in
     let told = long.before.before in
-    let s = told.before.before.before.before.before.before.before.before in
-    let bytes = bytes-said s.args.room long.long.ensures long.before.mesh-bytes.ensures in
-    both-are c.and_then.ensures bytes (values-said _ c.before.before.most-of.ensures c.before.values.ensures)
-    ∙ sym (past_first _ _ (passes told.before.before.mesh_lent.ensures told.enum_told.given.1))
+    let s = told.before.before.before.before.before.before.before in
+    let bytes = bytes-said s.args.room long.long-space.ensures long.before.mesh_bytes.ensures in
+    both-are c.and_then.ensures bytes (values-said _ c.before.before.most_of.ensures c.before.values-values.ensures)
+    ∙ sym (past_first _ _ (passes told.before.mesh_lent-lent.ensures told.in_default.is))
 
-pub mesh-spec : {M : Type 1} → statement M
-mesh-spec =
+pub mesh_spec : {M : Type 1} → statement M
+mesh_spec =
     tie.close
     (tie.spec (search rules) (search rules) returns (search rules) mesh-bytes-requires (search rules) (search rules) values-requires (search rules) returns-2)

@@ -10,8 +10,8 @@ use Rattle.record_heads.proofs.cells.Tie as tie
 
 returns : tie.Need-returns
 unfolding bytes_for
-returns c = c.field-after.ensures ∙ held c.before.before.args.bytes.now kind_bits cells_bits (omega arith) (omega arith)
+returns c = c.field_after.ensures ∙ held c.before.before.args.bytes.now kind_bits cells_bits (omega arith) (omega arith)
     (omega (arith, c.before.before.requires))
 
-pub cells-spec : {M : Type 1} → statement M
-cells-spec = tie.close (tie.spec (search rules) returns)
+pub cells_spec : {M : Type 1} → statement M
+cells_spec = tie.close (tie.spec (search rules) returns)

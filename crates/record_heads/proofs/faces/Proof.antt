@@ -11,8 +11,8 @@ use Rattle.record_heads.proofs.faces.Tie as tie
 
 returns : tie.Need-returns
 unfolding bytes_for
-returns c = c.field-after.ensures ∙ held c.before.before.args.bytes.now (kind_bits + cells_bits) faces_bits (omega arith) (omega arith)
+returns c = c.field_after.ensures ∙ held c.before.before.args.bytes.now (kind_bits + cells_bits) faces_bits (omega arith) (omega arith)
     (omega (arith, c.before.before.requires))
 
-pub faces-spec : {M : Type 1} → statement M
-faces-spec = tie.close (tie.spec (search rules) (search rules) returns)
+pub faces_spec : {M : Type 1} → statement M
+faces_spec = tie.close (tie.spec (search rules) (search rules) returns)

@@ -11,37 +11,37 @@ use Rattle.record_heads.proofs.HeadLaws.{head-holds}
 use Rattle.record_heads.proofs.field.Statement.{statement}
 use Rattle.record_heads.proofs.field.Tie as tie
 
-returns : tie.Need-returns
+returns : tie.Need-returns-in-Refused
 unfolding field_head_verdict bytes_for
-returns c = sym (refused-at [] (_ ∷ _ ∷ _ ∷ []) tt (refuses c.before.before.before.need.ensures c.before.a.given.1))
+returns c = sym (refused-at [] (_ ∷ _ ∷ _ ∷ []) tt (refuses c.before.need-a.ensures c.in-Refused.is))
 
 kind-requires : tie.Need-kind-requires
-kind-requires c κs = let k = c.before in head-holds 2 (omega arith) k.before.before.need.ensures k.enum_told.given.1
+kind-requires c κs = let k = c.before in head-holds 2 (omega arith) k.before.need-a.ensures k.in_default.is
 
 cells-requires : tie.Need-cells-requires
-cells-requires c κs = let k = c.before.before.before in head-holds 2 (omega arith) k.before.before.need.ensures k.enum_told.given.1
+cells-requires c κs = let k = c.before.before.before in head-holds 2 (omega arith) k.before.need-a.ensures k.in_default.is
 
-returns-2 : tie.Need-returns-2
+returns-2 : tie.Need-returns
 unfolding field_head_verdict bytes_for ◌and_then◌
 returns-2 c =
     let l = c.before.before.before in
     let m = l.before.before.before in
     let k = m.before in
     rw (
-      c.and-then2.ensures,
-      c.before.need4.ensures,
-      c.before.before.between.ensures,
-      l.and_then.ensures,
-      l.before.need3.ensures,
+      c.and_then.ensures,
+      c.before.need-2.ensures,
+      c.before.before.between-few.ensures,
+      l.and_then-d.ensures,
+      l.before.need.ensures,
       l.before.before.cells.ensures,
-      m.need2.ensures,
+      m.need-b.ensures,
       k.kind.ensures,
-      k.before.of_width.ensures,
-      passes k.before.before.before.before.need.ensures k.before.before.enum_told.given.1,
+      k.before.of_width-expected_kind.ensures,
+      passes k.before.before.before.need-a.ensures k.before.before.in_default.is,
     )
 
-pub field-spec : {M : Type 1} → statement M
-field-spec =
+pub field_spec : {M : Type 1} → statement M
+field_spec =
     tie.close
     (tie.spec (search rules) (search rules) returns (search rules) (search rules) kind-requires (search rules) cells-requires (search rules) (search rules)
     (search rules) (search rules) (search rules) returns-2)

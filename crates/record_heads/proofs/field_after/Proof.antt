@@ -5,11 +5,11 @@ use Rattle.record_reader.specs.Numbers.{spelled_number}
 use Rattle.record_heads.proofs.field_after.Statement.{statement}
 use Rattle.record_heads.proofs.field_after.Tie as tie
 
-returns : tie.Need-returns
-returns c = sym (ap spelled_number (sym c.before.before.before.number-after.ensures ∙ c.before.n.given.1))
+returns : tie.Need-returns-in-Number
+returns c = sym (ap spelled_number (sym c.before.number_after.ensures ∙ c.in-Number.is))
 
-returns-2 : tie.Need-returns-2
-returns-2 c = sym (ap spelled_number (sym c.before.before.number-after.ensures ∙ c.enum_told.given.1))
+returns-2 : tie.Need-returns-in-Past
+returns-2 c = sym (ap spelled_number (sym c.before.number_after.ensures ∙ c.in-Past.is))
 
-pub field-after-spec : {M : Type 1} → statement M
-field-after-spec = tie.close (tie.spec (search rules) (search rules) (search rules) returns returns-2)
+pub field_after_spec : {M : Type 1} → statement M
+field_after_spec = tie.close (tie.spec (search rules) (search rules) (search rules) returns returns-2)

@@ -7,16 +7,16 @@ use Rattle.record_heads.proofs.HeadLaws.{field-head-says}
 use Rattle.record_heads.proofs.field_length.Statement.{statement}
 use Rattle.record_heads.proofs.field_length.Tie as tie
 
-returns : tie.Need-returns
+returns : tie.Need-returns-in-Refused
 unfolding field_needs
-returns c = sym (out _ (refuses c.before.before.before.field.ensures c.before.a.given.1))
+returns c = sym (out _ (refuses c.before.field-a.ensures c.in-Refused.is))
 
-field-bytes-requires : tie.Need-field-bytes-requires
-field-bytes-requires c κs = (field-head-says _ _ _ (passes c.before.before.field.ensures c.enum_told.given.1)).few_cells
+field-bytes-requires : tie.Need-field_bytes-requires
+field-bytes-requires c κs = (field-head-says _ _ _ (passes c.before.field-a.ensures c.in_default.is)).few_cells
 
-returns-2 : tie.Need-returns-2
+returns-2 : tie.Need-returns
 unfolding field_needs
-returns-2 c = rw c.field-bytes.ensures (sym (past _ (passes c.before.before.before.field.ensures c.before.enum_told.given.1)))
+returns-2 c = rw c.field_bytes.ensures (sym (past _ (passes c.before.before.field-a.ensures c.before.in_default.is)))
 
-pub field-length-spec : {M : Type 1} → statement M
-field-length-spec = tie.close (tie.spec (search rules) (search rules) returns (search rules) field-bytes-requires returns-2)
+pub field_length_spec : {M : Type 1} → statement M
+field_length_spec = tie.close (tie.spec (search rules) (search rules) returns (search rules) field-bytes-requires returns-2)

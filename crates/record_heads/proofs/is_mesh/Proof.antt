@@ -4,11 +4,11 @@ use borrow.Author.Tests.{eq-eqb, ne_eqb}
 use Rattle.record_heads.proofs.is_mesh.Statement.{statement}
 use Rattle.record_heads.proofs.is_mesh.Tie as tie
 
-returns : tie.Need-returns
-returns c = rw (eq-eqb _ _ c.if1.true)
+returns : tie.Need-returns-then-kind-eq-MESH_KIND
+returns c = rw (eq-eqb _ _ c.if-kind-eq-MESH_KIND.true)
 
-returns-2 : tie.Need-returns-2
-returns-2 c = rw (ne_eqb _ _ c.if1.false)
+returns-2 : tie.Need-returns
+returns-2 c = rw (ne_eqb _ _ c.if-kind-eq-MESH_KIND.false)
 
-pub is-mesh-spec : {M : Type 1} → statement M
-is-mesh-spec = tie.close (tie.spec returns (search rules) returns-2)
+pub is_mesh_spec : {M : Type 1} → statement M
+is_mesh_spec = tie.close (tie.spec returns (search rules) returns-2)

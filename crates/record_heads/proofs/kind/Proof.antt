@@ -10,7 +10,7 @@ use Rattle.record_heads.proofs.kind.Tie as tie
 
 returns : tie.Need-returns
 unfolding bytes_for
-returns c = c.field-after.ensures ∙ held c.before.before.args.bytes.now 0 kind_bits (omega arith) (omega arith) (omega (arith, c.before.before.requires))
+returns c = c.field_after.ensures ∙ held c.before.before.args.bytes.now 0 kind_bits (omega arith) (omega arith) (omega (arith, c.before.before.requires))
 
-pub kind-spec : {M : Type 1} → statement M
-kind-spec = tie.close (tie.spec (search rules) returns)
+pub kind_spec : {M : Type 1} → statement M
+kind_spec = tie.close (tie.spec (search rules) returns)

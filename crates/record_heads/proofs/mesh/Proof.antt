@@ -11,37 +11,37 @@ use Rattle.record_heads.proofs.HeadLaws.{head-holds}
 use Rattle.record_heads.proofs.mesh.Statement.{statement}
 use Rattle.record_heads.proofs.mesh.Tie as tie
 
-returns : tie.Need-returns
+returns : tie.Need-returns-in-Refused
 unfolding mesh_head_verdict bytes_for
-returns c = sym (refused-at [] (_ ∷ _ ∷ []) tt (refuses c.before.before.before.need.ensures c.before.a.given.1))
+returns c = sym (refused-at [] (_ ∷ _ ∷ []) tt (refuses c.before.need-a.ensures c.in-Refused.is))
 
 kind-requires : tie.Need-kind-requires
-kind-requires c κs = head-holds 4 (omega arith) c.before.before.need.ensures c.enum_told.given.1
+kind-requires c κs = head-holds 4 (omega arith) c.before.need-a.ensures c.in_default.is
 
 cells-requires : tie.Need-cells-requires
-cells-requires c κs = let k = c.before.before.before in head-holds 4 (omega arith) k.before.before.need.ensures k.enum_told.given.1
+cells-requires c κs = let k = c.before.before.before in head-holds 4 (omega arith) k.before.need-a.ensures k.in_default.is
 
 faces-requires : tie.Need-faces-requires
-faces-requires c κs = let k = c.before.before.before.before in head-holds 4 (omega arith) k.before.before.need.ensures k.enum_told.given.1
+faces-requires c κs = let k = c.before.before.before.before in head-holds 4 (omega arith) k.before.need-a.ensures k.in_default.is
 
-returns-2 : tie.Need-returns-2
+returns-2 : tie.Need-returns
 unfolding mesh_head_verdict bytes_for ◌and_then◌
 returns-2 c =
     let l = c.before.before.before.before in
     let k = l.before.before.before in
     rw (
       c.and_then.ensures,
-      c.before.counts-within.ensures,
+      c.before.counts_within.ensures,
       c.before.before.faces.ensures,
       c.before.before.before.cells.ensures,
-      l.need2.ensures,
-      l.before.is-mesh.ensures,
+      l.need-b.ensures,
+      l.before.is_mesh.ensures,
       l.before.before.kind.ensures,
-      passes k.before.before.need.ensures k.enum_told.given.1,
+      passes k.before.need-a.ensures k.in_default.is,
     )
 
-pub mesh-spec : {M : Type 1} → statement M
-mesh-spec =
+pub mesh_spec : {M : Type 1} → statement M
+mesh_spec =
     tie.close
     (tie.spec (search rules) (search rules) returns (search rules) kind-requires (search rules) (search rules) cells-requires faces-requires (search rules)
     (search rules) returns-2)

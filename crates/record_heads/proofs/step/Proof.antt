@@ -11,34 +11,34 @@ use Rattle.record_heads.proofs.HeadLaws.{head-holds}
 use Rattle.record_heads.proofs.step.Statement.{statement}
 use Rattle.record_heads.proofs.step.Tie as tie
 
-returns : tie.Need-returns
+returns : tie.Need-returns-in-Refused
 unfolding step_head_verdict bytes_for
-returns c = sym (refused-at [] (_ ∷ _ ∷ _ ∷ _ ∷ []) tt (refuses c.before.before.before.need.ensures c.before.a.given.1))
+returns c = sym (refused-at [] (_ ∷ _ ∷ _ ∷ _ ∷ []) tt (refuses c.before.need-a.ensures c.in-Refused.is))
 
 kind-requires : tie.Need-kind-requires
-kind-requires c κs = head-holds 4 (omega arith) c.before.before.need.ensures c.enum_told.given.1
+kind-requires c κs = head-holds 4 (omega arith) c.before.need-a.ensures c.in_default.is
 
-step-faces-requires : tie.Need-step-faces-requires
-step-faces-requires c κs = let k = c.before.before.before in head-holds 4 (omega arith) k.before.before.need.ensures k.enum_told.given.1
+step-faces-requires : tie.Need-step_faces-requires
+step-faces-requires c κs = let k = c.before.before.before in head-holds 4 (omega arith) k.before.need-a.ensures k.in_default.is
 
-returns-2 : tie.Need-returns-2
+returns-2 : tie.Need-returns
 unfolding step_head_verdict bytes_for ◌and_then◌
 returns-2 c =
     let l = c.before.before.before.before in
     let m = l.before.before.before in
     let k = m.before.before in
     rw (
-      c.and-then3.ensures,
-      c.before.need4.ensures,
-      c.before.before.and-then2.ensures,
-      c.before.before.before.counts-within.ensures,
-      l.and_then.ensures,
-      l.before.need3.ensures,
-      l.before.before.step-faces.ensures,
-      m.need2.ensures,
-      m.before.is-step.ensures,
+      c.and_then.ensures,
+      c.before.need-2.ensures,
+      c.before.before.and_then-e.ensures,
+      c.before.before.before.counts_within-few.ensures,
+      l.and_then-d.ensures,
+      l.before.need.ensures,
+      l.before.before.step_faces.ensures,
+      m.need-b.ensures,
+      m.before.is_step.ensures,
       k.kind.ensures,
-      passes k.before.before.before.need.ensures k.before.enum_told.given.1,
+      passes k.before.before.need-a.ensures k.before.in_default.is,
     )
 
 pub step_spec : {M : Type 1} → statement M

@@ -10,8 +10,8 @@ use Rattle.record_heads.proofs.step_faces.Tie as tie
 
 returns : tie.Need-returns
 unfolding bytes_for
-returns c = c.field-after.ensures ∙ held c.before.before.args.bytes.now kind_bits faces_bits (omega arith) (omega arith)
+returns c = c.field_after.ensures ∙ held c.before.before.args.bytes.now kind_bits faces_bits (omega arith) (omega arith)
     (omega (arith, c.before.before.requires))
 
-pub step-faces-spec : {M : Type 1} → statement M
-step-faces-spec = tie.close (tie.spec (search rules) returns)
+pub step_faces_spec : {M : Type 1} → statement M
+step_faces_spec = tie.close (tie.spec (search rules) returns)

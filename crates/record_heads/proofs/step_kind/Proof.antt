@@ -9,15 +9,15 @@ use Rattle.record_heads.specs.Heads.{kind_in}
 use Rattle.record_heads.proofs.step_kind.Statement.{statement}
 use Rattle.record_heads.proofs.step_kind.Tie as tie
 
-returns : tie.Need-returns
-returns c = let k = c.before in sym (rw (k.before.kind.ensures, k.of_width.ensures) at c.if1.true)
+returns : tie.Need-returns-then-kind-of_width
+returns c = let k = c.before in sym (rw (k.before.kind.ensures, k.of_width.ensures) at c.if-kind-of_width.true)
 
-returns-2 : tie.Need-returns-2
+returns-2 : tie.Need-returns
 returns-2 c =
     let k = c.before in
     let s = k.before.before.before in
     sym (eqb-true _ _ (either_true _ (eqb (kind_in s.args.bytes.now) (outfall_kind s.args.width)) s.requires.1
-    (ne_eqb _ _ (rw (k.before.kind.ensures, k.of_width.ensures) at c.if1.false))))
+    (ne_eqb _ _ (rw (k.before.kind.ensures, k.of_width.ensures) at c.if-kind-of_width.false))))
 
-pub step-kind-spec : {M : Type 1} → statement M
-step-kind-spec = tie.close (tie.spec (search rules) (search rules) returns returns-2)
+pub step_kind_spec : {M : Type 1} → statement M
+step_kind_spec = tie.close (tie.spec (search rules) (search rules) returns returns-2)

@@ -50,18 +50,18 @@ abbrev Head : ℕ → ℕ → Bool
 Head = and (and (and (and none 0 0) 0 1) 0 2) 0 3
 
 -- the start from where the first field of the head is put, and that place from each later one
-abbrev reckoned : tie.After-value-width → tie.Start
+abbrev reckoned : tie.After-value_width-value → tie.Start
 reckoned c = c.before.before.before.before.before.before.before.before
 
-abbrev from-value : tie.After-write-bits → tie.After-value-width
+abbrev from-value : tie.After-write_bits → tie.After-value_width-value
 from-value c = c.before.before
 
-abbrev start : tie.After-write-bits → tie.Start
+abbrev start : tie.After-write_bits → tie.Start
 start c = reckoned (from-value c)
 
 -- the width of a value is the kind's
-value-is : (c : tie.After-value-width) → c.value-width.result ≡ value_bits (kind (reckoned c))
-value-is c = c.value-width.ensures ∙ sym (mesh-value (reckoned c).args.width)
+value-is : (c : tie.After-value_width-value) → c.value_width-value.result ≡ value_bits (kind (reckoned c))
+value-is c = c.value_width-value.ensures ∙ sym (mesh-value (reckoned c).args.width)
 
 small : (s : tie.Start) → (value_bits (kind s) ≤ value_of Wide) × (s.args.cells * value_bits (kind s) ≤ max_cells * value_of Wide)
 small s = (value-most (kind s), mul-le-mul s.requires.few_cells (value-most (kind s)))
@@ -71,175 +71,175 @@ last : (s : tie.Start) {w : ℕ} → w ≡ value_bits (kind s)
     → mesh_head_bits + s.args.cells * w + s.args.faces * face_of w ≡ shape_bits (shape s)
 last s e = rw e (omega arith)
 
-ends : (c : tie.After-value-width) → let s = reckoned c in let w = c.value-width.result in
+ends : (c : tie.After-value_width-value) → let s = reckoned c in let w = c.value_width-value.result in
     mesh_head_bits + s.args.cells * w + s.args.faces * face_of w ≡ shape_bits (shape s)
 ends c = last (reckoned c) (value-is c)
 
-add-face : tie.Need-overflow-add-face
+add-face : tie.Need-overflow_add-face
 add-face c = rw (value-is c) (omega (arith, small (reckoned c)))
 
-mul-first : tie.Need-overflow-mul-first
+mul-first : tie.Need-overflow_mul-first
 mul-first c = rw (value-is c) (omega (arith, small (reckoned c)))
 
-add-first : tie.Need-overflow-add-first
+add-first : tie.Need-overflow_add-first
 add-first c = rw (value-is c) (omega (arith, small (reckoned c)))
 
-add-second : tie.Need-overflow-add-second
+add-second : tie.Need-overflow_add-second
 add-second c = rw (value-is c) (omega (arith, small (reckoned c)))
 
-add-share : tie.Need-overflow-add-share
+add-share : tie.Need-overflow_add-share
 add-share c = rw (value-is c) (omega (arith, small (reckoned c)))
 
-add-reach : tie.Need-overflow-add-reach
+add-reach : tie.Need-overflow_add-reach
 add-reach c = rw (value-is c) (omega (arith, small (reckoned c)))
 
-abbrev from-two : tie.After-write-bits2 → tie.After-write-bits
+abbrev from-two : tie.After-write_bits-2 → tie.After-write_bits
 from-two c = c.before.before.before.before
 
-abbrev from-three : tie.After-write-bits3 → tie.After-write-bits
+abbrev from-three : tie.After-write_bits-3 → tie.After-write_bits
 from-three c = from-two c.before.before.before.before
 
-abbrev from-four : tie.After-write-bits4 → tie.After-write-bits
+abbrev from-four : tie.After-write_bits-4 → tie.After-write_bits
 from-four c = from-three c.before.before.before.before
 
-abbrev from-five : tie.After-put-column → tie.After-write-bits
+abbrev from-five : tie.After-put_column → tie.After-write_bits
 from-five c = from-four c.before.before.before.before
 
-abbrev from-six : tie.After-put-column2 → tie.After-write-bits
+abbrev from-six : tie.After-put_column-2 → tie.After-write_bits
 from-six c = from-five c.before.before.before.before
 
-abbrev from-seven : tie.After-put-column3 → tie.After-write-bits
+abbrev from-seven : tie.After-put_column-3 → tie.After-write_bits
 from-seven c = from-six c.before.before.before.before
 
-abbrev from-eight : tie.After-put-column4 → tie.After-write-bits
+abbrev from-eight : tie.After-put_column-4 → tie.After-write_bits
 from-eight c = from-seven c.before.before.before.before
 
-abbrev from-nine : tie.After-put-column5 → tie.After-write-bits
+abbrev from-nine : tie.After-put_column-5 → tie.After-write_bits
 from-nine c = from-eight c.before.before.before.before
 
-one : (c : tie.After-write-bits) → Some (start c) (and none 0 0) c.write-bits.new.0
+one : (c : tie.After-write_bits) → Some (start c) (and none 0 0) c.write_bits.new.0
 one c =
     let s = start c in
-    head-written (mesh-kind-in (kind s) s.args.cells s.args.faces) (value s) s.pre.fits (written_none (shape s) (value s) _)
-    c.write-bits.ensures (sym c.before.before.before.of_width.ensures)
+    head-written (mesh-kind-in (kind s) s.args.cells s.args.faces) (value s) s.requires.fits (written_none (shape s) (value s) _)
+    c.write_bits.ensures (sym c.before.before.before.of_width-kind.ensures)
 
-two : (c : tie.After-write-bits2) → Some (start (from-two c)) (and (and none 0 0) 0 1) c.write-bits2.new.0
+two : (c : tie.After-write_bits-2) → Some (start (from-two c)) (and (and none 0 0) 0 1) c.write_bits-2.new.0
 two c =
     let p1 = c.before.before.before.before in
     let s = start (from-two c) in
-    head-written (mesh-cells-in (kind s) s.args.cells s.args.faces) (value s) s.pre.fits (one p1) c.write-bits2.ensures refl
+    head-written (mesh-cells-in (kind s) s.args.cells s.args.faces) (value s) s.requires.fits (one p1) c.write_bits-2.ensures refl
 
-three : (c : tie.After-write-bits3) → Some (start (from-three c)) (and (and (and none 0 0) 0 1) 0 2) c.write-bits3.new.0
+three : (c : tie.After-write_bits-3) → Some (start (from-three c)) (and (and (and none 0 0) 0 1) 0 2) c.write_bits-3.new.0
 three c =
     let p1 = c.before.before.before.before in
     let s = start (from-three c) in
-    head-written (mesh-faces-in (kind s) s.args.cells s.args.faces) (value s) s.pre.fits (two p1) c.write-bits3.ensures refl
+    head-written (mesh-faces-in (kind s) s.args.cells s.args.faces) (value s) s.requires.fits (two p1) c.write_bits-3.ensures refl
 
-four : (c : tie.After-write-bits4) → Some (start (from-four c)) Head c.write-bits4.new.0
+four : (c : tie.After-write_bits-4) → Some (start (from-four c)) Head c.write_bits-4.new.0
 four c =
     let p1 = c.before.before.before.before in
     let s = start (from-four c) in
-    head-written (mesh-zeros-in (kind s) s.args.cells s.args.faces) (value s) s.pre.fits (three p1) c.write-bits4.ensures refl
+    head-written (mesh-zeros-in (kind s) s.args.cells s.args.faces) (value s) s.requires.fits (three p1) c.write_bits-4.ensures refl
 
-five : (c : tie.After-put-column) → Some (start (from-five c)) (and Head 1 0) c.put-column.new.0
+five : (c : tie.After-put_column) → Some (start (from-five c)) (and Head 1 0) c.put_column.new.0
 five c =
     let p1 = c.before.before.before.before in
     let s = start (from-five c) in
-    column-written (volumes-in (kind s) s.args.cells s.args.faces) (value s) s.pre.fits (four p1)
-    (rw (value-is (from-value (from-five c))) at c.put-column.ensures) (λ i l. refl)
+    column-written (volumes-in (kind s) s.args.cells s.args.faces) (value s) s.requires.fits (four p1)
+    (rw (value-is (from-value (from-five c))) at c.put_column.ensures) (λ i l. refl)
 
-six : (c : tie.After-put-column2) → Some (start (from-six c)) (and (and Head 1 0) 2 0) c.put-column2.new.0
+six : (c : tie.After-put_column-2) → Some (start (from-six c)) (and (and Head 1 0) 2 0) c.put_column-2.new.0
 six c =
     let p1 = c.before.before.before.before in
     let s = start (from-six c) in
-    column-written (firsts_in (kind s) s.args.cells s.args.faces refl) (value s) s.pre.fits (five p1)
-    (rw (value-is (from-value (from-six c))) at c.put-column2.ensures) (λ i l. refl)
+    column-written (firsts_in (kind s) s.args.cells s.args.faces refl) (value s) s.requires.fits (five p1)
+    (rw (value-is (from-value (from-six c))) at c.put_column-2.ensures) (λ i l. refl)
 
-seven : (c : tie.After-put-column3) → Some (start (from-seven c)) (and (and (and Head 1 0) 2 0) 2 1) c.put-column3.new.0
+seven : (c : tie.After-put_column-3) → Some (start (from-seven c)) (and (and (and Head 1 0) 2 0) 2 1) c.put_column-3.new.0
 seven c =
     let p1 = c.before.before.before.before in
     let s = start (from-seven c) in
-    column-written (seconds_in (kind s) s.args.cells s.args.faces refl) (value s) s.pre.fits (six p1)
-    (rw (value-is (from-value (from-seven c))) at c.put-column3.ensures) (λ i l. refl)
+    column-written (seconds_in (kind s) s.args.cells s.args.faces refl) (value s) s.requires.fits (six p1)
+    (rw (value-is (from-value (from-seven c))) at c.put_column-3.ensures) (λ i l. refl)
 
-eight : (c : tie.After-put-column4) → Some (start (from-eight c)) (and (and (and (and Head 1 0) 2 0) 2 1) 2 2) c.put-column4.new.0
+eight : (c : tie.After-put_column-4) → Some (start (from-eight c)) (and (and (and (and Head 1 0) 2 0) 2 1) 2 2) c.put_column-4.new.0
 eight c =
     let p1 = c.before.before.before.before in
     let s = start (from-eight c) in
-    column-written (shares_in (kind s) s.args.cells s.args.faces refl) (value s) s.pre.fits (seven p1)
-    (rw (value-is (from-value (from-eight c))) at c.put-column4.ensures) (λ i l. refl)
+    column-written (shares_in (kind s) s.args.cells s.args.faces refl) (value s) s.requires.fits (seven p1)
+    (rw (value-is (from-value (from-eight c))) at c.put_column-4.ensures) (λ i l. refl)
 
-nine : (c : tie.After-put-column5) → Some (start (from-nine c)) (and (and (and (and (and Head 1 0) 2 0) 2 1) 2 2) 2 3) c.put-column5.new.0
+nine : (c : tie.After-put_column-5) → Some (start (from-nine c)) (and (and (and (and (and Head 1 0) 2 0) 2 1) 2 2) 2 3) c.put_column-5.new.0
 nine c =
     let p1 = c.before.before.before.before in
     let s = start (from-nine c) in
-    column-written (reaches_in (kind s) s.args.cells s.args.faces refl) (value s) s.pre.fits (eight p1)
-    (rw (value-is (from-value (from-nine c))) at c.put-column5.ensures) (λ i l. refl)
+    column-written (reaches_in (kind s) s.args.cells s.args.faces refl) (value s) s.requires.fits (eight p1)
+    (rw (value-is (from-value (from-nine c))) at c.put_column-5.ensures) (λ i l. refl)
 
-write-bits-requires : tie.Need-write-bits-requires
+write-bits-requires : tie.Need-write_bits-requires
 write-bits-requires c κs =
     let v = c.before in
     let s = reckoned v in
     field-asks (holds s) (written_none (shape s) (value s) _) 0 kind_bits _ (omega arith)
-    (rw v.before.of_width.ensures (column-small (mesh-kind-in (kind s) s.args.cells s.args.faces) (value s) s.pre.fits 0 (omega arith)))
+    (rw v.before.of_width-kind.ensures (column-small (mesh-kind-in (kind s) s.args.cells s.args.faces) (value s) s.requires.fits 0 (omega arith)))
 
-write-bits-requires-2 : tie.Need-write-bits-requires-2
+write-bits-requires-2 : tie.Need-write_bits-requires-2
 write-bits-requires-2 c κs =
     let p1 = c.before.before.before in
     let s = start p1 in
-    field-asks (holds s) (one p1) kind_bits cells_bits _ (omega arith) (omega (arith, s.pre.few_cells))
+    field-asks (holds s) (one p1) kind_bits cells_bits _ (omega arith) (omega (arith, s.requires.few_cells))
 
-write-bits-requires-3 : tie.Need-write-bits-requires-3
+write-bits-requires-3 : tie.Need-write_bits-requires-3
 write-bits-requires-3 c κs =
     let p1 = c.before.before.before in
     let s = start (from-two p1) in
-    field-asks (holds s) (two p1) (kind_bits + cells_bits) faces_bits _ (omega arith) (omega (arith, s.pre.few_faces))
+    field-asks (holds s) (two p1) (kind_bits + cells_bits) faces_bits _ (omega arith) (omega (arith, s.requires.few_faces))
 
-write-bits-requires-4 : tie.Need-write-bits-requires-4
+write-bits-requires-4 : tie.Need-write_bits-requires-4
 write-bits-requires-4 c κs =
     let p1 = c.before.before.before in
     let s = start (from-three p1) in
     field-asks (holds s) (three p1) (kind_bits + cells_bits + faces_bits) mesh_zero_bits _ (omega arith) (omega arith)
 
-put-column-requires : tie.Need-put-column-requires
+put-column-requires : tie.Need-put_column-requires
 put-column-requires c κs =
     let p1 = c.before.before.before in
     let s = start (from-four p1) in
-    rw (value-is (from-value (from-four p1))) (column-asks (holds s) (four p1) (volumes-in (kind s) s.args.cells s.args.faces) s.pre.fits
-    s.args.volumes.now (omega (arith, small s)) s.pre.lent.volumes_long (λ i l. refl))
+    rw (value-is (from-value (from-four p1))) (column-asks (holds s) (four p1) (volumes-in (kind s) s.args.cells s.args.faces) s.requires.fits
+    s.args.volumes.now (omega (arith, small s)) s.requires.lent.volumes_long (λ i l. refl))
 
-put-column-requires-2 : tie.Need-put-column-requires-2
+put-column-requires-2 : tie.Need-put_column-requires-2
 put-column-requires-2 c κs =
     let p1 = c.before.before.before in
     let s = start (from-five p1) in
-    rw (value-is (from-value (from-five p1))) (column-asks (holds s) (five p1) (firsts_in (kind s) s.args.cells s.args.faces refl) s.pre.fits
-    s.args.firsts.now (omega arith) s.pre.lent.firsts_long (λ i l. refl))
+    rw (value-is (from-value (from-five p1))) (column-asks (holds s) (five p1) (firsts_in (kind s) s.args.cells s.args.faces refl) s.requires.fits
+    s.args.firsts.now (omega arith) s.requires.lent.firsts_long (λ i l. refl))
 
-put-column-requires-3 : tie.Need-put-column-requires-3
+put-column-requires-3 : tie.Need-put_column-requires-3
 put-column-requires-3 c κs =
     let p1 = c.before.before.before in
     let s = start (from-six p1) in
-    rw (value-is (from-value (from-six p1))) (column-asks (holds s) (six p1) (seconds_in (kind s) s.args.cells s.args.faces refl) s.pre.fits
-    s.args.seconds.now (omega arith) s.pre.lent.seconds_long (λ i l. refl))
+    rw (value-is (from-value (from-six p1))) (column-asks (holds s) (six p1) (seconds_in (kind s) s.args.cells s.args.faces refl) s.requires.fits
+    s.args.seconds.now (omega arith) s.requires.lent.seconds_long (λ i l. refl))
 
-put-column-requires-4 : tie.Need-put-column-requires-4
+put-column-requires-4 : tie.Need-put_column-requires-4
 put-column-requires-4 c κs =
     let p1 = c.before.before.before in
     let s = start (from-seven p1) in
-    rw (value-is (from-value (from-seven p1))) (column-asks (holds s) (seven p1) (shares_in (kind s) s.args.cells s.args.faces refl) s.pre.fits
-    s.args.shares.now (omega arith) s.pre.lent.shares_long (λ i l. refl))
+    rw (value-is (from-value (from-seven p1))) (column-asks (holds s) (seven p1) (shares_in (kind s) s.args.cells s.args.faces refl) s.requires.fits
+    s.args.shares.now (omega arith) s.requires.lent.shares_long (λ i l. refl))
 
-put-column-requires-5 : tie.Need-put-column-requires-5
+put-column-requires-5 : tie.Need-put_column-requires-5
 put-column-requires-5 c κs =
     let p1 = c.before.before.before in
     let s = start (from-eight p1) in
-    rw (value-is (from-value (from-eight p1))) (column-asks (holds s) (eight p1) (reaches_in (kind s) s.args.cells s.args.faces refl) s.pre.fits
-    s.args.reaches.now (omega (arith, small s)) s.pre.lent.reaches_long (λ i l. refl))
+    rw (value-is (from-value (from-eight p1))) (column-asks (holds s) (eight p1) (reaches_in (kind s) s.args.cells s.args.faces refl) s.requires.fits
+    s.args.reaches.now (omega (arith, small s)) s.requires.lent.reaches_long (λ i l. refl))
 
-mul-pad : tie.Need-overflow-mul-pad
+mul-pad : tie.Need-overflow_mul-faces
 mul-pad c = let v = from-value (from-nine c.before.before.before) in omega (arith, ends v, (holds (reckoned v)).small)
 
-add-pad : tie.Need-overflow-add-pad
+add-pad : tie.Need-overflow_add-first-2
 add-pad c = let v = from-value (from-nine c.before.before.before) in omega (arith, ends v, (holds (reckoned v)).small)
 
 pad-requires : tie.Need-pad-requires
@@ -248,7 +248,7 @@ pad-requires c κs =
     let f = from-nine put in
     pad-asks (holds (start f)) (nine put) (ends (from-value f))
 
-same_length : tie.Need-same-length
+same_length : tie.Need-shape_of-bytes
 same_length c =
     let padded = c.before.before in
     padded.pad.ensures.1.same_length ∙ (nine padded.before.before.before.before).same_length
@@ -260,10 +260,10 @@ returns c =
     let put = padded.before.before.before.before in
     let f = from-nine put in
     put_whole (holds (start f)) (nine put) (ends (from-value f)) refl
-    (λ j. omega (arith, f.before.before.before.before.slice-known.given j)) (λ j. omega (arith, c.slice-known11.given j)) padded.pad.ensures
+    (λ j. omega (arith, f.before.before.before.before.slice_known-1.given j)) (λ j. omega (arith, c.slice_known-11-1.given j)) padded.pad.ensures
 
-pub mesh-spec : {M : Type 1} → statement M
-mesh-spec =
+pub mesh_spec : {M : Type 1} → statement M
+mesh_spec =
     tie.close
     (tie.spec (search rules) (search rules) add-face (search rules) (search rules) mul-first add-first add-second add-share add-reach
     write-bits-requires write-bits-requires-2 (search rules) write-bits-requires-3 write-bits-requires-4

@@ -4,21 +4,21 @@ use borrow.Author.Rules.{rules}
 use Rattle.record_putting.proofs.put_masses.Statement.{statement}
 use Rattle.record_putting.proofs.put_masses.Tie as tie
 
-put-column-requires : tie.Need-put-column-requires
-put-column-requires c κs = let p = rw c.before.enum_told.given.1 at c.before.before.before.before.before.requires in
+put-column-requires : tie.Need-put_column-requires
+put-column-requires c κs = let p = rw c.before.in-Narrow.is at c.before.before.before.before.requires in
     ((omega arith, omega arith, p.0), (p.1, p.2))
 
-put-column-requires-2 : tie.Need-put-column-requires-2
-put-column-requires-2 c κs = let p = rw c.before.enum-told2.given.1 at c.before.before.before.before.before.requires in
+put-column-requires-2 : tie.Need-put_column-requires-in-Wide
+put-column-requires-2 c κs = let p = rw c.before.in-Wide.is at c.before.before.before.before.requires in
     ((omega arith, omega arith, p.0), (p.1, p.2))
 
-returns : tie.Need-returns
-returns c = rw c.before.before.before.before.enum_told.given.1 c.before.before.put-column.ensures
+returns : tie.Need-returns-in-Narrow
+returns c = rw c.before.before.before.before.in-Narrow.is c.before.before.put_column.ensures
 
-returns-2 : tie.Need-returns-2
-returns-2 c = rw c.before.before.before.before.enum-told2.given.1 c.before.before.put-column2.ensures
+returns-2 : tie.Need-returns-in-Wide
+returns-2 c = rw c.before.before.before.before.in-Wide.is c.before.before.put_column-in-Wide.ensures
 
-pub put-masses-spec : {M : Type 1} → statement M
-put-masses-spec =
+pub put_masses_spec : {M : Type 1} → statement M
+put_masses_spec =
     tie.close
     (tie.spec (search rules) put-column-requires (search rules) put-column-requires-2 (search rules) returns (search rules) returns-2)

@@ -54,163 +54,163 @@ abbrev Water : ℕ → ℕ → Bool
 Water = and (and (and Head 1 0) 1 1) 2 0
 
 -- the start from where the releases' place and width are known, and that from each place
-abbrev reckoned : tie.After-value-width → tie.Start
+abbrev reckoned : tie.After-value_width-value → tie.Start
 reckoned c = c.before.before.before.before.before
 
-abbrev from-value : tie.After-release-width → tie.After-value-width
+abbrev from-value : tie.After-release_width-bits → tie.After-value_width-value
 from-value c = c.before.before.before
 
-abbrev start : tie.After-release-width → tie.Start
+abbrev start : tie.After-release_width-bits → tie.Start
 start c = reckoned (from-value c)
 
 -- the width of a size is the kind's
-value-is : (c : tie.After-value-width) → c.value-width.result ≡ value_bits (kind (reckoned c))
-value-is c = c.value-width.ensures ∙ sym (step-value (reckoned c).args.width (reckoned c).args.kind)
+value-is : (c : tie.After-value_width-value) → c.value_width-value.result ≡ value_bits (kind (reckoned c))
+value-is c = c.value_width-value.ensures ∙ sym (step-value (reckoned c).args.width (reckoned c).args.kind)
 
 small : (s : tie.Start) → (value_bits (kind s) ≤ value_of Wide) × (s.args.faces * value_bits (kind s) ≤ max_faces * value_of Wide)
     × (s.args.faces ≤ max_faces)
 small s = (value-most (kind s), mul-le-mul s.requires.few_faces (value-most (kind s)), s.requires.few_faces)
 
-add-flux : tie.Need-overflow-add-flux
+add-flux : tie.Need-overflow_add-flux
 add-flux c = rw (value-is c) (omega (arith, small (reckoned c)))
 
-mul-first : tie.Need-overflow-mul-first
+mul-first : tie.Need-overflow_mul-first
 mul-first c = rw (value-is c) (omega (arith, small (reckoned c)))
 
-add-first : tie.Need-overflow-add-first
+add-first : tie.Need-overflow_add-first
 add-first c = rw (value-is c) (omega (arith, small (reckoned c)))
 
-abbrev from_one : tie.After-write-bits → tie.After-release-width
+abbrev from_one : tie.After-write_bits → tie.After-release_width-bits
 from_one c = c.before.before.before
 
-abbrev from-two : tie.After-write-bits2 → tie.After-release-width
+abbrev from-two : tie.After-write_bits-2 → tie.After-release_width-bits
 from-two c = from_one c.before.before.before.before
 
-abbrev from-three : tie.After-write-bits3 → tie.After-release-width
+abbrev from-three : tie.After-write_bits-3 → tie.After-release_width-bits
 from-three c = from-two c.before.before.before.before
 
-abbrev from-four : tie.After-put-signs → tie.After-release-width
+abbrev from-four : tie.After-put_signs → tie.After-release_width-bits
 from-four c = from-three c.before.before.before.before
 
-abbrev from-five : tie.After-put-sizes → tie.After-release-width
+abbrev from-five : tie.After-put_sizes → tie.After-release_width-bits
 from-five c = from-four c.before.before.before.before
 
-abbrev from-six : tie.After-put-marked → tie.After-release-width
+abbrev from-six : tie.After-put_marked → tie.After-release_width-bits
 from-six c = from-five c.before.before.before.before
 
-abbrev from-seven : tie.After-put-column → tie.After-release-width
+abbrev from-seven : tie.After-put_column → tie.After-release_width-bits
 from-seven c = from-six c.before.before.before.before
 
 -- the releases as the code reckons them, and the place after the last of them
-module _ (c : tie.After-release-width) where
+module _ (c : tie.After-release_width-bits) where
   abbrev p : ℕ
-  p = c.before.after-outsides.result
+  p = c.before.after_outsides-release.result
 
   abbrev w : ℕ
-  w = c.release-width.result
+  w = c.release_width-bits.result
 
   at : p ≡ release_place (kind (start c)) (start c).args.faces (start c).args.seconds.now
-  at = let k = c.before.before in let e = rw (value-is (from-value c)) at c.before.after-outsides.ensures in omega (arith, e, k.count-marked.ensures)
+  at = let k = c.before.before in let e = rw (value-is (from-value c)) at c.before.after_outsides-release.ensures in omega (arith, e, k.count_marked-outside.ensures)
 
   releases : Column (shape (start c)) 3 0 (start c).args.cells p w w
-  releases = releases-put (kind (start c)) (start c).args.cells (start c).args.faces (start c).args.seconds.now at c.release-width.ensures
+  releases = releases-put (kind (start c)) (start c).args.cells (start c).args.faces (start c).args.seconds.now at c.release_width-bits.ensures
 
   end : p + (start c).args.cells * w ≡ shape_bits (shape (start c))
-  end = step_ends (kind (start c)) (start c).args.cells (start c).args.faces (start c).args.seconds.now at c.release-width.ensures
+  end = step_ends (kind (start c)) (start c).args.cells (start c).args.faces (start c).args.seconds.now at c.release_width-bits.ensures
 
-one : (c : tie.After-write-bits) → Some (start (from_one c)) (and none 0 0) c.write-bits.new.0
+one : (c : tie.After-write_bits) → Some (start (from_one c)) (and none 0 0) c.write_bits.new.0
 one c =
     let s = start (from_one c) in
-    head-written (step-kind-in (kind s) s.args.cells s.args.faces s.args.seconds.now) (value s) s.pre.fits
-    (written_none (shape s) (value s) _) c.write-bits.ensures (sym c.before.kind-number.ensures)
+    head-written (step-kind-in (kind s) s.args.cells s.args.faces s.args.seconds.now) (value s) s.requires.fits
+    (written_none (shape s) (value s) _) c.write_bits.ensures (sym c.before.kind_number.ensures)
 
-two : (c : tie.After-write-bits2) → Some (start (from-two c)) (and (and none 0 0) 0 1) c.write-bits2.new.0
+two : (c : tie.After-write_bits-2) → Some (start (from-two c)) (and (and none 0 0) 0 1) c.write_bits-2.new.0
 two c =
     let p1 = c.before.before.before.before in
     let s = start (from-two c) in
-    head-written (step-faces-in (kind s) s.args.cells s.args.faces s.args.seconds.now) (value s) s.pre.fits
-    (one p1) c.write-bits2.ensures refl
+    head-written (step-faces-in (kind s) s.args.cells s.args.faces s.args.seconds.now) (value s) s.requires.fits
+    (one p1) c.write_bits-2.ensures refl
 
-three : (c : tie.After-write-bits3) → Some (start (from-three c)) Head c.write-bits3.new.0
+three : (c : tie.After-write_bits-3) → Some (start (from-three c)) Head c.write_bits-3.new.0
 three c =
     let p1 = c.before.before.before.before in
     let s = start (from-three c) in
-    head-written (step-zeros-in (kind s) s.args.cells s.args.faces s.args.seconds.now) (value s) s.pre.fits
-    (two p1) c.write-bits3.ensures refl
+    head-written (step-zeros-in (kind s) s.args.cells s.args.faces s.args.seconds.now) (value s) s.requires.fits
+    (two p1) c.write_bits-3.ensures refl
 
-four : (c : tie.After-put-signs) → Some (start (from-four c)) (and Head 1 0) c.put-signs.new.0
+four : (c : tie.After-put_signs) → Some (start (from-four c)) (and Head 1 0) c.put_signs.new.0
 four c =
     let p1 = c.before.before.before.before in
     let s = start (from-four c) in
-    column-written (signs-in (kind s) s.args.cells s.args.faces s.args.seconds.now) (value s) s.pre.fits
-    (three p1) (rw (value-is (from-value (from-four c))) at c.put-signs.ensures) (λ i l. refl)
+    column-written (signs-in (kind s) s.args.cells s.args.faces s.args.seconds.now) (value s) s.requires.fits
+    (three p1) (rw (value-is (from-value (from-four c))) at c.put_signs.ensures) (λ i l. refl)
 
-five : (c : tie.After-put-sizes) → Some (start (from-five c)) (and (and Head 1 0) 1 1) c.put-sizes.new.0
+five : (c : tie.After-put_sizes) → Some (start (from-five c)) (and (and Head 1 0) 1 1) c.put_sizes.new.0
 five c =
     let p1 = c.before.before.before.before in
     let s = start (from-five c) in
-    column-written (sizes-in (kind s) s.args.cells s.args.faces s.args.seconds.now) (value s) s.pre.fits
-    (four p1) (rw (value-is (from-value (from-five c))) at c.put-sizes.ensures) (λ i l. refl)
+    column-written (sizes-in (kind s) s.args.cells s.args.faces s.args.seconds.now) (value s) s.requires.fits
+    (four p1) (rw (value-is (from-value (from-five c))) at c.put_sizes.ensures) (λ i l. refl)
 
-six : (c : tie.After-put-marked) → Some (start (from-six c)) Water c.put-marked.new.0
+six : (c : tie.After-put_marked) → Some (start (from-six c)) Water c.put_marked.new.0
 six c =
     let p1 = c.before.before.before.before in
     let s = start (from-six c) in
-    written-column (shape s) (value s) s.pre.fits 2 0 (five p1) (rw (value-is (from-value (from-six c))) at c.put-marked.ensures) (omega arith) refl
+    written-column (shape s) (value s) s.requires.fits 2 0 (five p1) (rw (value-is (from-value (from-six c))) at c.put_marked.ensures) (omega arith) refl
     refl (λ i. refl)
     (λ i l t. outside-in (kind s) s.args.cells s.args.faces s.args.seconds.now i) (λ i l. refl)
 
-seven : (c : tie.After-put-column) → Some (start (from-seven c)) (and Water 3 0) c.put-column.new.0
+seven : (c : tie.After-put_column) → Some (start (from-seven c)) (and Water 3 0) c.put_column.new.0
 seven c =
     let p1 = c.before.before.before.before in
     let s = start (from-seven c) in
-    column-written (releases (from-seven c)) (value s) s.pre.fits (six p1) c.put-column.ensures (λ i l. refl)
+    column-written (releases (from-seven c)) (value s) s.requires.fits (six p1) c.put_column.ensures (λ i l. refl)
 
-after-outsides-requires : tie.Need-after-outsides-requires
+after-outsides-requires : tie.Need-after_outsides-release-requires
 after-outsides-requires c κs =
     let v = c.before in
     let s = reckoned v in
-    rw (value-is v) (omega (arith, c.count-marked.ensures, rim-le s.args.seconds.now s.args.faces, small s))
+    rw (value-is v) (omega (arith, c.count_marked-outside.ensures, rim-le s.args.seconds.now s.args.faces, small s))
 
-write-bits-requires : tie.Need-write-bits-requires
+write-bits-requires : tie.Need-write_bits-requires
 write-bits-requires c κs =
     let s = start c.before.before in
     let k = step-kind-in (kind s) s.args.cells s.args.faces s.args.seconds.now in
     field-asks (holds s) (written_none (shape s) (value s) _) 0 kind_bits _ (omega arith)
-    (rw c.kind-number.ensures (column-small k (value s) s.pre.fits 0 (omega arith)))
+    (rw c.kind_number.ensures (column-small k (value s) s.requires.fits 0 (omega arith)))
 
-write-bits-requires-2 : tie.Need-write-bits-requires-2
+write-bits-requires-2 : tie.Need-write_bits-requires-2
 write-bits-requires-2 c κs =
     let p1 = c.before.before.before in
     let s = start (from_one p1) in
-    field-asks (holds s) (one p1) kind_bits faces_bits _ (omega arith) (omega (arith, s.pre.few_faces))
+    field-asks (holds s) (one p1) kind_bits faces_bits _ (omega arith) (omega (arith, s.requires.few_faces))
 
-write-bits-requires-3 : tie.Need-write-bits-requires-3
+write-bits-requires-3 : tie.Need-write_bits-requires-3
 write-bits-requires-3 c κs =
     let p1 = c.before.before.before in
     let s = start (from-two p1) in
     field-asks (holds s) (two p1) (kind_bits + faces_bits) step_zero_bits _ (omega arith) (omega arith)
 
-put-signs-requires : tie.Need-put-signs-requires
+put-signs-requires : tie.Need-put_signs-requires
 put-signs-requires c κs =
     let p1 = c.before.before.before in
     let s = start (from-three p1) in
     rw (value-is (from-value (from-three p1))) (
-      (omega arith, s.pre.fluxes_long),
+      (omega arith, s.requires.fluxes_long),
       rooms (holds s) (three p1) (signs-in (kind s) s.args.cells s.args.faces s.args.seconds.now),
     )
 
-put-sizes-requires : tie.Need-put-sizes-requires
+put-sizes-requires : tie.Need-put_sizes-requires
 put-sizes-requires c κs =
     let p1 = c.before.before.before in
     let s = start (from-four p1) in
     let k = sizes-in (kind s) s.args.cells s.args.faces s.args.seconds.now in
     rw (value-is (from-value (from-four p1))) (
-      (omega (arith, small s), column_fits k, s.pre.fluxes_long),
-      (rooms (holds s) (four p1) k, column-small k (value s) s.pre.fits),
+      (omega (arith, small s), column_fits k, s.requires.fluxes_long),
+      (rooms (holds s) (four p1) k, column-small k (value s) s.requires.fits),
     )
 
-put-marked-requires : tie.Need-put-marked-requires
+put-marked-requires : tie.Need-put_marked-requires
 put-marked-requires c κs =
     let p1 = c.before.before.before in
     let s = start (from-five p1) in
@@ -219,26 +219,26 @@ put-marked-requires c κs =
     rw (value-is (from-value (from-five p1))) (
       (
         omega arith,
-        s.pre.seconds_long,
-        s.pre.outsides_long,
+        s.requires.seconds_long,
+        s.requires.outsides_long,
         omega (arith, r.same_length, held h, ends s),
         omega (arith, h.small, ends s),
       ),
-      s.pre.outsides_fit,
+      s.requires.outsides_fit,
     )
 
-put-column-requires : tie.Need-put-column-requires
+put-column-requires : tie.Need-put_column-requires
 put-column-requires c κs =
     let p1 = c.before.before.before in
     let k = from-six p1 in
     let s = start k in
-    column-asks (holds s) (six p1) (releases k) s.pre.fits s.args.releases.now
-    (release-short (kind s) s.args.cells s.args.faces s.args.seconds.now (at k) k.release-width.ensures) s.pre.releases_long (λ i l. refl)
+    column-asks (holds s) (six p1) (releases k) s.requires.fits s.args.releases.now
+    (release-short (kind s) s.args.cells s.args.faces s.args.seconds.now (at k) k.release_width-bits.ensures) s.requires.releases_long (λ i l. refl)
 
-mul-pad : tie.Need-overflow-mul-pad
+mul-pad : tie.Need-overflow_mul-cells
 mul-pad c = let k = from-seven c.before.before.before in omega (arith, end k, (holds (start k)).small)
 
-add-pad : tie.Need-overflow-add-pad
+add-pad : tie.Need-overflow_add-release
 add-pad c = let k = from-seven c.before.before.before in omega (arith, end k, (holds (start k)).small)
 
 pad-requires : tie.Need-pad-requires
@@ -247,7 +247,7 @@ pad-requires c κs =
     let k = from-seven put in
     pad-asks (holds (start k)) (seven put) (end k)
 
-same_length : tie.Need-same-length
+same_length : tie.Need-shape_of-bytes
 same_length c =
     let padded = c.before.before in
     padded.pad.ensures.1.same_length ∙ (seven padded.before.before.before.before).same_length
@@ -259,7 +259,7 @@ returns c =
     let put = padded.before.before.before.before in
     let k = from-seven put in
     put_whole (holds (start k)) (seven put) (end k) refl
-    (λ j. omega (arith, (from-value k).before.before.slice-known.given j)) (λ j. omega (arith, c.slice-known9.given j)) padded.pad.ensures
+    (λ j. omega (arith, (from-value k).before.before.slice_known-1.given j)) (λ j. omega (arith, c.slice_known-9-1.given j)) padded.pad.ensures
 
 pub step_spec : {M : Type 1} → statement M
 step_spec =

@@ -188,9 +188,9 @@ number-meets {𝓤 = 𝓤} 𝓛 mem run 𝓣 known-number-at = walk_Meets 𝓛 n
     (number.clauses 𝓛 mem run) (WpFn 𝓤 𝓛.H 𝓣.C 𝓣.Λ code.function) (WpFn-mono 𝓤 𝓛.H 𝓛.laws 𝓣 code.function)
     (number-walks 𝓛 mem run 𝓣.C 𝓣.Λ (fm_of 𝓤 𝓛.H 𝓛.laws 𝓣) known-number-at)
 
-pub number-spec : {M : Type 1} → stated.statement M
+pub number_spec : {M : Type 1} → stated.statement M
 unfolding code.routine tables_of
-number-spec 𝓤 𝓛 𝓜 𝓡 =
+number_spec 𝓤 𝓛 𝓜 𝓡 =
     entered 𝓤 𝓛.H (triple_of 𝓛 number.signature (number.spec 𝓛 𝓜.mem 𝓡.run))
     (tables 𝓤 𝓛.H 𝓜 𝓡 code.env).C (tables 𝓤 𝓛.H 𝓜 𝓡 code.env).Λ #record-reader·number code.function (code.unfolded 𝓤 𝓛.H 𝓜 𝓡)
     (number-meets 𝓛 𝓜.mem 𝓡.run (tables_of 𝓤 𝓛.H 𝓜 (tables 𝓤 𝓛.H 𝓜 𝓡 code.env))

@@ -245,9 +245,9 @@ number-after-meets {𝓤 = 𝓤} 𝓛 mem run 𝓣 known-new known-moved known-n
     (WpFn 𝓤 𝓛.H 𝓣.C 𝓣.Λ code.function) (WpFn-mono 𝓤 𝓛.H 𝓛.laws 𝓣 code.function)
     (number-after-walks 𝓛 mem run 𝓣.C 𝓣.Λ (fm_of 𝓤 𝓛.H 𝓛.laws 𝓣) known-new known-moved known-number)
 
-pub number-after-spec : {M : Type 1} → stated.statement M
+pub number_after_spec : {M : Type 1} → stated.statement M
 unfolding code.routine tables_of
-number-after-spec 𝓤 𝓛 𝓜 𝓡 =
+number_after_spec 𝓤 𝓛 𝓜 𝓡 =
     entered 𝓤 𝓛.H (triple_of 𝓛 number-after.signature (number-after.spec 𝓛 𝓜.mem 𝓡.run))
     (tables 𝓤 𝓛.H 𝓜 𝓡 code.env).C (tables 𝓤 𝓛.H 𝓜 𝓡 code.env).Λ #record-reader·number-after code.function (code.unfolded 𝓤 𝓛.H 𝓜 𝓡)
     (number-after-meets 𝓛 𝓜.mem 𝓡.run (tables_of 𝓤 𝓛.H 𝓜 (tables 𝓤 𝓛.H 𝓜 𝓡 code.env))

@@ -25,46 +25,46 @@ room w cells bs {m} e = let k = field-read-says w cells bs m e in rw (← k.head
 kind_is : (w : Width) (cells : _) (bs : _) (m : _) → field_read w cells bs m ≡ fine → field_kind w ≡ kind_in bs
 kind_is w cells bs m e = sym (field-read-says w cells bs m e).head.kind
 
-returns : tie.Need-returns
+returns : tie.Need-returns-in-Refused
 returns c =
-    let p1 = c.before in
-    let p2 = p1.before.before in
-    field_refused (refuses p2.field.ensures p1.a.given.1)
+    let p1 = c in
+    let p2 = p1.before in
+    field_refused (refuses p2.field-a.ensures p1.in-Refused.is)
 
-sub-field : tie.Need-overflow-sub-field
+sub-field : tie.Need-slice_bounds-field-count
 sub-field c =
-    let p1 = c.before.before in
+    let p1 = c.before in
     let s = p1.before.before.before in
-    (room s.args.width s.args.cells s.args.bytes.now (passes p1.field.ensures c.enum_told.given.1)).0
+    (room s.args.width s.args.cells s.args.bytes.now (passes p1.field-a.ensures c.in_default.is)).0
 
-part-field-start : tie.Need-slice-bounds-field-start
+part-field-start : tie.Need-slice_bounds-field-start
 part-field-start c =
-    let p1 = c.before.before in
+    let p1 = c.before in
     let s = p1.before.before.before in
-    (room s.args.width s.args.cells s.args.bytes.now (passes p1.field.ensures c.enum_told.given.1)).0
+    (room s.args.width s.args.cells s.args.bytes.now (passes p1.field-a.ensures c.in_default.is)).0
 
-field-requires-2 : tie.Need-field-requires-2
+field-requires-2 : tie.Need-field-requires
 field-requires-2 c κs =
     let p1 = c.before.before in
-    let p2 = p1.before.before in
+    let p2 = p1.before in
     let s = p2.before.before.before in
-    (room s.args.width s.args.cells s.args.bytes.now (passes p2.field.ensures p1.enum_told.given.1)).1
+    (room s.args.width s.args.cells s.args.bytes.now (passes p2.field-a.ensures p1.in_default.is)).1
 
-returns-2 : tie.Need-returns-2
+returns-2 : tie.Need-returns
 returns-2 c =
     let p1 = c.before.before in
     let p2 = p1.before.before.before in
-    let p3 = p2.before.before in
+    let p3 = p2.before in
     let s = p3.before.before.before in
-    field_accepted (passes p3.field.ensures p2.enum_told.given.1)
+    field_accepted (passes p3.field-a.ensures p2.in_default.is)
     (field-filled s.args.cells s.args.bytes.now s.args.masses.now
     (rw (kind_is s.args.width s.args.cells s.args.bytes.now (length s.args.masses.now)
-    (passes p3.field.ensures p2.enum_told.given.1)) at p1.field2.ensures))
+    (passes p3.field-a.ensures p2.in_default.is)) at p1.field.ensures))
 
 -- the tables that were filled keep their lengths
-same_length : tie.Need-same-length
-same_length c = c.before.before.field2.auto.1.1.1.0
+same_length : tie.Need-shape_of-masses
+same_length c = c.before.before.field.auto.1.1.1.0
 
-pub read-field-spec : {M : Type 1} → statement M
-read-field-spec = tie.close (tie.spec (search rules) (search rules) returns (search rules) sub-field part-field-start (search rules) field-requires-2
+pub read_field_spec : {M : Type 1} → statement M
+read_field_spec = tie.close (tie.spec (search rules) (search rules) returns (search rules) sub-field part-field-start (search rules) field-requires-2
     same_length returns-2)

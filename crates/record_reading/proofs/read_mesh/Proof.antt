@@ -35,66 +35,66 @@ room : (s : tie.Start) {n : MeshCounts} → comes s n → let bs = s.args.bytes.
 room s e = let k = says s e in mesh-room s.args.bytes.now (lent s) k.head.few_cells k.head.few_faces k.tables
 
 -- the start from where the tests were made
-abbrev start : tie.After-mesh → tie.Start
+abbrev start : tie.After-mesh-a → tie.Start
 start c = c.before.before.before.before.before.before.before
 
 -- the tests that passed, from where the answer is known
-passed : (c : tie.After-mesh) {n : MeshCounts} → c.mesh.result ≡ mesh.Read n → comes (start c) n
-passed c e = sym c.mesh.ensures ∙ ap mesh_said e
+passed : (c : tie.After-mesh-a) {n : MeshCounts} → c.mesh-a.result ≡ mesh.Read n → comes (start c) n
+passed c e = sym c.mesh-a.ensures ∙ ap mesh_said e
 
-returns : tie.Need-returns
-returns c = let e = c.enum_told.given.1 in rw e (mesh_refused (sym c.before.before.mesh.ensures ∙ ap mesh_said e))
+returns : tie.Need-returns-in_default
+returns c = let e = c.in_default.is in rw e (mesh_refused (sym c.before.mesh-a.ensures ∙ ap mesh_said e))
 
-sub-mesh : tie.Need-overflow-sub-mesh
-sub-mesh c = let told = c.before in let t = told.before.before in (room (start t) (passed t told.a.given.1)).0
+sub-mesh : tie.Need-slice_bounds-mesh-count
+sub-mesh c = let told = c in let t = told.before in (room (start t) (passed t told.in-Read.is)).0
 
-part-mesh-start : tie.Need-slice-bounds-mesh-start
-part-mesh-start c = let told = c.before in let t = told.before.before in (room (start t) (passed t told.a.given.1)).0
+part-mesh-start : tie.Need-slice_bounds-mesh-start
+part-mesh-start c = let told = c in let t = told.before in (room (start t) (passed t told.in-Read.is)).0
 
-mesh-requires-2 : tie.Need-mesh-requires-2
+mesh-requires-2 : tie.Need-mesh-requires
 mesh-requires-2 c κs =
-    let told = c.before.before.before.before.before.before.before in
-    let t = told.before.before in
-    let e = passed t told.a.given.1 in
+    let told = c.before.before.before.before.before.before in
+    let t = told.before in
+    let e = passed t told.in-Read.is in
     let k = says (start t) e in
     rw (k.counts_are, mesh-kind-is (kind_in (start t).args.bytes.now) k.head.kind) (room (start t) e).1
 
 -- where the tables were filled, from the end: past what is left of the last three tables, and of the first two
-abbrev seconds-left : tie.After-slice-known10 → tie.After-seconds
+abbrev seconds-left : tie.After-slice_known-10-1 → tie.After-seconds-1
 seconds-left c = c.before.before.before.before.before
 
-abbrev filled : tie.After-slice-known10 → tie.After-mesh2
+abbrev filled : tie.After-slice_known-10-1 → tie.After-mesh
 filled c = (seconds-left c).before.before.before.before.before
 
-returns-2 : tie.Need-returns-2
+returns-2 : tie.Need-returns
 returns-2 c =
     let seconds = c.before.before.before.before.before in
     let body = seconds.before.before.before.before.before in
-    let told = body.before.before.before.before.before.before.before.before in
-    let t = told.before.before in
+    let told = body.before.before.before.before.before.before.before in
+    let t = told.before in
     let s = start t in
-    let e = sym t.mesh.ensures ∙ ap mesh_said told.a.given.1 in
+    let e = sym t.mesh-a.ensures ∙ ap mesh_said told.in-Read.is in
     mesh_accepted e (mesh-filled s.args.bytes.now (at_counts (mesh_in s.args.bytes.now) (lent s)) (lent s)
-    (rw ((says s e).counts_are, mesh-kind-is (kind_in s.args.bytes.now) (says s e).head.kind) at body.mesh2.ensures))
+    (rw ((says s e).counts_are, mesh-kind-is (kind_in s.args.bytes.now) (says s e).head.kind) at body.mesh.ensures))
 
 -- the tables that were filled keep their lengths
-same_length : tie.Need-same-length
-same_length c = (filled c).mesh2.auto.1.1.1.1.0
+same_length : tie.Need-shape_of-volumes
+same_length c = (filled c).mesh.auto.1.1.1.1.0
 
-same-length-2 : tie.Need-same-length-2
-same-length-2 c = (filled c).mesh2.auto.1.1.1.1.1.0
+same-length-2 : tie.Need-shape_of-firsts
+same-length-2 c = (filled c).mesh.auto.1.1.1.1.1.0
 
-same-length-3 : tie.Need-same-length-3
-same-length-3 c = (filled c).mesh2.auto.1.1.1.1.1.1.0
+same-length-3 : tie.Need-shape_of-seconds
+same-length-3 c = (filled c).mesh.auto.1.1.1.1.1.1.0
 
-same-length-4 : tie.Need-same-length-4
-same-length-4 c = (filled c).mesh2.auto.1.1.1.1.1.1.1.0
+same-length-4 : tie.Need-shape_of-shares
+same-length-4 c = (filled c).mesh.auto.1.1.1.1.1.1.1.0
 
-same-length-5 : tie.Need-same-length-5
-same-length-5 c = (filled c).mesh2.auto.1.1.1.1.1.1.1.1.0
+same-length-5 : tie.Need-shape_of-reaches
+same-length-5 c = (filled c).mesh.auto.1.1.1.1.1.1.1.1.0
 
-pub read-mesh-spec : {M : Type 1} → statement M
-read-mesh-spec =
+pub read_mesh_spec : {M : Type 1} → statement M
+read_mesh_spec =
     tie.close
     (tie.spec (search rules) (search rules) (search rules) returns sub-mesh part-mesh-start (search rules) mesh-requires-2
     same_length same-length-2 same-length-3 same-length-4 same-length-5 returns-2)

@@ -28,55 +28,55 @@ room : (s : tie.Start) {n : ℕ} → comes s n → let bs = s.args.bytes.now in
 room s e = let k = says s e in step_room _ _ _ s.args.bytes.now k.head.few_cells k.head.few_faces k.head.lent k.tables
 
 -- the start, from where the tests were made
-abbrev start : tie.After-step → tie.Start
+abbrev start : tie.After-step-a → tie.Start
 start c = c.before.before.before.before.before
 
-returns : tie.Need-returns
-returns c = let e = c.enum_told.given.1 in rw e (step-refused
-    (sym c.before.before.step.ensures ∙ ap (step_read_said (start c.before.before).args.width) e))
+returns : tie.Need-returns-in_default
+returns c = let e = c.in_default.is in rw e (step-refused
+    (sym c.before.step-a.ensures ∙ ap (step_read_said (start c.before).args.width) e))
 
-sub-step : tie.Need-overflow-sub-step
+sub-step : tie.Need-slice_bounds-step-count
 sub-step c =
-    let p1 = c.before in
-    let p2 = p1.before.before in
-    (room (start p2) (sym p2.step.ensures ∙ ap (step_read_said (start p2).args.width) p1.a.given.1)).0
+    let p1 = c in
+    let p2 = p1.before in
+    (room (start p2) (sym p2.step-a.ensures ∙ ap (step_read_said (start p2).args.width) p1.in-Read.is)).0
 
-part-step-start : tie.Need-slice-bounds-step-start
+part-step-start : tie.Need-slice_bounds-step-start
 part-step-start c =
-    let p1 = c.before in
-    let p2 = p1.before.before in
-    (room (start p2) (sym p2.step.ensures ∙ ap (step_read_said (start p2).args.width) p1.a.given.1)).0
+    let p1 = c in
+    let p2 = p1.before in
+    (room (start p2) (sym p2.step-a.ensures ∙ ap (step_read_said (start p2).args.width) p1.in-Read.is)).0
 
-step-requires-2 : tie.Need-step-requires-2
+step-requires-2 : tie.Need-step-requires
 step-requires-2 c κs =
-    let p1 = c.before.before.before.before.before in
-    let p2 = p1.before.before in
+    let p1 = c.before.before.before.before in
+    let p2 = p1.before in
     let s = start p2 in
-    let e = sym p2.step.ensures ∙ ap (step_read_said (start p2).args.width) p1.a.given.1 in
+    let e = sym p2.step-a.ensures ∙ ap (step_read_said (start p2).args.width) p1.in-Read.is in
     rw (says s e).kind_is (room s e).1
 
-returns-2 : tie.Need-returns-2
+returns-2 : tie.Need-returns
 returns-2 c =
     let p1 = c.before.before.before.before.before in
-    let p2 = p1.before.before.before.before.before.before in
-    let p3 = p2.before.before in
+    let p2 = p1.before.before.before.before.before in
+    let p3 = p2.before in
     let s = start p3 in
-    let e = sym p3.step.ensures ∙ ap (step_read_said (start p3).args.width) p2.a.given.1 in
+    let e = sym p3.step-a.ensures ∙ ap (step_read_said (start p3).args.width) p2.in-Read.is in
     step-accepted e (step-filled s.args.cells s.args.faces s.args.seconds.now s.args.bytes.now
-    (rw (says s e).kind_is at p1.step2.ensures))
+    (rw (says s e).kind_is at p1.step.ensures))
 
 -- the tables that were filled keep their lengths
-same_length : tie.Need-same-length
-same_length c = c.before.before.before.before.before.step2.auto.1.1.1.1.1.1.0
+same_length : tie.Need-shape_of-fluxes
+same_length c = c.before.before.before.before.before.step.auto.1.1.1.1.1.1.0
 
-same-length-2 : tie.Need-same-length-2
-same-length-2 c = c.before.before.before.before.before.step2.auto.1.1.1.1.1.1.1.0
+same-length-2 : tie.Need-shape_of-outsides
+same-length-2 c = c.before.before.before.before.before.step.auto.1.1.1.1.1.1.1.0
 
-same-length-3 : tie.Need-same-length-3
-same-length-3 c = c.before.before.before.before.before.step2.auto.1.1.1.1.1.1.1.1.0
+same-length-3 : tie.Need-shape_of-releases
+same-length-3 c = c.before.before.before.before.before.step.auto.1.1.1.1.1.1.1.1.0
 
-pub read-step-spec : {M : Type 1} → statement M
-read-step-spec =
+pub read_step_spec : {M : Type 1} → statement M
+read_step_spec =
     tie.close
     (tie.spec (search rules) (search rules) (search rules) returns sub-step part-step-start (search rules) step-requires-2
     same_length same-length-2 same-length-3 returns-2)

@@ -5,6 +5,6 @@ use borrow.Author.Rules.{rules}
 use Rattle.record_sections.proofs.after.Statement.{statement}
 use Rattle.record_sections.proofs.after.Tie as tie
 
-pub after-spec : {M : Type 1} → statement M
-after-spec = tie.close (tie.spec (search rules) (λ c. rw c.if1.true (omega (arith, one-mul c.before.args.width)))
-    (λ c. rw c.if1.false (omega arith)))
+pub after_spec : {M : Type 1} → statement M
+after_spec = tie.close (tie.spec (search rules) (λ c. rw c.if-here.true (omega (arith, one-mul c.before.args.width)))
+    (λ c. rw c.if-here.false (omega arith)))

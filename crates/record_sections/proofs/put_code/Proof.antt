@@ -12,13 +12,13 @@ put-requires c κs =
     let m = c.before in
     let s = m.before in (
       s.requires.0,
-      rw m.pow2.ensures (lt_of_lt_of_le (mod-lt s.args.code (pow_pos s.args.width))
+      rw m.pow2-unit.ensures (lt_of_lt_of_le (mod-lt s.args.code (pow_pos s.args.width))
           (pow_mono {i = s.args.width} {j = 63} (omega (arith, s.requires.1)))),
     )
 
 returns : tie.Need-returns
 unfolding coded
-returns c = rw (c.before.put.ensures, c.before.before.before.pow2.ensures)
+returns c = rw (c.before.put.ensures, c.before.before.before.pow2-unit.ensures)
 
-pub put-code-spec : {M : Type 1} → statement M
-put-code-spec = tie.close (tie.spec (search rules) (λ c. rw c.before.pow2.ensures (pow_pos _)) put-requires (search rules) returns)
+pub put_code_spec : {M : Type 1} → statement M
+put_code_spec = tie.close (tie.spec (search rules) (λ c. rw c.before.pow2-unit.ensures (pow_pos _)) put-requires (search rules) returns)

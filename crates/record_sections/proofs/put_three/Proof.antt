@@ -8,16 +8,16 @@ returns c =
     let two = c.before.before.before.before in
     let one = two.before.before.before.before in
     rw (
-      c.before.put-code3.ensures,
-      c.before.before.part3.ensures,
-      two.before.put-code2.ensures,
-      two.before.before.part2.ensures,
-      one.before.put-code.ensures,
+      c.before.put_code-3.ensures,
+      c.before.before.part-3.ensures,
+      two.before.put_code-2.ensures,
+      two.before.before.part-2.ensures,
+      one.before.put_code.ensures,
       one.before.before.part.ensures,
     )
 
-pub put-three-spec : {M : Type 1} → statement M
-put-three-spec =
+pub put_three_spec : {M : Type 1} → statement M
+put_three_spec =
     tie.close
     (tie.spec (search rules) (search rules) (search rules) (search rules) (search rules) (search rules) (search rules) (search rules) (search rules)
     (search rules) (search rules) returns)

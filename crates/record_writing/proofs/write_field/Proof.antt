@@ -5,17 +5,17 @@ use Rattle.record_writing.proofs.WriteLaws.{writing-refused, writing-accepted, f
 use Rattle.record_writing.proofs.write_field.Statement.{statement}
 use Rattle.record_writing.proofs.write_field.Tie as tie
 
-returns : tie.Need-returns
-returns c = writing-refused (refuses c.before.before.before.field.ensures c.before.a.given.1)
+returns : tie.Need-returns-in-Refused
+returns c = writing-refused (refuses c.before.field-a.ensures c.in-Refused.is)
 
-field-requires-2 : tie.Need-field-requires-2
-field-requires-2 c κs = field-whole _ _ _ (passes c.before.before.before.field.ensures c.before.enum_told.given.1)
+field-requires-2 : tie.Need-field-length-requires
+field-requires-2 c κs = field-whole _ _ _ (passes c.before.before.field-a.ensures c.before.in_default.is)
 
-returns-2 : tie.Need-returns-2
+returns-2 : tie.Need-returns
 returns-2 c =
     let p1 = c.before.before in
     let p2 = p1.before.before in
-    writing-accepted (passes p2.before.before.field.ensures p2.enum_told.given.1) p1.field2.ensures
+    writing-accepted (passes p2.before.field-a.ensures p2.in_default.is) p1.field-length.ensures
 
-pub write-field-spec : {M : Type 1} → statement M
-write-field-spec = tie.close (tie.spec (search rules) (search rules) returns (search rules) field-requires-2 (search rules) returns-2)
+pub write_field_spec : {M : Type 1} → statement M
+write_field_spec = tie.close (tie.spec (search rules) (search rules) returns (search rules) field-requires-2 (search rules) returns-2)

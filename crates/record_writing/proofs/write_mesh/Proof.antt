@@ -5,17 +5,17 @@ use Rattle.record_writing.proofs.WriteLaws.{writing-refused, writing-accepted, m
 use Rattle.record_writing.proofs.write_mesh.Statement.{statement}
 use Rattle.record_writing.proofs.write_mesh.Tie as tie
 
-returns : tie.Need-returns
-returns c = writing-refused (refuses c.before.before.before.mesh.ensures c.before.a.given.1)
+returns : tie.Need-returns-in-Refused
+returns c = writing-refused (refuses c.before.mesh-a.ensures c.in-Refused.is)
 
-mesh-requires-2 : tie.Need-mesh-requires-2
-mesh-requires-2 c κs = mesh-whole _ _ (passes c.before.before.before.mesh.ensures c.before.enum_told.given.1)
+mesh-requires-2 : tie.Need-mesh-length-requires
+mesh-requires-2 c κs = mesh-whole _ _ (passes c.before.before.mesh-a.ensures c.before.in_default.is)
 
-returns-2 : tie.Need-returns-2
+returns-2 : tie.Need-returns
 returns-2 c =
     let p1 = c.before.before in
     let p2 = p1.before.before in
-    writing-accepted (passes p2.before.before.mesh.ensures p2.enum_told.given.1) p1.mesh2.ensures
+    writing-accepted (passes p2.before.mesh-a.ensures p2.in_default.is) p1.mesh-length.ensures
 
-pub write-mesh-spec : {M : Type 1} → statement M
-write-mesh-spec = tie.close (tie.spec (search rules) (search rules) returns (search rules) mesh-requires-2 (search rules) returns-2)
+pub write_mesh_spec : {M : Type 1} → statement M
+write_mesh_spec = tie.close (tie.spec (search rules) (search rules) returns (search rules) mesh-requires-2 (search rules) returns-2)

@@ -7,27 +7,27 @@ use Rattle.record_zeros.proofs.ZeroLaws.{zeros-ruled, bit-used, head-hit, tail-h
 use Rattle.record_zeros.proofs.mesh.Statement.{statement}
 use Rattle.record_zeros.proofs.mesh.Tie as tie
 
-returns : tie.Need-returns
+returns : tie.Need-returns-then-a-head
 returns c =
     let s = c.before.before.before.before in
-    c.refused.ensures ∙ head-hit (zeros-ruled _ _ _ _ s.requires.1) _ (omega arith) c.before.before.first-set.ensures c.before.if1.true
+    c.refused.ensures ∙ head-hit (zeros-ruled _ _ _ _ s.requires.1) _ (omega arith) c.before.before.first_set-a.ensures c.before.if-a-head.true
 
-returns-2 : tie.Need-returns-2
+returns-2 : tie.Need-returns-then-b-all
 returns-2 c =
     let t = c.before.before in
     let s = t.before.before.before.before in
-    c.refused2.ensures
-    ∙ tail-hit (zeros-ruled _ _ _ _ s.requires.1) _ t.before.before.first-set.ensures t.before.if1.false
-    (λ j h l. bit-used _ _ _ _ j (inr h) l) t.first-set2.ensures c.before.if2.true
+    c.refused-then-b-all.ensures
+    ∙ tail-hit (zeros-ruled _ _ _ _ s.requires.1) _ t.before.before.first_set-a.ensures t.before.if-a-head.false
+    (λ j h l. bit-used _ _ _ _ j (inr h) l) t.first_set-b.ensures c.before.if-b-all.true
 
-returns-3 : tie.Need-returns-3
+returns-3 : tie.Need-returns
 returns-3 c =
     let t = c.before in
     let s = t.before.before.before.before in
-    no_hit (zeros-ruled _ _ _ _ s.requires.1) _ t.before.before.first-set.ensures t.before.if1.false (λ j h l. bit-used _ _ _ _ j (inr h) l)
-    t.first-set2.ensures c.if2.false
+    no_hit (zeros-ruled _ _ _ _ s.requires.1) _ t.before.before.first_set-a.ensures t.before.if-a-head.false (λ j h l. bit-used _ _ _ _ j (inr h) l)
+    t.first_set-b.ensures c.if-b-all.false
 
-pub mesh-spec : {M : Type 1} → statement M
-mesh-spec =
+pub mesh_spec : {M : Type 1} → statement M
+mesh_spec =
     tie.close
     (tie.spec (search rules) (search rules) (search rules) (search rules) returns (search rules) (search rules) (search rules) returns-2 returns-3)

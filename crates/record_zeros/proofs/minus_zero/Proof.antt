@@ -6,7 +6,7 @@ use Rattle.record_zeros.proofs.minus_zero.Tie as tie
 
 returns : tie.Need-returns
 returns c = let s = c.before.before.before in rw c.pow2.ensures
-    (minus-code s.args.bytes.now s.args.at s.args.value c.before.read-bits.ensures)
+    (minus-code s.args.bytes.now s.args.at s.args.value c.before.read_bits.ensures)
 
-pub minus-zero-spec : {M : Type 1} → statement M
-minus-zero-spec = tie.close (tie.spec (search rules) (search rules) (search rules) returns)
+pub minus_zero_spec : {M : Type 1} → statement M
+minus_zero_spec = tie.close (tie.spec (search rules) (search rules) (search rules) returns)

@@ -8,5 +8,5 @@ use Rattle.record_zeros.proofs.refused.Tie as tie
 returns : tie.Need-returns
 returns c = c.need.ensures ∙ need-unmet _ _ refl
 
-pub refused-spec : {M : Type 1} → statement M
-refused-spec = tie.close (tie.spec (search rules) returns)
+pub refused_spec : {M : Type 1} → statement M
+refused_spec = tie.close (tie.spec (search rules) returns)

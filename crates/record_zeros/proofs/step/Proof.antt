@@ -9,43 +9,43 @@ use Rattle.record_zeros.proofs.step.Statement.{statement}
 use Rattle.record_zeros.proofs.step.Tie as tie
 
 -- the minus found stands within the record
-room : (c : tie.Then2) → let s = c.before.before.before.before.before in
-    step_head_bits + c.before.first-minus.result * (sign_bits + s.args.value) + (sign_bits + s.args.value) ≤ s.args.end
+room : (c : tie.Then-m-faces) → let s = c.before.before.before.before.before in
+    step_head_bits + c.before.first_minus-m.result * (sign_bits + s.args.value) + (sign_bits + s.args.value) ≤ s.args.end
 room c =
     let s = c.before.before.before.before.before in
-    face-room (sign_bits + s.args.value) c.before.first-minus.result s.args.faces s.args.end c.if2.true s.requires.1
+    face-room (sign_bits + s.args.value) c.before.first_minus-m.result s.args.faces s.args.end c.if-m-faces.true s.requires.1
 
-returns : tie.Need-returns
+returns : tie.Need-returns-then-a-head
 returns c =
     let s = c.before.before.before.before in
-    c.refused.ensures ∙ head-hit (step-ruled _ _ _ _ s.requires.1) _ (omega arith) c.before.before.first-set.ensures c.before.if1.true
+    c.refused.ensures ∙ head-hit (step-ruled _ _ _ _ s.requires.1) _ (omega arith) c.before.before.first_set-a.ensures c.before.if-a-head.true
 
-returns-2 : tie.Need-returns-2
+returns-2 : tie.Need-returns-then-m-faces
 returns-2 c =
     let m = c.before.before in
     let s = m.before.before.before.before in
-    c.refused2.ensures
-    ∙ middle-hit (step-ruled _ _ _ _ s.requires.1) _ m.before.before.first-set.ensures m.before.if1.false (omega (arith, room c.before))
-    (fluxes-good _ _ _ _ s.requires.1 m.first-minus.ensures) (sign-bad _ _ _ _ s.requires.1 m.first-minus.ensures c.before.if2.true)
+    c.refused-then-m-faces.ensures
+    ∙ middle-hit (step-ruled _ _ _ _ s.requires.1) _ m.before.before.first_set-a.ensures m.before.if-a-head.false (omega (arith, room c.before))
+    (fluxes-good _ _ _ _ s.requires.1 m.first_minus-m.ensures) (sign-bad _ _ _ _ s.requires.1 m.first_minus-m.ensures c.before.if-m-faces.true)
 
-returns-3 : tie.Need-returns-3
+returns-3 : tie.Need-returns-then-pad-all
 returns-3 c =
     let t = c.before.before in
     let m = t.before.before in
     let s = m.before.before.before.before in
-    c.refused3.ensures
-    ∙ tail-hit (step-ruled _ _ _ _ s.requires.1) _ m.before.before.first-set.ensures m.before.if1.false
-    (all-good _ _ _ _ s.requires.1 m.first-minus.ensures t.before.if2.false)
-    t.first-set2.ensures c.before.if3.true
+    c.refused-then-pad-all.ensures
+    ∙ tail-hit (step-ruled _ _ _ _ s.requires.1) _ m.before.before.first_set-a.ensures m.before.if-a-head.false
+    (all-good _ _ _ _ s.requires.1 m.first_minus-m.ensures t.before.if-m-faces.false)
+    t.first_set-pad.ensures c.before.if-pad-all.true
 
-returns-4 : tie.Need-returns-4
+returns-4 : tie.Need-returns
 returns-4 c =
     let t = c.before in
     let m = t.before.before in
     let s = m.before.before.before.before in
-    no_hit (step-ruled _ _ _ _ s.requires.1) _ m.before.before.first-set.ensures m.before.if1.false
-    (all-good _ _ _ _ s.requires.1 m.first-minus.ensures t.before.if2.false)
-    t.first-set2.ensures c.if3.false
+    no_hit (step-ruled _ _ _ _ s.requires.1) _ m.before.before.first_set-a.ensures m.before.if-a-head.false
+    (all-good _ _ _ _ s.requires.1 m.first_minus-m.ensures t.before.if-m-faces.false)
+    t.first_set-pad.ensures c.if-pad-all.false
 
 pub step_spec : {M : Type 1} → statement M
 step_spec =

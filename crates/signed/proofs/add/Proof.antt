@@ -4,7 +4,7 @@ use Rattle.signed.proofs.Machine.{sum_fits}
 use Rattle.signed.proofs.add.Statement.{statement}
 use Rattle.signed.proofs.add.Tie as tie
 
-add-result : tie.Need-overflow-add-result
+add-result : tie.Need-overflow_add-result
 add-result c = rw (to_z-of_z w64 c.args.a c.ranges.a, to_z-of_z w64 c.args.b c.ranges.b) (sum_fits c.args.a c.args.b c.requires)
 
 returns : tie.Need-returns

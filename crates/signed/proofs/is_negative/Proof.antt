@@ -5,5 +5,5 @@ use Rattle.signed.proofs.is_negative.Tie as tie
 returns : tie.Need-returns
 returns c = test c.args.u c.ranges.u
 
-pub is-negative-spec : {M : Type 1} → statement M
-is-negative-spec = tie.close (tie.spec returns)
+pub is_negative_spec : {M : Type 1} → statement M
+is_negative_spec = tie.close (tie.spec returns)

@@ -12,7 +12,7 @@ use Rattle.signed.proofs.is_negative_at.Tie as tie
 returns : tie.Need-returns
 returns c =
     let s = c.before.before in
-    c.is_negative.ensures ∙ ap is_negative (to_z-of_z w64 (get_or s.args.xs.now s.args.i (pos 0)) (record { sfits = c.before.is-negative-arg.given }))
+    c.is_negative.ensures ∙ ap is_negative (to_z-of_z w64 (get_or s.args.xs.now s.args.i (pos 0)) (record { sfits = c.before.is_negative-arg-1.given }))
 
-pub is-negative-at-spec : {M : Type 1} → statement M
-is-negative-at-spec = tie.close (tie.spec (search rules) (search rules) (search rules) returns)
+pub is_negative_at_spec : {M : Type 1} → statement M
+is_negative_at_spec = tie.close (tie.spec (search rules) (search rules) (search rules) returns)

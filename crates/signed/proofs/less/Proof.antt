@@ -17,12 +17,12 @@ left c = c.args.n + backward c.args.amount - forward c.args.amount
 left-small : (c : tie.Start) → left c < 2 ^ 63
 left-small c = omega (arith, c.requires.1)
 
-sub-y : tie.Need-overflow-sub-y
+sub-y : tie.Need-overflow_sub-y
 sub-y c =
     rw (to_z_pos w64 c.args.n (number c), to_z-of_z w64 c.args.amount c.ranges.amount, less-is c.args.n c.args.amount c.requires.0)
     (number_fits (left c) (left-small c))
 
-cast-result : tie.Need-overflow-cast-result
+cast-result : tie.Need-overflow_cast-result
 cast-result c =
     rw (
       to_z_pos w64 c.args.n (number c),
@@ -42,5 +42,5 @@ returns c =
     )
     (omega (arith, c.requires.0))
 
-pub less-spec : {M : Type 1} → statement M
-less-spec = tie.close (tie.spec (search rules) sub-y cast-result returns)
+pub less_spec : {M : Type 1} → statement M
+less_spec = tie.close (tie.spec (search rules) sub-y cast-result returns)

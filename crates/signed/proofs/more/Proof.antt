@@ -17,12 +17,12 @@ left c = c.args.n + forward c.args.amount - backward c.args.amount
 left-small : (c : tie.Start) → left c < 2 ^ 63
 left-small c = omega (arith, c.requires.1)
 
-add-y : tie.Need-overflow-add-y
+add-y : tie.Need-overflow_add-y
 add-y c =
     rw (to_z_pos w64 c.args.n (number c), to_z-of_z w64 c.args.amount c.ranges.amount, more-is c.args.n c.args.amount c.requires.0)
     (number_fits (left c) (left-small c))
 
-cast-result : tie.Need-overflow-cast-result
+cast-result : tie.Need-overflow_cast-result
 cast-result c =
     rw (
       to_z_pos w64 c.args.n (number c),
@@ -42,5 +42,5 @@ returns c =
     )
     (omega (arith, c.requires.0))
 
-pub more-spec : {M : Type 1} → statement M
-more-spec = tie.close (tie.spec (search rules) add-y cast-result returns)
+pub more_spec : {M : Type 1} → statement M
+more_spec = tie.close (tie.spec (search rules) add-y cast-result returns)

@@ -11,32 +11,32 @@ use Rattle.signed.proofs.size.Statement.{statement}
 use Rattle.signed.proofs.size.Tie as tie
 
 -- what the first arm knows
-under : (c : tie.Then1) → is_negative c.before.args.u ≡ true
-under c = sym (test _ c.before.ranges.u) ∙ c.if1.true
+under : (c : tie.Then-u-lt0) → is_negative c.before.args.u ≡ true
+under c = sym (test _ c.before.ranges.u) ∙ c.if-u-lt0.true
 
-cast-result : tie.Need-overflow-cast-result
+cast-result : tie.Need-overflow_cast-result
 cast-result c =
     let s = c.before in
     rw (flipped s.args.u s.ranges.u (under c)) (tt, record { fits = omega (arith, size_small s.args.u s.ranges.u) })
 
-add-result : tie.Need-overflow-add-result
+add-result : tie.Need-overflow_add-result
 add-result c =
     let s = c.before in
     rw (flipped s.args.u s.ranges.u (under c)) (record { fits = omega (arith, size_small s.args.u s.ranges.u) })
 
-cast-result-2 : tie.Need-overflow-cast-result-2
+cast-result-2 : tie.Need-overflow_cast-result-else-u-lt0
 cast-result-2 c =
     let s = c.before in
     rw (to_z-of_z w64 s.args.u s.ranges.u)
-    (at_least s.args.u (sym (test _ s.ranges.u) ∙ c.if1.false), record { fits = omega (arith, size_small s.args.u s.ranges.u) })
+    (at_least s.args.u (sym (test _ s.ranges.u) ∙ c.if-u-lt0.false), record { fits = omega (arith, size_small s.args.u s.ranges.u) })
 
-returns : tie.Need-returns
+returns : tie.Need-returns-then-u-lt0
 returns c =
     let s = c.before in
     rw (flipped s.args.u s.ranges.u (under c)) (omega (arith, size-pos s.args.u (under c)))
 
-returns-2 : tie.Need-returns-2
+returns-2 : tie.Need-returns-else-u-lt0
 returns-2 c = search rules
 
-pub size-spec : {M : Type 1} → statement M
-size-spec = tie.close (tie.spec cast-result add-result cast-result-2 returns returns-2)
+pub size_spec : {M : Type 1} → statement M
+size_spec = tie.close (tie.spec cast-result add-result cast-result-2 returns returns-2)

@@ -12,7 +12,7 @@ use Rattle.signed.proofs.size_at.Tie as tie
 returns : tie.Need-returns
 returns c =
     let s = c.before.before in
-    c.size.ensures ∙ ap size (to_z-of_z w64 (get_or s.args.xs.now s.args.i (pos 0)) (record { sfits = c.before.size-arg.given }))
+    c.size.ensures ∙ ap size (to_z-of_z w64 (get_or s.args.xs.now s.args.i (pos 0)) (record { sfits = c.before.size-arg-1.given }))
 
-pub size-at-spec : {M : Type 1} → statement M
-size-at-spec = tie.close (tie.spec (search rules) (search rules) (search rules) returns)
+pub size_at_spec : {M : Type 1} → statement M
+size_at_spec = tie.close (tie.spec (search rules) (search rules) (search rules) returns)

@@ -6,7 +6,7 @@ use Rattle.signed.proofs.Machine.{product-fits}
 use Rattle.signed.proofs.times.Statement.{statement}
 use Rattle.signed.proofs.times.Tie as tie
 
-mul-result : tie.Need-overflow-mul-result
+mul-result : tie.Need-overflow_mul-result
 mul-result c =
     rw (to_z-of_z w64 c.args.a c.ranges.a, to_z_pos w64 c.args.n c.requires.0) (product-fits c.args.a (pos c.args.n) c.requires.1)
 
@@ -15,5 +15,5 @@ returns c =
     rw (to_z-of_z w64 c.args.a c.ranges.a, to_z_pos w64 c.args.n c.requires.0)
     (to_z-of_z w64 _ (product-fits c.args.a (pos c.args.n) c.requires.1))
 
-pub times-spec : {M : Type 1} → statement M
-times-spec = tie.close (tie.spec (search rules) mul-result returns)
+pub times_spec : {M : Type 1} → statement M
+times_spec = tie.close (tie.spec (search rules) mul-result returns)

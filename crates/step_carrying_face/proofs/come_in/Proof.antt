@@ -27,7 +27,7 @@ gain-requires c κs =
           (rw p.next_long p.ends.first-in) (rw p.next_long p.room),
     )
 
-abbrev met : tie.After-slice-known4 → tie.After-widen
+abbrev met : tie.After-slice_known-4-1 → tie.After-widen
 met c = c.before.before
 
 abbrev gained : tie.After-widen → tie.After-gain
@@ -39,7 +39,7 @@ noted c = c.before.before.before
 abbrev start : tie.After-put → tie.Start
 start c = c.before.before.before.before
 
-same-work : tie.Need-same-length-3
+same-work : tie.Need-shape_of-work
 same-work c = simp length-set (rw ((met c).widen.ensures, length-widened))
 
 returns : tie.Need-returns
@@ -49,10 +49,10 @@ returns c =
     let s = start (noted g) in
     in-done s.args.f s.args.first s.args.a s.args.outside s.args.cells s.args.size s.args.next.now _ s.args.moved.now _
     s.args.work.now _ _
-    s.pre.1 (rw s.pre.0.next_long s.pre.0.ends.few) g.gain.ensures (noted g).put.ensures w.widen.ensures refl
+    s.requires.1 (rw s.requires.0.next_long s.requires.0.ends.few) g.gain.ensures (noted g).put.ensures w.widen.ensures refl
 
-pub come-in-spec : {M : Type 1} → statement M
-come-in-spec =
+pub come_in_spec : {M : Type 1} → statement M
+come_in_spec =
     tie.close
     (tie.spec (λ c. omega (arith, amount-small c.before.before))
     (λ c κs. let s = c.before.before.before in (s.requires.0.in_moved, omega (arith, amount-small s)))

@@ -25,7 +25,7 @@ lose-requires c κs =
           (rw p.next_long p.ends.first-in) (rw p.next_long p.afford),
     )
 
-abbrev lost : tie.After-slice-known3 → tie.After-lose
+abbrev lost : tie.After-slice_known-3-1 → tie.After-lose
 lost c = c.before.before
 
 abbrev noted : tie.After-lose → tie.After-put
@@ -40,10 +40,10 @@ returns c =
     let s = start (noted g) in
     out-done s.args.f s.args.first s.args.a s.args.outside s.args.cells s.args.size s.args.next.now _ s.args.moved.now _
     s.args.work.now _
-    (rw s.pre.next_long s.pre.ends.few) g.lose.ensures (noted g).put.ensures refl
+    (rw s.requires.next_long s.requires.ends.few) g.lose.ensures (noted g).put.ensures refl
 
-pub go-out-spec : {M : Type 1} → statement M
-go-out-spec =
+pub go_out_spec : {M : Type 1} → statement M
+go_out_spec =
     tie.close
     (tie.spec (λ c. omega (arith, amount-small c.before.before))
     (λ c κs. let s = c.before.before.before in (s.requires.in_moved, omega (arith, amount-small s)))

@@ -16,24 +16,24 @@ top : (s : tie.Start) → s.args.volume * of_cell s.args.work.now s.args.c 2 ≤
 top s = let p = s.requires.1 in mul-le-mul p.volume_most p.most_small
 
 -- both bounds have been read
-abbrev start : tie.After-slice-known3 → tie.Start
+abbrev start : tie.After-slice_known-3-1 → tie.Start
 start c = c.before.before.before
 
-mul-gain-2 : tie.Need-overflow-mul-gain-2
+mul-gain-2 : tie.Need-overflow_mul-gain
 mul-gain-2 c = omega (arith, top (start c))
 
-add-gain-2 : tie.Need-overflow-add-gain-2
+add-gain-2 : tie.Need-overflow_add-gain-2
 add-gain-2 c = omega (arith, top (start c), (start c).requires.1.volume_most)
 
-same_length : tie.Need-same-length
+same_length : tie.Need-shape_of-work
 same_length c = rw c.before.before.fill.ensures (length-filled _ _ _ _ _ _)
 
 returns : tie.Need-returns
 unfolding allowances_of
 returns c = c.before.before.fill.ensures
 
-pub allowance-at-spec : {M : Type 1} → statement M
-allowance-at-spec =
+pub allowance_at_spec : {M : Type 1} → statement M
+allowance_at_spec =
     tie.close
     (tie.spec (λ c. base-fits c.before.requires.0.1)
     (λ c. slot-fits 1 refl c.before.requires.0.1) (λ c. slot-bytes 1 refl c.before.requires.0.1) (λ c. slot-in _ 1 _ refl c.before.before.requires.0.0)

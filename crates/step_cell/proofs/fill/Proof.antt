@@ -5,7 +5,7 @@ use Rattle.step_cell.proofs.Places.{base-fits, slot-fits, slot-bytes, slot-in}
 use Rattle.step_cell.proofs.fill.Statement.{statement}
 use Rattle.step_cell.proofs.fill.Tie as tie
 
-same_length : tie.Need-same-length
+same_length : tie.Need-shape_of-work
 same_length c = simp length-set
 
 returns : tie.Need-returns

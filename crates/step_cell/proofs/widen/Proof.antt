@@ -7,12 +7,12 @@ use Rattle.step_cell.proofs.widen.Statement.{statement}
 use Rattle.step_cell.proofs.widen.Tie as tie
 
 -- both entries have been read
-abbrev start : tie.After-greatest-of → tie.Start
+abbrev start : tie.After-greatest_of-hi → tie.Start
 start c = c.before.before.before.before.before
 
 returns : tie.Need-returns
 unfolding widened
-returns c = rw (c.greatest-of.ensures, c.before.before.least-of.ensures)
+returns c = rw (c.greatest_of-hi.ensures, c.before.before.least_of-lo.ensures)
 
 pub widen_spec : {M : Type 1} → statement M
 widen_spec =

@@ -20,10 +20,10 @@ raise-requires-2 c κs =
     let u = c.before.before.before in
     let s = start u in
     giver-has-room s.args.work.now _ s.args.receiver s.args.giver (over_q * s.args.size) s.args.size
-    s.pre.0.0 s.pre.1.0 u.raise.ensures s.pre.1.2
+    s.requires.0.0 s.requires.1.0 u.raise.ensures s.requires.1.2
 
 returns : tie.Need-returns
-returns c = let v = c.before.before in rw (v.raise2.ensures, v.before.before.before.before.raise.ensures)
+returns c = let v = c.before.before in rw (v.raise-2.ensures, v.before.before.before.before.raise.ensures)
 
 pub count_spec : {M : Type 1} → statement M
 count_spec =

@@ -9,18 +9,18 @@ use borrow.Author.Rules.{rules}
 use Rattle.store.proofs.drop.Statement.{statement}
 use Rattle.store.proofs.drop.Tie as tie
 
-returns : tie.Need-returns
+returns : tie.Need-returns-in-Refused
 unfolding counts store_table
 returns c =
-    let lent = both-are c.before.before.before.and_then.ensures c.before.before.before.before.before.counts-within.ensures
-    c.before.before.before.before.long.ensures in
-    let v = drop-groups _ _ _ ∙ out _ (refuses lent c.before.a.given.1) in
+    let lent = both-are c.before.and_then-a.ensures c.before.before.before.counts_within.ensures
+    c.before.before.long.ensures in
+    let v = drop-groups _ _ _ ∙ out _ (refuses lent c.in-Refused.is) in
     record { answer = sym v; store_is = drop-stays _ _ _ v }
 
-is-kept-requires : tie.Need-is-kept-requires
+is-kept-requires : tie.Need-is_kept-b-requires
 unfolding counts store_table
 is-kept-requires c κs =
-    let at_told = c.before in
+    let at_told = c in
     let at-and-then = at_told.before.before in
     let at_long = at-and-then.before in
     let at-counts-within = at_long.before in
@@ -28,46 +28,46 @@ is-kept-requires c κs =
     let lent = both-are at-and-then.and_then.ensures at-counts-within.counts-within.ensures at_long.long.ensures in
     drop-opened s.args.cells s.args.store.now 0 (passes lent at_told.enum_told.given.1)
 
-returns-2 : tie.Need-returns-2
+returns-2 : tie.Need-returns-in-Refused-b
 unfolding counts store_table
 returns-2 c =
-    let at_b = c.before in
-    let at-is-kept = at_b.before.before in
-    let at_told = at-is-kept.before.before in
+    let at_b = c in
+    let at-is-kept = at_b.before in
+    let at_told = at-is-kept.before in
     let at-and-then = at_told.before.before in
     let at_long = at-and-then.before in
     let at-counts-within = at_long.before in
     let lent = both-are at-and-then.and_then.ensures at-counts-within.counts-within.ensures at_long.long.ensures in
-    let v = drop-groups _ _ _ ∙ past _ (passes lent at_told.enum_told.given.1) ∙ refuses at-is-kept.is-kept.ensures at_b.b.given.1 in
+    let v = drop-groups _ _ _ ∙ past _ (passes lent at_told.enum_told.given.1) ∙ refuses at-is-kept.is_kept-b.ensures at_b.in-Refused-b.is in
     record { answer = sym v; store_is = drop-stays _ _ _ v }
 
-take-field-requires : tie.Need-take-field-requires
+take-field-requires : tie.Need-take_field-requires
 unfolding counts store_table
 take-field-requires c κs =
     let at_told = c.before in
-    let at-is-kept = at_told.before.before in
-    let at-told2 = at-is-kept.before.before in
+    let at-is-kept = at_told.before in
+    let at-told2 = at-is-kept.before in
     let at-and-then = at-told2.before.before in
     let at_long = at-and-then.before in
     let at-counts-within = at_long.before in
     let s = at-counts-within.before.before in
     let lent = both-are at-and-then.and_then.ensures at-counts-within.counts-within.ensures at_long.long.ensures in
-    let k = kept-asks _ _ _ (passes at-is-kept.is-kept.ensures at_told.enum-told2.given.1) in
+    let k = kept-asks _ _ _ (passes at-is-kept.is_kept-b.ensures at_told.in_default-b.is) in
     ((drop-opened s.args.cells s.args.store.now 0 (passes lent at-told2.enum_told.given.1)).1, k.0, k.1)
 
-returns-3 : tie.Need-returns-3
+returns-3 : tie.Need-returns
 unfolding counts store_table drop_store
 returns-3 c =
     let at-take-field = c.before.before in
     let at_told = at-take-field.before.before in
-    let at-is-kept = at_told.before.before in
-    let at-told2 = at-is-kept.before.before in
+    let at-is-kept = at_told.before in
+    let at-told2 = at-is-kept.before in
     let at-and-then = at-told2.before.before in
     let at_long = at-and-then.before in
     let at-counts-within = at_long.before in
     let lent = both-are at-and-then.and_then.ensures at-counts-within.counts-within.ensures at_long.long.ensures in
-    let v = drop-groups _ _ _ ∙ past _ (passes lent at-told2.enum_told.given.1) ∙ passes at-is-kept.is-kept.ensures at_told.enum-told2.given.1 in
-    record { answer = sym v; store_is = at-take-field.take-field.ensures ∙ rw v }
+    let v = drop-groups _ _ _ ∙ past _ (passes lent at-told2.enum_told.given.1) ∙ passes at-is-kept.is_kept-b.ensures at_told.in_default-b.is in
+    record { answer = sym v; store_is = at-take-field.take_field.ensures ∙ rw v }
 
 pub drop_spec : {M : Type 1} → statement M
 drop_spec =

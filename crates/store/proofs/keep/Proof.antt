@@ -8,23 +8,23 @@ use borrow.Author.Rules.{rules}
 use Rattle.store.proofs.keep.Statement.{statement}
 use Rattle.store.proofs.keep.Tie as tie
 
-returns : tie.Need-returns
-returns c = let v = refuses c.before.before.before.may-keep.ensures c.before.a.given.1 in
+returns : tie.Need-returns-in-Refused
+returns c = let v = refuses c.before.may_keep-a.ensures c.in-Refused.is in
     record { answer = sym v; store_is = keep-stays _ _ _ _ _ v }
 
-put-field-requires : tie.Need-put-field-requires
+put-field-requires : tie.Need-put_field-requires
 put-field-requires c κs =
-    let v = passes c.before.before.before.may-keep.ensures c.before.enum_told.given.1 in
+    let v = passes c.before.before.may_keep-a.ensures c.before.in_default.is in
     ((opened-asks _ _ 0 _ _ (opened-fine _ _ _ _ _ v)).1.1, keep-long _ _ _ _ _ v, keep-room _ _ _ _ _ v)
 
-returns-2 : tie.Need-returns-2
+returns-2 : tie.Need-returns
 unfolding keep_store
 returns-2 c =
     let at-put-field = c.before.before in
     let at_told = at-put-field.before.before in
-    let at-may-keep = at_told.before.before in
-    let v = passes at-may-keep.may-keep.ensures at_told.enum_told.given.1 in
-    record { answer = sym v; store_is = at-put-field.put-field.ensures ∙ rw v }
+    let at-may-keep = at_told.before in
+    let v = passes at-may-keep.may_keep-a.ensures at_told.in_default.is in
+    record { answer = sym v; store_is = at-put-field.put_field.ensures ∙ rw v }
 
 pub keep_spec : {M : Type 1} → statement M
 keep_spec =

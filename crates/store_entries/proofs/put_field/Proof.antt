@@ -12,8 +12,8 @@ use borrow.Author.Rules.{rules}
 use Rattle.store_entries.proofs.put_field.Statement.{statement}
 use Rattle.store_entries.proofs.put_field.Tie as tie
 
-same_length : tie.Need-same-length
-same_length c = simp length-set c.before.store.given.1
+same_length : tie.Need-shape_of-store
+same_length c = simp length-set c.before.store-1.given.1
 
 returns : tie.Need-returns
 returns c =
@@ -21,16 +21,16 @@ returns c =
     let at-used = at-write-field.before.before in
     let s = at-used.before.before.before.before in
     let store = s.args.store.now in
-    let at = at-used.used.result in
-    let u : at ≡ used s.args.cells (count store) = at-used.used.ensures in
-    ap (λ (p : List ℕ). set (take at store ++ (p ++ drop (length store - at) (drop at store))) 0 (count store + 1)) at-write-field.write-field.ensures
+    let at = at-used.used-at.result in
+    let u : at ≡ used s.args.cells (count store) = at-used.used-at.ensures in
+    ap (λ (p : List ℕ). set (take at store ++ (p ++ drop (length store - at) (drop at store))) 0 (count store + 1)) at-write-field.write_field.ensures
     ∙ ap (λ (j : ℕ). set (take j store ++ (over (s.args.name ∷ take s.args.cells s.args.masses.now)
     (take (length store - j) (drop j store)) ++ drop (length store - j) (drop j store))) 0 (count store + 1)) u
     ∙ put_written s.args.cells s.args.name (take s.args.cells s.args.masses.now) store
     (omega (arith, used-more s.args.cells (count store) (suc (count store)) (omega arith)))
 
-pub put-field-spec : {M : Type 1} → statement M
-put-field-spec =
+pub put_field_spec : {M : Type 1} → statement M
+put_field_spec =
     tie.close
     (tie.spec (search rules) (search rules) (search rules) (search rules) (search rules) (search rules) (search rules) (search rules) (search rules)
     same_length returns)

@@ -10,7 +10,7 @@ use borrow.Author.Rules.{rules}
 use Rattle.store_entries.proofs.write_field.Statement.{statement}
 use Rattle.store_entries.proofs.write_field.Tie as tie
 
-slice-aggregate-copy : tie.Need-slice-aggregate-copy
+slice-aggregate-copy : tie.Need-slice_bounds-copy-end
 slice-aggregate-copy c = sym (length-take-le _ _ c.before.before.before.requires.0)
 
 copy-requires : tie.Need-copy-requires
@@ -18,8 +18,8 @@ copy-requires c κs =
     let s = c.before.before.before.before in
     room_after s.args.cells s.args.masses.now s.args.part.now s.requires.1
 
-same_length : tie.Need-same-length
-same_length c = simp length-set c.before.part.given.1
+same_length : tie.Need-shape_of-part
+same_length c = simp length-set c.before.part-1.given.1
 
 returns : tie.Need-returns
 returns c =
@@ -29,7 +29,7 @@ returns c =
     at_copy.copy.ensures
     ∙ field_written s.args.name (take s.args.cells s.args.masses.now) s.args.part.now (omega arith)
 
-pub write-field-spec : {M : Type 1} → statement M
-write-field-spec =
+pub write_field_spec : {M : Type 1} → statement M
+write_field_spec =
     tie.close
     (tie.spec slice-aggregate-copy (search rules) (search rules) (search rules) copy-requires (search rules) same_length returns)

@@ -12,5 +12,5 @@ returns c =
     let s = c.before in
     count-test (length s.args.store.now) (s.args.cells + 1) (get_or s.args.store.now 0 0) s.requires.0 (omega arith)
 
-pub count-fits-spec : {M : Type 1} → statement M
-count-fits-spec = tie.close (tie.spec (search rules) (search rules) (search rules) (search rules) returns)
+pub count_fits_spec : {M : Type 1} → statement M
+count_fits_spec = tie.close (tie.spec (search rules) (search rules) (search rules) (search rules) returns)

@@ -9,39 +9,39 @@ use Rattle.survey.proofs.Stages.{AllowedTo, found-pass, found-bad, found-end}
 use Rattle.survey.proofs.middle_stage.Statement.{statement}
 use Rattle.survey.proofs.middle_stage.Tie as tie
 
-abbrev invariant-loop : tie.invariant-loop
+abbrev invariant-loop : tie.invariant-loop-i
 invariant-loop face values i₀ i = (i ≤ 8) × AllowedTo face i
 
-abbrev decreases-loop : tie.decreases-loop
+abbrev decreases-loop : tie.decreases-loop-i
 decreases-loop face values i₀ i = 8 - i
 
-loop-holds : tie.Need-loop-init invariant-loop decreases-loop
+loop-holds : tie.Need-loop-i-init invariant-loop decreases-loop
 loop-holds c = (zero-le, scan-start _ _)
 
-returns : tie.Need-returns invariant-loop decreases-loop
+returns : tie.Need-returns-then-not-is_allowed invariant-loop decreases-loop
 returns c =
     let at-loop = c.before.before.before in
-    let p = at-loop.loop in
-    found-bad _ _ p.i at-loop.before.coordinates-of.ensures p.invariant.1 c.before.is-allowed.ensures c.before.before.loop-test.true
-    (not-true _ c.if1.true)
+    let p = at-loop.loop-i in
+    found-bad _ _ p.i at-loop.before.coordinates_of-values.ensures p.invariant.1 c.before.is_allowed.ensures c.before.before.loop-i-test.true
+    c.if-not-is_allowed.true
 
-loop-again : tie.Need-loop-preserved invariant-loop decreases-loop
+loop-again : tie.Need-loop-i-preserved invariant-loop decreases-loop
 loop-again c =
     let at-loop = c.before.before.before in
-    let p = at-loop.loop in (
-      turn-within c.before.before.loop-test.true,
-      found-pass _ _ p.i at-loop.before.coordinates-of.ensures p.invariant.1
-          c.before.is-allowed.ensures (not-false _ c.if1.false),
+    let p = at-loop.loop-i in (
+      turn-within c.before.before.loop-i-test.true,
+      found-pass _ _ p.i at-loop.before.coordinates_of-values.ensures p.invariant.1
+          c.before.is_allowed.ensures c.if-not-is_allowed.false,
     )
 
-returns-2 : tie.Need-returns-2 invariant-loop decreases-loop
+returns-2 : tie.Need-returns invariant-loop decreases-loop
 returns-2 c =
-    let p = c.before.before.loop in
-    c.ratio-of.ensures ∙ found-end _ p.i p.invariant.0 c.before.loop-test.false p.invariant.1
+    let p = c.before.before.loop-i in
+    c.ratio_of.ensures ∙ found-end _ p.i p.invariant.0 c.before.loop-i-test.false p.invariant.1
 
-pub middle-stage-spec : {M : Type 1} → statement M
-middle-stage-spec =
+pub middle_stage_spec : {M : Type 1} → statement M
+middle_stage_spec =
     tie.close
     (tie.spec invariant-loop decreases-loop (search rules) loop-holds (search rules) (search rules) (search rules) returns (search rules)
-    (λ c. turn-less c.before.before.loop-test.true) loop-again
+    (λ c. turn-less c.before.before.loop-i-test.true) loop-again
     (search rules) returns-2)

@@ -7,32 +7,32 @@ use Rattle.survey.proofs.Stages.{ratio-below, ratio-not-below, ratio-between}
 use Rattle.survey.proofs.share_or_refusal.Statement.{statement}
 use Rattle.survey.proofs.share_or_refusal.Tie as tie
 
-returns : tie.Need-returns
+returns : tie.Need-returns-then-not-is_not_above
 returns c =
     let at_one = c.before in
-    c.refusal.ensures ∙ ratio-below _ (sym at_one.before.is-not-above.ensures ∙ not-true _ at_one.if1.true)
+    c.refusal.ensures ∙ ratio-below _ (sym at_one.before.is_not_above.ensures ∙ not-true _ at_one.if-not-is_not_above.true)
 
-returns-2 : tie.Need-returns-2
+returns-2 : tie.Need-returns-then-is_not_above
 returns-2 c =
     let at_all = c.before in
     let at_one = at_all.before.before in
-    c.refusal2.ensures
-    ∙ ratio-not-below _ (sym at_one.before.is-not-above.ensures ∙ not-false _ at_one.if1.false)
-    (sym at_all.before.is-not-above2.ensures ∙ at_all.if2.true)
+    c.refusal-then-is_not_above.ensures
+    ∙ ratio-not-below _ (sym at_one.before.is_not_above.ensures ∙ not-false _ at_one.if-not-is_not_above.false)
+    (sym at_all.before.is_not_above-2.ensures ∙ at_all.if-is_not_above.true)
 
-share-of-requires : tie.Need-share-of-requires
+share-of-requires : tie.Need-share_of-requires
 share-of-requires c κs =
     let at_one = c.before.before in
-    (sym at_one.before.is-not-above.ensures ∙ not-false _ at_one.if1.false, sym c.before.is-not-above2.ensures ∙ c.if2.false)
+    (sym at_one.before.is_not_above.ensures ∙ not-false _ at_one.if-not-is_not_above.false, sym c.before.is_not_above-2.ensures ∙ c.if-is_not_above.false)
 
-returns-3 : tie.Need-returns-3
+returns-3 : tie.Need-returns
 returns-3 c =
     let at_all = c.before in
     let at_one = at_all.before.before in
-    ratio-between _ (sym at_one.before.is-not-above.ensures ∙ not-false _ at_one.if1.false)
-    (sym at_all.before.is-not-above2.ensures ∙ at_all.if2.false)
-    c.share-of.ensures
+    ratio-between _ (sym at_one.before.is_not_above.ensures ∙ not-false _ at_one.if-not-is_not_above.false)
+    (sym at_all.before.is_not_above-2.ensures ∙ at_all.if-is_not_above.false)
+    c.share_of.ensures
 
-pub share-or-refusal-spec : {M : Type 1} → statement M
-share-or-refusal-spec =
+pub share_or_refusal_spec : {M : Type 1} → statement M
+share_or_refusal_spec =
     tie.close (tie.spec (λ c κs. omega arith) (search rules) returns (λ c κs. omega arith) (search rules) returns-2 share-of-requires returns-3)

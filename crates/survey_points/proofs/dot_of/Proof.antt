@@ -7,5 +7,5 @@ returns : tie.Need-returns
 unfolding dot
 returns c = refl
 
-pub dot-of-spec : {M : Type 1} → statement M
-dot-of-spec = tie.close (tie.spec returns)
+pub dot_of_spec : {M : Type 1} → statement M
+dot_of_spec = tie.close (tie.spec returns)

@@ -8,5 +8,5 @@ returns : tie.Need-returns
 unfolding middle_of of_bits
 returns c = refl
 
-pub middle-of-spec : {M : Type 1} → statement M
-middle-of-spec = tie.close (tie.spec returns)
+pub middle_of_spec : {M : Type 1} → statement M
+middle_of_spec = tie.close (tie.spec returns)

@@ -7,5 +7,5 @@ returns : tie.Need-returns
 unfolding normal
 returns c = refl
 
-pub normal-of-spec : {M : Type 1} → statement M
-normal-of-spec = tie.close (tie.spec returns)
+pub normal_of_spec : {M : Type 1} → statement M
+normal_of_spec = tie.close (tie.spec returns)

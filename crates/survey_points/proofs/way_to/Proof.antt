@@ -7,5 +7,5 @@ returns : tie.Need-returns
 unfolding way
 returns c = refl
 
-pub way-to-spec : {M : Type 1} → statement M
-way-to-spec = tie.close (tie.spec returns)
+pub way_to_spec : {M : Type 1} → statement M
+way_to_spec = tie.close (tie.spec returns)

@@ -7,7 +7,7 @@ use Rattle.text.proofs.Lines.{appended}
 use Rattle.text.proofs.append.Statement.{statement}
 use Rattle.text.proofs.append.Tie as tie
 
-slice-aggregate-copy : tie.Need-slice-aggregate-copy
+slice-aggregate-copy : tie.Need-slice_bounds-copy-end
 slice-aggregate-copy c = simp length-take (omega arith)
 
 copy-requires : tie.Need-copy-requires
@@ -20,11 +20,11 @@ returns c =
     let start = at_count.before.before.before.before.args in
     let count = at_count.least2.result in
     let all : length (take count start.bytes.now) ≡ count = simp length-take (omega arith) in
-    appended start.lent.now start.at at_count.before.least.result count start.bytes.now at_count.before.least.ensures
+    appended start.lent.now start.at at_count.least-start.result count start.bytes.now at_count.least-start.ensures
     at_count.least2.ensures _ all at_copy.copy.ensures
 
-pub append-spec : {M : Type 1} → statement M
-append-spec =
+pub append_spec : {M : Type 1} → statement M
+append_spec =
     tie.close
     (tie.spec
     (λ c κs. search rules)

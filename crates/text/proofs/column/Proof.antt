@@ -11,7 +11,7 @@ use Rattle.text.proofs.Lines.{both}
 use Rattle.text.proofs.column.Statement.{statement}
 use Rattle.text.proofs.column.Tie as tie
 
-slice-aggregate-append : tie.Need-slice-aggregate-append
+slice-aggregate-append : tie.Need-slice_bounds-append-end
 slice-aggregate-append c = simp length-take (omega arith)
 
 returns : tie.Need-returns
@@ -22,16 +22,16 @@ returns c =
     let at-blanks = at-digits.before.before.before.before.before in
     let gap = at-blanks.before.before.left in
     let at-decimal = at-blanks.before.before.before.before in
-    let decimal = at-decimal.decimal in
+    let decimal = at-decimal.decimal-count in
     let start = at-decimal.before.before.before.args in
     let count = count-digits most_digits decimal.result start.n (omega arith) (omega arith) decimal.ensures.1.0 in
     let told = decimal.ensures.1.1 ∙ fewest-digits most_digits decimal.result start.n (omega arith) (omega arith) decimal.ensures.1.0 in
     let blanks = fewer-blanks gap.result most_digits space (omega arith) in
-    both start.lent.now (rw (blanks, gap.ensures, ← count) at at-blanks.append.ensures)
-    (both _ (rw told at at-digits.append2.ensures) at_after.append3.ensures)
+    both start.lent.now (rw (blanks, gap.ensures, ← count) at at-blanks.append-start.ensures)
+    (both _ (rw told at at-digits.append-end.ensures) at_after.append.ensures)
 
-pub column-spec : {M : Type 1} → statement M
-column-spec =
+pub column_spec : {M : Type 1} → statement M
+column_spec =
     tie.close
     (tie.spec
     (λ c κs. search rules)

@@ -9,18 +9,18 @@ use lib.Seq.{paste, paste-zero, paste-suc}
 use Rattle.text.proofs.copy.Statement.{statement}
 use Rattle.text.proofs.copy.Tie as tie
 
-abbrev invariant-loop : tie.invariant-loop
+abbrev invariant-loop : tie.invariant-loop-i
 invariant-loop lent₀ at bytes i₀ lent i = (i ≤ length bytes) × (length lent ≡ length lent₀) × (lent ≡ paste lent₀ at bytes i)
 
-abbrev decreases-loop : tie.decreases-loop
+abbrev decreases-loop : tie.decreases-loop-i
 decreases-loop lent₀ at bytes i₀ lent i = length bytes - i
 
-loop-holds : tie.Need-loop-init invariant-loop decreases-loop
+loop-holds : tie.Need-loop-i-init invariant-loop decreases-loop
 loop-holds c = (omega arith, refl, paste-zero c.args.lent.now c.args.at c.args.bytes.now)
 
-loop-again : tie.Need-loop-preserved invariant-loop decreases-loop
+loop-again : tie.Need-loop-i-preserved invariant-loop decreases-loop
 loop-again c =
-    let loop = c.before.before.loop in
+    let loop = c.before.before.loop-i in
     let lent = c.before.before.before.args.lent.now in
     let at = c.before.before.before.args.at in
     let bytes = c.before.before.before.args.bytes.now in
@@ -31,8 +31,8 @@ loop-again c =
 returns : tie.Need-returns invariant-loop decreases-loop
 returns c =
     let start = c.before.before in
-    let e : c.before.loop.i ≡ length start.args.bytes.now = omega arith in
-    c.before.loop.invariant.2 ∙ ap (λ (j : ℕ). paste start.args.lent.now start.args.at start.args.bytes.now j) e
+    let e : c.before.loop-i.i ≡ length start.args.bytes.now = omega arith in
+    c.before.loop-i.invariant.2 ∙ ap (λ (j : ℕ). paste start.args.lent.now start.args.at start.args.bytes.now j) e
 
 pub copy_spec : {M : Type 1} → statement M
 copy_spec =
@@ -47,5 +47,5 @@ copy_spec =
     (λ c. omega arith)
     (λ c. omega arith)
     loop-again
-    (λ c. c.before.loop.invariant.1)
+    (λ c. c.before.loop-i.invariant.1)
     returns)

@@ -10,5 +10,5 @@ returns c =
     let start = at-column.before.before.before.args in
     rw (word-is start.n start.after) at at-column.column.ensures
 
-pub word-spec : {M : Type 1} → statement M
-word-spec = tie.close (tie.spec (λ c κs. search rules) (λ c. search rules) returns)
+pub word_spec : {M : Type 1} → statement M
+word_spec = tie.close (tie.spec (λ c κs. search rules) (λ c. search rules) returns)

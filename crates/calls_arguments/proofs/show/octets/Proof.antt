@@ -3,13 +3,13 @@ use borrow.Author.Rules.{rules}
 use Rattle.calls_arguments.proofs.show.octets.Statement.{statement}
 use Rattle.calls_arguments.proofs.show.octets.Tie as tie
 
-abbrev invariant-loop : tie.invariant-loop
+abbrev invariant-loop : tie.invariant-loop-i
 invariant-loop title n xs i₀ i = i ≤ n
 
-abbrev decreases-loop : tie.decreases-loop
+abbrev decreases-loop : tie.decreases-loop-i
 decreases-loop title n xs i₀ i = n - i
 
-pub octets-spec : {M : Type 1} → statement M
-octets-spec =
+pub octets_spec : {M : Type 1} → statement M
+octets_spec =
     tie.close
     (tie.spec invariant-loop decreases-loop (search rules) (search rules) (search rules) (search rules) (search rules) (search rules) (search rules) (search rules))

@@ -3,14 +3,14 @@ use borrow.Author.Rules.{rules}
 use Rattle.calls_arguments.proofs.show.signed_entries.Statement.{statement}
 use Rattle.calls_arguments.proofs.show.signed_entries.Tie as tie
 
-abbrev invariant-loop : tie.invariant-loop
+abbrev invariant-loop : tie.invariant-loop-i
 invariant-loop title n xs i₀ i = i ≤ n
 
-abbrev decreases-loop : tie.decreases-loop
+abbrev decreases-loop : tie.decreases-loop-i
 decreases-loop title n xs i₀ i = n - i
 
-pub signed-entries-spec : {M : Type 1} → statement M
-signed-entries-spec =
+pub signed_entries_spec : {M : Type 1} → statement M
+signed_entries_spec =
     tie.close
     (tie.spec invariant-loop decreases-loop (search rules) (search rules) (search rules) (search rules) (search rules) (search rules) (search rules) (search rules)
     (search rules))

@@ -6,5 +6,5 @@ use Rattle.checks.proofs.field.salt_fits.Tie as tie
 returns : tie.Need-returns
 returns c = salt-test c.args.mass c.args.volume c.requires.0
 
-pub salt-fits-spec : {M : Type 1} → statement M
-salt-fits-spec = tie.close (tie.spec (search rules) (search rules) returns)
+pub salt_fits_spec : {M : Type 1} → statement M
+salt_fits_spec = tie.close (tie.spec (search rules) (search rules) returns)

@@ -11,51 +11,51 @@ use Rattle.model.proofs.Verdicts.{scan-start, scan-pass, scan-hit, scan-end}
 use Rattle.checks.proofs.field.values.Statement.{statement}
 use Rattle.checks.proofs.field.values.Tie as tie
 
-abbrev invariant-loop : tie.invariant-loop
+abbrev invariant-loop : tie.invariant-loop-c
 invariant-loop cells volumes masses c₀ c = (c ≤ cells) × (each 6 c (λ k. salt_fit (get_or volumes k 0) (get_or masses k 0)) ≡ fine)
 
-abbrev decreases-loop : tie.decreases-loop
+abbrev decreases-loop : tie.decreases-loop-c
 decreases-loop cells volumes masses c₀ c = cells - c
 
 -- from a turn to the start, and from the test of its cell to the turn
-abbrev start : tie.In-loop invariant-loop decreases-loop → tie.Start invariant-loop decreases-loop
+abbrev start : tie.In-loop-c invariant-loop decreases-loop → tie.Start invariant-loop decreases-loop
 start t = t.before.before.before.before
 
-abbrev turn : tie.After-salt-fits invariant-loop decreases-loop → tie.In-loop invariant-loop decreases-loop
+abbrev turn : tie.After-salt_fits invariant-loop decreases-loop → tie.In-loop-c invariant-loop decreases-loop
 turn c = c.before.before.before
 
 -- a cell's place in bytes, of whichever table
-in_bytes : (t : tie.In-loop invariant-loop decreases-loop) → Fits w64 (t.before.loop.c * 8)
-in_bytes t = turn-bytes t.loop-test.true (start t).requires.0.0 (start t).well-formed.1.0.1
+in_bytes : (t : tie.In-loop-c invariant-loop decreases-loop) → Fits w64 (t.before.loop-c.c * 8)
+in_bytes t = turn-bytes t.loop-c-test.true (start t).requires.0.0 (start t).well_formed.1.0.1
 
-salt-fits-requires : tie.Need-salt-fits-requires invariant-loop decreases-loop
-salt-fits-requires c κs = let t = c.before.before in (start t).requires.1 t.before.loop.c t.loop-test.true
+salt-fits-requires : tie.Need-salt_fits-requires invariant-loop decreases-loop
+salt-fits-requires c κs = let t = c.before.before in (start t).requires.1 t.before.loop-c.c t.loop-c-test.true
 
-returns : tie.Need-returns invariant-loop decreases-loop
+returns : tie.Need-returns-then-not-salt_fits invariant-loop decreases-loop
 returns c = let t = turn c.before in
-    scan-hit _ _ _ _ t.loop-test.taken t.before.loop.inv.1 c.before.salt-fits.ensures (not-true _ c.if1.true)
+    scan-hit _ _ _ _ t.loop-c-test.true t.before.loop-c.invariant.1 c.before.salt_fits.ensures c.if-not-salt_fits.true
 
-loop-again : tie.Need-loop-preserved invariant-loop decreases-loop
+loop-again : tie.Need-loop-c-preserved invariant-loop decreases-loop
 loop-again c = let t = turn c.before in
-    (turn-within t.loop-test.taken, scan-pass _ _ _ t.before.loop.inv.1 c.before.salt-fits.ensures (not-false _ c.if1.false))
+    (turn-within t.loop-c-test.true, scan-pass _ _ _ t.before.loop-c.invariant.1 c.before.salt_fits.ensures c.if-not-salt_fits.false)
 
-returns-2 : tie.Need-returns-2 invariant-loop decreases-loop
-returns-2 c = let l = c.before.loop in scan-end _ _ _ _ l.invariant.0 c.loop-test.false l.invariant.1
+returns-2 : tie.Need-returns invariant-loop decreases-loop
+returns-2 c = let l = c.before.loop-c in scan-end _ _ _ _ l.invariant.0 c.loop-c-test.false l.invariant.1
 
-read-salt-fits : tie.Need-shared-slice-read-salt-fits invariant-loop decreases-loop
-read-salt-fits c = let t = c.before in turn_in t.loop-test.true (start t).requires.0.0
+read-salt-fits : tie.Need-bounds-volumes-c invariant-loop decreases-loop
+read-salt-fits c = let t = c.before in turn_in t.loop-c-test.true (start t).requires.0.0
 
-read-salt-fits-2 : tie.Need-shared-slice-read-salt-fits-2 invariant-loop decreases-loop
-read-salt-fits-2 c = let t = c.before.before in turn_in t.loop-test.true (start t).requires.0.1
+read-salt-fits-2 : tie.Need-bounds-masses-c invariant-loop decreases-loop
+read-salt-fits-2 c = let t = c.before.before in turn_in t.loop-c-test.true (start t).requires.0.1
 
-add-c : tie.Need-overflow-add-c invariant-loop decreases-loop
-add-c c = let t = turn c.before in turn-next t.loop-test.taken (start t).pre.0.0 (start t).good.1.0.0
+add-c : tie.Need-overflow_add-c invariant-loop decreases-loop
+add-c c = let t = turn c.before in turn-next t.loop-c-test.true (start t).requires.0.0 (start t).well_formed.1.0.0
 
-loop-less : tie.Need-loop-smaller invariant-loop decreases-loop
-loop-less c = turn-less (turn c.before).loop-test.taken
+loop-less : tie.Need-loop-c-smaller invariant-loop decreases-loop
+loop-less c = turn-less (turn c.before).loop-c-test.true
 
-pub values-spec : {M : Type 1} → statement M
-values-spec =
+pub values_spec : {M : Type 1} → statement M
+values_spec =
     tie.close
     (tie.spec invariant-loop decreases-loop (λ c. (zero-le, scan-start _ _)) (λ c. in_bytes c) read-salt-fits (λ c. in_bytes c.before) read-salt-fits-2
     salt-fits-requires returns add-c loop-less loop-again returns-2)

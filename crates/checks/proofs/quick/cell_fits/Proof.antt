@@ -9,16 +9,16 @@ use Rattle.checks.proofs.Laws.{volume-within, cell-fine}
 use Rattle.checks.proofs.quick.cell_fits.Statement.{statement}
 use Rattle.checks.proofs.quick.cell_fits.Tie as tie
 
-within : (c : tie.Else1) → between 1 ceiling c.before.before.args.volume ≡ true
-within c = sym c.before.between.ensures ∙ not-false _ c.if1.false
+within : (c : tie.Else-not-between) → between 1 ceiling c.before.before.args.volume ≡ true
+within c = sym c.before.between.ensures ∙ not-false _ c.if-not-between.false
 
-returns-4 : tie.Need-returns-4
+returns-4 : tie.Need-returns
 returns-4 c =
     let s = c.before.before.before.before in
-    λ e. cell-fine s.args.volume s.args.mass s.args.release (within c.before.before) c.before.if2.false c.if3.false
+    λ e. cell-fine s.args.volume s.args.mass s.args.release (within c.before.before) c.before.if-end-mass.false c.if-end-mass-2.false
 
-pub cell-fits-spec : {M : Type 1} → statement M
-cell-fits-spec =
+pub cell_fits_spec : {M : Type 1} → statement M
+cell_fits_spec =
     tie.close
     (tie.spec (search rules) (λ c e. absurd (true≢false (sym e))) (search rules)
     (λ c. omega (arith, volume-within c.before.before.args.volume (within c)))

@@ -12,44 +12,44 @@ use Rattle.checks.specs.Quick.{CellFine}
 use Rattle.checks.proofs.quick.cells_fit.Statement.{statement}
 use Rattle.checks.proofs.quick.cells_fit.Tie as tie
 
-abbrev invariant-loop : tie.invariant-loop
+abbrev invariant-loop : tie.invariant-loop-c
 invariant-loop cells volumes masses releases c₀ c = (c ≤ cells) × ((k : ℕ) → k < c → CellFine (get_or volumes k 0) (get_or masses k 0) (get_or releases k 0))
 
-abbrev decreases-loop : tie.decreases-loop
+abbrev decreases-loop : tie.decreases-loop-c
 decreases-loop cells volumes masses releases c₀ c = cells - c
 
-abbrev begun : tie.In-loop invariant-loop decreases-loop → tie.Start invariant-loop decreases-loop
+abbrev begun : tie.In-loop-c invariant-loop decreases-loop → tie.Start invariant-loop decreases-loop
 begun c = c.before.before.before.before.before
 
-abbrev ended : tie.After-loop invariant-loop decreases-loop → tie.Start invariant-loop decreases-loop
+abbrev ended : tie.After-loop-c invariant-loop decreases-loop → tie.Start invariant-loop decreases-loop
 ended c = c.before.before.before.before.before
 
-loop-again : tie.Need-loop-preserved invariant-loop decreases-loop
+loop-again : tie.Need-loop-c-preserved invariant-loop decreases-loop
 loop-again c =
     let t = c.before.before.before.before.before in
     let s = begun t in
-    let l = t.before.loop in (
-      turn-within t.loop-test.true,
+    let l = t.before.loop-c in (
+      turn-within t.loop-c-test.true,
       below_more (λ k. CellFine (get_or s.args.volumes.now k 0) (get_or s.args.masses.now k 0) (get_or s.args.releases.now k 0)) l.c l.invariant.1
-          (c.before.cell_fits.ensures (not-false _ c.if1.false)),
+          (c.before.cell_fits.ensures c.if-not-cell_fits.false),
     )
 
-returns-2 : tie.Need-returns-2 invariant-loop decreases-loop
+returns-2 : tie.Need-returns invariant-loop decreases-loop
 returns-2 c =
-    let l = c.before.loop in
-    let e : l.c ≡ (ended c).args.cells = omega (arith, l.invariant.0, c.loop-test.false) in
+    let l = c.before.loop-c in
+    let e : l.c ≡ (ended c).args.cells = omega (arith, l.invariant.0, c.loop-c-test.false) in
     λ d. rw e at l.invariant.1
 
-pub cells-fit-spec : {M : Type 1} → statement M
-cells-fit-spec =
+pub cells_fit_spec : {M : Type 1} → statement M
+cells_fit_spec =
     tie.close
     (tie.spec invariant-loop decreases-loop (λ c. (zero-le, below_none _))
-    (λ c. turn-bytes c.loop-test.true (begun c).requires.0 (begun c).well-formed.1.0.1)
-    (λ c. let t = c.before in turn_in t.loop-test.true (begun t).requires.0)
-    (λ c. let t = c.before in turn-bytes t.loop-test.true (begun t).requires.1 (begun t).well-formed.1.1.0.1)
-    (λ c. let t = c.before.before in turn_in t.loop-test.true (begun t).requires.1)
-    (λ c. let t = c.before.before in turn-bytes t.loop-test.true (begun t).requires.2 (begun t).well-formed.1.1.1.0.1)
-    (λ c. let t = c.before.before.before in turn_in t.loop-test.true (begun t).requires.2)
+    (λ c. turn-bytes c.loop-c-test.true (begun c).requires.0 (begun c).well_formed.1.0.1)
+    (λ c. let t = c.before in turn_in t.loop-c-test.true (begun t).requires.0)
+    (λ c. let t = c.before in turn-bytes t.loop-c-test.true (begun t).requires.1 (begun t).well_formed.1.1.0.1)
+    (λ c. let t = c.before.before in turn_in t.loop-c-test.true (begun t).requires.1)
+    (λ c. let t = c.before.before in turn-bytes t.loop-c-test.true (begun t).requires.2 (begun t).well_formed.1.1.1.0.1)
+    (λ c. let t = c.before.before.before in turn_in t.loop-c-test.true (begun t).requires.2)
     (search rules) (λ c e. absurd (true≢false (sym e)))
-    (λ c. let t = c.before.before.before.before.before in turn-next t.loop-test.true (begun t).requires.0 (begun t).well-formed.1.0.0)
-    (λ c. turn-less c.before.before.before.before.before.loop-test.true) loop-again returns-2)
+    (λ c. let t = c.before.before.before.before.before in turn-next t.loop-c-test.true (begun t).requires.0 (begun t).well_formed.1.0.0)
+    (λ c. turn-less c.before.before.before.before.before.loop-c-test.true) loop-again returns-2)

@@ -16,8 +16,8 @@ firsts-requires : tie.Need-firsts-requires
 firsts-requires c κs =
     let n = c.before.before.before in
     let s = start n in (
-      (faces-lent _ _ _ s.args.part _ _ s.pre.0, s.pre.1),
-      ends-in _ _ _ s.args.part _ _ s.pre.0 _ (numbers-long _ _ _ s.args.part _ _ s.pre.0 _ _ (omega arith) n.numbers.ensures),
+      (faces-lent _ _ _ s.args.part _ _ s.requires.0, s.requires.1),
+      ends-in _ _ _ s.args.part _ _ s.requires.0 _ (numbers-long _ _ _ s.args.part _ _ s.requires.0 _ _ (omega arith) n.numbers.ensures),
     )
 
 returns : tie.Need-returns
@@ -27,8 +27,8 @@ returns c =
     let s = start n in (
       k.firsts.ensures.0,
       k.firsts.ensures.1 ∙ ap (λ (xs : List ℕ). over xs s.args.out.now)
-          (firsts-are _ _ _ s.args.part _ _ s.pre.0 _ _ (omega arith) n.numbers.ensures),
+          (firsts-are _ _ _ s.args.part _ _ s.requires.0 _ _ (omega arith) n.numbers.ensures),
     )
 
-pub firsts-spec : {M : Type 1} → statement M
-firsts-spec = tie.close (tie.spec (search rules) (search rules) (search rules) firsts-requires (search rules) returns)
+pub firsts_spec : {M : Type 1} → statement M
+firsts_spec = tie.close (tie.spec (search rules) (search rules) (search rules) firsts-requires (search rules) returns)

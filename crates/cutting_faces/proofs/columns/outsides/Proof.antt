@@ -9,7 +9,7 @@ use Rattle.cutting_faces.proofs.Numbered.{faces-lent, ends-in, q-long, outsides-
 use Rattle.cutting_faces.proofs.columns.outsides.Statement.{statement}
 use Rattle.cutting_faces.proofs.columns.outsides.Tie as tie
 
-abbrev begun : tie.After-table → tie.Start
+abbrev begun : tie.After-table-1 → tie.Start
 begun c = c.before.before.before.before.before.before.before.before.before
 
 abbrev start : tie.After-concentrations → tie.Start
@@ -18,18 +18,18 @@ start c = begun c.before
 concentrations-requires : tie.Need-concentrations-requires
 concentrations-requires c κs =
     let s = begun c in
-    let g = s.pre.1.0 in
-    ((g.volumes_long, g.masses_long, g.releases_long, omega (arith, s.pre.0.0.few)), λ i h. (g.some_volume i h, g.small i h))
+    let g = s.requires.1.0 in
+    ((g.volumes_long, g.masses_long, g.releases_long, omega (arith, s.requires.0.0.few)), λ i h. (g.some_volume i h, g.small i h))
 
 outsides-requires : tie.Need-outsides-requires
 outsides-requires c κs =
     let n = c.before.before.before in
     let s = start n in (
-      (faces-lent _ _ _ s.args.part _ _ s.pre.0.0, s.pre.0.1),
+      (faces-lent _ _ _ s.args.part _ _ s.requires.0.0, s.requires.0.1),
       (
-        ends-in _ _ _ s.args.part _ _ s.pre.0.0 _ (q-long _ _ _ s.args.part _ _ s.pre.0.0 s.args.volumes.now s.args.masses.now
+        ends-in _ _ _ s.args.part _ _ s.requires.0.0 _ (q-long _ _ _ s.args.part _ _ s.requires.0.0 s.args.volumes.now s.args.masses.now
             s.args.releases.now _ _ (omega arith) n.concentrations.ensures),
-        s.pre.1.1,
+        s.requires.1.1,
       ),
     )
 
@@ -40,9 +40,9 @@ returns c =
     let s = start n in (
       k.outsides.ensures.0,
       k.outsides.ensures.1 ∙ ap (λ (xs : List ℕ). over xs s.args.out.now)
-          (outsides-are _ _ _ s.args.part _ _ s.pre.0.0 s.args.volumes.now s.args.masses.now s.args.releases.now _ _ (omega arith)
+          (outsides-are _ _ _ s.args.part _ _ s.requires.0.0 s.args.volumes.now s.args.masses.now s.args.releases.now _ _ (omega arith)
           n.concentrations.ensures s.args.amounts.now s.args.values.now),
     )
 
-pub outsides-spec : {M : Type 1} → statement M
-outsides-spec = tie.close (tie.spec (search rules) concentrations-requires (search rules) outsides-requires (search rules) returns)
+pub outsides_spec : {M : Type 1} → statement M
+outsides_spec = tie.close (tie.spec (search rules) concentrations-requires (search rules) outsides-requires (search rules) returns)

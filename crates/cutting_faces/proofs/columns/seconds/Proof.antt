@@ -16,8 +16,8 @@ seconds-requires : tie.Need-seconds-requires
 seconds-requires c κs =
     let n = c.before.before.before in
     let s = start n in (
-      (faces-lent _ _ _ s.args.part _ _ s.pre.0, s.pre.1),
-      ends-in _ _ _ s.args.part _ _ s.pre.0 _ (numbers-long _ _ _ s.args.part _ _ s.pre.0 _ _ (omega arith) n.numbers.ensures),
+      (faces-lent _ _ _ s.args.part _ _ s.requires.0, s.requires.1),
+      ends-in _ _ _ s.args.part _ _ s.requires.0 _ (numbers-long _ _ _ s.args.part _ _ s.requires.0 _ _ (omega arith) n.numbers.ensures),
     )
 
 returns : tie.Need-returns
@@ -27,8 +27,8 @@ returns c =
     let s = start n in (
       k.seconds.ensures.0,
       k.seconds.ensures.1 ∙ ap (λ (xs : List ℕ). over xs s.args.out.now)
-          (seconds-are _ _ _ s.args.part _ _ s.pre.0 _ _ (omega arith) n.numbers.ensures),
+          (seconds-are _ _ _ s.args.part _ _ s.requires.0 _ _ (omega arith) n.numbers.ensures),
     )
 
-pub seconds-spec : {M : Type 1} → statement M
-seconds-spec = tie.close (tie.spec (search rules) (search rules) (search rules) seconds-requires (search rules) returns)
+pub seconds_spec : {M : Type 1} → statement M
+seconds_spec = tie.close (tie.spec (search rules) (search rules) (search rules) seconds-requires (search rules) returns)

@@ -13,84 +13,84 @@ use Rattle.cutting_pieces.proofs.Turns.{count-start, count_turn, picked-start, p
 use Rattle.cutting_faces.proofs.faces.firsts.Statement.{statement}
 use Rattle.cutting_faces.proofs.faces.firsts.Tie as tie
 
-abbrev invariant-loop : tie.invariant-loop
+abbrev invariant-loop : tie.invariant-loop-f
 invariant-loop faces part labels numbers firsts seconds out₀ at₀ f₀ out at f = (f ≤ faces) × (at ≡ count f (touching_at labels part firsts seconds))
     × (out ≡ over (picked f (touching_at labels part firsts seconds) (number_at labels part firsts seconds numbers)) out₀)
 
-abbrev decreases-loop : tie.decreases-loop
+abbrev decreases-loop : tie.decreases-loop-f
 decreases-loop faces part labels numbers firsts seconds out₀ at₀ f₀ out at f = faces - f
 
-abbrev start : tie.In-loop invariant-loop decreases-loop → tie.Start invariant-loop decreases-loop
+abbrev start : tie.In-loop-f invariant-loop decreases-loop → tie.Start invariant-loop decreases-loop
 start c = c.before.before.before.before.before.before.before
 
 -- a face's place in bytes, of whichever table
-in_bytes : (t : tie.In-loop invariant-loop decreases-loop) → Fits w64 (t.before.loop.f * 8)
-in_bytes t = turn-bytes t.loop-test.true (start t).requires.0.0.firsts_long (start t).well-formed.1.1.1.1.0.1
+in_bytes : (t : tie.In-loop-f invariant-loop decreases-loop) → Fits w64 (t.before.loop-f.f * 8)
+in_bytes t = turn-bytes t.loop-f-test.true (start t).requires.0.0.firsts_long (start t).well_formed.1.1.1.1.0.1
 
 -- the turn, from where its face was found to touch the part or not, and from where its entry was kept
-abbrev begun : tie.After-touches invariant-loop decreases-loop → tie.In-loop invariant-loop decreases-loop
+abbrev begun : tie.After-touches-marked invariant-loop decreases-loop → tie.In-loop-f invariant-loop decreases-loop
 begun c = c.before.before.before
 
-abbrev found : tie.After-keep invariant-loop decreases-loop → tie.After-touches invariant-loop decreases-loop
+abbrev found : tie.After-keep-at invariant-loop decreases-loop → tie.After-touches-marked invariant-loop decreases-loop
 found c = c.before.before.before
 
-abbrev found_before : tie.After-keep-arg invariant-loop decreases-loop → tie.After-touches invariant-loop decreases-loop
+abbrev found_before : tie.After-keep-arg-1 invariant-loop decreases-loop → tie.After-touches-marked invariant-loop decreases-loop
 found_before c = c.before.before
 
-abbrev ended : tie.After-loop invariant-loop decreases-loop → tie.Start invariant-loop decreases-loop
+abbrev ended : tie.After-loop-f invariant-loop decreases-loop → tie.Start invariant-loop decreases-loop
 ended c = c.before.before.before.before.before.before.before
 
-touches-requires : tie.Need-touches-requires invariant-loop decreases-loop
+touches-requires : tie.Need-touches-marked-requires invariant-loop decreases-loop
 touches-requires c κs =
     let t = c.before.before in
     let s = start t in
-    (s.pre.0.0.first-in t.before.loop.f t.loop-test.true, s.pre.0.0.second_in t.before.loop.f t.loop-test.true)
+    (s.requires.0.0.first-in t.before.loop-f.f t.loop-f-test.true, s.requires.0.0.second_in t.before.loop-f.f t.loop-f-test.true)
 
-near-number-requires : tie.Need-near-number-requires invariant-loop decreases-loop
+near-number-requires : tie.Need-near_number-entry-requires invariant-loop decreases-loop
 near-number-requires c κs =
     let t = begun c in
     let s = start t in
-    let f = t.before.loop.f in
-    let h = t.loop-test.taken in
-    (s.pre.0.0.first-in f h, s.pre.1.first_there f h, s.pre.1.second_there f h)
+    let f = t.before.loop-f.f in
+    let h = t.loop-f-test.true in
+    (s.requires.0.0.first-in f h, s.requires.1.first_there f h, s.requires.1.second_there f h)
 
-keep-requires : tie.Need-keep-requires invariant-loop decreases-loop
+keep-requires : tie.Need-keep-at-requires invariant-loop decreases-loop
 keep-requires c κs m =
     let t = begun (found_before c) in
     let s = start t in
-    let l = t.before.loop in
-    room _ _ _ _ l.inv.2 t.loop-test.taken s.pre.0.1 l.inv.1
+    let l = t.before.loop-f in
+    room _ _ _ _ l.invariant.2 t.loop-f-test.true s.requires.0.1 l.invariant.1
 
-add-f : tie.Need-overflow-add-f invariant-loop decreases-loop
+add-f : tie.Need-overflow_add-f invariant-loop decreases-loop
 add-f c = let t = begun (found c.before.before) in let s = start t in
-    turn-next t.loop-test.taken s.pre.0.0.firsts_long s.good.1.1.1.1.0.0
+    turn-next t.loop-f-test.true s.requires.0.0.firsts_long s.well_formed.1.1.1.1.0.0
 
-loop-again : tie.Need-loop-preserved invariant-loop decreases-loop
+loop-again : tie.Need-loop-f-preserved invariant-loop decreases-loop
 loop-again c =
     let k = c.before.before in
     let m = found k in
     let t = begun m in
-    let l = t.before.loop in
+    let l = t.before.loop-f in
     let s = start t in (
-      turn-within t.loop-test.taken,
-      count_turn _ _ l.inv.1 m.touches.ensures k.keep.ensures.0,
-      picked-turn _ _ s.args.out.now (0) l.f l.at _ (turn_in t.loop-test.taken s.pre.0.1) l.inv.1 m.touches.ensures
-          k.before.before.near-number.ensures l.inv.2 k.keep.ensures.1,
+      turn-within t.loop-f-test.true,
+      count_turn _ _ l.invariant.1 m.touches-marked.ensures k.keep-at.ensures.0,
+      picked-turn _ _ s.args.out.now (0) l.f l.at _ (turn_in t.loop-f-test.true s.requires.0.1) l.invariant.1 m.touches-marked.ensures
+          k.before.before.near_number-entry.ensures l.invariant.2 k.keep-at.ensures.1,
     )
 
-same_length : tie.Need-same-length invariant-loop decreases-loop
-same_length c = let l = c.before.loop in as_long _ _ _ _ l.invariant.2 (le_trans l.invariant.0 (ended c).requires.0.1)
+same_length : tie.Need-shape_of-out invariant-loop decreases-loop
+same_length c = let l = c.before.loop-f in as_long _ _ _ _ l.invariant.2 (le_trans l.invariant.0 (ended c).requires.0.1)
 
 returns : tie.Need-returns invariant-loop decreases-loop
 returns c =
-    let l = c.before.loop in
-    let e : l.f ≡ (ended c).args.faces = omega (arith, l.invariant.0, c.loop-test.false) in
+    let l = c.before.loop-f in
+    let e : l.f ≡ (ended c).args.faces = omega (arith, l.invariant.0, c.loop-f-test.false) in
     (rw e at l.invariant.1, rw e at l.invariant.2)
 
-pub firsts-spec : {M : Type 1} → statement M
-firsts-spec =
+pub firsts_spec : {M : Type 1} → statement M
+firsts_spec =
     tie.close
     (tie.spec invariant-loop decreases-loop (λ c. (zero-le, sym (count-start _), picked-start _ _ _)) (λ c. in_bytes c)
-    (λ c. let t = c.before in turn_in t.loop-test.true (start t).requires.0.0.firsts_long)
-    (λ c. in_bytes c.before) (λ c. let t = c.before.before in turn_in t.loop-test.true (start t).requires.0.0.seconds_long) touches-requires
-    near-number-requires keep-requires add-f (λ c. turn-less (begun (found c.before.before)).loop-test.taken) loop-again same_length returns)
+    (λ c. let t = c.before in turn_in t.loop-f-test.true (start t).requires.0.0.firsts_long)
+    (λ c. in_bytes c.before) (λ c. let t = c.before.before in turn_in t.loop-f-test.true (start t).requires.0.0.seconds_long) touches-requires
+    near-number-requires keep-requires add-f (λ c. turn-less (begun (found c.before.before)).loop-f-test.true) loop-again same_length returns)

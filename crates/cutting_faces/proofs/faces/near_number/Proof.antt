@@ -3,16 +3,16 @@ use Rattle.cutting_pieces.proofs.Turns.{bytes}
 use Rattle.cutting_faces.proofs.faces.near_number.Statement.{statement}
 use Rattle.cutting_faces.proofs.faces.near_number.Tie as tie
 
-abbrev start : tie.After-is-in → tie.Start
+abbrev start : tie.After-is_in → tie.Start
 start c = c.before.before.before
 
-returns : tie.Need-returns
-returns c = let t = c.before in rw (sym t.before.is-in.ensures ∙ t.if1.true)
+returns : tie.Need-returns-then-is_in
+returns c = let t = c.before in rw (sym t.before.is_in.ensures ∙ t.if-is_in.true)
 
-returns-2 : tie.Need-returns-2
-returns-2 c = let t = c.before in rw (sym t.before.is-in.ensures ∙ t.if1.false)
+returns-2 : tie.Need-returns
+returns-2 c = let t = c.before in rw (sym t.before.is_in.ensures ∙ t.if-is_in.false)
 
-pub near-number-spec : {M : Type 1} → statement M
-near-number-spec = tie.close (tie.spec (λ c κs. c.before.before.requires.0)
-    (λ c. let s = start c.before in bytes s.pre.1 s.good.1.1.0.1) (λ c. (start c.before.before).requires.1) returns
-    (λ c. let s = start c.before in bytes s.pre.2 s.good.1.1.0.1) (λ c. (start c.before.before).requires.2) returns-2)
+pub near_number_spec : {M : Type 1} → statement M
+near_number_spec = tie.close (tie.spec (λ c κs. c.before.before.requires.0)
+    (λ c. let s = start c.before in bytes s.requires.1 s.well_formed.1.1.0.1) (λ c. (start c.before.before).requires.1) returns
+    (λ c. let s = start c.before in bytes s.requires.2 s.well_formed.1.1.0.1) (λ c. (start c.before.before).requires.2) returns-2)

@@ -12,78 +12,78 @@ mesh s = mesh_of s.args.cells s.args.faces s.args.volumes.now s.args.firsts.now 
     s.args.reaches.now
 
 -- from each call back to the one before: the field taken, the step taken, the next field written
-abbrev entered : tie.After-slice-known → tie.Start
+abbrev entered : tie.After-slice_known-1 → tie.Start
 entered c = c.before.before.before.before.before.before.before.before
 
-abbrev start : tie.After-take-field → tie.Start
+abbrev start : tie.After-take_field-a → tie.Start
 start f = entered f.before.before
 
-abbrev field_told : tie.After-take-step → tie.After-enum-told
+abbrev field_told : tie.After-take_step-b → tie.In_default
 field_told t = t.before.before.before
 
-abbrev fielded : tie.After-enum-told → tie.After-take-field
-fielded e = e.before.before.before
+abbrev fielded : tie.In_default → tie.After-take_field-a
+fielded e = e.before.before
 
-abbrev step-told : tie.After-write-field → tie.After-enum-told2
-step-told w = w.before.before.before
+abbrev step-told : tie.After-write_field-c → tie.In_default-b
+step-told w = w.before.before
 
-abbrev stepped : tie.After-enum-told2 → tie.After-take-step
-stepped e = e.before.before.before.before
+abbrev stepped : tie.In_default-b → tie.After-take_step-b
+stepped e = e.before.before.before
 
-returns : tie.Need-returns
+returns : tie.Need-returns-in-Refused
 returns c =
-    let f = c.before.before.before.before in
+    let f = c.before.before in
     let s = start f in
-    field_refused s.args.width (mesh s) s.args.field.now s.args.step.now s.args.bytes.now f.take-field.ensures refl
-    c.before.a.given.1
+    field_refused s.args.width (mesh s) s.args.field.now s.args.step.now s.args.bytes.now f.take_field-a.ensures refl
+    c.in-Refused.is
 
-array-borrow-prefix-masses : tie.Need-array-borrow-prefix-masses
+array-borrow-prefix-masses : tie.Need-slice_bounds-masses-end
 array-borrow-prefix-masses c =
     let f = fielded c in
     let s = start f in
-    (masses-part s.args.width (mesh s) s.args.field.now s.args.step.now s.args.bytes.now f.take-field.ensures refl
-    c.enum_told.given.1).fits
+    (masses-part s.args.width (mesh s) s.args.field.now s.args.step.now s.args.bytes.now f.take_field-a.ensures refl
+    c.in_default.is).fits
 
-slice-aggregate-counted : tie.Need-slice-aggregate-counted
+slice-aggregate-counted : tie.Need-slice_bounds-counted-end
 slice-aggregate-counted c =
     let f = fielded c.before in
     let s = start f in part-long
-    (masses-part s.args.width (mesh s) s.args.field.now s.args.step.now s.args.bytes.now f.take-field.ensures refl
-    c.before.enum_told.given.1)
+    (masses-part s.args.width (mesh s) s.args.field.now s.args.step.now s.args.bytes.now f.take_field-a.ensures refl
+    c.before.in_default.is)
 
-returns-2 : tie.Need-returns-2
+returns-2 : tie.Need-returns-in-Refused-b
 returns-2 c =
-    let t = c.before.before.before.before.before.before in
+    let t = c.before.before.before in
     let e = field_told t in
     let f = fielded e in
     let s = start f in
-    step-refused s.args.width (mesh s) s.args.field.now s.args.step.now s.args.bytes.now f.take-field.ensures refl
-    e.enum_told.given.1 t.take_step.ensures c.before.before.b.given.1
+    step-refused s.args.width (mesh s) s.args.field.now s.args.step.now s.args.bytes.now f.take_field-a.ensures refl
+    e.in_default.is t.take_step-b.ensures c.in-Refused-b.is
 
-returns-3 : tie.Need-returns-3
+returns-3 : tie.Need-returns-in-Refused-c
 returns-3 c =
-    let w = c.before.before.before.before.before.before in
+    let w = c.before.before.before.before in
     let d = step-told w in
     let t = stepped d in
     let e = field_told t in
     let f = fielded e in
     let s = start f in
-    no_room s.args.width (mesh s) s.args.field.now s.args.step.now s.args.bytes.now f.take-field.ensures refl
-    e.enum_told.given.1 t.take_step.ensures d.enum-told2.given.1 s.pre w.write-field.ensures c.before.c.given.1
+    no_room s.args.width (mesh s) s.args.field.now s.args.step.now s.args.bytes.now f.take_field-a.ensures refl
+    e.in_default.is t.take_step-b.ensures d.in_default-b.is s.requires w.write_field-c.ensures c.in-Refused-c.is
 
-returns-4 : tie.Need-returns-4
+returns-4 : tie.Need-returns
 returns-4 c =
-    let w = c.before.before.before.before.before in
+    let w = c.before.before.before.before in
     let d = step-told w in
     let t = stepped d in
     let e = field_told t in
     let f = fielded e in
     let s = start f in
-    written s.args.width (mesh s) s.args.field.now s.args.step.now s.args.bytes.now f.take-field.ensures refl
-    e.enum_told.given.1 t.take_step.ensures d.enum-told2.given.1 s.pre w.write-field.ensures c.enum-told3.given.1
+    written s.args.width (mesh s) s.args.field.now s.args.step.now s.args.bytes.now f.take_field-a.ensures refl
+    e.in_default.is t.take_step-b.ensures d.in_default-b.is s.requires w.write_field-c.ensures c.in_default-c.is
 
-pub on-mesh-spec : {M : Type 1} → statement M
-on-mesh-spec =
+pub on_mesh_spec : {M : Type 1} → statement M
+on_mesh_spec =
     tie.close
     (tie.spec (search rules) (search rules) (search rules) returns (search rules) array-borrow-prefix-masses slice-aggregate-counted
     (search rules) (search rules) returns-2 (search rules) (search rules) (search rules) (search rules) returns-3 (search rules) (search rules) returns-4)

@@ -4,11 +4,11 @@ use Rattle.model.proofs.Verdicts.{past, out, refuses, passes}
 use Rattle.model.proofs.needs.and_then.Statement.{statement}
 use Rattle.model.proofs.needs.and_then.Tie as tie
 
-returns : tie.Need-returns
-returns c = sym (out _ (refuses refl c.before.a.given.1))
+returns : tie.Need-returns-in-Refused
+returns c = sym (out _ (refuses refl c.in-Refused.is))
 
-returns-2 : tie.Need-returns-2
-returns-2 c = sym (past _ (passes refl c.enum_told.given.1))
+returns-2 : tie.Need-returns
+returns-2 c = sym (past _ (passes refl c.in_default.is))
 
-pub and-then-spec : {M : Type 1} → statement M
-and-then-spec = tie.close (tie.spec (search rules) returns (search rules) returns-2)
+pub and_then_spec : {M : Type 1} → statement M
+and_then_spec = tie.close (tie.spec (search rules) returns (search rules) returns-2)

@@ -3,11 +3,11 @@ use borrow.Author.Rules.{rules}
 use Rattle.record_causes.proofs.releases.release_end.Statement.{statement}
 use Rattle.record_causes.proofs.releases.release_end.Tie as tie
 
-returns : tie.Need-returns
-returns c = rw c.enum_told.given.1
+returns : tie.Need-returns-in-Narrow
+returns c = rw c.in-Narrow.is
 
-returns-2 : tie.Need-returns-2
-returns-2 c = rw c.enum-told2.given.1
+returns-2 : tie.Need-returns-in-Wide
+returns-2 c = rw c.in-Wide.is
 
-pub release-end-spec : {M : Type 1} → statement M
-release-end-spec = tie.close (tie.spec (search rules) (search rules) returns returns-2)
+pub release_end_spec : {M : Type 1} → statement M
+release_end_spec = tie.close (tie.spec (search rules) (search rules) returns returns-2)

@@ -27,12 +27,12 @@ unfolding release_bits mass_bits
 outfall-bits Narrow = refl
 outfall-bits Wide = refl
 
-returns : tie.Need-returns
-returns c = let s = c.before.before in rw (c.enum_told.given.1, water-bits s.args.width)
+returns : tie.Need-returns-in-Water
+returns c = let s = c.before in rw (c.in-Water.is, water-bits s.args.width)
     (none-but-zero s.args.release (same? s.args.release 0))
 
-returns-2 : tie.Need-returns-2
-returns-2 c = let told = c.before in let s = told.before.before in rw (told.enum-told2.given.1, outfall-bits s.args.width, c.release-end.ensures)
+returns-2 : tie.Need-returns-in-Outfalls
+returns-2 c = let told = c.before in let s = told.before in rw (told.in-Outfalls.is, outfall-bits s.args.width, c.release_end.ensures)
 
-pub release-fits-spec : {M : Type 1} → statement M
-release-fits-spec = tie.close (tie.spec (search rules) (search rules) (search rules) returns returns-2)
+pub release_fits_spec : {M : Type 1} → statement M
+release_fits_spec = tie.close (tie.spec (search rules) (search rules) (search rules) returns returns-2)

@@ -10,16 +10,16 @@ use Rattle.record_layouts.proofs.Layouts.{mass-of-most, field-mass}
 use Rattle.record_layouts.proofs.lengths.field_bytes.Statement.{statement}
 use Rattle.record_layouts.proofs.lengths.field_bytes.Tie as tie
 
-small : (c : tie.After-mass-width) → c.mass-width.result ≤ mass_width Wide
-small c = rw c.mass-width.ensures (mass-of-most c.before.args.width)
+small : (c : tie.After-mass_width) → c.mass_width.result ≤ mass_width Wide
+small c = rw c.mass_width.ensures (mass-of-most c.before.args.width)
 
-mul-bytes-for-2 : tie.Need-overflow-mul-bytes-for-2
+mul-bytes-for-2 : tie.Need-overflow_mul-cells
 mul-bytes-for-2 c = omega (arith, mul-le-mul c.before.requires (small c))
 
-add-bytes-for : tie.Need-overflow-add-bytes-for
+add-bytes-for : tie.Need-overflow_add-cells
 add-bytes-for c = omega (arith, mul-le-mul c.before.requires (small c))
 
-bytes-for-requires : tie.Need-bytes-for-requires
+bytes-for-requires : tie.Need-bytes_for-requires
 bytes-for-requires c κs = omega (arith, mul-le-mul c.before.requires (small c))
 
 returns : tie.Need-returns
@@ -27,9 +27,9 @@ unfolding field_length
 returns c =
     let m = c.before in
     let s = m.before in
-    let w : m.mass-width.result ≡ mass_bits (field_kind s.args.width) = m.mass-width.ensures ∙ sym (field-mass s.args.width) in
-    let e : 16 + s.args.cells * m.mass-width.result ≡ field_bits (field_kind s.args.width) s.args.cells = rw w (omega arith) in
-    rw (← e) c.bytes-for.ensures
+    let w : m.mass_width.result ≡ mass_bits (field_kind s.args.width) = m.mass_width.ensures ∙ sym (field-mass s.args.width) in
+    let e : 16 + s.args.cells * m.mass_width.result ≡ field_bits (field_kind s.args.width) s.args.cells = rw w (omega arith) in
+    rw (← e) c.bytes_for.ensures
 
-pub field-bytes-spec : {M : Type 1} → statement M
-field-bytes-spec = tie.close (tie.spec (search rules) (search rules) mul-bytes-for-2 add-bytes-for bytes-for-requires returns)
+pub field_bytes_spec : {M : Type 1} → statement M
+field_bytes_spec = tie.close (tie.spec (search rules) (search rules) mul-bytes-for-2 add-bytes-for bytes-for-requires returns)

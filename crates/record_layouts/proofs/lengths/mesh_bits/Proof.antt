@@ -10,28 +10,28 @@ use Rattle.record_layouts.proofs.Layouts.{value-of-most, mesh-value}
 use Rattle.record_layouts.proofs.lengths.mesh_bits.Statement.{statement}
 use Rattle.record_layouts.proofs.lengths.mesh_bits.Tie as tie
 
-small : (c : tie.After-value-width) → c.value-width.result ≤ value_of Wide
-small c = rw c.value-width.ensures (value-of-most c.before.args.width)
+small : (c : tie.After-value_width-value) → c.value_width-value.result ≤ value_of Wide
+small c = rw c.value_width-value.ensures (value-of-most c.before.args.width)
 
-mul-result-2 : tie.Need-overflow-mul-result-2
+mul-result-2 : tie.Need-overflow_mul-result-2
 mul-result-2 c = omega (arith, mul-le-mul c.before.requires.0 (small c))
 
-add-result : tie.Need-overflow-add-result
+add-result : tie.Need-overflow_add-result
 add-result c = omega (arith, mul-le-mul c.before.requires.0 (small c))
 
-add-result-2 : tie.Need-overflow-add-result-2
+add-result-2 : tie.Need-overflow_add-result-2
 add-result-2 c = omega (arith, small c)
 
-mul-result-3 : tie.Need-overflow-mul-result-3
+mul-result-3 : tie.Need-overflow_mul-result-3
 mul-result-3 c = omega (arith, mul-le-mul c.before.requires.1 (small c), c.before.requires.1)
 
-add-result-3 : tie.Need-overflow-add-result-3
+add-result-3 : tie.Need-overflow_add-result-3
 add-result-3 c = omega (arith, mul-le-mul c.before.requires.0 (small c), mul-le-mul c.before.requires.1 (small c), c.before.requires.1)
 
 returns : tie.Need-returns
 returns c =
-    let e : c.value-width.result ≡ value_bits (mesh_kind c.before.args.width) = c.value-width.ensures ∙ sym (mesh-value c.before.args.width) in
+    let e : c.value_width-value.result ≡ value_bits (mesh_kind c.before.args.width) = c.value_width-value.ensures ∙ sym (mesh-value c.before.args.width) in
     rw e (omega arith)
 
-pub mesh-bits-spec : {M : Type 1} → statement M
-mesh-bits-spec = tie.close (tie.spec (search rules) (search rules) mul-result-2 add-result add-result-2 mul-result-3 add-result-3 returns)
+pub mesh_bits_spec : {M : Type 1} → statement M
+mesh_bits_spec = tie.close (tie.spec (search rules) (search rules) mul-result-2 add-result add-result-2 mul-result-3 add-result-3 returns)

@@ -18,11 +18,11 @@ unfolding release_bits mass_bits
 all Narrow = refl
 all Wide = refl
 
-returns : tie.Need-returns
-returns c = rw c.enum_told.given.1 (sym (none c.before.before.args.width))
+returns : tie.Need-returns-in-Water
+returns c = rw c.in-Water.is (sym (none c.before.args.width))
 
-returns-2 : tie.Need-returns-2
-returns-2 c = rw c.before.enum-told2.given.1 (c.mass-width.ensures ∙ sym (all c.before.before.before.args.width))
+returns-2 : tie.Need-returns-in-Outfalls
+returns-2 c = rw c.before.in-Outfalls.is (c.mass_width.ensures ∙ sym (all c.before.before.args.width))
 
-pub release-width-spec : {M : Type 1} → statement M
-release-width-spec = tie.close (tie.spec (search rules) (search rules) (search rules) returns returns-2)
+pub release_width_spec : {M : Type 1} → statement M
+release_width_spec = tie.close (tie.spec (search rules) (search rules) (search rules) returns returns-2)

@@ -7,25 +7,25 @@ use Rattle.record_reading.specs.Reading.{field_read}
 use Rattle.record_reading.proofs.verdicts.field.Statement.{statement}
 use Rattle.record_reading.proofs.verdicts.field.Tie as tie
 
-returns : tie.Need-returns
+returns : tie.Need-returns-in-Refused
 unfolding field_read
 returns c =
-    let p1 = c.before in
-    let p2 = p1.before.before in
-    sym (out _ (refuses p2.field.ensures p1.a.given.1))
+    let p1 = c in
+    let p2 = p1.before in
+    sym (out _ (refuses p2.field-a.ensures p1.in-Refused.is))
 
-field-body-requires : tie.Need-field-body-requires
+field-body-requires : tie.Need-field_body-requires
 field-body-requires c κs =
-    let p1 = c.before.before in
-    let h = field-head-says _ _ _ (passes p1.field.ensures c.enum_told.given.1) in
+    let p1 = c.before in
+    let h = field-head-says _ _ _ (passes p1.field-a.ensures c.in_default.is) in
     (h.few_cells, sym h.kind)
 
-returns-2 : tie.Need-returns-2
+returns-2 : tie.Need-returns
 unfolding field_read
 returns-2 c =
     let p1 = c.before in
-    let p2 = p1.before.before in
-    c.field-body.ensures ∙ sym (past _ (passes p2.field.ensures p1.enum_told.given.1))
+    let p2 = p1.before in
+    c.field_body.ensures ∙ sym (past _ (passes p2.field-a.ensures p1.in_default.is))
 
-pub field-spec : {M : Type 1} → statement M
-field-spec = tie.close (tie.spec (search rules) (search rules) returns (search rules) field-body-requires returns-2)
+pub field_spec : {M : Type 1} → statement M
+field_spec = tie.close (tie.spec (search rules) (search rules) returns (search rules) field-body-requires returns-2)

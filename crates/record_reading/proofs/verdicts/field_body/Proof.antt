@@ -6,7 +6,7 @@ use Rattle.record_reading.proofs.verdicts.field_body.Tie as tie
 
 returns : tie.Need-returns
 unfolding field_body_verdict
-returns c = rw (c.then-long.ensures, c.before.need.ensures, c.before.before.field-bytes.ensures, c.before.before.before.before.requires.1)
+returns c = rw (c.then_long.ensures, c.before.need-a.ensures, c.before.before.field_bytes.ensures, c.before.before.before.before.requires.1)
 
-pub field-body-spec : {M : Type 1} → statement M
-field-body-spec = tie.close (tie.spec (search rules) (search rules) (search rules) returns)
+pub field_body_spec : {M : Type 1} → statement M
+field_body_spec = tie.close (tie.spec (search rules) (search rules) (search rules) returns)

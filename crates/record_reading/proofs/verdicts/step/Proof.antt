@@ -9,43 +9,43 @@ use Rattle.record_reading.specs.Reading.{step_read}
 use Rattle.record_reading.proofs.verdicts.step.Statement.{statement}
 use Rattle.record_reading.proofs.verdicts.step.Tie as tie
 
-returns : tie.Need-returns
+returns : tie.Need-returns-in-Refused
 unfolding step_read
 returns c =
-    let p1 = c.before in
-    let p2 = p1.before.before in
-    sym (out _ (refused-at [] (_ ∷ []) tt (refuses p2.step.ensures p1.a.given.1)))
+    let p1 = c in
+    let p2 = p1.before in
+    sym (out _ (refused-at [] (_ ∷ []) tt (refuses p2.step-a.ensures p1.in-Refused.is)))
 
-step-kind-requires : tie.Need-step-kind-requires
+step-kind-requires : tie.Need-step_kind-kind-requires
 step-kind-requires c κs =
-    let h = step-head-says _ _ _ _ _ (passes c.before.before.step.ensures c.enum_told.given.1) in
+    let h = step-head-says _ _ _ _ _ (passes c.before.step-a.ensures c.in_default.is) in
     (omega (arith, h.long), h.kind)
 
-step-body-requires : tie.Need-step-body-requires
+step-body-requires : tie.Need-step_body-b-requires
 step-body-requires c κs =
     let p1 = c.before in
-    let h = step-head-says _ _ _ _ _ (passes p1.before.before.step.ensures p1.enum_told.given.1) in
-    (c.step_kind.ensures, h.few_cells, h.few_faces, h.lent)
+    let h = step-head-says _ _ _ _ _ (passes p1.before.step-a.ensures p1.in_default.is) in
+    (c.step_kind-kind.ensures, h.few_cells, h.few_faces, h.lent)
 
-returns-2 : tie.Need-returns-2
+returns-2 : tie.Need-returns-in-Refused-b
 unfolding step_read
 returns-2 c =
-    let p1 = c.before in
-    let p2 = p1.before.before in
+    let p1 = c in
+    let p2 = p1.before in
     let p3 = p2.before.before in
-    sym (out _ (refused-at (_ ∷ []) [] (passes p3.before.before.step.ensures p3.enum_told.given.1, tt)
-    (refuses p2.step-body.ensures p1.b.given.1)))
+    sym (out _ (refused-at (_ ∷ []) [] (passes p3.before.step-a.ensures p3.in_default.is, tt)
+    (refuses p2.step_body-b.ensures p1.in-Refused-b.is)))
 
-returns-3 : tie.Need-returns-3
+returns-3 : tie.Need-returns
 unfolding step_read
 returns-3 c =
-    let p1 = c.before.before in
+    let p1 = c.before in
     let p2 = p1.before in
     let p3 = p2.before in
-    rw p2.step_kind.ensures
+    rw p2.step_kind-kind.ensures
     (sym (past _ (fine-all (_ ∷ _ ∷ []) (
-      passes p3.before.before.step.ensures p3.enum_told.given.1,
-      (passes p1.step-body.ensures c.enum-told2.given.1, tt),
+      passes p3.before.step-a.ensures p3.in_default.is,
+      (passes p1.step_body-b.ensures c.in_default-b.is, tt),
     ))))
 
 pub step_spec : {M : Type 1} → statement M

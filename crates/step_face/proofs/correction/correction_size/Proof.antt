@@ -12,5 +12,5 @@ returns c =
     let s = c.before in
     rw (c.size.ensures, to_z-of_z w64 s.args.product s.ranges.product) (div-div-eq-div-mul (size s.args.product) 256 s.args.reach)
 
-pub correction-size-spec : {M : Type 1} → statement M
-correction-size-spec = tie.close (tie.spec (search rules) (search rules) returns)
+pub correction_size_spec : {M : Type 1} → statement M
+correction_size_spec = tie.close (tie.spec (search rules) (search rules) returns)

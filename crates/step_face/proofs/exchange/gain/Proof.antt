@@ -7,8 +7,8 @@ use Rattle.step_face.proofs.exchange.gain.Tie as tie
 returns : tie.Need-returns
 returns c = let s = c.before in one-gained s.args.next.now s.args.receiver s.args.amount (s.requires.1, s.requires.2)
 
-pub gain-spec : {M : Type 1} → statement M
-gain-spec =
+pub gain_spec : {M : Type 1} → statement M
+gain_spec =
     tie.close
     (tie.spec (λ c. cell-bytes c.requires.1 c.requires.0) (λ c. c.before.requires.1) (λ c. record { fits = c.before.requires.2 })
     (λ c. cell-bytes c.before.requires.1 c.before.requires.0)

@@ -7,17 +7,17 @@ returns : tie.Need-returns
 returns c =
     let half = c.before.before.before.before in
     rw (
-      c.and-then4.ensures,
-      c.before.long5.ensures,
-      c.before.before.and-then3.ensures,
-      c.before.before.before.long4.ensures,
-      half.and-then2.ensures,
-      half.before.long3.ensures,
-      half.before.before.and_then.ensures,
-      half.before.before.before.long2.ensures,
-      half.before.before.before.before.long.ensures,
+      c.and_then.ensures,
+      c.before.long-4.ensures,
+      c.before.before.and_then-d.ensures,
+      c.before.before.before.long-3.ensures,
+      half.and_then-c.ensures,
+      half.before.long-2.ensures,
+      half.before.before.and_then-b.ensures,
+      half.before.before.before.long.ensures,
+      half.before.before.before.before.long-a.ensures,
     )
 
-pub holds-spec : {M : Type 1} → statement M
-holds-spec = tie.close (tie.spec (search rules) (search rules) (search rules) (search rules) (search rules) (search rules) (search rules) (search rules)
+pub holds_spec : {M : Type 1} → statement M
+holds_spec = tie.close (tie.spec (search rules) (search rules) (search rules) (search rules) (search rules) (search rules) (search rules) (search rules)
     (search rules) returns)

@@ -16,10 +16,10 @@ use Rattle.taking_mesh.proofs.MeshLaws.{kept-refused, kept-accepted}
 use Rattle.taking_mesh.proofs.mesh.keep.Statement.{statement}
 use Rattle.taking_mesh.proofs.mesh.keep.Tie as tie
 
-abbrev entered : tie.After-slice-known → tie.Start
+abbrev entered : tie.After-slice_known-1 → tie.Start
 entered c = c.before.before.before.before.before.before
 
-abbrev start : tie.After-and-then → tie.Start
+abbrev start : tie.After-and_then-found → tie.Start
 start c = entered c.before.before.before.before.before.before.before
 
 -- the mesh that was read, and the lent tables
@@ -31,45 +31,45 @@ abbrev lent : tie.Start → Mesh
 lent s = mesh_of run_cells run_faces s.args.volumes.now s.args.firsts.now s.args.seconds.now s.args.shares.now
     s.args.reaches.now
 
-found : (c : tie.After-and-then) → let s = start c in said c.and_then.result ≡ kept_found (lent s) (read s)
+found : (c : tie.After-and_then-found) → let s = start c in said c.and_then-found.result ≡ kept_found (lent s) (read s)
 unfolding mesh_tables
-found c = rw (c.and_then.ensures, c.before.before.holds.ensures, c.before.check-mesh.ensures)
+found c = rw (c.and_then-found.ensures, c.before.before.holds-held.ensures, c.before.check_mesh-judged.ensures)
 
-returns : tie.Need-returns
+returns : tie.Need-returns-in-Refused
 returns c =
-    let d = c.before.before.before in
+    let d = c.before in
     let s = start d in
     kept-refused s.args.width (read s) (lent s) _ _ _
-    (sym (found d) ∙ ap said c.before.found.given.1) refl
+    (sym (found d) ∙ ap said c.in-Refused.is) refl
 
 -- nothing was found, so the lent tables hold the mesh
-passes : (c : tie.After-enum-told) → let s = start c.before.before in kept_found (lent s) (read s) ≡ fine
-passes c = sym (found c.before.before) ∙ ap said c.enum_told.given.1
+passes : (c : tie.In_default) → let s = start c.before in kept_found (lent s) (read s) ≡ fine
+passes c = sym (found c.before) ∙ ap said c.in_default.is
 
 -- so each column fits into its table
-held : (c : tie.After-enum-told) → let s = start c.before.before in MeshLent (at_counts (read s) (lent s))
-held c = let s = start c.before.before in mesh_lent (at_counts (read s) (lent s)) (both-fine _ _ (passes c)).0
+held : (c : tie.In_default) → let s = start c.before in MeshLent (at_counts (read s) (lent s))
+held c = let s = start c.before in mesh_lent (at_counts (read s) (lent s)) (both-fine _ _ (passes c)).0
 
-cut : (c : tie.After-enum-told) → MeshCut (read (start c.before.before))
-cut c = (start c.before.before).requires
+cut : (c : tie.In_default) → MeshCut (read (start c.before))
+cut c = (start c.before).requires
 
 fits : {m n k : ℕ} → n ≡ m → n ≤ k → m ≤ k
 fits e l = omega (arith, e, l)
 
 -- from each copy back to the one before
-abbrev volumes : tie.After-copy2 → tie.After-copy
+abbrev volumes : tie.After-copy-2 → tie.After-copy
 volumes c = c.before.before.before.before
 
-abbrev firsts : tie.After-copy3 → tie.After-copy2
+abbrev firsts : tie.After-copy-3 → tie.After-copy-2
 firsts c = c.before.before.before.before
 
-abbrev seconds : tie.After-copy4 → tie.After-copy3
+abbrev seconds : tie.After-copy-4 → tie.After-copy-3
 seconds c = c.before.before.before.before
 
-abbrev shares : tie.After-copy5 → tie.After-copy4
+abbrev shares : tie.After-copy-5 → tie.After-copy-4
 shares c = c.before.before.before.before
 
-abbrev told : tie.After-copy → tie.After-enum-told
+abbrev told : tie.After-copy → tie.In_default
 told c = c.before.before
 
 copy-requires : tie.Need-copy-requires
@@ -88,31 +88,31 @@ copy-requires-5 : tie.Need-copy-requires-5
 copy-requires-5 c κs = let t = told (volumes (firsts (seconds c.before.before.before))) in fits (cut t).reaches_cut (held t).reaches_long
 
 -- each table is as long as it was: what was left of it stands right after its copy
-same_length : tie.Need-same-length
-same_length c = (firsts (seconds (shares c.before.before))).before.before.before.volumes.given
+same_length : tie.Need-shape_of-volumes
+same_length c = (firsts (seconds (shares c.before.before))).before.before.before.volumes-1.given
 
-same-length-2 : tie.Need-same-length-2
-same-length-2 c = (seconds (shares c.before.before)).before.before.before.firsts.given
+same-length-2 : tie.Need-shape_of-firsts
+same-length-2 c = (seconds (shares c.before.before)).before.before.before.firsts-1.given
 
-same-length-3 : tie.Need-same-length-3
-same-length-3 c = (shares c.before.before).before.before.before.seconds.given
+same-length-3 : tie.Need-shape_of-seconds
+same-length-3 c = (shares c.before.before).before.before.before.seconds-1.given
 
-same-length-4 : tie.Need-same-length-4
-same-length-4 c = c.before.before.before.before.before.shares.given
+same-length-4 : tie.Need-shape_of-shares
+same-length-4 c = c.before.before.before.before.before.shares-1.given
 
-same-length-5 : tie.Need-same-length-5
-same-length-5 c = c.before.reaches.given
+same-length-5 : tie.Need-shape_of-reaches
+same-length-5 c = c.before.reaches-1.given
 
-returns-2 : tie.Need-returns-2
+returns-2 : tie.Need-returns
 returns-2 c =
     let r = c.before.before in
     let w = shares r in
     let k = seconds w in
     let f = firsts k in
     let v = volumes f in
-    let s = start (told v).before.before in
+    let s = start (told v).before in
     kept-accepted s.args.width (read s) (lent s) (passes (told v))
-    (laid-over (read s) (lent s) v.copy.ensures f.copy2.ensures k.copy3.ensures w.copy4.ensures r.copy5.ensures)
+    (laid-over (read s) (lent s) v.copy.ensures f.copy-2.ensures k.copy-3.ensures w.copy-4.ensures r.copy-5.ensures)
 
 pub keep_spec : {M : Type 1} → statement M
 keep_spec =

@@ -7,72 +7,72 @@ use Rattle.taking_records.proofs.field.take_field.Statement.{statement}
 use Rattle.taking_records.proofs.field.take_field.Tie as tie
 
 -- where reading's answer and the length of the masses are joined: the start and the reading from there, and that from where it is known to pass
-abbrev start : tie.After-and-then → tie.Start
+abbrev start : tie.After-and_then-found → tie.Start
 start d = d.before.before.before.before.before.before.before.before
 
-abbrev reading : tie.After-and-then → tie.After-read-field
+abbrev reading : tie.After-and_then-found → tie.After-read_field-answer
 reading d = d.before.before.before
 
-abbrev joined : tie.After-enum-told → tie.After-and-then
-joined e = e.before.before
+abbrev joined : tie.In_default → tie.After-and_then-found
+joined e = e.before
 
 -- from the total to where reading is known to pass
-abbrev told : tie.After-total → tie.After-enum-told
+abbrev told : tie.After-total-judged → tie.In_default
 told t = t.before.before
 
-returns : tie.Need-returns
+returns : tie.Need-returns-in-Refused
 returns c =
-    let d = c.before.before.before in
+    let d = c.before in
     let s = start d in
-    field-unread s.args.width s.args.volumes.now s.args.masses.now (reading d).read-field.ensures refl d.before.long.result
-    d.and_then.result d.before.long.ensures d.and_then.ensures c.before.found.given.1
+    field-unread s.args.width s.args.volumes.now s.args.masses.now (reading d).read_field-answer.ensures refl d.before.long-lent.result
+    d.and_then-found.result d.before.long-lent.ensures d.and_then-found.ensures c.in-Refused.is
 
-array-share-prefix-read : tie.Need-array-share-prefix-read
+array-share-prefix-read : tie.Need-slice_bounds-read-end
 array-share-prefix-read e =
     let d = joined e in
     let s = start d in
-    (masses-part s.args.width s.args.volumes.now s.args.masses.now (reading d).read-field.ensures refl d.before.long.result
-    d.and_then.result d.before.long.ensures d.and_then.ensures e.enum_told.given.1).fits
+    (masses-part s.args.width s.args.volumes.now s.args.masses.now (reading d).read_field-answer.ensures refl d.before.long-lent.result
+    d.and_then-found.result d.before.long-lent.ensures d.and_then-found.ensures e.in_default.is).fits
 
-slice-aggregate-counted : tie.Need-slice-aggregate-counted
+slice-aggregate-counted : tie.Need-slice_bounds-counted-end
 slice-aggregate-counted c =
     let e = c.before in
     let d = joined e in
     let s = start d in
     part-long
-    (masses-part s.args.width s.args.volumes.now s.args.masses.now (reading d).read-field.ensures refl d.before.long.result
-    d.and_then.result d.before.long.ensures d.and_then.ensures e.enum_told.given.1)
+    (masses-part s.args.width s.args.volumes.now s.args.masses.now (reading d).read_field-answer.ensures refl d.before.long-lent.result
+    d.and_then-found.result d.before.long-lent.ensures d.and_then-found.ensures e.in_default.is)
 
-returns-2 : tie.Need-returns-2
+returns-2 : tie.Need-returns-in_default-judged
 returns-2 c =
-    let t = c.before.before in
+    let t = c.before in
     let e = told t in
     let d = joined e in
     let s = start d in
-    salt-refused s.args.width s.args.volumes.now s.args.masses.now (reading d).read-field.ensures refl d.before.long.result
-    d.and_then.result d.before.long.ensures d.and_then.ensures e.enum_told.given.1 _ t.total.ensures c.enum-told3.given.1
+    salt-refused s.args.width s.args.volumes.now s.args.masses.now (reading d).read_field-answer.ensures refl d.before.long-lent.result
+    d.and_then-found.result d.before.long-lent.ensures d.and_then-found.ensures e.in_default.is _ t.total-judged.ensures c.in_default-judged.is
 
 copy-requires : tie.Need-copy-requires
 copy-requires c κs =
-    let e = told c.before.before.before in
+    let e = told c.before.before in
     let d = joined e in
     let s = start d in
-    copy-asks s.args.width s.args.volumes.now s.args.masses.now (reading d).read-field.ensures refl d.before.long.result
-    d.and_then.result d.before.long.ensures d.and_then.ensures e.enum_told.given.1
+    copy-asks s.args.width s.args.volumes.now s.args.masses.now (reading d).read_field-answer.ensures refl d.before.long-lent.result
+    d.and_then-found.result d.before.long-lent.ensures d.and_then-found.ensures e.in_default.is
 
-returns-3 : tie.Need-returns-3
+returns-3 : tie.Need-returns
 returns-3 c =
     let total-told = c.before.before.before.before in
-    let t = total-told.before.before in
+    let t = total-told.before in
     let e = told t in
     let d = joined e in
     let s = start d in
-    field_taken s.args.width s.args.volumes.now s.args.masses.now (reading d).read-field.ensures refl d.before.long.result
-    d.and_then.result d.before.long.ensures d.and_then.ensures e.enum_told.given.1 _ t.total.ensures
-    total-told.enum-told2.given.1 c.before.before.copy.ensures
+    field_taken s.args.width s.args.volumes.now s.args.masses.now (reading d).read_field-answer.ensures refl d.before.long-lent.result
+    d.and_then-found.result d.before.long-lent.ensures d.and_then-found.ensures e.in_default.is _ t.total-judged.ensures
+    total-told.in-Total.is c.before.before.copy.ensures
 
-pub take-field-spec : {M : Type 1} → statement M
-take-field-spec =
+pub take_field_spec : {M : Type 1} → statement M
+take_field_spec =
     tie.close
     (tie.spec (search rules) (search rules) (search rules) (search rules) (search rules) returns (search rules) array-share-prefix-read
-    slice-aggregate-counted (search rules) (search rules) (search rules) returns-2 copy-requires (λ c. c.before.masses.given) returns-3)
+    slice-aggregate-counted (search rules) (search rules) (search rules) returns-2 copy-requires (λ c. c.before.masses-1.given) returns-3)

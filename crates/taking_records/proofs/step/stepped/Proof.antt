@@ -8,48 +8,48 @@ use Rattle.taking_records.proofs.step.stepped.Tie as tie
 abbrev lent : tie.After-step-in-arg4 → tie.Start
 lent c = let shared = c.before.before.before.before.before.before.before in shared.before.before.before.before.before.before.before
 
-abbrev begun : tie.After-step-in → tie.Start
+abbrev begun : tie.After-step_in-answer → tie.Start
 begun c = lent c.before
 
 -- where the step was made, from where it is known to be accepted
-abbrev stepped : tie.After-known-told2 → tie.After-step-in
-stepped c = c.before.before.before.before.before.before.before.before
+abbrev stepped : tie.In-Stepped → tie.After-step_in-answer
+stepped c = c.before.before.before.before.before.before
 
-slice-reshare-prefix-copy : tie.Need-slice-reshare-prefix-copy
-slice-reshare-prefix-copy c = (nexts-part (stepped c).step_in.ensures c.before.answer2.given.1).fits
+slice-reshare-prefix-copy : tie.Need-slice_bounds-copy-end
+slice-reshare-prefix-copy c = (nexts-part (stepped c).step_in-answer.ensures c.in-Stepped.is).fits
 
-slice-aggregate-copy : tie.Need-slice-aggregate-copy
-slice-aggregate-copy c = let t = c.before in part-long (nexts-part (stepped t).step_in.ensures t.before.answer2.given.1)
+slice-aggregate-copy : tie.Need-slice_bounds-copy-end-in-Stepped
+slice-aggregate-copy c = let t = c in part-long (nexts-part (stepped t).step_in-answer.ensures t.in-Stepped.is)
 
 copy-requires : tie.Need-copy-requires
-copy-requires c κs = let t = c.before.before in copy-asks (stepped t).step_in.ensures t.before.answer2.given.1
+copy-requires c κs = let t = c.before in copy-asks (stepped t).step_in-answer.ensures t.in-Stepped.is
 
-sum-of-requires : tie.Need-sum-of-requires
+sum-of-requires : tie.Need-sum_of-requires
 sum-of-requires c κs =
     let copied = c.before.before.before in
-    let t = copied.before.before.before in
-    sum-asks (stepped t).step_in.ensures t.before.answer2.given.1 copied.copy.ensures
+    let t = copied.before in
+    sum-asks (stepped t).step_in-answer.ensures t.before.answer2.given.1 copied.copy.ensures
 
-returns : tie.Need-returns
+returns : tie.Need-returns-in-Refused
 returns c =
-    let made = c.before.before.before.before.before.before.before.before in
+    let made = c.before.before.before.before.before.before in
     let s = begun made in
-    step-refused made.step_in.ensures s.pre.0.0 s.pre.0.1 s.pre.0.2 c.before.answer.given.1
+    step-refused made.step_in-answer.ensures s.requires.0.0 s.requires.0.1 s.requires.0.2 c.in-Refused.is
 
-returns-2 : tie.Need-returns-2
+returns-2 : tie.Need-returns-in-Stepped
 returns-2 c =
     let copied = c.before.before.before.before in
-    let t = copied.before.before.before in
+    let t = copied.before in
     let s = begun (stepped t) in
-    step-done (stepped t).step_in.ensures s.pre.0.0 s.pre.0.1 s.pre.0.2 t.before.answer2.given.1 copied.copy.ensures
+    step-done (stepped t).step_in-answer.ensures s.requires.0.0 s.requires.0.1 s.requires.0.2 t.before.answer2.given.1 copied.copy.ensures
     c.sum_of.ensures
 
 -- each lent table is as long as it was: what is given of it right after the call that filled it
-abbrev told : tie.After-sum-of → tie.After-known-told2
-told c = c.before.before.before.before.before.before.before
+abbrev told : tie.After-sum_of → tie.In-Stepped
+told c = c.before.before.before.before.before
 
-pub stepped-spec : {M : Type 1} → statement M
-stepped-spec =
+pub stepped_spec : {M : Type 1} → statement M
+stepped_spec =
     tie.close
     (tie.spec
     (λ c κs. (lent c).requires.1)
@@ -60,12 +60,12 @@ stepped-spec =
     copy-requires
     sum-of-requires
     (search rules)
-    (λ c. c.before.before.before.before.before.before.before.next.given)
-    (λ c. c.before.before.before.before.before.moved.given)
-    (λ c. c.before.before.before.before.work.given)
+    (λ c. c.before.before.before.before.before.next-1.given)
+    (λ c. c.before.before.before.moved-1.given)
+    (λ c. c.before.before.work-1.given)
     returns
-    (λ c. c.before.before.before.masses.given)
-    (λ c. (told c).before.before.before.before.before.before.before.next.given)
-    (λ c. (told c).before.before.before.before.before.moved.given)
-    (λ c. (told c).before.before.before.before.work.given)
+    (λ c. c.before.before.masses-1.given)
+    (λ c. (told c).before.before.before.before.before.next-1.given)
+    (λ c. (told c).before.before.before.moved-1.given)
+    (λ c. (told c).before.before.work-1.given)
     returns-2)

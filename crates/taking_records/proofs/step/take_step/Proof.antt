@@ -5,12 +5,12 @@ use borrow.Author.Rules.{rules}
 use Rattle.taking_records.proofs.step.take_step.Statement.{statement}
 use Rattle.taking_records.proofs.step.take_step.Tie as tie
 
-abbrev taken : tie.After-work2 → tie.After-masses
+abbrev taken : tie.After-work-2-1 → tie.After-masses-1
 taken c = c.before.before.before.before.before.before.before
 
-pub take-step-spec : {M : Type 1} → statement M
-take-step-spec =
+pub take_step_spec : {M : Type 1} → statement M
+take_step_spec =
     tie.close
     (tie.spec (search rules) (search rules) (search rules) (search rules) (search rules) (search rules)
-    (λ c κs. ((refl, refl, refl), ((refl, refl, refl), λ e. absurd (true≢false (sym e))))) (λ c. (taken c).masses.given)
-    (λ c. (taken c).before.take-step-in.ensures))
+    (λ c κs. ((refl, refl, refl), ((refl, refl, refl), λ e. absurd (true≢false (sym e))))) (λ c. (taken c).masses-1.given)
+    (λ c. (taken c).before.take_step_in.ensures))

@@ -11,82 +11,82 @@ mesh s = mesh_of s.args.cells s.args.faces s.args.volumes.now s.args.firsts.now 
     s.args.reaches.now
 
 -- the start, past what is known of the lent tables
-abbrev begun : tie.After-read-step → tie.Start
+abbrev begun : tie.After-read_step-read → tie.Start
 begun c = let lent = c.before.before.before.before.before.before.before.before in lent.before.before.before.before.before.before.before
 
 -- where the record has been read, from where it is known to be accepted
-abbrev reading : tie.After-enum-told → tie.After-read-step
-reading c = c.before.before.before.before.before.before.before
+abbrev reading : tie.In_default → tie.After-read_step-read
+reading c = c.before.before.before.before.before.before
 
-returns : tie.Need-returns
+returns : tie.Need-returns-in-Refused
 returns c =
-    let r = c.before.before.before.before.before.before.before.before in
+    let r = c.before.before.before.before.before.before in
     let s = begun r in
-    step-unread s.args.width (mesh s) s.args.masses.now r.read_step.ensures s.pre.0.0 s.pre.0.1 s.pre.0.2
-    c.before.read.given.1
+    step-unread s.args.width (mesh s) s.args.masses.now r.read_step-read.ensures s.requires.0.0 s.requires.0.1 s.requires.0.2
+    c.in-Refused.is
 
-slice-reshare-prefix-stepped : tie.Need-slice-reshare-prefix-stepped
+slice-reshare-prefix-stepped : tie.Need-slice_bounds-stepped-end
 slice-reshare-prefix-stepped c =
     let t = c.before in
     let s = begun (reading t) in
-    (fluxes-part s.args.width (mesh s) s.args.masses.now (reading t).read_step.ensures t.enum_told.given.1).fits
+    (fluxes-part s.args.width (mesh s) s.args.masses.now (reading t).read_step-read.ensures t.in_default.is).fits
 
-slice-aggregate-stepped : tie.Need-slice-aggregate-stepped
+slice-aggregate-stepped : tie.Need-slice_bounds-stepped-end-2
 slice-aggregate-stepped c =
-    let t = c.before.before in
+    let t = c.before in
     let s = begun (reading t) in
-    part-long (fluxes-part s.args.width (mesh s) s.args.masses.now (reading t).read_step.ensures t.enum_told.given.1)
+    part-long (fluxes-part s.args.width (mesh s) s.args.masses.now (reading t).read_step-read.ensures t.enum_told.given.1)
 
-slice-reshare-prefix-stepped-2 : tie.Need-slice-reshare-prefix-stepped-2
+slice-reshare-prefix-stepped-2 : tie.Need-slice_bounds-stepped-end-3
 slice-reshare-prefix-stepped-2 c =
+    let t = c.before in
+    let s = begun (reading t) in
+    (outsides-part s.args.width (mesh s) s.args.masses.now (reading t).read_step-read.ensures t.enum_told.given.1).fits
+
+slice-aggregate-stepped-2 : tie.Need-slice_bounds-stepped-end-4
+slice-aggregate-stepped-2 c =
     let t = c.before.before in
     let s = begun (reading t) in
-    (outsides-part s.args.width (mesh s) s.args.masses.now (reading t).read_step.ensures t.enum_told.given.1).fits
+    part-long (outsides-part s.args.width (mesh s) s.args.masses.now (reading t).read_step-read.ensures t.enum_told.given.1)
 
-slice-aggregate-stepped-2 : tie.Need-slice-aggregate-stepped-2
-slice-aggregate-stepped-2 c =
-    let t = c.before.before.before in
-    let s = begun (reading t) in
-    part-long (outsides-part s.args.width (mesh s) s.args.masses.now (reading t).read_step.ensures t.enum_told.given.1)
-
-slice-reshare-prefix-stepped-3 : tie.Need-slice-reshare-prefix-stepped-3
+slice-reshare-prefix-stepped-3 : tie.Need-slice_bounds-stepped-end-5
 slice-reshare-prefix-stepped-3 c =
+    let t = c.before.before in
+    let s = begun (reading t) in
+    (releases-part s.args.width (mesh s) s.args.masses.now (reading t).read_step-read.ensures t.enum_told.given.1).fits
+
+slice-aggregate-stepped-3 : tie.Need-slice_bounds-stepped-end-6
+slice-aggregate-stepped-3 c =
     let t = c.before.before.before in
     let s = begun (reading t) in
-    (releases-part s.args.width (mesh s) s.args.masses.now (reading t).read_step.ensures t.enum_told.given.1).fits
-
-slice-aggregate-stepped-3 : tie.Need-slice-aggregate-stepped-3
-slice-aggregate-stepped-3 c =
-    let t = c.before.before.before.before in
-    let s = begun (reading t) in
-    part-long (releases-part s.args.width (mesh s) s.args.masses.now (reading t).read_step.ensures t.enum_told.given.1)
+    part-long (releases-part s.args.width (mesh s) s.args.masses.now (reading t).read_step-read.ensures t.enum_told.given.1)
 
 stepped-requires : tie.Need-stepped-requires
-stepped-requires c κs = let s = begun (reading c.before.before.before.before.before.before.before) in (s.pre.1.0, s.pre.1.1)
+stepped-requires c κs = let s = begun (reading c.before.before.before.before.before.before) in (s.requires.1.0, s.requires.1.1)
 
-returns-2 : tie.Need-returns-2
+returns-2 : tie.Need-returns
 returns-2 c =
     let u = c.before.before.before.before.before.before.before in
-    let t = u.before.before.before.before.before.before.before.before in
+    let t = u.before.before.before.before.before.before.before in
     let s = begun (reading t) in
-    step-took s.args.width (mesh s) s.args.masses.now (reading t).read_step.ensures s.pre.0.0 s.pre.0.1 s.pre.0.2
+    step-took s.args.width (mesh s) s.args.masses.now (reading t).read_step-read.ensures s.requires.0.0 s.requires.0.1 s.requires.0.2
     t.enum_told.given.1 u.stepped.ensures
 
 -- each lent table is as long as it was: what is given of it right after the call that filled it
-abbrev accepted : tie.After-slice-known10 → tie.After-enum-told
+abbrev accepted : tie.After-slice_known-10-1 → tie.In_default
 accepted c =
     let called = c.before.before.before.before.before.before.before in
-    called.before.before.before.before.before.before.before.before
+    called.before.before.before.before.before.before.before
 
-pub take-step-in-spec : {M : Type 1} → statement M
-take-step-in-spec =
+pub take_step_in_spec : {M : Type 1} → statement M
+take_step_in_spec =
     tie.close
     (tie.spec
     (search rules)
     (search rules)
-    (λ c. c.before.before.before.before.before.before.before.fluxes.given)
-    (λ c. c.before.before.before.before.before.before.outsides.given)
-    (λ c. c.before.before.before.before.releases.given)
+    (λ c. c.before.before.before.before.before.fluxes-1.given)
+    (λ c. c.before.before.before.before.outsides-1.given)
+    (λ c. c.before.before.releases-1.given)
     returns
     (search rules)
     slice-reshare-prefix-stepped
@@ -96,11 +96,11 @@ take-step-in-spec =
     slice-reshare-prefix-stepped-3
     slice-aggregate-stepped-3
     stepped-requires
-    (λ c. c.before.before.before.before.before.before.masses.given)
-    (λ c. (accepted c).before.before.before.before.before.before.fluxes.given)
-    (λ c. (accepted c).before.before.before.before.before.outsides.given)
-    (λ c. (accepted c).before.before.before.releases.given)
-    (λ c. c.before.before.before.before.next.given)
-    (λ c. c.before.before.moved.given)
-    (λ c. c.before.work.given)
+    (λ c. c.before.before.before.before.before.before.masses-1.given)
+    (λ c. (accepted c).before.before.before.before.before.fluxes-1.given)
+    (λ c. (accepted c).before.before.before.before.outsides-1.given)
+    (λ c. (accepted c).before.before.releases-1.given)
+    (λ c. c.before.before.before.before.next-1.given)
+    (λ c. c.before.before.moved-1.given)
+    (λ c. c.before.work-1.given)
     returns-2)
