@@ -9,7 +9,7 @@ import sys
 from pathlib import Path
 
 ROOT = Path(__file__).resolve().parent.parent
-USE = re.compile(r"^use (?:lib|Prim|mathlib|native|borrow)[\w.]*\.\{([^}]*)\}", re.MULTILINE)
+USE = re.compile(r"^use (?!Rattle\.(\w+)\.)?[\w.]*\.\{([^}]*)\}", re.MULTILINE)
 PROOFS = {"refl"}               # of the one definition that holds a proof
 
 
