@@ -1,5 +1,7 @@
 // A lagoon on a grid, as bench/yardstick.c makes it: shores in the west and the north, open sides in the east and the south.
 // The large one has volumes, reaches and fluxes SCALE times as large, volumes and reaches up to the ceiling of the calls.
+#![tactic(auto)]
+
 ghost use Rattle.std.specs.Prelude.{◌≤◌, ◌<◌};
 ghost use Rattle.model.specs.Mesh.{max_cells, max_faces, max_concentration, ceiling};
 ghost use Rattle.bench_grid.specs.Bounds.{max_factor, max_product, max_stream, max_scaled, max_season};

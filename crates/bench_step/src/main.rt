@@ -1,5 +1,7 @@
 // The lagoon of bench/yardstick.c, stepped by the engine. Arguments and the printed line are the yardstick's; a fourth argument chooses
 // the lagoon for which that is compiled with LARGE.
+#![tactic(auto)]
+
 mod text;
 
 ghost use Rattle.std.specs.Prelude.{◌<◌, ◌≤◌};

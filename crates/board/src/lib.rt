@@ -1,4 +1,6 @@
 // The board of document 01: the eight cells of highest concentration, by value.
+#![tactic(auto)]
+
 ghost use Rattle.std.specs.Prelude.{◌≡◌, true, false, ◌||◌, ◌+◌, ◌≤◌, min, get_or, take, replicate};
 ghost use Rattle.lists.specs.Table.{table, over};
 ghost use Rattle.lists.specs.Marked.{count};

@@ -1,4 +1,6 @@
 // The order of the board: two cells compared by concentration, by the part of a unit that is left, and by number.
+#![tactic(auto)]
+
 ghost use Rattle.std.specs.Prelude.{◌≡◌, ◌*◌, ◌≤◌};
 ghost use Rattle.board_order.specs.Order.{max_ranked, ranked_of, comes_before};
 

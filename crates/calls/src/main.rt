@@ -1,4 +1,6 @@
 // Every exported call of the engine, made as a script on standard input asks, and a line printed for each. docs/CALLS.md describes the script.
+#![tactic(auto)]
+
 use calls_arguments::{BYTES_ROOM, WORDS, parts, show};
 use calls_numerals::Token;
 use calls_script::faults::Fault;

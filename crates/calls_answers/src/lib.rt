@@ -1,4 +1,6 @@
 // The answers of the calls as they are printed: accepted with its values, or refused with its cause and its place.
+#![tactic(auto)]
+
 use board::{BOARD_SIZE, BoardAnswer, Entry};
 use calls_arguments::{ROOM, show};
 use checks::TotalAnswer;

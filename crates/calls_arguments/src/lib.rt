@@ -1,4 +1,6 @@
 // The arguments of a call that is asked for in text, and its tables printed. Nothing here asks anything of its caller.
+#![tactic(auto)]
+
 pub mod parts;
 pub mod show;
 

@@ -1,4 +1,6 @@
 // The cutting of a lagoon in two.
+#![tactic(auto)]
+
 ghost use Rattle.std.specs.Prelude.{◌≤◌, ◌≡◌, length};
 
 use calls_arguments::parts::{amounts, copy, copy_amounts, number, table};

@@ -1,4 +1,6 @@
 // The calls on the cells of a field beside its tests: the binder's page, what the public reads, and a store of named fields.
+#![tactic(auto)]
+
 use calls_arguments::parts::{bytes, copy, number, table};
 use calls_arguments::{BYTES_ROOM, ROOM, show};
 

@@ -1,4 +1,6 @@
 // A number of a script, read one byte after another.
+#![tactic(auto)]
+
 ghost use Rattle.std.specs.Prelude.{◌<◌, ◌≤◌, ◌≡◌};
 ghost use Rattle.calls_numerals.specs.Numerals.{grown};
 

@@ -1,4 +1,6 @@
 // The calls on the totals of a period: a step's moved masses added, and a total charged.
+#![tactic(auto)]
+
 use calls_arguments::parts::{amounts, copy, number, table};
 use calls_arguments::{ROOM, show};
 use charge::ChargeAnswer;

@@ -1,4 +1,6 @@
 // The calls on survey points. A coordinate is written as the bit pattern of its 64-bit float.
+#![tactic(auto)]
+
 use calls_arguments::parts::number;
 use calls_arguments::show;
 use survey::Stage;

@@ -1,4 +1,6 @@
 // The calls that read and write records: lengths, readers, writers and the cursor's.
+#![tactic(auto)]
+
 use calls_arguments::parts::{amounts, bytes, copy, copy_amounts, number, octets, table};
 use calls_arguments::{BYTES_ROOM, ROOM, show};
 use record_layouts::{StepKind, Width};

@@ -1,4 +1,6 @@
 // The calls on tables: tests, total, board, step, plain step and judging.
+#![tactic(auto)]
+
 use calls_arguments::parts::{amounts, copy, copy_amounts, number, table};
 use calls_arguments::{ROOM, show};
 use transport::Way;

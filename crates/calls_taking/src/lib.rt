@@ -1,4 +1,6 @@
 // The calls that take records: a mesh, a field, a step, and the host's.
+#![tactic(auto)]
+
 use calls_arguments::parts::{bytes, copy, number, octets, table};
 use calls_arguments::{BYTES_ROOM, ROOM, show};
 use model::StepTaken;

@@ -1,4 +1,6 @@
 // Document 02's S-13: a period total charged by bands, with the remainder that the last charge left.
+#![tactic(auto)]
+
 ghost use Rattle.std.specs.Prelude.{◌≡◌, ◌+◌, ◌-◌, ◌*◌, ◌≤◌, ◌<◌, min, true, not, ◌&&◌, ◌||◌, eqb, leb, ltb, length};
 ghost use Rattle.model.specs.Causes.{fine, in_turn, each};
 ghost use Rattle.model.specs.Answers.{said};

@@ -1,4 +1,6 @@
 // Document 02's S-13: what a step moved outward over the rim, added to the totals of a period.
+#![tactic(auto)]
+
 ghost use Rattle.std.specs.Prelude.{◌≡◌, true, ◌+◌, ◌≤◌, ◌<◌, length};
 ghost use Rattle.model.specs.Causes.{fine, in_turn, each};
 ghost use Rattle.model.specs.Answers.{said};

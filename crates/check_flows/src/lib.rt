@@ -1,4 +1,6 @@
 // Causes 9 and 10: the inflow and the outflow of each cell, gathered in arrays of their own.
+#![tactic(auto)]
+
 ghost use Rattle.std.specs.Prelude.{◌≡◌, cond, ◌+◌, ◌≤◌, eqb, leb, length, get_or};
 ghost use Rattle.lists.specs.Table.{table};
 ghost use Rattle.model.specs.Mesh.{max_cells, max_faces};

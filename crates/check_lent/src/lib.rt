@@ -1,4 +1,6 @@
 // Causes 1 and 2: the counts, and the lengths of the tables that a call is lent.
+#![tactic(auto)]
+
 ghost use Rattle.std.specs.Prelude.{◌≡◌, ◌≤◌};
 ghost use Rattle.model.specs.Mesh.{mesh_of, max_cells, max_faces};
 ghost use Rattle.model.specs.Causes.{◌and_then◌, counts_within, counts, mesh_tables, field_table, call_of, step_long};

@@ -1,4 +1,6 @@
 // Causes 3 to 5: the values of the mesh tables.
+#![tactic(auto)]
+
 ghost use Rattle.std.specs.Prelude.{◌≡◌, true, ◌≤◌, length, get_or};
 ghost use Rattle.model.specs.Mesh.{mesh_of};
 ghost use Rattle.model.specs.Accepted.{MeshLent};

@@ -1,5 +1,7 @@
 // Whether no face is refused by 4, 5, 7 or 8, and no cell by 9 or 10: one reading of the faces and one of the cells serve all.
 // What is refused, and where, is told by the crates of the causes.
+#![tactic(auto)]
+
 ghost use Rattle.std.specs.Prelude.{◌≡◌, ◌≢◌, true, cond, ℕ, ◌*◌, ◌≤◌, ◌<◌, length, get_or};
 ghost use Rattle.model.specs.Mesh.{rim, max_cells, max_faces, max_concentration, ceiling};
 ghost use Rattle.check_passing.specs.Passing.{half, EndsIn, ShapeFine, WaterFine, FaceFine, FacesShaped, FacesFine, SumFits, RoomLeft, Counted, SumsAre, TablesLong, FacesPass};

@@ -1,4 +1,6 @@
 // Causes 7 and 8: the outside values and the fluxes.
+#![tactic(auto)]
+
 ghost use Rattle.std.specs.Prelude.{◌≡◌, true, cond, ◌&&◌, ◌≤◌, eqb, pos, length, get_or};
 ghost use Rattle.signed.specs.Sign.{is_negative, size as size_of};
 ghost use Rattle.model.specs.Mesh.{rim, max_concentration};

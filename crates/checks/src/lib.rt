@@ -1,4 +1,6 @@
 // Causes 1 to 10 of document 01, and 18 of document 02, on lent tables. No table is written.
+#![tactic(auto)]
+
 pub mod field;
 mod quick;
 mod raised;

@@ -1,4 +1,6 @@
 // Document 02, S-12: a lagoon cut in two, each part in tables of its own.
+#![tactic(auto)]
+
 ghost use Rattle.cutting_parts.specs.Cut.{tables_of, lagoon_of};
 ghost use Rattle.cutting.specs.Promise.{CutPromise};
 

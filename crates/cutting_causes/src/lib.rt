@@ -1,4 +1,6 @@
 // What cutting refuses: counts and lengths, the mesh, labels and parts, then salt and water.
+#![tactic(auto)]
+
 ghost use Rattle.std.specs.Prelude.{◌≡◌, [], ◌∷◌, ◌≤◌, leb, length, get_or};
 ghost use Rattle.model.specs.Mesh.{mesh_of};
 ghost use Rattle.model.specs.Causes.{◌and_then◌, in_turn, each, water_of};

@@ -1,4 +1,6 @@
 // Document 02, S-12: the tables of a part's cells, each filled by a loop of its own from those of the whole; and which faces a part has.
+#![tactic(auto)]
+
 pub mod cells;
 
 ghost use Rattle.std.specs.Prelude.{◌≡◌, ◌≢◌, true, cond, not, ◌+◌, ◌^◌, ◌≤◌, ◌<◌, length, get_or, set};

@@ -1,4 +1,6 @@
 // Document 02, S-12: one part of a lagoon, in tables of its own.
+#![tactic(auto)]
+
 ghost use Rattle.cutting_parts.specs.Cut.{tables_of, lagoon_of};
 ghost use Rattle.cutting_tables.specs.Part.{Cuttable, PartFilled};
 

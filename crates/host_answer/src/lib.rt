@@ -1,1 +1,2 @@
 // What the calls from C answer: definitions and laws alone.
+#![tactic(auto)]

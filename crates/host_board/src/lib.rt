@@ -1,4 +1,6 @@
 // The boards, for a host program in C.
+#![tactic(auto)]
+
 ghost use Rattle.std.specs.Prelude.{◌≡◌, ◌∷◌, ◌+◌, ◌<◌, ◌^◌, set};
 ghost use Rattle.board.specs.Board.{board_size};
 ghost use Rattle.host_answer.specs.Number.{number_of};

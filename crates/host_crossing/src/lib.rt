@@ -1,4 +1,6 @@
 // A step on records that is made and not written, for a host program in C: what it finds, and what crosses the rim in it.
+#![tactic(auto)]
+
 ghost use Rattle.std.specs.Prelude.{◌≡◌};
 ghost use Rattle.model.specs.StepTaken.{taken_said};
 ghost use Rattle.host_answer.specs.Number.{number_of};

@@ -1,4 +1,6 @@
 // Document 02's S-12 on records, for a host program in C: a lagoon cut in two, each part in three records of its own.
+#![tactic(auto)]
+
 ghost use Rattle.std.specs.Prelude.{◌<◌, ◌^◌};
 ghost use Rattle.model.specs.Mesh.{mesh_of};
 ghost use Rattle.host_answer.specs.Number.{number_of};

@@ -1,4 +1,6 @@
 // The labels of a mesh's cells, beside its record: judged after the mesh and before all else.
+#![tactic(auto)]
+
 ghost use Rattle.std.specs.Prelude.{◌≡◌};
 ghost use Rattle.model.specs.Answers.{said};
 ghost use Rattle.host_cut_promises.specs.Cut.{labels_find, labelled};

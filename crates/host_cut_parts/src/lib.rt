@@ -1,4 +1,6 @@
 // One part of a lagoon as three records: what their writers refuse, and the records written.
+#![tactic(auto)]
+
 ghost use Rattle.std.specs.Prelude.{◌≡◌};
 ghost use Rattle.model.specs.Answers.{said};
 ghost use Rattle.cutting_parts.specs.Cut.{tables_of, lagoon_of};

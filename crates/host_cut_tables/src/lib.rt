@@ -1,4 +1,6 @@
 // A lagoon on tables cut in two, each part as three records.
+#![tactic(auto)]
+
 ghost use Rattle.std.specs.Prelude.{◌≡◌};
 ghost use Rattle.model.specs.Causes.{◌and_then◌};
 ghost use Rattle.model.specs.Answers.{said};

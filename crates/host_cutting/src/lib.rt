@@ -1,4 +1,6 @@
 // Cutting on lent tables, for a host program in C: the engine's call, with its answer as numbers (document 02, S-12).
+#![tactic(auto)]
+
 ghost use Rattle.cutting_parts.specs.Cut.{tables_of, lagoon_of};
 ghost use Rattle.host_parts.specs.Parts.{CutFromC};
 

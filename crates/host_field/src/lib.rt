@@ -1,4 +1,6 @@
 // What is made of a field, for a host program in C: its total, and the pages of the binder.
+#![tactic(auto)]
+
 ghost use Rattle.std.specs.Prelude.{◌<◌, ◌^◌};
 ghost use Rattle.checks.specs.Total.{total_said};
 ghost use Rattle.page.specs.Answers.{page_said};

@@ -1,4 +1,6 @@
 // Document 02's S-11 on records, for a host program in C: another model's step judged by what it claims to have moved.
+#![tactic(auto)]
+
 ghost use Rattle.std.specs.Prelude.{◌≡◌};
 ghost use Rattle.model.specs.Mesh.{mesh_of, ceiling};
 ghost use Rattle.model.specs.Causes.{mesh_values};

@@ -1,4 +1,6 @@
 // What the calls from C share: the number that each answers, and the numbers that it finds.
+#![tactic(auto)]
+
 ghost use Rattle.std.specs.Prelude.{◌≡◌, [], ◌∷◌, ◌<◌, ◌^◌, set};
 ghost use Rattle.model.specs.Answers.{number, said};
 ghost use Rattle.host_answer.specs.Number.{refusal_number, number_of};

@@ -1,4 +1,6 @@
 // What a cutting answers a host program in C: both parts' counts as numbers that are found.
+#![tactic(auto)]
+
 ghost use Rattle.std.specs.Prelude.{◌<◌, ◌^◌};
 ghost use Rattle.cutting.specs.Promise.{cut_said};
 ghost use Rattle.host_answer.specs.Number.{number_of};

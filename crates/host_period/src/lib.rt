@@ -1,4 +1,6 @@
 // Adding and charging, and the calls on a store, for a host program in C.
+#![tactic(auto)]
+
 ghost use Rattle.std.specs.Prelude.{◌<◌, ◌^◌};
 ghost use Rattle.charge.specs.Answers.{charge_said};
 ghost use Rattle.host_answer.specs.Number.{number_of};

@@ -1,4 +1,6 @@
 // The plain step on records, for a host program in C.
+#![tactic(auto)]
+
 ghost use Rattle.std.specs.Prelude.{◌≡◌};
 ghost use Rattle.model.specs.Mesh.{mesh_of, ceiling};
 ghost use Rattle.model.specs.Causes.{mesh_values};

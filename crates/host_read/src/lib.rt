@@ -1,4 +1,6 @@
 // The readers of records, for a host program in C.
+#![tactic(auto)]
+
 ghost use Rattle.std.specs.Prelude.{◌≡◌, ◌<◌, ◌^◌};
 ghost use Rattle.record_reading.specs.Answers.{mesh_said, step_read_said};
 ghost use Rattle.host_answer.specs.Number.{number_of};

@@ -1,4 +1,6 @@
 // The boards of a field in records, for a host program in C.
+#![tactic(auto)]
+
 ghost use Rattle.host_answer.specs.Found.{Answered};
 ghost use Rattle.host_field_promises.specs.Board.{shown_numbers};
 ghost use Rattle.host_record_promises.specs.Boards.{board_found, public_board_found};

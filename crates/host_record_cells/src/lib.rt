@@ -1,4 +1,6 @@
 // The total and the pages of a field in records, for a host program in C.
+#![tactic(auto)]
+
 ghost use Rattle.host_answer.specs.Found.{alone, Answered};
 ghost use Rattle.host_record_promises.specs.Cells.{total_found, PageTaking, PagePromise, PublicTaking, PublicPromise};
 

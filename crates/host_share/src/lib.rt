@@ -1,4 +1,6 @@
 // A share from survey points, and the version, for a host program in C.
+#![tactic(auto)]
+
 ghost use Rattle.std.specs.Prelude.{◌≡◌, ◌<◌, ◌^◌};
 ghost use Rattle.survey.specs.Survey.{share_by};
 ghost use Rattle.host_answer.specs.Number.{number_of};

@@ -1,4 +1,6 @@
 // The steps on lent tables, for a host program in C: each is the engine's call of that name, with its answer as numbers.
+#![tactic(auto)]
+
 ghost use Rattle.std.specs.Prelude.{◌<◌, ◌^◌};
 ghost use Rattle.model.specs.Mesh.{mesh_of};
 ghost use Rattle.model.specs.Causes.{call_of};

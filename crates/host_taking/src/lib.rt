@@ -1,4 +1,6 @@
 // A mesh record and a field record, taken into tables of the caller's own before a call on them.
+#![tactic(auto)]
+
 ghost use Rattle.std.specs.Prelude.{◌≡◌, length};
 ghost use Rattle.model.specs.Mesh.{mesh_of, run_cells, run_faces};
 ghost use Rattle.host_taking.specs.Taken.{RecordsTaking, CellsTaking};

@@ -1,4 +1,6 @@
 // The writers of records, for a host program in C.
+#![tactic(auto)]
+
 ghost use Rattle.std.specs.Prelude.{◌≡◌, ◌<◌, ◌^◌};
 ghost use Rattle.model.specs.Mesh.{mesh_of};
 ghost use Rattle.record_layouts.specs.Layouts.{width_of, kind_number};

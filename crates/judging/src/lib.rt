@@ -1,4 +1,6 @@
 // Document 02's S-11: another model's step, told by the moved masses that it claims, is judged; where it is accepted, next masses are filled.
+#![tactic(auto)]
+
 ghost use Rattle.std.specs.Prelude.{◌≡◌, ◌≤◌, ◌+◌, ◌*◌, length};
 ghost use Rattle.model.specs.Mesh.{mesh_of};
 ghost use Rattle.model.specs.Claims.{claim_of};

@@ -1,4 +1,6 @@
 // Cause 22: no cell gives what it has not, and each next concentration is within the bounds of its neighbourhood.
+#![tactic(auto)]
+
 ghost use Rattle.std.specs.Prelude.{◌≡◌, ◌≤◌, ◌<◌, ◌+◌, ◌*◌, ◌^◌, length};
 ghost use Rattle.lists.specs.Table.{table};
 ghost use Rattle.model.specs.Mesh.{max_cells};

@@ -1,4 +1,6 @@
 // Document 02's S-11: cause 21 of moved masses that another model claims.
+#![tactic(auto)]
+
 ghost use Rattle.std.specs.Prelude.{◌≡◌, ◌≤◌, ◌<◌, length};
 ghost use Rattle.model.specs.Causes.{each};
 ghost use Rattle.model.specs.Answers.{said};

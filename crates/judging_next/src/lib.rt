@@ -1,4 +1,6 @@
 // The next masses by a claim that has passed causes 21 and 22.
+#![tactic(auto)]
+
 ghost use Rattle.std.specs.Prelude.{◌≡◌, ◌≤◌, ◌<◌, ◌+◌, length};
 ghost use Rattle.lists.specs.Table.{table, over};
 ghost use Rattle.model.specs.Mesh.{max_cells};

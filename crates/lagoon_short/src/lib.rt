@@ -1,5 +1,7 @@
 // The host's call straight through the records of a small lagoon, in short tables: an array is cleared before it is filled, and for few cells
 // clearing tables as long as the run's limits takes longer than reading them.
+#![tactic(auto)]
+
 ghost use Rattle.std.specs.Prelude.{◌≡◌};
 ghost use Rattle.model.specs.Mesh.{mesh_of, ceiling};
 ghost use Rattle.model.specs.Causes.{mesh_values};

@@ -1,4 +1,6 @@
 // The step on records, for a host program in C.
+#![tactic(auto)]
+
 mod chain;
 
 ghost use Rattle.lagoon.specs.Host.{HostPromise};

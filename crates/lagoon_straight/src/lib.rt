@@ -1,5 +1,7 @@
 // The host's call where nothing is refused: each record is read once into tables of the call's own, and mesh, field and step are judged
 // together, by the step. What is refused, and by which cause, is told by the crates that take the records one by one.
+#![tactic(auto)]
+
 ghost use Rattle.std.specs.Prelude.{◌≡◌};
 ghost use Rattle.model.specs.Mesh.{mesh_of, ceiling};
 ghost use Rattle.model.specs.Causes.{call_of, mesh_values};

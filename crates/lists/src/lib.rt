@@ -1,4 +1,6 @@
 // Definitions about lists and sums, which the other crates share, and their laws; and what code does with any table.
+#![tactic(auto)]
+
 ghost use Rattle.std.specs.Prelude.{◌≡◌, ◌<◌, ◌≤◌, ◌+◌, ◌^◌, min, length, get_or, set};
 ghost use Rattle.lists.specs.Table.{over};
 

@@ -1,4 +1,6 @@
 // What calls answer, and the numbers that document 01 sets.
+#![tactic(auto)]
+
 pub mod needs;
 pub mod positions;
 

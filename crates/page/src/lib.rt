@@ -1,4 +1,6 @@
 // Document 02's S-1: a page of the binder, sixty cells to a page, printed into lent bytes.
+#![tactic(auto)]
+
 ghost use Rattle.std.specs.Prelude.{◌≡◌, ℕ, ◌*◌, ◌≤◌, ◌<◌, ◌^◌, length, get_or};
 ghost use Rattle.lists.specs.Fold.{sum};
 ghost use Rattle.model.specs.Mesh.{max_cells};

@@ -1,4 +1,6 @@
 // Document 02's S-1: the lines of a page's cells, sixty cells to a page. S-14: those of open cells alone.
+#![tactic(auto)]
+
 ghost use Rattle.std.specs.Prelude.{◌≡◌, true, false, ℕ, ◌+◌, ◌*◌, ◌≤◌, ◌<◌, ◌/◌, ◌-◌, max, length, get_or};
 ghost use Rattle.text.specs.Digits.{most_digits};
 ghost use Rattle.text.specs.Lines.{Puts, pieces};

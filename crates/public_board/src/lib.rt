@@ -1,4 +1,6 @@
 // Document 02's S-14: the board for the public, of open cells only.
+#![tactic(auto)]
+
 ghost use Rattle.std.specs.Prelude.{◌≡◌};
 ghost use Rattle.model.specs.Answers.{said};
 ghost use Rattle.public_board.specs.Public.{public_board_verdict, PublicBoardIs};

@@ -1,4 +1,6 @@
 // Document 02's S-14: marks of cells, open or withheld.
+#![tactic(auto)]
+
 ghost use Rattle.std.specs.Prelude.{◌≡◌, get_or};
 ghost use Rattle.model.specs.Answers.{said};
 ghost use Rattle.public_marks.specs.Marks.{is_open, marks_long, marks_good};

@@ -1,4 +1,6 @@
 // Document 02's S-14: a page of the binder for the public, without the lines of withheld cells and without the mass.
+#![tactic(auto)]
+
 ghost use Rattle.std.specs.Prelude.{◌≡◌};
 ghost use Rattle.model.specs.Answers.{said};
 ghost use Rattle.public_page.specs.Public.{public_page_verdict, PublicPageIs};

@@ -1,4 +1,6 @@
 // Packed fields of a record, read and written by whole bytes.
+#![tactic(auto)]
+
 ghost use Rattle.std.specs.Prelude.{◌≡◌, ◌≤◌, ◌<◌, ◌+◌, ◌*◌, ◌^◌, ◌/◌, ◌%◌, length};
 ghost use Rattle.record_bits.specs.Field.{bits_at};
 ghost use Rattle.record_bits.specs.Layout.{bytes_for};

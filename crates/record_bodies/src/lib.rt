@@ -1,4 +1,6 @@
 // The body of a record, read from the part of the record that begins at the head's end, into the counted entries of the tables.
+#![tactic(auto)]
+
 ghost use Rattle.std.specs.Prelude.{◌≡◌, ℕ, ◌+◌, ◌*◌, ◌^◌, ◌≤◌, ◌<◌, length};
 ghost use Rattle.lists.specs.Table.{table, over};
 ghost use Rattle.model.specs.Mesh.{mesh_of};

@@ -1,4 +1,6 @@
 // What a writing is refused for, before the first byte is touched.
+#![tactic(auto)]
+
 mod releases;
 
 ghost use Rattle.std.specs.Prelude.{◌≡◌};

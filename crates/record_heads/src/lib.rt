@@ -1,4 +1,6 @@
 // The heads of the three records of document 01: their fields, what they are refused for, and how many bytes the record needs.
+#![tactic(auto)]
+
 ghost use Rattle.std.specs.Prelude.{◌≡◌, true, ◌≤◌, min, length};
 ghost use Rattle.model.specs.Mesh.{max_cells, max_faces};
 ghost use Rattle.model.specs.Causes.{counts_within};

@@ -1,5 +1,7 @@
 // The three records of document 01: where each field stands and how long a record is. A step record is of one of two kinds, by document 02's
 // S-6, and each record of one of two widths, by S-10.
+#![tactic(auto)]
+
 pub mod body;
 pub mod lengths;
 

@@ -1,4 +1,6 @@
 // A record that passed, put into the bytes field by field of its head and column by column of its body, and how many bytes it takes.
+#![tactic(auto)]
+
 ghost use Rattle.std.specs.Prelude.{true, ℕ, ◌+◌, ◌*◌, ◌^◌, ◌≤◌, ◌<◌, length, get_or};
 ghost use Rattle.record_sections.specs.Columns.{PutColumn};
 ghost use Rattle.model.specs.Mesh.{mesh_of};

@@ -1,5 +1,7 @@
 // A reader holds the record and the bit that it has come to. The borrow checker covers no function over such a struct: its few functions
 // are proved by hand, and leave the work to `number_at`, which takes a plain slice.
+#![tactic(auto)]
+
 ghost use Rattle.std.specs.Prelude.{◌≡◌, ◌+◌, ◌^◌, ◌<◌};
 ghost use Rattle.record_reader.specs.Numbers.{number_at};
 

@@ -1,4 +1,6 @@
 // The three records of document 01, read; a step record of either kind of document 02's S-6.
+#![tactic(auto)]
+
 mod verdicts;
 
 ghost use Rattle.std.specs.Prelude.{length};

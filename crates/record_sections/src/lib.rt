@@ -1,4 +1,6 @@
 // Columns of packed records, read and written.
+#![tactic(auto)]
+
 ghost use Rattle.std.specs.Prelude.{◌≡◌, true, cond, ℕ, ◌+◌, ◌-◌, ◌*◌, ◌/◌, ◌%◌, ◌^◌, ◌≤◌, ◌<◌, eqb, pos, length, get_or, set};
 ghost use Rattle.signed.specs.Sign.{is_negative, size as size_of, with_sign};
 ghost use Rattle.lists.specs.Table.{table, over};

@@ -1,4 +1,6 @@
 // The records of documents 01 and 02, written. What is refused is refused before the first byte is touched.
+#![tactic(auto)]
+
 ghost use Rattle.model.specs.Mesh.{mesh_of};
 ghost use Rattle.record_layouts.specs.Layouts.{kind_number};
 ghost use Rattle.record_writing.specs.Writing.{MeshWriting, FieldWriting, StepWriting};

@@ -1,4 +1,6 @@
 // Cause 12: zero bits that are set, and a minus with size 0. Only the bits that can break the rule are looked at, in the order of their places.
+#![tactic(auto)]
+
 ghost use Rattle.std.specs.Prelude.{◌≡◌, ◌+◌, ◌*◌, ◌^◌, ◌≤◌, ◌<◌, not, ◌&&◌, length, eqb};
 ghost use Rattle.model.specs.Causes.{each, refused as refused_as};
 ghost use Rattle.model.specs.Answers.{said};

@@ -1,5 +1,7 @@
 // The run program of document 01: a mesh, a field and steps from standard input, a line for each, and the board, in the order of
 // `printed` in run_printed/specs/Run.antt. After a failed read or write it prints nothing more, so that no part of a session looks whole.
+#![tactic(auto)]
+
 mod board_lines;
 
 ghost use Rattle.std.specs.Prelude.{◌≡◌, ◌≤◌, length};

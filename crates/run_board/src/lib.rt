@@ -1,4 +1,6 @@
 // The board's lines, put one after another into lent bytes.
+#![tactic(auto)]
+
 ghost use Rattle.std.specs.Prelude.{◌≡◌, ◌++◌, ◌+◌, ◌≤◌, length, take};
 ghost use Rattle.board.specs.Board.{board_size};
 ghost use Rattle.run_lines.specs.Lines.{board_line};

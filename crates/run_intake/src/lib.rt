@@ -1,4 +1,6 @@
 // Records read from standard input: a head, and then as many bytes as it asks for. Steps are read ahead, as many bytes at once as come.
+#![tactic(auto)]
+
 ghost use Rattle.std.specs.Prelude.{◌≡◌, true, ◌+◌, ◌-◌, ◌≤◌, ◌<◌, length, take};
 ghost use Rattle.io.specs.Counts.{IsPrefixLen};
 ghost use Rattle.model.specs.Mesh.{run_cells, run_faces};

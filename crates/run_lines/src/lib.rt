@@ -1,4 +1,6 @@
 // The lines of the run program, as values.
+#![tactic(auto)]
+
 ghost use Rattle.run_lines.specs.Lines.{Holds, refusal_line, step_line, refused_step_line, board_line};
 
 use text::{DIGITS, NEWLINE, SPACE, mark, word};

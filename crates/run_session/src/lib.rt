@@ -1,4 +1,6 @@
 // When a run ends, its lines of mesh, field and steps, and each line printed.
+#![tactic(auto)]
+
 mod printing;
 
 ghost use Rattle.std.specs.Prelude.{◌≡◌, not};

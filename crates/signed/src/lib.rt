@@ -1,4 +1,6 @@
 // Signed machine integers as a sign and a size. No other crate reasons about them.
+#![tactic(auto)]
+
 ghost use Rattle.std.specs.Prelude.{◌≡◌, ◌≤◌, ◌<◌, ◌+◌, ◌*◌, ◌^◌, pos, ◌+ℤ◌, ◌-ℤ◌, ◌*ℤ◌, length, get_or, set};
 ghost use Rattle.signed.specs.Sign.{is_negative, size as size_of, forward, backward, with_sign};
 

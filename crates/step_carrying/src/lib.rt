@@ -1,4 +1,6 @@
 // Stages 1 to 3 of document 01 by faces: what each carries, its correction, and the bounds of its cells.
+#![tactic(auto)]
+
 ghost use Rattle.std.specs.Prelude.{◌≡◌, ◌<◌, ◌+◌, ◌*◌, length};
 ghost use Rattle.model.specs.Mesh.{max_cells};
 ghost use Rattle.step_cell.specs.Work.{of_cell};

@@ -1,4 +1,6 @@
 // Stages 1 to 3 of document 01 at one face: what it carries, its correction, and the bounds of its cells.
+#![tactic(auto)]
+
 ghost use Rattle.std.specs.Prelude.{◌≡◌, true, false, cond, ◌≢◌, ◌*◌};
 ghost use Rattle.signed.specs.Sign.{size as size_of, with_sign};
 ghost use Rattle.model.specs.Mesh.{rim};

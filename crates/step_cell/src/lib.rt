@@ -1,4 +1,6 @@
 // The four entries of a cell in the table lent as work, and what the passes do with them.
+#![tactic(auto)]
+
 ghost use Rattle.std.specs.Prelude.{◌≡◌, ◌<◌, ◌+◌, ◌*◌, min, max, length};
 ghost use Rattle.lists.specs.Table.{table};
 ghost use Rattle.model.specs.Mesh.{max_cells};

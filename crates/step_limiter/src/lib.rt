@@ -1,4 +1,6 @@
 // Stages 3 to 5 of document 01: what cells may gain and lose, and the corrections cut to it. Low-order q of S-5 is found with the former.
+#![tactic(auto)]
+
 ghost use Rattle.std.specs.Prelude.{◌≡◌, ℕ, ◌≤◌, ◌<◌, ◌+◌, ◌*◌, min, length, get_or};
 ghost use Rattle.model.specs.Step.{portion as portion_of};
 ghost use Rattle.model.specs.Mesh.{max_cells};

@@ -1,4 +1,6 @@
 // Document 02, S-10: the proportional part a·G/P for all 64-bit numbers, also where typeof.a.G takes more bits than a number has.
+#![tactic(auto)]
+
 ghost use Rattle.std.specs.Prelude.{◌≡◌, ◌<◌, ◌+◌, ◌*◌, ◌^◌};
 ghost use Rattle.model.specs.Step.{portion as portion_of};
 

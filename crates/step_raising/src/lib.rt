@@ -1,4 +1,6 @@
 // Document 02, S-6, before stage 1 of document 01: the raised field, and the concentration of each of its cells.
+#![tactic(auto)]
+
 ghost use Rattle.std.specs.Prelude.{◌≡◌, ℕ, ◌≤◌, ◌<◌, ◌+◌, ◌*◌, ◌/◌, ◌^◌, length, get_or, set};
 ghost use Rattle.model.specs.Mesh.{max_cells};
 ghost use Rattle.model.specs.Step.{raised};

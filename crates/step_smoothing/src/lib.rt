@@ -1,4 +1,6 @@
 // Document 02, S-5, and P and N of document 01's stage 4: corrections that would smooth are 0, the others are counted.
+#![tactic(auto)]
+
 ghost use Rattle.std.specs.Prelude.{◌≡◌, ◌<◌, ◌+◌, ◌*◌, ◌^◌, length, get_or};
 ghost use Rattle.model.specs.Mesh.{max_cells};
 ghost use Rattle.step_cell.specs.Work.{of_cell, over_q, low_in};

@@ -1,4 +1,6 @@
 // Named states to come back to, of document 02's S-4: fields of one mesh, kept in a lent store under names.
+#![tactic(auto)]
+
 ghost use Rattle.std.specs.Prelude.{◌≡◌};
 ghost use Rattle.model.specs.Answers.{said};
 ghost use Rattle.store.specs.Calls.{opened_verdict, keep_verdict, KeepPromise, DropPromise, ReturnPromise};

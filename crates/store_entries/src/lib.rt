@@ -1,4 +1,6 @@
 // The entries of a store, written: a field put after all others, or taken out.
+#![tactic(auto)]
+
 ghost use Rattle.std.specs.Prelude.{◌≡◌, true, [], ◌∷◌, ◌++◌, suc, ◌+◌, ◌≤◌, ◌<◌, ◌^◌, length, get_or, take as front, replicate};
 ghost use Rattle.lists.specs.Table.{over};
 ghost use Rattle.model.specs.Mesh.{max_cells};

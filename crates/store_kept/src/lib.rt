@@ -1,4 +1,6 @@
 // The names of a store: causes 13, 15, 16 and 17, and where a field stands.
+#![tactic(auto)]
+
 ghost use Rattle.std.specs.Prelude.{◌≡◌, true, ◌&&◌, ◌+◌, ◌≤◌, ◌<◌, ◌^◌, length, drop as rest, take as front};
 ghost use Rattle.model.specs.Mesh.{max_cells};
 ghost use Rattle.model.specs.Causes.{◌and_then◌};

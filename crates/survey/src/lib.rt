@@ -1,4 +1,6 @@
 // Shares from survey points, document 02's S-7. Each operation on floats is rounded once, none is fused.
+#![tactic(auto)]
+
 ghost use Rattle.std.specs.Prelude.{◌≡◌, true, false, ◌≤◌};
 ghost use Rattle.model.specs.Causes.{refused, fine};
 ghost use Rattle.model.specs.Answers.{number};

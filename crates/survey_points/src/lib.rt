@@ -1,4 +1,6 @@
 // A surveyed face of document 02's S-7: its coordinates, and how far its two centres lie from it. Each operation on floats is rounded once, none is fused.
+#![tactic(auto)]
+
 ghost use Rattle.std.specs.Prelude.{◌≡◌};
 ghost use Rattle.survey_points.specs.Points.{size_of, way, middle_of, dot, normal, first_side, second_side, coordinates, allowed};
 

@@ -22,14 +22,14 @@ gather-requires c κs = let s = c.before.before.before.before.before.before.befo
 
 balanced-requires : tie.Need-balanced-a-requires
 balanced-requires c κs =
-    let g = c.before.before.before.before.before.before in
+    let g = c.before.before.before.before in
     let s = start g in
     long-enough s.args.cells s.args.faces s.args.volumes.now s.args.firsts.now s.args.seconds.now s.args.fluxes.now s.requires.0.0
     _ _ g.gather.ensures.0 g.gather.ensures.1
 
 outflow-fits-requires : tie.Need-outflow_fits-requires
 outflow-fits-requires c κs =
-    let g = gathered c.before in
+    let g = gathered c in
     let s = start g in (
       s.requires.0.2,
       (long-enough s.args.cells s.args.faces s.args.volumes.now s.args.firsts.now s.args.seconds.now s.args.fluxes.now s.requires.0.0

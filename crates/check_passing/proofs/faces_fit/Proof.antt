@@ -62,7 +62,7 @@ abbrev turned : tie.After-count_face invariant-loop decreases-loop → tie.In-lo
 turned c = c.before.before.before.before.before.before.before.before.before
 
 abbrev after : tie.After-count_face invariant-loop decreases-loop → List ℕ
-after c = c.count_face.new.1.1.1.1.1.1.1.1.1.0
+after c = c.count_face.new.sums
 
 loop-again : tie.Need-loop-f-preserved invariant-loop decreases-loop
 loop-again c =

@@ -12,8 +12,8 @@ returns-6 c =
     let s = d.before.before.before in
     λ e. inside-shape s.args.cells s.args.first s.args.second s.args.share s.args.reach s.requires d.before.if-cells-first.false
     d.before.before.if-cells-second.false d.if-first-second.false
-    (sym c.before.before.before.between.ensures ∙ not-false _ c.before.before.if-not-between.false)
-    (sym c.before.between-2.ensures ∙ not-false _ c.if-not-between-2.false)
+    (sym c.before.before.before.between.ensures ∙ c.before.before.if-not-between.false)
+    (sym c.before.between-2.ensures ∙ c.if-not-between-2.false)
 
 pub inside_shaped_spec : {M : Type 1} → statement M
 inside_shaped_spec =

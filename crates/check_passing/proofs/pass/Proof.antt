@@ -25,19 +25,19 @@ faces-fit-requires c κs =
 
 sums-fit-requires : tie.Need-sums_fit-requires
 sums-fit-requires c κs =
-    let a = c.before.before.before.before.before in
+    let a = c.before.before.before.before in
     let s = start (cleared a) in
     (s.requires.0.2, omega (arith, c.before.before.room-2-1.given, a.before.room-1.given, s.requires.0.3))
 
 -- the sums as the faces leave them
 abbrev sums : tie.After-faces_fit → List ℕ
-sums c = c.faces_fit.new.1.1.1.1.1.1.1.1.1.0
+sums c = c.faces_fit.new.sums
 
 returns-2 : tie.Need-returns
 returns-2 c =
-    let q = c.before.before.before.before.before in
+    let q = c.before.before.before.before in
     let s = start (cleared q.before) in
-    let done = q.faces-fit.ensures c.before.if-not-faces_fit.false in
+    let done = q.faces_fit.ensures c.before.if-not-faces_fit.false in
     λ e. faces-pass s.args.firsts.now s.args.seconds.now s.args.fluxes.now s.args.cells s.args.faces s.args.volumes.now
     s.args.shares.now s.args.reaches.now s.args.outsides.now (sums q) s.requires.0.1 done.0 done.1 (c.sums_fit.ensures e)
 

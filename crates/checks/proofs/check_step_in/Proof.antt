@@ -10,8 +10,8 @@ use Rattle.checks.proofs.check_step_in.Statement.{statement}
 use Rattle.checks.proofs.check_step_in.Tie as tie
 
 -- the call's start, from where its tables are known
-abbrev start : tie.After-tables-lent-arg → tie.Start
-start c = let shared = c.before.before.before.before.before.before in shared.before.before.before.before.before
+abbrev start : tie.After-shared_slice_known-9-1 → tie.Start
+start c = let shared = c.before.before.before.before.before in shared.before.before.before.before.before
 
 abbrev mesh : tie.Start → Mesh
 mesh s = mesh_of s.args.cells s.args.faces s.args.volumes.now s.args.firsts.now s.args.seconds.now s.args.shares.now

@@ -7,23 +7,23 @@ use Rattle.host_field_promises.proofs.Boards.{board-refused, board-shown}
 use Rattle.host_board.proofs.answered.Statement.{statement}
 use Rattle.host_board.proofs.answered.Tie as tie
 
-number-of-requires : tie.Need-number-of-requires
+number-of-requires : tie.Need-number_of-requires
 number-of-requires c κs =
-    let s = c.before.before.before.before in
+    let s = c.before.before in
     let a = s.args.answer in
-    refusal-of (board-refused a.verdict (record { used = a.used; entries = a.entries }) (ap said c.before.verdict.given.1)) s.requires
+    refusal-of (board-refused a.verdict (record { used = a.used; entries = a.entries }) (ap said c.in-Refused.is)) s.requires
 
-returns : tie.Need-returns
+returns : tie.Need-returns-in-Refused
 returns c =
-    let a = c.before.before.before.before.before.args.answer in
+    let a = c.before.before.before.args.answer in
     answered-refused shown_numbers _ (board-refused a.verdict (record { used = a.used; entries = a.entries })
-    (ap said c.before.before.verdict.given.1)) c.number-of.ensures
+    (ap said c.before.in-Refused.is)) c.number_of.ensures
 
-returns-2 : tie.Need-returns-2
+returns-2 : tie.Need-returns
 returns-2 c =
-    let a = c.before.before.before.before.before.before.before.before.args.answer in
+    let a = c.before.before.before.before.before.before.before.args.answer in
     answered-found shown_numbers _ (board-shown a.verdict (record { used = a.used; entries = a.entries })
-    (ap said c.before.before.before.before.before.enum_told.given.1)) c.before.before.fill-board.ensures
+    (ap said c.before.before.before.before.before.in_default.is)) c.before.before.fill_board.ensures
 
-pub answered-spec : {M : Type 1} → statement M
-answered-spec = tie.close (tie.spec (search rules) number-of-requires returns (search rules) (search rules) (search rules) returns-2)
+pub answered_spec : {M : Type 1} → statement M
+answered_spec = tie.close (tie.spec (search rules) number-of-requires returns (search rules) (search rules) (search rules) returns-2)

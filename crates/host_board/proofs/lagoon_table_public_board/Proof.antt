@@ -8,10 +8,10 @@ use Rattle.host_board.proofs.lagoon_table_public_board.Statement.{statement}
 use Rattle.host_board.proofs.lagoon_table_public_board.Tie as tie
 
 answered-requires : tie.Need-answered-requires
-answered-requires c κs = fits-as (board-after c.before.public-board.ensures) (small-giving _ (public-small _ _ _ _))
+answered-requires c κs = fits-as (board-after c.before.public_board-answer.ensures) (small-giving _ (public-small _ _ _ _))
 
 returns : tie.Need-returns
-returns c = public-board-from-c _ _ _ _ c.before.before.before.before.public-board.ensures c.before.before.answered.ensures
+returns c = public-board-from-c _ _ _ _ c.before.before.before.before.public_board-answer.ensures c.before.before.answered.ensures
 
-pub lagoon-table-public-board-spec : {M : Type 1} → statement M
-lagoon-table-public-board-spec = tie.close (tie.spec (search rules) answered-requires (search rules) returns)
+pub lagoon_table_public_board_spec : {M : Type 1} → statement M
+lagoon_table_public_board_spec = tie.close (tie.spec (search rules) answered-requires (search rules) returns)

@@ -5,7 +5,7 @@ use Rattle.host_board.proofs.put_entry.Tie as tie
 returns : tie.Need-returns
 returns c =
     let d = c.before.before.before.before.before.before in
-    rw (c.before.before.put3.ensures, d.put2.ensures, d.before.before.before.before.put.ensures)
+    rw (c.before.before.put-3.ensures, d.put-2.ensures, d.before.before.before.before.put.ensures)
 
-pub put-entry-spec : {M : Type 1} → statement M
-put-entry-spec = tie.close (tie.spec (search rules) (search rules) (search rules) (search rules) (search rules) (search rules) returns)
+pub put_entry_spec : {M : Type 1} → statement M
+put_entry_spec = tie.close (tie.spec (search rules) (search rules) (search rules) (search rules) (search rules) (search rules) returns)

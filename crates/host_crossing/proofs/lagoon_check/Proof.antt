@@ -7,26 +7,26 @@ use Rattle.host_record_promises.proofs.Crossings.{found-fits, tested-refused, te
 use Rattle.host_crossing.proofs.lagoon_check.Statement.{statement}
 use Rattle.host_crossing.proofs.lagoon_check.Tie as tie
 
-number-of-requires : tie.Need-number-of-requires
+number-of-requires : tie.Need-number_of-requires
 number-of-requires c κs =
-    let a = c.before.before.before.before.before.before.before.args in
-    let q = c.before.before.before.crossed.ensures in
-    refusal-of (sym q ∙ ap taken_said c.before.a.given.1) (found-fits a.mesh.now a.field.now a.step.now)
+    let a = c.before.before.before.before.before.args in
+    let q = c.before.crossed-a.ensures in
+    refusal-of (sym q ∙ ap taken_said c.in-Refused.is) (found-fits a.mesh.now a.field.now a.step.now)
 
-returns : tie.Need-returns
+returns : tie.Need-returns-in-Refused
 returns c =
-    let a = c.before.before.before.before.before.before.before.before.args in
-    let q = c.before.before.before.before.crossed.ensures in
-    c.number-of.ensures ∙ sym (ap number_of (tested-refused a.mesh.now a.field.now a.step.now q c.before.before.a.given.1))
-
-returns-2 : tie.Need-returns-2
-returns-2 c =
     let a = c.before.before.before.before.before.before.args in
-    let q = c.before.before.crossed.ensures in
-    sym (ap number_of (tested-fine a.mesh.now a.field.now a.step.now q c.enum_told.given.1))
+    let q = c.before.before.crossed-a.ensures in
+    c.number_of.ensures ∙ sym (ap number_of (tested-refused a.mesh.now a.field.now a.step.now q c.before.in-Refused.is))
 
-pub lagoon-check-spec : {M : Type 1} → statement M
-lagoon-check-spec =
+returns-2 : tie.Need-returns-in-Stepped
+returns-2 c =
+    let a = c.before.before.before.before.before.args in
+    let q = c.before.crossed-a.ensures in
+    sym (ap number_of (tested-fine a.mesh.now a.field.now a.step.now q c.in-Stepped.is))
+
+pub lagoon_check_spec : {M : Type 1} → statement M
+lagoon_check_spec =
     tie.close
     (tie.spec
     (search rules)

@@ -7,30 +7,30 @@ use Rattle.host_record_promises.proofs.Crossings.{found-fits, crossing-found}
 use Rattle.host_crossing.proofs.lagoon_crossing.Statement.{statement}
 use Rattle.host_crossing.proofs.lagoon_crossing.Tie as tie
 
-abbrev start-from-known-told2 : tie.After-known-told2 → tie.Start
-start-from-known-told2 c = c.before.before.before.before.before.before.before.before
+abbrev start-from-known-told2 : tie.In-Stepped → tie.Start
+start-from-known-told2 c = c.before.before.before.before.before.before
 
-number-of-requires : tie.Need-number-of-requires
+number-of-requires : tie.Need-number_of-requires
 number-of-requires c κs =
-    let a = c.before.before.before.before.before.before.before.before.args in
-    let q = c.before.before.before.crossed.ensures in
-    refusal-of (sym q ∙ ap taken_said c.before.a.given.1) (found-fits a.mesh.now a.field.now a.step.now)
+    let a = c.before.before.before.before.before.before.args in
+    let q = c.before.crossed-a.ensures in
+    refusal-of (sym q ∙ ap taken_said c.in-Refused.is) (found-fits a.mesh.now a.field.now a.step.now)
 
-returns : tie.Need-returns
+returns : tie.Need-returns-in-Refused
 returns c =
-    let q = c.before.before.before.before.crossed.ensures in
-    answered-refused crossed_in c.before.before.before.before.before.before.before.before.before.args.found.now
-    (sym q ∙ ap taken_said c.before.before.a.given.1) c.number-of.ensures
+    let q = c.before.before.crossed-a.ensures in
+    answered-refused crossed_in c.before.before.before.before.before.before.before.args.found.now
+    (sym q ∙ ap taken_said c.before.in-Refused.is) c.number_of.ensures
 
-returns-2 : tie.Need-returns-2
+returns-2 : tie.Need-returns-in-Stepped
 returns-2 c =
     let a = (start-from-known-told2 c.before.before.before.before).args in
-    let q = c.before.before.before.before.before.before.before.crossed.ensures in
-    crossing-found a.mesh.now a.field.now a.step.now q c.before.before.before.before.before.a2.given.1 a.found.now
+    let q = c.before.before.before.before.before.crossed-a.ensures in
+    crossing-found a.mesh.now a.field.now a.step.now q c.before.before.before.before.in-Stepped.is a.found.now
     c.before.before.fill3.ensures
 
-pub lagoon-crossing-spec : {M : Type 1} → statement M
-lagoon-crossing-spec =
+pub lagoon_crossing_spec : {M : Type 1} → statement M
+lagoon_crossing_spec =
     tie.close
     (tie.spec
     (search rules)

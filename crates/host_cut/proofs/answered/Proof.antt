@@ -9,27 +9,27 @@ use Rattle.host_cut_promises.specs.Inner.{cut_said}
 use Rattle.host_cut.proofs.answered.Statement.{statement}
 use Rattle.host_cut.proofs.answered.Tie as tie
 
-abbrev answer-from-put-arg : tie.After-put-arg → tie.After-answer
-answer-from-put-arg c = c.before.before.before.before.before.before
+abbrev answer-from-put-arg : tie.After-put-arg-1 → tie.In-Cut-2
+answer-from-put-arg c = c.before.before.before.before.before
 
-abbrev fill4-from-put-arg : tie.After-put-arg → tie.After-fill4
+abbrev fill4-from-put-arg : tie.After-put-arg-1 → tie.After-fill4
 fill4-from-put-arg c = c.before.before.before
 
-number-of-requires : tie.Need-number-of-requires
-number-of-requires c κs = refusal-of (ap cut_said c.before.answer2.given.1) c.before.before.before.before.requires
+number-of-requires : tie.Need-number_of-requires
+number-of-requires c κs = refusal-of (ap cut_said c.in-Refused.is) c.before.before.requires
 
-returns : tie.Need-returns
-returns c = answered-found lengths_found _ (ap cut_said (answer-from-put-arg c.before.before.before.before.before.before.before).answer.given.1)
+returns : tie.Need-returns-in-Cut
+returns c = answered-found lengths_found _ (ap cut_said (answer-from-put-arg c.before.before.before.before.before.before.before).in-Cut.is)
     (rw (
-      c.before.before.put2.ensures,
+      c.before.before.put-in-Cut.ensures,
       c.before.before.before.before.before.before.put.ensures,
       (fill4-from-put-arg c.before.before.before.before.before.before.before).fill4.ensures,
       filled_on (_ ∷ _ ∷ _ ∷ _ ∷ []) _ _,
     ) (filled_on (_ ∷ _ ∷ _ ∷ _ ∷ _ ∷ []) _ _))
 
-returns-2 : tie.Need-returns-2
-returns-2 c = answered-refused lengths_found _ (ap cut_said c.before.before.answer2.given.1) c.number-of.ensures
+returns-2 : tie.Need-returns-in-Refused
+returns-2 c = answered-refused lengths_found _ (ap cut_said c.before.in-Refused.is) c.number_of.ensures
 
-pub answered-spec : {M : Type 1} → statement M
-answered-spec = tie.close
+pub answered_spec : {M : Type 1} → statement M
+answered_spec = tie.close
     (tie.spec (search rules) (search rules) (search rules) (search rules) (search rules) number-of-requires (search rules) returns returns-2)

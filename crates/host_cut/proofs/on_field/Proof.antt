@@ -20,111 +20,111 @@ lent-0 s = records_of s.args.mesh0.now s.args.field0.now s.args.step0.now
 abbrev lent-1 : tie.Start → Records
 lent-1 s = records_of s.args.mesh1.now s.args.field1.now s.args.step1.now
 
-abbrev start-from-slice-known : tie.After-slice-known → tie.Start
+abbrev start-from-slice-known : tie.After-slice_known-1 → tie.Start
 start-from-slice-known c = c.before.before.before.before.before.before.before.before.before
 
-abbrev start-from-read-step : tie.After-read-step → tie.Start
+abbrev start-from-read-step : tie.After-read_step-a → tie.Start
 start-from-read-step c = start-from-slice-known c.before.before.before.before.before.before.before.before.before
 
-abbrev start-from-releases3 : tie.After-releases3 → tie.Start
-start-from-releases3 c = start-from-read-step c.before.before.before.before.before.before.before.before.before
+abbrev start-from-releases3 : tie.After-releases-in-Read-1 → tie.Start
+start-from-releases3 c = start-from-read-step c.before.before.before.before.before.before.before
 
-abbrev read-step-from-releases3 : tie.After-releases3 → tie.After-read-step
-read-step-from-releases3 c = c.before.before.before.before.before.before.before.before.before
+abbrev read-step-from-releases3 : tie.After-releases-in-Read-1 → tie.After-read_step-a
+read-step-from-releases3 c = c.before.before.before.before.before.before.before
 
-abbrev start-from-slice-known7 : tie.After-slice-known7 → tie.Start
+abbrev start-from-slice-known7 : tie.After-slice_known-in-Read-1 → tie.Start
 start-from-slice-known7 c = start-from-releases3 c.before.before.before.before.before.before.before.before.before
 
-abbrev read-step-from-slice-known7 : tie.After-slice-known7 → tie.After-read-step
+abbrev read-step-from-slice-known7 : tie.After-slice_known-in-Read-1 → tie.After-read_step-a
 read-step-from-slice-known7 c = read-step-from-releases3 c.before.before.before.before.before.before.before.before.before
 
-abbrev releases3-from-slice-known7 : tie.After-slice-known7 → tie.After-releases3
+abbrev releases3-from-slice-known7 : tie.After-slice_known-in-Read-1 → tie.After-releases-in-Read-1
 releases3-from-slice-known7 c = c.before.before.before.before.before.before.before.before.before
 
-abbrev start-from-step1 : tie.After-step1 → tie.Start
+abbrev start-from-step1 : tie.After-step1-1 → tie.Start
 start-from-step1 c = start-from-slice-known7 c.before.before.before.before.before.before.before.before.before
 
-abbrev read-step-from-step1 : tie.After-step1 → tie.After-read-step
+abbrev read-step-from-step1 : tie.After-step1-1 → tie.After-read_step-a
 read-step-from-step1 c = read-step-from-slice-known7 c.before.before.before.before.before.before.before.before.before
 
-abbrev releases3-from-step1 : tie.After-step1 → tie.After-releases3
+abbrev releases3-from-step1 : tie.After-step1-1 → tie.After-releases-in-Read-1
 releases3-from-step1 c = releases3-from-slice-known7 c.before.before.before.before.before.before.before.before.before
 
-abbrev slice-known7-from-step1 : tie.After-step1 → tie.After-slice-known7
+abbrev slice-known7-from-step1 : tie.After-step1-1 → tie.After-slice_known-in-Read-1
 slice-known7-from-step1 c = c.before.before.before.before.before.before.before.before.before
 
-array-share-prefix-fluxes : tie.Need-array-share-prefix-fluxes
+array-share-prefix-fluxes : tie.Need-slice_bounds-fluxes-end
 array-share-prefix-fluxes c =
-    let s = (start-from-read-step c.before.before.before.before.before.before) in
-    (fluxes-part s.args.width (mesh s) s.args.masses.now c.before.before.before.before.before.before.read_step.ensures
-    c.before.a2.given.1).fits
+    let s = (start-from-read-step c.before.before.before.before) in
+    (fluxes-part s.args.width (mesh s) s.args.masses.now c.before.before.before.before.read_step-a.ensures
+    c.in-Read.is).fits
 
-slice-aggregate-cut-tables : tie.Need-slice-aggregate-cut-tables
+slice-aggregate-cut-tables : tie.Need-slice_bounds-cut_tables-end
 slice-aggregate-cut-tables c =
-    let s = (start-from-read-step c.before.before.before.before.before.before.before) in
+    let s = (start-from-read-step c.before.before.before.before.before) in
     part-long (fluxes-part s.args.width (mesh s) s.args.masses.now
-    c.before.before.before.before.before.before.before.read_step.ensures c.before.before.a2.given.1)
+    c.before.before.before.before.before.read_step-a.ensures c.before.in-Read.is)
 
-array-share-prefix-outsides : tie.Need-array-share-prefix-outsides
+array-share-prefix-outsides : tie.Need-slice_bounds-outsides-end
 array-share-prefix-outsides c =
-    let s = (start-from-read-step c.before.before.before.before.before.before.before) in
-    (outsides-part s.args.width (mesh s) s.args.masses.now c.before.before.before.before.before.before.before.read_step.ensures
-    c.before.before.a2.given.1).fits
+    let s = (start-from-read-step c.before.before.before.before.before) in
+    (outsides-part s.args.width (mesh s) s.args.masses.now c.before.before.before.before.before.read_step-a.ensures
+    c.before.in-Read.is).fits
 
-slice-aggregate-cut-tables-2 : tie.Need-slice-aggregate-cut-tables-2
+slice-aggregate-cut-tables-2 : tie.Need-slice_bounds-cut_tables-end-in-Read
 slice-aggregate-cut-tables-2 c =
-    let s = (start-from-read-step c.before.before.before.before.before.before.before.before) in
+    let s = (start-from-read-step c.before.before.before.before.before.before) in
     part-long (outsides-part s.args.width (mesh s) s.args.masses.now
-    c.before.before.before.before.before.before.before.before.read_step.ensures c.before.before.before.a2.given.1)
+    c.before.before.before.before.before.before.read_step-a.ensures c.before.before.in-Read.is)
 
-array-share-prefix-releases : tie.Need-array-share-prefix-releases
+array-share-prefix-releases : tie.Need-slice_bounds-releases-end
 array-share-prefix-releases c =
-    let s = (start-from-read-step c.before.before.before.before.before.before.before.before) in
+    let s = (start-from-read-step c.before.before.before.before.before.before) in
     (releases-part s.args.width (mesh s) s.args.masses.now
-    c.before.before.before.before.before.before.before.before.read_step.ensures c.before.before.before.a2.given.1).fits
+    c.before.before.before.before.before.before.read_step-a.ensures c.before.before.in-Read.is).fits
 
-slice-aggregate-cut-tables-3 : tie.Need-slice-aggregate-cut-tables-3
+slice-aggregate-cut-tables-3 : tie.Need-slice_bounds-cut_tables-end-in-Read-2
 slice-aggregate-cut-tables-3 c =
     let s = (start-from-releases3 c) in
     part-long (releases-part s.args.width (mesh s) s.args.masses.now
-    c.before.before.before.before.before.before.before.before.before.read_step.ensures c.before.before.before.before.a2.given.1)
+    c.before.before.before.before.before.before.before.read_step-a.ensures c.before.before.before.in-Read.is)
 
-returns : tie.Need-returns
+returns : tie.Need-returns-in-Refused
 returns c =
-    let s = (start-from-read-step c.before.before.before.before.before.before) in
+    let s = (start-from-read-step c.before.before.before.before) in
     let a = s.args in
     on-unread a.width (mesh s) a.masses.now a.step.now a.labels.now (lent-0 s) (lent-1 s)
-    c.before.before.before.before.before.before.read_step.ensures refl refl refl c.before.a.given.1
+    c.before.before.before.before.read_step-a.ensures refl refl refl c.in-Refused.is
 
-same_length : tie.Need-same-length
-same_length c = (slice-known7-from-step1 c.before).before.mesh0.given
+same_length : tie.Need-shape_of-mesh0
+same_length c = (slice-known7-from-step1 c.before).before.mesh0-1.given
 
-same-length-2 : tie.Need-same-length-2
-same-length-2 c = c.before.before.before.before.before.before.before.before.before.field0.given
+same-length-2 : tie.Need-shape_of-field0
+same-length-2 c = c.before.before.before.before.before.before.before.before.before.field0-1.given
 
-same-length-3 : tie.Need-same-length-3
-same-length-3 c = c.before.before.before.before.before.before.before.step0.given
+same-length-3 : tie.Need-shape_of-step0
+same-length-3 c = c.before.before.before.before.before.before.before.step0-1.given
 
-same-length-4 : tie.Need-same-length-4
-same-length-4 c = c.before.before.before.before.before.mesh1.given
+same-length-4 : tie.Need-shape_of-mesh1
+same-length-4 c = c.before.before.before.before.before.mesh1-1.given
 
-same-length-5 : tie.Need-same-length-5
-same-length-5 c = c.before.before.before.field1.given
+same-length-5 : tie.Need-shape_of-field1
+same-length-5 c = c.before.before.before.field1-1.given
 
-same-length-6 : tie.Need-same-length-6
-same-length-6 c = c.before.step1.given
+same-length-6 : tie.Need-shape_of-step1
+same-length-6 c = c.before.step1-1.given
 
-returns-2 : tie.Need-returns-2
+returns-2 : tie.Need-returns-in-Read
 returns-2 c =
     let s = (start-from-step1 c.before) in
     let a = s.args in
     on_read a.width (mesh s) a.masses.now a.step.now a.labels.now (lent-0 s) (lent-1 s)
-    (read-step-from-step1 c.before).read_step.ensures refl refl refl
-    (releases3-from-step1 c.before).before.before.before.before.a2.given.1
-    (slice-known7-from-step1 c.before).before.before.cut-tables.ensures
+    (read-step-from-step1 c.before).read_step-a.ensures refl refl refl
+    (releases3-from-step1 c.before).before.before.before.in-Read.is
+    (slice-known7-from-step1 c.before).before.before.cut_tables.ensures
 
-pub on-field-spec : {M : Type 1} → statement M
-on-field-spec = tie.close
+pub on_field_spec : {M : Type 1} → statement M
+on_field_spec = tie.close
     (tie.spec (search rules) (search rules) (search rules) (search rules) (search rules)
     (search rules) array-share-prefix-fluxes slice-aggregate-cut-tables array-share-prefix-outsides slice-aggregate-cut-tables-2
     array-share-prefix-releases slice-aggregate-cut-tables-3 (search rules) returns same_length same-length-2 same-length-3 same-length-4

@@ -7,16 +7,16 @@ use Rattle.host_cut_promises.specs.Cut.{labels_find}
 use Rattle.host_cut_labels.proofs.labels_of.Statement.{statement}
 use Rattle.host_cut_labels.proofs.labels_of.Tie as tie
 
-returns : tie.Need-returns
+returns : tie.Need-returns-in-Refused
 unfolding labels_find
-returns c = sym (out _ (refuses c.before.before.before.long.ensures c.before.a.given.1))
+returns c = sym (out _ (refuses c.before.long-a.ensures c.in-Refused.is))
 
-labels-fit-requires : tie.Need-labels-fit-requires
-labels-fit-requires c κs = long-fine _ _ _ (passes c.before.before.long.ensures c.enum_told.given.1)
+labels-fit-requires : tie.Need-labels_fit-requires
+labels-fit-requires c κs = long-fine _ _ _ (passes c.before.long-a.ensures c.in_default.is)
 
-returns-2 : tie.Need-returns-2
+returns-2 : tie.Need-returns
 unfolding labels_find label_values label_good part_good
-returns-2 c = c.labels-fit.ensures ∙ sym (past _ (passes c.before.before.before.long.ensures c.before.enum_told.given.1))
+returns-2 c = c.labels_fit.ensures ∙ sym (past _ (passes c.before.before.long-a.ensures c.before.in_default.is))
 
-pub labels-of-spec : {M : Type 1} → statement M
-labels-of-spec = tie.close (tie.spec (search rules) (search rules) returns (search rules) labels-fit-requires returns-2)
+pub labels_of_spec : {M : Type 1} → statement M
+labels_of_spec = tie.close (tie.spec (search rules) (search rules) returns (search rules) labels-fit-requires returns-2)

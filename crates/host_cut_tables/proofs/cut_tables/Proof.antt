@@ -19,72 +19,72 @@ lent-0 s = records_of s.args.mesh0.now s.args.field0.now s.args.step0.now
 abbrev lent-1 : tie.Start → Records
 lent-1 s = records_of s.args.mesh1.now s.args.field1.now s.args.step1.now
 
-abbrev start-from-shared-slice-known9 : tie.After-shared-slice-known9 → tie.Start
+abbrev start-from-shared-slice-known9 : tie.After-shared_slice_known-9-1 → tie.Start
 start-from-shared-slice-known9 c = c.before.before.before.before.before.before.before.before.before
 
-abbrev start-from-a : tie.After-a → tie.Start
-start-from-a c = start-from-shared-slice-known9 c.before.before.before.before.before.before.before.before.before
+abbrev start-from-a : tie.In-Refused-2 → tie.Start
+start-from-a c = start-from-shared-slice-known9 c.before.before.before.before.before.before.before.before
 
-abbrev start-from-enum-told : tie.After-enum-told → tie.Start
-start-from-enum-told c = start-from-shared-slice-known9 c.before.before.before.before.before.before.before.before.before
+abbrev start-from-enum-told : tie.In_default → tie.Start
+start-from-enum-told c = start-from-shared-slice-known9 c.before.before.before.before.before.before.before.before
 
-abbrev start-from-step0 : tie.After-step0 → tie.Start
+abbrev start-from-step0 : tie.After-step0-1 → tie.Start
 start-from-step0 c = start-from-enum-told c.before.before.before.before.before.before.before.before.before
 
-abbrev enum-told-from-step0 : tie.After-step0 → tie.After-enum-told
+abbrev enum-told-from-step0 : tie.After-step0-1 → tie.In_default
 enum-told-from-step0 c = c.before.before.before.before.before.before.before.before.before
 
-abbrev enum-told-from-slice-known11 : tie.After-slice-known11 → tie.After-enum-told
+abbrev enum-told-from-slice-known11 : tie.After-slice_known-11-1 → tie.In_default
 enum-told-from-slice-known11 c = enum-told-from-step0 c.before.before.before.before.before.before.before.before.before
 
-abbrev step0-from-slice-known11 : tie.After-slice-known11 → tie.After-step0
+abbrev step0-from-slice-known11 : tie.After-slice_known-11-1 → tie.After-step0-1
 step0-from-slice-known11 c = c.before.before.before.before.before.before.before.before.before
 
-returns : tie.Need-returns
+returns : tie.Need-returns-in-Refused
 returns c =
-    let s = (start-from-a c.before) in
+    let s = (start-from-a c) in
     let a = s.args in
     cut-refused a.width (kind_number a.width a.kind) (whole s) a.labels.now (lent-0 s) (lent-1 s) _
-    (refuses c.before.before.before.tested.ensures c.before.a.given.1)
+    (refuses c.before.tested-a.ensures c.in-Refused.is)
 
-part-written-requires : tie.Need-part-written-requires
+part-written-requires : tie.Need-part_written-x-requires
 part-written-requires c κs =
     let s = (start-from-enum-told c.before.before.before) in
     cuttable-own (whole s) s.args.labels.now
-    (both-fine _ _ (passes c.before.before.before.before.before.tested.ensures c.before.before.before.enum_told.given.1)).0
+    (both-fine _ _ (passes c.before.before.before.before.tested-a.ensures c.before.before.before.in_default.is)).0
 
-part-written-requires-2 : tie.Need-part-written-requires-2
+part-written-requires-2 : tie.Need-part_written-y-requires
 part-written-requires-2 c κs =
     let s = (start-from-step0 c.before.before.before.before) in
     cuttable-own (whole s) s.args.labels.now
-    (both-fine _ _ (passes (enum-told-from-step0 c.before.before.before.before).before.before.tested.ensures
-    (enum-told-from-step0 c.before.before.before.before).enum_told.given.1)).0
+    (both-fine _ _ (passes (enum-told-from-step0 c.before.before.before.before).before.tested-a.ensures
+    (enum-told-from-step0 c.before.before.before.before).in_default.is)).0
 
-same_length : tie.Need-same-length
-same_length c = (step0-from-slice-known11 c.before.before).before.before.before.before.mesh0.given
+same_length : tie.Need-shape_of-mesh0
+same_length c = (step0-from-slice-known11 c.before.before).before.before.before.before.mesh0-1.given
 
-same-length-2 : tie.Need-same-length-2
-same-length-2 c = (step0-from-slice-known11 c.before.before).before.before.field0.given
+same-length-2 : tie.Need-shape_of-field0
+same-length-2 c = (step0-from-slice-known11 c.before.before).before.before.field0-1.given
 
-same-length-3 : tie.Need-same-length-3
-same-length-3 c = (step0-from-slice-known11 c.before.before).step0.given
+same-length-3 : tie.Need-shape_of-step0
+same-length-3 c = (step0-from-slice-known11 c.before.before).step0-1.given
 
-same-length-4 : tie.Need-same-length-4
-same-length-4 c = c.before.before.before.before.before.mesh1.given
+same-length-4 : tie.Need-shape_of-mesh1
+same-length-4 c = c.before.before.before.before.before.mesh1-1.given
 
-same-length-5 : tie.Need-same-length-5
-same-length-5 c = c.before.before.before.field1.given
+same-length-5 : tie.Need-shape_of-field1
+same-length-5 c = c.before.before.before.field1-1.given
 
-same-length-6 : tie.Need-same-length-6
-same-length-6 c = c.before.step1.given
+same-length-6 : tie.Need-shape_of-step1
+same-length-6 c = c.before.step1-1.given
 
-returns-2 : tie.Need-returns-2
+returns-2 : tie.Need-returns
 returns-2 c = cut-done
-    (passes (enum-told-from-slice-known11 c.before.before).before.before.tested.ensures
-    (enum-told-from-slice-known11 c.before.before).enum_told.given.1) (step0-from-slice-known11
-    c.before.before).before.before.before.before.before.part-written.ensures
-    c.before.before.before.before.before.before.part-written2.ensures
+    (passes (enum-told-from-slice-known11 c.before.before).before.tested-a.ensures
+    (enum-told-from-slice-known11 c.before.before).in_default.is) (step0-from-slice-known11
+    c.before.before).before.before.before.before.before.part_written-x.ensures
+    c.before.before.before.before.before.before.part_written-y.ensures
 
-pub cut-tables-spec : {M : Type 1} → statement M
-cut-tables-spec = tie.close (tie.spec (search rules) (search rules) returns (search rules) part-written-requires part-written-requires-2
+pub cut_tables_spec : {M : Type 1} → statement M
+cut_tables_spec = tie.close (tie.spec (search rules) (search rules) returns (search rules) part-written-requires part-written-requires-2
     same_length same-length-2 same-length-3 same-length-4 same-length-5 same-length-6 returns-2)

@@ -8,14 +8,14 @@ use Rattle.host_field_promises.proofs.Fields.{page-from-c}
 use Rattle.host_field.proofs.lagoon_table_page.Statement.{statement}
 use Rattle.host_field.proofs.lagoon_table_page.Tie as tie
 
-page-answered-requires : tie.Need-page-answered-requires
+page-answered-requires : tie.Need-page_answered-requires
 page-answered-requires c κs =
     let d = c.before.before.before in
     let s = d.before.before.before.before.before.before in
-    fits-as d.page.ensures.answer (small-giving _ (page-small fine _ _ _ _ _ (small-fine tt) (omega (arith, s.ranges.page.fits))))
+    fits-as d.page-answer.ensures.answer (small-giving _ (page-small fine _ _ _ _ _ (small-fine tt) (omega (arith, s.ranges.page.fits))))
 
 returns : tie.Need-returns
-returns c = page-from-c _ _ _ c.before.before.before.before.before.before.page.ensures c.before.before.page-answered.ensures
+returns c = page-from-c _ _ _ c.before.before.before.before.before.before.page-answer.ensures c.before.before.page_answered.ensures
 
-pub lagoon-table-page-spec : {M : Type 1} → statement M
-lagoon-table-page-spec = tie.close (tie.spec (search rules) page-answered-requires (search rules) (search rules) returns)
+pub lagoon_table_page_spec : {M : Type 1} → statement M
+lagoon_table_page_spec = tie.close (tie.spec (search rules) page-answered-requires (search rules) (search rules) returns)

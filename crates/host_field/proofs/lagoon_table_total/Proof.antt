@@ -6,11 +6,11 @@ use Rattle.host_field_promises.proofs.Fields.{total-from-c}
 use Rattle.host_field.proofs.lagoon_table_total.Statement.{statement}
 use Rattle.host_field.proofs.lagoon_table_total.Tie as tie
 
-total-answered-requires : tie.Need-total-answered-requires
-total-answered-requires c κs = fits-as c.before.total.ensures (small-giving _ (mesh-field-small _ _))
+total-answered-requires : tie.Need-total_answered-requires
+total-answered-requires c κs = fits-as c.before.total-answer.ensures (small-giving _ (mesh-field-small _ _))
 
 returns : tie.Need-returns
-returns c = total-from-c _ _ _ c.before.before.before.before.total.ensures c.before.before.total-answered.ensures
+returns c = total-from-c _ _ _ c.before.before.before.before.total-answer.ensures c.before.before.total_answered.ensures
 
-pub lagoon-table-total-spec : {M : Type 1} → statement M
-lagoon-table-total-spec = tie.close (tie.spec (search rules) total-answered-requires (search rules) returns)
+pub lagoon_table_total_spec : {M : Type 1} → statement M
+lagoon_table_total_spec = tie.close (tie.spec (search rules) total-answered-requires (search rules) returns)

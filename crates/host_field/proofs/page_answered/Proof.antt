@@ -6,14 +6,14 @@ use Rattle.host_answer.proofs.Answers.{refusal-of, answered-refused, answered-fo
 use Rattle.host_field.proofs.page_answered.Statement.{statement}
 use Rattle.host_field.proofs.page_answered.Tie as tie
 
-number-of-requires : tie.Need-number-of-requires
-number-of-requires c κs = refusal-of (ap page_said c.before.answer2.given.1) c.before.before.before.before.requires
+number-of-requires : tie.Need-number_of-requires
+number-of-requires c κs = refusal-of (ap page_said c.in-Refused.is) c.before.before.requires
 
-returns : tie.Need-returns
-returns c = answered-found alone _ (ap page_said c.before.before.before.before.before.answer.given.1) c.before.before.fill1.ensures
+returns : tie.Need-returns-in-Printed
+returns c = answered-found alone _ (ap page_said c.before.before.before.before.in-Printed.is) c.before.before.fill1.ensures
 
-returns-2 : tie.Need-returns-2
-returns-2 c = answered-refused alone _ (ap page_said c.before.before.answer2.given.1) c.number-of.ensures
+returns-2 : tie.Need-returns-in-Refused
+returns-2 c = answered-refused alone _ (ap page_said c.before.in-Refused.is) c.number_of.ensures
 
-pub page-answered-spec : {M : Type 1} → statement M
-page-answered-spec = tie.close (tie.spec (search rules) (search rules) (search rules) number-of-requires (search rules) returns returns-2)
+pub page_answered_spec : {M : Type 1} → statement M
+page_answered_spec = tie.close (tie.spec (search rules) (search rules) (search rules) number-of-requires (search rules) returns returns-2)

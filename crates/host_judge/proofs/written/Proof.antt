@@ -21,66 +21,66 @@ abbrev call : tie.Start → Call
 call s = claim_on s.args.fluxes.now s.args.outsides.now s.args.releases.now s.args.claim.now
 
 -- from where the step is known to be made back to the judging, and from there to the start
-abbrev judging : tie.After-a2 → tie.After-judge
-judging k = k.before.before.before
+abbrev judging : tie.In-Stepped-2 → tie.After-judge-a
+judging k = k.before.before
 
-abbrev entered : tie.After-shared-slice-known8 → tie.Start
+abbrev entered : tie.After-shared_slice_known-8-1 → tie.Start
 entered c = c.before.before.before.before.before.before.before.before
 
-abbrev start : tie.After-judge → tie.Start
+abbrev start : tie.After-judge-a → tie.Start
 start j = entered j.before.before.before
 
-array-share-prefix-next : tie.Need-array-share-prefix-next
+array-share-prefix-next : tie.Need-slice_bounds-next-end
 unfolding blank
 array-share-prefix-next c =
-    let k = c.before in
+    let k = c in
     let s = start (judging k) in
-    let p = (judging k).judge.ensures in
-    (next-part judged judged-keeping s.args.width (mesh s) s.pre s.args.masses.now (call s)
-    (lent (mesh s) s.args.masses.now (call s)) s.args.bytes.now p.answer p.next_masses k.a2.given.1).fits
+    let p = (judging k).judge-a.ensures in
+    (next-part judged judged-keeping s.args.width (mesh s) s.requires s.args.masses.now (call s)
+    (lent (mesh s) s.args.masses.now (call s)) s.args.bytes.now p.answer p.next_masses k.in-Stepped.is).fits
 
-slice-aggregate-write-field : tie.Need-slice-aggregate-write-field
+slice-aggregate-write-field : tie.Need-slice_bounds-write_field-end
 unfolding blank
 slice-aggregate-write-field c =
-    let k = c.before.before in
+    let k = c.before in
     let s = start (judging k) in
-    let p = (judging k).judge.ensures in
-    part-long (next-part judged judged-keeping s.args.width (mesh s) s.pre s.args.masses.now (call s)
-    (lent (mesh s) s.args.masses.now (call s)) s.args.bytes.now p.answer p.next_masses k.a2.given.1)
+    let p = (judging k).judge-a.ensures in
+    part-long (next-part judged judged-keeping s.args.width (mesh s) s.requires s.args.masses.now (call s)
+    (lent (mesh s) s.args.masses.now (call s)) s.args.bytes.now p.answer p.next_masses k.in-Stepped.is)
 
-returns : tie.Need-returns
+returns : tie.Need-returns-in-Refused
 unfolding blank
 returns c =
-    let j = c.before.before.before.before in
+    let j = c.before.before in
     let s = start j in
-    let p = j.judge.ensures in
-    step-refused judged judged-keeping s.args.width (mesh s) s.pre s.args.masses.now (call s)
-    (lent (mesh s) s.args.masses.now (call s)) s.args.bytes.now p.answer p.next_masses c.before.a.given.1
+    let p = j.judge-a.ensures in
+    step-refused judged judged-keeping s.args.width (mesh s) s.requires s.args.masses.now (call s)
+    (lent (mesh s) s.args.masses.now (call s)) s.args.bytes.now p.answer p.next_masses c.in-Refused.is
 
-returns-2 : tie.Need-returns-2
+returns-2 : tie.Need-returns-in-Refused-b
 unfolding blank
 returns-2 c =
-    let w = c.before.before.before.before.before in
-    let k = w.before.before.before.before in
+    let w = c.before.before.before in
+    let k = w.before.before.before in
     let s = start (judging k) in
-    let p = (judging k).judge.ensures in
-    no_room judged judged-keeping s.args.width (mesh s) s.pre s.args.masses.now (call s)
-    (lent (mesh s) s.args.masses.now (call s)) s.args.bytes.now p.answer p.next_masses k.a2.given.1 w.write-field.ensures
-    c.before.b.given.1
+    let p = (judging k).judge-a.ensures in
+    no_room judged judged-keeping s.args.width (mesh s) s.requires s.args.masses.now (call s)
+    (lent (mesh s) s.args.masses.now (call s)) s.args.bytes.now p.answer p.next_masses k.in-Stepped.is w.write_field-b.ensures
+    c.in-Refused-b.is
 
-returns-3 : tie.Need-returns-3
+returns-3 : tie.Need-returns-in-Written
 unfolding blank
 returns-3 c =
-    let w = c.before.before.before.before in
-    let k = w.before.before.before.before in
+    let w = c.before.before.before in
+    let k = w.before.before.before in
     let s = start (judging k) in
-    let p = (judging k).judge.ensures in
-    record-written judged judged-keeping s.args.width (mesh s) s.pre s.args.masses.now (call s)
-    (lent (mesh s) s.args.masses.now (call s)) s.args.bytes.now p.answer p.next_masses k.a2.given.1 w.write-field.ensures
-    c.enum_told.given.1
+    let p = (judging k).judge-a.ensures in
+    record-written judged judged-keeping s.args.width (mesh s) s.requires s.args.masses.now (call s)
+    (lent (mesh s) s.args.masses.now (call s)) s.args.bytes.now p.answer p.next_masses k.in-Stepped.is w.write_field-b.ensures
+    c.in-Written.is
 
-pub written-spec : {M : Type 1} → statement M
-written-spec =
+pub written_spec : {M : Type 1} → statement M
+written_spec =
     tie.close
     (tie.spec (search rules) (search rules) (search rules) (search rules) array-share-prefix-next slice-aggregate-write-field
     (search rules) (search rules) (search rules) returns (search rules) returns-2 (search rules) returns-3)

@@ -6,14 +6,14 @@ use Rattle.host_answer.proofs.Answers.{refusal-of, answered-refused, answered-fo
 use Rattle.host_period.proofs.charged.Statement.{statement}
 use Rattle.host_period.proofs.charged.Tie as tie
 
-number-of-requires : tie.Need-number-of-requires
-number-of-requires c κs = refusal-of (ap charge_said c.before.answer2.given.1) c.before.before.before.before.requires
+number-of-requires : tie.Need-number_of-requires
+number-of-requires c κs = refusal-of (ap charge_said c.in-Refused.is) c.before.before.requires
 
-returns : tie.Need-returns
-returns c = answered-found billed _ (ap charge_said c.before.before.before.before.before.answer.given.1) c.before.before.fill2.ensures
+returns : tie.Need-returns-in-Charged
+returns c = answered-found billed _ (ap charge_said c.before.before.before.before.in-Charged.is) c.before.before.fill2.ensures
 
-returns-2 : tie.Need-returns-2
-returns-2 c = answered-refused billed _ (ap charge_said c.before.before.answer2.given.1) c.number-of.ensures
+returns-2 : tie.Need-returns-in-Refused
+returns-2 c = answered-refused billed _ (ap charge_said c.before.in-Refused.is) c.number_of.ensures
 
-pub charged-spec : {M : Type 1} → statement M
-charged-spec = tie.close (tie.spec (search rules) (search rules) (search rules) number-of-requires (search rules) returns returns-2)
+pub charged_spec : {M : Type 1} → statement M
+charged_spec = tie.close (tie.spec (search rules) (search rules) (search rules) number-of-requires (search rules) returns returns-2)

@@ -6,12 +6,12 @@ use Rattle.host_period_promises.proofs.Small.{drop-small}
 use Rattle.host_period.proofs.lagoon_drop.Statement.{statement}
 use Rattle.host_period.proofs.lagoon_drop.Tie as tie
 
-answer-number-requires : tie.Need-answer-number-requires
-answer-number-requires c κs = let s = c.before.before.before.before.before in fits-as c.before.before.drop.ensures.answer
+answer-number-requires : tie.Need-answer_number-requires
+answer-number-requires c κs = let s = c.before.before.before.before.before in fits-as c.before.before.drop-answer.ensures.answer
     (drop-small _ _ _ (omega (arith, s.ranges.name.fits)))
 
 returns : tie.Need-returns
-returns c = drop-from-c c.answer-number.ensures c.before.before.before.drop.ensures
+returns c = drop-from-c c.answer_number.ensures c.before.before.before.drop-answer.ensures
 
-pub lagoon-drop-spec : {M : Type 1} → statement M
-lagoon-drop-spec = tie.close (tie.spec (search rules) answer-number-requires (search rules) returns)
+pub lagoon_drop_spec : {M : Type 1} → statement M
+lagoon_drop_spec = tie.close (tie.spec (search rules) answer-number-requires (search rules) returns)

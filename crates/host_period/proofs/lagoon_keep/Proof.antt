@@ -6,12 +6,12 @@ use Rattle.host_period_promises.proofs.Small.{keep-small}
 use Rattle.host_period.proofs.lagoon_keep.Statement.{statement}
 use Rattle.host_period.proofs.lagoon_keep.Tie as tie
 
-answer-number-requires : tie.Need-answer-number-requires
-answer-number-requires c κs = let s = c.before.before.before.before.before.before.before in fits-as c.before.before.keep.ensures.answer
+answer-number-requires : tie.Need-answer_number-requires
+answer-number-requires c κs = let s = c.before.before.before.before.before.before.before in fits-as c.before.before.keep-answer.ensures.answer
     (keep-small _ _ _ (omega (arith, s.ranges.name.fits)) _ _)
 
 returns : tie.Need-returns
-returns c = keep-from-c c.answer-number.ensures c.before.before.before.keep.ensures
+returns c = keep-from-c c.answer_number.ensures c.before.before.before.keep-answer.ensures
 
-pub lagoon-keep-spec : {M : Type 1} → statement M
-lagoon-keep-spec = tie.close (tie.spec (search rules) answer-number-requires (search rules) returns)
+pub lagoon_keep_spec : {M : Type 1} → statement M
+lagoon_keep_spec = tie.close (tie.spec (search rules) answer-number-requires (search rules) returns)

@@ -16,68 +16,68 @@ mesh s =
     mesh_of a.cells a.faces a.volumes.now a.firsts.now a.seconds.now a.shares.now a.reaches.now
 
 -- from where the record is known to be read back to its reading, and from there to the start
-abbrev reading : tie.After-enum-told → tie.After-read-step
-reading k = k.before.before.before.before.before
+abbrev reading : tie.In-Read → tie.After-read_step-a
+reading k = k.before.before.before.before
 
-abbrev entered : tie.After-shared-slice-known7 → tie.Start
+abbrev entered : tie.After-shared_slice_known-7-1 → tie.Start
 entered c = c.before.before.before.before.before.before.before
 
-abbrev start : tie.After-read-step → tie.Start
+abbrev start : tie.After-read_step-a → tie.Start
 start r = entered r.before.before.before.before.before
 
-array-share-prefix-fluxes : tie.Need-array-share-prefix-fluxes
+array-share-prefix-fluxes : tie.Need-slice_bounds-fluxes-end
 array-share-prefix-fluxes k =
     let s = start (reading k) in
-    (fluxes-part s.args.width (mesh s) s.args.masses.now (reading k).read_step.ensures k.enum_told.given.1).fits
+    (fluxes-part s.args.width (mesh s) s.args.masses.now (reading k).read_step-a.ensures k.in-Read.is).fits
 
-slice-aggregate-written : tie.Need-slice-aggregate-written
+slice-aggregate-written : tie.Need-slice_bounds-written-end
 slice-aggregate-written c =
     let k = c.before in
     let s = start (reading k) in
-    part-long (fluxes-part s.args.width (mesh s) s.args.masses.now (reading k).read_step.ensures k.enum_told.given.1)
+    part-long (fluxes-part s.args.width (mesh s) s.args.masses.now (reading k).read_step-a.ensures k.in-Read.is)
 
-array-share-prefix-outsides : tie.Need-array-share-prefix-outsides
+array-share-prefix-outsides : tie.Need-slice_bounds-outsides-end
 array-share-prefix-outsides c =
     let k = c.before in
     let s = start (reading k) in
-    (outsides-part s.args.width (mesh s) s.args.masses.now (reading k).read_step.ensures k.enum_told.given.1).fits
+    (outsides-part s.args.width (mesh s) s.args.masses.now (reading k).read_step-a.ensures k.in-Read.is).fits
 
-slice-aggregate-written-2 : tie.Need-slice-aggregate-written-2
+slice-aggregate-written-2 : tie.Need-slice_bounds-written-end-in-Read
 slice-aggregate-written-2 c =
     let k = c.before.before in
     let s = start (reading k) in
-    part-long (outsides-part s.args.width (mesh s) s.args.masses.now (reading k).read_step.ensures k.enum_told.given.1)
+    part-long (outsides-part s.args.width (mesh s) s.args.masses.now (reading k).read_step-a.ensures k.in-Read.is)
 
-array-share-prefix-releases : tie.Need-array-share-prefix-releases
+array-share-prefix-releases : tie.Need-slice_bounds-releases-end
 array-share-prefix-releases c =
     let k = c.before.before in
     let s = start (reading k) in
-    (releases-part s.args.width (mesh s) s.args.masses.now (reading k).read_step.ensures k.enum_told.given.1).fits
+    (releases-part s.args.width (mesh s) s.args.masses.now (reading k).read_step-a.ensures k.in-Read.is).fits
 
-slice-aggregate-written-3 : tie.Need-slice-aggregate-written-3
+slice-aggregate-written-3 : tie.Need-slice_bounds-written-end-in-Read-2
 slice-aggregate-written-3 c =
     let k = c.before.before.before in
     let s = start (reading k) in
-    part-long (releases-part s.args.width (mesh s) s.args.masses.now (reading k).read_step.ensures k.enum_told.given.1)
+    part-long (releases-part s.args.width (mesh s) s.args.masses.now (reading k).read_step-a.ensures k.in-Read.is)
 
-returns : tie.Need-returns
+returns : tie.Need-returns-in-Refused
 unfolding step_judged
 returns c =
-    let r = c.before.before.before.before.before.before in
+    let r = c.before.before.before.before in
     let s = start r in
-    on-unread plain own_tables s.args.width (mesh s) s.args.masses.now s.args.step.now s.args.bytes.now r.read_step.ensures refl refl refl
-    c.before.a.given.1
+    on-unread plain own_tables s.args.width (mesh s) s.args.masses.now s.args.step.now s.args.bytes.now r.read_step-a.ensures refl refl refl
+    c.in-Refused.is
 
-returns-2 : tie.Need-returns-2
+returns-2 : tie.Need-returns-in-Read
 unfolding step_judged
 returns-2 c =
     let k = c.before.before.before.before.before.before.before in
     let s = start (reading k) in
-    on_read plain own_tables s.args.width (mesh s) s.args.masses.now s.args.step.now s.args.bytes.now (reading k).read_step.ensures
-    refl refl refl k.enum_told.given.1 c.before.before.written.ensures
+    on_read plain own_tables s.args.width (mesh s) s.args.masses.now s.args.step.now s.args.bytes.now (reading k).read_step-a.ensures
+    refl refl refl k.in-Read.is c.before.before.written.ensures
 
-pub on-field-spec : {M : Type 1} → statement M
-on-field-spec =
+pub on_field_spec : {M : Type 1} → statement M
+on_field_spec =
     tie.close
     (tie.spec (search rules) (search rules) (search rules) (search rules) (search rules) (search rules) array-share-prefix-fluxes slice-aggregate-written
     array-share-prefix-outsides slice-aggregate-written-2 array-share-prefix-releases slice-aggregate-written-3

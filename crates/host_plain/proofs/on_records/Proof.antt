@@ -9,53 +9,53 @@ use Rattle.host_plain.proofs.on_records.Statement.{statement}
 use Rattle.host_plain.proofs.on_records.Tie as tie
 
 -- from the step back to where the counts are known, from there to the taking of mesh and field, and from there to the start
-abbrev counted : tie.After-on-field → tie.After-a2
-counted o = o.before.before.before.before.before.before.before.before.before
+abbrev counted : tie.After-on_field → tie.In-Taken-2
+counted o = o.before.before.before.before.before.before.before.before
 
-abbrev taking : tie.After-a2 → tie.After-take-field
-taking k = k.before.before.before.before.before.before.before.before
+abbrev taking : tie.In-Taken-2 → tie.After-take_field-a
+taking k = k.before.before.before.before.before.before.before
 
-abbrev entered : tie.After-firsts → tie.Start
+abbrev entered : tie.After-firsts-1 → tie.Start
 entered c = c.before.before.before.before.before.before
 
-abbrev start : tie.After-take-field → tie.Start
+abbrev start : tie.After-take_field-a → tie.Start
 start t = entered t.before.before.before.before.before
 
-on-field-requires : tie.Need-on-field-requires
+on-field-requires : tie.Need-on_field-requires
 on-field-requires c κs =
-    let k = c.before.before.before.before.before.before.before.before in
-    within-taken _ _ (taking k).take-field.ensures k.a2.given.1
+    let k = c.before.before.before.before.before.before.before in
+    within-taken _ _ (taking k).take_field-a.ensures k.in-Taken.is
 
-returns : tie.Need-returns
+returns : tie.Need-returns-in-Refused
 unfolding step_judged
 returns c =
-    let t = c.before.before.before.before.before.before.before.before.before in
+    let t = c.before.before.before.before.before.before.before in
     let a = (start t).args in
     records-refused plain own_tables a.mesh.now a.field.now a.step.now a.bytes.now
-    (untaken a.mesh.now a.field.now t.take-field.ensures.answer c.before.a.given.1)
+    (untaken a.mesh.now a.field.now t.take_field-a.ensures.answer c.in-Refused.is)
 
-returns-2 : tie.Need-returns-2
+returns-2 : tie.Need-returns-in-Taken
 unfolding step_judged
 returns-2 c =
     let k = counted c.before.before in
     let a = (start (taking k)).args in
-    records-taken plain own_tables a.mesh.now a.field.now a.step.now a.bytes.now (taking k).take-field.ensures k.a2.given.1
-    c.before.before.on-field.ensures
+    records-taken plain own_tables a.mesh.now a.field.now a.step.now a.bytes.now (taking k).take_field-a.ensures k.in-Taken.is
+    c.before.before.on_field.ensures
 
-pub on-records-spec : {M : Type 1} → statement M
-on-records-spec =
+pub on_records_spec : {M : Type 1} → statement M
+on_records_spec =
     tie.close
     (tie.spec (search rules) (search rules) (search rules) (search rules) (search rules) (search rules) (search rules) (search rules) (search rules)
-    (λ c. let k = c.before in (lendable _ _ (taking k).take-field.ensures k.a2.given.1).mesh_fits.volumes_long)
-    (λ c. let k = c.before.before in (lendable _ _ (taking k).take-field.ensures k.a2.given.1).mesh_cut.volumes_cut)
-    (λ c. let k = c.before.before in (lendable _ _ (taking k).take-field.ensures k.a2.given.1).mesh_fits.firsts_long)
-    (λ c. let k = c.before.before.before in (lendable _ _ (taking k).take-field.ensures k.a2.given.1).mesh_cut.firsts_cut)
-    (λ c. let k = c.before.before.before in (lendable _ _ (taking k).take-field.ensures k.a2.given.1).mesh_fits.seconds_long)
-    (λ c. let k = c.before.before.before.before in (lendable _ _ (taking k).take-field.ensures k.a2.given.1).mesh_cut.seconds_cut)
-    (λ c. let k = c.before.before.before.before in (lendable _ _ (taking k).take-field.ensures k.a2.given.1).mesh_fits.shares_long)
-    (λ c. let k = c.before.before.before.before.before in (lendable _ _ (taking k).take-field.ensures k.a2.given.1).mesh_cut.shares_cut)
-    (λ c. let k = c.before.before.before.before.before in (lendable _ _ (taking k).take-field.ensures k.a2.given.1).mesh_fits.reaches_long)
-    (λ c. let k = c.before.before.before.before.before.before in (lendable _ _ (taking k).take-field.ensures k.a2.given.1).mesh_cut.reaches_cut)
-    (λ c. let k = c.before.before.before.before.before.before in (lendable _ _ (taking k).take-field.ensures k.a2.given.1).masses_fit)
-    (λ c. let k = c.before.before.before.before.before.before.before in (lendable _ _ (taking k).take-field.ensures k.a2.given.1).masses_long)
+    (λ c. let k = c in (lendable _ _ (taking k).take_field-a.ensures k.in-Taken.is).mesh_fits.volumes_long)
+    (λ c. let k = c.before in (lendable _ _ (taking k).take_field-a.ensures k.in-Taken.is).mesh_cut.volumes_cut)
+    (λ c. let k = c.before in (lendable _ _ (taking k).take_field-a.ensures k.in-Taken.is).mesh_fits.firsts_long)
+    (λ c. let k = c.before.before in (lendable _ _ (taking k).take_field-a.ensures k.in-Taken.is).mesh_cut.firsts_cut)
+    (λ c. let k = c.before.before in (lendable _ _ (taking k).take_field-a.ensures k.in-Taken.is).mesh_fits.seconds_long)
+    (λ c. let k = c.before.before.before in (lendable _ _ (taking k).take_field-a.ensures k.in-Taken.is).mesh_cut.seconds_cut)
+    (λ c. let k = c.before.before.before in (lendable _ _ (taking k).take_field-a.ensures k.in-Taken.is).mesh_fits.shares_long)
+    (λ c. let k = c.before.before.before.before in (lendable _ _ (taking k).take_field-a.ensures k.in-Taken.is).mesh_cut.shares_cut)
+    (λ c. let k = c.before.before.before.before in (lendable _ _ (taking k).take_field-a.ensures k.in-Taken.is).mesh_fits.reaches_long)
+    (λ c. let k = c.before.before.before.before.before in (lendable _ _ (taking k).take_field-a.ensures k.in-Taken.is).mesh_cut.reaches_cut)
+    (λ c. let k = c.before.before.before.before.before in (lendable _ _ (taking k).take_field-a.ensures k.in-Taken.is).masses_fit)
+    (λ c. let k = c.before.before.before.before.before.before in (lendable _ _ (taking k).take_field-a.ensures k.in-Taken.is).masses_long)
     on-field-requires returns (search rules) returns-2)

@@ -19,73 +19,73 @@ mesh s =
 abbrev call : tie.Start → Call
 call s = own_tables s.args.fluxes.now s.args.outsides.now s.args.releases.now
 
-abbrev start-from-shared-slice-known7 : tie.After-shared-slice-known7 → tie.Start
+abbrev start-from-shared-slice-known7 : tie.After-shared_slice_known-7-1 → tie.Start
 start-from-shared-slice-known7 c = c.before.before.before.before.before.before.before
 
-abbrev start-from-work2 : tie.After-work2 → tie.Start
+abbrev start-from-work2 : tie.After-work-2-1 → tie.Start
 start-from-work2 c = start-from-shared-slice-known7 c.before.before.before.before.before.before.before.before.before
 
-abbrev start-from-shared-slice-known6 : tie.After-shared-slice-known6 → tie.Start
+abbrev start-from-shared-slice-known6 : tie.After-shared_slice_known-6-1 → tie.Start
 start-from-shared-slice-known6 c = c.before.before.before.before.before.before
 
-abbrev start-from-moved2 : tie.After-moved2 → tie.Start
+abbrev start-from-moved2 : tie.After-moved-2-1 → tie.Start
 start-from-moved2 c = start-from-shared-slice-known6 c.before.before.before.before.before.before.before.before.before
 
-abbrev start-from-slice-known2 : tie.After-slice-known2 → tie.Start
-start-from-slice-known2 c = start-from-moved2 c.before.before.before.before.before.before.before.before.before
+abbrev start-from-slice-known2 : tie.After-slice_known-in-Stepped-1 → tie.Start
+start-from-slice-known2 c = start-from-moved2 c.before.before.before.before.before.before.before
 
-abbrev step-from-moved2 : tie.After-moved2 → tie.After-step
+abbrev step-from-moved2 : tie.After-moved-2-1 → tie.After-step-a
 step-from-moved2 c = c.before.before
 
-abbrev step-from-slice-known2 : tie.After-slice-known2 → tie.After-step
-step-from-slice-known2 c = step-from-moved2 c.before.before.before.before.before.before.before.before.before
+abbrev step-from-slice-known2 : tie.After-slice_known-in-Stepped-1 → tie.After-step-a
+step-from-slice-known2 c = step-from-moved2 c.before.before.before.before.before.before.before
 
-array-share-prefix-next : tie.Need-array-share-prefix-next
+array-share-prefix-next : tie.Need-slice_bounds-next-end
 unfolding blank
 array-share-prefix-next c =
-    let s = (start-from-work2 c.before.before.before) in
-    let p = c.before.before.before.before.before.before.step.ensures in
-    (next-part plain plain-keeping s.args.width (mesh s) s.pre s.args.masses.now (call s)
-    (lent (mesh s) s.args.masses.now (call s)) s.args.bytes.now p.answer p.next_masses c.before.a2.given.1).fits
+    let s = (start-from-work2 c.before) in
+    let p = c.before.before.before.before.step-a.ensures in
+    (next-part plain plain-keeping s.args.width (mesh s) s.requires s.args.masses.now (call s)
+    (lent (mesh s) s.args.masses.now (call s)) s.args.bytes.now p.answer p.next_masses c.in-Stepped.is).fits
 
-slice-aggregate-write-field : tie.Need-slice-aggregate-write-field
+slice-aggregate-write-field : tie.Need-slice_bounds-write_field-end
 unfolding blank
 slice-aggregate-write-field c =
-    let s = (start-from-work2 c.before.before.before.before) in
-    let p = c.before.before.before.before.before.before.before.step.ensures in
-    part-long (next-part plain plain-keeping s.args.width (mesh s) s.pre s.args.masses.now (call s)
-    (lent (mesh s) s.args.masses.now (call s)) s.args.bytes.now p.answer p.next_masses c.before.before.a2.given.1)
+    let s = (start-from-work2 c.before.before) in
+    let p = c.before.before.before.before.before.step-a.ensures in
+    part-long (next-part plain plain-keeping s.args.width (mesh s) s.requires s.args.masses.now (call s)
+    (lent (mesh s) s.args.masses.now (call s)) s.args.bytes.now p.answer p.next_masses c.before.in-Stepped.is)
 
-returns : tie.Need-returns
+returns : tie.Need-returns-in-Refused
 unfolding blank
 returns c =
-    let s = (start-from-work2 c.before.before.before) in
-    let p = c.before.before.before.before.before.before.step.ensures in
-    step-refused plain plain-keeping s.args.width (mesh s) s.pre s.args.masses.now (call s)
-    (lent (mesh s) s.args.masses.now (call s)) s.args.bytes.now p.answer p.next_masses c.before.a.given.1
+    let s = (start-from-work2 c.before) in
+    let p = c.before.before.before.before.step-a.ensures in
+    step-refused plain plain-keeping s.args.width (mesh s) s.requires s.args.masses.now (call s)
+    (lent (mesh s) s.args.masses.now (call s)) s.args.bytes.now p.answer p.next_masses c.in-Refused.is
 
-returns-2 : tie.Need-returns-2
+returns-2 : tie.Need-returns-in-Refused-b
 unfolding blank
 returns-2 c =
-    let s = (start-from-slice-known2 c.before.before.before) in
-    let p = (step-from-slice-known2 c.before.before.before).step.ensures in
-    no_room plain plain-keeping s.args.width (mesh s) s.pre s.args.masses.now (call s)
+    let s = (start-from-slice-known2 c.before) in
+    let p = (step-from-slice-known2 c.before).step-a.ensures in
+    no_room plain plain-keeping s.args.width (mesh s) s.requires s.args.masses.now (call s)
     (lent (mesh s) s.args.masses.now (call s)) s.args.bytes.now p.answer p.next_masses
-    c.before.before.before.before.before.before.before.before.before.a2.given.1
-    c.before.before.before.before.before.write-field.ensures c.before.b.given.1
+    c.before.before.before.before.before.before.in-Stepped.is
+    c.before.before.before.write_field-b.ensures c.in-Refused-b.is
 
-returns-3 : tie.Need-returns-3
+returns-3 : tie.Need-returns-in-Written
 unfolding blank
 returns-3 c =
-    let s = (start-from-slice-known2 c.before.before) in
-    let p = (step-from-slice-known2 c.before.before).step.ensures in
-    record-written plain plain-keeping s.args.width (mesh s) s.pre s.args.masses.now (call s)
+    let s = (start-from-slice-known2 c.before) in
+    let p = (step-from-slice-known2 c.before).step-a.ensures in
+    record-written plain plain-keeping s.args.width (mesh s) s.requires s.args.masses.now (call s)
     (lent (mesh s) s.args.masses.now (call s)) s.args.bytes.now p.answer p.next_masses
-    c.before.before.before.before.before.before.before.before.a2.given.1 c.before.before.before.before.write-field.ensures
-    c.enum_told.given.1
+    c.before.before.before.before.before.before.in-Stepped.is c.before.before.before.write_field-b.ensures
+    c.in-Written.is
 
-pub written-spec : {M : Type 1} → statement M
-written-spec =
+pub written_spec : {M : Type 1} → statement M
+written_spec =
     tie.close
     (tie.spec
     (search rules)

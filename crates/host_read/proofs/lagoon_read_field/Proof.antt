@@ -5,12 +5,12 @@ use Rattle.host_read_promises.proofs.ReadSmall.{field-read-small}
 use Rattle.host_read.proofs.lagoon_read_field.Statement.{statement}
 use Rattle.host_read.proofs.lagoon_read_field.Tie as tie
 
-answer-number-requires : tie.Need-answer-number-requires
-answer-number-requires c κs = fits-as c.before.before.read-field.ensures.answer (field-read-small _ _ _ _)
+answer-number-requires : tie.Need-answer_number-requires
+answer-number-requires c κs = fits-as c.before.before.read_field-answer.ensures.answer (field-read-small _ _ _ _)
 
 returns : tie.Need-returns
-returns c = field-named c.before.before.before.before.before.width-named.ensures c.before.before.before.read-field.ensures
-    c.answer-number.ensures
+returns c = field-named c.before.before.before.before.before.width_named.ensures c.before.before.before.read_field-answer.ensures
+    c.answer_number.ensures
 
-pub lagoon-read-field-spec : {M : Type 1} → statement M
-lagoon-read-field-spec = tie.close (tie.spec (search rules) (search rules) answer-number-requires (search rules) returns)
+pub lagoon_read_field_spec : {M : Type 1} → statement M
+lagoon_read_field_spec = tie.close (tie.spec (search rules) (search rules) answer-number-requires (search rules) returns)

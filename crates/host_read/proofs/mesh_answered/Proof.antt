@@ -6,18 +6,18 @@ use Rattle.host_answer.proofs.Answers.{refusal-of, answered-refused, answered-fo
 use Rattle.host_read.proofs.mesh_answered.Statement.{statement}
 use Rattle.host_read.proofs.mesh_answered.Tie as tie
 
-number-of-requires : tie.Need-number-of-requires
-number-of-requires c κs = refusal-of (ap mesh_said c.before.answer2.given.1) c.before.before.before.before.requires
+number-of-requires : tie.Need-number_of-requires
+number-of-requires c κs = refusal-of (ap mesh_said c.in-Refused.is) c.before.before.requires
 
-returns : tie.Need-returns
-returns c = answered-found counts_found _ (ap mesh_said c.before.before.before.before.before.before.answer.given.1)
-    (rw c.before.before.before.width-number.ensures at c.before.before.fill3.ensures)
+returns : tie.Need-returns-in-Read
+returns c = answered-found counts_found _ (ap mesh_said c.before.before.before.before.before.in-Read.is)
+    (rw c.before.before.before.width_number.ensures at c.before.before.fill3.ensures)
 
-returns-2 : tie.Need-returns-2
-returns-2 c = answered-refused counts_found _ (ap mesh_said c.before.before.answer2.given.1) c.number-of.ensures
+returns-2 : tie.Need-returns-in-Refused
+returns-2 c = answered-refused counts_found _ (ap mesh_said c.before.in-Refused.is) c.number_of.ensures
 
-pub mesh-answered-spec : {M : Type 1} → statement M
-mesh-answered-spec =
+pub mesh_answered_spec : {M : Type 1} → statement M
+mesh_answered_spec =
     tie.close
     (tie.spec
     (search rules)

@@ -6,21 +6,21 @@ use Rattle.host_answer.proofs.Answers.{refusal-of, answered-refused, answered-fo
 use Rattle.host_read.proofs.step_answered.Statement.{statement}
 use Rattle.host_read.proofs.step_answered.Tie as tie
 
-number-of-requires : tie.Need-number-of-requires
-number-of-requires c κs = refusal-of (ap (step_read_said c.before.before.before.before.args.width) c.before.answer2.given.1)
-    c.before.before.before.before.requires
+number-of-requires : tie.Need-number_of-requires
+number-of-requires c κs = refusal-of (ap (step_read_said c.before.before.args.width) c.in-Refused.is)
+    c.before.before.requires
 
-returns : tie.Need-returns
-returns c = answered-found alone _ (ap (step_read_said c.before.before.before.before.before.before.before.before.before.args.width)
-    c.before.before.before.before.before.before.answer.given.1) (rw c.before.before.before.kind-number.ensures at
+returns : tie.Need-returns-in-Read
+returns c = answered-found alone _ (ap (step_read_said c.before.before.before.before.before.before.before.args.width)
+    c.before.before.before.before.before.in-Read.is) (rw c.before.before.before.kind_number.ensures at
     c.before.before.fill1.ensures)
 
-returns-2 : tie.Need-returns-2
-returns-2 c = answered-refused alone _ (ap (step_read_said c.before.before.before.before.before.args.width) c.before.before.answer2.given.1)
-    c.number-of.ensures
+returns-2 : tie.Need-returns-in-Refused
+returns-2 c = answered-refused alone _ (ap (step_read_said c.before.before.before.args.width) c.before.in-Refused.is)
+    c.number_of.ensures
 
-pub step-answered-spec : {M : Type 1} → statement M
-step-answered-spec =
+pub step_answered_spec : {M : Type 1} → statement M
+step_answered_spec =
     tie.close
     (tie.spec
     (search rules)

@@ -10,48 +10,48 @@ use Rattle.host_record_board.proofs.lagoon_board.Statement.{statement}
 use Rattle.host_record_board.proofs.lagoon_board.Tie as tie
 
 -- from where the counts are known back to the taking of the cells, and from there to the start
-abbrev taking : tie.After-a2 → tie.After-take-cells
-taking k = k.before.before.before.before
+abbrev taking : tie.In-Taken-2 → tie.After-take_cells-a
+taking k = k.before.before.before
 
-abbrev start : tie.After-take-cells → tie.Start
+abbrev start : tie.After-take_cells-a → tie.Start
 start t = t.before.before.before.before.before.before
 
-number-of-requires : tie.Need-number-of-requires
+number-of-requires : tie.Need-number_of-requires
 number-of-requires c κs =
-    let t = c.before.before.before.before.before in
+    let t = c.before.before.before in
     let a = (start t).args in
-    refusal-of (untaken a.mesh.now a.field.now t.take-Cells.ensures.answer c.before.a.given.1)
+    refusal-of (untaken a.mesh.now a.field.now t.take_cells-a.ensures.answer c.in-Refused.is)
     (small-number _ (field-tested-small a.mesh.now a.field.now))
 
 answered-requires : tie.Need-answered-requires
 answered-requires c κs =
-    let k = c.before.before.before.before.before in
+    let k = c.before.before.before.before in
     let a = (start (taking k)).args in
-    rw (board-made a.mesh.now a.field.now (taking k).take-Cells.ensures k.a2.given.1 c.before.board.ensures)
+    rw (board-made a.mesh.now a.field.now (taking k).take_cells-a.ensures k.in-Taken.is c.before.board-shown.ensures)
     (board-fits a.mesh.now a.field.now)
 
-returns : tie.Need-returns
+returns : tie.Need-returns-in-Refused
 returns c =
-    let t = c.before.before.before.before.before.before in
+    let t = c.before.before.before.before in
     let a = (start t).args in
-    let e = untaken a.mesh.now a.field.now t.take-Cells.ensures.answer c.before.before.a.given.1 in
-    answered-refused shown_numbers a.found.now (board-untaken a.mesh.now a.field.now e) c.number-of.ensures
+    let e = untaken a.mesh.now a.field.now t.take_cells-a.ensures.answer c.before.in-Refused.is in
+    answered-refused shown_numbers a.found.now (board-untaken a.mesh.now a.field.now e) c.number_of.ensures
 
-returns-2 : tie.Need-returns-2
+returns-2 : tie.Need-returns-in-Taken
 returns-2 c =
     let board = c.before.before.before.before in
-    let k = board.before.before.before.before in
+    let k = board.before.before.before in
     let a = (start (taking k)).args in
     answered-as shown_numbers a.found.now
-    (board-made a.mesh.now a.field.now (taking k).take-Cells.ensures k.a2.given.1 board.board.ensures)
+    (board-made a.mesh.now a.field.now (taking k).take_cells-a.ensures k.in-Taken.is board.board-shown.ensures)
     c.before.before.answered.ensures
 
-pub lagoon-board-spec : {M : Type 1} → statement M
-lagoon-board-spec =
+pub lagoon_board_spec : {M : Type 1} → statement M
+lagoon_board_spec =
     tie.close
     (tie.spec (search rules) (search rules) (search rules) (search rules) number-of-requires (search rules)
-    (λ c. let k = c.before in volumes-fit _ _ (taking k).take-Cells.ensures k.a2.given.1)
-    (λ c. let k = c.before.before in volumes_long _ _ (taking k).take-Cells.ensures k.a2.given.1)
-    (λ c. let k = c.before.before in masses_fit _ _ (taking k).take-Cells.ensures k.a2.given.1)
-    (λ c. let k = c.before.before.before in masses_long _ _ (taking k).take-Cells.ensures k.a2.given.1)
+    (λ c. let k = c in volumes-fit _ _ (taking k).take_cells-a.ensures k.in-Taken.is)
+    (λ c. let k = c.before in volumes_long _ _ (taking k).take_cells-a.ensures k.in-Taken.is)
+    (λ c. let k = c.before in masses_fit _ _ (taking k).take_cells-a.ensures k.in-Taken.is)
+    (λ c. let k = c.before.before in masses_long _ _ (taking k).take_cells-a.ensures k.in-Taken.is)
     (search rules) answered-requires returns (search rules) returns-2)

@@ -7,31 +7,31 @@ use Rattle.host_record_promises.proofs.Totals.{total-untaken, total-taken}
 use Rattle.host_record_cells.proofs.lagoon_total.Statement.{statement}
 use Rattle.host_record_cells.proofs.lagoon_total.Tie as tie
 
-abbrev start-from-masses2 : tie.After-masses2 → tie.Start
+abbrev start-from-masses2 : tie.After-masses-2-1 → tie.Start
 start-from-masses2 c = c.before.before.before.before.before.before.before.before
 
-number-of-requires : tie.Need-number-of-requires
+number-of-requires : tie.Need-number_of-requires
 number-of-requires c κs =
-    let a = (start-from-masses2 c.before.before.before).args in
-    let t = c.before.before.before.before.before.take-Cells.ensures in
-    refusal-of (untaken a.mesh.now a.field.now t.answer c.before.a.given.1)
+    let a = (start-from-masses2 c.before).args in
+    let t = c.before.before.before.take_cells-a.ensures in
+    refusal-of (untaken a.mesh.now a.field.now t.answer c.in-Refused.is)
     (small-number _ (field-tested-small a.mesh.now a.field.now))
 
-returns : tie.Need-returns
+returns : tie.Need-returns-in-Refused
 returns c =
-    let a = (start-from-masses2 c.before.before.before.before).args in
-    let t = c.before.before.before.before.before.before.take-Cells.ensures in
-    total-untaken a.mesh.now a.field.now t.answer a.found.now c.before.before.a.given.1 c.number-of.ensures
+    let a = (start-from-masses2 c.before.before).args in
+    let t = c.before.before.before.before.take_cells-a.ensures in
+    total-untaken a.mesh.now a.field.now t.answer a.found.now c.before.in-Refused.is c.number_of.ensures
 
-returns-2 : tie.Need-returns-2
+returns-2 : tie.Need-returns-in-Taken
 returns-2 c =
-    let a = (start-from-masses2 c.before.before.before.before.before.before.before).args in
-    let t = c.before.before.before.before.before.before.before.before.before.take-Cells.ensures in
-    total-taken a.mesh.now a.field.now t.answer a.found.now c.before.before.before.before.before.a2.given.1
+    let a = (start-from-masses2 c.before.before.before.before.before).args in
+    let t = c.before.before.before.before.before.before.before.take_cells-a.ensures in
+    total-taken a.mesh.now a.field.now t.answer a.found.now c.before.before.before.before.in-Taken.is
     c.before.before.fill1.ensures
 
-pub lagoon-total-spec : {M : Type 1} → statement M
-lagoon-total-spec =
+pub lagoon_total_spec : {M : Type 1} → statement M
+lagoon_total_spec =
     tie.close
     (tie.spec
     (search rules)

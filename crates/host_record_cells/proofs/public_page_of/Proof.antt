@@ -7,31 +7,31 @@ use Rattle.host_record_cells.proofs.public_page_of.Statement.{statement}
 use Rattle.host_record_cells.proofs.public_page_of.Tie as tie
 
 -- from where the counts are known back to the taking of the cells, and from there to the start
-abbrev taking : tie.After-a2 → tie.After-take-cells
-taking k = k.before.before.before.before
+abbrev taking : tie.In-Taken-2 → tie.After-take_cells-a
+taking k = k.before.before.before
 
-abbrev start : tie.After-take-cells → tie.Start
+abbrev start : tie.After-take_cells-a → tie.Start
 start t = t.before.before.before.before.before.before.before
 
-returns : tie.Need-returns
+returns : tie.Need-returns-in-Refused
 returns c =
-    let t = c.before.before.before.before.before in
+    let t = c.before.before.before in
     let a = (start t).args in
-    printing-refused _ _ a.bytes.now _ (out _ (untaken a.mesh.now a.field.now t.take-Cells.ensures.answer c.before.a.given.1))
+    printing-refused _ _ a.bytes.now _ (out _ (untaken a.mesh.now a.field.now t.take_cells-a.ensures.answer c.in-Refused.is))
 
-returns-2 : tie.Need-returns-2
+returns-2 : tie.Need-returns-in-Taken
 returns-2 c =
-    let k = c.before.before.before.before.before.before.before in
+    let k = c.before.before.before.before.before.before in
     let a = (start (taking k)).args in
-    public-made a.mesh.now a.field.now a.page a.bytes.now (taking k).take-Cells.ensures k.a2.given.1 a.marks.now
-    c.before.before.public-page.ensures
+    public-made a.mesh.now a.field.now a.page a.bytes.now (taking k).take_cells-a.ensures k.in-Taken.is a.marks.now
+    c.before.before.public_page.ensures
 
-pub public-page-of-spec : {M : Type 1} → statement M
-public-page-of-spec =
+pub public_page_of_spec : {M : Type 1} → statement M
+public_page_of_spec =
     tie.close
     (tie.spec (search rules) (search rules) (search rules) (search rules) (search rules)
-    (λ c. let k = c.before in volumes-fit _ _ (taking k).take-Cells.ensures k.a2.given.1)
-    (λ c. let k = c.before.before in volumes_long _ _ (taking k).take-Cells.ensures k.a2.given.1)
-    (λ c. let k = c.before.before in masses_fit _ _ (taking k).take-Cells.ensures k.a2.given.1)
-    (λ c. let k = c.before.before.before in masses_long _ _ (taking k).take-Cells.ensures k.a2.given.1)
+    (λ c. let k = c in volumes-fit _ _ (taking k).take_cells-a.ensures k.in-Taken.is)
+    (λ c. let k = c.before in volumes_long _ _ (taking k).take_cells-a.ensures k.in-Taken.is)
+    (λ c. let k = c.before in masses_fit _ _ (taking k).take_cells-a.ensures k.in-Taken.is)
+    (λ c. let k = c.before.before in masses_long _ _ (taking k).take_cells-a.ensures k.in-Taken.is)
     (search rules) returns (search rules) returns-2)

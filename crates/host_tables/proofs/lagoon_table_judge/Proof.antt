@@ -6,12 +6,12 @@ use Rattle.host_tables.proofs.lagoon_table_judge.Statement.{statement}
 use Rattle.host_tables.proofs.lagoon_table_judge.Tie as tie
 
 answered-requires : tie.Need-answered-requires
-answered-requires c κs = fits-as c.before.before.before.judge.ensures.answer (judged-answer-small _ _ _)
+answered-requires c κs = fits-as c.before.before.before.judge-answer.ensures.answer (judged-answer-small _ _ _)
 
 returns : tie.Need-returns
 returns c =
-    let h = c.before.before.before.before.before.before.judge.ensures in
+    let h = c.before.before.before.before.before.before.judge-answer.ensures in
     judge-from-c c.before.before.answered.ensures h.answer h.next_masses
 
-pub lagoon-table-judge-spec : {M : Type 1} → statement M
-lagoon-table-judge-spec = tie.close (tie.spec (search rules) answered-requires (search rules) (search rules) returns)
+pub lagoon_table_judge_spec : {M : Type 1} → statement M
+lagoon_table_judge_spec = tie.close (tie.spec (search rules) answered-requires (search rules) (search rules) returns)

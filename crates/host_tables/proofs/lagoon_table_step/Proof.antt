@@ -6,16 +6,16 @@ use Rattle.host_answer.proofs.Steps.{step-from-c}
 use Rattle.host_tables.proofs.lagoon_table_step.Statement.{statement}
 use Rattle.host_tables.proofs.lagoon_table_step.Tie as tie
 
-abbrev called : tie.After-slice-known5 → tie.After-step
+abbrev called : tie.After-slice_known-5-1 → tie.After-step-answer
 called c = c.before.before.before.before.before
 
 answered-requires : tie.Need-answered-requires
-answered-requires c κs = fits-as (called c.before).step.ensures.answer (step-answer-small _ _ _)
+answered-requires c κs = fits-as (called c.before).step-answer.ensures.answer (step-answer-small _ _ _)
 
 returns : tie.Need-returns
 returns c =
-    let h = (called c.before.before.before.before).step.ensures in
+    let h = (called c.before.before.before.before).step-answer.ensures in
     step-from-c c.before.before.answered.ensures corrected h.answer h.next_masses h.moved_masses h.work_after
 
-pub lagoon-table-step-spec : {M : Type 1} → statement M
-lagoon-table-step-spec = tie.close (tie.spec (search rules) answered-requires (search rules) (search rules) (search rules) (search rules) returns)
+pub lagoon_table_step_spec : {M : Type 1} → statement M
+lagoon_table_step_spec = tie.close (tie.spec (search rules) answered-requires (search rules) (search rules) (search rules) (search rules) returns)

@@ -5,60 +5,60 @@ use Rattle.host_taking.proofs.take_field.Statement.{statement}
 use Rattle.host_taking.proofs.take_field.Tie as tie
 
 -- from where what is left of the tables is known back to the taking of the mesh, and from there to the start
-abbrev volumes-left : tie.After-slice-known11 → tie.After-volumes
+abbrev volumes-left : tie.After-slice_known-11-1 → tie.After-volumes-1
 volumes-left c = c.before.before.before.before.before.before.before.before.before
 
-abbrev entered : tie.After-slice-known3 → tie.Start
+abbrev entered : tie.After-slice_known-3-1 → tie.Start
 entered c = c.before.before.before.before.before
 
-abbrev start : tie.After-take-mesh → tie.Start
+abbrev start : tie.After-take_mesh-a → tie.Start
 start t = entered t.before.before.before.before.before.before.before.before.before
 
 -- from where the counts are known
-abbrev taking : tie.After-a2 → tie.After-take-mesh
-taking k = (volumes-left k.before.before).before
+abbrev taking : tie.In-Read-2 → tie.After-take_mesh-a
+taking k = (volumes-left k.before).before
 
-slice-reshare-prefix-take-field : tie.Need-slice-reshare-prefix-take-field
+slice-reshare-prefix-take-field : tie.Need-slice_bounds-take_field-end
 slice-reshare-prefix-take-field c =
-    let k = c.before in
+    let k = c in
     let s = start (taking k) in
-    volumes-fit s.args.mesh.now s.args.field.now (taking k).take-mesh.ensures
-    s.pre.0.0 s.pre.1.0 s.pre.1.1 s.pre.1.2 s.pre.1.3 k.a2.given.1
+    volumes-fit s.args.mesh.now s.args.field.now (taking k).take_mesh-a.ensures
+    s.requires.0.0 s.requires.1.0 s.requires.1.1 s.requires.1.2 s.requires.1.3 k.in-Read.is
 
-slice-aggregate-take-field : tie.Need-slice-aggregate-take-field
+slice-aggregate-take-field : tie.Need-slice_bounds-take_field-end-in-Read
 slice-aggregate-take-field c =
-    let k = c.before.before in
+    let k = c in
     let s = start (taking k) in
-    volumes_long s.args.mesh.now s.args.field.now (taking k).take-mesh.ensures
-    s.pre.0.0 s.pre.1.0 s.pre.1.1 s.pre.1.2 s.pre.1.3 k.a2.given.1
+    volumes_long s.args.mesh.now s.args.field.now (taking k).take_mesh-a.ensures
+    s.requires.0.0 s.requires.1.0 s.requires.1.1 s.requires.1.2 s.requires.1.3 k.a2.given.1
 
-returns : tie.Need-returns
+returns : tie.Need-returns-in-Refused
 returns c =
-    let t = (volumes-left c.before.before.before).before in
+    let t = (volumes-left c.before).before in
     let s = start t in
-    mesh_refused s.args.mesh.now s.args.field.now t.take-mesh.ensures
-    s.pre.0.0 s.pre.1.0 s.pre.1.1 s.pre.1.2 s.pre.1.3 c.before.a.given.1 s.args.masses.now
+    mesh_refused s.args.mesh.now s.args.field.now t.take_mesh-a.ensures
+    s.requires.0.0 s.requires.1.0 s.requires.1.1 s.requires.1.2 s.requires.1.3 c.in-Refused.is s.args.masses.now
 
-returns-2 : tie.Need-returns-2
+returns-2 : tie.Need-returns-in-Refused-b
 returns-2 c =
-    let f = c.before.before.before.before.before in
-    let k = f.before.before.before.before in
+    let f = c.before.before.before in
+    let k = f.before.before in
     let s = start (taking k) in
-    field_refused s.args.mesh.now s.args.field.now (taking k).take-mesh.ensures
-    s.pre.0.0 s.pre.1.0 s.pre.1.1 s.pre.1.2 s.pre.1.3 k.a2.given.1
-    f.take-field.ensures s.pre.0.1 c.before.b.given.1
+    field_refused s.args.mesh.now s.args.field.now (taking k).take_mesh-a.ensures
+    s.requires.0.0 s.requires.1.0 s.requires.1.1 s.requires.1.2 s.requires.1.3 k.a2.given.1
+    f.take_field-b.ensures s.requires.0.1 c.in-Refused-b.is
 
-returns-3 : tie.Need-returns-3
+returns-3 : tie.Need-returns-in-Total
 returns-3 c =
-    let f = c.before.before.before.before.before in
-    let k = f.before.before.before.before in
+    let f = c.before.before.before in
+    let k = f.before.before in
     let s = start (taking k) in
-    field_taken s.args.mesh.now s.args.field.now (taking k).take-mesh.ensures
-    s.pre.0.0 s.pre.1.0 s.pre.1.1 s.pre.1.2 s.pre.1.3 k.a2.given.1
-    f.take-field.ensures s.pre.0.1 c.before.b2.given.1
+    field_taken s.args.mesh.now s.args.field.now (taking k).take_mesh-a.ensures
+    s.requires.0.0 s.requires.1.0 s.requires.1.1 s.requires.1.2 s.requires.1.3 k.a2.given.1
+    f.take_field-b.ensures s.requires.0.1 c.in-Total.is
 
-pub take-field-spec : {M : Type 1} → statement M
-take-field-spec =
+pub take_field_spec : {M : Type 1} → statement M
+take_field_spec =
     tie.close
     (tie.spec (search rules) (search rules) (search rules) slice-reshare-prefix-take-field slice-aggregate-take-field
     (search rules) (search rules) (search rules) (search rules) (search rules) (search rules) (search rules) (search rules) returns

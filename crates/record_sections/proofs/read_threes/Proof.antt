@@ -43,11 +43,11 @@ put-three-requires c κs =
     let s = t.before.before.before in
     (omega (arith, t.loop-i-test.true, t.before.loop-i.invariant.0, s.requires.0.2), omega (arith, s.requires.0.1))
 
-add-i : tie.Need-overflow_add-i invariant-loop decreases-loop
+add-i : tie.Need-overflow_add-i-in-loop-i invariant-loop decreases-loop
 add-i c =
     let t = c.before.before.before.before in
     let s = t.before.before.before in
-    record { fits = omega (arith, t.loop-test.true, s.requires.0.2, s.well_formed.1.1.1.1.0.1) }
+    record { fits = omega (arith, t.loop-i-test.true, s.requires.0.2, s.well_formed.1.1.1.1.0.1) }
 
 loop-again : tie.Need-loop-i-preserved invariant-loop decreases-loop
 loop-again c =

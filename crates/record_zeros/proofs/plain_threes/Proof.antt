@@ -31,10 +31,10 @@ few s = omega (arith, s.requires.0, s.requires.1)
 add-loop : tie.Need-overflow_add-f invariant-loop decreases-loop
 add-loop c = record { fits = omega (arith, c.loop-f.invariant.0, few c.before.before) }
 
-add-f : tie.Need-overflow_add-f invariant-loop decreases-loop
+add-f : tie.Need-overflow_add-f-in-loop-f-2 invariant-loop decreases-loop
 add-f c =
     let t = c.before.before.before in
-    record { fits = omega (arith, t.loop-test.true, few t.before.before.before) }
+    record { fits = omega (arith, t.loop-f-test.true, few t.before.before.before) }
 
 loop-again : tie.Need-loop-f-preserved invariant-loop decreases-loop
 loop-again c =

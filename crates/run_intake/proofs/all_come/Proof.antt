@@ -5,5 +5,5 @@ use Rattle.run_intake.proofs.all_come.Tie as tie
 returns : tie.Need-returns
 returns c = rw c.least.ensures
 
-pub all-come-spec : {M : Type 1} → statement M
-all-come-spec = tie.close (tie.spec (search rules) returns)
+pub all_come_spec : {M : Type 1} → statement M
+all_come_spec = tie.close (tie.spec (search rules) returns)

@@ -10,39 +10,39 @@ use Rattle.run_intake.proofs.Front.{shorter}
 use Rattle.run_intake.proofs.bytes.Statement.{statement}
 use Rattle.run_intake.proofs.bytes.Tie as tie
 
-abbrev invariant-loop : tie.invariant-loop
+abbrev invariant-loop : tie.invariant-loop-at
 invariant-loop buffer₀ from enough to unwritten at₀ buffer at = (length buffer ≡ length buffer₀) × (from ≤ at) × (at ≤ to) × (take from buffer ≡ take from buffer₀)
 
-abbrev decreases-loop : tie.decreases-loop
+abbrev decreases-loop : tie.decreases-loop-at
 decreases-loop buffer₀ from enough to unwritten at₀ buffer at = to - at
 
-loop-holds : tie.Need-loop-init invariant-loop decreases-loop
+loop-holds : tie.Need-loop-at-init invariant-loop decreases-loop
 loop-holds c = (refl, search rules, search rules, refl)
 
-returns : tie.Need-returns invariant-loop decreases-loop
+returns : tie.Need-returns-then-end-at invariant-loop decreases-loop
 returns c =
     let o = c.before.before.before in
-    let l = o.before.before.before.loop in
+    let l = o.before.before.before.loop-at in
     let s = o.before.before.before.before.before in (
       prefix_len_of_le _ _ (search rules),
       search rules,
       search rules,
-      shorter s.args.from l.at _ _ l.invariant.1 o.once.ensures.2 ∙ l.invariant.3,
+      shorter s.args.from l.at _ _ l.invariant.1 o.once-got.ensures.2 ∙ l.invariant.3,
       λ e. search rules,
     )
 
-loop-again : tie.Need-loop-preserved invariant-loop decreases-loop
+loop-again : tie.Need-loop-at-preserved invariant-loop decreases-loop
 loop-again c =
     let o = c.before.before.before in
-    let l = o.before.before.before.loop in
+    let l = o.before.before.before.loop-at in
     let s = o.before.before.before.before.before in
-    (search rules, search rules, search rules, shorter s.args.from l.at _ _ l.invariant.1 o.once.ensures.2 ∙ l.invariant.3)
+    (search rules, search rules, search rules, shorter s.args.from l.at _ _ l.invariant.1 o.once-got.ensures.2 ∙ l.invariant.3)
 
-returns-2 : tie.Need-returns-2 invariant-loop decreases-loop
-returns-2 c = let l = c.before.loop in (prefix_len_of_le _ _ (search rules), l.invariant.1, search rules, l.invariant.3, λ e. absurd (true≢false (sym e)))
+returns-2 : tie.Need-returns invariant-loop decreases-loop
+returns-2 c = let l = c.before.loop-at in (prefix_len_of_le _ _ (search rules), l.invariant.1, search rules, l.invariant.3, λ e. absurd (true≢false (sym e)))
 
-pub bytes-spec : {M : Type 1} → statement M
-bytes-spec =
+pub bytes_spec : {M : Type 1} → statement M
+bytes_spec =
     tie.close
     (tie.spec
     invariant-loop

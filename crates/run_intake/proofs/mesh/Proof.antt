@@ -6,11 +6,11 @@ use Rattle.run_intake.proofs.Front.{asked-head, asked-rest}
 use Rattle.run_intake.proofs.mesh.Statement.{statement}
 use Rattle.run_intake.proofs.mesh.Tie as tie
 
-returns : tie.Need-returns
+returns : tie.Need-returns-then-head
 unfolding bytes_for
-returns c = let e = c.before.before.before.bytes.ensures in (e.0, asked-head _ _ _ _ e.2)
+returns c = let e = c.before.before.before.bytes-head.ensures in (e.0, asked-head _ _ _ _ e.2)
 
-returns-2 : tie.Need-returns-2
+returns-2 : tie.Need-returns
 unfolding bytes_for mesh_needs
 returns-2 c =
     let r = c.before.before in
@@ -18,11 +18,11 @@ returns-2 c =
     let head = said.before.before.before.before.before.before in
     let e = r.rest.ensures in (
       e.0,
-      asked-rest _ _ _ _ _ _ _ head.bytes.ensures.2 e.1 (said.bytes-alone.ensures ∙ ap bytes_of said.before.mesh-length.ensures) e.3
+      asked-rest _ _ _ _ _ _ _ head.bytes.ensures.2 e.1 (said.bytes_alone-answer.ensures ∙ ap bytes_of said.before.mesh_length.ensures) e.3
           e.2,
     )
 
-pub mesh-spec : {M : Type 1} → statement M
-mesh-spec =
+pub mesh_spec : {M : Type 1} → statement M
+mesh_spec =
     tie.close
     (tie.spec (search rules) (search rules) returns (search rules) (search rules) (search rules) (search rules) (search rules) (search rules) returns-2)

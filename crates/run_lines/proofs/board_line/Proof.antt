@@ -14,11 +14,11 @@ returns c =
     let cell = q.before.before.before in
     let letter = cell.before.before.before in
     let args = letter.before.before.args in
-    board-held refl args.cell args.q args.rest (both _ letter.mark.ensures
-    (both _ cell.word.ensures (both _ q.word2.ensures rest.word3.ensures)))
+    board-held refl args.cell args.q args.rest (both _ letter.mark-a.ensures
+    (both _ cell.word-b.ensures (both _ q.word-c.ensures rest.word-used.ensures)))
 
-pub board-line-spec : {M : Type 1} → statement M
-board-line-spec =
+pub board_line_spec : {M : Type 1} → statement M
+board_line_spec =
     tie.close
     (tie.spec
     (λ c. search rules) (λ c κs. search rules)

@@ -13,10 +13,10 @@ returns c =
     let number = place.before.before.before in
     let letter = number.before.before.before in
     let args = letter.before.before.args in
-    refusal-held refl args.letter args.number args.place (both _ letter.mark.ensures (both _ number.word.ensures place.word2.ensures))
+    refusal-held refl args.letter args.number args.place (both _ letter.mark-a.ensures (both _ number.word-b.ensures place.word-used.ensures))
 
-pub refusal-line-spec : {M : Type 1} → statement M
-refusal-line-spec =
+pub refusal_line_spec : {M : Type 1} → statement M
+refusal_line_spec =
     tie.close
     (tie.spec
     (λ c. search rules) (λ c κs. search rules)

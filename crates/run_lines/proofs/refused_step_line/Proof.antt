@@ -15,10 +15,10 @@ returns c =
     let step = letter.before.before.before in
     let args = step.before.before.args in
     refused-step-held refl args.step args.number args.place
-    (both _ step.word.ensures (both _ letter.mark.ensures (both _ number.word2.ensures place.word3.ensures)))
+    (both _ step.word-a.ensures (both _ letter.mark-b.ensures (both _ number.word-c.ensures place.word-used.ensures)))
 
-pub refused-step-line-spec : {M : Type 1} → statement M
-refused-step-line-spec =
+pub refused_step_line_spec : {M : Type 1} → statement M
+refused_step_line_spec =
     tie.close
     (tie.spec
     (λ c. search rules) (λ c κs. search rules)

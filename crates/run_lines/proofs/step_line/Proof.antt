@@ -17,11 +17,11 @@ returns c =
     let step = entered.before.before.before in
     let args = step.before.before.args in
     step_held refl args.step args.entered args.gone args.total args.released
-    (both _ step.word.ensures (both _ entered.word2.ensures
-    (both _ gone.word3.ensures (both _ total.word4.ensures released.word5.ensures))))
+    (both _ step.word-a.ensures (both _ entered.word-b.ensures
+    (both _ gone.word-c.ensures (both _ total.word-d.ensures released.word-used.ensures))))
 
-pub step-line-spec : {M : Type 1} → statement M
-step-line-spec =
+pub step_line_spec : {M : Type 1} → statement M
+step_line_spec =
     tie.close
     (tie.spec
     (λ c. search rules) (λ c κs. search rules)

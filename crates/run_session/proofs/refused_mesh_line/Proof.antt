@@ -3,7 +3,7 @@ use Rattle.run_session.proofs.refused_mesh_line.Statement.{statement}
 use Rattle.run_session.proofs.refused_mesh_line.Tie as tie
 
 returns : tie.Need-returns
-returns c = rw (← c.before.number.ensures) c.refusal-line.ensures
+returns c = rw (← c.before.number.ensures) c.refusal_line.ensures
 
-pub refused-mesh-line-spec : {M : Type 1} → statement M
-refused-mesh-line-spec = tie.close (tie.spec (search rules) (search rules) returns)
+pub refused_mesh_line_spec : {M : Type 1} → statement M
+refused_mesh_line_spec = tie.close (tie.spec (search rules) (search rules) returns)

@@ -5,5 +5,5 @@ use Rattle.run_session.proofs.start_line.Tie as tie
 returns : tie.Need-returns
 returns c = c.step_line.ensures
 
-pub start-line-spec : {M : Type 1} → statement M
-start-line-spec = tie.close (tie.spec (search rules) returns)
+pub start_line_spec : {M : Type 1} → statement M
+start_line_spec = tie.close (tie.spec (search rules) returns)

@@ -5,5 +5,5 @@ use Rattle.run_session.proofs.stepped_line.Tie as tie
 returns : tie.Need-returns
 returns c = c.step_line.ensures
 
-pub stepped-line-spec : {M : Type 1} → statement M
-stepped-line-spec = tie.close (tie.spec (search rules) returns)
+pub stepped_line_spec : {M : Type 1} → statement M
+stepped_line_spec = tie.close (tie.spec (search rules) returns)

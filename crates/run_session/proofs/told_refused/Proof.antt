@@ -5,7 +5,7 @@ use Rattle.run_session.proofs.told_refused.Statement.{statement}
 use Rattle.run_session.proofs.told_refused.Tie as tie
 
 returns : tie.Need-returns
-returns c = (c.before.refused-step-line.ensures, ap not (sym c.ends.ensures))
+returns c = (c.before.refused_step_line.ensures, ap not (sym c.ends.ensures))
 
-pub told-refused-spec : {M : Type 1} → statement M
-told-refused-spec = tie.close (tie.spec (search rules) (search rules) returns)
+pub told_refused_spec : {M : Type 1} → statement M
+told_refused_spec = tie.close (tie.spec (search rules) (search rules) returns)

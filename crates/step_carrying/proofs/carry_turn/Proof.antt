@@ -36,7 +36,7 @@ abbrev start : tie.After-slice_known-2-1 → tie.Start
 start c = c.before.before.before.before.before.before.before
 
 abbrev start-near : tie.After-concentration-a → tie.Start
-start-near c = start c.before.before.before.before
+start-near c = start c.before.before.before
 
 -- at the rim
 abbrev at-rim : tie.After-size_at-size → tie.Then-second-eq-RIM
@@ -60,7 +60,7 @@ few s = (ready s).counts_fit.few_faces
 
 concentration-requires : tie.Need-concentration-a-requires
 concentration-requires c κs =
-    let s = start c.before.before.before in
+    let s = start c.before.before in
     let r = ready s in (
       in-first (asked s) r s.args.f s.requires.0 _ _ s.args.next.now s.args.work.now s.args.moved.now s.requires.1.so_far,
       lt_of_lt_of_le (r.fit.first-in s.args.f s.requires.0) r.counts_fit.few_cells,
@@ -143,10 +143,9 @@ returns c =
 
 concentration-requires-2 : tie.Need-concentration-b-requires
 concentration-requires-2 c κs =
-    let i = c.before in
-    let s = start-near i.before in
+    let s = start-near c.before in
     let r = ready s in
-    let d = i.if1.false in (
+    let d = c.if-second-eq-RIM.false in (
       in-second (asked s) r s.args.f s.requires.0 _ _ s.args.next.now s.args.work.now s.args.moved.now s.requires.1.so_far d,
       lt_of_lt_of_le (r.fit.second_in s.args.f s.requires.0 d) r.counts_fit.few_cells,
     )

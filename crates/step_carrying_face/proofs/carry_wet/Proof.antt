@@ -124,7 +124,7 @@ returns c =
     wet-done s.args.f s.args.first s.args.second s.args.share s.args.reach s.args.a s.args.b s.args.cells
     c.correction_code-code.result z _
     s.args.next.now _ s.args.moved.now _ s.args.work.now _ _ _ s.requires.1.0 s.requires.1.1
-    (to_z-of_z w64 w.times-carried.result (record { sfits = w.times-carried.ok }) ∙ carried-is w) t.pass.ensures refl
+    (to_z-of_z w64 w.times-carried.result (record { sfits = w.times-carried.type_inv }) ∙ carried-is w) t.pass.ensures refl
     (first-met m).widen.ensures m.widen-2.ensures
     (c.correction_code-code.ensures ∙ ap (λ (y : ℤ). correction_of y s.args.a s.args.b s.args.share s.args.reach) (to_z-of_z w64 z s.ranges.flux))
     refl

@@ -40,5 +40,5 @@ allowance_at_spec =
     (search rules)
     (λ c. c.before.before.requires.1.above)
     (λ c. slot-fits 2 refl c.before.before.requires.0.1) (λ c. slot-bytes 2 refl c.before.before.requires.0.1)
-    (λ c. slot-in _ 2 _ refl (start c).requires.0.0) mul-gain-2 add-gain-2
+    (λ c. slot-in _ 2 _ refl c.before.before.before.requires.0.0) mul-gain-2 add-gain-2
     (search rules) (λ c. (start c).requires.1.below) (search rules) (λ c κs. (start c.before).requires.0) same_length returns)

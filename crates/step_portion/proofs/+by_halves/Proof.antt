@@ -22,8 +22,8 @@ by-halves-at t = and 0 by-halves-kinds.ps (is 0 by-halves-kinds.ps μ-by-halves 
 abbrev by-halves-below : ℕ → In 0 by-halves-kinds.ps
 by-halves-below t = and 0 by-halves-kinds.ps (falls 0 by-halves-kinds.ps ◌<◌ μ-by-halves t) by-halves.Pre
 
-pub +by-halves-spec : {M : Type 1} → statement M
-+by-halves-spec = close μ-by-halves λ t. by-halves-lts.spec (
+pub +by_halves_spec : {M : Type 1} → statement M
++by_halves_spec = close μ-by-halves λ t. by-halves-lts.spec (
   by-halves-below t,
   by-halves.Post,
   doubled-reads.Asked,
@@ -33,19 +33,19 @@ pub +by-halves-spec : {M : Type 1} → statement M
 )
     (by-halves-at t)
     by-halves.Post
-    (λ c. record { fits = product-fits _ _ _ c.if1.true c.before.requires.1.1 })
+    (λ c. record { fits = product-fits _ _ _ c.if-a-few.true c.before.requires.1.1 })
     (λ c. omega (arith, c.before.requires.1.0))
-    (λ c. record { fits = product-fits _ _ _ c.if1.true c.before.requires.1.1 })
+    (λ c. record { fits = product-fits _ _ _ c.if-a-few.true c.before.requires.1.1 })
     (λ c. omega (arith, c.before.requires.1.0))
     (λ c. (div-add-mod' _ _, mod-lt _ (omega (arith, c.before.requires.1.0))))
-    (λ c κs. (rw (← c.before.requires.0) (half-less _ _ c.if1.false), c.before.requires.1))
-    (λ c κs. let s = c.before.before in half-asks _ _ _ s.args.a _ s.ranges.a.fits s.requires.1.0 c.by-halves.ensures)
-    (λ c. (even_is _ _ _ _ c.before.doubled.ensures.0 c.before.before.by-halves.ensures.0 c.if2.true, c.before.doubled.ensures.1))
+    (λ c κs. (rw (← c.before.requires.0) (half-less _ _ c.if-a-few.false), c.before.requires.1))
+    (λ c κs. let s = c.before.before in half-asks _ _ _ s.args.a _ s.ranges.a.fits s.requires.1.0 c.by_halves.ensures)
+    (λ c. (even_is _ _ _ _ c.before.doubled-twice.ensures.0 c.before.before.by_halves.ensures.0 c.if-a-eq0.true, c.before.doubled-twice.ensures.1))
     (λ c κs.
     let s = c.before.before.before.before in
-    odd-asks _ _ _ _ _ s.args.a _ s.ranges.a.fits s.requires.1.0 c.if2.false c.before.before.by-halves.ensures.0 c.before.doubled.ensures)
+    odd-asks _ _ _ _ _ s.args.a _ s.ranges.a.fits s.requires.1.0 c.if-a-eq0.false c.before.before.by_halves.ensures.0 c.before.doubled-twice.ensures)
     (λ c. (
-      odd_is _ _ _ _ _ c.increased.ensures.0 c.before.before.doubled.ensures.0 c.before.before.before.by-halves.ensures.0
-          c.before.if2.false,
+      odd_is _ _ _ _ _ c.increased.ensures.0 c.before.before.doubled-twice.ensures.0 c.before.before.before.by_halves.ensures.0
+          c.before.if-a-eq0.false,
       c.increased.ensures.1,
     ))

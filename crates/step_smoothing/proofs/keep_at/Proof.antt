@@ -95,6 +95,6 @@ returns-3 c =
 pub keep_at_spec : {M : Type 1} → statement M
 keep_at_spec =
     tie.close
-    (tie.spec (search rules) (search rules) returns (search rules) (search rules) (λ c κs. (giver-long c.before, giver-few c.before))
-    (λ c κs. let w = c.before.before.before in (receiver-long w, receiver-few w)) (search rules) (search rules) (search rules) returns-2
+    (tie.spec (search rules) (search rules) returns (search rules) (search rules) (λ c κs. (giver-long c, giver-few c))
+    (λ c κs. let w = c.before in (receiver-long w, receiver-few w)) (search rules) (search rules) (search rules) returns-2
     count-requires (search rules) returns-3)

@@ -25,10 +25,10 @@ is-not-above-requires c κs = omega arith
 returns : tie.Need-returns-then-not-is_not_above invariant-loop decreases-loop
 returns c =
     let p = c.before.before.before.loop-k in
-    share-is _ p.k p.invariant.1 p.invariant.2 (sym c.before.is_not_above.ensures ∙ not-true _ c.if-not-is_not_above.true)
+    share-is _ p.k p.invariant.1 p.invariant.2 (sym c.before.is_not_above.ensures ∙ c.if-not-is_not_above.true)
 
 loop-again : tie.Need-loop-k-preserved invariant-loop decreases-loop
-loop-again c = (omega arith, omega arith, sym c.before.is_not_above.ensures ∙ not-false _ c.if-not-is_not_above.false)
+loop-again c = (omega arith, omega arith, sym c.before.is_not_above.ensures ∙ c.if-not-is_not_above.false)
 
 returns-2 : tie.Need-returns invariant-loop decreases-loop
 returns-2 c =

@@ -10,7 +10,7 @@ use Rattle.checks.proofs.quick.cell_fits.Statement.{statement}
 use Rattle.checks.proofs.quick.cell_fits.Tie as tie
 
 within : (c : tie.Else-not-between) → between 1 ceiling c.before.before.args.volume ≡ true
-within c = sym c.before.between.ensures ∙ not-false _ c.if-not-between.false
+within c = sym c.before.between.ensures ∙ c.if-not-between.false
 
 returns-4 : tie.Need-returns
 returns-4 c =

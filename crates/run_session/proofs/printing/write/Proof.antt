@@ -5,7 +5,7 @@ use lib.Seq.{length-take-le}
 use Rattle.run_session.proofs.printing.write.Statement.{statement}
 use Rattle.run_session.proofs.printing.write.Tie as tie
 
-slice-aggregate-write-all : tie.Need-slice-aggregate-write-all
+slice-aggregate-write-all : tie.Need-slice_bounds-write_all-end
 slice-aggregate-write-all c = sym (length-take-le _ _ (search rules))
 
 pub write_spec : {M : Type 1} → statement M

@@ -14,7 +14,7 @@ abbrev ends : tie.After-lose → tie.After-end_to-receiver
 ends c = c.before.before
 
 lost : (c : tie.After-lose) → let s = start (ends c) in Lost s.args.next.now (cond s.args.negative s.args.second s.args.first)
-    s.args.amount c.lose.new.0
+    s.args.amount c.lose.new.next
 lost c = rw (ends c).before.end_to-giver.ensures at c.lose.ensures
 
 lose-requires : tie.Need-lose-requires
