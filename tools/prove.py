@@ -30,14 +30,14 @@ def listed():
 
 
 def under(name, lines):
-    """A crate and all that it needs of the tree, those that are used before those that use them."""
+    """A crate and all that it needs of the tree, each with what it uses, those that are used before those that use them."""
     found = {}
 
     def visit(one):
         if one in lines and one not in found:
             for other in lines[one]:
                 visit(other)
-            found[one] = [other for other in lines[one] if other in lines]
+            found[one] = lines[one]
 
     visit(name)
     return found
@@ -84,16 +84,18 @@ def kit():
     return Path(said.strip()).parent
 
 
-def over_libraries(name, needs):
-    """The kit's own command that proves a static library over the libraries as they stand and builds it, as rt ci proves it."""
-    at, out = kit(), Path("out") / f"lib{name}.a"
-    words = [at / "bin" / "rattle", "build", "--crate-name", name, "src/lib.rt", "-L", f"dependency={at}/rlibs"]
-    for one in needs[name]:
-        words += ["--extern", f"{one}={library(one)}"]
+def over_libraries(name, needs, out, toolchain=None):
+    """The kit's own command that proves a crate over the libraries as they stand and builds it: an archive, or a program's object."""
+    at = kit()
+    words = [at / "bin" / "rattle", "build", "--crate-name", name, "src/main.rt" if is_program(name) else "src/lib.rt"]
+    for one in ("std", *needs[name]):
+        words += ["--extern", f"{one}={library(one) if one in needs else at / 'rlibs' / f'{one}.rlib'}"]
+    words += ["-L", f"dependency={at}/rlibs"]
     for one in list(needs)[:-1]:
         words += ["-L", f"dependency={library(one).parent}"]
     words += ["--antt-project", at / "rattle" / "logic" / "antt-project.json", "--logic-built", at / "logic_built", "--jobs", AT_ONCE]
-    words += ["--links", f"{name}=", "--crate-type", "staticlib", "--toolchain", at / "toolchain", "--backend", "llvm", "-o", out]
+    words += ["--links", f"{name}=", *([] if is_program(name) else ["--crate-type", "staticlib"])]
+    words += ["--toolchain", toolchain or at / "toolchain", "--backend", "llvm", "-o", out]
     return [str(word) for word in words]
 
 
@@ -126,7 +128,7 @@ def prove(name, needs, log):
     file, _ = made(name)
     if not is_program(name) and left_by_ci(needs):
         file.parent.mkdir(exist_ok=True)
-        good = ran(name, log, over_libraries(name, needs)) == 0
+        good = ran(name, log, over_libraries(name, needs, file)) == 0
         if good:
             print(f"{len(needs)} of {len(needs)}: {name} proved", file=sys.stderr)
         return good
@@ -167,7 +169,8 @@ def main():
         make(name, listed())
 
 
-try:
-    main()
-except KeyboardInterrupt:
-    sys.exit(130)
+if __name__ == "__main__":
+    try:
+        main()
+    except KeyboardInterrupt:
+        sys.exit(130)
