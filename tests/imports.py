@@ -14,6 +14,7 @@ ROOT = Path(__file__).resolve().parent.parent
 USE = re.compile(r"^(?P<lead>(?:ghost |pub )*use )(?P<path>\S+?)(?P<names>(?:\.|::)\{[^}]*\}| as \S+?)?(?P<end>;?)$", re.MULTILINE)
 COMMENT = re.compile(r"(?:--|//).*$", re.MULTILINE)
 BREAK = re.compile(r"[\s(){};,]+")
+TRAITS = {"BufRead", "Env", "IsTerminal", "Read", "Write"}      # of std, imported for their methods
 
 
 def words(text):
@@ -40,7 +41,8 @@ def idle(text):
             names = [line["names"][4:]]
         else:
             names = [name.strip().split(" as ")[-1].split(" to ")[-1] for name in line["names"].partition("{")[2][:-1].split(",") if name.strip()]
-        lost = [name for name in names if not used(name, coded if line["lead"] == "use " and line["end"] else there)]
+        code = line["lead"] == "use " and line["end"] == ";"
+        lost = [name for name in names if not (code and name in TRAITS) and not used(name, coded if code else there)]
         if lost:
             yield line, lost
 
