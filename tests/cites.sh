@@ -5,7 +5,8 @@
 # and the C library's calls promise what the libraries promise; and the tests do find what is wrong.
 set -eu
 cd "$(dirname "$0")/.."
-python3 tests/cites.py README.md docs/*.md docs/landings/*.md
+# the page of the port names what is gone
+python3 tests/cites.py README.md $(ls docs/*.md | grep -vx docs/PORT.md) docs/landings/*.md
 
 made=$(mktemp -d)
 trap 'rm -r "$made"' EXIT
