@@ -121,6 +121,7 @@ fn change(
 // The pairs of some rounds, reported. The field goes on from round to round, and each round has outside values of its own, so that
 // fronts go on entering and no step is taken twice.
 fn repeat(
+    rt: &HostRuntime,
     cells: usize,
     faces: usize,
     pairs: u64,
@@ -155,12 +156,12 @@ fn repeat(
         i += 1;
     }
     if sums.refused == 0 {
-        text::report(cells, sums.entered, sums.gone, masses, &moved);
+        text::report(rt, cells, sums.entered, sums.gone, masses, &moved);
     }
 }
 
 // The lagoon made and stepped.
-fn run(large: bool, cells: usize, width: u64, height: u64, rounds: u64)
+fn run(rt: &HostRuntime, large: bool, cells: usize, width: u64, height: u64, rounds: u64)
     requires { (cells ≤ max_cells) × (1 ≤ width) × (width ≤ max_cells) × (rounds ≤ max_argument) }
 {
     let mut volumes = [0u64; MAX_CELLS];
@@ -185,6 +186,7 @@ fn run(large: bool, cells: usize, width: u64, height: u64, rounds: u64)
         &mut fluxes,
     );
     repeat(
+        rt,
         cells,
         2 * cells,
         PAIRS * rounds,
@@ -201,10 +203,10 @@ fn run(large: bool, cells: usize, width: u64, height: u64, rounds: u64)
 }
 
 // WIDTH, HEIGHT and ROUNDS, then 1 for the lagoon of large cells; a grid beyond the limits prints nothing.
-fn main() {
-    let width = text::argument(1);
-    let height = text::argument(2);
-    let rounds = text::argument(3);
+fn main(rt: HostRuntime) {
+    let width = text::argument(&rt, 1);
+    let height = text::argument(&rt, 2);
+    let rounds = text::argument(&rt, 3);
     if width < 1 {
         return;
     }
@@ -218,6 +220,6 @@ fn main() {
     if cells > SIDE {
         return;
     }
-    let large = text::argument(4) == 1;
-    run(large, cells as usize, width, height, rounds);
+    let large = text::argument(&rt, 4) == 1;
+    run(&rt, large, cells as usize, width, height, rounds);
 }

@@ -3,8 +3,8 @@ ghost use Rattle.std.specs.Prelude.{◌<◌, ◌≤◌};
 ghost use Rattle.model.specs.Mesh.{max_cells, max_faces};
 ghost use Rattle.bench_step.specs.Bounds.{max_argument, prime};
 
-use libc::STDOUT_FILENO;
 use model::{MAX_CELLS, MAX_FACES};
+use std::env::Env;
 
 // Arguments are below this.
 const CEILING: u64 = 1000000000000;
@@ -38,12 +38,14 @@ fn number(text: &[u8]) -> u64
     x
 }
 
-pub fn argument(i: usize) -> u64
+pub fn argument(rt: &HostRuntime, i: usize) -> u64
     ensures { result ≤ max_argument }
 {
     let mut text = [0u8; 12];
-    let n = os::arg(i, &mut text);
-    number(&text[..n])
+    match rt.arg(i, &mut text) {
+        Ok(n) => number(&text[..n]),
+        Err(_) => 0,
+    }
 }
 
 // The sum of the masses; that of a field within the limits does not wrap.
@@ -102,14 +104,13 @@ fn digest(cells: usize, faces: usize, masses: &[u64; MAX_CELLS], moved: &[i64; M
     digest
 }
 
-fn print_end(x: u64, end: u8) {
-    io::print_decimal(STDOUT_FILENO, x);
-    let text = [end];
-    io::write_all(STDOUT_FILENO, &text);
+fn print_end(rt: &HostRuntime, x: u64, end: &str) {
+    let _ = print!(rt; "{x}{end}");
 }
 
 // Total, in-mass, out-mass and digest.
 pub fn report(
+    rt: &HostRuntime,
     cells: usize,
     entered: u64,
     gone: u64,
@@ -118,8 +119,8 @@ pub fn report(
 )
     requires { cells ≤ max_cells }
 {
-    print_end(total(cells, masses), b' ');
-    print_end(entered, b' ');
-    print_end(gone, b' ');
-    print_end(digest(cells, 2 * cells, masses, moved), b'\n');
+    print_end(rt, total(cells, masses), " ");
+    print_end(rt, entered, " ");
+    print_end(rt, gone, " ");
+    print_end(rt, digest(cells, 2 * cells, masses, moved), "\n");
 }

@@ -122,123 +122,123 @@ fn later(call: u64) -> u64 {
     }
 }
 
-fn make_on_tables(call: u64, words: &[u64], ints: &[i64]) {
+fn make_on_tables(rt: &HostRuntime, call: u64, words: &[u64], ints: &[i64]) {
     match call {
-        COUNTS_WITHIN => calls_tables::counts_within(words),
-        CHECK_MESH => calls_tables::check_mesh(words),
-        CHECK_FIELD => calls_tables::check_field(words),
-        CHECK_CELLS => calls_tables::check_cells(words),
-        CHECK_STEP => calls_tables::check_step(words, ints),
-        TOTAL => calls_tables::total(words),
-        STEP => calls_tables::step(words, ints),
-        PLAIN_STEP => calls_tables::plain_step(words, ints),
-        JUDGE => calls_tables::judge(words, ints),
-        CUT => calls_cutting::cut(words, ints),
-        _ => calls_tables::board(words),
+        COUNTS_WITHIN => calls_tables::counts_within(rt, words),
+        CHECK_MESH => calls_tables::check_mesh(rt, words),
+        CHECK_FIELD => calls_tables::check_field(rt, words),
+        CHECK_CELLS => calls_tables::check_cells(rt, words),
+        CHECK_STEP => calls_tables::check_step(rt, words, ints),
+        TOTAL => calls_tables::total(rt, words),
+        STEP => calls_tables::step(rt, words, ints),
+        PLAIN_STEP => calls_tables::plain_step(rt, words, ints),
+        JUDGE => calls_tables::judge(rt, words, ints),
+        CUT => calls_cutting::cut(rt, words, ints),
+        _ => calls_tables::board(rt, words),
     }
 }
 
-fn make_on_records(call: u64, words: &[u64], ints: &[i64], bytes: &[u8]) {
+fn make_on_records(rt: &HostRuntime, call: u64, words: &[u64], ints: &[i64], bytes: &[u8]) {
     match call {
-        MESH_LENGTH => calls_records::mesh_length(words, bytes),
-        FIELD_LENGTH => calls_records::field_length(words, bytes),
-        STEP_LENGTH => calls_records::step_length(words, bytes),
-        READ_MESH => calls_records::read_mesh(words, bytes),
-        READ_FIELD => calls_records::read_field(words, bytes),
-        READ_STEP => calls_records::read_step(words, ints, bytes),
-        WRITE_MESH => calls_records::write_mesh(words),
-        WRITE_FIELD => calls_records::write_field(words),
-        WRITE_STEP => calls_records::write_step(words, ints),
-        NUMBER_AT => calls_records::number_at(words, bytes),
-        _ => make_on_tables(call, words, ints),
+        MESH_LENGTH => calls_records::mesh_length(rt, words, bytes),
+        FIELD_LENGTH => calls_records::field_length(rt, words, bytes),
+        STEP_LENGTH => calls_records::step_length(rt, words, bytes),
+        READ_MESH => calls_records::read_mesh(rt, words, bytes),
+        READ_FIELD => calls_records::read_field(rt, words, bytes),
+        READ_STEP => calls_records::read_step(rt, words, ints, bytes),
+        WRITE_MESH => calls_records::write_mesh(rt, words),
+        WRITE_FIELD => calls_records::write_field(rt, words),
+        WRITE_STEP => calls_records::write_step(rt, words, ints),
+        NUMBER_AT => calls_records::number_at(rt, words, bytes),
+        _ => make_on_tables(rt, call, words, ints),
     }
 }
 
-fn make(call: u64, words: &[u64], ints: &[i64], bytes: &[u8]) {
+fn make(rt: &HostRuntime, call: u64, words: &[u64], ints: &[i64], bytes: &[u8]) {
     match call {
-        LAGOON_STEP => calls_taking::lagoon_step(words, bytes),
-        TAKE_MESH => calls_taking::take_mesh(words, bytes),
-        TAKE_FIELD => calls_taking::take_field(words, bytes),
-        TAKE_STEP => calls_taking::take_step(words, bytes),
-        PAGE => calls_fields::page(words),
-        KEEP => calls_fields::keep(words),
-        DROP => calls_fields::drop(words),
-        GIVE_BACK => calls_fields::give_back(words),
-        MIDDLE_STAGE => calls_points::middle_stage(words),
-        FACE_SHARE => calls_points::face_share(words),
-        ADD => calls_periods::add(words, ints),
-        CHARGE => calls_periods::charge(words),
-        PUBLIC_PAGE => calls_fields::public_page(words),
-        PUBLIC_BOARD => calls_fields::public_board(words),
-        _ => make_on_records(call, words, ints, bytes),
+        LAGOON_STEP => calls_taking::lagoon_step(rt, words, bytes),
+        TAKE_MESH => calls_taking::take_mesh(rt, words, bytes),
+        TAKE_FIELD => calls_taking::take_field(rt, words, bytes),
+        TAKE_STEP => calls_taking::take_step(rt, words, bytes),
+        PAGE => calls_fields::page(rt, words),
+        KEEP => calls_fields::keep(rt, words),
+        DROP => calls_fields::drop(rt, words),
+        GIVE_BACK => calls_fields::give_back(rt, words),
+        MIDDLE_STAGE => calls_points::middle_stage(rt, words),
+        FACE_SHARE => calls_points::face_share(rt, words),
+        ADD => calls_periods::add(rt, words, ints),
+        CHARGE => calls_periods::charge(rt, words),
+        PUBLIC_PAGE => calls_fields::public_page(rt, words),
+        PUBLIC_BOARD => calls_fields::public_board(rt, words),
+        _ => make_on_records(rt, call, words, ints, bytes),
     }
-    show::word(b"\n");
+    show::word(rt, b"\n");
 }
 
 // A call made on its words, which stand for signed numbers and for bytes too.
-fn made(call: u64, words: &[u64]) {
+fn made(rt: &HostRuntime, call: u64, words: &[u64]) {
     let mut ints = [0i64; WORDS];
     let mut octets = [0u8; WORDS];
     parts::signed_numbers(words, &mut ints);
     parts::bytes(words, &mut octets);
-    make(call, words, &ints, &octets);
+    make(rt, call, words, &ints, &octets);
 }
 
 // The call that a number names, or 0; what names none is said.
-fn named(size: u64, minus: bool, input: Input) -> u64 {
+fn named(rt: &HostRuntime, size: u64, minus: bool, input: Input) -> u64 {
     if minus {
-        faults::bad(Fault::Sign, input);
+        faults::bad(rt, Fault::Sign, input);
         return 0;
     }
     if shape(size) == 0 {
-        faults::bad(Fault::NoCall, input);
+        faults::bad(rt, Fault::NoCall, input);
         return 0;
     }
     size
 }
 
 // The call that begins with what was read, or 0 at the end and after a fault.
-fn call_of(token: Token, input: Input) -> u64 {
+fn call_of(rt: &HostRuntime, token: Token, input: Input) -> u64 {
     match token {
-        Token::Whole(n) => named(n.size, n.minus, input),
+        Token::Whole(n) => named(rt, n.size, n.minus, input),
         Token::End => 0,
         Token::TooLarge => {
-            faults::bad(Fault::TooLarge, input);
+            faults::bad(rt, Fault::TooLarge, input);
             0
         }
         _ => {
-            faults::bad(Fault::Strange, input);
+            faults::bad(rt, Fault::Strange, input);
             0
         }
     }
 }
 
 // Calls, one after another, to the end of the input or to the first fault. The turns are counted because a proved loop has to end.
-fn calls(chunk: &mut [u8], words: &mut [u64]) {
+fn calls(rt: &HostRuntime, chunk: &mut [u8], words: &mut [u64]) {
     let mut at = input::start();
     let mut turn: u64 = 0;
     while turn < u64::MAX {
         turn += 1;
-        let found = input::next(chunk, at);
+        let found = input::next(rt, chunk, at);
         let token = found.token;
         let here = found.input;
-        let call = call_of(token, here);
+        let call = call_of(rt, token, here);
         if call == 0 {
             return;
         }
-        let told = wants::arguments(shape(call), later(call), chunk, words, here);
+        let told = wants::arguments(rt, shape(call), later(call), chunk, words, here);
         let fault = told.fault;
         at = told.input;
         if faults::is_fault(fault) {
-            faults::bad(fault, at);
+            faults::bad(rt, fault, at);
             return;
         }
-        made(call, words);
+        made(rt, call, words);
     }
 }
 
-fn main() {
+fn main(rt: HostRuntime) {
     let mut chunk = [0u8; BYTES_ROOM];
     let mut words = [0u64; WORDS];
-    calls(&mut chunk, &mut words);
+    calls(&rt, &mut chunk, &mut words);
 }

@@ -14,52 +14,52 @@ use record_writing::WriteAnswer;
 use survey::ShareAnswer;
 use transport::StepAnswer;
 
-fn accepted() {
-    show::word(b" accepted");
+fn accepted(rt: &HostRuntime) {
+    show::word(rt, b" accepted");
 }
 
-pub fn accepted_with(value: u64) {
-    accepted();
-    show::number(value);
+pub fn accepted_with(rt: &HostRuntime, value: u64) {
+    accepted(rt);
+    show::number(rt, value);
 }
 
-pub fn refused(refusal: Refusal) {
-    show::word(b" refused");
+pub fn refused(rt: &HostRuntime, refusal: Refusal) {
+    show::word(rt, b" refused");
     let cause = refusal.cause;
-    show::number(model::number(cause));
-    show::number(refusal.place);
+    show::number(rt, model::number(cause));
+    show::number(rt, refusal.place);
 }
 
-pub fn verdict(said: Answer) {
+pub fn verdict(rt: &HostRuntime, said: Answer) {
     match said {
-        Answer::Done => accepted(),
-        Answer::Refused(refusal) => refused(refusal),
+        Answer::Done => accepted(rt),
+        Answer::Refused(refusal) => refused(rt, refusal),
     }
 }
 
-pub fn total(said: TotalAnswer) {
+pub fn total(rt: &HostRuntime, said: TotalAnswer) {
     match said {
-        TotalAnswer::Total(sum) => accepted_with(sum),
-        TotalAnswer::Refused(refusal) => refused(refusal),
+        TotalAnswer::Total(sum) => accepted_with(rt, sum),
+        TotalAnswer::Refused(refusal) => refused(rt, refusal),
     }
 }
 
 // In-mass, out-mass and released mass.
-pub fn step(said: StepAnswer) {
+pub fn step(rt: &HostRuntime, said: StepAnswer) {
     match said {
         StepAnswer::Stepped(crossing) => {
-            accepted_with(crossing.entered);
-            show::number(crossing.gone);
-            show::number(crossing.released);
+            accepted_with(rt, crossing.entered);
+            show::number(rt, crossing.gone);
+            show::number(rt, crossing.released);
         }
-        StepAnswer::Refused(refusal) => refused(refusal),
+        StepAnswer::Refused(refusal) => refused(rt, refusal),
     }
 }
 
-pub fn length(said: LengthAnswer) {
+pub fn length(rt: &HostRuntime, said: LengthAnswer) {
     match said {
-        LengthAnswer::Needs(bytes) => accepted_with(bytes as u64),
-        LengthAnswer::Refused(refusal) => refused(refusal),
+        LengthAnswer::Needs(bytes) => accepted_with(rt, bytes as u64),
+        LengthAnswer::Refused(refusal) => refused(rt, refusal),
     }
 }
 
@@ -80,62 +80,63 @@ fn width_number(width: Width) -> u64 {
 }
 
 // The bytes and the width.
-pub fn mesh_length(said: MeshLengthAnswer) {
+pub fn mesh_length(rt: &HostRuntime, said: MeshLengthAnswer) {
     match said {
         MeshLengthAnswer::Needs(length) => {
-            accepted_with(length.bytes as u64);
+            accepted_with(rt, length.bytes as u64);
             let width = length.width;
-            show::number(width_number(width));
+            show::number(rt, width_number(width));
         }
-        MeshLengthAnswer::Refused(refusal) => refused(refusal),
+        MeshLengthAnswer::Refused(refusal) => refused(rt, refusal),
     }
 }
 
 // The counts and the width.
-pub fn mesh(said: MeshAnswer) {
+pub fn mesh(rt: &HostRuntime, said: MeshAnswer) {
     match said {
         MeshAnswer::Read(counts) => {
-            accepted_with(counts.cells as u64);
-            show::number(counts.faces as u64);
+            accepted_with(rt, counts.cells as u64);
+            show::number(rt, counts.faces as u64);
             let width = counts.width;
-            show::number(width_number(width));
+            show::number(rt, width_number(width));
         }
-        MeshAnswer::Refused(refusal) => refused(refusal),
+        MeshAnswer::Refused(refusal) => refused(rt, refusal),
     }
 }
 
 // The number of the kind.
-pub fn step_read(width: Width, said: StepRead) {
+pub fn step_read(rt: &HostRuntime, width: Width, said: StepRead) {
     match said {
-        StepRead::Read(kind) => accepted_with(record_layouts::kind_number(width, kind)),
-        StepRead::Refused(refusal) => refused(refusal),
+        StepRead::Read(kind) => accepted_with(rt, record_layouts::kind_number(width, kind)),
+        StepRead::Refused(refusal) => refused(rt, refusal),
     }
 }
 
-pub fn written(said: WriteAnswer) {
+pub fn written(rt: &HostRuntime, said: WriteAnswer) {
     match said {
-        WriteAnswer::Written(length) => accepted_with(length),
-        WriteAnswer::Refused(refusal) => refused(refusal),
+        WriteAnswer::Written(length) => accepted_with(rt, length),
+        WriteAnswer::Refused(refusal) => refused(rt, refusal),
     }
 }
 
-pub fn printed(said: PageAnswer) {
+pub fn printed(rt: &HostRuntime, said: PageAnswer) {
     match said {
-        PageAnswer::Printed(length) => accepted_with(length),
-        PageAnswer::Refused(refusal) => refused(refusal),
+        PageAnswer::Printed(length) => accepted_with(rt, length),
+        PageAnswer::Refused(refusal) => refused(rt, refusal),
     }
 }
 
 // A field of bits that is not within the record has no cause.
-pub fn spelled(said: Spelled) {
+pub fn spelled(rt: &HostRuntime, said: Spelled) {
     match said {
-        Spelled::Number(n) => accepted_with(n),
-        Spelled::Past => show::word(b" past"),
+        Spelled::Number(n) => accepted_with(rt, n),
+        Spelled::Past => show::word(rt, b" past"),
     }
 }
 
 // The five tables of a mesh, of each as many entries as were lent.
 pub fn mesh_tables(
+    rt: &HostRuntime,
     v: usize,
     volumes: &[u64; ROOM],
     f: usize,
@@ -147,37 +148,37 @@ pub fn mesh_tables(
     r: usize,
     reaches: &[u64; ROOM],
 ) {
-    show::numbers(b"; volumes", v, volumes);
-    show::numbers(b"; firsts", f, firsts);
-    show::numbers(b"; seconds", s, seconds);
-    show::numbers(b"; shares", h, shares);
-    show::numbers(b"; reaches", r, reaches);
+    show::numbers(rt, b"; volumes", v, volumes);
+    show::numbers(rt, b"; firsts", f, firsts);
+    show::numbers(rt, b"; seconds", s, seconds);
+    show::numbers(rt, b"; shares", h, shares);
+    show::numbers(rt, b"; reaches", r, reaches);
 }
 
-pub fn share(said: ShareAnswer) {
+pub fn share(rt: &HostRuntime, said: ShareAnswer) {
     match said {
-        ShareAnswer::Share(k) => accepted_with(k),
-        ShareAnswer::Refused(refusal) => refused(refusal),
+        ShareAnswer::Share(k) => accepted_with(rt, k),
+        ShareAnswer::Refused(refusal) => refused(rt, refusal),
     }
 }
 
-fn entry(e: Entry) {
-    show::number(e.cell);
-    show::number(e.q);
-    show::number(e.rest);
+fn entry(rt: &HostRuntime, e: Entry) {
+    show::number(rt, e.cell);
+    show::number(rt, e.q);
+    show::number(rt, e.rest);
 }
 
 // The verdict, how many entries are used, and all eight of them.
-pub fn board(said: BoardAnswer) {
+pub fn board(rt: &HostRuntime, said: BoardAnswer) {
     let judged = said.verdict;
     let entries = said.entries;
-    verdict(judged);
-    show::word(b"; used");
-    show::number(said.used as u64);
-    show::word(b"; entries");
+    verdict(rt, judged);
+    show::word(rt, b"; used");
+    show::number(rt, said.used as u64);
+    show::word(rt, b"; entries");
     let mut i = 0;
     while i < BOARD_SIZE {
-        entry(entries[i]);
+        entry(rt, entries[i]);
         i += 1;
     }
 }

@@ -8,15 +8,15 @@ use calls_arguments::{PART_ROOM, show};
 use cutting::CutAnswer;
 
 // Cells and faces of part 0, then of part 1.
-fn answer(said: CutAnswer) {
+fn answer(rt: &HostRuntime, said: CutAnswer) {
     match said {
         CutAnswer::Cut(counts) => {
-            calls_answers::accepted_with(counts.cells_0 as u64);
-            show::number(counts.faces_0 as u64);
-            show::number(counts.cells_1 as u64);
-            show::number(counts.faces_1 as u64);
+            calls_answers::accepted_with(rt, counts.cells_0 as u64);
+            show::number(rt, counts.faces_0 as u64);
+            show::number(rt, counts.cells_1 as u64);
+            show::number(rt, counts.faces_1 as u64);
         }
-        CutAnswer::Refused(refusal) => calls_answers::refused(refusal),
+        CutAnswer::Refused(refusal) => calls_answers::refused(rt, refusal),
     }
 }
 
@@ -46,8 +46,8 @@ fn held_amounts(words: &[u64], ints: &[i64], argument: usize) -> [i64; PART_ROOM
 }
 
 // The nine tables of a part follow each other among the arguments.
-pub fn cut(words: &[u64], ints: &[i64]) {
-    show::word(b"cut:");
+pub fn cut(rt: &HostRuntime, words: &[u64], ints: &[i64]) {
+    show::word(rt, b"cut:");
     let mut volumes0 = held(words, 12);
     let mut firsts0 = held(words, 13);
     let mut seconds0 = held(words, 14);
@@ -78,54 +78,57 @@ pub fn cut(words: &[u64], ints: &[i64]) {
     let outsides = table(words, 9);
     let releases = table(words, 10);
     let labels = table(words, 11);
-    answer(cutting::cut(
-        &mut volumes0[..size(words, 12)],
-        &mut firsts0[..size(words, 13)],
-        &mut seconds0[..size(words, 14)],
-        &mut shares0[..size(words, 15)],
-        &mut reaches0[..size(words, 16)],
-        &mut masses0[..size(words, 17)],
-        &mut fluxes0[..size(words, 18)],
-        &mut outsides0[..size(words, 19)],
-        &mut releases0[..size(words, 20)],
-        &mut volumes1[..size(words, 21)],
-        &mut firsts1[..size(words, 22)],
-        &mut seconds1[..size(words, 23)],
-        &mut shares1[..size(words, 24)],
-        &mut reaches1[..size(words, 25)],
-        &mut masses1[..size(words, 26)],
-        &mut fluxes1[..size(words, 27)],
-        &mut outsides1[..size(words, 28)],
-        &mut releases1[..size(words, 29)],
-        cells,
-        faces,
-        volumes,
-        firsts,
-        seconds,
-        shares,
-        reaches,
-        masses,
-        fluxes,
-        outsides,
-        releases,
-        labels,
-    ));
-    show::part_numbers(b"; volumes0", size(words, 12), &volumes0);
-    show::part_numbers(b"; firsts0", size(words, 13), &firsts0);
-    show::part_numbers(b"; seconds0", size(words, 14), &seconds0);
-    show::part_numbers(b"; shares0", size(words, 15), &shares0);
-    show::part_numbers(b"; reaches0", size(words, 16), &reaches0);
-    show::part_numbers(b"; masses0", size(words, 17), &masses0);
-    show::part_amounts(b"; fluxes0", size(words, 18), &fluxes0);
-    show::part_numbers(b"; outsides0", size(words, 19), &outsides0);
-    show::part_numbers(b"; releases0", size(words, 20), &releases0);
-    show::part_numbers(b"; volumes1", size(words, 21), &volumes1);
-    show::part_numbers(b"; firsts1", size(words, 22), &firsts1);
-    show::part_numbers(b"; seconds1", size(words, 23), &seconds1);
-    show::part_numbers(b"; shares1", size(words, 24), &shares1);
-    show::part_numbers(b"; reaches1", size(words, 25), &reaches1);
-    show::part_numbers(b"; masses1", size(words, 26), &masses1);
-    show::part_amounts(b"; fluxes1", size(words, 27), &fluxes1);
-    show::part_numbers(b"; outsides1", size(words, 28), &outsides1);
-    show::part_numbers(b"; releases1", size(words, 29), &releases1);
+    answer(
+        rt,
+        cutting::cut(
+            &mut volumes0[..size(words, 12)],
+            &mut firsts0[..size(words, 13)],
+            &mut seconds0[..size(words, 14)],
+            &mut shares0[..size(words, 15)],
+            &mut reaches0[..size(words, 16)],
+            &mut masses0[..size(words, 17)],
+            &mut fluxes0[..size(words, 18)],
+            &mut outsides0[..size(words, 19)],
+            &mut releases0[..size(words, 20)],
+            &mut volumes1[..size(words, 21)],
+            &mut firsts1[..size(words, 22)],
+            &mut seconds1[..size(words, 23)],
+            &mut shares1[..size(words, 24)],
+            &mut reaches1[..size(words, 25)],
+            &mut masses1[..size(words, 26)],
+            &mut fluxes1[..size(words, 27)],
+            &mut outsides1[..size(words, 28)],
+            &mut releases1[..size(words, 29)],
+            cells,
+            faces,
+            volumes,
+            firsts,
+            seconds,
+            shares,
+            reaches,
+            masses,
+            fluxes,
+            outsides,
+            releases,
+            labels,
+        ),
+    );
+    show::part_numbers(rt, b"; volumes0", size(words, 12), &volumes0);
+    show::part_numbers(rt, b"; firsts0", size(words, 13), &firsts0);
+    show::part_numbers(rt, b"; seconds0", size(words, 14), &seconds0);
+    show::part_numbers(rt, b"; shares0", size(words, 15), &shares0);
+    show::part_numbers(rt, b"; reaches0", size(words, 16), &reaches0);
+    show::part_numbers(rt, b"; masses0", size(words, 17), &masses0);
+    show::part_amounts(rt, b"; fluxes0", size(words, 18), &fluxes0);
+    show::part_numbers(rt, b"; outsides0", size(words, 19), &outsides0);
+    show::part_numbers(rt, b"; releases0", size(words, 20), &releases0);
+    show::part_numbers(rt, b"; volumes1", size(words, 21), &volumes1);
+    show::part_numbers(rt, b"; firsts1", size(words, 22), &firsts1);
+    show::part_numbers(rt, b"; seconds1", size(words, 23), &seconds1);
+    show::part_numbers(rt, b"; shares1", size(words, 24), &shares1);
+    show::part_numbers(rt, b"; reaches1", size(words, 25), &reaches1);
+    show::part_numbers(rt, b"; masses1", size(words, 26), &masses1);
+    show::part_amounts(rt, b"; fluxes1", size(words, 27), &fluxes1);
+    show::part_numbers(rt, b"; outsides1", size(words, 28), &outsides1);
+    show::part_numbers(rt, b"; releases1", size(words, 29), &releases1);
 }

@@ -5,37 +5,43 @@ use calls_arguments::parts::{amounts, copy, number, table};
 use calls_arguments::{ROOM, show};
 use charge::ChargeAnswer;
 
-pub fn add(words: &[u64], ints: &[i64]) {
+pub fn add(rt: &HostRuntime, words: &[u64], ints: &[i64]) {
     let mut entries = [0u64; ROOM];
-    show::word(b"add:");
+    show::word(rt, b"add:");
     let n = copy(table(words, 3), &mut entries);
-    calls_answers::verdict(charge_totals::add(
-        number(words, 0),
-        table(words, 1),
-        amounts(words, ints, 2),
-        &mut entries[..n],
-    ));
-    show::numbers(b"; totals", n, &entries);
+    calls_answers::verdict(
+        rt,
+        charge_totals::add(
+            number(words, 0),
+            table(words, 1),
+            amounts(words, ints, 2),
+            &mut entries[..n],
+        ),
+    );
+    show::numbers(rt, b"; totals", n, &entries);
 }
 
 // Cents and the remainder.
-fn charged(said: ChargeAnswer) {
+fn charged(rt: &HostRuntime, said: ChargeAnswer) {
     match said {
         ChargeAnswer::Charged(bill) => {
-            calls_answers::accepted_with(bill.cents);
-            show::number(bill.remainder);
+            calls_answers::accepted_with(rt, bill.cents);
+            show::number(rt, bill.remainder);
         }
-        ChargeAnswer::Refused(refusal) => calls_answers::refused(refusal),
+        ChargeAnswer::Refused(refusal) => calls_answers::refused(rt, refusal),
     }
 }
 
-pub fn charge(words: &[u64]) {
-    show::word(b"charge:");
-    charged(charge::charge(
-        number(words, 0) as u64,
-        number(words, 1),
-        table(words, 2),
-        table(words, 3),
-        number(words, 4) as u64,
-    ));
+pub fn charge(rt: &HostRuntime, words: &[u64]) {
+    show::word(rt, b"charge:");
+    charged(
+        rt,
+        charge::charge(
+            number(words, 0) as u64,
+            number(words, 1),
+            table(words, 2),
+            table(words, 3),
+            number(words, 4) as u64,
+        ),
+    );
 }

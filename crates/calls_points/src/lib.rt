@@ -20,12 +20,12 @@ fn float_of(pattern: u64) -> f64 {
     f64::from_bits(pattern)
 }
 
-fn show_float(v: f64) {
+fn show_float(rt: &HostRuntime, v: f64) {
     if v != v {
-        show::word(b" nan");
+        show::word(rt, b" nan");
         return;
     }
-    show::number(f64::to_bits(v));
+    show::number(rt, f64::to_bits(v));
 }
 
 fn point(x: usize, y: usize) -> Point {
@@ -45,24 +45,24 @@ fn face(words: &[u64]) -> Face {
 }
 
 // The ratio, the place and the value of a coordinate, or that a + b is 0.
-pub fn middle_stage(words: &[u64]) {
-    show::word(b"middle_stage:");
+pub fn middle_stage(rt: &HostRuntime, words: &[u64]) {
+    show::word(rt, b"middle_stage:");
     let stage = survey::middle_stage(face(words));
     match stage {
         Stage::Ratio(r) => {
-            show::word(b" accepted");
-            show_float(r);
+            show::word(rt, b" accepted");
+            show_float(rt, r);
         }
         Stage::Bad(c) => {
-            show::word(b" bad");
-            show::number(c.place);
-            show_float(c.value);
+            show::word(rt, b" bad");
+            show::number(rt, c.place);
+            show_float(rt, c.value);
         }
-        Stage::Nothing => show::word(b" nothing"),
+        Stage::Nothing => show::word(rt, b" nothing"),
     }
 }
 
-pub fn face_share(words: &[u64]) {
-    show::word(b"face_share:");
-    calls_answers::share(survey::face_share(face(words)));
+pub fn face_share(rt: &HostRuntime, words: &[u64]) {
+    show::word(rt, b"face_share:");
+    calls_answers::share(rt, survey::face_share(face(words)));
 }

@@ -5,38 +5,44 @@ use calls_arguments::parts::{amounts, bytes, copy, copy_amounts, number, octets,
 use calls_arguments::{BYTES_ROOM, ROOM, show};
 use record_layouts::{StepKind, Width};
 
-pub fn mesh_length(words: &[u64], bytes: &[u8]) {
-    show::word(b"mesh_length:");
-    calls_answers::mesh_length(record_heads::mesh_length(
-        number(words, 0),
-        number(words, 1),
-        octets(words, bytes, 2),
-    ));
+pub fn mesh_length(rt: &HostRuntime, words: &[u64], bytes: &[u8]) {
+    show::word(rt, b"mesh_length:");
+    calls_answers::mesh_length(
+        rt,
+        record_heads::mesh_length(number(words, 0), number(words, 1), octets(words, bytes, 2)),
+    );
 }
 
-pub fn field_length(words: &[u64], bytes: &[u8]) {
-    show::word(b"field_length:");
-    calls_answers::length(record_heads::field_length(
-        calls_answers::width(number(words, 0)),
-        number(words, 1),
-        octets(words, bytes, 2),
-    ));
+pub fn field_length(rt: &HostRuntime, words: &[u64], bytes: &[u8]) {
+    show::word(rt, b"field_length:");
+    calls_answers::length(
+        rt,
+        record_heads::field_length(
+            calls_answers::width(number(words, 0)),
+            number(words, 1),
+            octets(words, bytes, 2),
+        ),
+    );
 }
 
-pub fn step_length(words: &[u64], bytes: &[u8]) {
-    show::word(b"step_length:");
-    calls_answers::length(record_heads::step_length(
-        calls_answers::width(number(words, 0)),
-        number(words, 1),
-        number(words, 2),
-        table(words, 3),
-        octets(words, bytes, 4),
-    ));
+pub fn step_length(rt: &HostRuntime, words: &[u64], bytes: &[u8]) {
+    show::word(rt, b"step_length:");
+    calls_answers::length(
+        rt,
+        record_heads::step_length(
+            calls_answers::width(number(words, 0)),
+            number(words, 1),
+            number(words, 2),
+            table(words, 3),
+            octets(words, bytes, 4),
+        ),
+    );
 }
 
-pub fn read_mesh(words: &[u64], bytes: &[u8]) {
-    show::word(b"read_mesh:");
+pub fn read_mesh(rt: &HostRuntime, words: &[u64], bytes: &[u8]) {
+    show::word(rt, b"read_mesh:");
     fill_mesh(
+        rt,
         number(words, 0),
         number(words, 1),
         octets(words, bytes, 2),
@@ -50,6 +56,7 @@ pub fn read_mesh(words: &[u64], bytes: &[u8]) {
 
 // A mesh record read into arrays that hold the entries given.
 fn fill_mesh(
+    rt: &HostRuntime,
     most_cells: usize,
     most_faces: usize,
     record: &[u8],
@@ -69,37 +76,44 @@ fn fill_mesh(
     let s = copy(given_seconds, &mut seconds);
     let h = copy(given_shares, &mut shares);
     let r = copy(given_reaches, &mut reaches);
-    calls_answers::mesh(record_reading::read_mesh(
-        most_cells,
-        most_faces,
-        record,
-        &mut volumes[..v],
-        &mut firsts[..f],
-        &mut seconds[..s],
-        &mut shares[..h],
-        &mut reaches[..r],
-    ));
+    calls_answers::mesh(
+        rt,
+        record_reading::read_mesh(
+            most_cells,
+            most_faces,
+            record,
+            &mut volumes[..v],
+            &mut firsts[..f],
+            &mut seconds[..s],
+            &mut shares[..h],
+            &mut reaches[..r],
+        ),
+    );
     calls_answers::mesh_tables(
-        v, &volumes, f, &firsts, s, &seconds, h, &shares, r, &reaches,
+        rt, v, &volumes, f, &firsts, s, &seconds, h, &shares, r, &reaches,
     );
 }
 
-pub fn read_field(words: &[u64], bytes: &[u8]) {
+pub fn read_field(rt: &HostRuntime, words: &[u64], bytes: &[u8]) {
     let mut masses = [0u64; ROOM];
-    show::word(b"read_field:");
+    show::word(rt, b"read_field:");
     let m = copy(table(words, 3), &mut masses);
-    calls_answers::verdict(record_reading::read_field(
-        calls_answers::width(number(words, 0)),
-        number(words, 1),
-        octets(words, bytes, 2),
-        &mut masses[..m],
-    ));
-    show::numbers(b"; masses", m, &masses);
+    calls_answers::verdict(
+        rt,
+        record_reading::read_field(
+            calls_answers::width(number(words, 0)),
+            number(words, 1),
+            octets(words, bytes, 2),
+            &mut masses[..m],
+        ),
+    );
+    show::numbers(rt, b"; masses", m, &masses);
 }
 
-pub fn read_step(words: &[u64], ints: &[i64], bytes: &[u8]) {
-    show::word(b"read_step:");
+pub fn read_step(rt: &HostRuntime, words: &[u64], ints: &[i64], bytes: &[u8]) {
+    show::word(rt, b"read_step:");
     fill_step(
+        rt,
         calls_answers::width(number(words, 0)),
         number(words, 1),
         number(words, 2),
@@ -113,6 +127,7 @@ pub fn read_step(words: &[u64], ints: &[i64], bytes: &[u8]) {
 
 // A step record read into arrays that hold the entries given.
 fn fill_step(
+    rt: &HostRuntime,
     width: Width,
     cells: usize,
     faces: usize,
@@ -138,47 +153,53 @@ fn fill_step(
         &mut outsides[..o],
         &mut releases[..r],
     );
-    calls_answers::step_read(width, said);
-    show::amounts(b"; fluxes", f, &fluxes);
-    show::numbers(b"; outsides", o, &outsides);
-    show::numbers(b"; releases", r, &releases);
+    calls_answers::step_read(rt, width, said);
+    show::amounts(rt, b"; fluxes", f, &fluxes);
+    show::numbers(rt, b"; outsides", o, &outsides);
+    show::numbers(rt, b"; releases", r, &releases);
 }
 
-pub fn write_mesh(words: &[u64]) {
+pub fn write_mesh(rt: &HostRuntime, words: &[u64]) {
     let mut record = [0u8; BYTES_ROOM];
-    show::word(b"write_mesh:");
+    show::word(rt, b"write_mesh:");
     let b = bytes(table(words, 8), &mut record);
-    calls_answers::written(record_writing::write_mesh(
-        calls_answers::width(number(words, 0)),
-        number(words, 1),
-        number(words, 2),
-        table(words, 3),
-        table(words, 4),
-        table(words, 5),
-        table(words, 6),
-        table(words, 7),
-        &mut record[..b],
-    ));
-    show::octets(b"; bytes", b, &record);
+    calls_answers::written(
+        rt,
+        record_writing::write_mesh(
+            calls_answers::width(number(words, 0)),
+            number(words, 1),
+            number(words, 2),
+            table(words, 3),
+            table(words, 4),
+            table(words, 5),
+            table(words, 6),
+            table(words, 7),
+            &mut record[..b],
+        ),
+    );
+    show::octets(rt, b"; bytes", b, &record);
 }
 
-pub fn write_field(words: &[u64]) {
+pub fn write_field(rt: &HostRuntime, words: &[u64]) {
     let mut record = [0u8; BYTES_ROOM];
-    show::word(b"write_field:");
+    show::word(rt, b"write_field:");
     let b = bytes(table(words, 9), &mut record);
-    calls_answers::written(record_writing::write_field(
-        calls_answers::width(number(words, 0)),
-        number(words, 1),
-        number(words, 2),
-        table(words, 3),
-        table(words, 4),
-        table(words, 5),
-        table(words, 6),
-        table(words, 7),
-        table(words, 8),
-        &mut record[..b],
-    ));
-    show::octets(b"; bytes", b, &record);
+    calls_answers::written(
+        rt,
+        record_writing::write_field(
+            calls_answers::width(number(words, 0)),
+            number(words, 1),
+            number(words, 2),
+            table(words, 3),
+            table(words, 4),
+            table(words, 5),
+            table(words, 6),
+            table(words, 7),
+            table(words, 8),
+            &mut record[..b],
+        ),
+    );
+    show::octets(rt, b"; bytes", b, &record);
 }
 
 // The kind of a step that a script names: 4, or any other number for 3.
@@ -190,33 +211,35 @@ fn kind(named: usize) -> StepKind {
     }
 }
 
-pub fn write_step(words: &[u64], ints: &[i64]) {
+pub fn write_step(rt: &HostRuntime, words: &[u64], ints: &[i64]) {
     let mut record = [0u8; BYTES_ROOM];
-    show::word(b"write_step:");
+    show::word(rt, b"write_step:");
     let b = bytes(table(words, 11), &mut record);
-    calls_answers::written(record_writing::write_step(
-        calls_answers::width(number(words, 0)),
-        kind(number(words, 1)),
-        number(words, 2),
-        number(words, 3),
-        table(words, 4),
-        table(words, 5),
-        table(words, 6),
-        table(words, 7),
-        table(words, 8),
-        amounts(words, ints, 9),
-        table(words, 10),
-        &mut record[..b],
-        table(words, 12),
-    ));
-    show::octets(b"; bytes", b, &record);
+    calls_answers::written(
+        rt,
+        record_writing::write_step(
+            calls_answers::width(number(words, 0)),
+            kind(number(words, 1)),
+            number(words, 2),
+            number(words, 3),
+            table(words, 4),
+            table(words, 5),
+            table(words, 6),
+            table(words, 7),
+            table(words, 8),
+            amounts(words, ints, 9),
+            table(words, 10),
+            &mut record[..b],
+            table(words, 12),
+        ),
+    );
+    show::octets(rt, b"; bytes", b, &record);
 }
 
-pub fn number_at(words: &[u64], bytes: &[u8]) {
-    show::word(b"number_at:");
-    calls_answers::spelled(record_reader::number_at(
-        octets(words, bytes, 0),
-        number(words, 1),
-        number(words, 2),
-    ));
+pub fn number_at(rt: &HostRuntime, words: &[u64], bytes: &[u8]) {
+    show::word(rt, b"number_at:");
+    calls_answers::spelled(
+        rt,
+        record_reader::number_at(octets(words, bytes, 0), number(words, 1), number(words, 2)),
+    );
 }

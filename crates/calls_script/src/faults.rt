@@ -23,26 +23,26 @@ pub fn is_fault(fault: Fault) -> bool {
     }
 }
 
-fn reason(fault: Fault) {
+fn reason(rt: &HostRuntime, fault: Fault) {
     match fault {
-        Fault::Nothing => show::word(b"nothing"),
-        Fault::Strange => show::word(b"not a number"),
-        Fault::TooLarge => show::word(b"too large"),
-        Fault::NoCall => show::word(b"no such call"),
-        Fault::Sign => show::word(b"a minus where none may stand"),
-        Fault::LongTable => show::word(b"a table too long"),
-        Fault::LongCall => show::word(b"a call too long"),
-        Fault::Cut => show::word(b"the input ends within a call"),
+        Fault::Nothing => show::word(rt, b"nothing"),
+        Fault::Strange => show::word(rt, b"not a number"),
+        Fault::TooLarge => show::word(rt, b"too large"),
+        Fault::NoCall => show::word(rt, b"no such call"),
+        Fault::Sign => show::word(rt, b"a minus where none may stand"),
+        Fault::LongTable => show::word(rt, b"a table too long"),
+        Fault::LongCall => show::word(rt, b"a call too long"),
+        Fault::Cut => show::word(rt, b"the input ends within a call"),
     }
 }
 
 // What is wrong with a script, and where it was seen.
-pub fn bad(fault: Fault, input: Input) {
-    show::word(b"bad input: line");
-    show::number(input.line);
-    show::word(b", byte");
-    show::number(input.byte);
-    show::word(b": ");
-    reason(fault);
-    show::word(b"\n");
+pub fn bad(rt: &HostRuntime, fault: Fault, input: Input) {
+    show::word(rt, b"bad input: line");
+    show::number(rt, input.line);
+    show::word(rt, b", byte");
+    show::number(rt, input.byte);
+    show::word(rt, b": ");
+    reason(rt, fault);
+    show::word(rt, b"\n");
 }

@@ -1,6 +1,6 @@
 // The bytes of standard input, one number after another, and the line and byte that reading has come to.
 use calls_numerals::Token;
-use libc::STDIN_FILENO;
+use std::io::Read;
 
 // Where reading stands: the next byte of the chunk and how many it holds, the line, and the bytes read before.
 #[derive(Clone, Copy)]
@@ -27,12 +27,12 @@ pub fn start() -> Input {
     }
 }
 
-// Reads on where all bytes of the chunk are used.
-fn filled(chunk: &mut [u8], input: Input) -> Input {
+// Reads on where all bytes of the chunk are used. A read that fails ends the input.
+fn filled(rt: &HostRuntime, chunk: &mut [u8], input: Input) -> Input {
     if input.at < input.got {
         return input;
     }
-    let got = io::count(libc::read(STDIN_FILENO, chunk), chunk);
+    let got = rt.stdin().read(chunk).unwrap_or(0);
     Input {
         at: 0,
         got: got,
@@ -66,13 +66,13 @@ fn passed(input: Input, b: u8) -> Input {
 }
 
 // The next number. A proved loop has to end and nothing says that the input does, so the turns are counted.
-pub fn next(chunk: &mut [u8], start: Input) -> Found {
+pub fn next(rt: &HostRuntime, chunk: &mut [u8], start: Input) -> Found {
     let mut token = Token::Blank;
     let mut input = start;
     let mut turn: u64 = 0;
     while turn < u64::MAX {
         turn += 1;
-        input = filled(chunk, input);
+        input = filled(rt, chunk, input);
         if input.got == 0 {
             return Found {
                 token: calls_numerals::close(token),

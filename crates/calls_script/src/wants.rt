@@ -181,8 +181,15 @@ fn mark(words: &mut [u64], want: Want, k: usize) {
 }
 
 // One number of a call, judged and kept at k.
-fn take(want: Want, k: usize, chunk: &mut [u8], words: &mut [u64], input: Input) -> Turn {
-    let found = next(chunk, input);
+fn take(
+    rt: &HostRuntime,
+    want: Want,
+    k: usize,
+    chunk: &mut [u8],
+    words: &mut [u64],
+    input: Input,
+) -> Turn {
+    let found = next(rt, chunk, input);
     let token = found.token;
     let here = found.input;
     let fault = token_fault(want, token);
@@ -198,6 +205,7 @@ fn take(want: Want, k: usize, chunk: &mut [u8], words: &mut [u64], input: Input)
 
 // The arguments of a call.
 pub fn arguments(
+    rt: &HostRuntime,
     shape: u64,
     later: u64,
     chunk: &mut [u8],
@@ -214,7 +222,7 @@ pub fn arguments(
                 input: input,
             };
         }
-        let turn = take(want, k, chunk, words, input);
+        let turn = take(rt, want, k, chunk, words, input);
         let fault = turn.fault;
         want = turn.want;
         input = turn.input;

@@ -6,22 +6,26 @@ use calls_arguments::{BYTES_ROOM, ROOM, show};
 use model::StepTaken;
 
 // The host's answer is one number, printed as it is.
-pub fn lagoon_step(words: &[u64], records: &[u8]) {
+pub fn lagoon_step(rt: &HostRuntime, words: &[u64], records: &[u8]) {
     let mut next = [0u8; BYTES_ROOM];
-    show::word(b"lagoon_step:");
+    show::word(rt, b"lagoon_step:");
     let n = bytes(table(words, 3), &mut next);
-    show::number(lagoon_step::lagoon_step(
-        octets(words, records, 0),
-        octets(words, records, 1),
-        octets(words, records, 2),
-        &mut next[..n],
-    ));
-    show::octets(b"; next", n, &next);
+    show::number(
+        rt,
+        lagoon_step::lagoon_step(
+            octets(words, records, 0),
+            octets(words, records, 1),
+            octets(words, records, 2),
+            &mut next[..n],
+        ),
+    );
+    show::octets(rt, b"; next", n, &next);
 }
 
-pub fn take_mesh(words: &[u64], records: &[u8]) {
-    show::word(b"take_mesh:");
+pub fn take_mesh(rt: &HostRuntime, words: &[u64], records: &[u8]) {
+    show::word(rt, b"take_mesh:");
     fill_mesh(
+        rt,
         octets(words, records, 0),
         table(words, 1),
         table(words, 2),
@@ -33,6 +37,7 @@ pub fn take_mesh(words: &[u64], records: &[u8]) {
 
 // A mesh record taken into arrays that hold the entries given.
 fn fill_mesh(
+    rt: &HostRuntime,
     record: &[u8],
     given_volumes: &[u64],
     given_firsts: &[u64],
@@ -50,61 +55,70 @@ fn fill_mesh(
     let s = copy(given_seconds, &mut seconds);
     let h = copy(given_shares, &mut shares);
     let r = copy(given_reaches, &mut reaches);
-    calls_answers::mesh(taking_mesh::take_mesh(
-        record,
-        &mut volumes[..v],
-        &mut firsts[..f],
-        &mut seconds[..s],
-        &mut shares[..h],
-        &mut reaches[..r],
-    ));
+    calls_answers::mesh(
+        rt,
+        taking_mesh::take_mesh(
+            record,
+            &mut volumes[..v],
+            &mut firsts[..f],
+            &mut seconds[..s],
+            &mut shares[..h],
+            &mut reaches[..r],
+        ),
+    );
     calls_answers::mesh_tables(
-        v, &volumes, f, &firsts, s, &seconds, h, &shares, r, &reaches,
+        rt, v, &volumes, f, &firsts, s, &seconds, h, &shares, r, &reaches,
     );
 }
 
-pub fn take_field(words: &[u64], records: &[u8]) {
+pub fn take_field(rt: &HostRuntime, words: &[u64], records: &[u8]) {
     let mut masses = [0u64; ROOM];
-    show::word(b"take_field:");
+    show::word(rt, b"take_field:");
     let m = copy(table(words, 4), &mut masses);
-    calls_answers::total(taking_records::take_field(
-        calls_answers::width(number(words, 0)),
-        number(words, 1),
-        octets(words, records, 2),
-        table(words, 3),
-        &mut masses[..m],
-    ));
-    show::numbers(b"; masses", m, &masses);
+    calls_answers::total(
+        rt,
+        taking_records::take_field(
+            calls_answers::width(number(words, 0)),
+            number(words, 1),
+            octets(words, records, 2),
+            table(words, 3),
+            &mut masses[..m],
+        ),
+    );
+    show::numbers(rt, b"; masses", m, &masses);
 }
 
 // In-mass, out-mass, the total afterwards and the released mass.
-fn taken(said: StepTaken) {
+fn taken(rt: &HostRuntime, said: StepTaken) {
     match said {
         StepTaken::Stepped(printed) => {
-            calls_answers::accepted_with(printed.entered);
-            show::number(printed.gone);
-            show::number(printed.total);
-            show::number(printed.released);
+            calls_answers::accepted_with(rt, printed.entered);
+            show::number(rt, printed.gone);
+            show::number(rt, printed.total);
+            show::number(rt, printed.released);
         }
-        StepTaken::Refused(refusal) => calls_answers::refused(refusal),
+        StepTaken::Refused(refusal) => calls_answers::refused(rt, refusal),
     }
 }
 
-pub fn take_step(words: &[u64], records: &[u8]) {
+pub fn take_step(rt: &HostRuntime, words: &[u64], records: &[u8]) {
     let mut masses = [0u64; ROOM];
-    show::word(b"take_step:");
+    show::word(rt, b"take_step:");
     let m = copy(table(words, 9), &mut masses);
-    taken(taking_records::take_step(
-        calls_answers::width(number(words, 0)),
-        number(words, 1),
-        number(words, 2),
-        octets(words, records, 3),
-        table(words, 4),
-        table(words, 5),
-        table(words, 6),
-        table(words, 7),
-        table(words, 8),
-        &mut masses[..m],
-    ));
-    show::numbers(b"; masses", m, &masses);
+    taken(
+        rt,
+        taking_records::take_step(
+            calls_answers::width(number(words, 0)),
+            number(words, 1),
+            number(words, 2),
+            octets(words, records, 3),
+            table(words, 4),
+            table(words, 5),
+            table(words, 6),
+            table(words, 7),
+            table(words, 8),
+            &mut masses[..m],
+        ),
+    );
+    show::numbers(rt, b"; masses", m, &masses);
 }

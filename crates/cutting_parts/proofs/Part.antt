@@ -63,6 +63,7 @@ module _ {M N : Mesh} {cell face place : ℕ → ℕ} {cuts turns : ℕ → Bool
           × (eqb (second N f) c ≡ cond t (eqb (first M (face f)) (cell c)) (eqb (second M (face f)) (cell c)))
       go false false (inside a e d b) = rw (a, b) (sym at-first, sym (cell-eqb (second N f) c (p.joined.second_in f l d) h))
       go false false (over_rim a e d) = rw (a, d, e) (sym at-first, no-rim c h ∙ sym (whole-rim c h))
+      go false true z = elim z [ ]
       go true false (at_first a e d q) = rw (a, d, ne_eqb (second M (face f)) (cell c) (q c h)) (sym at-first, no-rim c h)
       go true true (at_second a e d q) = rw (a, d, ne_eqb (first M (face f)) (cell c) (q c h)) (sym at-first, no-rim c h)
 
@@ -142,6 +143,7 @@ module _ {S P : StepInput} {cell face place : ℕ → ℕ} {cuts turns : ℕ →
         b,
       )
       go false false (over_rim a e d) = rw (eq-eqb (second N f) rim d, eq-eqb (second M (face f)) rim e, at-first, a)
+      go false true z = elim z [ ]
       go true false (at_first a e d q) = rw (eq-eqb (second N f) rim d, ne_eqb (second M (face f)) rim e, at-first, a)
           (rw (again (is_negative u) (concentration S (second M (face f))) (concentration S (cell (first N f)))))
       go true true (at_second a e d q) = rw (eq-eqb (second N f) rim d, ne_eqb (second M (face f)) rim e, at-first, a)

@@ -138,6 +138,7 @@ module _ (L : Lagoon) (labels : List ℕ) (p : ℕ) (lent : Tables) (nexts : Lis
     apart : (c t : Bool) → Side M N (cell L labels p lent) f F c t → first N f < N.cells → first N f ≢ second N f
     apart false false (inside a e d b) h q = whole.fit.apart F (face_in f l) (a ∙ ap (cell L labels p lent) q ∙ sym b)
     apart false false (over_rim a e d) h q = absurd (omega (arith, fewer-cells, whole.counts_fit.few_cells))
+    apart false true z h q = elim z [ ]
     apart true false (at_first a e d n) h q = absurd (omega (arith, fewer-cells, whole.counts_fit.few_cells))
     apart true true (at_second a e d n) h q = absurd (omega (arith, fewer-cells, whole.counts_fit.few_cells))
 
@@ -150,6 +151,7 @@ module _ (L : Lagoon) (labels : List ℕ) (p : ℕ) (lent : Tables) (nexts : Lis
         → spacing_fit ceiling (second N f) (cond c 0 (share M F)) (cond c 0 (reach M F)) ≡ true
     spaced false false (inside a e d b) g = rw (ne_eqb (second N f) rim d) (rw (ne_eqb (second M F) rim e) at g)
     spaced false false (over_rim a e d) g = rw (eq-eqb (second N f) rim d) (rw (eq-eqb (second M F) rim e) at g)
+    spaced false true z g = elim z [ ]
     spaced true false (at_first a e d n) g = rw (eq-eqb (second N f) rim d)
     spaced true true (at_second a e d n) g = rw (eq-eqb (second N f) rim d)
 
@@ -167,6 +169,7 @@ module _ (L : Lagoon) (labels : List ℕ) (p : ℕ) (lent : Tables) (nexts : Lis
         ≡ true
     outside-fits false false (inside a e d b) g = rw (ne_eqb (second N f) rim d) (rw (ne_eqb (second M F) rim e) at g)
     outside-fits false false (over_rim a e d) g = rw (eq-eqb (second N f) rim d) (rw (eq-eqb (second M F) rim e) at g)
+    outside-fits false true z g = elim z [ ]
     outside-fits true false (at_first a e d n) g = rw (eq-eqb (second N f) rim d)
         (cut-outside (is_negative (flux (step_input L) F)) _ (whole.salt_most (second M F) (whole.fit.second_in F (face_in f l) e)))
     outside-fits true true (at_second a e d n) g = rw (eq-eqb (second N f) rim d)
@@ -182,6 +185,7 @@ module _ (L : Lagoon) (labels : List ℕ) (p : ℕ) (lent : Tables) (nexts : Lis
         → flux_fit ceiling (second N f) (cond c 0 (reach M F)) (size (flux (step_input L) F)) ≡ true
     flux-fits false false (inside a e d b) g = rw (ne_eqb (second N f) rim d) (rw (ne_eqb (second M F) rim e) at g)
     flux-fits false false (over_rim a e d) g = rw (eq-eqb (second N f) rim d) (rw (eq-eqb (second M F) rim e) at g)
+    flux-fits false true z g = elim z [ ]
     flux-fits true false (at_first a e d n) g = rw (eq-eqb (second N f) rim d) (le-leb _ max_rim_flux (flux-few (step_input L) whole F (face_in f l)))
     flux-fits true true (at_second a e d n) g = rw (eq-eqb (second N f) rim d) (le-leb _ max_rim_flux (flux-few (step_input L) whole F (face_in f l)))
 

@@ -4,7 +4,6 @@
 ghost use Rattle.std.specs.Prelude.{◌≡◌, ◌≤◌, ◌+◌, ◌*◌, length};
 ghost use Rattle.model.specs.Mesh.{mesh_of};
 ghost use Rattle.model.specs.Claims.{claim_of};
-ghost use Rattle.model.specs.Step.{StepInput};
 ghost use Rattle.model.specs.Accepted.{Ready};
 ghost use Rattle.step_carrying.specs.Carrying.{input_from, CarriedTo};
 ghost use Rattle.transport.specs.Promise.{step_said};
@@ -35,12 +34,13 @@ fn first_passes(
     carried: &mut [i64],
     work: &mut [u64],
 ) -> Carried
-    ghost S: { StepInput }
-    requires releases_value { input_from cells faces volumes.now firsts.now seconds.now shares.now reaches.now masses.now fluxes.now outsides.now
-        releases.now ≡ S }
-    requires fact { Ready S × (cells ≤ length masses.now) × (cells ≤ length releases.now) }
-    requires fact_2 { (length low.old ≡ cells) × (length carried.old ≡ faces) × (length work.old ≡ 4 * cells + faces) }
-    ensures { CarriedTo S faces result.entered result.gone low.new carried.new work.new }
+    requires ready { let S = input_from cells faces volumes.now firsts.now seconds.now shares.now reaches.now masses.now fluxes.now outsides.now
+        releases.now in
+        Ready S × (cells ≤ length masses.now) × (cells ≤ length releases.now) }
+    requires lengths { (length low.old ≡ cells) × (length carried.old ≡ faces) × (length work.old ≡ 4 * cells + faces) }
+    ensures { let S = input_from cells faces volumes.now firsts.now seconds.now shares.now reaches.now masses.now fluxes.now outsides.now
+        releases.now in
+        CarriedTo S faces result.entered result.gone low.new carried.new work.new }
 {
     concentrations(cells, volumes, masses, releases, low, work);
     carry(
@@ -66,12 +66,13 @@ fn judged_in(
     carried: &mut [i64],
     work: &mut [u64],
 ) -> StepAnswer
-    ghost S: { StepInput }
-    requires releases_value { input_from cells faces volumes.now firsts.now seconds.now shares.now reaches.now masses.now fluxes.now outsides.now
-        releases.now ≡ S }
-    requires fact { Ready S × (cells ≤ length masses.now) × (cells ≤ length releases.now) × (faces ≤ length claim.now) }
-    requires fact_2 { (length low.old ≡ cells) × (length carried.old ≡ faces) × (length work.old ≡ 4 * cells + faces) }
-    ensures { step_said result ≡ amounts_answer S claim.now releases.now }
+    requires ready { let S = input_from cells faces volumes.now firsts.now seconds.now shares.now reaches.now masses.now fluxes.now outsides.now
+        releases.now in
+        Ready S × (cells ≤ length masses.now) × (cells ≤ length releases.now) × (faces ≤ length claim.now) }
+    requires lengths { (length low.old ≡ cells) × (length carried.old ≡ faces) × (length work.old ≡ 4 * cells + faces) }
+    ensures { let S = input_from cells faces volumes.now firsts.now seconds.now shares.now reaches.now masses.now fluxes.now outsides.now
+        releases.now in
+        step_said result ≡ amounts_answer S claim.now releases.now }
 {
     let crossed = first_passes(
         cells, faces, volumes, firsts, seconds, shares, reaches, masses, fluxes, outsides,
@@ -109,11 +110,12 @@ fn judged(
     claim: &[i64],
     releases: &[u64],
 ) -> StepAnswer
-    ghost S: { StepInput }
-    requires releases_value { input_from cells faces volumes.now firsts.now seconds.now shares.now reaches.now masses.now fluxes.now outsides.now
-        releases.now ≡ S }
-    requires fact { Ready S × (cells ≤ length masses.now) × (cells ≤ length releases.now) × (faces ≤ length claim.now) }
-    ensures { step_said result ≡ amounts_answer S claim.now releases.now }
+    requires { let S = input_from cells faces volumes.now firsts.now seconds.now shares.now reaches.now masses.now fluxes.now outsides.now
+        releases.now in
+        Ready S × (cells ≤ length masses.now) × (cells ≤ length releases.now) × (faces ≤ length claim.now) }
+    ensures { let S = input_from cells faces volumes.now firsts.now seconds.now shares.now reaches.now masses.now fluxes.now outsides.now
+        releases.now in
+        step_said result ≡ amounts_answer S claim.now releases.now }
 {
     let mut low = [0u64; MAX_CELLS];
     let mut carried = [0i64; MAX_FACES];

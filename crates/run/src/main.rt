@@ -12,6 +12,7 @@ use checks::TotalAnswer;
 use model::{RUN_CELLS, RUN_FACES, RUN_WORK};
 use record_layouts::Width;
 use record_reading::MeshAnswer;
+use run_intake::RECORD;
 use run_session::LINES;
 
 // The bytes that are read at once: one of the longest records, or many of a small lagoon's.
@@ -21,6 +22,7 @@ const AHEAD: usize = 16384;
 // nothing is lost, so that the board may follow. A proved loop has to end and nothing says that the input does, so the step number stops
 // it: at a step in each nanosecond after 584 years.
 fn steps_in(
+    rt: &HostRuntime,
     width: Width,
     cells: usize,
     faces: usize,
@@ -39,7 +41,7 @@ fn steps_in(
     work: &mut [u64; RUN_WORK],
     lines: &mut [u8; LINES],
 ) -> bool
-    requires* do_in_bounds { do ⌜ (← ⟦run_intake::RECORD⟧) ≤ length buffer.old ⌝ }
+    requires in_bounds { RECORD ≤ length buffer.old }
     requires reaches_value { mesh_values ceiling (mesh_of cells faces volumes.now firsts.now seconds.now shares.now reaches.now) ≡ fine }
 {
     let mut from = 0;
@@ -48,12 +50,12 @@ fn steps_in(
     let mut step: u64 = 0;
     while step < u64::MAX {
         step += 1;
-        let room = run_session::make_room(lines, unwritten);
+        let room = run_session::make_room(rt, lines, unwritten);
         if room.failed {
             return false;
         }
         let held = run_intake::step(
-            width, cells, faces, seconds, buffer, from, to, lines, room.count,
+            rt, width, cells, faces, seconds, buffer, from, to, lines, room.count,
         );
         if held.failed {
             return false;
@@ -62,7 +64,7 @@ fn steps_in(
         let start = held.from;
         let end = held.end;
         if start == end {
-            return run_session::write(lines, unwritten);
+            return run_session::write(rt, lines, unwritten);
         }
         let taken = taking_records::take_step_in(
             true,
@@ -86,16 +88,17 @@ fn steps_in(
         let told = run_session::tell(step, taken);
         unwritten = run_session::add(told.line, lines, unwritten);
         if told.last {
-            return run_session::write(lines, unwritten);
+            return run_session::write(rt, lines, unwritten);
         }
         from = end;
         to = held.to;
     }
-    run_session::write(lines, unwritten)
+    run_session::write(rt, lines, unwritten)
 }
 
 // The same, with the tables of a step, which are made once, and room for the lines.
 fn steps(
+    rt: &HostRuntime,
     width: Width,
     cells: usize,
     faces: usize,
@@ -107,7 +110,7 @@ fn steps(
     reaches: &[u64],
     masses: &mut [u64],
 ) -> bool
-    requires* do_in_bounds { do ⌜ (← ⟦run_intake::RECORD⟧) ≤ length buffer.old ⌝ }
+    requires in_bounds { RECORD ≤ length buffer.old }
     requires reaches_value { mesh_values ceiling (mesh_of cells faces volumes.now firsts.now seconds.now shares.now reaches.now) ≡ fine }
 {
     let mut fluxes = [0i64; RUN_FACES];
@@ -118,6 +121,7 @@ fn steps(
     let mut work = [0u64; RUN_WORK];
     let mut lines = [0u8; LINES];
     steps_in(
+        rt,
         width,
         cells,
         faces,
@@ -140,6 +144,7 @@ fn steps(
 
 // Field, steps and board on an accepted mesh.
 fn run_on(
+    rt: &HostRuntime,
     width: Width,
     cells: usize,
     faces: usize,
@@ -150,11 +155,11 @@ fn run_on(
     shares: &[u64],
     reaches: &[u64],
 )
-    requires* do_in_bounds { do ⌜ (← ⟦run_intake::RECORD⟧) ≤ length buffer.old ⌝ }
+    requires in_bounds { RECORD ≤ length buffer.old }
     requires reaches_value { mesh_values ceiling (mesh_of cells faces volumes.now firsts.now seconds.now shares.now reaches.now) ≡ fine }
 {
     let mut masses = [0u64; RUN_CELLS];
-    let read = run_intake::field(width, cells, buffer);
+    let read = run_intake::field(rt, width, cells, buffer);
     if read.failed {
         return;
     }
@@ -162,14 +167,15 @@ fn run_on(
     let answer = taking_records::take_field(width, cells, &buffer[..got], volumes, &mut masses);
     let TotalAnswer::Total(total) = answer else {
         if let TotalAnswer::Refused(refusal) = answer {
-            run_session::print(run_session::refused_field_line(refusal));
+            run_session::print(rt, run_session::refused_field_line(refusal));
         }
         return;
     };
-    if !run_session::print(run_session::start_line(total)) {
+    if !run_session::print(rt, run_session::start_line(total)) {
         return;
     }
     let whole = steps(
+        rt,
         width,
         cells,
         faces,
@@ -182,19 +188,19 @@ fn run_on(
         &mut masses,
     );
     if whole {
-        board_lines::print_board(cells, volumes, &masses);
+        board_lines::print_board(rt, cells, volumes, &masses);
     }
 }
 
-fn main() {
-    run_session::greet();
+fn main(rt: HostRuntime) {
+    run_session::greet(&rt);
     let mut buffer = [0u8; AHEAD];
     let mut volumes = [0u64; RUN_CELLS];
     let mut firsts = [0u64; RUN_FACES];
     let mut seconds = [0u64; RUN_FACES];
     let mut shares = [0u64; RUN_FACES];
     let mut reaches = [0u64; RUN_FACES];
-    let read = run_intake::mesh(&mut buffer);
+    let read = run_intake::mesh(&rt, &mut buffer);
     if read.failed {
         return;
     }
@@ -209,12 +215,13 @@ fn main() {
     );
     let MeshAnswer::Read(counts) = answer else {
         if let MeshAnswer::Refused(refusal) = answer {
-            run_session::print(run_session::refused_mesh_line(refusal));
+            run_session::print(&rt, run_session::refused_mesh_line(refusal));
         }
         return;
     };
     let width = counts.width;
     run_on(
+        &rt,
         width,
         counts.cells,
         counts.faces,

@@ -9,11 +9,11 @@ ghost use Rattle.record_layouts.specs.Layouts.{mesh_head_bits, field_head_bits, 
 ghost use Rattle.record_heads.specs.Heads.{length_said, mesh_length_said, bytes_of, mesh_needs, field_needs, step_needs};
 ghost use Rattle.run_intake.specs.Intake.{record_bytes, still_needed, Asked, held, HeldAhead, held_anew, SomeTaken, RecordTaken};
 
-use libc::STDIN_FILENO;
 use model::{RUN_CELLS, RUN_FACES};
 use record_heads::{LengthAnswer, MeshLengthAnswer};
 use record_layouts::body::Body;
 use record_layouts::{FIELD_HEAD, MESH_HEAD, STEP_HEAD, Width};
+use std::io::Read;
 
 // Most bits of a face in a step record: one at the rim, in the wide kinds.
 const RIM_FACE: usize = Body::SIGN + Body::WIDE_VALUE + Body::OUTSIDE;
@@ -29,34 +29,41 @@ pub struct Got {
 }
 
 // One read into buffer[at..to], and a word where it fails. Answers where the bytes end. It may wait, so that no line is unwritten then.
-fn once(buffer: &mut [u8], at: usize, to: usize, unwritten: usize) -> Got
+fn once(rt: &HostRuntime, buffer: &mut [u8], at: usize, to: usize, unwritten: usize) -> Got
     requires { (at ≤ to) × (to ≤ length buffer.old) × (unwritten ≡ 0) }
     ensures { (at ≤ result.count) × (result.count ≤ to) × (take at buffer.new ≡ take at buffer.old) }
 {
-    let answer = libc::read(STDIN_FILENO, &mut buffer[at..to]);
-    if answer < 0 {
-        os::fail(b"run: standard input");
-        return Got {
-            count: at,
-            failed: true,
-        };
-    }
-    let more = io::count(answer, &buffer[at..to]);
-    Got {
-        count: at + more,
-        failed: false,
+    match rt.stdin().read(&mut buffer[at..to]) {
+        Ok(more) => Got {
+            count: at + more,
+            failed: false,
+        },
+        Err(error) => {
+            run_session::fail(rt, "run: standard input", error);
+            Got {
+                count: at,
+                failed: true,
+            }
+        }
     }
 }
 
 // Bytes read into buffer[from..to], until they reach `enough` or there are none. Answers where they end.
-fn bytes(buffer: &mut [u8], from: usize, enough: usize, to: usize, unwritten: usize) -> Got
+fn bytes(
+    rt: &HostRuntime,
+    buffer: &mut [u8],
+    from: usize,
+    enough: usize,
+    to: usize,
+    unwritten: usize,
+) -> Got
     requires { (from ≤ to) × (enough ≤ to) × (to ≤ length buffer.old) × (unwritten ≡ 0) }
     ensures { IsPrefixLen result.count buffer.new × (from ≤ result.count) × (result.count ≤ to)
         × (take from buffer.new ≡ take from buffer.old) × (result.failed ≡ true → result.count < enough) }
 {
     let mut at = from;
     while at < enough {
-        let got = once(buffer, at, to, unwritten);
+        let got = once(rt, buffer, at, to, unwritten);
         let end = got.count;
         if end == at {
             return got;
@@ -84,14 +91,14 @@ fn still_needed(answer: LengthAnswer, got: usize) -> usize
 }
 
 // What is left of a record of which `got` bytes have come. Answers how many have come then.
-fn rest(answer: LengthAnswer, got: usize, buffer: &mut [u8]) -> Got
+fn rest(rt: &HostRuntime, answer: LengthAnswer, got: usize, buffer: &mut [u8]) -> Got
     requires { (got ≤ RECORD) × (RECORD ≤ length buffer.old) }
     ensures { IsPrefixLen result.count buffer.new × (got ≤ result.count) × (result.count ≤ got + still_needed (length_said answer) got)
         × (take got buffer.new ≡ take got buffer.old) }
 {
     let more = still_needed(answer, got);
     let end = got + more;
-    bytes(buffer, got, end, end, 0)
+    bytes(rt, buffer, got, end, end, 0)
 }
 
 // Of what the head of a mesh says, the bytes alone.
@@ -104,30 +111,30 @@ fn bytes_alone(answer: MeshLengthAnswer) -> LengthAnswer
     }
 }
 
-pub fn mesh(buffer: &mut [u8]) -> Got
+pub fn mesh(rt: &HostRuntime, buffer: &mut [u8]) -> Got
     requires { RECORD ≤ length buffer.old }
     ensures { IsPrefixLen result.count buffer.new × Asked (bytes_for mesh_head_bits) (mesh_needs run_cells run_faces) buffer.new result.count }
 {
-    let head = bytes(buffer, 0, MESH_HEAD, MESH_HEAD, 0);
+    let head = bytes(rt, buffer, 0, MESH_HEAD, MESH_HEAD, 0);
     if head.failed {
         return head;
     }
     let got = head.count;
     let answer = bytes_alone(record_heads::mesh_length(RUN_CELLS, RUN_FACES, &buffer[..got]));
-    rest(answer, got, buffer)
+    rest(rt, answer, got, buffer)
 }
 
-pub fn field(width: Width, cells: usize, buffer: &mut [u8]) -> Got
+pub fn field(rt: &HostRuntime, width: Width, cells: usize, buffer: &mut [u8]) -> Got
     requires { RECORD ≤ length buffer.old }
     ensures { IsPrefixLen result.count buffer.new × Asked (bytes_for field_head_bits) (field_needs width cells) buffer.new result.count }
 {
-    let head = bytes(buffer, 0, FIELD_HEAD, FIELD_HEAD, 0);
+    let head = bytes(rt, buffer, 0, FIELD_HEAD, FIELD_HEAD, 0);
     if head.failed {
         return head;
     }
     let got = head.count;
     let answer = record_heads::field_length(width, cells, &buffer[..got]);
-    rest(answer, got, buffer)
+    rest(rt, answer, got, buffer)
 }
 
 // What has come and is not yet taken, buffer[from..to], of which buffer[from..end] was asked for; how many bytes of the lines are not yet
@@ -169,6 +176,7 @@ fn all_come(wanted: usize, got: Got) -> Held
 
 // So many bytes of what is held, or all where no more come. A read may wait, so that the lines are written before it.
 fn hold(
+    rt: &HostRuntime,
     wanted: usize,
     buffer: &mut [u8],
     from: usize,
@@ -190,7 +198,7 @@ fn hold(
             failed: false,
         };
     }
-    let left = run_session::flush(lines, unwritten);
+    let left = run_session::flush(rt, lines, unwritten);
     if left.failed {
         return Held {
             from: from,
@@ -201,12 +209,13 @@ fn hold(
         };
     }
     move_down(buffer, from, to);
-    let got = bytes(buffer, kept, wanted, buffer.len(), left.count);
+    let got = bytes(rt, buffer, kept, wanted, buffer.len(), left.count);
     all_come(wanted, got)
 }
 
 // A step record among what is held: its head, and then as many bytes as that asks for.
 pub fn step(
+    rt: &HostRuntime,
     width: Width,
     cells: usize,
     faces: usize,
@@ -222,7 +231,7 @@ pub fn step(
         × RecordTaken (bytes_for step_head_bits) (step_needs width cells faces seconds.now) buffer.old from to unwritten
         buffer.new result }
 {
-    let head = hold(STEP_HEAD, buffer, from, to, lines, unwritten);
+    let head = hold(rt, STEP_HEAD, buffer, from, to, lines, unwritten);
     if head.failed {
         return head;
     }
@@ -231,5 +240,5 @@ pub fn step(
     let answer = record_heads::step_length(width, cells, faces, seconds, &buffer[start..end]);
     let got = end - start;
     let all = got + still_needed(answer, got);
-    hold(all, buffer, start, head.to, lines, head.unwritten)
+    hold(rt, all, buffer, start, head.to, lines, head.unwritten)
 }

@@ -1,6 +1,7 @@
 // When a run ends, its lines of mesh, field and steps, and each line printed.
 #![tactic(auto)]
 
+mod faults;
 mod printing;
 
 ghost use Rattle.std.specs.Prelude.{◌≡◌, not};
@@ -9,6 +10,7 @@ ghost use Rattle.model.specs.Answers.{told};
 ghost use Rattle.run_lines.specs.Lines.{Holds, letter_m, letter_f};
 ghost use Rattle.run_session.specs.Session.{ends_run, refused_text, start_text, step_text, step_taken_line, goes_on, goes_on_after};
 
+pub use faults::fail;
 use model::{Cause, Printed, Refusal, StepTaken};
 pub use printing::{LINES, add, flush, greet, make_room, print, write};
 use run_lines::Line;

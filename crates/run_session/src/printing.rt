@@ -3,8 +3,10 @@ ghost use Rattle.std.specs.Prelude.{◌≡◌, cond, ◌++◌, ◌+◌, ◌≤�
 ghost use Rattle.io.specs.Counts.{IsPrefixLen};
 ghost use Rattle.run_session.specs.Session.{line_bytes, lines_bytes};
 
-use libc::{STDERR_FILENO, STDIN_FILENO, STDOUT_FILENO};
+use crate::faults::fail;
 use run_lines::{LINE, Line};
+use std::env::{Env, FillError};
+use std::io::IsTerminal;
 
 // How many bytes of lines are held: no more than a pipe takes whole, so that a write that does not wait cuts no line in two.
 pub const LINES: usize = 4096;
@@ -17,31 +19,33 @@ pub struct Unwritten {
 }
 
 // Lines on standard output, or a word on standard error where they are lost.
-pub fn write(lines: &[u8], count: usize) -> bool
+pub fn write(rt: &HostRuntime, lines: &[u8], count: usize) -> bool
     requires { count ≤ length lines.now }
 {
-    if io::write_all(STDOUT_FILENO, &lines[..count]) {
-        return true;
+    match rt.write_all(&lines[..count]) {
+        Ok(()) => true,
+        Err(error) => {
+            fail(rt, "run: standard output", error);
+            false
+        }
     }
-    os::fail(b"run: standard output");
-    false
 }
 
 // A line by itself.
-pub fn print(line: Line) -> bool
+pub fn print(rt: &HostRuntime, line: Line) -> bool
     requires { IsPrefixLen line.used line.bytes }
 {
     let bytes = line.bytes;
     let used = line.used;
-    write(&bytes, used)
+    write(rt, &bytes, used)
 }
 
 // Those held, written. Answers what is left of them: none, or all where they are lost.
-pub fn flush(lines: &[u8], unwritten: usize) -> Unwritten
+pub fn flush(rt: &HostRuntime, lines: &[u8], unwritten: usize) -> Unwritten
     requires { unwritten ≤ length lines.now }
     ensures { result.count ≡ cond result.failed unwritten 0 }
 {
-    let lost = !write(lines, unwritten);
+    let lost = !write(rt, lines, unwritten);
     let mut left = 0;
     if lost {
         left = unwritten;
@@ -53,7 +57,7 @@ pub fn flush(lines: &[u8], unwritten: usize) -> Unwritten
 }
 
 // Those held are written where one more might not fit.
-pub fn make_room(lines: &[u8; LINES], unwritten: usize) -> Unwritten
+pub fn make_room(rt: &HostRuntime, lines: &[u8; LINES], unwritten: usize) -> Unwritten
     requires { unwritten ≤ lines_bytes }
     ensures { (result.count + line_bytes ≤ lines_bytes) × (result.count ≡ cond (leb (unwritten + line_bytes) lines_bytes) unwritten 0) }
 {
@@ -65,7 +69,7 @@ pub fn make_room(lines: &[u8; LINES], unwritten: usize) -> Unwritten
     }
     Unwritten {
         count: 0,
-        failed: !write(lines, unwritten),
+        failed: !write(rt, lines, unwritten),
     }
 }
 
@@ -80,13 +84,11 @@ pub fn add(line: Line, lines: &mut [u8], unwritten: usize) -> usize
 }
 
 // A word to whoever gives arguments or sits at a terminal and does not know that a session is awaited.
-pub fn greet() {
-    let asked = os::arg_count() > 1;
-    let terminal = libc::isatty(STDIN_FILENO) == 1;
+pub fn greet(rt: &HostRuntime) {
+    let mut first = [0u8; 1];
+    let asked = !matches!(rt.arg(1, &mut first), Err(FillError::NotPresent));
+    let terminal = rt.stdin().is_terminal();
     if asked || terminal {
-        io::write_all(
-            STDERR_FILENO,
-            b"run: reads a session from standard input; see README.md\n",
-        );
+        let _ = rt.eprint("run: reads a session from standard input; see README.md\n");
     }
 }

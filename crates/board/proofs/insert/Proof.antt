@@ -13,6 +13,7 @@ use Rattle.board.proofs.Places.{place-left, place_in, place-bytes, place-next}
 use Rattle.board_order.proofs.Insertion.{Carrying, at-start, carried_on, passed, at-end, room-left, no_room}
 use Rattle.board.proofs.insert.Statement.{statement}
 use Rattle.board.proofs.insert.Tie as tie
+use Rattle.board.proofs.insert.Lts.{then-displaces, else-displaces}
 
 -- an array in a struct has its length as a mapped list
 length-mapped : {X Y : Type 0} (g : X → Y) (l : List X) (n : ℕ) → length (map g l) ≡ n → length l ≡ n
@@ -35,12 +36,12 @@ few c = c.before.before.before.requires
 loop-again : tie.Need-loop-i-preserved invariant-loop decreases-loop
 loop-again c =
     let p = c.before.before.before.before.loop-i in
-    ⊎_elim
-    (λ w. carried_on comes_before _ _ _ _ p.ranks p.i p.moving p.carried _ unranked c.before.before.before.loop-i-test.true (omega arith)
-    p.invariant refl c.before.displaces.ensures w.0.taken w.1 w.2 w.3)
-    (λ w. passed comes_before _ _ _ _ p.ranks p.i p.moving p.carried _ unranked c.before.before.before.loop-i-test.true (omega arith)
-    p.invariant refl c.before.displaces.ensures w.0.left w.1 w.2 w.3)
-    c.if-displaces.branch
+    elim c.if-displaces.branch [
+      | then-displaces w ↦ carried_on comes_before _ _ _ _ p.ranks p.i p.moving p.carried _ unranked c.before.before.before.loop-i-test.true (omega arith)
+          p.invariant refl c.before.displaces.ensures w.if-displaces.true w.ranks-is w.carried-is w.moving-is
+      | else-displaces w ↦ passed comes_before _ _ _ _ p.ranks p.i p.moving p.carried _ unranked c.before.before.before.loop-i-test.true (omega arith)
+          p.invariant refl c.before.displaces.ensures w.if-displaces.false w.ranks-is w.carried-is w.moving-is
+    ]
 
 returns : tie.Need-returns-then-used-lt-BOARD_SIZE invariant-loop decreases-loop
 returns c =

@@ -39,11 +39,11 @@ returns c =
     scan-hit _ _ _ _ t.loop-i-test.true l.invariant.2 (band-is s.ends.now s.prices.now s.bands l.i l.invariant.1 c.before.band_fits.ensures)
     c.if-not-band_fits.true
 
-add-i : tie.Need-overflow_add-i invariant-loop decreases-loop
+add-i : tie.Need-overflow_add-i-in-loop-i invariant-loop decreases-loop
 add-i c =
-    let t = c.before.before.before.before in
-    let s = t.before.before.before.before in
-    turn-next t.loop-test.true s.requires.0 s.well_formed.1.0.0
+    let t = c.before.before in
+    let s = t.before.before in
+    turn-next t.loop-i-test.true s.requires.0 s.well_formed.1.0.0
 
 loop-less : tie.Need-loop-i-smaller invariant-loop decreases-loop
 loop-less c = turn-less c.before.before.before.before.loop-i-test.true

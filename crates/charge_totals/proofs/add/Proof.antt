@@ -13,13 +13,13 @@ returns c = let at-lent = c.before in not-lent _ _ _ _ _ at-lent.lent-tables.ens
 gains-good-requires : tie.Need-gains_good-gains-requires
 gains-good-requires c κs =
     let told = c in
-    lent-long told.before.lent-tables.ensures (ap said told.enum_told.given.1)
+    lent-long told.before.lent-tables.ensures (ap said told.in_default.is)
 
 returns-2 : tie.Need-returns-in-Refused-gains
 returns-2 c =
     let at-gains = c.before in
     let told = at-gains.before in
-    too_much _ _ _ _ _ told.before.lent-tables.ensures (ap said told.enum_told.given.1) _
+    too_much _ _ _ _ _ told.before.lent-tables.ensures (ap said told.in_default.is) _
     (refuses at-gains.gains_good-gains.ensures c.in-Refused-gains.is)
 
 raise-requires : tie.Need-raise-requires
@@ -27,7 +27,7 @@ raise-requires c κs =
     let told2 = c.before in
     let at-gains = told2.before in
     let told = at-gains.before in (
-      lent-long told.before.lent-tables.ensures (ap said told.enum_told.given.1),
+      lent-long told.before.lent-tables.ensures (ap said told.in_default.is),
       passes at-gains.gains_good-gains.ensures told2.in_default-gains.is,
     )
 
@@ -37,7 +37,7 @@ returns-3 c =
     let told2 = at-raise.before.before in
     let at-gains = told2.before in
     let told = at-gains.before in
-    added _ _ _ _ _ told.before.lent-tables.ensures (ap said told.enum_told.given.1)
+    added _ _ _ _ _ told.before.lent-tables.ensures (ap said told.in_default.is)
     (passes at-gains.gains_good-gains.ensures told2.in_default-gains.is) _ at-raise.raise.ensures
 
 pub add_spec : {M : Type 1} → statement M

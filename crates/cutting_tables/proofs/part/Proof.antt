@@ -18,8 +18,8 @@ whole s = lagoon_of s.args.cells s.args.faces (tables_of s.args.volumes.now s.ar
     s.args.shares.now s.args.reaches.now s.args.masses.now s.args.fluxes.now s.args.outsides.now s.args.releases.now)
 
 abbrev lent : tie.Start → Tables
-lent s = tables_of s.args.part-volumes.now s.args.part-firsts.now s.args.part-seconds.now s.args.part-shares.now
-    s.args.part-reaches.now s.args.part-masses.now s.args.part-fluxes.now s.args.part-outsides.now s.args.part-releases.now
+lent s = tables_of s.args.part_volumes.now s.args.part_firsts.now s.args.part_seconds.now s.args.part_shares.now
+    s.args.part_reaches.now s.args.part_masses.now s.args.part_fluxes.now s.args.part_outsides.now s.args.part_releases.now
 
 -- the loops, each from the one after it
 abbrev to-by-cell : tie.After-by_cell → tie.After-by_cell-own_cells

@@ -43,7 +43,7 @@ unseen s = record { volumes = s.args.volumes.now; masses = (input s).masses; q =
 -- where it begins
 begun-carry : (w : tie.After-concentrations)
     → let s = opened w in
-    CarriedTo (input s) 0 0 0 w.concentrations.new.1.1.1.1.0 s.args.carried.now w.concentrations.new.1.1.1.1.1.0
+    CarriedTo (input s) 0 0 0 w.concentrations.new.next s.args.carried.now w.concentrations.new.work
 begun-carry w =
     let s = opened w in
     carried-to-start (input s).mesh (input s).masses s.args.fluxes.now s.args.outsides.now _ _ _ _

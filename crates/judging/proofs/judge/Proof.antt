@@ -24,7 +24,7 @@ abbrev begun : tie.After-shared_slice_known-7-1 → tie.Start
 begun c = c.before.before.before.before.before.before.before
 
 abbrev start : tie.After-check_claim-verdict → tie.Start
-start c = begun c.before.before.before.before
+start c = begun c.before.before.before
 
 abbrev tested : tie.In_default → tie.After-check_claim-verdict
 tested c = c.before

@@ -33,10 +33,10 @@ first c = c.before.before.before.before.before.before
 
 claims-good-requires : tie.Need-claims_good-a-requires
 claims-good-requires c κs =
-    let w = c.before.before.before.before.before.before in
+    let w = c.before.before.before.before.before in
     let s = opened w in
     let r = s.requires.0.0 in
-    (r.lent.seconds_long, r.fluxes_long, omega (arith, w.IsFirst-passes.ensures.moved_long), s.requires.0.3)
+    (r.lent.seconds_long, r.fluxes_long, omega (arith, w.first_passes-crossed.ensures.moved_long), s.requires.0.3)
 
 returns : tie.Need-returns-in-Refused
 returns c =
@@ -44,18 +44,18 @@ returns c =
     let w = first g in
     let s = opened w in
     refused-21 (mesh s) s.args.masses.now s.args.fluxes.now s.args.outsides.now s.args.releases.now
-    s.requires.0.0 s.requires.0.1 s.requires.0.2 s.args.claim.now s.requires.0.3 _ _ _ _ _ w.IsFirst-passes.ensures
+    s.requires.0.0 s.requires.0.1 s.requires.0.2 s.args.claim.now s.requires.0.3 _ _ _ _ _ w.first_passes-crossed.ensures
     (refuses g.claims_good-a.ensures c.in-Refused.is)
 
 values-requires : tie.Need-values-b-requires
 values-requires c κs =
-    let g = c.before.before in
+    let g = c.before in
     let w = first g in
     let s = opened w in
     let e : each 21 s.args.faces (claim_good (input s) _) ≡ fine
     = sym (claims-are (mesh s) s.args.masses.now s.args.fluxes.now s.args.outsides.now s.args.releases.now
-    s.requires.0.0 s.requires.0.1 s.requires.0.2 s.args.claim.now s.requires.0.3 _ _ _ _ _ w.IsFirst-passes.ensures)
-    ∙ passes g.claims-good.ensures c.in_default.is in (
+    s.requires.0.0 s.requires.0.1 s.requires.0.2 s.args.claim.now s.requires.0.3 _ _ _ _ _ w.first_passes-crossed.ensures)
+    ∙ passes g.claims_good-a.ensures c.in_default.is in (
       long-enough (mesh s) s.args.masses.now s.args.fluxes.now s.args.outsides.now s.args.releases.now
           s.requires.0.0 s.requires.0.1 s.requires.0.2 s.args.claim.now s.requires.0.3,
       (
@@ -65,7 +65,7 @@ values-requires c κs =
           salted (mesh s) s.args.masses.now s.args.fluxes.now s.args.outsides.now s.args.releases.now s.requires.0.0 s.requires.0.1
               s.requires.0.2,
           bordered (mesh s) s.args.masses.now s.args.fluxes.now s.args.outsides.now s.args.releases.now
-              s.requires.0.0 s.requires.0.1 s.requires.0.2 s.args.claim.now s.requires.0.3 _ _ _ _ _ w.IsFirst-passes.ensures,
+              s.requires.0.0 s.requires.0.1 s.requires.0.2 s.args.claim.now s.requires.0.3 _ _ _ _ _ w.first_passes-crossed.ensures,
         ),
       ),
     )
@@ -81,7 +81,7 @@ returns-2 c =
     let w = first g in
     let s = opened w in
     refused-22 (mesh s) s.args.masses.now s.args.fluxes.now s.args.outsides.now s.args.releases.now
-    s.requires.0.0 s.requires.0.1 s.requires.0.2 s.args.claim.now s.requires.0.3 _ _ _ _ _ w.IsFirst-passes.ensures
+    s.requires.0.0 s.requires.0.1 s.requires.0.2 s.args.claim.now s.requires.0.3 _ _ _ _ _ w.first_passes-crossed.ensures
     (passes g.claims_good-a.ensures v.before.in_default.is) (refuses v.values-b.ensures c.in-Refused-b.is)
 
 sum-of-requires : tie.Need-sum_of-requires
@@ -97,7 +97,7 @@ returns-3 c =
     let w = first g in
     let s = opened w in
     both-passed (mesh s) s.args.masses.now s.args.fluxes.now s.args.outsides.now s.args.releases.now
-    s.requires.0.0 s.requires.0.1 s.requires.0.2 s.args.claim.now s.requires.0.3 _ _ _ _ _ w.IsFirst-passes.ensures
+    s.requires.0.0 s.requires.0.1 s.requires.0.2 s.args.claim.now s.requires.0.3 _ _ _ _ _ w.first_passes-crossed.ensures
     (passes g.claims_good-a.ensures v.before.in_default.is) (passes v.values-b.ensures c.before.in_default-b.is)
     _ c.sum_of.ensures
 

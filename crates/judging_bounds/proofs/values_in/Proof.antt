@@ -19,7 +19,7 @@ gather-requires c κs =
 
 bounds-good-requires : tie.Need-bounds_good-requires
 bounds-good-requires c κs =
-    let g = c.before.before.before.before.before.before in
+    let g = c.before.before.before.before in
     let s = start g in
     let t = s.requires.1.1.0 in (
       t.0,
@@ -30,7 +30,7 @@ bounds-good-requires c κs =
 
 returns : tie.Need-returns
 returns c =
-    let g = c.before.before.before.before.before.before.before in
+    let g = c.before.before.before.before.before in
     let s = start g in
     c.bounds_good.ensures
     ∙ bounds-read s.args.cells s.args.faces s.args.firsts.now s.args.seconds.now s.args.claim.now s.requires.0.0 s.requires.0.1

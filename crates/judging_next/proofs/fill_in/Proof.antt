@@ -20,7 +20,7 @@ gather-requires c κs =
 
 fill-requires : tie.Need-fill-requires
 fill-requires c κs =
-    let g = c.before.before.before.before.before.before.before in
+    let g = c.before.before.before.before.before in
     let s = start g in
     let l = s.requires.1.0 in
     let p = s.requires.1.1 in (
@@ -39,7 +39,7 @@ fill-requires c κs =
 returns : tie.Need-returns
 returns c =
     let f = c.before.before in
-    let g = f.before.before.before.before.before.before.before.before in
+    let g = f.before.before.before.before.before.before in
     let s = start g in
     let l = s.requires.1.0 in
     f.fill.ensures

@@ -65,19 +65,19 @@ from-two c = c.before.before.before.before
 abbrev from-three : tie.After-put_masses → tie.After-write_bits
 from-three c = from-two c.before.before.before.before
 
-one : (c : tie.After-write_bits) → Some (start c) (and none 0 0) c.write_bits.new.0
+one : (c : tie.After-write_bits) → Some (start c) (and none 0 0) c.write_bits.new.dst
 one c =
     let s = start c in
     head-written (field-kind-in (kind s) s.args.cells) (value s) s.requires.fits (written_none (shape s) (value s) _) c.write_bits.ensures
     (sym c.before.before.before.of_width-kind.ensures)
 
-two : (c : tie.After-write_bits-2) → Some (start (from-two c)) (and (and none 0 0) 0 1) c.write_bits-2.new.0
+two : (c : tie.After-write_bits-2) → Some (start (from-two c)) (and (and none 0 0) 0 1) c.write_bits-2.new.dst
 two c =
     let p1 = c.before.before.before.before in
     let s = start (from-two c) in
     head-written (field-cells-in (kind s) s.args.cells) (value s) s.requires.fits (one p1) c.write_bits-2.ensures refl
 
-three : (c : tie.After-put_masses) → Some (start (from-three c)) (and (and (and none 0 0) 0 1) 1 0) c.put_masses.new.0
+three : (c : tie.After-put_masses) → Some (start (from-three c)) (and (and (and none 0 0) 0 1) 1 0) c.put_masses.new.bytes
 three c =
     let p1 = c.before.before.before.before in
     let s = start (from-three c) in

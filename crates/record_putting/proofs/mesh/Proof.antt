@@ -117,59 +117,59 @@ from-eight c = from-seven c.before.before.before.before
 abbrev from-nine : tie.After-put_column-5 → tie.After-write_bits
 from-nine c = from-eight c.before.before.before.before
 
-one : (c : tie.After-write_bits) → Some (start c) (and none 0 0) c.write_bits.new.0
+one : (c : tie.After-write_bits) → Some (start c) (and none 0 0) c.write_bits.new.dst
 one c =
     let s = start c in
     head-written (mesh-kind-in (kind s) s.args.cells s.args.faces) (value s) s.requires.fits (written_none (shape s) (value s) _)
     c.write_bits.ensures (sym c.before.before.before.of_width-kind.ensures)
 
-two : (c : tie.After-write_bits-2) → Some (start (from-two c)) (and (and none 0 0) 0 1) c.write_bits-2.new.0
+two : (c : tie.After-write_bits-2) → Some (start (from-two c)) (and (and none 0 0) 0 1) c.write_bits-2.new.dst
 two c =
     let p1 = c.before.before.before.before in
     let s = start (from-two c) in
     head-written (mesh-cells-in (kind s) s.args.cells s.args.faces) (value s) s.requires.fits (one p1) c.write_bits-2.ensures refl
 
-three : (c : tie.After-write_bits-3) → Some (start (from-three c)) (and (and (and none 0 0) 0 1) 0 2) c.write_bits-3.new.0
+three : (c : tie.After-write_bits-3) → Some (start (from-three c)) (and (and (and none 0 0) 0 1) 0 2) c.write_bits-3.new.dst
 three c =
     let p1 = c.before.before.before.before in
     let s = start (from-three c) in
     head-written (mesh-faces-in (kind s) s.args.cells s.args.faces) (value s) s.requires.fits (two p1) c.write_bits-3.ensures refl
 
-four : (c : tie.After-write_bits-4) → Some (start (from-four c)) Head c.write_bits-4.new.0
+four : (c : tie.After-write_bits-4) → Some (start (from-four c)) Head c.write_bits-4.new.dst
 four c =
     let p1 = c.before.before.before.before in
     let s = start (from-four c) in
     head-written (mesh-zeros-in (kind s) s.args.cells s.args.faces) (value s) s.requires.fits (three p1) c.write_bits-4.ensures refl
 
-five : (c : tie.After-put_column) → Some (start (from-five c)) (and Head 1 0) c.put_column.new.0
+five : (c : tie.After-put_column) → Some (start (from-five c)) (and Head 1 0) c.put_column.new.bytes
 five c =
     let p1 = c.before.before.before.before in
     let s = start (from-five c) in
     column-written (volumes-in (kind s) s.args.cells s.args.faces) (value s) s.requires.fits (four p1)
     (rw (value-is (from-value (from-five c))) at c.put_column.ensures) (λ i l. refl)
 
-six : (c : tie.After-put_column-2) → Some (start (from-six c)) (and (and Head 1 0) 2 0) c.put_column-2.new.0
+six : (c : tie.After-put_column-2) → Some (start (from-six c)) (and (and Head 1 0) 2 0) c.put_column-2.new.bytes
 six c =
     let p1 = c.before.before.before.before in
     let s = start (from-six c) in
     column-written (firsts_in (kind s) s.args.cells s.args.faces refl) (value s) s.requires.fits (five p1)
     (rw (value-is (from-value (from-six c))) at c.put_column-2.ensures) (λ i l. refl)
 
-seven : (c : tie.After-put_column-3) → Some (start (from-seven c)) (and (and (and Head 1 0) 2 0) 2 1) c.put_column-3.new.0
+seven : (c : tie.After-put_column-3) → Some (start (from-seven c)) (and (and (and Head 1 0) 2 0) 2 1) c.put_column-3.new.bytes
 seven c =
     let p1 = c.before.before.before.before in
     let s = start (from-seven c) in
     column-written (seconds_in (kind s) s.args.cells s.args.faces refl) (value s) s.requires.fits (six p1)
     (rw (value-is (from-value (from-seven c))) at c.put_column-3.ensures) (λ i l. refl)
 
-eight : (c : tie.After-put_column-4) → Some (start (from-eight c)) (and (and (and (and Head 1 0) 2 0) 2 1) 2 2) c.put_column-4.new.0
+eight : (c : tie.After-put_column-4) → Some (start (from-eight c)) (and (and (and (and Head 1 0) 2 0) 2 1) 2 2) c.put_column-4.new.bytes
 eight c =
     let p1 = c.before.before.before.before in
     let s = start (from-eight c) in
     column-written (shares_in (kind s) s.args.cells s.args.faces refl) (value s) s.requires.fits (seven p1)
     (rw (value-is (from-value (from-eight c))) at c.put_column-4.ensures) (λ i l. refl)
 
-nine : (c : tie.After-put_column-5) → Some (start (from-nine c)) (and (and (and (and (and Head 1 0) 2 0) 2 1) 2 2) 2 3) c.put_column-5.new.0
+nine : (c : tie.After-put_column-5) → Some (start (from-nine c)) (and (and (and (and (and Head 1 0) 2 0) 2 1) 2 2) 2 3) c.put_column-5.new.bytes
 nine c =
     let p1 = c.before.before.before.before in
     let s = start (from-nine c) in

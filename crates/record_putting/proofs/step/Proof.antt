@@ -118,41 +118,41 @@ module _ (c : tie.After-release_width-bits) where
   end : p + (start c).args.cells * w ≡ shape_bits (shape (start c))
   end = step_ends (kind (start c)) (start c).args.cells (start c).args.faces (start c).args.seconds.now at c.release_width-bits.ensures
 
-one : (c : tie.After-write_bits) → Some (start (from_one c)) (and none 0 0) c.write_bits.new.0
+one : (c : tie.After-write_bits) → Some (start (from_one c)) (and none 0 0) c.write_bits.new.dst
 one c =
     let s = start (from_one c) in
     head-written (step-kind-in (kind s) s.args.cells s.args.faces s.args.seconds.now) (value s) s.requires.fits
     (written_none (shape s) (value s) _) c.write_bits.ensures (sym c.before.kind_number.ensures)
 
-two : (c : tie.After-write_bits-2) → Some (start (from-two c)) (and (and none 0 0) 0 1) c.write_bits-2.new.0
+two : (c : tie.After-write_bits-2) → Some (start (from-two c)) (and (and none 0 0) 0 1) c.write_bits-2.new.dst
 two c =
     let p1 = c.before.before.before.before in
     let s = start (from-two c) in
     head-written (step-faces-in (kind s) s.args.cells s.args.faces s.args.seconds.now) (value s) s.requires.fits
     (one p1) c.write_bits-2.ensures refl
 
-three : (c : tie.After-write_bits-3) → Some (start (from-three c)) Head c.write_bits-3.new.0
+three : (c : tie.After-write_bits-3) → Some (start (from-three c)) Head c.write_bits-3.new.dst
 three c =
     let p1 = c.before.before.before.before in
     let s = start (from-three c) in
     head-written (step-zeros-in (kind s) s.args.cells s.args.faces s.args.seconds.now) (value s) s.requires.fits
     (two p1) c.write_bits-3.ensures refl
 
-four : (c : tie.After-put_signs) → Some (start (from-four c)) (and Head 1 0) c.put_signs.new.0
+four : (c : tie.After-put_signs) → Some (start (from-four c)) (and Head 1 0) c.put_signs.new.bytes
 four c =
     let p1 = c.before.before.before.before in
     let s = start (from-four c) in
     column-written (signs-in (kind s) s.args.cells s.args.faces s.args.seconds.now) (value s) s.requires.fits
     (three p1) (rw (value-is (from-value (from-four c))) at c.put_signs.ensures) (λ i l. refl)
 
-five : (c : tie.After-put_sizes) → Some (start (from-five c)) (and (and Head 1 0) 1 1) c.put_sizes.new.0
+five : (c : tie.After-put_sizes) → Some (start (from-five c)) (and (and Head 1 0) 1 1) c.put_sizes.new.bytes
 five c =
     let p1 = c.before.before.before.before in
     let s = start (from-five c) in
     column-written (sizes-in (kind s) s.args.cells s.args.faces s.args.seconds.now) (value s) s.requires.fits
     (four p1) (rw (value-is (from-value (from-five c))) at c.put_sizes.ensures) (λ i l. refl)
 
-six : (c : tie.After-put_marked) → Some (start (from-six c)) Water c.put_marked.new.0
+six : (c : tie.After-put_marked) → Some (start (from-six c)) Water c.put_marked.new.bytes
 six c =
     let p1 = c.before.before.before.before in
     let s = start (from-six c) in
@@ -160,7 +160,7 @@ six c =
     refl (λ i. refl)
     (λ i l t. outside-in (kind s) s.args.cells s.args.faces s.args.seconds.now i) (λ i l. refl)
 
-seven : (c : tie.After-put_column) → Some (start (from-seven c)) (and Water 3 0) c.put_column.new.0
+seven : (c : tie.After-put_column) → Some (start (from-seven c)) (and Water 3 0) c.put_column.new.bytes
 seven c =
     let p1 = c.before.before.before.before in
     let s = start (from-seven c) in

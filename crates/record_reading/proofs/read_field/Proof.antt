@@ -63,7 +63,7 @@ returns-2 c =
 
 -- the tables that were filled keep their lengths
 same_length : tie.Need-shape_of-masses
-same_length c = c.before.before.field.auto.1.1.1.0
+same_length c = c.before.before.field.auto.masses
 
 pub read_field_spec : {M : Type 1} → statement M
 read_field_spec = tie.close (tie.spec (search rules) (search rules) returns (search rules) sub-field part-field-start (search rules) field-requires-2

@@ -19,13 +19,13 @@ use Rattle.record_reading.proofs.read_mesh.Statement.{statement}
 use Rattle.record_reading.proofs.read_mesh.Tie as tie
 
 abbrev lent : tie.Start → Mesh
-lent s = mesh_of s.args.most-cells s.args.most-faces s.args.volumes.now s.args.firsts.now s.args.seconds.now s.args.shares.now
+lent s = mesh_of s.args.most_cells s.args.most_faces s.args.volumes.now s.args.firsts.now s.args.seconds.now s.args.shares.now
     s.args.reaches.now
 
 abbrev comes : tie.Start → MeshCounts → Type 0
 comes s n = mesh_read_into s.args.bytes.now (lent s) ≡ accepted n
 
-says : (s : tie.Start) {n : MeshCounts} → comes s n → ReadSays s.args.most-cells s.args.most-faces s.args.bytes.now n
+says : (s : tie.Start) {n : MeshCounts} → comes s n → ReadSays s.args.most_cells s.args.most_faces s.args.bytes.now n
     (length s.args.volumes.now) (length s.args.firsts.now) (length s.args.seconds.now) (length s.args.shares.now)
     (length s.args.reaches.now)
 says s e = read-says _ _ _ _ _ _ _ _ e
@@ -79,19 +79,19 @@ returns-2 c =
 
 -- the tables that were filled keep their lengths
 same_length : tie.Need-shape_of-volumes
-same_length c = (filled c).mesh.auto.1.1.1.1.0
+same_length c = (filled c).mesh.auto.volumes
 
 same-length-2 : tie.Need-shape_of-firsts
-same-length-2 c = (filled c).mesh.auto.1.1.1.1.1.0
+same-length-2 c = (filled c).mesh.auto.firsts
 
 same-length-3 : tie.Need-shape_of-seconds
-same-length-3 c = (filled c).mesh.auto.1.1.1.1.1.1.0
+same-length-3 c = (filled c).mesh.auto.seconds
 
 same-length-4 : tie.Need-shape_of-shares
-same-length-4 c = (filled c).mesh.auto.1.1.1.1.1.1.1.0
+same-length-4 c = (filled c).mesh.auto.shares
 
 same-length-5 : tie.Need-shape_of-reaches
-same-length-5 c = (filled c).mesh.auto.1.1.1.1.1.1.1.1.0
+same-length-5 c = (filled c).mesh.auto.reaches
 
 pub read_mesh_spec : {M : Type 1} → statement M
 read_mesh_spec =

@@ -67,13 +67,13 @@ returns-2 c =
 
 -- the tables that were filled keep their lengths
 same_length : tie.Need-shape_of-fluxes
-same_length c = c.before.before.before.before.before.step.auto.1.1.1.1.1.1.0
+same_length c = c.before.before.before.before.before.step.auto.fluxes
 
 same-length-2 : tie.Need-shape_of-outsides
-same-length-2 c = c.before.before.before.before.before.step.auto.1.1.1.1.1.1.1.0
+same-length-2 c = c.before.before.before.before.before.step.auto.outsides
 
 same-length-3 : tie.Need-shape_of-releases
-same-length-3 c = c.before.before.before.before.before.step.auto.1.1.1.1.1.1.1.1.0
+same-length-3 c = c.before.before.before.before.before.step.auto.releases
 
 pub read_step_spec : {M : Type 1} → statement M
 read_step_spec =

@@ -21,12 +21,12 @@ is-kept-requires : tie.Need-is_kept-b-requires
 unfolding counts store_table
 is-kept-requires c κs =
     let at_told = c in
-    let at-and-then = at_told.before.before in
+    let at-and-then = at_told.before in
     let at_long = at-and-then.before in
     let at-counts-within = at_long.before in
-    let s = at-counts-within.before.before in
-    let lent = both-are at-and-then.and_then.ensures at-counts-within.counts-within.ensures at_long.long.ensures in
-    drop-opened s.args.cells s.args.store.now 0 (passes lent at_told.enum_told.given.1)
+    let s = at-counts-within.before in
+    let lent = both-are at-and-then.and_then-a.ensures at-counts-within.counts_within.ensures at_long.long.ensures in
+    drop-opened s.args.cells s.args.store.now 0 (passes lent at_told.in_default.is)
 
 returns-2 : tie.Need-returns-in-Refused-b
 unfolding counts store_table
@@ -34,11 +34,11 @@ returns-2 c =
     let at_b = c in
     let at-is-kept = at_b.before in
     let at_told = at-is-kept.before in
-    let at-and-then = at_told.before.before in
+    let at-and-then = at_told.before in
     let at_long = at-and-then.before in
     let at-counts-within = at_long.before in
-    let lent = both-are at-and-then.and_then.ensures at-counts-within.counts-within.ensures at_long.long.ensures in
-    let v = drop-groups _ _ _ ∙ past _ (passes lent at_told.enum_told.given.1) ∙ refuses at-is-kept.is_kept-b.ensures at_b.in-Refused-b.is in
+    let lent = both-are at-and-then.and_then-a.ensures at-counts-within.counts_within.ensures at_long.long.ensures in
+    let v = drop-groups _ _ _ ∙ past _ (passes lent at_told.in_default.is) ∙ refuses at-is-kept.is_kept-b.ensures at_b.in-Refused-b.is in
     record { answer = sym v; store_is = drop-stays _ _ _ v }
 
 take-field-requires : tie.Need-take_field-requires
@@ -47,13 +47,13 @@ take-field-requires c κs =
     let at_told = c.before in
     let at-is-kept = at_told.before in
     let at-told2 = at-is-kept.before in
-    let at-and-then = at-told2.before.before in
+    let at-and-then = at-told2.before in
     let at_long = at-and-then.before in
     let at-counts-within = at_long.before in
-    let s = at-counts-within.before.before in
-    let lent = both-are at-and-then.and_then.ensures at-counts-within.counts-within.ensures at_long.long.ensures in
+    let s = at-counts-within.before in
+    let lent = both-are at-and-then.and_then-a.ensures at-counts-within.counts_within.ensures at_long.long.ensures in
     let k = kept-asks _ _ _ (passes at-is-kept.is_kept-b.ensures at_told.in_default-b.is) in
-    ((drop-opened s.args.cells s.args.store.now 0 (passes lent at-told2.enum_told.given.1)).1, k.0, k.1)
+    ((drop-opened s.args.cells s.args.store.now 0 (passes lent at-told2.in_default.is)).1, k.0, k.1)
 
 returns-3 : tie.Need-returns
 unfolding counts store_table drop_store
@@ -62,11 +62,11 @@ returns-3 c =
     let at_told = at-take-field.before.before in
     let at-is-kept = at_told.before in
     let at-told2 = at-is-kept.before in
-    let at-and-then = at-told2.before.before in
+    let at-and-then = at-told2.before in
     let at_long = at-and-then.before in
     let at-counts-within = at_long.before in
-    let lent = both-are at-and-then.and_then.ensures at-counts-within.counts-within.ensures at_long.long.ensures in
-    let v = drop-groups _ _ _ ∙ past _ (passes lent at-told2.enum_told.given.1) ∙ passes at-is-kept.is_kept-b.ensures at_told.in_default-b.is in
+    let lent = both-are at-and-then.and_then-a.ensures at-counts-within.counts_within.ensures at_long.long.ensures in
+    let v = drop-groups _ _ _ ∙ past _ (passes lent at-told2.in_default.is) ∙ passes at-is-kept.is_kept-b.ensures at_told.in_default-b.is in
     record { answer = sym v; store_is = at-take-field.take_field.ensures ∙ rw v }
 
 pub drop_spec : {M : Type 1} → statement M

@@ -24,7 +24,7 @@ further-requires c κs = omega (arith, c.before.loop-i.invariant.0)
 loop-again : tie.Need-loop-i-preserved invariant-loop decreases-loop
 loop-again c =
     let l = c.before.before.loop-i in
-    let s = c.before.before.before.before.before in
+    let s = c.before.before.before.before in
     let here = ap (λ (p : List ℕ). get_or p (s.args.n + l.i) 0) l.invariant.2
     ∙ over-past l.i (λ k. get_or s.args.part.now (s.args.n + k) 0) s.args.part.now 0 (s.args.n + l.i) (omega arith) l.invariant.1 in
     (simp length-set l.invariant.0, omega (arith, l.invariant.0), over-step _ _ _ (omega (arith, l.invariant.0)) l.invariant.2 (c.further.ensures ∙ here))

@@ -15,7 +15,7 @@ use Rattle.store_entries.proofs.take_field.Tie as tie
 
 used-requires : tie.Need-used-at-requires
 used-requires c κs =
-    let s = c.before.before.before.before in
+    let s = c.before.before.before in
     let w = kept-within s.args.cells s.args.store.now s.args.name s.requires.1 s.requires.2 in
     (s.requires.0, rw c.before-i.ensures (omega (arith, w, s.requires.1)))
 
@@ -42,7 +42,7 @@ part-move-down-start c = omega (arith, within c, c.used-end.ensures, c.before.us
 sub-store : tie.Need-overflow_sub-store
 sub-store c =
     let at-used = c.before.before.before.before in
-    let s = at-used.before.before.before.before.before.before in
+    let s = at-used.before.before.before.before.before in
     omega (arith, kept_less s.args.cells s.args.store.now s.args.name s.requires.1 s.requires.2)
 
 same_length : tie.Need-shape_of-store
@@ -54,7 +54,7 @@ returns c =
     let at-used = at-move-down.before.before in
     let at-used2 = at-used.before in
     let at_before = at-used2.before in
-    let s = at_before.before.before.before.before in
+    let s = at_before.before.before.before in
     let cells = s.args.cells in
     let store = s.args.store.now in
     let at = at-used2.used-at.result in

@@ -11,11 +11,11 @@ use Rattle.store_entries.proofs.write_field.Statement.{statement}
 use Rattle.store_entries.proofs.write_field.Tie as tie
 
 slice-aggregate-copy : tie.Need-slice_bounds-copy-end
-slice-aggregate-copy c = sym (length-take-le _ _ c.before.before.before.requires.0)
+slice-aggregate-copy c = sym (length-take-le _ _ c.before.before.requires.0)
 
 copy-requires : tie.Need-copy-requires
 copy-requires c κs =
-    let s = c.before.before.before.before in
+    let s = c.before.before.before in
     room_after s.args.cells s.args.masses.now s.args.part.now s.requires.1
 
 same_length : tie.Need-shape_of-part
@@ -24,7 +24,7 @@ same_length c = simp length-set c.before.part-1.given.1
 returns : tie.Need-returns
 returns c =
     let at_copy = c.before.before in
-    let s = at_copy.before.before.before.before.before in
+    let s = at_copy.before.before.before.before in
     ap (λ (p : List ℕ). set (take 1 s.args.part.now ++ (p ++ drop (length s.args.part.now - 1) (drop 1 s.args.part.now))) 0 s.args.name)
     at_copy.copy.ensures
     ∙ field_written s.args.name (take s.args.cells s.args.masses.now) s.args.part.now (omega arith)

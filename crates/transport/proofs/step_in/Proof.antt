@@ -24,7 +24,7 @@ abbrev tables : tie.After-slice_known-2-1 → tie.Start
 tables c = c.before.before.before.before.before.before.before.before.before
 
 abbrev start : tie.After-check_step_in-verdict → tie.Start
-start c = tables c.before.before.before.before.before
+start c = tables c.before.before.before
 
 -- past all tests
 abbrev tested : tie.In_default → tie.After-check_step_in-verdict
@@ -72,6 +72,6 @@ returns-2 c =
 pub step_in_spec : {M : Type 1} → statement M
 step_in_spec =
     tie.close
-    (tie.spec (λ c κs. (tables c.before.before.before.before).requires) (search rules) (λ c. c.before.before.next-1.given)
+    (tie.spec (λ c κs. (tables c.before.before).requires) (search rules) (λ c. c.before.before.next-1.given)
     (λ c. refl) (λ c. refl) returns (search rules) advance-requires sum-of-requires (search rules) (λ c. c.before.before.before.moved-1.given)
     (λ c. c.before.before.work-1.given) returns-2)

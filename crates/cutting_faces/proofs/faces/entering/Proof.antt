@@ -1,6 +1,5 @@
 -- No water enters, or it comes from the end that is not in the part.
 use mathlib.Core.Path.{sym, ◌∙◌}
-use borrow.Author.Tests.{not-true, not-false}
 use Rattle.cutting_pieces.proofs.Turns.{bytes, enters}
 use Rattle.cutting_faces.proofs.faces.entering.Statement.{statement}
 use Rattle.cutting_faces.proofs.faces.entering.Tie as tie
@@ -9,10 +8,10 @@ abbrev start : tie.After-is_in → tie.Start
 start c = c.before.before.before.before.before
 
 returns : tie.Need-returns-then-not-minus
-returns c = let s = c.before.before.before in rw (not-true s.args.minus c.if-not-minus.true)
+returns c = rw c.if-not-minus.true
 
 returns-2 : tie.Need-returns-then-amount-eq0
-returns-2 c = let s = c.before.before.before.before in rw (not-false s.args.minus c.before.if-not-minus.false, c.if-amount-eq0.true)
+returns-2 c = rw (c.before.if-not-minus.false, c.if-amount-eq0.true)
 
 returns-3 : tie.Need-returns-then-is_in
 returns-3 c =
@@ -20,7 +19,7 @@ returns-3 c =
     let i = t.before in
     let s = start i in
     rw (
-      enters s.args.minus s.args.amount (not-false s.args.minus i.before.before.if-not-minus.false) i.before.if-amount-eq0.false,
+      enters s.args.minus s.args.amount i.before.before.if-not-minus.false i.before.if-amount-eq0.false,
       sym i.is_in.ensures
           ∙ t.if-is_in.true,
     )
@@ -31,7 +30,7 @@ returns-4 c =
     let i = t.before in
     let s = start i in
     rw (
-      enters s.args.minus s.args.amount (not-false s.args.minus i.before.before.if-not-minus.false) i.before.if-amount-eq0.false,
+      enters s.args.minus s.args.amount i.before.before.if-not-minus.false i.before.if-amount-eq0.false,
       sym i.is_in.ensures
           ∙ t.if-is_in.false,
     )

@@ -24,8 +24,8 @@ start c = entered c.before.before.before.before.before.before.before
 
 -- the mesh that was read, and the lent tables
 abbrev read : tie.Start → Mesh
-read s = mesh_of s.args.cells s.args.faces s.args.read-volumes.now s.args.read_firsts.now s.args.read-seconds.now
-    s.args.read-shares.now s.args.read-reaches.now
+read s = mesh_of s.args.cells s.args.faces s.args.read_volumes.now s.args.read_firsts.now s.args.read_seconds.now
+    s.args.read_shares.now s.args.read_reaches.now
 
 abbrev lent : tie.Start → Mesh
 lent s = mesh_of run_cells run_faces s.args.volumes.now s.args.firsts.now s.args.seconds.now s.args.shares.now

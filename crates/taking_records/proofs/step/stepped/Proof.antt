@@ -5,8 +5,8 @@ use Rattle.taking.proofs.StepLaws.{step-refused, nexts-part, copy-asks, sum-asks
 use Rattle.taking_records.proofs.step.stepped.Statement.{statement}
 use Rattle.taking_records.proofs.step.stepped.Tie as tie
 
-abbrev lent : tie.After-step-in-arg4 → tie.Start
-lent c = let shared = c.before.before.before.before.before.before.before in shared.before.before.before.before.before.before.before
+abbrev lent : tie.After-step_in-arg-3-1 → tie.Start
+lent c = let shared = c.before.before.before.before.before.before in shared.before.before.before.before.before.before.before
 
 abbrev begun : tie.After-step_in-answer → tie.Start
 begun c = lent c.before
@@ -26,9 +26,9 @@ copy-requires c κs = let t = c.before in copy-asks (stepped t).step_in-answer.e
 
 sum-of-requires : tie.Need-sum_of-requires
 sum-of-requires c κs =
-    let copied = c.before.before.before in
-    let t = copied.before in
-    sum-asks (stepped t).step_in-answer.ensures t.before.answer2.given.1 copied.copy.ensures
+    let copied = c.before.before in
+    let t = copied.before.before in
+    sum-asks (stepped t).step_in-answer.ensures t.in-Stepped.is copied.copy.ensures
 
 returns : tie.Need-returns-in-Refused
 returns c =
@@ -38,15 +38,11 @@ returns c =
 
 returns-2 : tie.Need-returns-in-Stepped
 returns-2 c =
-    let copied = c.before.before.before.before in
-    let t = copied.before in
+    let copied = c.before.before.before in
+    let t = copied.before.before in
     let s = begun (stepped t) in
-    step-done (stepped t).step_in-answer.ensures s.requires.0.0 s.requires.0.1 s.requires.0.2 t.before.answer2.given.1 copied.copy.ensures
+    step-done (stepped t).step_in-answer.ensures s.requires.0.0 s.requires.0.1 s.requires.0.2 t.in-Stepped.is copied.copy.ensures
     c.sum_of.ensures
-
--- each lent table is as long as it was: what is given of it right after the call that filled it
-abbrev told : tie.After-sum_of → tie.In-Stepped
-told c = c.before.before.before.before.before
 
 pub stepped_spec : {M : Type 1} → statement M
 stepped_spec =
@@ -60,12 +56,12 @@ stepped_spec =
     copy-requires
     sum-of-requires
     (search rules)
-    (λ c. c.before.before.before.before.before.next-1.given)
-    (λ c. c.before.before.before.moved-1.given)
-    (λ c. c.before.before.work-1.given)
+    (λ c. c.next-1.given)
+    (λ c. c.moved-1.given)
+    (λ c. c.work-1.given)
     returns
-    (λ c. c.before.before.masses-1.given)
-    (λ c. (told c).before.before.before.before.before.next-1.given)
-    (λ c. (told c).before.before.before.moved-1.given)
-    (λ c. (told c).before.before.work-1.given)
+    (λ c. c.masses-1.given)
+    (λ c. c.next-1.given)
+    (λ c. c.moved-1.given)
+    (λ c. c.work-1.given)
     returns-2)

@@ -35,48 +35,42 @@ slice-aggregate-stepped : tie.Need-slice_bounds-stepped-end-2
 slice-aggregate-stepped c =
     let t = c.before in
     let s = begun (reading t) in
-    part-long (fluxes-part s.args.width (mesh s) s.args.masses.now (reading t).read_step-read.ensures t.enum_told.given.1)
+    part-long (fluxes-part s.args.width (mesh s) s.args.masses.now (reading t).read_step-read.ensures t.in_default.is)
 
 slice-reshare-prefix-stepped-2 : tie.Need-slice_bounds-stepped-end-3
 slice-reshare-prefix-stepped-2 c =
     let t = c.before in
     let s = begun (reading t) in
-    (outsides-part s.args.width (mesh s) s.args.masses.now (reading t).read_step-read.ensures t.enum_told.given.1).fits
+    (outsides-part s.args.width (mesh s) s.args.masses.now (reading t).read_step-read.ensures t.in_default.is).fits
 
 slice-aggregate-stepped-2 : tie.Need-slice_bounds-stepped-end-4
 slice-aggregate-stepped-2 c =
-    let t = c.before.before in
+    let t = c.before in
     let s = begun (reading t) in
-    part-long (outsides-part s.args.width (mesh s) s.args.masses.now (reading t).read_step-read.ensures t.enum_told.given.1)
+    part-long (outsides-part s.args.width (mesh s) s.args.masses.now (reading t).read_step-read.ensures t.in_default.is)
 
 slice-reshare-prefix-stepped-3 : tie.Need-slice_bounds-stepped-end-5
 slice-reshare-prefix-stepped-3 c =
-    let t = c.before.before in
+    let t = c.before in
     let s = begun (reading t) in
-    (releases-part s.args.width (mesh s) s.args.masses.now (reading t).read_step-read.ensures t.enum_told.given.1).fits
+    (releases-part s.args.width (mesh s) s.args.masses.now (reading t).read_step-read.ensures t.in_default.is).fits
 
 slice-aggregate-stepped-3 : tie.Need-slice_bounds-stepped-end-6
 slice-aggregate-stepped-3 c =
-    let t = c.before.before.before in
+    let t = c.before in
     let s = begun (reading t) in
-    part-long (releases-part s.args.width (mesh s) s.args.masses.now (reading t).read_step-read.ensures t.enum_told.given.1)
+    part-long (releases-part s.args.width (mesh s) s.args.masses.now (reading t).read_step-read.ensures t.in_default.is)
 
 stepped-requires : tie.Need-stepped-requires
-stepped-requires c κs = let s = begun (reading c.before.before.before.before.before.before) in (s.requires.1.0, s.requires.1.1)
+stepped-requires c κs = let s = begun (reading c.before.before.before.before) in (s.requires.1.0, s.requires.1.1)
 
 returns-2 : tie.Need-returns
 returns-2 c =
     let u = c.before.before.before.before.before.before.before in
-    let t = u.before.before.before.before.before.before.before in
+    let t = u.before.before.before.before.before in
     let s = begun (reading t) in
     step-took s.args.width (mesh s) s.args.masses.now (reading t).read_step-read.ensures s.requires.0.0 s.requires.0.1 s.requires.0.2
-    t.enum_told.given.1 u.stepped.ensures
-
--- each lent table is as long as it was: what is given of it right after the call that filled it
-abbrev accepted : tie.After-slice_known-10-1 → tie.In_default
-accepted c =
-    let called = c.before.before.before.before.before.before.before in
-    called.before.before.before.before.before.before.before
+    t.in_default.is u.stepped.ensures
 
 pub take_step_in_spec : {M : Type 1} → statement M
 take_step_in_spec =
@@ -84,9 +78,9 @@ take_step_in_spec =
     (tie.spec
     (search rules)
     (search rules)
-    (λ c. c.before.before.before.before.before.fluxes-1.given)
-    (λ c. c.before.before.before.before.outsides-1.given)
-    (λ c. c.before.before.releases-1.given)
+    (λ c. c.fluxes-1.given)
+    (λ c. c.outsides-1.given)
+    (λ c. c.releases-1.given)
     returns
     (search rules)
     slice-reshare-prefix-stepped
@@ -96,11 +90,11 @@ take_step_in_spec =
     slice-reshare-prefix-stepped-3
     slice-aggregate-stepped-3
     stepped-requires
-    (λ c. c.before.before.before.before.before.before.masses-1.given)
-    (λ c. (accepted c).before.before.before.before.before.fluxes-1.given)
-    (λ c. (accepted c).before.before.before.before.outsides-1.given)
-    (λ c. (accepted c).before.before.releases-1.given)
-    (λ c. c.before.before.before.before.next-1.given)
-    (λ c. c.before.before.moved-1.given)
-    (λ c. c.before.work-1.given)
+    (λ c. c.masses-1.given)
+    (λ c. c.fluxes-1.given)
+    (λ c. c.outsides-1.given)
+    (λ c. c.releases-1.given)
+    (λ c. c.next-1.given)
+    (λ c. c.moved-1.given)
+    (λ c. c.work-1.given)
     returns-2)
