@@ -1,4 +1,4 @@
-.PHONY: help run test quick lib install uninstall paper bench compare soak accuracy clean
+.PHONY: help run calls test quick lib install uninstall paper bench compare soak accuracy clean
 
 PREFIX ?= /usr/local
 VERSION := $(shell cat VERSION)
@@ -8,13 +8,9 @@ MANUAL = $(TO)/share/man
 MODULES = $(TO)/share/lagoon/python/lagoon
 SONAME = liblagoon.so.$(firstword $(subst ., ,$(VERSION)))
 
-# as in .ci/run
-export RT_JOBS ?= 4
-export MIMALLOC_PURGE_DELAY ?= -1
-export TMPDIR := $(shell tools/scratch.sh)
-
 help:
 	@echo 'make run        the channel session of document 01: six lines (the first time it proves what it builds, some minutes)'
+	@echo 'make calls      the program of all calls: target/bin/calls'
 	@echo 'make test       the gate: proofs, must-fail edits, programs, tests, an hour; its last line is "N passed, M failed"'
 	@echo 'make quick      the tests without comparisons and proofs, in two lanes: under a minute once the programs are proved'
 	@echo 'make lib        the C library: target/lib/liblagoon.a and liblagoon.so; the header is include/lagoon.h'
@@ -25,15 +21,18 @@ help:
 	@echo 'make soak       the same with fresh cases: SECONDS=600 SEED=17'
 	@echo 'make bench      the engine beside plain C'
 	@echo 'make accuracy   the figures of docs/ACCURACY.md'
-	@echo 'make clean      removes target/'
+	@echo 'make clean      removes target/ and what rt keeps beside the crates, crates/*/out/'
 
 # the channel session of document 01; what is being proved is told on standard error
 run:
-	@mkdir -p target
 	@made=; [ -e target/bin/run ] || { made='target/bin/run is made: it reads a session from standard input'; \
 	    echo 'proving the run program, some minutes the first time; target/run.log tells all' >&2; }; \
-	    tools/prove.py run target/run.log rt check run && { [ -z "$$made" ] || echo "$$made" >&2; }
+	    tools/prove.py run && { [ -z "$$made" ] || echo "$$made" >&2; }
 	@target/bin/run < tests/sessions/channel.in
+
+calls:
+	@[ -e target/bin/calls ] || echo 'proving the program of all calls, some minutes the first time; target/calls.log tells all' >&2
+	@tools/prove.py calls
 
 # the gate: proofs, must-fail edits, programs, and tests beside them
 test:
@@ -44,13 +43,13 @@ quick:
 	@tools/quick.sh
 
 lib:
-	@[ -e target/lib/liblagoon.a ] || echo 'proving the library, some minutes the first time; target/lib/log tells all' >&2
+	@[ -e target/lib/liblagoon.a ] || echo 'proving the library, some minutes the first time; target/lagoon_c.log tells all' >&2
 	@tools/lib.sh
 	@echo "target/lib/liblagoon.a, $$(stat -c %s target/lib/liblagoon.a) bytes, and target/lib/liblagoon.so; include/lagoon.h tells what is in them"
 
 install: lib
-	@[ -e target/bin/run ] || tools/prove.py run target/run.log rt check run
-	@[ -e target/bin/calls ] || tools/prove.py calls target/calls.log rt check calls
+	@[ -e target/bin/run ] || tools/prove.py run
+	@[ -e target/bin/calls ] || tools/prove.py calls
 	install -d $(TO)/include $(TO)/lib/pkgconfig $(TO)/bin $(MANUAL)/man1 $(MANUAL)/man3 $(PAPERS)/examples $(MODULES)/built
 	install -m 644 include/lagoon.h examples/lagoon_records.h $(TO)/include/
 	install -m 644 target/lib/liblagoon.a $(TO)/lib/
@@ -101,4 +100,4 @@ accuracy:
 	python3 bench/accuracy.py --call target/compare/call_guarded --script target/compare/calls --fine --svg docs/accuracy.svg
 
 clean:
-	rm -rf target
+	rm -rf target crates/*/out

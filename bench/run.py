@@ -57,7 +57,7 @@ def built(source, form, large):
 def build(engine_too):
     OUT.mkdir(parents=True, exist_ok=True)
     if engine_too:
-        command("rt", "check", "bench_step", "run")
+        command("tools/prove.py", "bench_step", "run")
         command("tools/lib.sh")
     gcc = ("gcc", "-std=c11", "-O2", "-Wall", "-Wextra", "-Werror")     # quicker than -O3: bench/README.md
     for form in FORMS:

@@ -7,7 +7,8 @@ Every division in the machine code of all programs, the engine's and plain C's, 
 has its quotient: twice one of 32 bits, four times one of 64. So long it takes, and so long the divider is taken. What a division then takes is
 measured and printed with the times; nothing but divisions is changed, and every program must print what it prints without.
 The programs are made in target/slow/, a copy of the tree in which gcc, and the clang with which rt compiles what it has proved, are
-this program: it compiles to assembly, writes the divisions anew, and assembles. Libraries are those of target/, as `make bench` leaves them.
+this program: it compiles to assembly, writes the divisions anew, and assembles. Libraries are those of crates/*/out/, as `make bench` leaves
+them.
 """
 
 import argparse
@@ -22,9 +23,14 @@ from pathlib import Path
 TOP = Path(__file__).resolve().parent.parent
 SLOW = TOP / "target" / "slow"
 PROGRAMS = ("bench_step", "run")
-LIBRARY = "lagoon_step"                 # has the one call that bench/records.c makes
-COPIED = ("bench", "reference", "include", "examples", "tests", "crates", "crates.txt", "tools", "VERSION")
-KIT = Path(os.environ.get("RATTLE_HOME", "/opt/rattle"))
+LIBRARY = "lagoon_c"                    # has the one call that bench/records.c makes
+COPIED = ("bench", "reference", "include", "examples", "tests", "crates.txt", "tools", "VERSION")
+sys.path.insert(0, str(TOP / "tools"))
+
+import prove
+
+KIT = prove.kit()
+TOOLCHAIN = SLOW / "kit" / "toolchain"
 
 TIMES = {"l": 2, "q": 4}                # how often a division of 32 and of 64 bits is done
 DIVISION = re.compile(r"^\s+(i?div)([lq])\s+(.*)$", re.MULTILINE)
@@ -69,34 +75,37 @@ def wrapper(path, compiler):
 
 
 def tree():
-    """The copy of the tree, with libraries and stamps of target/ but no programs, and the compilers that are slowed."""
+    """The copy of the tree, without the crates, and the compilers that are slowed."""
     shutil.rmtree(SLOW, ignore_errors=True)
-    (SLOW / "target" / "stamp").mkdir(parents=True)
+    for name in ("bin", "lib"):
+        (SLOW / "target" / name).mkdir(parents=True)
     for name in COPIED:
         copy = shutil.copytree if (TOP / name).is_dir() else shutil.copy
         copy(TOP / name, SLOW / name)
-    (SLOW / "target" / "rlib").symlink_to(TOP / "target" / "rlib")
-    for stamp in (TOP / "target" / "stamp").iterdir():
-        if stamp.name not in PROGRAMS:
-            shutil.copy2(stamp, SLOW / "target" / "stamp")
-    kit, on = SLOW / "kit", KIT / "on" / os.uname().machine
-    wrapper(kit / "on" / on.name / "toolchain" / "bin" / "clang", on / "toolchain" / "bin" / "clang")
-    for inside in (KIT, KIT / "on", on, on / "toolchain", on / "toolchain" / "bin"):
+    wrapper(TOOLCHAIN / "bin" / "clang", KIT / "toolchain" / "bin" / "clang")
+    for inside in (KIT / "toolchain", KIT / "toolchain" / "bin"):
         for path in inside.iterdir():
-            link = kit / inside.relative_to(KIT) / path.name
+            link = TOOLCHAIN / inside.relative_to(KIT / "toolchain") / path.name
             if not link.exists():
                 link.symlink_to(path)
     wrapper(SLOW / "bin" / "gcc", shutil.which("gcc"))
 
 
-def programs(environment):
+def command(words, place):
+    done = subprocess.run([str(word) for word in words], cwd=place, capture_output=True, text=True)
+    if done.returncode:
+        sys.exit((done.stdout + done.stderr)[-2000:])
+
+
+def programs():
     """The engine's, proved once more and compiled by the slowed compiler."""
-    for words in (["check", *PROGRAMS], ["staticlib", LIBRARY]):
-        done = subprocess.run(["rt", *words], cwd=SLOW, env=environment, capture_output=True, text=True)
-        if done.returncode:
-            sys.exit((done.stdout + done.stderr)[-2000:])
-    (SLOW / "target" / "lib").mkdir()
-    shutil.copy(SLOW / "target" / "staticlib" / f"lib{LIBRARY}.a", SLOW / "target" / "lib" / "liblagoon.a")
+    for name in (*PROGRAMS, LIBRARY):
+        program = name in PROGRAMS
+        made = SLOW / "target" / (f"{name}.o" if program else "lib/liblagoon.a")
+        command(prove.over_libraries(name, prove.under(name, prove.listed()), made, TOOLCHAIN), prove.folder(name))
+        if program:
+            words = [KIT / "bin" / "rattle-link", "--target", "x86_64-unknown-linux-gnu", "--toolchain", TOOLCHAIN, "-o", SLOW / "target" / "bin" / name]
+            command([*words, made, KIT / "c" / "libos_c.a", KIT / "c" / "liblibc_c.a"], SLOW)
 
 
 def division_times(environment):
@@ -130,10 +139,10 @@ def main():
     parser.add_argument("--write", metavar="PAGE", type=Path, help="put the table into this page")
     options = parser.parse_args()
     page = options.write and options.write.resolve()
-    environment = {**os.environ, "RATTLE_HOME": str(SLOW / "kit"), "PATH": f"{SLOW / 'bin'}:{os.environ['PATH']}"}
+    environment = {**os.environ, "PATH": f"{SLOW / 'bin'}:{os.environ['PATH']}"}
     if not options.built:
         tree()
-        programs(environment)
+        programs()
     taken = division_times(environment)
     told = " and ".join(f"one of {bits} bits {taken[bits, 'slow']:.1f} ns, not {taken[bits, 'fast']:.1f}" for bits in (32, 64))
     words = ["--built", "--times-only", "--repeats", options.repeats, "--divider", f"a division waits for the one before; {told}",

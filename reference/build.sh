@@ -10,7 +10,7 @@ cd "$(dirname "$0")/.."
 out=target/compare
 library=target/lib/liblagoon.a
 mkdir -p $out
-rt check run calls >$out/log 2>&1 || { cat $out/log; exit 1; }
+tools/prove.py run calls
 tools/lib.sh
 cp target/bin/run target/bin/calls $out/
 driver="gcc -std=c11 -Wall -Wextra -Werror -g -O1 reference/call_driver.c"

@@ -5,6 +5,7 @@
     python3 tests/cites.py --as docs/PROMISES.md copy.md    a page as if it stood there
     python3 tests/cites.py --link docs/PROMISES.md          makes links of the cited paths, and the list of links at the page's end
     python3 tests/cites.py --landed docs/PROMISES.md        takes the mark † off what has come
+    python3 tests/cites.py --moved docs/PROMISES.md         cites, for a function's proof file that is gone, the file that has its proof now
 
 A path in backticks has to exist, from the top folder or from crates/. Names in backticks after it, as in
 `model/specs/Step.antt`: `lo`, `hi` and `moved`, have to be defined in that file. A block whose fence names a file, as in
@@ -199,13 +200,32 @@ def landed(page):
     page.write_text(MARKED.sub(lambda mark: mark[1] if found(mark[2] or mark[3]) else mark[0], page.read_text()))
 
 
+def instead(path):
+    """The file that has the proof of a function whose cited file is gone: the answers, the invariants, or the code where rt needs no file."""
+    place = re.fullmatch(r"(crates/)?(\w+)/proofs/(?:[\w+]+/)*(\w+)/\w+\.antt", path)
+    if found(path) or not place:
+        return path
+    for name in ("Answers.antt", "Invariants.antt"):
+        if found(f"{path.rpartition('/')[0]}/{name}"):
+            return f"{path.rpartition('/')[0]}/{name}"
+    top = ROOT / "crates" / place[2]
+    texts = [text for text in sorted(top.glob("src/**/*.rt")) if defined(place[3], text)]
+    return f"{place[1] or ''}{texts[0].relative_to(top.parent)}" if texts else path
+
+
+def moved(page):
+    """The page with what stands for proof files that are gone, and its list of links anew."""
+    text = re.sub(r"[\w+]+(?:/[\w+]+)+\.antt", lambda mark: instead(mark[0]), page.read_text().split(LIST)[0])
+    page.write_text(with_links(text, page) if LIST in page.read_text() else text)
+
+
 def main():
     if len(sys.argv) < 2 or "--help" in sys.argv:
         print(__doc__)
         return 0 if "--help" in sys.argv else 2
-    if sys.argv[1] in ("--landed", "--link"):
+    if sys.argv[1] in ("--landed", "--link", "--moved"):
         for page in map(Path, sys.argv[2:]):
-            landed(page) if sys.argv[1] == "--landed" else page.write_text(with_links(page.read_text(), page))
+            {"--landed": landed, "--link": lambda page: page.write_text(with_links(page.read_text(), page)), "--moved": moved}[sys.argv[1]](page)
         return 0
     faults, count = [], 0
     pages = [(Path(page), Path(page)) for page in sys.argv[1:]]

@@ -1,11 +1,12 @@
 #!/usr/bin/env bash
 # Every file, name and quoted line that README.md, the pages of docs/ and the landing notes cite is there and every link leads somewhere, the
 # crates stand under the same headings everywhere, laws are cited where it is said, the causes are told alike, every imported name is used,
-# demand 3 rests on the definitions that are named, every sign in a definition is explained, and every must-fail edit is one that rt reads
-# whole; and the tests do find what is wrong.
+# demand 3 rests on the definitions that are named, every sign in a definition is explained, every must-fail edit is one that rt reads whole,
+# and the C library's calls promise what the libraries promise; and the tests do find what is wrong.
 set -eu
 cd "$(dirname "$0")/.."
-python3 tests/cites.py README.md docs/*.md docs/landings/*.md
+# the page of the port names what is gone
+python3 tests/cites.py README.md $(ls docs/*.md | grep -vx docs/PORT.md) docs/landings/*.md
 
 made=$(mktemp -d)
 trap 'rm -r "$made"' EXIT
@@ -19,7 +20,7 @@ python3 tests/cites.py --as docs/PROMISES.md "$made/page.md" > "$made/said"     
 found docs/PROMISES.md 's/`refused-promise`/`refused-promises`/'
 found docs/PROMISES.md 's,`step_limiter/must-fail/plain_upwind.edit`,`transport/must-fail/plain.edit`,g'
 found docs/PROMISES.md 's,\[`transport/specs/Promise.antt`\],`transport/specs/Promise.antt` †,'
-found docs/PROMISES.md 's/: `_andThen_` and `each`/: `_andThen_` and `eachOf`/'
+found docs/PROMISES.md 's/: `◌and_then◌` and `each`/: `◌and_then◌` and `eachOf`/'
 found docs/PROMISES.md 's/| \[Stage 1: upwind\]/| [Stage 1: upwinds]/'
 found docs/PROMISES.md 's/^### Stage 1: upwind/### Stage 1/'
 found docs/PROMISES.md 's,\[`judging/src/lib.rt`\],`judging/src/lib.rt`,'
@@ -40,7 +41,7 @@ sed 's#^| \[`model/specs/Claims.antt`\].*##' docs/PROMISES.md > "$made/page.md"
 if python3 tests/rests.py "$made/page.md" > "$made/said" 2>&1; then echo "a definition that demand 3 rests on and no row names is not found"; exit 1; fi
 
 python3 tests/notation.py
-sed 's/`quotZ a b`/a by b/' docs/NOTATION.md > "$made/page.md"
+sed 's/`quot_z a b`/a by b/' docs/NOTATION.md > "$made/page.md"
 if python3 tests/notation.py "$made/page.md" > "$made/said" 2>&1; then echo "a name that is not explained is not found"; exit 1; fi
 
 python3 tests/families.py
@@ -67,7 +68,7 @@ other python/lagoon/causes.py 's/"a wrong bit in a record"/"a record of the wron
 other include/lagoon.h 's/"record of the wrong length"/"a flux larger than its reach"/'
 
 python3 tests/imports.py
-sed '0,/^use /s//use lib.Nowhere.{_unused_, used-nowhere}\nuse /' crates/model/proofs/Turned.antt > "$made/Turned.antt"
+sed '0,/^use /s//use lib.Nowhere.{◌unused◌, used-nowhere}\nuse /' crates/model/proofs/Turned.antt > "$made/Turned.antt"
 if python3 tests/imports.py "$made/Turned.antt" > "$made/said" 2>&1; then echo "an imported name that is used nowhere is not found"; exit 1; fi
 
 python3 tests/edits.py
@@ -75,3 +76,12 @@ mkdir -p "$made/bits/must-fail"
 cp -r crates/record_bits/src "$made/bits/src"
 printf 'file: src/lib.rt\nold: fn wide(x: u8) -> u64\n    ensures\nnew: fn wide(x: u8) -> u64\n    requires\n' > "$made/bits/must-fail/lines.edit"
 if python3 tests/edits.py "$made/bits/must-fail/lines.edit" > "$made/said" 2>&1; then echo "an edit of several lines is not found"; exit 1; fi
+
+tools/exports.py --check
+mkdir -p "$made/tree/tools"
+cp tools/exports.py "$made/tree/tools/"
+cp crates.txt "$made/tree/"
+tar -c crates/*/src | tar -x -C "$made/tree"
+"$made/tree/tools/exports.py" --check > "$made/said"
+sed -i 's/^    ensures { PageFromC volumes.now masses.now/    ensures { PageFromC masses.now volumes.now/' "$made/tree/crates/lagoon_c/src/host_field_c.rt"
+if "$made/tree/tools/exports.py" --check > "$made/said"; then echo "a call from C that promises something else is not found"; exit 1; fi

@@ -50,7 +50,7 @@ def taken_in(listed, shown):
 
 
 def main(crates="crates.txt", readme="README.md", design="docs/DESIGN.md"):
-    listed = grouped(open(crates, encoding="utf-8").read().split("\n")[1:], r"# (.*)", rf"({NAMES}):")
+    listed = grouped(open(crates, encoding="utf-8").read().split("\n")[1:], r"# (.*)", rf"({NAMES})(?: staticlib)?:")
     shown = {readme: taken_in(listed, families(readme)),
              design: grouped(part(design, "## How the crates", "Three rules"), r"### (.*)", rf"\| ({NAMES}) \|")}
     wrong = [f"{path}: its headings are not those of {crates}" for path, found in shown.items()

@@ -11,9 +11,10 @@ import sys
 from pathlib import Path
 
 ROOT = Path(__file__).resolve().parent.parent
-USE = re.compile(r"^(?P<lead>(?:ghost |pub )*use )(?P<path>\S+?)(?P<names>\.\{[^}]*\}| as \S+?)?(?P<end>;?)$", re.MULTILINE)
+USE = re.compile(r"^(?P<lead>(?:ghost |pub )*use )(?P<path>\S+?)(?P<names>(?:\.|::)\{[^}]*\}| as \S+?)?(?P<end>;?)$", re.MULTILINE)
 COMMENT = re.compile(r"(?:--|//).*$", re.MULTILINE)
-BREAK = re.compile(r"[\s(){};,⌜⌝]+")
+BREAK = re.compile(r"[\s(){};,]+")
+TRAITS = {"BufRead", "Env", "IsTerminal", "Read", "Write"}      # of std, imported for their methods
 
 
 def words(text):
@@ -23,13 +24,14 @@ def words(text):
 
 
 def used(name, there):
-    """By itself, or a name with places, `_≤_`, by its words."""
-    return name in there or "_" in name and all(part in there for part in name.split("_") if part)
+    """By itself, or a name with places, `◌≤◌`, by its words."""
+    return name in there or "◌" in name and all(part in there for part in name.split("◌") if part)
 
 
 def idle(text):
     """The imported names that the rest of the file does not use, each with its line."""
-    there = words(USE.sub("", text))
+    rest = USE.sub("", text)
+    there, coded = words(rest), set(re.findall(r"\w+", COMMENT.sub("", rest)))
     for line in USE.finditer(text):
         if line["lead"].startswith("pub"):
             continue
@@ -38,8 +40,9 @@ def idle(text):
         elif line["names"].startswith(" as "):
             names = [line["names"][4:]]
         else:
-            names = [name.strip().split(" as ")[-1].split(" to ")[-1] for name in line["names"][2:-1].split(",")]
-        lost = [name for name in names if not used(name, there)]
+            names = [name.strip().split(" as ")[-1].split(" to ")[-1] for name in line["names"].partition("{")[2][:-1].split(",") if name.strip()]
+        code = line["lead"] == "use " and line["end"] == ";"
+        lost = [name for name in names if not (code and name in TRAITS) and not used(name, coded if code else there)]
         if lost:
             yield line, lost
 
@@ -49,8 +52,8 @@ def dropped(text):
     for line, lost in reversed(list(idle(text))):
         left = []
         if line["names"] and not line["names"].startswith(" as "):
-            left = [name for name in (name.strip() for name in line["names"][2:-1].split(",")) if name not in lost]
-        new = f"{line['lead']}{line['path']}.{{{', '.join(left)}}}{line['end']}" if left else None
+            left = [name for name in (name.strip() for name in line["names"].partition("{")[2][:-1].split(",")) if name and name not in lost]
+        new = f"{line['lead']}{line['path']}{line['names'].partition('{')[0]}{{{', '.join(left)}}}{line['end']}" if left else None
         text = text[:line.start()] + (new if new else "") + text[line.end() + (not new):]
     return text
 

@@ -34,9 +34,9 @@ ssize_t read(int fd, void *bytes, size_t n) {
 
 
 def setUpModule():
-    checked = subprocess.run(["rt", "check", "run"], cwd=ROOT, stdout=subprocess.PIPE, stderr=subprocess.STDOUT, text=True)
-    if checked.returncode:
-        sys.exit("\n".join(checked.stdout.splitlines()[-40:]))
+    made = subprocess.run(["tools/prove.py", "run"], cwd=ROOT, stderr=subprocess.PIPE, text=True)
+    if made.returncode:
+        sys.exit(made.stderr)
 
 
 def run(given, *arguments, out=subprocess.PIPE, **more):

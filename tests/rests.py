@@ -12,8 +12,8 @@ ROOT = Path(__file__).resolve().parent.parent
 CRATES = ROOT / "crates"
 START = CRATES / "promises" / "specs" / "Steps.antt"
 HEADING = "### To be believed\n"
-USE = re.compile(       # but types of Rattle, which stand in src/
-    r"^use Rattle·(\w+?)(?:·specs)?\.specs\.(\w+)\.\{", re.MULTILINE)
+USE = re.compile(       # but types of Rattle, which stand in src/, and the prover's library
+    r"^use Rattle\.(?!std\.)(\w+)\.specs\.(\w+)\.\{", re.MULTILINE)
 
 
 def led_to(start):

@@ -6,7 +6,7 @@ cd "$(dirname "$0")/.."
 made=$(mktemp -d)
 trap 'rm -r "$made"' EXIT
 
-rt check run > "$made/check" 2>&1 || { tail -n 40 "$made/check"; exit 1; }
+tools/prove.py run 2> "$made/check" || { cat "$made/check"; exit 1; }
 program=target/bin/run
 
 count=0

@@ -233,7 +233,7 @@ class Charge(unittest.TestCase):
         refuses("cannot both be standard output", "charge", SESSION, TARIFF, PORTS, "-o", "-", "--csv", "-")
         refuses("only one input", "charge", "-", "-", PORTS)
         refuses("nowhere: No such file", "charge", SESSION, TARIFF, "nowhere")
-        refuses("nowhere is not there: `rt check calls` makes it", "charge", SESSION, TARIFF, PORTS, "--calls", "nowhere")
+        refuses("nowhere is not there: `make calls` makes it", "charge", SESSION, TARIFF, PORTS, "--calls", "nowhere")
         refuses("asked for step, says 'M 13 0'", "charge", SESSION, TARIFF, PORTS, "--calls", RUN)
         refuses("the field is refused", "charge", SESSION, TARIFF, PORTS, "--field", TARIFF)
         packed, _ = sessiontext.pack(TIDE)

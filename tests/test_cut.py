@@ -149,7 +149,7 @@ class Cut(unittest.TestCase):
             refuses("not to standard output", "cut", "-", good, "-o", "-", f"{made}/b", data=channel)
             refuses("cannot hold two outputs", "cut", "-", good, "-o", f"{made}/b", f"{made}/b", data=channel)
             refuses("is read: it cannot be written too", "cut", "-", good, "-o", f"{made}/a", good, data=channel)
-            refuses("nowhere is not there: `rt check calls` makes it", "cut", "-", good, *out, "--calls", "nowhere", data=channel)
+            refuses("nowhere is not there: `make calls` makes it", "cut", "-", good, *out, "--calls", "nowhere", data=channel)
             refuses("asked for cut, says 'M 13 0'", "cut", "-", good, *out, "--calls", RUN, data=channel)
             refuses("No such file", "cut", "-", f"{made}/none.csv", *out, data=channel)
             holds(not Path(made, "a").exists() and not Path(made, "b").exists(), "nothing is written")

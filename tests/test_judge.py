@@ -223,7 +223,7 @@ class Judge(unittest.TestCase):
         refuses("is read", "judge", SESSION, CLAIMS, "-o", CLAIMS)
         refuses("only one of the two", "judge", "-", "-")
         refuses("nowhere: No such file", "judge", SESSION, "nowhere")
-        refuses("nowhere is not there: `rt check calls` makes it", "judge", SESSION, CLAIMS, "--calls", "nowhere")
+        refuses("nowhere is not there: `make calls` makes it", "judge", SESSION, CLAIMS, "--calls", "nowhere")
         refuses("asked for judge, says 'M 13 0'", "judge", SESSION, CLAIMS, "--calls", RUN)
         refuses("the mesh is refused: cell 0: volume 0", "judge", "-", CLAIMS, data=CHANNEL.replace("volume 100", "volume 0", 1).encode())
         with folder() as made:

@@ -110,7 +110,7 @@ class Public(unittest.TestCase):
                 marks.write_text(table)
                 refuses(words, "binder", "--public", marks, data=NAMED.encode())
             marks.write_text("cell,mark\n1,1\n")
-            refuses("nowhere is not there: `rt check calls` makes it", "binder", "--public", marks, "--calls", "nowhere", data=NAMED.encode())
+            refuses("nowhere is not there: `make calls` makes it", "binder", "--public", marks, "--calls", "nowhere", data=NAMED.encode())
             refuses("asked for public_page, says ''", "binder", "--public", marks, "--calls", "/bin/true", data=NAMED.encode())
             refuses("cannot hold two outputs", "binder", "--public", marks, "-o", f"{made}/one", "--board", f"{made}/one", data=NAMED.encode())
             refuses("is read: it cannot be written too", "binder", "--public", marks, "--board", marks, data=NAMED.encode())

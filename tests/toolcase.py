@@ -175,7 +175,7 @@ def plain_run(data):
 
 def without_calls(*arguments, data):
     """A tool that is to make plain steps, beside no program, one that is no `calls`, and one without the call."""
-    refuses("nowhere is not there: `rt check calls` makes it", *arguments, "--plain", "--calls", "nowhere", data=data)
+    refuses("nowhere is not there: `make calls` makes it", *arguments, "--plain", "--calls", "nowhere", data=data)
     refuses("asked for read_step, says 'M 13 0'", *arguments, "--plain", "--calls", RUN, data=data)
     refuses("asked for read_step, says ''", *arguments, "--plain", "--calls", "/bin/true", data=data)
     with folder() as made:

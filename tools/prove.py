@@ -1,144 +1,176 @@
 #!/usr/bin/env python3
-"""Proves a crate by a command of rt, and before that the libraries under it, each as soon as those that it uses are proved.
+"""Proves programs or static libraries with the libraries under them, and builds them: target/bin/NAME, or target/lib/libNAME.a.
 
-prove.py NAME LOG COMMAND..
+prove.py NAME..
 
-`rt check` goes by levels and waits for the last crate of each, `rt staticlib` takes one after the other. Here as many are under way as the
-machine has processors, at most four. Each is proved by `rt check` in a folder of its own, whose crates.txt has its line alone; libraries
-and stamps are those of target/, so that the command, which goes over all of them again, finds them as it would have left them.
-On standard error each crate that is proved anew, n of m, and where one fails the end of what is said. LOG has all of it.
+`rt run` and `rt lib` build what is under a crate one library after the other, so `rt all check` goes first, which has as many under way as
+the machine has processors, at most four. Where `rt ci` has been the last to prove here, it left programs and libraries in crates/*/out/:
+a program is taken as it is, and a static library, of which rt ci builds none, is proved and built over those libraries. What is younger
+than all that it is made of is taken as it is too.
+On standard error each crate that is proved anew, n of m, and where one fails the end of what is said. target/NAME.log has all of it.
 """
 
 import os
 import shutil
 import subprocess
 import sys
+import time
 from pathlib import Path
 
 TOP = Path(__file__).resolve().parent.parent
-TARGET = TOP / "target"
 AT_ONCE = min(os.cpu_count() or 1, 4)
 TEXTS = ("src", "specs", "proofs")
-LENT = 1300                             # what a table lent for writing costs, in bytes of code
 END = 40                                # lines of the log that a failure shows
 
 
 def listed():
-    """The crates of crates.txt, each with its line, since a stamp goes by the line's own words."""
+    """The crates of crates.txt, each with what it uses."""
     lines = (line.split("#")[0] for line in (TOP / "crates.txt").read_text().splitlines())
-    return {line.partition(":")[0].strip(): line for line in lines if ":" in line}
+    return {line.partition(":")[0].split()[0]: line.partition(":")[2].split() for line in lines if ":" in line}
 
 
 def under(name, lines):
-    """A crate and all that it needs, each with what it uses of the tree, those that are used before those that use them."""
+    """A crate and all that it needs of the tree, each with what it uses, those that are used before those that use them."""
     found = {}
 
     def visit(one):
-        if one not in found:
-            uses = [other for other in lines[one].partition(":")[2].split() if other in lines]
-            for other in uses:
+        if one in lines and one not in found:
+            for other in lines[one]:
                 visit(other)
-            found[one] = uses
+            found[one] = lines[one]
 
     visit(name)
     return found
 
 
-def changed(name, uses):
-    """Whether a crate's texts, or the proofs of what it uses, are younger than its own proof, or it has none. rt itself goes by what they hold."""
-    stamps = TARGET / "stamp"
-    if not (stamps / name).exists():
-        return True
-    proved = (stamps / name).stat().st_mtime
-    texts = (path for part in TEXTS for path in (TOP / "crates" / name / part).rglob("*"))
-    return any(path.stat().st_mtime > proved for path in (*texts, *(stamps / other for other in uses)))
+def folder(name):
+    return TOP / "crates" / name
 
 
-def left_to_prove(needs):
-    """What is changed or uses what is. The last is the command's."""
-    left = []
-    for name, uses in list(needs.items())[:-1]:
-        if any(other in left for other in uses) or changed(name, uses):
-            left.append(name)
-    return left
+def is_program(name):
+    return (folder(name) / "src" / "main.rt").exists()
 
 
-def weights(needs):
-    """How long the way from each crate up to the last is: what a check costs is code, above all tables that are lent for writing."""
-    weight = {}
-    for name in reversed(list(needs)):
-        code = "".join(path.read_text() for path in (TOP / "crates" / name / "src").glob("*.rt"))
-        above = (weight[user] for user, uses in needs.items() if name in uses)
-        weight[name] = len(code) + LENT * code.count("&mut") + max(above, default=0)
-    return weight
+def made(name):
+    """What rt builds of the crate, and where it is put."""
+    out = folder(name) / "out"
+    if is_program(name):
+        return out / name, TOP / "target" / "bin" / name
+    return out / f"lib{name}.a", TOP / "target" / "lib" / f"lib{name}.a"
 
 
-def started(name, line):
-    """`rt check` of one crate in a folder of its own, which says what it says to a file there."""
-    room = TARGET / "prove" / name
-    shutil.rmtree(room, ignore_errors=True)
-    (room / "target").mkdir(parents=True)
-    (room / "crates.txt").write_text(line)
-    (room / "crates").symlink_to(TOP / "crates")
-    for shared in ("rlib", "stamp"):
-        (TARGET / shared).mkdir(exist_ok=True)
-        (room / "target" / shared).symlink_to(TARGET / shared)
-    with open(room / "said", "w") as said:
-        return subprocess.Popen(["rt", "check", name], cwd=room, stdout=said, stderr=subprocess.STDOUT)
+def is_young(file, names):
+    """Whether a file is younger than crates.txt and all texts of these crates."""
+    if not file.exists():
+        return False
+    at = file.stat().st_mtime
+    texts = (path for name in names for part in TEXTS for path in (folder(name) / part).rglob("*"))
+    return all(path.stat().st_mtime <= at for path in (TOP / "crates.txt", *texts))
 
 
-def tell(said, count, total):
-    """Each crate that is proved anew."""
-    for line in said.splitlines():
-        if line.startswith("rt: ") and " proved (" in line and "unchanged" not in line:
-            print(f"{count} of {total}: {line[4:]}", file=sys.stderr, flush=True)
+def library(name):
+    return folder(name) / "out" / "rlib" / f"{name}.rlib"
 
 
-def prove(needs, lines, log):
-    """Proves what is left, the crates with the longest way up first; what is under way when one fails is waited for."""
-    left, under_way, weight, failed = left_to_prove(needs), {}, weights(needs), ""
-    left.sort(key=weight.get, reverse=True)
-    count, missing = len(needs) - len(left) - 1, set(left)
-    while left or under_way:
-        ready = [name for name in left if not missing.intersection(needs[name])]
-        for name in ready[:AT_ONCE - len(under_way)]:
-            left.remove(name)
-            process = started(name, lines[name])
-            under_way[process.pid] = name, process          # kept, since subprocess itself waits for one that nobody holds
-        pid, status = os.wait()
-        name, _ = under_way.pop(pid)
-        missing.discard(name)
-        said = (TARGET / "prove" / name / "said").read_text()
-        log.write(said)
-        if status:
-            failed, left = said, []
-        else:
-            count += 1
-            tell(said, count, len(needs))
-    return failed
+def left_by_ci(needs):
+    """Whether each library under the crate is as rt ci left it: whole, of today's texts, and without the stamp of rt's other commands. The
+    folder tells when it came here, as its files may be older: rt ci takes what it has kept by links."""
+    return all(not (library(name).parent / "stamp").exists() and (library(name) / "format").exists() and is_young(library(name), [name])
+               for name in list(needs)[:-1])
+
+
+def kit():
+    said = subprocess.run(["rt", "doc"], stdout=subprocess.PIPE, text=True, check=True).stdout
+    return Path(said.strip()).parent
+
+
+def over_libraries(name, needs, out, toolchain=None):
+    """The kit's own command that proves a crate over the libraries as they stand and builds it: an archive, or a program's object."""
+    at = kit()
+    words = [at / "bin" / "rattle", "build", "--crate-name", name, "src/main.rt" if is_program(name) else "src/lib.rt"]
+    for one in ("std", *needs[name]):
+        words += ["--extern", f"{one}={library(one) if one in needs else at / 'rlibs' / f'{one}.rlib'}"]
+    words += ["-L", f"dependency={at}/rlibs"]
+    for one in list(needs)[:-1]:
+        words += ["-L", f"dependency={library(one).parent}"]
+    words += ["--antt-project", at / "rattle" / "logic" / "antt-project.json", "--logic-built", at / "logic_built", "--jobs", AT_ONCE]
+    words += ["--links", f"{name}=", *([] if is_program(name) else ["--crate-type", "staticlib"])]
+    words += ["--toolchain", toolchain or at / "toolchain", "--backend", "llvm", "-o", out]
+    return [str(word) for word in words]
+
+
+def ran(name, log, words, tell=None):
+    """A command in the crate's folder; each line of what it says goes to the log and is told of."""
+    with subprocess.Popen(words, cwd=folder(name), stdin=subprocess.DEVNULL, stdout=subprocess.PIPE, stderr=subprocess.STDOUT, text=True, errors="replace") as running:
+        for line in running.stdout:
+            log.write(line)
+            log.flush()
+            if tell:
+                tell(line)
+    return running.returncode
+
+
+def teller(total):
+    """Tells of each crate under `rt all` whose check says that it was proved."""
+    at = {"name": "", "count": 0}
+
+    def tell(line):
+        if line.startswith("== ") and line != "== summary\n":
+            at["name"], at["count"] = line.split()[1], at["count"] + 1
+        elif line.startswith("logic=proved"):
+            print(f"{at['count']} of {total}: {at['name']} proved", file=sys.stderr, flush=True)
+
+    return tell
+
+
+def prove(name, needs, log):
+    """Proves and builds, and returns whether that went well."""
+    file, _ = made(name)
+    if not is_program(name) and left_by_ci(needs):
+        file.parent.mkdir(exist_ok=True)
+        good = ran(name, log, over_libraries(name, needs, file)) == 0
+        if good:
+            print(f"{len(needs)} of {len(needs)}: {name} proved", file=sys.stderr)
+        return good
+    if ran(name, log, ["rt", "all", "check", "--jobs", str(AT_ONCE)], teller(len(needs))):
+        return False
+    if not is_program(name):
+        return ran(name, log, ["rt", "lib"]) == 0
+    # rt run also runs the program, on nothing, and its status is the program's own then
+    ran(name, log, ["rt", "run"])
+    return file.exists() and Path(f"{file}.stamp").exists()
+
+
+def make(name, lines):
+    """Where it is not young already."""
+    needs = under(name, lines)
+    if name not in needs:
+        sys.exit(f"crates.txt has no crate {name}")
+    (file, to), log = made(name), TOP / "target" / f"{name}.log"
+    to.parent.mkdir(parents=True, exist_ok=True)
+    if not is_young(file, needs):
+        began = time.time()
+        with open(log, "w") as text:
+            good = prove(name, needs, text)
+        if not good:
+            sys.exit("\n".join(log.read_text(errors="replace").splitlines()[-END:]))
+        os.utime(file, (began, began))      # a text that changed meanwhile is younger
+    if not to.exists() or to.read_bytes() != file.read_bytes():
+        shutil.copy(file, f"{to}.new")
+        os.replace(f"{to}.new", to)
 
 
 def main():
-    if len(sys.argv) < 4:
+    if len(sys.argv) < 2 or sys.argv[1].startswith("-"):
         print(__doc__.strip())
         sys.exit("--help" not in sys.argv)
-    name, log, *command = sys.argv[1:]
     os.chdir(TOP)
-    lines = listed()
-    needs = under(name, lines)
-    with open(log, "w") as text:
-        failed = prove(needs, lines, text)
-        if not failed:
-            done = subprocess.run(command, stdout=subprocess.PIPE, stderr=subprocess.STDOUT, text=True)
-            text.write(done.stdout)
-            tell(done.stdout, len(needs), len(needs))
-            failed = done.stdout if done.returncode else ""
-    shutil.rmtree(TARGET / "prove", ignore_errors=True)
-    if failed:
-        sys.exit("\n".join(failed.splitlines()[-END:]))
+    for name in sys.argv[1:]:
+        make(name, listed())
 
 
-try:
-    main()
-except KeyboardInterrupt:
-    sys.exit(130)
+if __name__ == "__main__":
+    try:
+        main()
+    except KeyboardInterrupt:
+        sys.exit(130)

@@ -23,7 +23,7 @@ class Calls:
     def __init__(self, program=None):
         self.program = str(program or built("calls") or "")
         if not os.path.exists(self.program):
-            raise Bad(f"{program or 'target/bin/calls'} is not there: `rt check calls` makes it")
+            raise Bad(f"{program or 'target/bin/calls'} is not there: `make calls` makes it")
         try:
             self.process = subprocess.Popen([self.program], stdin=subprocess.PIPE, stdout=subprocess.PIPE)
         except OSError as error:

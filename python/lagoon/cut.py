@@ -233,7 +233,7 @@ def arguments(words):
     parser.add_argument("-o", "--output", nargs=2, metavar=("PART0", "PART1"), required=True, help="where the parts' sessions go")
     parser.add_argument("--map", metavar="FILE", help="write what went where")
     parser.add_argument("--calls", metavar="PROGRAM",
-                        help="the program that cuts and steps (default: target/bin/calls, which `rt check calls` makes)")
+                        help="the program that cuts and steps (default: target/bin/calls, which `make calls` makes)")
     return parser.parse_args(words)
 
 
