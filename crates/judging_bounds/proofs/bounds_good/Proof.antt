@@ -1,7 +1,6 @@
 -- A scan for the first cell that is out of bounds.
 use Prim.Native.Nat.{◌≤◌, ◌-◌, zero-le}
 use mathlib.Core.Path.{◌≡◌}
-use borrow.Author.Tests.{not-true, not-false}
 use Rattle.lists.proofs.Turns.{turn-within, turn-less}
 use Rattle.model.specs.Causes.{fine, each}
 use Rattle.model.proofs.Verdicts.{scan-start, scan-pass, scan-hit, scan-end}

@@ -14,7 +14,7 @@ use Rattle.page.proofs.judge.Tie as tie
 returns : tie.Need-returns-in-Refused
 returns c =
     let at-lent = c.before in
-    let start = at-lent.before.before.before.before.args in
+    let start = at-lent.before.before.before.args in
     sym (judged-out _ _ _ _ start.page start.room (refuses at-lent.field_lent-tables.ensures c.in-Refused.is))
 
 page-bytes-requires : tie.Need-page_bytes-requires
@@ -42,7 +42,7 @@ returns-2 c =
     let at_places = at-bytes.before in
     let told = at_places.before in
     let at-lent = told.before in
-    let start = at-lent.before.before.before.before.args in
+    let start = at-lent.before.before.before.args in
     let room = at_long.long-space.ensures ∙ ap (λ (n : ℕ). long 12 n start.room)
     (at-bytes.page_bytes.ensures ∙ ap (λ (p : ℕ). page_bytes p start.cells start.page) at_places.rest_places-places.ensures.0) in
     let there = at-need.need.ensures ∙ ap (λ (n : ℕ). need 14 start.page (ltb start.page n)) at-pages.pages.ensures in
