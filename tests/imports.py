@@ -59,7 +59,7 @@ def dropped(text):
 
 
 def sources():
-    return sorted(path for kind in ("*.antt", "*.rt") for path in (ROOT / "crates").rglob(kind) if "must-fail" not in path.parts)
+    return sorted(path for kind in ("*.antt", "*.rt") for path in (ROOT / "crates").rglob(kind) if not {"must-fail", "out"} & set(path.parts))
 
 
 def main():

@@ -31,7 +31,7 @@ def places(cell):
         yield file, [CRATES / file]
     for word in re.findall(r"[a-z_]+", re.sub(r"`[^`]*`", "", cell)):
         if (CRATES / word / "proofs").is_dir():
-            yield word, sorted((CRATES / word).rglob("*.antt"))
+            yield word, sorted(path for path in (CRATES / word).rglob("*.antt") if "out" not in path.parts)
 
 
 def main():

@@ -1,7 +1,6 @@
 -- A scan for the first band that is not as it should be; where it begins is carried along.
 use Prim.Native.Nat.{◌≤◌, ◌-◌, zero-le}
 use mathlib.Core.Path.{◌≡◌, refl}
-use borrow.Author.Tests.{not-true, not-false}
 use Rattle.lists.proofs.Turns.{turn-within, turn-less, turn_in, turn-next, turn-bytes}
 use Rattle.model.specs.Causes.{fine, each}
 use Rattle.model.proofs.Verdicts.{scan-start, scan-pass, scan-hit, scan-end}

@@ -1,7 +1,6 @@
 -- A scan for the first face that would gain too much.
 use Prim.Native.Nat.{◌≤◌, ◌-◌, zero-le}
 use mathlib.Core.Path.{◌≡◌}
-use borrow.Author.Tests.{not-true, not-false}
 use Rattle.lists.proofs.Turns.{turn-within, turn-less, turn_in, turn-next, turn-bytes}
 use Rattle.model.specs.Causes.{fine, each}
 use Rattle.model.proofs.Verdicts.{scan-start, scan-pass, scan-hit, scan-end}

@@ -1,7 +1,6 @@
 -- The scan for 4: fine up to the face it has come to, and refused at the first that is not (the `scan-` laws).
 use Prim.Native.Nat.{◌*◌, ◌≤◌, ◌-◌, zero-le}
 use mathlib.Core.Path.{◌≡◌}
-use borrow.Author.Tests.{not-true, not-false}
 use lib.ListN.{get_or}
 use mir.Val.{Fits}
 use mir.Syntax.{w64}

@@ -2,7 +2,6 @@
 use Prim.Native.Nat.{◌*◌, ◌≤◌, ◌-◌, zero-le}
 use mathlib.Core.Path.{◌≡◌, sym}
 use mathlib.Core.Bool.{true≢false}
-use borrow.Author.Tests.{not-false}
 use lib.ListN.{get_or}
 use mir.Val.{Fits}
 use mir.Syntax.{w64}

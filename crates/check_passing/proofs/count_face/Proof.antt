@@ -2,7 +2,6 @@
 use mathlib.Core.Path.{sym}
 use mathlib.Core.Bool.{true≢false}
 use borrow.Author.Rules.{rules}
-use borrow.Author.Tests.{not-false}
 use Rattle.check_passing.specs.Passing.{FaceFine}
 use Rattle.check_passing.proofs.Laws.{amount-most, ends-in}
 use Rattle.check_passing.proofs.count_face.Statement.{statement}

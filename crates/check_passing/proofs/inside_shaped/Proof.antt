@@ -1,7 +1,6 @@
 use mathlib.Core.Path.{sym, ◌∙◌}
 use mathlib.Core.Bool.{true≢false}
 use borrow.Author.Rules.{rules}
-use borrow.Author.Tests.{not-false}
 use Rattle.check_passing.proofs.Laws.{inside-shape}
 use Rattle.check_passing.proofs.inside_shaped.Statement.{statement}
 use Rattle.check_passing.proofs.inside_shaped.Tie as tie

@@ -5,7 +5,6 @@ use mathlib.Core.Bool.{true≢false}
 use mathlib.Core.List.{List}
 use native.Mathlib.Omega.{arith}
 use borrow.Author.Rules.{rules}
-use borrow.Author.Tests.{not-false}
 use Rattle.check_passing.proofs.Laws.{faces-pass}
 use Rattle.check_passing.proofs.pass.Statement.{statement}
 use Rattle.check_passing.proofs.pass.Tie as tie

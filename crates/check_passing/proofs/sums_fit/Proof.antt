@@ -5,7 +5,6 @@ use mathlib.Core.Bool.{true≢false}
 use native.Mathlib.Omega.{arith}
 use borrow.Author.Count.{below_none, below_more}
 use borrow.Author.Rules.{rules}
-use borrow.Author.Tests.{not-false}
 use lib.ListN.{get_or}
 use Rattle.lists.proofs.Turns.{turn-within, turn-less, turn_in, turn-next, turn-bytes}
 use Rattle.check_passing.specs.Passing.{SumFits}

@@ -1,7 +1,6 @@
 -- Where the quick tests pass, nothing refuses; else each cause is sought in its order.
 use mathlib.Core.Path.{sym}
 use borrow.Author.Rules.{rules}
-use borrow.Author.Tests.{not-false}
 use Rattle.model.specs.Mesh.{mesh_of}
 use Rattle.checks.proofs.Laws.{all_pass, faces-shaped}
 use Rattle.checks.proofs.values_in.Statement.{statement}

@@ -2,7 +2,6 @@
 use Prim.Native.Nat.{◌-◌, ◌≤◌, zero-le}
 use mathlib.Core.Path.{◌∙◌}
 use borrow.Author.Rules.{rules}
-use borrow.Author.Tests.{not-true, not-false}
 use Rattle.lists.proofs.Turns.{turn-within, turn-less}
 use Rattle.model.proofs.Verdicts.{scan-start}
 use Rattle.survey.proofs.Stages.{AllowedTo, found-pass, found-bad, found-end}

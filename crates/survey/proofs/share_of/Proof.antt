@@ -4,7 +4,6 @@ use mathlib.Core.Path.{◌≡◌, sym, ap, ◌∙◌}
 use mathlib.Core.Bool.{true}
 use native.Mathlib.Omega.{arith}
 use borrow.Author.Rules.{rules}
-use borrow.Author.Tests.{not-true, not-false}
 use Rattle.survey.specs.Survey.{not_above}
 use Rattle.survey.proofs.Shares.{share-is}
 use Rattle.survey.proofs.share_of.Statement.{statement}

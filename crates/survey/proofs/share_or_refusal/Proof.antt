@@ -2,7 +2,6 @@
 use mathlib.Core.Path.{sym, ◌∙◌}
 use native.Mathlib.Omega.{arith}
 use borrow.Author.Rules.{rules}
-use borrow.Author.Tests.{not-true, not-false}
 use Rattle.survey.proofs.Stages.{ratio-below, ratio-not-below, ratio-between}
 use Rattle.survey.proofs.share_or_refusal.Statement.{statement}
 use Rattle.survey.proofs.share_or_refusal.Tie as tie

@@ -2,7 +2,6 @@ use mathlib.Core.Path.{◌≡◌, sym, ◌∙◌}
 use mathlib.Core.Bool.{true, true≢false}
 use native.Mathlib.Omega.{arith}
 use borrow.Author.Rules.{rules}
-use borrow.Author.Tests.{not-false}
 use Rattle.model.specs.Mesh.{ceiling}
 use Rattle.model.specs.Causes.{between}
 use Rattle.checks.proofs.Laws.{volume-within, cell-fine}

@@ -1,7 +1,6 @@
 -- A scan for the first cell whose raised concentration is above the ceiling.
 use Prim.Native.Nat.{◌*◌, ◌≤◌, ◌-◌, zero-le}
 use mathlib.Core.Path.{◌≡◌}
-use borrow.Author.Tests.{not-true, not-false}
 use lib.ListN.{get_or}
 use mir.Val.{Fits}
 use mir.Syntax.{w64}
