@@ -7,13 +7,13 @@ ghost use Rattle.record_reader.specs.Numbers.{number_at};
 // No record of document 01 has as many bits; up to here no sum of a bit and a width wraps.
 pub const FURTHEST: usize = 4294967296;
 
-#[derive(Drop)]
+#[derive(Clone, Copy)]
 pub enum Spelled {
     Number(u64),
     Past,
 }
 
-#[derive(Drop)]
+#[derive(Clone, Copy)]
 pub struct Reader<'a> {
     pub bytes: &'a [u8],
     pub bit: usize,

@@ -5,18 +5,16 @@ use Rattle.charge_totals.proofs.Laws.{inside-gains, inward-gains, outward-gains}
 use Rattle.charge_totals.proofs.gain_at.Statement.{statement}
 use Rattle.charge_totals.proofs.gain_at.Tie as tie
 
-returns : tie.Need-returns-then-seconds-f-ne-RIM
-unfolding gain_at
-returns c = inside-gains _ _ c.if-seconds-f-ne-RIM.true
-
 returns-2 : tie.Need-returns-then-is_negative_at
 unfolding gain_at
-returns-2 c = inward-gains _ _ c.before.before.if-seconds-f-ne-RIM.false (sym c.before.is_negative_at.ensures ∙ c.if-is_negative_at.true)
+returns-2 c = inward-gains _ _ (search rules) (sym c.before.is_negative_at.ensures ∙ c.if-is_negative_at.true)
 
 returns-3 : tie.Need-returns
 unfolding gain_at
 returns-3 c = c.size_at.ensures
-    ∙ outward-gains _ _ c.before.before.before.if-seconds-f-ne-RIM.false (sym c.before.before.is_negative_at.ensures ∙ c.before.if-is_negative_at.false)
+    ∙ outward-gains _ _ (search rules) (sym c.before.before.is_negative_at.ensures ∙ c.before.if-is_negative_at.false)
 
+-- the test on the second end is found, so no name here holds what it compares
 pub gain_at_spec : {M : Type 1} → statement M
-gain_at_spec = tie.close (tie.spec (search rules) (search rules) returns (search rules) returns-2 (search rules) returns-3)
+unfolding gain_at
+gain_at_spec = tie.close (tie.spec (search rules) (search rules) (λ c. inside-gains _ _ (search rules)) (search rules) returns-2 (search rules) returns-3)

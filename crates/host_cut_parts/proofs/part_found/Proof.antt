@@ -65,7 +65,7 @@ returns c =
     let a = s.args in
     found_as (whole s) a.labels.now a.label
     (own-outsides2-from-own-outsides3 c.before.before).before.before.before.before.before.before.before.before.part-own.ensures
-    a.width (kind_number a.width a.kind) a.mesh-room a.field_room a.step_room
+    a.width (kind_number a.width a.kind) a.mesh_room a.field_room a.step_room
     c.finds.ensures
 
 pub part_found_spec : {M : Type 1} → statement M
