@@ -2,17 +2,15 @@
 use native.Mathlib.Omega.{arith}
 use borrow.Author.Rules.{rules}
 use borrow.Author.Tests.{le-leb, lt-leb}
+use Rattle.model.specs.Mesh.{old_ceiling}
 use Rattle.page_lines.specs.Lines.{rest_places}
 use Rattle.page_lines.proofs.rest_places.Statement.{statement}
 use Rattle.page_lines.proofs.rest_places.Tie as tie
 
-returns : tie.Need-returns-then-largest-le-OLD_CEILING
-unfolding rest_places
-returns c = (rw (← c.before.largest.ensures, le-leb _ _ c.if-largest-le-OLD_CEILING.true), omega arith)
-
-returns-2 : tie.Need-returns
-unfolding rest_places
-returns-2 c = (rw (← c.before.largest.ensures, lt-leb _ _ c.if-largest-le-OLD_CEILING.false), omega arith)
-
+-- the test on the largest volume is found, so no name here holds what it compares
 pub rest_places_spec : {M : Type 1} → statement M
-rest_places_spec = tie.close (tie.spec (search rules) returns returns-2)
+unfolding rest_places
+rest_places_spec =
+    tie.close
+    (tie.spec (search rules) (λ c. (rw (← c.before.largest.ensures, le-leb c.before.largest.result old_ceiling (omega arith)), omega arith))
+    (λ c. (rw (← c.before.largest.ensures, lt-leb c.before.largest.result old_ceiling (omega arith)), omega arith)))
