@@ -2,7 +2,7 @@
 -- of them. Each record, each answer and each field is computed from the definitions; the laws before them, of either width, put the parts
 -- together as `printed` does.
 use Prim.Native.Nat.{ℕ, suc, ◌+◌, ◌≤◌}
-use mathlib.Core.Path.{◌≡◌, refl, sym, ap, subst, ◌∙◌}
+use mathlib.Core.Path.{◌≡◌, refl, ap, ◌∙◌}
 use mathlib.Core.Bool.{cond}
 use mathlib.Core.List.{List, [], ◌∷◌, ◌++◌}
 use lib.IntN.{ℤ, pos, negsuc}
@@ -18,7 +18,6 @@ use Rattle.model.specs.Step.{next, in_mass, out_mass, released_mass}
 use Rattle.model.specs.Causes.{Outcome, accepted, Verdict, fine, in_turn, long, Call, input_of, work_entries, ◌and_then◌, need, counts, mesh_tables, mesh_values}
 use Rattle.model.specs.Causes.{field_table, field_values, step_tables, raised_values, step_values, verdict}
 use Rattle.model.proofs.Figures.{channel, large_strait}
-use Rattle.model.proofs.Verdicts.{accepted-of}
 use Rattle.record_bits.specs.Field.{bit_at, bits_at}
 use Rattle.record_bits.specs.Layout.{bytes_for}
 use Rattle.record_sections.specs.Sections.{those}
@@ -41,15 +40,14 @@ use Rattle.text.specs.Lines.{word, mark}
 use Rattle.run_intake.specs.Intake.{still_needed, record_at}
 use Rattle.run_board.specs.BoardLines.{board_lines}
 use Rattle.run_lines.specs.Lines.{refusal_line, step_line, refused_step_line, board_line}
-use Rattle.run_session.specs.Session.{start_text, step_text, goes_on_after}
+use Rattle.run_session.specs.Session.{step_text, goes_on_after}
 use Rattle.run_printed.specs.Run.{mesh_at, field_at, step_at, following, in_table, in_tables, run_mesh, board_printed, step_comes_to, field_then, steps_printed, field_said, from_field}
 use Rattle.run_printed.specs.Run.{field_printed, mesh_said_of, from_mesh, printed}
-use Rattle.run_printed.specs.Program.{StepsPrint, FieldPrints, Prints}
-use Rattle.run_printed.proofs.Prints.{prints}
-use Rattle.run_printed.proofs.Accepted.{board-run, step_run, field-run, mesh-run}
+use Rattle.run_printed.specs.Program.{StepsPrint}
+use Rattle.run_printed.proofs.Accepted.{board-run, step_run}
 
 -- an accepted mesh, an accepted field and an accepted step: what is printed after them
-from-mesh : (input bs rest text : List ℕ) (counts : MeshCounts) → mesh_at input ≡ bs → following bs input ≡ rest → mesh_said_of bs ≡ accepted counts
+pub from-mesh : (input bs rest text : List ℕ) (counts : MeshCounts) → mesh_at input ≡ bs → following bs input ≡ rest → mesh_said_of bs ≡ accepted counts
     → field_printed counts.width (run_mesh bs) rest ≡ text → printed input ≡ text
 unfolding printed
 from-mesh input bs rest text counts a r s e =
@@ -57,7 +55,7 @@ from-mesh input bs rest text counts a r s e =
     ∙ ap (λ (o : Outcome MeshCounts). from_mesh o (run_mesh bs) rest) s ∙ e
 
 module _ (w : Width) (M : Mesh) where
-  from-field : (input bs rest text : List ℕ) (sum : ℕ) → field_at w M input ≡ bs → following bs input ≡ rest → field_said w M bs ≡ accepted sum
+  pub from-field : (input bs rest text : List ℕ) (sum : ℕ) → field_at w M input ≡ bs → following bs input ≡ rest → field_said w M bs ≡ accepted sum
       → steps_printed w M (length rest) 1 (in_table run_cells (masses_in bs M.cells)) rest ≡ text → field_printed w M input ≡ step_line 0 0 0 sum 0 ++ text
   unfolding field_printed
   from-field input bs rest text sum a r s e =
@@ -81,7 +79,7 @@ module _ (w : Width) (M : Mesh) where
       ∙ ap (λ (x : List ℕ). step_line step p.entered p.gone p.total p.released ++ x) e
 
   -- after the last step the board is printed
-  board-last : (most step : ℕ) (masses : List ℕ) → steps_printed w M (suc most) step masses [] ≡ board_printed M masses
+  pub board-last : (most step : ℕ) (masses : List ℕ) → steps_printed w M (suc most) step masses [] ≡ board_printed M masses
   unfolding steps_printed
   board-last most step masses = refl
 
@@ -122,7 +120,7 @@ module _ (w : Width) (M : Mesh) (bs : List ℕ) (call : Call) (found : step_reco
       ∙ ap (λ (k : Call). over (table M.cells (next (input_of M masses k))) masses) made ∙ moves
 
   -- at the front of the input
-  step-printed : (most step b : ℕ) (input rest text : List ℕ) → step_at w M (b ∷ input) ≡ bs → following bs (b ∷ input) ≡ rest
+  pub step-printed : (most step b : ℕ) (input rest text : List ℕ) → step_at w M (b ∷ input) ≡ bs → following bs (b ∷ input) ≡ rest
       → steps_printed w M most (step + 1) masses' rest ≡ text
       → steps_printed w M (suc most) step masses (b ∷ input) ≡ step_line step p.entered p.gone p.total p.released ++ text
   step-printed most step b input rest text a r e = from_step w M most step b masses masses' input bs rest text p a r step-said field-then e
@@ -224,43 +222,43 @@ channel_step = 48 ∷ 2 ∷ 0 ∷ 0 ∷ 129 ∷ 144 ∷ 12 ∷ 128 ∷ 100 ∷ 3
 abbrev pub channel_input : List ℕ
 channel_input = channel_mesh ++ (channel_field ++ (channel_step ++ channel_step))
 
-abbrev M : Mesh
+abbrev pub M : Mesh
 M = in_tables channel
 
 -- the field at first, after step 1 and after step 2
-abbrev field₀ : List ℕ
+abbrev pub field₀ : List ℕ
 field₀ = in_table run_cells (100000 ∷ 0 ∷ 0 ∷ [])
 
-abbrev field₁ : List ℕ
+abbrev pub field₁ : List ℕ
 field₁ = in_table run_cells (100099 ∷ 49901 ∷ 0 ∷ [])
 
-abbrev field₂ : List ℕ
+abbrev pub field₂ : List ℕ
 field₂ = in_table run_cells (100099 ∷ 81188 ∷ 18713 ∷ [])
 
 seconds_long : length M.seconds ≡ run_faces
 seconds_long = table-long run_faces channel.seconds (omega arith)
 
-mesh-is : mesh_in channel_mesh ≡ channel
+pub mesh-is : mesh_in channel_mesh ≡ channel
 unfolding everything
 mesh-is = refl
 
-mesh-said : mesh_said_of channel_mesh ≡ accepted (record { cells = 3; faces = 4; width = Narrow })
+pub mesh-said : mesh_said_of channel_mesh ≡ accepted (record { cells = 3; faces = 4; width = Narrow })
 unfolding everything
 mesh-said = refl
 
-mesh-front : mesh_at channel_input ≡ channel_mesh
+pub mesh-front : mesh_at channel_input ≡ channel_mesh
 unfolding everything
 mesh-front = refl
 
-field-front : field_at Narrow M (channel_field ++ (channel_step ++ channel_step)) ≡ channel_field
+pub field-front : field_at Narrow M (channel_field ++ (channel_step ++ channel_step)) ≡ channel_field
 unfolding everything
 field-front = refl
 
-field_is : masses_in channel_field 3 ≡ 100000 ∷ 0 ∷ 0 ∷ []
+pub field_is : masses_in channel_field 3 ≡ 100000 ∷ 0 ∷ 0 ∷ []
 unfolding everything
 field_is = refl
 
-field-said : field_said Narrow M channel_field ≡ accepted 100000
+pub field-said : field_said Narrow M channel_field ≡ accepted 100000
 unfolding everything
 field-said = refl
 
@@ -284,12 +282,12 @@ step-length : step_length 3 3 4 M.seconds ≡ 16
 unfolding everything
 step-length = refl
 
-step-at : (rest : List ℕ) → step_at Narrow M (channel_step ++ rest) ≡ channel_step
+pub step-at : (rest : List ℕ) → step_at Narrow M (channel_step ++ rest) ≡ channel_step
 unfolding of-bits
 step-at rest = step-front Narrow M 48 2 0 0 16 (drop 4 channel_step ++ rest) (step-needs Narrow M step_head 3 16 step-head step_kind step-length)
 
 -- the call that the step record makes
-abbrev call : Call
+abbrev pub call : Call
 call = own_tables (negsuc 49 ∷ pos 50 ∷ pos 50 ∷ pos 50 ∷ []) (1000 ∷ 0 ∷ 0 ∷ 0 ∷ []) (0 ∷ 0 ∷ 0 ∷ [])
 
 fluxes-are : fluxes_in channel_step 4 ≡ negsuc 49 ∷ pos 50 ∷ pos 50 ∷ pos 50 ∷ []
@@ -308,10 +306,10 @@ body-fine : step_body_verdict 3 4 M.seconds channel_step run_faces run_faces run
 unfolding everything
 body-fine = refl
 
-read-fine : step_record_found Narrow M channel_step ≡ fine
+pub read-fine : step_record_found Narrow M channel_step ≡ fine
 read-fine = step-found Narrow M channel_step step-headed body-fine
 
-call-is : step_in M channel_step ≡ call
+pub call-is : step_in M channel_step ≡ call
 call-is = rw (fluxes-are, outsides-are, releases-are)
 
 abbrev S₁ : StepInput
@@ -364,11 +362,11 @@ step-values₂ : step_values ceiling M field₁ call ≡ fine
 unfolding everything
 step-values₂ = refl
 
-verdict₁ : verdict M field₀ call ≡ fine
+pub verdict₁ : verdict M field₀ call ≡ fine
 verdict₁ = verdict-fine M field₀ call counts_fine mesh-tables (field-table 100000 0 0) (step-tables field₀) mesh-values field-values₁ raised-values₁
     step-values₁
 
-verdict₂ : verdict M field₁ call ≡ fine
+pub verdict₂ : verdict M field₁ call ≡ fine
 verdict₂ = verdict-fine M field₁ call counts_fine mesh-tables (field-table 100099 49901 0) (step-tables field₁) mesh-values field-values₂ raised-values₂
     step-values₂
 
@@ -411,37 +409,25 @@ released-none : released_mass 3 (0 ∷ 0 ∷ 0 ∷ []) ≡ 0
 unfolding everything
 released-none = refl
 
-printed₁ : printed_of M field₀ call ≡ record { entered = 50000; gone = 0; total = 150000; released = 0 }
+pub printed₁ : printed_of M field₀ call ≡ record { entered = 50000; gone = 0; total = 150000; released = 0 }
 printed₁ = rw (in₁, out₁, total₁, released-none)
 
-printed₂ : printed_of M field₁ call ≡ record { entered = 50000; gone = 0; total = 200000; released = 0 }
+pub printed₂ : printed_of M field₁ call ≡ record { entered = 50000; gone = 0; total = 200000; released = 0 }
 printed₂ = rw (in₂, out₂, total₂, released-none)
 
-moves₁ : over (table 3 (next S₁)) field₀ ≡ field₁
+pub moves₁ : over (table 3 (next S₁)) field₀ ≡ field₁
 moves₁ = ap (λ (xs : List ℕ). over xs field₀) next₁ ∙ over-field (100099 ∷ 49901 ∷ 0 ∷ []) (100000 ∷ 0 ∷ 0 ∷ []) refl
 
-moves₂ : over (table 3 (next S₂)) field₁ ≡ field₂
+pub moves₂ : over (table 3 (next S₂)) field₁ ≡ field₂
 moves₂ = ap (λ (xs : List ℕ). over xs field₁) next₂ ∙ over-field (100099 ∷ 81188 ∷ 18713 ∷ []) (100099 ∷ 49901 ∷ 0 ∷ []) refl
 
-board-is : board_printed M field₂ ≡ board_line 0 1000 99 ++ (board_line 1 811 88 ++ board_line 2 187 13)
+pub board-is : board_printed M field₂ ≡ board_line 0 1000 99 ++ (board_line 1 811 88 ++ board_line 2 187 13)
 unfolding everything
 board-is = refl
 
-abbrev channel_lines : List ℕ
+abbrev pub channel_lines : List ℕ
 channel_lines = step_line 0 0 0 100000 0
     ++ (step_line 1 50000 0 150000 0 ++ (step_line 2 50000 0 200000 0 ++ (board_line 0 1000 99 ++ (board_line 1 811 88 ++ board_line 2 187 13))))
-
-lines : printed channel_input ≡ channel_lines
-lines =
-    let steps = channel_step ++ channel_step in
-    let last = board-last Narrow M 29 3 field₂ ∙ board-is in
-    let step₂ = step-printed Narrow M channel_step call read-fine call-is field₁ field₂ _ verdict₂ printed₂ moves₂ 30 2 48 _ [] _ (step-at []) refl last in
-    let step₁ = step-printed Narrow M channel_step call read-fine call-is field₀ field₁ _ verdict₁ printed₁ moves₁ 31 1 48 _ channel_step _ (step-at channel_step)
-    refl step₂ in
-    let first = ap (λ (ms : List ℕ). steps_printed Narrow M 32 1 (in_table run_cells ms) (channel_step ++ channel_step)) field_is ∙ step₁ in
-    let field = from-field Narrow M (channel_field ++ steps) channel_field steps _ 100000 field-front refl field-said first in
-    from-mesh channel_input channel_mesh (channel_field ++ steps) _ _ mesh-front refl mesh-said
-    (ap (λ (N : Mesh). field_printed Narrow (in_tables N) (channel_field ++ steps)) mesh-is ∙ field)
 
 -- the six lines, byte by byte
 abbrev pub channel_text : List ℕ
@@ -460,19 +446,16 @@ channel_text =
     66 ∷ 32 ∷ 50 ∷ 32 ∷ 49 ∷ 56 ∷ 55 ∷ 32 ∷ 49 ∷ 51 ∷ 10 ∷
     []
 
-text-is : channel_lines ≡ channel_text
+pub text-is : channel_lines ≡ channel_text
 unfolding everything
 text-is = refl
 
-pub channel-printed : printed channel_input ≡ channel_text
-channel-printed = lines ∙ text-is
-
 -- the run that the program makes of it, call by call
-mesh-asks : mesh_needs run_cells run_faces (take (bytes_for mesh_head_bits) channel_input) ≡ accepted (length channel_mesh)
+pub mesh-asks : mesh_needs run_cells run_faces (take (bytes_for mesh_head_bits) channel_input) ≡ accepted (length channel_mesh)
 unfolding everything
 mesh-asks = refl
 
-field-asks : field_needs Narrow 3 (take (bytes_for field_head_bits) (channel_field ++ (channel_step ++ channel_step))) ≡ accepted (length channel_field)
+pub field-asks : field_needs Narrow 3 (take (bytes_for field_head_bits) (channel_field ++ (channel_step ++ channel_step))) ≡ accepted (length channel_field)
 unfolding everything
 field-asks = refl
 
@@ -480,7 +463,7 @@ step-asks : (rest : List ℕ) → step_needs Narrow 3 4 M.seconds (take (bytes_f
 unfolding of-bits
 step-asks rest = step-needs Narrow M step_head 3 16 step-head step_kind step-length
 
-width_is : (counts_in channel_mesh).width ≡ Narrow
+pub width_is : (counts_in channel_mesh).width ≡ Narrow
 unfolding everything
 width_is = refl
 
@@ -488,10 +471,10 @@ board-fine : board_verdict M.volumes field₂ 3 ≡ fine
 unfolding everything
 board-fine = refl
 
-abbrev steps_text : List ℕ
+abbrev pub steps_text : List ℕ
 steps_text = step_line 1 50000 0 150000 0 ++ (step_line 2 50000 0 200000 0 ++ board_printed M field₂)
 
-made-steps : StepsPrint Narrow M 1 field₀ (channel_step ++ channel_step) steps_text
+pub made-steps : StepsPrint Narrow M 1 field₀ (channel_step ++ channel_step) steps_text
 made-steps =
     let said₁ = step-said Narrow M channel_step call read-fine call-is field₀ field₁ _ verdict₁ printed₁ moves₁ in
     let then₁ = field-then Narrow M channel_step call read-fine call-is field₀ field₁ _ verdict₁ printed₁ moves₁ in
@@ -500,18 +483,6 @@ made-steps =
     let last = board-run Narrow M {step = 3} {masses = field₂} board-fine in
     let second = step_run Narrow M {step = 2} _ (step-asks []) (step-at []) (omega arith) refl said₂ then₂ last in
     step_run Narrow M {step = 1} _ (step-asks channel_step) (step-at channel_step) (omega arith) refl said₁ then₁ second
-
-made-run : Prints channel_input (start_text 100000 ++ steps_text)
-made-run =
-    let rest = channel_field ++ (channel_step ++ channel_step) in
-    let steps = subst (λ (ms : List ℕ). StepsPrint Narrow M 1 (in_table run_cells ms) (channel_step ++ channel_step) steps_text) (sym field_is) made-steps in
-    let field = field-run Narrow M field-asks field-front refl field-said steps in
-    mesh-run mesh-asks mesh-front refl (accepted-of _ _ _ (sym mesh-said)).0
-    (subst (λ (u : Width). FieldPrints u (run_mesh channel_mesh) rest (start_text 100000 ++ steps_text)) (sym width_is)
-    (subst (λ (N : Mesh). FieldPrints Narrow (in_tables N) rest (start_text 100000 ++ steps_text)) (sym mesh-is) field))
-
-pub channel-run : Prints channel_input channel_text
-channel-run = subst (λ (out : List ℕ). Prints channel_input out) (prints made-run ∙ channel-printed) made-run
 
 -- Document 02, S-10: a lagoon of one cell of V 65,535, and its field of kind 6
 abbrev pub wide_mesh : List ℕ
