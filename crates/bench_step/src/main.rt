@@ -8,9 +8,9 @@ ghost use Rattle.std.specs.Prelude.{◌<◌, ◌≤◌};
 ghost use Rattle.model.specs.Mesh.{max_cells, max_faces};
 ghost use Rattle.bench_step.specs.Bounds.{max_argument, prime};
 
-use model::{MAX_CELLS, MAX_FACES};
+use model::{MAX_CELLS, MAX_FACES, Refusal};
 use std::num::wrapping_add_u64;
-use transport::{StepAnswer, Way};
+use transport::{Way, Crossed};
 
 // Most cells on a side of the grid.
 const SIDE: u64 = MAX_CELLS as u64;
@@ -28,14 +28,14 @@ struct Sums {
     refused: u64,
 }
 
-fn with(sums: Sums, answer: StepAnswer) -> Sums {
+fn with(sums: Sums, answer: Result<Crossed, Refusal>) -> Sums {
     match answer {
-        StepAnswer::Stepped(crossing) => Sums {
+        Ok(crossing) => Sums {
             entered: wrapping_add_u64(sums.entered, crossing.entered),
             gone: wrapping_add_u64(sums.gone, crossing.gone),
             refused: sums.refused,
         },
-        StepAnswer::Refused(_) => Sums {
+        Err(_) => Sums {
             entered: sums.entered,
             gone: sums.gone,
             refused: wrapping_add_u64(sums.refused, 1),

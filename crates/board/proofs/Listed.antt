@@ -14,8 +14,6 @@ use Rattle.lists.specs.Marked.{count}
 use Rattle.lists.proofs.Tables.{is-table, over-start}
 use Rattle.model.specs.Causes.{fine, granted, cells_only}
 use Rattle.model.specs.Answers.{said}
-use Rattle.model.specs.declared.Answer.{Answer}
-use Rattle.model.specs.declared.Answer.TheVariants.{Done, Refused}
 use Rattle.model.specs.declared.Refusal.{Refusal}
 use Rattle.model.proofs.Verdicts.{passes}
 use Rattle.model.proofs.Accepted.{field-passed, salt-asks}
@@ -27,6 +25,7 @@ use Rattle.public_marks.specs.Marks.{is_open}
 use Rattle.board.specs.Board.{board_size, entry_of, unused, shown, every_cell, entry_at, ranked_at, cell_before, listed_of, ranked_cells, entries_of, listed, board_entries, board_verdict, Rankable, BoardAfter, BoardIs}
 use Rattle.board.specs.declared.Entry.{Entry}
 use Rattle.board.specs.declared.BoardAnswer.{BoardAnswer}
+use Rattle.std.specs.Prelude.{Result, Ok, Err}
 
 get_or-mapped : {B : Type 0} (f : ℕ → B) (l : List ℕ) (i : ℕ) (d : B) → i < length l → get_or (map f l) i d ≡ f (get_or l i 0)
 get_or-mapped f [] i d h = absurd (not-suc-le-zero h)
@@ -169,12 +168,12 @@ module _ (volumes masses : List ℕ) where
 
     -- what a board answers after a verdict, accepted and refused
     module _ (n : ℕ) (r : BoardAnswer) where
-      pub accepted-board : {v : Answer} → v ≡ Done → r.verdict ≡ v → r.used ≡ min board_size (count n visible) → r.entries
+      pub accepted-board : {v : Result (Unit {0}) Refusal} → v ≡ Ok tt → r.verdict ≡ v → r.used ≡ min board_size (count n visible) → r.entries
           ≡ entries_of volumes masses visible n
           → BoardAfter (said v) volumes masses visible n r
       accepted-board d v u e = rw d (record { verdict_is = ap said v ∙ ap said d; used_is = u; entries_are = e })
 
-      pub refused-board : {v : Answer} (k : Refusal) → v ≡ Refused k → r.verdict ≡ v → r.used ≡ 0 → r.entries ≡ replicate board_size unused
+      pub refused-board : {v : Result (Unit {0}) Refusal} (k : Refusal) → v ≡ Err k → r.verdict ≡ v → r.used ≡ 0 → r.entries ≡ replicate board_size unused
           → BoardAfter (said v) volumes masses visible n r
       refused-board k d v u e = rw d (record { verdict_is = ap said v ∙ ap said d; used_is = u; entries_are = e })
 
@@ -198,7 +197,7 @@ module _ (volumes masses : List ℕ) where
 
   -- AN ACCEPTED CALL, by its contract: its entries are those of the listed cells; cause 3 gives that the order is strict among them, so
   -- each comes before those listed after it, and before every cell that is not listed.
-  module _ (n : ℕ) (r : BoardAnswer) (b : BoardIs n volumes masses r) (d : r.verdict ≡ Done) where
+  module _ (n : ℕ) (r : BoardAnswer) (b : BoardIs n volumes masses r) (d : r.verdict ≡ Ok tt) where
     volumes-some : (c : ℕ) → c < n → 1 ≤ get_or volumes c 0
     volumes-some c h = ((rank-asks n (passes b.verdict_is d)).1 c h).0
 

@@ -12,8 +12,8 @@ ghost use Rattle.board.specs.Board.{board_size, shown, unused, ranked_cells, Ran
 
 use board_order::{Ranked, comes_before, ranked_of};
 use checks::check_cells;
-use model::Answer;
 use public_marks::is_open;
+use model::Refusal;
 
 // Most cells that the board lists.
 pub const BOARD_SIZE: usize = 8;
@@ -36,7 +36,7 @@ struct Ranking {
 // Entries after a refusal are 0, and so is their number.
 #[derive(Clone, Copy)]
 pub struct BoardAnswer {
-    pub verdict: Answer,
+    pub verdict: Result<(), Refusal>,
     pub used: usize,
     pub entries: [Entry; BOARD_SIZE],
 }
@@ -156,7 +156,7 @@ fn entries_of(ranking: Ranking) -> [Entry; BOARD_SIZE]
 
 // The board of open cells where the field was accepted; none after a refusal.
 pub fn board_after(
-    verdict: Answer,
+    verdict: Result<(), Refusal>,
     cells: usize,
     volumes: &[u64],
     masses: &[u64],
@@ -165,7 +165,7 @@ pub fn board_after(
     requires { said verdict ≡ fine → Rankable volumes.now masses.now cells }
     ensures { BoardAfter (said verdict) volumes.now masses.now (is_open marks.now) cells result }
 {
-    if let Answer::Refused(_) = verdict {
+    if let Err(_) = verdict {
         let none = empty_ranking();
         return BoardAnswer {
             verdict: verdict,

@@ -3,16 +3,11 @@
 
 use board::{BOARD_SIZE, BoardAnswer, Entry};
 use calls_arguments::{ROOM, show};
-use checks::TotalAnswer;
-use model::{Answer, Refusal};
-use page::PageAnswer;
-use record_heads::{LengthAnswer, MeshLengthAnswer};
-use record_layouts::Width;
-use record_reader::Spelled;
-use record_reading::{MeshAnswer, StepRead};
-use record_writing::WriteAnswer;
-use survey::ShareAnswer;
-use transport::StepAnswer;
+use model::Refusal;
+use record_layouts::{Width, StepKind};
+use transport::Crossed;
+use record_heads::MeshLength;
+use record_reading::MeshCounts;
 
 fn accepted(rt: &HostRuntime) {
     show::word(rt, b" accepted");
@@ -30,36 +25,36 @@ pub fn refused(rt: &HostRuntime, refusal: Refusal) {
     show::number(rt, refusal.place);
 }
 
-pub fn verdict(rt: &HostRuntime, said: Answer) {
+pub fn verdict(rt: &HostRuntime, said: Result<(), Refusal>) {
     match said {
-        Answer::Done => accepted(rt),
-        Answer::Refused(refusal) => refused(rt, refusal),
+        Ok(()) => accepted(rt),
+        Err(refusal) => refused(rt, refusal),
     }
 }
 
-pub fn total(rt: &HostRuntime, said: TotalAnswer) {
+pub fn total(rt: &HostRuntime, said: Result<u64, Refusal>) {
     match said {
-        TotalAnswer::Total(sum) => accepted_with(rt, sum),
-        TotalAnswer::Refused(refusal) => refused(rt, refusal),
+        Ok(sum) => accepted_with(rt, sum),
+        Err(refusal) => refused(rt, refusal),
     }
 }
 
 // In-mass, out-mass and released mass.
-pub fn step(rt: &HostRuntime, said: StepAnswer) {
+pub fn step(rt: &HostRuntime, said: Result<Crossed, Refusal>) {
     match said {
-        StepAnswer::Stepped(crossing) => {
+        Ok(crossing) => {
             accepted_with(rt, crossing.entered);
             show::number(rt, crossing.gone);
             show::number(rt, crossing.released);
         }
-        StepAnswer::Refused(refusal) => refused(rt, refusal),
+        Err(refusal) => refused(rt, refusal),
     }
 }
 
-pub fn length(rt: &HostRuntime, said: LengthAnswer) {
+pub fn length(rt: &HostRuntime, said: Result<usize, Refusal>) {
     match said {
-        LengthAnswer::Needs(bytes) => accepted_with(rt, bytes as u64),
-        LengthAnswer::Refused(refusal) => refused(rt, refusal),
+        Ok(bytes) => accepted_with(rt, bytes as u64),
+        Err(refusal) => refused(rt, refusal),
     }
 }
 
@@ -80,57 +75,57 @@ fn width_number(width: Width) -> u64 {
 }
 
 // The bytes and the width.
-pub fn mesh_length(rt: &HostRuntime, said: MeshLengthAnswer) {
+pub fn mesh_length(rt: &HostRuntime, said: Result<MeshLength, Refusal>) {
     match said {
-        MeshLengthAnswer::Needs(length) => {
+        Ok(length) => {
             accepted_with(rt, length.bytes as u64);
             let width = length.width;
             show::number(rt, width_number(width));
         }
-        MeshLengthAnswer::Refused(refusal) => refused(rt, refusal),
+        Err(refusal) => refused(rt, refusal),
     }
 }
 
 // The counts and the width.
-pub fn mesh(rt: &HostRuntime, said: MeshAnswer) {
+pub fn mesh(rt: &HostRuntime, said: Result<MeshCounts, Refusal>) {
     match said {
-        MeshAnswer::Read(counts) => {
+        Ok(counts) => {
             accepted_with(rt, counts.cells as u64);
             show::number(rt, counts.faces as u64);
             let width = counts.width;
             show::number(rt, width_number(width));
         }
-        MeshAnswer::Refused(refusal) => refused(rt, refusal),
+        Err(refusal) => refused(rt, refusal),
     }
 }
 
 // The number of the kind.
-pub fn step_read(rt: &HostRuntime, width: Width, said: StepRead) {
+pub fn step_read(rt: &HostRuntime, width: Width, said: Result<StepKind, Refusal>) {
     match said {
-        StepRead::Read(kind) => accepted_with(rt, record_layouts::kind_number(width, kind)),
-        StepRead::Refused(refusal) => refused(rt, refusal),
+        Ok(kind) => accepted_with(rt, record_layouts::kind_number(width, kind)),
+        Err(refusal) => refused(rt, refusal),
     }
 }
 
-pub fn written(rt: &HostRuntime, said: WriteAnswer) {
+pub fn written(rt: &HostRuntime, said: Result<u64, Refusal>) {
     match said {
-        WriteAnswer::Written(length) => accepted_with(rt, length),
-        WriteAnswer::Refused(refusal) => refused(rt, refusal),
+        Ok(length) => accepted_with(rt, length),
+        Err(refusal) => refused(rt, refusal),
     }
 }
 
-pub fn printed(rt: &HostRuntime, said: PageAnswer) {
+pub fn printed(rt: &HostRuntime, said: Result<u64, Refusal>) {
     match said {
-        PageAnswer::Printed(length) => accepted_with(rt, length),
-        PageAnswer::Refused(refusal) => refused(rt, refusal),
+        Ok(length) => accepted_with(rt, length),
+        Err(refusal) => refused(rt, refusal),
     }
 }
 
 // A field of bits that is not within the record has no cause.
-pub fn spelled(rt: &HostRuntime, said: Spelled) {
+pub fn spelled(rt: &HostRuntime, said: Option<u64>) {
     match said {
-        Spelled::Number(n) => accepted_with(rt, n),
-        Spelled::Past => show::word(rt, b" past"),
+        Some(n) => accepted_with(rt, n),
+        None => show::word(rt, b" past"),
     }
 }
 
@@ -155,10 +150,10 @@ pub fn mesh_tables(
     show::numbers(rt, b"; reaches", r, reaches);
 }
 
-pub fn share(rt: &HostRuntime, said: ShareAnswer) {
+pub fn share(rt: &HostRuntime, said: Result<u64, Refusal>) {
     match said {
-        ShareAnswer::Share(k) => accepted_with(rt, k),
-        ShareAnswer::Refused(refusal) => refused(rt, refusal),
+        Ok(k) => accepted_with(rt, k),
+        Err(refusal) => refused(rt, refusal),
     }
 }
 

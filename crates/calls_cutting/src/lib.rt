@@ -5,18 +5,19 @@ ghost use Rattle.std.specs.Prelude.{◌≤◌, ◌≡◌, length};
 
 use calls_arguments::parts::{amounts, copy, copy_amounts, number, table};
 use calls_arguments::{PART_ROOM, show};
-use cutting::CutAnswer;
+use cutting::Counts;
+use model::Refusal;
 
 // Cells and faces of part 0, then of part 1.
-fn answer(rt: &HostRuntime, said: CutAnswer) {
+fn answer(rt: &HostRuntime, said: Result<Counts, Refusal>) {
     match said {
-        CutAnswer::Cut(counts) => {
+        Ok(counts) => {
             calls_answers::accepted_with(rt, counts.cells_0 as u64);
             show::number(rt, counts.faces_0 as u64);
             show::number(rt, counts.cells_1 as u64);
             show::number(rt, counts.faces_1 as u64);
         }
-        CutAnswer::Refused(refusal) => calls_answers::refused(rt, refusal),
+        Err(refusal) => calls_answers::refused(rt, refusal),
     }
 }
 

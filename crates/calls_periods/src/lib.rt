@@ -3,7 +3,8 @@
 
 use calls_arguments::parts::{amounts, copy, number, table};
 use calls_arguments::{ROOM, show};
-use charge::ChargeAnswer;
+use charge::Billed;
+use model::Refusal;
 
 pub fn add(rt: &HostRuntime, words: &[u64], ints: &[i64]) {
     let mut entries = [0u64; ROOM];
@@ -22,13 +23,13 @@ pub fn add(rt: &HostRuntime, words: &[u64], ints: &[i64]) {
 }
 
 // Cents and the remainder.
-fn charged(rt: &HostRuntime, said: ChargeAnswer) {
+fn charged(rt: &HostRuntime, said: Result<Billed, Refusal>) {
     match said {
-        ChargeAnswer::Charged(bill) => {
+        Ok(bill) => {
             calls_answers::accepted_with(rt, bill.cents);
             show::number(rt, bill.remainder);
         }
-        ChargeAnswer::Refused(refusal) => calls_answers::refused(rt, refusal),
+        Err(refusal) => calls_answers::refused(rt, refusal),
     }
 }
 

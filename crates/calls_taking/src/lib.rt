@@ -3,7 +3,7 @@
 
 use calls_arguments::parts::{bytes, copy, number, octets, table};
 use calls_arguments::{BYTES_ROOM, ROOM, show};
-use model::StepTaken;
+use model::{Printed, Refusal};
 
 // The host's answer is one number, printed as it is.
 pub fn lagoon_step(rt: &HostRuntime, words: &[u64], records: &[u8]) {
@@ -89,15 +89,15 @@ pub fn take_field(rt: &HostRuntime, words: &[u64], records: &[u8]) {
 }
 
 // In-mass, out-mass, the total afterwards and the released mass.
-fn taken(rt: &HostRuntime, said: StepTaken) {
+fn taken(rt: &HostRuntime, said: Result<Printed, Refusal>) {
     match said {
-        StepTaken::Stepped(printed) => {
+        Ok(printed) => {
             calls_answers::accepted_with(rt, printed.entered);
             show::number(rt, printed.gone);
             show::number(rt, printed.total);
             show::number(rt, printed.released);
         }
-        StepTaken::Refused(refusal) => calls_answers::refused(rt, refusal),
+        Err(refusal) => calls_answers::refused(rt, refusal),
     }
 }
 

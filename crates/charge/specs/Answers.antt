@@ -1,10 +1,10 @@
 -- Document 02, S-13: what charging a total refuses and answers.
-use Rattle.std.specs.Prelude.{ℕ, ◌+◌, ◌/◌, ◌%◌, ◌≡◌, List, [], ◌∷◌, ◌++◌, leb, ltb, length}
+use Rattle.std.specs.Prelude.{ℕ, ◌+◌, ◌/◌, ◌%◌, ◌≡◌, List, [], ◌∷◌, ◌++◌, leb, ltb, length, Result, Ok, Err}
 use Rattle.model.specs.Causes.{Outcome, accepted, Verdict, ◌and_then◌, in_turn, need, long, each, between}
 use Rattle.model.specs.Answers.{told}
 use Rattle.charge.specs.Charge.{max_bands, last_end, price_units, charge_sum, band_good}
-use Rattle.charge.specs.declared.ChargeAnswer.{ChargeAnswer}
-use Rattle.charge.specs.declared.ChargeAnswer.TheVariants.{Charged, Refused}
+use Rattle.model.specs.declared.Refusal.{Refusal}
+use Rattle.charge.specs.declared.Billed.{Billed}
 
 -- whole cents, and the remainder that is handed on
 pub record Bill : Type 0 where
@@ -31,10 +31,10 @@ module _ (ends prices : List ℕ) (total bands remainder : ℕ) where
   }
 
 -- Document 01, "What form each place needs", on answers that are enums.
-abbrev pub charge_said : ChargeAnswer → Outcome Bill
-charge_said (Charged c) = accepted (record { cents = c.cents; remainder = c.remainder })
-charge_said (Refused r) = told r
+abbrev pub charge_said : Result Billed Refusal → Outcome Bill
+charge_said (Ok c) = accepted (record { cents = c.cents; remainder = c.remainder })
+charge_said (Err r) = told r
 
-abbrev pub ChargeIs : (ends prices : List ℕ) (total bands remainder : ℕ) → ChargeAnswer → Type 0
+abbrev pub ChargeIs : (ends prices : List ℕ) (total bands remainder : ℕ) → (Result Billed Refusal) → Type 0
 ChargeIs ends prices total bands remainder r =
     charge_said r ≡ (charge_verdict ends prices total bands remainder and_then accepted (bill_of ends prices total bands remainder))

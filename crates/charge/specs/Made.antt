@@ -1,9 +1,10 @@
 -- Document 02, S-13: charges as they were made and answered, each handing its remainder on to the next.
-use Rattle.std.specs.Prelude.{ℕ, ◌+◌, ◌*◌, ◌<◌, ◌≡◌, List, [], ◌∷◌}
+use Rattle.std.specs.Prelude.{ℕ, ◌+◌, ◌*◌, ◌<◌, ◌≡◌, List, [], ◌∷◌, Result}
 use Rattle.model.specs.Causes.{Outcome, accepted, refused, granted}
 use Rattle.charge.specs.Charge.{price_units, charge_sum}
 use Rattle.charge.specs.Answers.{Bill, charge_said, ChargeIs}
-use Rattle.charge.specs.declared.ChargeAnswer.{ChargeAnswer}
+use Rattle.model.specs.declared.Refusal.{Refusal}
+use Rattle.charge.specs.declared.Billed.{Billed}
 
 -- A call of `charge`: its total and bands, of any values and of any length, and its answer.
 pub record Made : Type 0 where
@@ -11,7 +12,7 @@ pub record Made : Type 0 where
   pub bands : ℕ
   pub ends : List ℕ
   pub prices : List ℕ
-  pub answer : ChargeAnswer
+  pub answer : Result Billed Refusal
 
 -- the cents of an answer, and the remainder after it; a refused charge has no cents and hands on what it was given
 abbrev pub cents_of : Outcome Bill → ℕ

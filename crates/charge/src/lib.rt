@@ -8,7 +8,7 @@ ghost use Rattle.charge.specs.Charge.{last_end, max_price, charge_sum, band_good
 ghost use Rattle.charge.specs.Answers.{bill_causes, charge_verdict, ChargeIs};
 
 use model::needs::{and_then, between, long, need};
-use model::{Answer, Cause, Refusal, positions};
+use model::{Cause, Refusal, positions};
 
 // Most bands of a charge.
 pub const MAX_BANDS: u64 = 8;
@@ -28,12 +28,6 @@ pub struct Billed {
     pub remainder: u64,
 }
 
-#[derive(Clone, Copy)]
-pub enum ChargeAnswer {
-    Charged(Billed),
-    Refused(Refusal),
-}
-
 // One band: where it begins and ends, its price, and whether it is the last.
 fn band_fits(begin: u64, end: u64, price: u64, last: bool) -> bool
     ensures { result ≡ (ltb begin end && leb price max_price && (not last || eqb end last_end)) }
@@ -51,7 +45,7 @@ fn band_fits(begin: u64, end: u64, price: u64, last: bool) -> bool
 }
 
 // The bands in their order: the lowest that 25 refuses.
-fn bands_good(bands: usize, ends: &[u64], prices: &[u64]) -> Answer
+fn bands_good(bands: usize, ends: &[u64], prices: &[u64]) -> Result<(), Refusal>
     requires { (bands ≤ length ends.now) × (bands ≤ length prices.now) }
     ensures { said result ≡ each 25 bands (band_good ends.now prices.now bands) }
 {
@@ -60,7 +54,7 @@ fn bands_good(bands: usize, ends: &[u64], prices: &[u64]) -> Answer
     while i < bands {
         let end = ends[i];
         if !band_fits(begin, end, prices[i], i + 1 == bands) {
-            return Answer::Refused(Refusal {
+            return Err(Refusal {
                 cause: Cause::Bands,
                 place: i as u64,
             });
@@ -68,7 +62,7 @@ fn bands_good(bands: usize, ends: &[u64], prices: &[u64]) -> Answer
         begin = end;
         i += 1;
     }
-    Answer::Done
+    Ok(())
 }
 
 fn lesser(a: u64, b: u64) -> u64
@@ -104,7 +98,7 @@ fn charged(total: u64, bands: usize, ends: &[u64], prices: &[u64]) -> u64
 }
 
 // What is known before any band is read.
-fn lent(bands: usize, ends: usize, prices: usize, remainder: u64) -> Answer
+fn lent(bands: usize, ends: usize, prices: usize, remainder: u64) -> Result<(), Refusal>
     ensures { said result ≡ in_turn (bill_causes bands ends prices remainder) }
 {
     let a = need(Cause::Bands, 0, between(1, MAX_BANDS, bands as u64));
@@ -114,12 +108,12 @@ fn lent(bands: usize, ends: usize, prices: usize, remainder: u64) -> Answer
 }
 
 // What charging is refused for.
-fn judge(total: u64, bands: usize, ends: &[u64], prices: &[u64], remainder: u64) -> Answer
+fn judge(total: u64, bands: usize, ends: &[u64], prices: &[u64], remainder: u64) -> Result<(), Refusal>
     ensures { said result ≡ charge_verdict ends.now prices.now total bands remainder }
 {
     let tables = lent(bands, ends.len(), prices.len(), remainder);
-    if let Answer::Refused(r) = tables {
-        return Answer::Refused(r);
+    if let Err(r) = tables {
+        return Err(r);
     }
     let good = bands_good(bands, ends, prices);
     and_then(good, need(Cause::Period, 0, total <= LAST_END))
@@ -132,15 +126,15 @@ pub fn charge(
     ends: &[u64],
     prices: &[u64],
     remainder: u64,
-) -> ChargeAnswer
+) -> Result<Billed, Refusal>
     ensures { ChargeIs ends.now prices.now total bands remainder result }
 {
     let verdict = judge(total, bands, ends, prices, remainder);
-    if let Answer::Refused(r) = verdict {
-        return ChargeAnswer::Refused(r);
+    if let Err(r) = verdict {
+        return Err(r);
     }
     let sum = charged(total, bands, ends, prices) + remainder;
-    ChargeAnswer::Charged(Billed {
+    Ok(Billed {
         cents: sum / PRICE_UNITS,
         remainder: sum % PRICE_UNITS,
     })

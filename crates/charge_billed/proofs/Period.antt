@@ -15,7 +15,6 @@ use Rattle.model.specs.Mesh.{Mesh, at_rim}
 use Rattle.model.specs.Step.{out_mass}
 use Rattle.model.specs.Causes.{fine, granted, Call, input_of}
 use Rattle.model.specs.Calls.{Crossing, crossing_of, field_after, gone_by, Scheme, judged, step_answer, moved_table, total_out}
-use Rattle.model.specs.declared.Answer.TheVariants.{Done}
 use Rattle.model.proofs.Verdicts.{accepted-of}
 use Rattle.model.proofs.Budget.{outward}
 use Rattle.model.proofs.Next.{outward-is}
@@ -23,15 +22,16 @@ use Rattle.model.proofs.Lists.{Keeping}
 use Rattle.model.proofs.Claims.{judged-keeping}
 use Rattle.transport.specs.Promise.{scheme_of, step_said, left_by, StepPromise}
 use Rattle.transport.specs.declared.Crossed as crossed
-use Rattle.transport.specs.declared.StepAnswer.{StepAnswer}
-use Rattle.transport.specs.declared.StepAnswer.TheVariants.{Stepped, Refused}
 use Rattle.transport.proofs.Promises.{way-keeping}
 use Rattle.charge_totals.specs.Totals.{gain_of, gain_at, added_totals, AddPromise}
 use Rattle.charge_billed.specs.Period.{Source, by_step, by_judge, Made, Promised, came_to, totals_after, KeptOn, last_totals, moved_out, OverAPeriod}
+use Rattle.std.specs.Prelude.{Result, Ok, Err}
+use Rattle.model.specs.declared.Refusal.{Refusal}
+use Rattle.transport.specs.declared.Crossed.{Crossed}
 
 -- AN ACCEPTED STEP, by any scheme that keeps what amounts owe: over the rim goes its out-mass
 module _ (s : Scheme) (keeping : Keeping s) (M : Mesh) (masses : List ℕ) (k : Call) (b : crossed.Crossed) (moved : List ℤ)
-    (answer : step_said (Stepped b) ≡ step_answer s M k masses)
+    (answer : step_said (Ok b) ≡ step_answer s M k masses)
     (moved_at : s.finds M masses k ≡ fine → (f : ℕ) → f < M.faces → get_or moved f (pos 0) ≡ s.moves M masses k f) where
   told : (s.finds M masses k ≡ fine) × (record { entered = b.entered; gone = b.gone; released = b.released } ≡ crossing_of M masses k)
   unfolding step_answer
@@ -48,7 +48,7 @@ module _ (s : Scheme) (keeping : Keeping s) (M : Mesh) (masses : List ℕ) (k : 
       ∙ outward-is (input_of M masses k) (s.moves M masses k) (keeping.keeps M masses k told.0) ∙ sym gone_is
 
 -- moved as a step leaves it
-left_at : (s : Scheme) (M : Mesh) (masses : List ℕ) (k : Call) (a : StepAnswer) (next : List ℕ) (moved : List ℤ) (work : List ℕ)
+left_at : (s : Scheme) (M : Mesh) (masses : List ℕ) (k : Call) (a : Result Crossed Refusal) (next : List ℕ) (moved : List ℤ) (work : List ℕ)
     → StepPromise s M masses k a next moved work
     → s.finds M masses k ≡ fine → (f : ℕ) → f < M.faces → get_or moved f (pos 0) ≡ s.moves M masses k f
 unfolding moved_table
@@ -58,12 +58,12 @@ nothing-out : (M : Mesh) → sum M.faces (λ f. cond (at_rim M f) 0 0) ≡ 0
 nothing-out M = sum-cong M.faces (λ f. cond (at_rim M f) 0 0) (λ f. 0) (λ f h. cond_same {A = ℕ} (at_rim M f) 0) ∙ sum_zeros M.faces
 
 -- a step, refused or not
-one_out : (s : Scheme) (keeping : Keeping s) (M : Mesh) (masses : List ℕ) (k : Call) (a : StepAnswer) (next : List ℕ) (moved : List ℤ)
+one_out : (s : Scheme) (keeping : Keeping s) (M : Mesh) (masses : List ℕ) (k : Call) (a : Result Crossed Refusal) (next : List ℕ) (moved : List ℤ)
     → step_said a ≡ step_answer s M k masses
     → (s.finds M masses k ≡ fine → (f : ℕ) → f < M.faces → get_or moved f (pos 0) ≡ s.moves M masses k f)
     → sum M.faces (λ f. cond (at_rim M f) (granted (step_said a) (forward (get_or moved f (pos 0))) 0) 0) ≡ gone_by (left_by (step_said a) next)
-one_out s keeping M masses k (Stepped b) next moved e at = out-is s keeping M masses k b moved e at
-one_out s keeping M masses k (Refused r) next moved e at = nothing-out M
+one_out s keeping M masses k (Ok b) next moved e at = out-is s keeping M masses k b moved e at
+one_out s keeping M masses k (Err r) next moved e at = nothing-out M
 
 by-step : (s : Scheme) → Keeping s → (M : Mesh) (m : Made) → StepPromise s M m.masses m.tables m.answer m.next m.moved m.work
     → sum M.faces (λ f. cond (at_rim M f) (granted (step_said m.answer) (forward (get_or m.moved f (pos 0))) 0) 0)
@@ -80,14 +80,14 @@ by-source M m by_judge p =
     (λ e f h. ap (λ (xs : List ℤ). get_or xs f (pos 0)) p.1)
 
 -- an entry after it
-one_entry : (M : Mesh) (m : Made) (totals : List ℕ) (a : StepAnswer)
-    → granted (step_said a) (AddPromise M.seconds m.moved totals M.faces Done m.added) (Unit {0})
+one_entry : (M : Mesh) (m : Made) (totals : List ℕ) (a : Result Crossed Refusal)
+    → granted (step_said a) (AddPromise M.seconds m.moved totals M.faces (Ok tt) m.added) (Unit {0})
     → (f : ℕ) → f < M.faces
     → get_or (granted (step_said a) m.added totals) f 0 ≡ get_or totals f 0 + cond (at_rim M f) (granted (step_said a) (forward (get_or m.moved f (pos 0))) 0) 0
 unfolding added_totals gain_at gain_of
-one_entry M m totals (Stepped b) p f h =
+one_entry M m totals (Ok b) p f h =
     rw (p.totals-after, ← p.answer) (get_d_over M.faces (λ f. get_or totals f 0 + gain_at M.seconds m.moved f) totals 0 f h)
-one_entry M m totals (Refused r) p f h = omega (arith, cond_same {A = ℕ} (at_rim M f) 0)
+one_entry M m totals (Err r) p f h = omega (arith, cond_same {A = ℕ} (at_rim M f) 0)
 
 both-added : (b : Bool) (x y : ℕ) → cond b (x + y) 0 ≡ cond b x 0 + cond b y 0
 both-added true x y = refl

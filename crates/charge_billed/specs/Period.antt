@@ -1,16 +1,16 @@
 -- Document 02, S-13: the totals of a period, of steps as they were made and answered, each accepted one added once.
-use Rattle.std.specs.Prelude.{ℕ, ◌+◌, ◌<◌, ◌≡◌, true, false, cond, List, [], ◌∷◌, ℤ, pos, get_or}
+use Rattle.std.specs.Prelude.{ℕ, ◌+◌, ◌<◌, ◌≡◌, true, false, cond, List, [], ◌∷◌, ℤ, pos, get_or, Result, Ok}
 use Rattle.lists.specs.Fold.{sum}
 use Rattle.signed.specs.Sign.{forward}
 use Rattle.model.specs.Mesh.{Mesh, at_rim}
 use Rattle.model.specs.Causes.{Outcome, granted, Call}
 use Rattle.model.specs.Calls.{Left, total_out}
-use Rattle.model.specs.declared.Answer.TheVariants.{Done}
 use Rattle.transport.specs.Promise.{scheme_of, step_said, left_by, StepPromise}
 use Rattle.transport.specs.declared.Way.{Way}
-use Rattle.transport.specs.declared.StepAnswer.{StepAnswer}
 use Rattle.judging.specs.Promise.{JudgePromise}
 use Rattle.charge_totals.specs.Totals.{AddPromise}
+use Rattle.model.specs.declared.Refusal.{Refusal}
+use Rattle.transport.specs.declared.Crossed.{Crossed}
 
 -- by `step`, corrected or plain, or claimed by another model and judged by `judge` (S-11)
 pub data Source : Type 0 where
@@ -23,7 +23,7 @@ pub record Made : Type 0 where
   pub source : Source
   pub masses : List ℕ
   pub tables : Call
-  pub answer : StepAnswer
+  pub answer : Result Crossed Refusal
   pub next : List ℕ
   pub moved : List ℤ
   pub work : List ℕ
@@ -48,7 +48,7 @@ abbrev pub KeptOn : Mesh → List ℕ → List Made → Type 0
 KeptOn M totals [] = Unit {0}
 KeptOn M totals (m ∷ ms) =
     Promised M m m.source
-    × granted (step_said m.answer) (AddPromise M.seconds m.moved totals M.faces Done m.added) (Unit {0})
+    × granted (step_said m.answer) (AddPromise M.seconds m.moved totals M.faces (Ok tt) m.added) (Unit {0})
     × KeptOn M (totals_after m totals) ms
 
 -- the totals at the period's end

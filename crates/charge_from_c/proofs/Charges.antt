@@ -10,7 +10,6 @@ use Rattle.model.proofs.Verdicts.{past}
 use Rattle.charge.specs.Charge.{price_units, charge_sum}
 use Rattle.charge.specs.Answers.{Bill, charge_verdict, bill_of}
 use Rattle.charge.specs.Made as call
-use Rattle.charge.specs.declared.ChargeAnswer.TheVariants.{Charged}
 use Rattle.charge.proofs.Made.{handed-on}
 use Rattle.host_answer.specs.Found.{filled}
 use Rattle.host_period_promises.specs.Period.{billed, ChargeFromC}
@@ -18,6 +17,7 @@ use Rattle.host_period_promises.proofs.Small.{charge-small}
 use Rattle.promises.specs.Steps.{host_said}
 use Rattle.promises.proofs.Numbers.{said-giving, small-before}
 use Rattle.charge_from_c.specs.Charges.{Made, cents_of, handed_on, sum_of, KeptOn, all_cents, all_sums, last_remainder, HandedOn}
+use Rattle.std.specs.Prelude.{Ok}
 
 -- two numbers found, where there is room for them
 both-there : (x y : ℕ) (found : List ℕ) → 2 ≤ length found → (get_or (filled (x ∷ y ∷ []) found) 0 0 ≡ x) × (get_or (filled (x ∷ y ∷ []) found) 1 0 ≡ y)
@@ -41,7 +41,7 @@ module _ (m : Made) (remainder : ℕ) (room : 2 ≤ length m.found)
     bands = m.bands;
     ends = m.ends;
     prices = m.prices;
-    answer = Charged (record { cents = get_or m.found_after 0 0; remainder = get_or m.found_after 1 0 });
+    answer = Ok (record { cents = get_or m.found_after 0 0; remainder = get_or m.found_after 1 0 });
   }
 
   accepted-is : v ≡ fine → call.KeptOn remainder (as_call ∷ [])

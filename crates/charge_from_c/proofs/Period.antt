@@ -10,10 +10,8 @@ use Rattle.signed.specs.Sign.{forward}
 use Rattle.model.specs.Mesh.{Mesh}
 use Rattle.model.specs.Causes.{accepted, refused, Verdict, fine, ◌and_then◌, granted, Call}
 use Rattle.model.specs.Calls.{crossing_of, field_after, gone_by, Scheme, judged, step_answer, total_out}
-use Rattle.model.specs.declared.Answer.TheVariants.{Done}
 use Rattle.model.proofs.Verdicts.{past}
 use Rattle.transport.specs.Promise.{scheme_of}
-use Rattle.transport.specs.declared.StepAnswer.TheVariants.{Stepped}
 use Rattle.charge_totals.specs.Totals.{add_verdict, AddPromise}
 use Rattle.charge_billed.specs.Period.{Source, by_step, by_judge}
 use Rattle.charge_billed.specs.Period as call
@@ -27,6 +25,7 @@ use Rattle.host_period_promises.proofs.Small.{add_small}
 use Rattle.promises.specs.Steps.{host_said}
 use Rattle.promises.proofs.Numbers.{said_of, said-giving}
 use Rattle.charge_from_c.specs.Period.{Made, totals_after, came_to, Promised, KeptOn, last_totals, moved_out, OverAPeriod}
+use Rattle.std.specs.Prelude.{Ok}
 
 -- an accepted step as a call of the engine
 abbrev as_call : Mesh → Made → call.Made
@@ -36,7 +35,7 @@ as_call M m =
       source = m.source;
       masses = m.masses;
       tables = m.tables;
-      answer = Stepped (record { entered = x.entered; gone = x.gone; released = x.released });
+      answer = Ok (record { entered = x.entered; gone = x.gone; released = x.released });
       next = m.next;
       moved = m.moved;
       work = m.work;
@@ -66,7 +65,7 @@ promised-as M m by_judge p ok = (
 
 -- an adding that answered 0 is done
 added-as : (seconds : List ℕ) (moved : List ℤ) (totals : List ℕ) (faces : ℕ) (added : List ℕ) → AddFromC seconds moved totals faces 0 added
-    → AddPromise seconds moved totals faces Done added
+    → AddPromise seconds moved totals faces (Ok tt) added
 added-as seconds moved totals faces added p = record {
   answer = said_of (add_verdict seconds moved totals faces) 0 p.number (add_small seconds moved totals faces);
   totals-after = p.totals-after;

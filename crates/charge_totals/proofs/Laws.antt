@@ -18,10 +18,10 @@ use Rattle.signed.proofs.Laws.{forward-is}
 use Rattle.model.specs.Mesh.{rim}
 use Rattle.model.specs.Causes.{Verdict, fine, ◌and_then◌, in_turn, each}
 use Rattle.model.specs.Answers.{told}
-use Rattle.model.specs.declared.Answer.TheVariants.{Done, Refused}
 use Rattle.model.specs.declared.Refusal.{Refusal}
 use Rattle.model.proofs.Verdicts.{past, out, all-fine, long-fine, each-fine}
 use Rattle.charge_totals.specs.Totals.{max_total, lent_causes, gain_of, gain_fit, gain_at, gain_good, add_verdict, added_totals, AddPromise}
+use Rattle.std.specs.Prelude.{Ok, Err}
 
 -- WHAT A FACE GAINS: nothing inside, nothing of an inward mass, else the size
 pub inside-gains : (second : ℕ) (z : ℤ) → second ≢ rim → 0 ≡ gain_of second z
@@ -88,16 +88,16 @@ module _ (seconds : List ℕ) (moved : List ℤ) (totals : List ℕ) (faces : �
     unfolding add_verdict
     in_order = rw is
 
-    refused-adding : (r : Refusal) → add_verdict seconds moved totals faces ≡ told r → AddPromise seconds moved totals faces (Refused r) totals
+    refused-adding : (r : Refusal) → add_verdict seconds moved totals faces ≡ told r → AddPromise seconds moved totals faces (Err r) totals
     refused-adding r e = record { answer = sym e; totals-after = rw e }
 
-    pub not-lent : (r : Refusal) → lent ≡ told r → AddPromise seconds moved totals faces (Refused r) totals
+    pub not-lent : (r : Refusal) → lent ≡ told r → AddPromise seconds moved totals faces (Err r) totals
     not-lent r e = refused-adding r (in_order ∙ out _ e)
 
     module _ (ok : lent ≡ fine) where
-      pub too_much : (r : Refusal) → each 26 faces (gain_good seconds moved totals) ≡ told r → AddPromise seconds moved totals faces (Refused r) totals
+      pub too_much : (r : Refusal) → each 26 faces (gain_good seconds moved totals) ≡ told r → AddPromise seconds moved totals faces (Err r) totals
       too_much r e = refused-adding r (in_order ∙ past _ ok ∙ e)
 
       pub added : each 26 faces (gain_good seconds moved totals) ≡ fine → (totals' : List ℕ) → totals' ≡ added_totals seconds moved totals faces
-          → AddPromise seconds moved totals faces Done totals'
+          → AddPromise seconds moved totals faces (Ok tt) totals'
       added e totals' q = let v = in_order ∙ past _ ok ∙ e in record { answer = sym v; totals-after = rw v q }

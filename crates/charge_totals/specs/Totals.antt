@@ -1,11 +1,11 @@
 -- Document 02, S-13: the period totals, and what adding a step's moved masses to them refuses and leaves.
-use Rattle.std.specs.Prelude.{ℕ, ◌+◌, ◌≡◌, Bool, cond, ◌||◌, List, [], ◌∷◌, ◌++◌, eqb, leb, ℤ, pos, length, get_or}
+use Rattle.std.specs.Prelude.{ℕ, ◌+◌, ◌≡◌, Bool, cond, ◌||◌, List, [], ◌∷◌, ◌++◌, eqb, leb, ℤ, pos, length, get_or, Result}
 use Rattle.lists.specs.Table.{table, over}
 use Rattle.signed.specs.Sign.{forward}
 use Rattle.model.specs.Mesh.{rim, max_faces}
 use Rattle.model.specs.Causes.{Verdict, granted, in_turn, need, long, each}
 use Rattle.model.specs.Answers.{said}
-use Rattle.model.specs.declared.Answer.{Answer}
+use Rattle.model.specs.declared.Refusal.{Refusal}
 
 -- the largest period total
 abbrev pub max_total : ℕ
@@ -41,6 +41,6 @@ module _ (seconds : List ℕ) (moved : List ℤ) where
       added_totals = over (table faces (λ f. get_or totals f 0 + gain_at f)) totals
 
       -- what an adding answers and leaves; a refusal changes nothing
-      pub record AddPromise (r : Answer) (totals' : List ℕ) : Type 0 where
+      pub record AddPromise (r : Result (Unit {0}) Refusal) (totals' : List ℕ) : Type 0 where
         pub answer : said r ≡ add_verdict
         pub totals-after : totals' ≡ granted add_verdict added_totals totals

@@ -7,7 +7,7 @@ ghost use Rattle.model.specs.Answers.{said};
 ghost use Rattle.charge_totals.specs.Totals.{lent_causes, gain_fit, gain_at, gain_good, added_totals, AddPromise};
 
 use model::needs::{and_then, long, need};
-use model::{Answer, Cause, MAX_FACES, RIM, Refusal, positions};
+use model::{Cause, MAX_FACES, RIM, Refusal, positions};
 use signed::{is_negative_at, size_at};
 
 // The largest period total.
@@ -44,25 +44,25 @@ fn gain_fits(entry: u64, gain: u64) -> bool
 }
 
 // Cause 26.
-fn gains_good(faces: usize, seconds: &[u64], moved: &[i64], totals: &[u64]) -> Answer
+fn gains_good(faces: usize, seconds: &[u64], moved: &[i64], totals: &[u64]) -> Result<(), Refusal>
     requires { (faces ≤ length seconds.now) × (faces ≤ length moved.now) × (faces ≤ length totals.now) }
     ensures { said result ≡ each 26 faces (gain_good seconds.now moved.now totals.now) }
 {
     let mut f = 0;
     while f < faces {
         if !gain_fits(totals[f], gain_at(seconds, moved, f)) {
-            return Answer::Refused(Refusal {
+            return Err(Refusal {
                 cause: Cause::Period,
                 place: f as u64,
             });
         }
         f += 1;
     }
-    Answer::Done
+    Ok(())
 }
 
 // Causes 1 and 2: the faces, and the tables lent.
-fn lent(faces: usize, seconds: usize, moved: usize, totals: usize) -> Answer
+fn lent(faces: usize, seconds: usize, moved: usize, totals: usize) -> Result<(), Refusal>
     ensures { said result ≡ in_turn (lent_causes faces seconds moved totals) }
 {
     let a = need(Cause::Limits, FACES_PLACE, faces <= MAX_FACES);
@@ -96,17 +96,17 @@ fn raise(faces: usize, seconds: &[u64], moved: &[i64], totals: &mut [u64])
 }
 
 // A step's outward moved masses added: causes 1 (faces), 2 (seconds, moved, totals) and 26, else done.
-pub fn add(faces: usize, seconds: &[u64], moved: &[i64], totals: &mut [u64]) -> Answer
+pub fn add(faces: usize, seconds: &[u64], moved: &[i64], totals: &mut [u64]) -> Result<(), Refusal>
     ensures { AddPromise seconds.now moved.now totals.old faces result totals.new }
 {
     let tables = lent(faces, seconds.len(), moved.len(), totals.len());
-    if let Answer::Refused(r) = tables {
-        return Answer::Refused(r);
+    if let Err(r) = tables {
+        return Err(r);
     }
     let gains = gains_good(faces, seconds, moved, totals);
-    if let Answer::Refused(r) = gains {
-        return Answer::Refused(r);
+    if let Err(r) = gains {
+        return Err(r);
     }
     raise(faces, seconds, moved, totals);
-    Answer::Done
+    Ok(())
 }

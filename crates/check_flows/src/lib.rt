@@ -10,7 +10,7 @@ ghost use Rattle.check_flows.specs.Flows.{inflow as inflow_of, outflow as outflo
 
 use lists::raise;
 use model::needs::and_then;
-use model::{Answer, Cause, ENDS, Refusal};
+use model::{Cause, ENDS, Refusal};
 use signed::{is_negative_at, size_at};
 
 // The end of a face that the water reaches.
@@ -64,39 +64,39 @@ pub fn gather(
 }
 
 // Cause 9.
-pub fn balanced(cells: usize, inflow: &[u64], outflow: &[u64]) -> Answer
+pub fn balanced(cells: usize, inflow: &[u64], outflow: &[u64]) -> Result<(), Refusal>
     requires { (cells ≤ length inflow.now) × (cells ≤ length outflow.now) }
     ensures { said result ≡ each 9 cells (λ c. eqb (get_or inflow.now c 0) (get_or outflow.now c 0)) }
 {
     let mut c = 0;
     while c < cells {
         if inflow[c] != outflow[c] {
-            return Answer::Refused(Refusal {
+            return Err(Refusal {
                 cause: Cause::Balance,
                 place: c as u64,
             });
         }
         c += 1;
     }
-    Answer::Done
+    Ok(())
 }
 
 // Cause 10.
-pub fn outflow_fits(cells: usize, volumes: &[u64], outflow: &[u64]) -> Answer
+pub fn outflow_fits(cells: usize, volumes: &[u64], outflow: &[u64]) -> Result<(), Refusal>
     requires { (cells ≤ length volumes.now) × (cells ≤ length outflow.now) }
     ensures { said result ≡ each 10 cells (λ c. leb (get_or outflow.now c 0) (get_or volumes.now c 0)) }
 {
     let mut c = 0;
     while c < cells {
         if volumes[c] < outflow[c] {
-            return Answer::Refused(Refusal {
+            return Err(Refusal {
                 cause: Cause::Outflow,
                 place: c as u64,
             });
         }
         c += 1;
     }
-    Answer::Done
+    Ok(())
 }
 
 // Causes 9 and 10 in their order, on arrays of zeros.
@@ -109,7 +109,7 @@ pub fn values_in(
     fluxes: &[i64],
     inflow: &mut [u64],
     outflow: &mut [u64],
-) -> Answer
+) -> Result<(), Refusal>
     requires long_enough { LongEnough faces firsts.now seconds.now fluxes.now cells volumes.now }
     requires faces_fit { FacesFit faces firsts.now seconds.now fluxes.now }
     requires inflow_value { (inflow.old ≡ table (max_cells + 1) (λ c. 0)) × (outflow.old ≡ table (max_cells + 1) (λ c. 0)) }
@@ -128,7 +128,7 @@ pub fn values(
     firsts: &[u64],
     seconds: &[u64],
     fluxes: &[i64],
-) -> Answer
+) -> Result<(), Refusal>
     requires long_enough { LongEnough faces firsts.now seconds.now fluxes.now cells volumes.now }
     requires faces_fit { FacesFit faces firsts.now seconds.now fluxes.now }
     ensures { said result ≡ flows_verdict faces firsts.now seconds.now fluxes.now cells volumes.now }

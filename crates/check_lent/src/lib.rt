@@ -8,10 +8,10 @@ ghost use Rattle.model.specs.Claims.{claim_of, claim_long};
 ghost use Rattle.model.specs.Answers.{said};
 
 use model::needs::{and_then, between, long, need};
-use model::{Answer, Cause, positions};
+use model::{Cause, positions, Refusal};
 
 // Cause 1, with limits that the caller sets: the run program's are lower than the mesh's own.
-pub fn counts_within(most_cells: usize, most_faces: usize, cells: usize, faces: usize) -> Answer
+pub fn counts_within(most_cells: usize, most_faces: usize, cells: usize, faces: usize) -> Result<(), Refusal>
     ensures { said result ≡ counts_within most_cells most_faces cells faces }
 {
     and_then(
@@ -33,7 +33,7 @@ pub fn mesh_lent(
     seconds: &[u64],
     shares: &[u64],
     reaches: &[u64],
-) -> Answer
+) -> Result<(), Refusal>
     ensures { said result ≡ (
         counts (mesh_of cells faces volumes.now firsts.now seconds.now shares.now reaches.now)
         and_then mesh_tables (mesh_of cells faces volumes.now firsts.now seconds.now shares.now reaches.now)
@@ -58,7 +58,7 @@ pub fn field_lent(
     shares: &[u64],
     reaches: &[u64],
     masses: &[u64],
-) -> Answer
+) -> Result<(), Refusal>
     ensures { said result ≡ (
         counts (mesh_of cells faces volumes.now firsts.now seconds.now shares.now reaches.now)
         and_then mesh_tables (mesh_of cells faces volumes.now firsts.now seconds.now shares.now reaches.now)
@@ -80,7 +80,7 @@ pub fn step_lent(
     moved: &[i64],
     work: &[u64],
     releases: &[u64],
-) -> Answer
+) -> Result<(), Refusal>
     requires { (cells ≤ max_cells) × (faces ≤ max_faces) }
     ensures { said result ≡ step_long cells faces
         (call_of fluxes.now outsides.now next.now moved.now work.now releases.now) }
@@ -103,7 +103,7 @@ pub fn claim_lent(
     next: &[u64],
     claim: &[i64],
     releases: &[u64],
-) -> Answer
+) -> Result<(), Refusal>
     ensures { said result ≡ claim_long cells faces
         (claim_of fluxes.now outsides.now next.now claim.now releases.now) }
 {

@@ -8,24 +8,24 @@ ghost use Rattle.model.specs.Causes.{fine, ◌and_then◌, each, volume_fits, en
 ghost use Rattle.model.specs.Answers.{said};
 
 use model::needs::{and_then, between};
-use model::{Answer, Cause, Refusal};
+use model::{Cause, Refusal};
 
 // Cause 3.
-fn volumes_good(cells: usize, volumes: &[u64], most: u64) -> Answer
+fn volumes_good(cells: usize, volumes: &[u64], most: u64) -> Result<(), Refusal>
     requires { cells ≤ length volumes.now }
     ensures { said result ≡ each 3 cells (λ c. volume_fits most (get_or volumes.now c 0)) }
 {
     let mut c = 0;
     while c < cells {
         if !between(1, most, volumes[c]) {
-            return Answer::Refused(Refusal {
+            return Err(Refusal {
                 cause: Cause::Volume,
                 place: c as u64,
             });
         }
         c += 1;
     }
-    Answer::Done
+    Ok(())
 }
 
 // One face's ends: the first a cell, the second a cell or the rim, and not the same.
@@ -45,21 +45,21 @@ fn ends_fit(cells: u64, first: u64, second: u64) -> bool
 }
 
 // Cause 4.
-fn ends_good(cells: usize, faces: usize, firsts: &[u64], seconds: &[u64]) -> Answer
+fn ends_good(cells: usize, faces: usize, firsts: &[u64], seconds: &[u64]) -> Result<(), Refusal>
     requires { (faces ≤ length firsts.now) × (faces ≤ length seconds.now) }
     ensures { said result ≡ each 4 faces (λ f. ends_fit cells (get_or firsts.now f 0) (get_or seconds.now f 0)) }
 {
     let mut f = 0;
     while f < faces {
         if !ends_fit(cells as u64, firsts[f], seconds[f]) {
-            return Answer::Refused(Refusal {
+            return Err(Refusal {
                 cause: Cause::Ends,
                 place: f as u64,
             });
         }
         f += 1;
     }
-    Answer::Done
+    Ok(())
 }
 
 // One face's share and reach: both 0 at the rim, both in their ranges inside.
@@ -79,7 +79,7 @@ fn spacing_fits(second: u64, share: u64, reach: u64, most: u64) -> bool
 }
 
 // Cause 5.
-fn spacing_good(faces: usize, seconds: &[u64], shares: &[u64], reaches: &[u64], most: u64) -> Answer
+fn spacing_good(faces: usize, seconds: &[u64], shares: &[u64], reaches: &[u64], most: u64) -> Result<(), Refusal>
     requires { (faces ≤ length seconds.now) × (faces ≤ length shares.now) × (faces ≤ length reaches.now) }
     ensures { said result ≡ each 5 faces
         (λ f. spacing_fit most (get_or seconds.now f 0) (get_or shares.now f 0) (get_or reaches.now f 0)) }
@@ -87,14 +87,14 @@ fn spacing_good(faces: usize, seconds: &[u64], shares: &[u64], reaches: &[u64], 
     let mut f = 0;
     while f < faces {
         if !spacing_fits(seconds[f], shares[f], reaches[f], most) {
-            return Answer::Refused(Refusal {
+            return Err(Refusal {
                 cause: Cause::Spacing,
                 place: f as u64,
             });
         }
         f += 1;
     }
-    Answer::Done
+    Ok(())
 }
 
 // Whether no face is refused by 4 or 5: one reading of the faces serves both.
@@ -135,7 +135,7 @@ fn faces_good(
     shares: &[u64],
     reaches: &[u64],
     most: u64,
-) -> Answer
+) -> Result<(), Refusal>
     requires { (faces ≤ length firsts.now) × (faces ≤ length seconds.now) × (faces ≤ length shares.now) × (faces ≤ length reaches.now) }
     ensures { said result ≡ (
         each 4 faces (λ f. ends_fit cells (get_or firsts.now f 0) (get_or seconds.now f 0))
@@ -143,7 +143,7 @@ fn faces_good(
         ) }
 {
     if faces_fit(cells, faces, firsts, seconds, shares, reaches, most) {
-        return Answer::Done;
+        return Ok(());
     }
     let a = ends_good(cells, faces, firsts, seconds);
     and_then(a, spacing_good(faces, seconds, shares, reaches, most))
@@ -159,7 +159,7 @@ pub fn values(
     shares: &[u64],
     reaches: &[u64],
     most: u64,
-) -> Answer
+) -> Result<(), Refusal>
     requires { MeshLent (mesh_of cells faces volumes.now firsts.now seconds.now shares.now reaches.now) }
     ensures { said result ≡ mesh_values most
         (mesh_of cells faces volumes.now firsts.now seconds.now shares.now reaches.now) }

@@ -8,7 +8,7 @@ ghost use Rattle.model.specs.Causes.{◌and_then◌, fine, each, outside_fit, fl
 ghost use Rattle.model.specs.Answers.{said};
 
 use model::needs::and_then;
-use model::{Answer, Cause, Refusal};
+use model::{Cause, Refusal};
 use signed::{is_negative_at, size_at};
 
 // The largest outside value of one face: 0 elsewhere than at an inflow through the rim.
@@ -32,7 +32,7 @@ fn outside_fits(second: u64, inward: bool, outside: u64) -> bool
 }
 
 // Cause 7.
-fn outsides_good(faces: usize, seconds: &[u64], fluxes: &[i64], outsides: &[u64]) -> Answer
+fn outsides_good(faces: usize, seconds: &[u64], fluxes: &[i64], outsides: &[u64]) -> Result<(), Refusal>
     requires { (faces ≤ length seconds.now) × (faces ≤ length fluxes.now) × (faces ≤ length outsides.now) }
     ensures { said result ≡ each 7 faces
         (λ f. outside_fit (get_or seconds.now f 0) (is_negative (get_or fluxes.now f (pos 0))) (get_or outsides.now f 0)) }
@@ -40,14 +40,14 @@ fn outsides_good(faces: usize, seconds: &[u64], fluxes: &[i64], outsides: &[u64]
     let mut f = 0;
     while f < faces {
         if !outside_fits(seconds[f], is_negative_at(fluxes, f), outsides[f]) {
-            return Answer::Refused(Refusal {
+            return Err(Refusal {
                 cause: Cause::Outside,
                 place: f as u64,
             });
         }
         f += 1;
     }
-    Answer::Done
+    Ok(())
 }
 
 // The largest size of one face's flux.
@@ -68,7 +68,7 @@ fn flux_fits(second: u64, reach: u64, amount: u64, most: u64) -> bool
 }
 
 // Cause 8.
-fn fluxes_good(faces: usize, seconds: &[u64], reaches: &[u64], fluxes: &[i64], most: u64) -> Answer
+fn fluxes_good(faces: usize, seconds: &[u64], reaches: &[u64], fluxes: &[i64], most: u64) -> Result<(), Refusal>
     requires { (faces ≤ length seconds.now) × (faces ≤ length reaches.now) × (faces ≤ length fluxes.now) }
     ensures { said result ≡ each 8 faces
         (λ f. flux_fit most (get_or seconds.now f 0) (get_or reaches.now f 0) (size_of (get_or fluxes.now f (pos 0)))) }
@@ -76,14 +76,14 @@ fn fluxes_good(faces: usize, seconds: &[u64], reaches: &[u64], fluxes: &[i64], m
     let mut f = 0;
     while f < faces {
         if !flux_fits(seconds[f], reaches[f], size_at(fluxes, f), most) {
-            return Answer::Refused(Refusal {
+            return Err(Refusal {
                 cause: Cause::Flux,
                 place: f as u64,
             });
         }
         f += 1;
     }
-    Answer::Done
+    Ok(())
 }
 
 // Whether no face is refused by 7 or 8: one reading of the faces serves both.
@@ -124,7 +124,7 @@ pub fn values(
     fluxes: &[i64],
     outsides: &[u64],
     most: u64,
-) -> Answer
+) -> Result<(), Refusal>
     requires { (faces ≤ length seconds.now)
         × (faces ≤ length reaches.now)
         × (faces ≤ length fluxes.now)
@@ -136,7 +136,7 @@ pub fn values(
         ) }
 {
     if faces_fit(faces, seconds, reaches, fluxes, outsides, most) {
-        return Answer::Done;
+        return Ok(());
     }
     let a = outsides_good(faces, seconds, fluxes, outsides);
     and_then(a, fluxes_good(faces, seconds, reaches, fluxes, most))

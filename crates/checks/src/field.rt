@@ -6,7 +6,7 @@ ghost use Rattle.model.specs.Causes.{each, salt_fit};
 ghost use Rattle.model.specs.Answers.{said};
 ghost use Rattle.model.specs.Calls.{mass_in};
 
-use model::{Answer, Cause, Refusal};
+use model::{Cause, Refusal};
 
 // One cell's concentration within the ceiling, without a division.
 fn salt_fits(volume: u64, mass: u64) -> bool
@@ -17,7 +17,7 @@ fn salt_fits(volume: u64, mass: u64) -> bool
 }
 
 // Cause 6, of volumes within their range.
-pub fn values(cells: usize, volumes: &[u64], masses: &[u64]) -> Answer
+pub fn values(cells: usize, volumes: &[u64], masses: &[u64]) -> Result<(), Refusal>
     requires cells_in_bounds { (cells ≤ length volumes.now) × (cells ≤ length masses.now) }
     requires by_index { (c : ℕ) → c < cells
         → (1 ≤ get_or volumes.now c 0)
@@ -27,14 +27,14 @@ pub fn values(cells: usize, volumes: &[u64], masses: &[u64]) -> Answer
     let mut c = 0;
     while c < cells {
         if !salt_fits(volumes[c], masses[c]) {
-            return Answer::Refused(Refusal {
+            return Err(Refusal {
                 cause: Cause::Concentration,
                 place: c as u64,
             });
         }
         c += 1;
     }
-    Answer::Done
+    Ok(())
 }
 
 // The sum of the masses, where it fits.

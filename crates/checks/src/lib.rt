@@ -17,20 +17,13 @@ ghost use Rattle.checks.specs.Total.{total_said};
 ghost use Rattle.checks.specs.Lent.{tables_lent};
 
 use model::needs::and_then;
-use model::{Answer, Refusal};
+use model::Refusal;
 
 // The cells for which a short array is enough.
 const FEW: usize = 512;
 
-// The total of a field, or why there is none.
-#[derive(Clone, Copy)]
-pub enum TotalAnswer {
-    Total(u64),
-    Refused(Refusal),
-}
-
 // Cause 1, with limits that the caller sets: the run program's are lower than the mesh's own.
-pub fn counts_within(most_cells: usize, most_faces: usize, cells: usize, faces: usize) -> Answer
+pub fn counts_within(most_cells: usize, most_faces: usize, cells: usize, faces: usize) -> Result<(), Refusal>
     ensures { said result ≡ counts_within most_cells most_faces cells faces }
 {
     check_lent::counts_within(most_cells, most_faces, cells, faces)
@@ -45,13 +38,13 @@ pub fn check_mesh(
     seconds: &[u64],
     shares: &[u64],
     reaches: &[u64],
-) -> Answer
+) -> Result<(), Refusal>
     ensures { said result ≡ mesh_verdict
         (mesh_of cells faces volumes.now firsts.now seconds.now shares.now reaches.now) }
 {
     let a = check_lent::mesh_lent(cells, faces, volumes, firsts, seconds, shares, reaches);
-    if let Answer::Refused(r) = a {
-        return Answer::Refused(r);
+    if let Err(r) = a {
+        return Err(r);
     }
     check_mesh::values(
         cells,
@@ -75,7 +68,7 @@ pub fn check_field(
     shares: &[u64],
     reaches: &[u64],
     masses: &[u64],
-) -> Answer
+) -> Result<(), Refusal>
     ensures { said result ≡ mesh_field_verdict
         (mesh_of cells faces volumes.now firsts.now seconds.now shares.now reaches.now)
         masses.now }
@@ -83,8 +76,8 @@ pub fn check_field(
     let a = check_lent::field_lent(
         cells, faces, volumes, firsts, seconds, shares, reaches, masses,
     );
-    if let Answer::Refused(r) = a {
-        return Answer::Refused(r);
+    if let Err(r) = a {
+        return Err(r);
     }
     let b = check_mesh::values(
         cells,
@@ -96,14 +89,14 @@ pub fn check_field(
         reaches,
         model::CEILING,
     );
-    if let Answer::Refused(r) = b {
-        return Answer::Refused(r);
+    if let Err(r) = b {
+        return Err(r);
     }
     field::values(cells, volumes, masses)
 }
 
 // The causes of a call that is lent cells alone: those of a mesh without faces.
-pub fn check_cells(cells: usize, volumes: &[u64], masses: &[u64]) -> Answer
+pub fn check_cells(cells: usize, volumes: &[u64], masses: &[u64]) -> Result<(), Refusal>
     ensures { said result ≡ mesh_field_verdict (cells_only cells volumes.now) masses.now }
 {
     let none = &volumes[..0];
@@ -111,17 +104,17 @@ pub fn check_cells(cells: usize, volumes: &[u64], masses: &[u64]) -> Answer
 }
 
 // The sum of a field's masses.
-pub fn total(cells: usize, volumes: &[u64], masses: &[u64]) -> TotalAnswer
+pub fn total(cells: usize, volumes: &[u64], masses: &[u64]) -> Result<u64, Refusal>
     ensures { total_said result ≡ (
         mesh_field_verdict (cells_only cells volumes.now) masses.now
         and_then accepted (sum cells (mass_in masses.now))
         ) }
 {
     let a = check_cells(cells, volumes, masses);
-    if let Answer::Refused(r) = a {
-        return TotalAnswer::Refused(r);
+    if let Err(r) = a {
+        return Err(r);
     }
-    TotalAnswer::Total(field::sum_of(cells, masses))
+    Ok(field::sum_of(cells, masses))
 }
 
 // Causes 3 to 10 and 18, of tables that are long enough.
@@ -137,7 +130,7 @@ pub fn step_values(
     fluxes: &[i64],
     outsides: &[u64],
     releases: &[u64],
-) -> Answer
+) -> Result<(), Refusal>
     requires { StepLent
         (mesh_of cells faces volumes.now firsts.now seconds.now shares.now reaches.now)
         masses.now
@@ -157,8 +150,8 @@ pub fn step_values(
         reaches,
         model::CEILING,
     );
-    if let Answer::Refused(r) = a {
-        return Answer::Refused(r);
+    if let Err(r) = a {
+        return Err(r);
     }
     let salt = and_then(
         field::values(cells, volumes, masses),
@@ -168,8 +161,8 @@ pub fn step_values(
         salt,
         check_water::values(faces, seconds, reaches, fluxes, outsides, model::CEILING),
     );
-    if let Answer::Refused(r) = b {
-        return Answer::Refused(r);
+    if let Err(r) = b {
+        return Err(r);
     }
     check_flows::values(cells, faces, volumes, firsts, seconds, fluxes)
 }
@@ -190,7 +183,7 @@ fn values_in(
     outsides: &[u64],
     releases: &[u64],
     room: &mut [u64],
-) -> Answer
+) -> Result<(), Refusal>
     requires step_lent { StepLent
         (mesh_of cells faces volumes.now firsts.now seconds.now shares.now reaches.now)
         masses.now
@@ -211,7 +204,7 @@ fn values_in(
     if check_passing::pass(
         known, cells, faces, volumes, firsts, seconds, shares, reaches, fluxes, outsides, room,
     ) {
-        return Answer::Done;
+        return Ok(());
     }
     step_values(
         cells, faces, volumes, firsts, seconds, shares, reaches, masses, fluxes, outsides, releases,
@@ -231,7 +224,7 @@ fn values_own(
     fluxes: &[i64],
     outsides: &[u64],
     releases: &[u64],
-) -> Answer
+) -> Result<(), Refusal>
     requires { StepLent
         (mesh_of cells faces volumes.now firsts.now seconds.now shares.now reaches.now)
         masses.now
@@ -271,7 +264,7 @@ fn tables_lent(
     moved: &[i64],
     work: &[u64],
     releases: &[u64],
-) -> Answer
+) -> Result<(), Refusal>
     ensures { said result ≡ tables_lent
         (mesh_of cells faces volumes.now firsts.now seconds.now shares.now reaches.now)
         masses.now
@@ -280,8 +273,8 @@ fn tables_lent(
     let a = check_lent::field_lent(
         cells, faces, volumes, firsts, seconds, shares, reaches, masses,
     );
-    if let Answer::Refused(r) = a {
-        return Answer::Refused(r);
+    if let Err(r) = a {
+        return Err(r);
     }
     check_lent::step_lent(cells, faces, fluxes, outsides, next, moved, work, releases)
 }
@@ -302,7 +295,7 @@ pub fn check_step(
     moved: &[i64],
     work: &[u64],
     releases: &[u64],
-) -> Answer
+) -> Result<(), Refusal>
     ensures { said result ≡ verdict
         (mesh_of cells faces volumes.now firsts.now seconds.now shares.now reaches.now)
         masses.now
@@ -312,8 +305,8 @@ pub fn check_step(
         cells, faces, volumes, firsts, seconds, shares, reaches, masses, fluxes, outsides, next,
         moved, work, releases,
     );
-    if let Answer::Refused(r) = a {
-        return Answer::Refused(r);
+    if let Err(r) = a {
+        return Err(r);
     }
     values_own(
         cells, faces, volumes, firsts, seconds, shares, reaches, masses, fluxes, outsides, releases,
@@ -337,7 +330,7 @@ pub fn check_step_in(
     moved: &[i64],
     work: &[u64],
     releases: &[u64],
-) -> Answer
+) -> Result<(), Refusal>
     requires { known ≡ true → mesh_values ceiling (mesh_of cells faces volumes.now firsts.now seconds.now shares.now reaches.now) ≡ fine }
     ensures { said result ≡ verdict
         (mesh_of cells faces volumes.now firsts.now seconds.now shares.now reaches.now)
@@ -348,8 +341,8 @@ pub fn check_step_in(
         cells, faces, volumes, firsts, seconds, shares, reaches, masses, fluxes, outsides, next,
         moved, work, releases,
     );
-    if let Answer::Refused(r) = a {
-        return Answer::Refused(r);
+    if let Err(r) = a {
+        return Err(r);
     }
     values_in(
         known, cells, faces, volumes, firsts, seconds, shares, reaches, masses, fluxes, outsides,
@@ -372,7 +365,7 @@ pub fn check_claim(
     next: &[u64],
     claim: &[i64],
     releases: &[u64],
-) -> Answer
+) -> Result<(), Refusal>
     ensures { said result ≡ unworked_verdict
         (mesh_of cells faces volumes.now firsts.now seconds.now shares.now reaches.now)
         masses.now
@@ -385,8 +378,8 @@ pub fn check_claim(
         a,
         check_lent::claim_lent(cells, faces, fluxes, outsides, next, claim, releases),
     );
-    if let Answer::Refused(r) = b {
-        return Answer::Refused(r);
+    if let Err(r) = b {
+        return Err(r);
     }
     step_values(
         cells, faces, volumes, firsts, seconds, shares, reaches, masses, fluxes, outsides, releases,

@@ -4,7 +4,7 @@ ghost use Rattle.model.specs.Mesh.{max_volume};
 ghost use Rattle.model.specs.Causes.{each, raised_fit};
 ghost use Rattle.model.specs.Answers.{said};
 
-use model::{Answer, Cause, Refusal};
+use model::{Cause, Refusal};
 
 // One cell's raised concentration within the ceiling. Mass and release may be any numbers, so they are not added.
 fn raised_fits(volume: u64, mass: u64, release: u64) -> bool
@@ -19,7 +19,7 @@ fn raised_fits(volume: u64, mass: u64, release: u64) -> bool
 }
 
 // Cause 18, of volumes within their range.
-pub fn values(cells: usize, volumes: &[u64], masses: &[u64], releases: &[u64]) -> Answer
+pub fn values(cells: usize, volumes: &[u64], masses: &[u64], releases: &[u64]) -> Result<(), Refusal>
     requires cells_in_bounds { (cells ≤ length volumes.now) × (cells ≤ length masses.now) × (cells ≤ length releases.now) }
     requires by_index { (c : ℕ) → c < cells
         → (1 ≤ get_or volumes.now c 0)
@@ -30,12 +30,12 @@ pub fn values(cells: usize, volumes: &[u64], masses: &[u64], releases: &[u64]) -
     let mut c = 0;
     while c < cells {
         if !raised_fits(volumes[c], masses[c], releases[c]) {
-            return Answer::Refused(Refusal {
+            return Err(Refusal {
                 cause: Cause::Release,
                 place: c as u64,
             });
         }
         c += 1;
     }
-    Answer::Done
+    Ok(())
 }

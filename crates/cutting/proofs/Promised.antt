@@ -6,8 +6,6 @@ use native.Mathlib.Omega.{arith}
 use Rattle.model.specs.Mesh.{ceiling}
 use Rattle.model.specs.Causes.{Outcome, accepted, Verdict, ◌and_then◌, fine, granted, counts, water_causes, step_values}
 use Rattle.model.specs.Answers.{said}
-use Rattle.model.specs.declared.Answer.{Answer}
-use Rattle.model.specs.declared.Answer.TheVariants.{Done, Refused as Told}
 use Rattle.model.specs.declared.Refusal.{Refusal}
 use Rattle.model.proofs.Verdicts.{all-fine, out, past, refuses, passes}
 use Rattle.model.proofs.Accepted.{counted, mesh-fit, raised-fit, mass-small, water-fit, flux-small}
@@ -20,8 +18,8 @@ use Rattle.cutting_causes.proofs.Groups.{lengths-first}
 use Rattle.cutting_tables.specs.Part.{Cuttable, PartFilled}
 use Rattle.cutting_tables.specs.declared.PartCounts.{PartCounts}
 use Rattle.cutting.specs.Promise.{CutPromise}
-use Rattle.cutting.specs.declared.CutAnswer.TheVariants.{Cut, Refused}
 use Rattle.cutting.specs.declared.Counts.{Counts}
+use Rattle.std.specs.Prelude.{Result, Ok, Err}
 
 counts_are : {a b c d e f g h : ℕ} → a ≡ e → b ≡ f → c ≡ g → d ≡ h
     → ◌≡◌ {A = Outcome Sizes} (accepted (record { cells₀ = a; faces₀ = b; cells₁ = c; faces₁ = d }))
@@ -77,7 +75,7 @@ module _ (L : Lagoon) (labels : List ℕ) (lent₀ lent₁ : Tables) (cut-fine :
 
   -- both parts are written, and their counts are given
   pub promise-done : (n₀ n₁ : PartCounts) (after₀ after₁ : Tables) → PartFilled L labels 0 lent₀ n₀ after₀ → PartFilled L labels 1 lent₁ n₁ after₁
-      → CutPromise L labels lent₀ lent₁ (Cut (counted-both n₀ n₁)) after₀ after₁
+      → CutPromise L labels lent₀ lent₁ (Ok (counted-both n₀ n₁)) after₀ after₁
   unfolding cut_answer
   promise-done n₀ n₁ after₀ after₁ p q = record {
     answer = counts_are p.cells_are p.faces_are q.cells_are q.faces_are ∙ sym (past _ cut-fine);
@@ -85,13 +83,13 @@ module _ (L : Lagoon) (labels : List ℕ) (lent₀ lent₁ : Tables) (cut-fine :
     part_1 = q.tables_are ∙ sym (ap (λ (v : Verdict). granted v (part_tables L labels 1 lent₁) lent₁) cut-fine);
   }
 
-module _ (L : Lagoon) (labels : List ℕ) (lent₀ lent₁ : Tables) (a : Answer)
+module _ (L : Lagoon) (labels : List ℕ) (lent₀ lent₁ : Tables) (a : Result (Unit {0}) Refusal)
     (found : said a ≡ ((counts (whole_mesh L) and_then cut_tables L labels lent₀ lent₁) and_then values_found L labels)) where
-  pub found-fine : a ≡ Done → cut_verdict L labels lent₀ lent₁ ≡ fine
+  pub found-fine : a ≡ Ok tt → cut_verdict L labels lent₀ lent₁ ≡ fine
   found-fine q = lengths-first L labels lent₀ lent₁ ∙ passes found q
 
   -- or nothing is
-  pub promise-refused : (r : Refusal) → a ≡ Told r → CutPromise L labels lent₀ lent₁ (Refused r) lent₀ lent₁
+  pub promise-refused : (r : Refusal) → a ≡ Err r → CutPromise L labels lent₀ lent₁ (Err r) lent₀ lent₁
   unfolding cut_answer
   promise-refused r q =
       let e = lengths-first L labels lent₀ lent₁ ∙ refuses found q in

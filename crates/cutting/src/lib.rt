@@ -5,7 +5,7 @@ ghost use Rattle.cutting_parts.specs.Cut.{tables_of, lagoon_of};
 ghost use Rattle.cutting.specs.Promise.{CutPromise};
 
 use cutting_tables::part;
-use model::{Answer, Refusal};
+use model::Refusal;
 
 // How many cells and faces each part has.
 #[derive(Clone, Copy)]
@@ -14,13 +14,6 @@ pub struct Counts {
     pub faces_0: usize,
     pub cells_1: usize,
     pub faces_1: usize,
-}
-
-// What cutting answers.
-#[derive(Clone, Copy)]
-pub enum CutAnswer {
-    Cut(Counts),
-    Refused(Refusal),
 }
 
 // A lagoon cut along its labels. The tables of each part are lent at the whole's counts; they stand first, since a lent table that is handed
@@ -56,7 +49,7 @@ pub fn cut(
     outsides: &[u64],
     releases: &[u64],
     labels: &[u64],
-) -> CutAnswer
+) -> Result<Counts, Refusal>
     ensures { CutPromise (lagoon_of cells faces (tables_of volumes.now firsts.now seconds.now shares.now
         reaches.now masses.now fluxes.now outsides.now releases.now)) labels.now
         (tables_of volumes0.old firsts0.old seconds0.old shares0.old reaches0.old masses0.old
@@ -100,8 +93,8 @@ pub fn cut(
         releases0.len(),
         releases1.len(),
     );
-    if let Answer::Refused(r) = a {
-        return CutAnswer::Refused(r);
+    if let Err(r) = a {
+        return Err(r);
     }
     let part_0 = part(
         0, cells, faces, volumes, firsts, seconds, shares, reaches, masses, fluxes, outsides,
@@ -113,7 +106,7 @@ pub fn cut(
         releases, labels, volumes1, firsts1, seconds1, shares1, reaches1, masses1, fluxes1,
         outsides1, releases1,
     );
-    CutAnswer::Cut(Counts {
+    Ok(Counts {
         cells_0: part_0.cells,
         faces_0: part_0.faces,
         cells_1: part_1.cells,

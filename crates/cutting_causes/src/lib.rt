@@ -13,10 +13,10 @@ ghost use Rattle.cutting_causes.specs.Lengths.{three, lengths_found, values_foun
 
 use cutting_pieces::cells::{count_cells, labels_good};
 use model::needs::{and_then, long, need};
-use model::{Answer, Cause, positions};
+use model::{Cause, positions, Refusal};
 
 // The three tables of one position: the whole's and the parts'.
-fn all_long(position: u64, wanted: usize, a: usize, b: usize, c: usize) -> Answer
+fn all_long(position: u64, wanted: usize, a: usize, b: usize, c: usize) -> Result<(), Refusal>
     ensures { said result ≡ three position wanted a b c }
 {
     let x = and_then(long(position, wanted, a), long(position, wanted, b));
@@ -55,7 +55,7 @@ pub fn lengths(
     r0: usize,
     r1: usize,
     labels: usize,
-) -> Answer
+) -> Result<(), Refusal>
     ensures { said result ≡ lengths_found cells faces v v0 v1 f f0 f1 s s0 s1 h h0 h1 k k0 k1 m m0 m1 u u0 u1 o o0 o1 r r0 r1 labels }
 {
     let counts = check_lent::counts_within(model::MAX_CELLS, model::MAX_FACES, cells, faces);
@@ -73,7 +73,7 @@ pub fn lengths(
 }
 
 // Causes 23 and 24.
-pub fn labels_fit(cells: usize, labels: &[u64]) -> Answer
+pub fn labels_fit(cells: usize, labels: &[u64]) -> Result<(), Refusal>
     requires { cells ≤ length labels.now }
     ensures { said result ≡ in_turn (each 23 cells (λ c. leb (get_or labels.now c 0) 1)
         ∷ each 24 2 (λ p. leb 1 (count cells (has_label labels.now p))) ∷ []) }
@@ -97,7 +97,7 @@ pub fn values(
     outsides: &[u64],
     releases: &[u64],
     labels: &[u64],
-) -> Answer
+) -> Result<(), Refusal>
     requires { StepLent (mesh_of cells faces volumes.now firsts.now seconds.now shares.now reaches.now) masses.now
         (water_of fluxes.now outsides.now releases.now) × (cells ≤ length labels.now) }
     ensures { said result ≡ values_found (lagoon_of cells faces
@@ -153,7 +153,7 @@ pub fn verdict(
     o1: usize,
     r0: usize,
     r1: usize,
-) -> Answer
+) -> Result<(), Refusal>
     ensures { said result ≡ (lengths_found cells faces (length volumes.now) v0 v1 (length firsts.now) f0 f1
         (length seconds.now) s0 s1 (length shares.now) h0 h1 (length reaches.now) k0 k1 (length masses.now) m0 m1
         (length fluxes.now) u0 u1 (length outsides.now) o0 o1 (length releases.now) r0 r1 (length labels.now)
@@ -192,8 +192,8 @@ pub fn verdict(
         r1,
         labels.len(),
     );
-    if let Answer::Refused(r) = a {
-        return Answer::Refused(r);
+    if let Err(r) = a {
+        return Err(r);
     }
     values(
         cells, faces, volumes, firsts, seconds, shares, reaches, masses, fluxes, outsides,

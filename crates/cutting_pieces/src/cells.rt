@@ -8,24 +8,24 @@ ghost use Rattle.model.specs.Answers.{said};
 ghost use Rattle.cutting_pieces.specs.Pieces.{has_label};
 
 use crate::is_in;
-use model::{Answer, Cause, RIM, Refusal};
+use model::{Cause, RIM, Refusal};
 
 // Cause 23.
-pub fn labels_good(cells: usize, labels: &[u64]) -> Answer
+pub fn labels_good(cells: usize, labels: &[u64]) -> Result<(), Refusal>
     requires { cells ≤ length labels.now }
     ensures { said result ≡ each 23 cells (λ c. leb (get_or labels.now c 0) 1) }
 {
     let mut c = 0;
     while c < cells {
         if 1 < labels[c] {
-            return Answer::Refused(Refusal {
+            return Err(Refusal {
                 cause: Cause::Label,
                 place: c as u64,
             });
         }
         c += 1;
     }
-    Answer::Done
+    Ok(())
 }
 
 // One more, or not.

@@ -1,27 +1,28 @@
 -- Document 02, S-12, of the code: a call that cuts a lagoon, the plain step on the whole, and the plain step on each part, lent the counts and the
 -- tables that the cutting left, each as its promise says.
-use Rattle.std.specs.Prelude.{ℕ, ◌≡◌, List, ℤ, pos, get_or}
+use Rattle.std.specs.Prelude.{ℕ, ◌≡◌, List, ℤ, pos, get_or, Result}
 use Rattle.signed.specs.Sign.{turn}
 use Rattle.model.specs.Causes.{accepted}
 use Rattle.model.specs.Calls.{mass_in, Crossing, plain}
 use Rattle.transport.specs.Promise.{step_said, StepPromise}
-use Rattle.transport.specs.declared.StepAnswer.{StepAnswer}
 use Rattle.cutting_parts.specs.Cut.{Tables, Lagoon, lagoon_of, whole_mesh, step_on, is_turned, by_cell, by_face}
 use Rattle.cutting_parts.specs.Refusals.{Sizes}
 use Rattle.cutting_parts.specs.Parts.{plain_crossing, LentAtCounts}
 use Rattle.cutting.specs.Promise.{cut_said, CutPromise}
-use Rattle.cutting.specs.declared.CutAnswer.{CutAnswer}
+use Rattle.model.specs.declared.Refusal.{Refusal}
+use Rattle.cutting.specs.declared.Counts.{Counts}
+use Rattle.transport.specs.declared.Crossed.{Crossed}
 
 -- a call of the cutting, and what it leaves in the tables of each part
 pub record CutCalled (L : Lagoon) (labels : List ℕ) (lent₀ lent₁ : Tables) : Type 0 where
-  pub answer : CutAnswer
+  pub answer : Result Counts Refusal
   pub tables₀ : Tables
   pub tables₁ : Tables
   pub promised : CutPromise L labels lent₀ lent₁ answer tables₀ tables₁
 
 -- a call of the plain step on a lagoon, and what it leaves in its tables
 pub record Stepped (L : Lagoon) (nexts : List ℕ) (moveds : List ℤ) (work : List ℕ) : Type 0 where
-  pub answer : StepAnswer
+  pub answer : Result Crossed Refusal
   pub next : List ℕ
   pub moved : List ℤ
   pub worked : List ℕ

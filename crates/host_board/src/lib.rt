@@ -9,7 +9,6 @@ ghost use Rattle.host_field_promises.specs.Board.{entry_numbers, entries_put, sh
 
 use board::{BOARD_SIZE, BoardAnswer, Entry};
 use host_numbers::{fill1, number_of, put};
-use model::Answer;
 
 // Numbers of an entry: cell, q and rest.
 const PER_ENTRY: usize = 3;
@@ -49,7 +48,7 @@ pub fn answered(answer: BoardAnswer, found: &mut [u64]) -> u64
     ensures { Answered shown_numbers (board_said answer) found.old result found.new }
 {
     let verdict = answer.verdict;
-    if let Answer::Refused(refusal) = verdict {
+    if let Err(refusal) = verdict {
         return number_of(refusal);
     }
     let entries = answer.entries;

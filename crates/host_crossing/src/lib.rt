@@ -9,11 +9,11 @@ ghost use Rattle.host_tested.specs.Tested.{step_tested};
 ghost use Rattle.host_record_promises.specs.Crossing.{step_found, crossed_in};
 
 use host_numbers::{fill3, number_of};
-use host_taking::{FieldTaken, take_field};
-use model::{RUN_CELLS, RUN_FACES, StepTaken};
+use host_taking::take_field;
+use model::{RUN_CELLS, RUN_FACES, Printed, Refusal};
 
 // The three records in their order; the step is made on tables of its own.
-fn crossed(mesh: &[u8], field: &[u8], step: &[u8]) -> StepTaken
+fn crossed(mesh: &[u8], field: &[u8], step: &[u8]) -> Result<Printed, Refusal>
     ensures { taken_said result ≡ step_found mesh.now field.now step.now }
 {
     let mut volumes = [0u64; RUN_CELLS];
@@ -33,8 +33,8 @@ fn crossed(mesh: &[u8], field: &[u8], step: &[u8]) -> StepTaken
         &mut masses,
     );
     match a {
-        FieldTaken::Refused(refusal) => StepTaken::Refused(refusal),
-        FieldTaken::Taken(counts) => {
+        Err(refusal) => Err(refusal),
+        Ok(counts) => {
             let cells = counts.cells;
             let faces = counts.faces;
             let width = counts.width;
@@ -61,8 +61,8 @@ pub extern "C" fn lagoon_check(mesh: &[u8], field: &[u8], step: &[u8]) -> u64
 {
     let a = crossed(mesh, field, step);
     match a {
-        StepTaken::Refused(refusal) => number_of(refusal),
-        StepTaken::Stepped(_) => 0,
+        Err(refusal) => number_of(refusal),
+        Ok(_) => 0,
     }
 }
 
@@ -73,8 +73,8 @@ pub extern "C" fn lagoon_crossing(mesh: &[u8], field: &[u8], step: &[u8], found:
 {
     let a = crossed(mesh, field, step);
     match a {
-        StepTaken::Refused(refusal) => number_of(refusal),
-        StepTaken::Stepped(printed) => {
+        Err(refusal) => number_of(refusal),
+        Ok(printed) => {
             fill3(found, printed.entered, printed.gone, printed.released);
             0
         }

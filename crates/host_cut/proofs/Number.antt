@@ -5,8 +5,6 @@ use mathlib.Core.List.{List}
 use native.Mathlib.Omega.{arith}
 use Rattle.model.specs.Causes.{Outcome, accepted, refused, Verdict, fine, ◌and_then◌, granted}
 use Rattle.model.specs.Answers.{number, told, said}
-use Rattle.model.specs.declared.Answer.{Answer}
-use Rattle.model.specs.declared.Answer.TheVariants.{Refused as Told}
 use Rattle.model.specs.declared.Refusal.{Refusal}
 use Rattle.model.proofs.Verdicts.{out, refuses}
 use Rattle.cutting_parts.specs.Cut.{Lagoon, lagoon_of}
@@ -25,10 +23,11 @@ use Rattle.host_tested.specs.Tested.{field_in}
 use Rattle.host_tested.proofs.Small.{few, field-tested-small, step-record-small}
 use Rattle.host_cut_promises.specs.Cut.{Records, own_part, both_lengths, rooms_find, piece, records_over, labels_find, labelled, lagoon_in, lengths_found, cut_tested, cut_found, CutFromC}
 use Rattle.host_cut_promises.specs.Inner.{writers_find, records_find, cut_said, cut_finds, cut_judged, cut_taken, CutWritten, CutTaking}
-use Rattle.host_cut_promises.specs.declared.RecordsCut.{RecordsCut}
 use Rattle.host_cut_promises.proofs.Cut.{cut-past}
 use Rattle.host_cut_promises.proofs.Room.{rooms-left}
 use Rattle.host_cut_promises.proofs.Order.{cut-as-step}
+use Rattle.std.specs.Prelude.{Result, Err}
+use Rattle.host_cut_promises.specs.declared.CutLengths.{CutLengths}
 
 -- the first of two
 small-first : {A : Type 0} (v : Verdict) (w : Outcome A) → Small (v and_then w) → Small v
@@ -60,10 +59,10 @@ module _ (mesh field step labels : List ℕ) where
   records-small lent₀ lent₁ = small-and (writers-small _ _ _ _ _ _) (writers-small _ _ _ _ _ _)
 
   -- where the labels are refused
-  pub labels-fit : {a : Answer} {r : Refusal} → said a ≡ labelled mesh labels → a ≡ Told r → refusal_number (number r.cause) r.place < 2 ^ 64
+  pub labels-fit : {a : Result (Unit {0}) Refusal} {r : Refusal} → said a ≡ labelled mesh labels → a ≡ Err r → refusal_number (number r.cause) r.place < 2 ^ 64
   labels-fit e d = refusal-of {o = labelled mesh labels} (refuses e d) (small-number _ labelled-small)
 
-  module _ {lent₀ lent₁ : Records} {a : RecordsCut} {after₀ after₁ : Records} (p : CutTaking mesh field step labels lent₀ lent₁ a after₀ after₁) where
+  module _ {lent₀ lent₁ : Records} {a : Result CutLengths Refusal} {after₀ after₁ : Records} (p : CutTaking mesh field step labels lent₀ lent₁ a after₀ after₁) where
     pub number_fits : number_of (cut_said a) < 2 ^ 64
     number_fits = rw p.answer
         (small-number _ (small-giving _ (small-and (small-and (field-tested-small mesh field) judged-small) (records-small lent₀ lent₁))))
@@ -84,7 +83,7 @@ module _ (mesh field step labels : List ℕ) where
               (λ (v : Verdict). granted v (records_over (width_in mesh) (kind_in step) (piece (lagoon_in mesh field step) labels 1) lent₁) lent₁) l;
         }
 
-  pub cut-unlabelled : (lent₀ lent₁ : Records) {a : Answer} {r : Refusal} → said a ≡ labelled mesh labels → a ≡ Told r → {found : List ℕ} {k : ℕ}
+  pub cut-unlabelled : (lent₀ lent₁ : Records) {a : Result (Unit {0}) Refusal} {r : Refusal} → said a ≡ labelled mesh labels → a ≡ Err r → {found : List ℕ} {k : ℕ}
       → k ≡ refusal_number (number r.cause) r.place → CutFromC mesh field step labels lent₀ lent₁ found k lent₀ lent₁ found
   cut-unlabelled lent₀ lent₁ {r = r} e d {found = found} n =
       let t : cut_tested mesh field step labels ≡ told r = out _ (refuses e d) in

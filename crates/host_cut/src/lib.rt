@@ -9,13 +9,12 @@ ghost use Rattle.host_cut_promises.specs.Cut.{records_of, lengths_found, CutFrom
 ghost use Rattle.host_cut_promises.specs.Inner.{cut_said, CutOn, CutTaking};
 
 use host_cut_labels::labels_found;
-use host_cut_promises::RecordsCut;
 use host_cut_tables::cut_tables;
 use host_numbers::{fill4, number_of, put};
-use host_taking::{FieldTaken, take_field};
-use model::{Answer, RUN_CELLS, RUN_FACES};
+use host_taking::take_field;
+use model::{RUN_CELLS, RUN_FACES, Refusal};
 use record_layouts::Width;
-use record_reading::StepRead;
+use host_cut_promises::CutLengths;
 
 // The step record, on a mesh and a field that have been taken.
 fn on_field(
@@ -36,7 +35,7 @@ fn on_field(
     mesh1: &mut [u8],
     field1: &mut [u8],
     step1: &mut [u8],
-) -> RecordsCut
+) -> Result<CutLengths, Refusal>
     ensures { CutOn width
         (mesh_of cells faces volumes.now firsts.now seconds.now shares.now reaches.now)
         masses.now step.now labels.now (records_of mesh0.old field0.old step0.old)
@@ -57,8 +56,8 @@ fn on_field(
         &mut releases,
     );
     match a {
-        StepRead::Refused(refusal) => RecordsCut::Refused(refusal),
-        StepRead::Read(kind) => cut_tables(
+        Err(refusal) => Err(refusal),
+        Ok(kind) => cut_tables(
             width,
             kind,
             cells,
@@ -95,7 +94,7 @@ fn on_records(
     mesh1: &mut [u8],
     field1: &mut [u8],
     step1: &mut [u8],
-) -> RecordsCut
+) -> Result<CutLengths, Refusal>
     ensures { CutTaking mesh.now field.now step.now labels.now
         (records_of mesh0.old field0.old step0.old)
         (records_of mesh1.old field1.old step1.old) result (records_of mesh0.new field0.new step0.new)
@@ -118,8 +117,8 @@ fn on_records(
         &mut masses,
     );
     match a {
-        FieldTaken::Refused(refusal) => RecordsCut::Refused(refusal),
-        FieldTaken::Taken(counts) => {
+        Err(refusal) => Err(refusal),
+        Ok(counts) => {
             let cells = counts.cells;
             let faces = counts.faces;
             let width = counts.width;
@@ -147,18 +146,18 @@ fn on_records(
 }
 
 // The answer: found are the bytes of the six records.
-fn answered(answer: RecordsCut, found: &mut [u64]) -> u64
+fn answered(answer: Result<CutLengths, Refusal>, found: &mut [u64]) -> u64
     requires { number_of (cut_said answer) < 2 ^ 64 }
     ensures { Answered lengths_found (cut_said answer) found.old result found.new }
 {
     match answer {
-        RecordsCut::Cut(n) => {
+        Ok(n) => {
             fill4(found, n.mesh_0, n.field_0, n.step_0, n.mesh_1);
             put(found, 4, n.field_1);
             put(found, 5, n.step_1);
             0
         }
-        RecordsCut::Refused(refusal) => number_of(refusal),
+        Err(refusal) => number_of(refusal),
     }
 }
 
@@ -184,7 +183,7 @@ pub extern "C" fn lagoon_cut(
         (records_of mesh1.new field1.new step1.new) found.new }
 {
     let a = labels_found(mesh, labels);
-    if let Answer::Refused(r) = a {
+    if let Err(r) = a {
         return number_of(r);
     }
     let b = on_records(

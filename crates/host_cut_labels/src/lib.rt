@@ -7,22 +7,21 @@ ghost use Rattle.host_cut_promises.specs.Cut.{labels_find, labelled};
 
 use cutting_causes::labels_fit;
 use model::needs::long;
-use model::{Answer, RUN_CELLS, RUN_FACES, positions};
-use record_reading::MeshAnswer;
+use model::{RUN_CELLS, RUN_FACES, positions, Refusal};
 
 // Labels of so many cells.
-fn labels_of(cells: usize, labels: &[u64]) -> Answer
+fn labels_of(cells: usize, labels: &[u64]) -> Result<(), Refusal>
     ensures { said result ≡ labels_find cells labels.now }
 {
     let a = long(positions::LABELS, cells, labels.len());
-    if let Answer::Refused(r) = a {
-        return Answer::Refused(r);
+    if let Err(r) = a {
+        return Err(r);
     }
     labels_fit(cells, labels)
 }
 
 // The mesh, then its labels.
-pub fn labels_found(mesh: &[u8], labels: &[u64]) -> Answer
+pub fn labels_found(mesh: &[u8], labels: &[u64]) -> Result<(), Refusal>
     ensures { said result ≡ labelled mesh.now labels.now }
 {
     let mut volumes = [0u64; RUN_CELLS];
@@ -39,7 +38,7 @@ pub fn labels_found(mesh: &[u8], labels: &[u64]) -> Answer
         &mut reaches,
     );
     match a {
-        MeshAnswer::Refused(refusal) => Answer::Refused(refusal),
-        MeshAnswer::Read(counts) => labels_of(counts.cells, labels),
+        Err(refusal) => Err(refusal),
+        Ok(counts) => labels_of(counts.cells, labels),
     }
 }

@@ -10,17 +10,17 @@ use Rattle.cutting_tables.specs.Part.{PartFilled}
 use Rattle.cutting_tables.specs.declared.PartCounts.{PartCounts}
 use Rattle.record_layouts.specs.declared.Width.{Width}
 use Rattle.record_writing.specs.Writing.{Writing}
-use Rattle.record_writing.specs.declared.WriteAnswer.{WriteAnswer}
-use Rattle.record_writing.specs.declared.WriteAnswer.TheVariants as write
 use Rattle.host_taking.proofs.Taken.{unfine}
 use Rattle.host_cut_promises.specs.Cut.{Records, own_part, piece}
 use Rattle.host_cut_promises.specs.Inner.{writers_find, Wrote, bytes_of, PieceWritten}
 use Rattle.host_cut_promises.specs.declared.PartLengths.{PartLengths}
+use Rattle.std.specs.Prelude.{Result, Ok, Err}
+use Rattle.model.specs.declared.Refusal.{Refusal}
 
-pub wrote : {v : Verdict} {n : ℕ} {written bytes : List ℕ} (o : WriteAnswer) {bytes' : List ℕ} {k : ℕ} → Writing v n written bytes o bytes' → k ≡ bytes_of o
+pub wrote : {v : Verdict} {n : ℕ} {written bytes : List ℕ} (o : Result ℕ Refusal) {bytes' : List ℕ} {k : ℕ} → Writing v n written bytes o bytes' → k ≡ bytes_of o
     → Wrote v n written bytes k bytes'
-wrote {v = v} {n = n} (write.Written m) x e = record { takes = λ q. e ∙ (accepted-of v n m x.answer).1; left = x.bytes_written }
-wrote {v = v} {n = n} (write.Refused r) x e =
+wrote {v = v} {n = n} (Ok m) x e = record { takes = λ q. e ∙ (accepted-of v n m x.answer).1; left = x.bytes_written }
+wrote {v = v} {n = n} (Err r) x e =
     record { takes = λ q. unfine (refused-of v n (number r.cause) r.place x.answer) q; left = x.bytes_written }
 
 module _ (L : Lagoon) (labels : List ℕ) (p : ℕ) {n : PartCounts} {after : Tables} (q : PartFilled L labels p own_part n after) where

@@ -12,9 +12,8 @@ ghost use Rattle.host_cut_promises.specs.Inner.{writers_find, bytes_of, PieceWri
 use cutting_tables::part;
 use host_cut_promises::PartLengths;
 use model::needs::and_then;
-use model::{Answer, RUN_CELLS, RUN_FACES};
+use model::{RUN_CELLS, RUN_FACES, Refusal};
 use record_layouts::{StepKind, Width};
-use record_writing::WriteAnswer;
 
 // What the writers of a lagoon's three records find, in rooms of so many bytes.
 fn finds(
@@ -34,7 +33,7 @@ fn finds(
     mesh_room: usize,
     field_room: usize,
     step_room: usize,
-) -> Answer
+) -> Result<(), Refusal>
     ensures { said result ≡ writers_find width (kind_number width kind) (lagoon_of cells faces (tables_of volumes.now firsts.now
         seconds.now shares.now
         reaches.now masses.now fluxes.now outsides.now releases.now))
@@ -59,12 +58,12 @@ fn finds(
 }
 
 // The bytes that a writing says it took.
-fn bytes_of(a: WriteAnswer) -> u64
+fn bytes_of(a: Result<u64, Refusal>) -> u64
     ensures { result ≡ bytes_of a }
 {
     match a {
-        WriteAnswer::Written(n) => n,
-        WriteAnswer::Refused(_) => 0,
+        Ok(n) => n,
+        Err(_) => 0,
     }
 }
 
@@ -129,7 +128,7 @@ pub fn part_found(
     mesh_room: usize,
     field_room: usize,
     step_room: usize,
-) -> Answer
+) -> Result<(), Refusal>
     requires { Cuttable (lagoon_of cells faces (tables_of volumes.now firsts.now seconds.now shares.now reaches.now masses.now fluxes.now
         outsides.now releases.now)) labels.now own_part }
     ensures { said result ≡ writers_find width (kind_number width kind) (piece (lagoon_of cells faces (tables_of volumes.now firsts.now seconds.now shares.now

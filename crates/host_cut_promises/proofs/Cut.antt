@@ -18,29 +18,24 @@ use Rattle.record_layouts.specs.declared.StepKind.{StepKind}
 use Rattle.record_heads.specs.Heads.{kind_in, width_in}
 use Rattle.record_reading.specs.Reading.{fluxes_in, outsides_in, releases_in, step_read}
 use Rattle.record_reading.specs.Answers.{StepReading}
-use Rattle.record_reading.specs.declared.StepRead.{StepRead}
-use Rattle.record_reading.specs.declared.StepRead.TheVariants as read
 use Rattle.taking.proofs.StepLaws.{fluxes-part, outsides-part, releases-part}
 use Rattle.host_tested.specs.Tested.{field_tested}
 use Rattle.host_taking.specs.Taken.{RecordsTaking}
 use Rattle.host_taking.specs.declared.FieldCounts.{FieldCounts}
-use Rattle.host_taking.specs.declared.FieldTaken.{FieldTaken}
-use Rattle.host_taking.specs.declared.FieldTaken.TheVariants.{Taken}
 use Rattle.host_taking.proofs.Held.{tested-fine, counted_by, all-as}
 use Rattle.host_record_promises.proofs.Read.{unread, read-fine, kind-read}
 use Rattle.host_cut_promises.specs.Cut.{Records, records_of, lengths_of, records_over, piece, lagoon_on}
 use Rattle.host_cut_promises.specs.Inner.{writers_find, records_find, cut_judged, Wrote, PieceWritten, CutWritten, CutIn, CutOn, CutTaking}
 use Rattle.host_cut_promises.specs.declared.PartLengths.{PartLengths}
 use Rattle.host_cut_promises.specs.declared.CutLengths.{CutLengths}
-use Rattle.host_cut_promises.specs.declared.RecordsCut.{RecordsCut}
-use Rattle.host_cut_promises.specs.declared.RecordsCut.TheVariants.{Cut, Refused}
+use Rattle.std.specs.Prelude.{Result, Ok, Err}
 
 -- a cutting that is refused, and one after a verdict that is fine
 pub cut-refused : {v : Verdict} (w : Width) (kind : ℕ) (L : Lagoon) (labels : List ℕ) (lent₀ lent₁ : Records) (r : Refusal)
-    → (v and_then records_find w kind L labels lent₀ lent₁) ≡ told r → CutWritten v w kind L labels lent₀ lent₁ (Refused r) lent₀ lent₁
+    → (v and_then records_find w kind L labels lent₀ lent₁) ≡ told r → CutWritten v w kind L labels lent₀ lent₁ (Err r) lent₀ lent₁
 cut-refused {v = v} w kind L labels lent₀ lent₁ r e = record { answer = sym (out _ e); part_0 = rw e; part_1 = rw e }
 
-pub cut-past : {u v : Verdict} {w : Width} {kind : ℕ} {L : Lagoon} {labels : List ℕ} {lent₀ lent₁ : Records} {r : RecordsCut}
+pub cut-past : {u v : Verdict} {w : Width} {kind : ℕ} {L : Lagoon} {labels : List ℕ} {lent₀ lent₁ : Records} {r : Result CutLengths Refusal}
     {after₀ after₁ : Records} → u ≡ fine
     → CutWritten v w kind L labels lent₀ lent₁ r after₀ after₁ → CutWritten (u and_then v) w kind L labels lent₀ lent₁ r after₀ after₁
 cut-past {v = v} e p = rw (past v e) p
@@ -79,7 +74,7 @@ module _ {v : Verdict} {w : Width} {kind : ℕ} {L : Lagoon} {labels : List ℕ}
     (e : (v and_then records_find w kind L labels (records_of m₀ f₀ s₀) (records_of m₁ f₁ s₁)) ≡ fine)
     (p : PieceWritten w kind (piece L labels 0) (records_of m₀ f₀ s₀) a (records_of m₀' f₀' s₀'))
     (q : PieceWritten w kind (piece L labels 1) (records_of m₁ f₁ s₁) b (records_of m₁' f₁' s₁')) where
-  pub cut-done : CutWritten v w kind L labels (records_of m₀ f₀ s₀) (records_of m₁ f₁ s₁) (Cut (counted-both a b)) (records_of m₀' f₀' s₀')
+  pub cut-done : CutWritten v w kind L labels (records_of m₀ f₀ s₀) (records_of m₁ f₁ s₁) (Ok (counted-both a b)) (records_of m₀' f₀' s₀')
       (records_of m₁' f₁' s₁')
   cut-done =
       let h = both-fine _ _ (both-fine v _ e).1 in
@@ -92,17 +87,17 @@ module _ {v : Verdict} {w : Width} {kind : ℕ} {L : Lagoon} {labels : List ℕ}
       }
 
 -- the step's record read
-module _ (w : Width) (M : Mesh) (masses step labels : List ℕ) (lent₀ lent₁ : Records) {fluxes : List ℤ} {outsides releases : List ℕ} {a : StepRead}
+module _ (w : Width) (M : Mesh) (masses step labels : List ℕ) (lent₀ lent₁ : Records) {fluxes : List ℤ} {outsides releases : List ℕ} {a : Result StepKind Refusal}
     {fluxes' : List ℤ} {outsides' releases' : List ℕ}
     (s : StepReading w (step_read w M.cells M.faces M.seconds step (length fluxes) (length outsides) (length releases)) M.cells M.faces
     M.seconds step
     fluxes outsides releases a fluxes' outsides' releases')
     (fl : length fluxes ≡ run_faces) (ol : length outsides ≡ run_faces) (rl : length releases ≡ run_cells) where
-  pub on-unread : {r : Refusal} → a ≡ read.Refused r → CutOn w M masses step labels lent₀ lent₁ (Refused r) lent₀ lent₁
+  pub on-unread : {r : Refusal} → a ≡ Err r → CutOn w M masses step labels lent₀ lent₁ (Err r) lent₀ lent₁
   unfolding cut_judged
   on-unread {r = r} d = cut-refused w (kind_in step) _ labels lent₀ lent₁ r (out _ (out _ (unread w M s fl ol rl d)))
 
-  pub on_read : {kind : StepKind} → a ≡ read.Read kind → {r : RecordsCut} {after₀ after₁ : Records}
+  pub on_read : {kind : StepKind} → a ≡ Ok kind → {r : Result CutLengths Refusal} {after₀ after₁ : Records}
       → CutIn w (kind_number w kind) (lagoon_on M masses (take M.faces fluxes') (take M.faces outsides') (take M.cells releases')) labels lent₀ lent₁ r
       after₀ after₁ → CutOn w M masses step labels lent₀ lent₁ r after₀ after₁
   unfolding cut_judged
@@ -113,11 +108,11 @@ module _ (w : Width) (M : Mesh) (masses step labels : List ℕ) (lent₀ lent₁
       cut-past (read-fine w M s fl ol rl d) x
 
 module _ (mesh field step labels : List ℕ) (lent₀ lent₁ : Records) where
-  pub records-refused : {r : Refusal} → field_tested mesh field ≡ told r → CutTaking mesh field step labels lent₀ lent₁ (Refused r) lent₀ lent₁
+  pub records-refused : {r : Refusal} → field_tested mesh field ≡ told r → CutTaking mesh field step labels lent₀ lent₁ (Err r) lent₀ lent₁
   records-refused {r = r} e = cut-refused (width_in mesh) (kind_in step) _ labels lent₀ lent₁ r (out _ (out _ e))
 
-  pub records-taken : {a : FieldTaken} {left : Mesh} {masses : List ℕ} (t : RecordsTaking mesh field a left masses) {n : FieldCounts} (d : a ≡ Taken n)
-      {r : RecordsCut} {after₀ after₁ : Records}
+  pub records-taken : {a : Result FieldCounts Refusal} {left : Mesh} {masses : List ℕ} (t : RecordsTaking mesh field a left masses) {n : FieldCounts} (d : a ≡ Ok n)
+      {r : Result CutLengths Refusal} {after₀ after₁ : Records}
       → CutOn n.width (parted (counted_by n left)) (take n.cells masses) step labels lent₀ lent₁ r after₀ after₁
       → CutTaking mesh field step labels lent₀ lent₁ r after₀ after₁
   records-taken t d {r = r} {after₀ = after₀} {after₁ = after₁} p =

@@ -12,12 +12,11 @@ use Rattle.record_heads.specs.Heads.{width_in}
 use Rattle.record_reading.specs.Reading.{mesh_in}
 use Rattle.record_reading.specs.Answers.{mesh_said}
 use Rattle.record_reading.specs.declared.MeshCounts.{MeshCounts}
-use Rattle.record_reading.specs.declared.MeshAnswer.{MeshAnswer}
-use Rattle.record_reading.specs.declared.MeshAnswer.TheVariants.{Read, Refused}
 use Rattle.taking_mesh.specs.MeshTaking.{mesh_judged_in_run, MeshTaking}
 use Rattle.host_cut_promises.specs.Cut.{labels_find, labelled}
+use Rattle.std.specs.Prelude.{Result, Ok, Err}
 
-module _ (mesh labels : List ℕ) {lent : Mesh} {a : MeshAnswer} {left : Mesh} (t : MeshTaking mesh lent a left)
+module _ (mesh labels : List ℕ) {lent : Mesh} {a : Result MeshCounts Refusal} {left : Mesh} (t : MeshTaking mesh lent a left)
     (lv : length lent.volumes ≡ run_cells) (lf : length lent.firsts ≡ run_faces) (ls : length lent.seconds ≡ run_faces)
     (lw : length lent.shares ≡ run_faces) (lk : length lent.reaches ≡ run_faces) where
   abbrev counts : MeshCounts
@@ -26,10 +25,10 @@ module _ (mesh labels : List ℕ) {lent : Mesh} {a : MeshAnswer} {left : Mesh} (
   mesh-said : mesh_said a ≡ (mesh_judged_in_run mesh and_then accepted counts)
   mesh-said = rw (lv, lf, ls, lw, lk) at t.answer
 
-  pub labels-unread : {r : Refusal} → a ≡ Refused r → told r ≡ labelled mesh labels
+  pub labels-unread : {r : Refusal} → a ≡ Err r → told r ≡ labelled mesh labels
   labels-unread {r = r} d = sym (out _ (refused-of (mesh_judged_in_run mesh) counts (number r.cause) r.place (sym (ap mesh_said d) ∙ mesh-said)))
 
-  pub labels-read : {n : MeshCounts} → a ≡ Read n → {v : Verdict} → v ≡ labels_find n.cells labels → v ≡ labelled mesh labels
+  pub labels-read : {n : MeshCounts} → a ≡ Ok n → {v : Verdict} → v ≡ labels_find n.cells labels → v ≡ labelled mesh labels
   labels-read {n = n} d e =
       let x = accepted-of (mesh_judged_in_run mesh) counts n (sym (ap mesh_said d) ∙ mesh-said) in
       e ∙ ap (λ (k : MeshCounts). labels_find k.cells labels) x.1 ∙ sym (past _ x.0)

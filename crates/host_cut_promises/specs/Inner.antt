@@ -1,5 +1,5 @@
 -- Cited by the contracts of inner functions only: no promise from C rests on these.
-use Rattle.std.specs.Prelude.{ℕ, ◌≡◌, List, length}
+use Rattle.std.specs.Prelude.{ℕ, ◌≡◌, List, length, Result, Ok, Err}
 use Rattle.lists.specs.Table.{over}
 use Rattle.model.specs.Mesh.{Mesh}
 use Rattle.model.specs.Answers.{told}
@@ -10,15 +10,12 @@ use Rattle.record_layouts.specs.declared.Width.{Width}
 use Rattle.record_heads.specs.Heads.{kind_in, width_in}
 use Rattle.record_reading.specs.Reading.{mesh_in}
 use Rattle.record_writing.specs.Writing.{mesh_write_verdict, field_write_verdict, step_write_verdict}
-use Rattle.record_writing.specs.declared.WriteAnswer.{WriteAnswer}
-use Rattle.record_writing.specs.declared.WriteAnswer.TheVariants as write
 use Rattle.taking.specs.Taking.{step_record_found}
 use Rattle.host_tested.specs.Tested.{field_tested, field_in}
 use Rattle.host_cut_promises.specs.Cut.{Records, lengths_of, mesh_bytes, field_bytes, step_bytes, records_over, own_part, piece, both_lengths, lagoon_read, labelled, lagoon_in}
 use Rattle.host_cut_promises.specs.declared.PartLengths.{PartLengths}
 use Rattle.host_cut_promises.specs.declared.CutLengths.{CutLengths}
-use Rattle.host_cut_promises.specs.declared.RecordsCut.{RecordsCut}
-use Rattle.host_cut_promises.specs.declared.RecordsCut.TheVariants.{Cut, Refused}
+use Rattle.model.specs.declared.Refusal.{Refusal}
 
 -- what the writers of a lagoon's records find, in rooms of so many bytes
 module _ (w : Width) (kind : ℕ) (P : Lagoon) where
@@ -47,9 +44,9 @@ pub record Wrote (v : Verdict) (n : ℕ) (written bytes : List ℕ) (k : ℕ) (b
   pub left : bytes' ≡ granted v (over written bytes) bytes
 
 -- the bytes that a writing says it took
-abbrev pub bytes_of : WriteAnswer → ℕ
-bytes_of (write.Written n) = n
-bytes_of (write.Refused r) = 0
+abbrev pub bytes_of : Result ℕ Refusal → ℕ
+bytes_of (Ok n) = n
+bytes_of (Err r) = 0
 
 -- the three of a lagoon, each by its writer
 pub record PieceWritten (w : Width) (kind : ℕ) (P : Lagoon) (lent : Records) (r : PartLengths) (after : Records) : Type 0 where
@@ -59,12 +56,12 @@ pub record PieceWritten (w : Width) (kind : ℕ) (P : Lagoon) (lent : Records) (
   pub step_wrote : Wrote (step_finds w kind P (length lent.step)) (lengths_of w kind P).step (step_bytes w kind P) lent.step r.step after.step
 
 -- the bytes of both parts' records, or number and place
-abbrev pub cut_said : RecordsCut → Outcome CutLengths
-cut_said (Cut n) = accepted n
-cut_said (Refused r) = told r
+abbrev pub cut_said : Result CutLengths Refusal → Outcome CutLengths
+cut_said (Ok n) = accepted n
+cut_said (Err r) = told r
 
 -- a cutting of which v is found before its records are written
-pub record CutWritten (v : Verdict) (w : Width) (kind : ℕ) (L : Lagoon) (labels : List ℕ) (lent₀ lent₁ : Records) (r : RecordsCut) (after₀ after₁ : Records)
+pub record CutWritten (v : Verdict) (w : Width) (kind : ℕ) (L : Lagoon) (labels : List ℕ) (lent₀ lent₁ : Records) (r : Result CutLengths Refusal) (after₀ after₁ : Records)
     : Type 0 where
   pub answer : cut_said r ≡ (v and_then records_find w kind L labels lent₀ lent₁ and_then accepted (both_lengths w kind L labels))
   pub part_0 : after₀ ≡ granted (v and_then records_find w kind L labels lent₀ lent₁) (records_over w kind (piece L labels 0) lent₀) lent₀
@@ -82,13 +79,13 @@ cut_taken mesh field step labels =
     labelled mesh labels and_then (field_tested mesh field and_then cut_judged (width_in mesh) (mesh_in mesh) (field_in mesh field) step labels)
 
 -- on tables, on a mesh and a field that have been read, and on records
-abbrev pub CutIn : Width → ℕ → Lagoon → List ℕ → Records → Records → RecordsCut → Records → Records → Type 0
+abbrev pub CutIn : Width → ℕ → Lagoon → List ℕ → Records → Records → (Result CutLengths Refusal) → Records → Records → Type 0
 CutIn w kind L labels = CutWritten (cut_finds L labels) w kind L labels
 
-abbrev pub CutOn : Width → Mesh → (masses step labels : List ℕ) → Records → Records → RecordsCut → Records → Records → Type 0
+abbrev pub CutOn : Width → Mesh → (masses step labels : List ℕ) → Records → Records → (Result CutLengths Refusal) → Records → Records → Type 0
 CutOn w M masses step labels = CutWritten (cut_judged w M masses step labels) w (kind_in step) (lagoon_read M masses step) labels
 
-abbrev pub CutTaking : (mesh field step labels : List ℕ) → Records → Records → RecordsCut → Records → Records → Type 0
+abbrev pub CutTaking : (mesh field step labels : List ℕ) → Records → Records → (Result CutLengths Refusal) → Records → Records → Type 0
 CutTaking mesh field step labels =
     CutWritten (field_tested mesh field and_then cut_judged (width_in mesh) (mesh_in mesh) (field_in mesh field) step labels) (width_in mesh) (kind_in step)
     (lagoon_in mesh field step) labels

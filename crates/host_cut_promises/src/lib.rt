@@ -22,8 +22,3 @@ pub struct CutLengths {
     pub step_1: u64,
 }
 
-#[derive(Clone, Copy)]
-pub enum RecordsCut {
-    Cut(CutLengths),
-    Refused(Refusal),
-}

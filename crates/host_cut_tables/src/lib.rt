@@ -10,9 +10,9 @@ ghost use Rattle.host_cut_promises.specs.Cut.{records_of};
 ghost use Rattle.host_cut_promises.specs.Inner.{both_find, cut_finds, CutIn};
 
 use host_cut_parts::{part_found, part_written};
-use host_cut_promises::{CutLengths, RecordsCut};
+use host_cut_promises::CutLengths;
 use model::needs::and_then;
-use model::{Answer, RUN_CELLS, RUN_FACES};
+use model::{RUN_CELLS, RUN_FACES, Refusal};
 use record_layouts::{StepKind, Width};
 
 // What cutting refuses, and then the writers of both parts, before the first byte is touched.
@@ -37,7 +37,7 @@ fn tested(
     m1: usize,
     f1: usize,
     s1: usize,
-) -> Answer
+) -> Result<(), Refusal>
     ensures { said result ≡ (cut_finds (lagoon_of cells faces (tables_of volumes.now firsts.now seconds.now shares.now
         reaches.now masses.now fluxes.now outsides.now releases.now))
         labels.now and_then both_find width (kind_number width kind) (lagoon_of cells faces (tables_of volumes.now firsts.now seconds.now shares.now
@@ -50,8 +50,8 @@ fn tested(
         RUN_FACES, RUN_FACES, RUN_FACES, RUN_FACES, RUN_CELLS, RUN_CELLS, RUN_FACES, RUN_FACES,
         RUN_FACES, RUN_FACES, RUN_CELLS, RUN_CELLS,
     );
-    if let Answer::Refused(r) = a {
-        return Answer::Refused(r);
+    if let Err(r) = a {
+        return Err(r);
     }
     let x = part_found(
         width, kind, 0, cells, faces, volumes, firsts, seconds, shares, reaches, masses, fluxes,
@@ -86,7 +86,7 @@ pub fn cut_tables(
     mesh1: &mut [u8],
     field1: &mut [u8],
     step1: &mut [u8],
-) -> RecordsCut
+) -> Result<CutLengths, Refusal>
     ensures { CutIn width (kind_number width kind) (lagoon_of cells faces (tables_of volumes.now firsts.now seconds.now shares.now
         reaches.now masses.now fluxes.now outsides.now releases.now))
         labels.now (records_of mesh0.old field0.old step0.old)
@@ -115,8 +115,8 @@ pub fn cut_tables(
         field1.len(),
         step1.len(),
     );
-    if let Answer::Refused(r) = a {
-        return RecordsCut::Refused(r);
+    if let Err(r) = a {
+        return Err(r);
     }
     let x = part_written(
         width, kind, 0, cells, faces, volumes, firsts, seconds, shares, reaches, masses, fluxes,
@@ -126,7 +126,7 @@ pub fn cut_tables(
         width, kind, 1, cells, faces, volumes, firsts, seconds, shares, reaches, masses, fluxes,
         outsides, releases, labels, mesh1, field1, step1,
     );
-    RecordsCut::Cut(CutLengths {
+    Ok(CutLengths {
         mesh_0: x.mesh,
         field_0: x.field,
         step_0: x.step,

@@ -8,35 +8,34 @@ ghost use Rattle.host_answer.specs.Number.{number_of};
 ghost use Rattle.host_answer.specs.Found.{alone, Answered};
 ghost use Rattle.host_field_promises.specs.Field.{TotalFromC, PageFromC, PublicPageFromC};
 
-use checks::TotalAnswer;
 use host_numbers::{fill1, number_of};
-use page::PageAnswer;
+use model::Refusal;
 
 // The answer of a total: found is the total.
-pub fn total_answered(answer: TotalAnswer, found: &mut [u64]) -> u64
+pub fn total_answered(answer: Result<u64, Refusal>, found: &mut [u64]) -> u64
     requires { number_of (total_said answer) < 2 ^ 64 }
     ensures { Answered alone (total_said answer) found.old result found.new }
 {
     match answer {
-        TotalAnswer::Total(total) => {
+        Ok(total) => {
             fill1(found, total);
             0
         }
-        TotalAnswer::Refused(refusal) => number_of(refusal),
+        Err(refusal) => number_of(refusal),
     }
 }
 
 // The answer of a page: found is its length.
-pub fn page_answered(answer: PageAnswer, found: &mut [u64]) -> u64
+pub fn page_answered(answer: Result<u64, Refusal>, found: &mut [u64]) -> u64
     requires { number_of (page_said answer) < 2 ^ 64 }
     ensures { Answered alone (page_said answer) found.old result found.new }
 {
     match answer {
-        PageAnswer::Printed(length) => {
+        Ok(length) => {
             fill1(found, length);
             0
         }
-        PageAnswer::Refused(refusal) => number_of(refusal),
+        Err(refusal) => number_of(refusal),
     }
 }
 

@@ -9,13 +9,14 @@ use lib.ListN.{length, set, get_or, replicate, length-append}
 use Rattle.lists.specs.Marked.{count}
 use Rattle.model.specs.Causes.{accepted, refused, Verdict, fine, ◌and_then◌, granted}
 use Rattle.model.specs.Answers.{said}
-use Rattle.model.specs.declared.Answer.{Answer}
 use Rattle.board.specs.Board.{board_size, unused, board_verdict, board_entries, entries_of, BoardAfter, BoardIs}
 use Rattle.board.specs.declared.Entry.{Entry}
 use Rattle.board.specs.declared.BoardAnswer.{BoardAnswer}
 use Rattle.host_answer.specs.Found.{filled}
 use Rattle.host_answer.proofs.Fills.{filled_on}
 use Rattle.host_field_promises.specs.Board.{entry_numbers, entries_put, Shown, board_said}
+use Rattle.std.specs.Prelude.{Result}
+use Rattle.model.specs.declared.Refusal.{Refusal}
 
 -- three numbers more
 three : (xs ys : List ℕ) (a b c at : ℕ) → at ≡ length xs
@@ -53,11 +54,11 @@ pub entries-done : (es : List Entry) (ys : List ℕ) (n : ℕ) {s : List ℕ} �
 entries-done es ys n e q = rw q at e
 
 -- a board's answer: refused or shown
-pub board-refused : (a : Answer) (x : Shown) {k i : ℕ} → said a ≡ refused k i → (said a and_then accepted x) ≡ refused k i
+pub board-refused : (a : Result (Unit {0}) Refusal) (x : Shown) {k i : ℕ} → said a ≡ refused k i → (said a and_then accepted x) ≡ refused k i
 unfolding ◌and_then◌
 board-refused a x e = rw e
 
-pub board-shown : (a : Answer) (x : Shown) → said a ≡ fine → (said a and_then accepted x) ≡ accepted x
+pub board-shown : (a : Result (Unit {0}) Refusal) (x : Shown) → said a ≡ fine → (said a and_then accepted x) ≡ accepted x
 unfolding ◌and_then◌
 board-shown a x e = rw e
 

@@ -6,7 +6,6 @@ use Rattle.lists.specs.Fold.{sum}
 use Rattle.model.specs.Causes.{Outcome, accepted, ◌and_then◌, mesh_field_verdict, cells_only}
 use Rattle.model.specs.Calls.{mass_in}
 use Rattle.page.specs.Answers.{page_said, PageIs}
-use Rattle.page.specs.declared.PageAnswer.{PageAnswer}
 use Rattle.public_page.specs.Public.{PublicPageIs}
 use Rattle.board.specs.Board.{BoardIs}
 use Rattle.board.specs.declared.BoardAnswer.{BoardAnswer}
@@ -16,13 +15,15 @@ use Rattle.host_answer.proofs.Answers.{answered-as}
 use Rattle.host_field_promises.specs.Field.{TotalFromC, PageFromC, PublicPageFromC}
 use Rattle.host_field_promises.specs.Board.{shown_numbers, board_said, BoardFromC, PublicBoardFromC}
 use Rattle.host_field_promises.proofs.Boards.{board-is, board-after}
+use Rattle.std.specs.Prelude.{Result}
+use Rattle.model.specs.declared.Refusal.{Refusal}
 
 module _ (cells : ℕ) (volumes masses : List ℕ) {found : List ℕ} {r : ℕ} {found' : List ℕ} where
   pub total-from-c : {o : Outcome ℕ} → o ≡ (mesh_field_verdict (cells_only cells volumes) masses and_then accepted (sum cells (mass_in masses)))
       → Answered alone o found r found' → TotalFromC cells volumes masses found r found'
   total-from-c h x = answered-as alone found h x
 
-  module _ {page : ℕ} {bytes bytes' : List ℕ} {a : PageAnswer} where
+  module _ {page : ℕ} {bytes bytes' : List ℕ} {a : Result ℕ Refusal} where
     pub page-from-c : PageIs volumes masses cells page bytes a bytes' → Answered alone (page_said a) found r found'
         → PageFromC volumes masses cells page bytes found r bytes' found'
     page-from-c h x = record { answer = answered-as alone found h.answer x; bytes_after = h.bytes_after }

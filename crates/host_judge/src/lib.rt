@@ -8,12 +8,10 @@ ghost use Rattle.record_writing.specs.Writing.{most_of};
 ghost use Rattle.host_record_promises.specs.Judge.{JudgedIn, JudgedOn, JudgedTaking, JudgedFromC};
 
 use host_tables::answered;
-use host_taking::{FieldTaken, take_field};
-use model::{RUN_CELLS, RUN_FACES};
+use host_taking::take_field;
+use model::{RUN_CELLS, RUN_FACES, Refusal};
 use record_layouts::Width;
-use record_reading::StepRead;
-use record_writing::WriteAnswer;
-use transport::StepAnswer;
+use transport::Crossed;
 
 // A claim judged on tables, with the next masses written as a record.
 fn written(
@@ -31,7 +29,7 @@ fn written(
     releases: &[u64],
     claim: &[i64],
     bytes: &mut [u8],
-) -> StepAnswer
+) -> Result<Crossed, Refusal>
     requires { mesh_values (most_of width) (mesh_of cells faces volumes.now firsts.now seconds.now shares.now reaches.now)
         ≡ mesh_values ceiling (mesh_of cells faces volumes.now firsts.now seconds.now shares.now reaches.now) }
     ensures { JudgedIn width
@@ -45,8 +43,8 @@ fn written(
         &mut next, claim, releases,
     );
     match a {
-        StepAnswer::Refused(refusal) => StepAnswer::Refused(refusal),
-        StepAnswer::Stepped(crossed) => {
+        Err(refusal) => Err(refusal),
+        Ok(crossed) => {
             let b = record_writing::write_field(
                 width,
                 cells,
@@ -60,8 +58,8 @@ fn written(
                 bytes,
             );
             match b {
-                WriteAnswer::Refused(refusal) => StepAnswer::Refused(refusal),
-                WriteAnswer::Written(_) => StepAnswer::Stepped(crossed),
+                Err(refusal) => Err(refusal),
+                Ok(_) => Ok(crossed),
             }
         }
     }
@@ -81,7 +79,7 @@ fn on_field(
     step: &[u8],
     claim: &[i64],
     bytes: &mut [u8],
-) -> StepAnswer
+) -> Result<Crossed, Refusal>
     requires { mesh_values (most_of width) (mesh_of cells faces volumes.now firsts.now seconds.now shares.now reaches.now)
         ≡ mesh_values ceiling (mesh_of cells faces volumes.now firsts.now seconds.now shares.now reaches.now) }
     ensures { JudgedOn width
@@ -102,8 +100,8 @@ fn on_field(
         &mut releases,
     );
     match a {
-        StepRead::Refused(refusal) => StepAnswer::Refused(refusal),
-        StepRead::Read(_) => written(
+        Err(refusal) => Err(refusal),
+        Ok(_) => written(
             width,
             cells,
             faces,
@@ -123,7 +121,7 @@ fn on_field(
 }
 
 // The three records in their order.
-fn on_records(mesh: &[u8], field: &[u8], step: &[u8], claim: &[i64], bytes: &mut [u8]) -> StepAnswer
+fn on_records(mesh: &[u8], field: &[u8], step: &[u8], claim: &[i64], bytes: &mut [u8]) -> Result<Crossed, Refusal>
     ensures { JudgedTaking mesh.now field.now step.now claim.now
         bytes.old result bytes.new }
 {
@@ -144,8 +142,8 @@ fn on_records(mesh: &[u8], field: &[u8], step: &[u8], claim: &[i64], bytes: &mut
         &mut masses,
     );
     match a {
-        FieldTaken::Refused(refusal) => StepAnswer::Refused(refusal),
-        FieldTaken::Taken(counts) => {
+        Err(refusal) => Err(refusal),
+        Ok(counts) => {
             let cells = counts.cells;
             let faces = counts.faces;
             let width = counts.width;

@@ -6,7 +6,7 @@ ghost use Rattle.model.specs.Answers.{number, said};
 ghost use Rattle.host_answer.specs.Number.{refusal_number, number_of};
 ghost use Rattle.host_answer.specs.Found.{filled};
 
-use model::{Answer, Refusal};
+use model::Refusal;
 
 // What one more in the cause adds to the number of a refusal.
 const CAUSE_STEP: u64 = 4294967296;
@@ -21,13 +21,13 @@ pub fn number_of(refusal: Refusal) -> u64
 }
 
 // The number of an answer that gives nothing but acceptance.
-pub fn answer_number(answer: Answer) -> u64
+pub fn answer_number(answer: Result<(), Refusal>) -> u64
     requires { number_of (said answer) < 2 ^ 64 }
     ensures { result ≡ number_of (said answer) }
 {
     match answer {
-        Answer::Done => 0,
-        Answer::Refused(refusal) => number_of(refusal),
+        Ok(()) => 0,
+        Err(refusal) => number_of(refusal),
     }
 }
 

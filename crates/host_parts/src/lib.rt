@@ -7,16 +7,17 @@ ghost use Rattle.host_answer.specs.Number.{number_of};
 ghost use Rattle.host_answer.specs.Found.{Answered};
 ghost use Rattle.host_parts.specs.Parts.{counted};
 
-use cutting::CutAnswer;
 use host_numbers::{fill4, number_of};
+use cutting::Counts;
+use model::Refusal;
 
 // Its answer: found are cells and faces of part 0, then of part 1.
-pub fn answered(answer: CutAnswer, found: &mut [u64]) -> u64
+pub fn answered(answer: Result<Counts, Refusal>, found: &mut [u64]) -> u64
     requires { number_of (cut_said answer) < 2 ^ 64 }
     ensures { Answered counted (cut_said answer) found.old result found.new }
 {
     match answer {
-        CutAnswer::Cut(counts) => {
+        Ok(counts) => {
             fill4(
                 found,
                 counts.cells_0 as u64,
@@ -26,6 +27,6 @@ pub fn answered(answer: CutAnswer, found: &mut [u64]) -> u64
             );
             0
         }
-        CutAnswer::Refused(refusal) => number_of(refusal),
+        Err(refusal) => number_of(refusal),
     }
 }

@@ -8,8 +8,9 @@ ghost use Rattle.host_answer.specs.Found.{Answered};
 ghost use Rattle.host_period_promises.specs.Period.{billed, AddFromC, ChargeFromC};
 ghost use Rattle.host_period_promises.specs.Kept.{KeepFromC, DropFromC, ReturnFromC};
 
-use charge::ChargeAnswer;
 use host_numbers::{answer_number, fill2, number_of};
+use charge::Billed;
+use model::Refusal;
 
 // Document 02's S-13: what a step moved outward over the rim, added to the totals of a period.
 #[unsafe(no_mangle)]
@@ -26,16 +27,16 @@ pub extern "C" fn lagoon_add(
 }
 
 // A charge's answer: found are cents and the new remainder.
-fn charged(answer: ChargeAnswer, found: &mut [u64]) -> u64
+fn charged(answer: Result<Billed, Refusal>, found: &mut [u64]) -> u64
     requires { number_of (charge_said answer) < 2 ^ 64 }
     ensures { Answered billed (charge_said answer) found.old result found.new }
 {
     match answer {
-        ChargeAnswer::Charged(bill) => {
+        Ok(bill) => {
             fill2(found, bill.cents, bill.remainder);
             0
         }
-        ChargeAnswer::Refused(refusal) => number_of(refusal),
+        Err(refusal) => number_of(refusal),
     }
 }
 

@@ -8,12 +8,10 @@ ghost use Rattle.record_writing.specs.Writing.{most_of};
 ghost use Rattle.host_record_promises.specs.Plain.{PlainIn, PlainOn, PlainTaking, PlainPromise};
 
 use host_numbers::number_of;
-use host_taking::{FieldTaken, take_field};
-use model::{RUN_CELLS, RUN_FACES, RUN_WORK};
+use host_taking::take_field;
+use model::{RUN_CELLS, RUN_FACES, RUN_WORK, Refusal};
 use record_layouts::Width;
-use record_reading::StepRead;
-use record_writing::WriteAnswer;
-use transport::{StepAnswer, Way};
+use transport::{Way, Crossed};
 
 // A plain step on tables, with the next masses written as a record.
 fn written(
@@ -30,7 +28,7 @@ fn written(
     outsides: &[u64],
     releases: &[u64],
     bytes: &mut [u8],
-) -> StepAnswer
+) -> Result<Crossed, Refusal>
     requires { mesh_values (most_of width) (mesh_of cells faces volumes.now firsts.now seconds.now shares.now reaches.now)
         ≡ mesh_values ceiling (mesh_of cells faces volumes.now firsts.now seconds.now shares.now reaches.now) }
     ensures { PlainIn width
@@ -58,8 +56,8 @@ fn written(
         releases,
     );
     match a {
-        StepAnswer::Refused(refusal) => StepAnswer::Refused(refusal),
-        StepAnswer::Stepped(crossed) => {
+        Err(refusal) => Err(refusal),
+        Ok(crossed) => {
             let b = record_writing::write_field(
                 width,
                 cells,
@@ -73,8 +71,8 @@ fn written(
                 bytes,
             );
             match b {
-                WriteAnswer::Refused(refusal) => StepAnswer::Refused(refusal),
-                WriteAnswer::Written(_) => StepAnswer::Stepped(crossed),
+                Err(refusal) => Err(refusal),
+                Ok(_) => Ok(crossed),
             }
         }
     }
@@ -93,7 +91,7 @@ fn on_field(
     masses: &[u64],
     step: &[u8],
     bytes: &mut [u8],
-) -> StepAnswer
+) -> Result<Crossed, Refusal>
     requires { mesh_values (most_of width) (mesh_of cells faces volumes.now firsts.now seconds.now shares.now reaches.now)
         ≡ mesh_values ceiling (mesh_of cells faces volumes.now firsts.now seconds.now shares.now reaches.now) }
     ensures { PlainOn width
@@ -114,8 +112,8 @@ fn on_field(
         &mut releases,
     );
     match a {
-        StepRead::Refused(refusal) => StepAnswer::Refused(refusal),
-        StepRead::Read(_) => written(
+        Err(refusal) => Err(refusal),
+        Ok(_) => written(
             width,
             cells,
             faces,
@@ -134,7 +132,7 @@ fn on_field(
 }
 
 // The three records in their order.
-fn on_records(mesh: &[u8], field: &[u8], step: &[u8], bytes: &mut [u8]) -> StepAnswer
+fn on_records(mesh: &[u8], field: &[u8], step: &[u8], bytes: &mut [u8]) -> Result<Crossed, Refusal>
     ensures { PlainTaking mesh.now field.now step.now bytes.old result bytes.new }
 {
     let mut volumes = [0u64; RUN_CELLS];
@@ -154,8 +152,8 @@ fn on_records(mesh: &[u8], field: &[u8], step: &[u8], bytes: &mut [u8]) -> StepA
         &mut masses,
     );
     match a {
-        FieldTaken::Refused(refusal) => StepAnswer::Refused(refusal),
-        FieldTaken::Taken(counts) => {
+        Err(refusal) => Err(refusal),
+        Ok(counts) => {
             let cells = counts.cells;
             let faces = counts.faces;
             let width = counts.width;
@@ -183,7 +181,7 @@ pub extern "C" fn lagoon_plain_step(mesh: &[u8], field: &[u8], step: &[u8], next
 {
     let a = on_records(mesh, field, step, next);
     match a {
-        StepAnswer::Refused(refusal) => number_of(refusal),
-        StepAnswer::Stepped(_) => 0,
+        Err(refusal) => number_of(refusal),
+        Ok(_) => 0,
     }
 }

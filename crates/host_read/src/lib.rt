@@ -8,8 +8,9 @@ ghost use Rattle.host_answer.specs.Found.{alone, Answered};
 ghost use Rattle.host_read_promises.specs.Read.{width_number, width_named, counts_found, lent_mesh, MeshReadFromC, FieldReadFromC, step_finds, StepReadFromC};
 
 use host_numbers::{answer_number, fill1, fill3, number_of};
-use record_layouts::Width;
-use record_reading::{MeshAnswer, StepRead};
+use record_layouts::{Width, StepKind};
+use record_reading::MeshCounts;
+use model::Refusal;
 
 // The number of a width: 0 narrow, 1 wide.
 pub fn width_number(width: Width) -> u64
@@ -32,12 +33,12 @@ pub fn width_named(named: u64) -> Width
 }
 
 // The answer of a mesh's reader: found are cells, faces and width.
-fn mesh_answered(answer: MeshAnswer, found: &mut [u64]) -> u64
+fn mesh_answered(answer: Result<MeshCounts, Refusal>, found: &mut [u64]) -> u64
     requires { number_of (mesh_said answer) < 2 ^ 64 }
     ensures { Answered counts_found (mesh_said answer) found.old result found.new }
 {
     match answer {
-        MeshAnswer::Read(counts) => {
+        Ok(counts) => {
             let width = counts.width;
             fill3(
                 found,
@@ -47,7 +48,7 @@ fn mesh_answered(answer: MeshAnswer, found: &mut [u64]) -> u64
             );
             0
         }
-        MeshAnswer::Refused(refusal) => number_of(refusal),
+        Err(refusal) => number_of(refusal),
     }
 }
 
@@ -95,16 +96,16 @@ pub extern "C" fn lagoon_read_field(
 }
 
 // The answer of a step's reader: found is the number of its kind.
-fn step_answered(width: Width, answer: StepRead, found: &mut [u64]) -> u64
+fn step_answered(width: Width, answer: Result<StepKind, Refusal>, found: &mut [u64]) -> u64
     requires { number_of (step_read_said width answer) < 2 ^ 64 }
     ensures { Answered alone (step_read_said width answer) found.old result found.new }
 {
     match answer {
-        StepRead::Read(kind) => {
+        Ok(kind) => {
             fill1(found, record_layouts::kind_number(width, kind));
             0
         }
-        StepRead::Refused(refusal) => number_of(refusal),
+        Err(refusal) => number_of(refusal),
     }
 }
 

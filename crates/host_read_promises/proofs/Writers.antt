@@ -8,13 +8,14 @@ use Rattle.model.specs.Causes.{Verdict}
 use Rattle.record_layouts.specs.Layouts.{kind_number}
 use Rattle.record_layouts.specs.declared.Width.{Width}
 use Rattle.record_layouts.specs.declared.StepKind.{StepKind}
-use Rattle.record_writing.specs.declared.WriteAnswer.{WriteAnswer}
 use Rattle.record_writing.specs.Writing.{write_said, Writing, MeshWriting, FieldWriting, StepWriting}
 use Rattle.host_answer.specs.Found.{alone, Answered}
 use Rattle.host_answer.proofs.Answers.{answered-as}
 use Rattle.host_read_promises.specs.Write.{WriteFromC, MeshWriteFromC, FieldWriteFromC, StepWriteFromC}
+use Rattle.std.specs.Prelude.{Result}
+use Rattle.model.specs.declared.Refusal.{Refusal}
 
-module _ {a : WriteAnswer} {bytes bytes' found : List ℕ} {r : ℕ} {found' : List ℕ} where
+module _ {a : Result ℕ Refusal} {bytes bytes' found : List ℕ} {r : ℕ} {found' : List ℕ} where
   wrote : {v : Verdict} {n : ℕ} {written : List ℕ} → Writing v n written bytes a bytes' → Answered alone (write_said a) found r found'
       → WriteFromC v n written bytes found r bytes' found'
   wrote h x = record { answer = answered-as alone _ h.answer x; bytes_written = h.bytes_written }

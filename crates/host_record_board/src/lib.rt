@@ -7,7 +7,7 @@ ghost use Rattle.host_record_promises.specs.Boards.{board_found, public_board_fo
 
 use host_board::answered;
 use host_numbers::number_of;
-use host_taking::{FieldTaken, take_cells};
+use host_taking::take_cells;
 use model::RUN_CELLS;
 
 // The growers' board.
@@ -19,8 +19,8 @@ pub extern "C" fn lagoon_board(mesh: &[u8], field: &[u8], found: &mut [u64]) -> 
     let mut masses = [0u64; RUN_CELLS];
     let a = take_cells(mesh, field, &mut volumes, &mut masses);
     match a {
-        FieldTaken::Refused(refusal) => number_of(refusal),
-        FieldTaken::Taken(counts) => {
+        Err(refusal) => number_of(refusal),
+        Ok(counts) => {
             let cells = counts.cells;
             let shown = board::board(cells, &volumes[..cells], &masses[..cells]);
             answered(shown, found)
@@ -43,8 +43,8 @@ pub extern "C" fn lagoon_public_board(
     let mut masses = [0u64; RUN_CELLS];
     let a = take_cells(mesh, field, &mut volumes, &mut masses);
     match a {
-        FieldTaken::Refused(refusal) => number_of(refusal),
-        FieldTaken::Taken(counts) => {
+        Err(refusal) => number_of(refusal),
+        Ok(counts) => {
             let cells = counts.cells;
             let shown = public_board::public_board(
                 cells,

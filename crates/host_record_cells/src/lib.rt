@@ -6,9 +6,8 @@ ghost use Rattle.host_record_promises.specs.Cells.{total_found, PageTaking, Page
 
 use host_field::page_answered;
 use host_numbers::{fill1, number_of};
-use host_taking::{FieldTaken, take_cells};
-use model::RUN_CELLS;
-use page::PageAnswer;
+use host_taking::take_cells;
+use model::{RUN_CELLS, Refusal};
 
 // The total of a field record.
 #[unsafe(no_mangle)]
@@ -19,8 +18,8 @@ pub extern "C" fn lagoon_total(mesh: &[u8], field: &[u8], found: &mut [u64]) -> 
     let mut masses = [0u64; RUN_CELLS];
     let a = take_cells(mesh, field, &mut volumes, &mut masses);
     match a {
-        FieldTaken::Refused(refusal) => number_of(refusal),
-        FieldTaken::Taken(counts) => {
+        Err(refusal) => number_of(refusal),
+        Ok(counts) => {
             fill1(found, counts.total);
             0
         }
@@ -28,15 +27,15 @@ pub extern "C" fn lagoon_total(mesh: &[u8], field: &[u8], found: &mut [u64]) -> 
 }
 
 // A page of the field in the records.
-fn page_of(mesh: &[u8], field: &[u8], page: u64, bytes: &mut [u8]) -> PageAnswer
+fn page_of(mesh: &[u8], field: &[u8], page: u64, bytes: &mut [u8]) -> Result<u64, Refusal>
     ensures { PageTaking mesh.now field.now page bytes.old result bytes.new }
 {
     let mut volumes = [0u64; RUN_CELLS];
     let mut masses = [0u64; RUN_CELLS];
     let a = take_cells(mesh, field, &mut volumes, &mut masses);
     match a {
-        FieldTaken::Refused(refusal) => PageAnswer::Refused(refusal),
-        FieldTaken::Taken(counts) => {
+        Err(refusal) => Err(refusal),
+        Ok(counts) => {
             let cells = counts.cells;
             page::page(cells, &volumes[..cells], &masses[..cells], page, bytes)
         }
@@ -50,15 +49,15 @@ fn public_page_of(
     page: u64,
     bytes: &mut [u8],
     marks: &[u64],
-) -> PageAnswer
+) -> Result<u64, Refusal>
     ensures { PublicTaking mesh.now field.now marks.now page bytes.old result bytes.new }
 {
     let mut volumes = [0u64; RUN_CELLS];
     let mut masses = [0u64; RUN_CELLS];
     let a = take_cells(mesh, field, &mut volumes, &mut masses);
     match a {
-        FieldTaken::Refused(refusal) => PageAnswer::Refused(refusal),
-        FieldTaken::Taken(counts) => {
+        Err(refusal) => Err(refusal),
+        Ok(counts) => {
             let cells = counts.cells;
             public_page::public_page(
                 cells,

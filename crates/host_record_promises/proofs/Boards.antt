@@ -18,17 +18,17 @@ use Rattle.host_field_promises.proofs.BoardSmall.{public-small}
 use Rattle.host_tested.specs.Tested.{field_tested, field_in}
 use Rattle.host_taking.specs.Taken.{CellsTaking}
 use Rattle.host_taking.specs.declared.FieldCounts.{FieldCounts}
-use Rattle.host_taking.specs.declared.FieldTaken.{FieldTaken}
-use Rattle.host_taking.specs.declared.FieldTaken.TheVariants.{Taken}
 use Rattle.host_taking.proofs.Held.{tested-fine, cells-as}
 use Rattle.host_tested.proofs.Small.{field-tested-small}
 use Rattle.host_record_promises.specs.Boards.{board_found, public_board_found}
+use Rattle.std.specs.Prelude.{Result, Ok}
+use Rattle.model.specs.declared.Refusal.{Refusal}
 
 -- what is given after a part that is fine
 giving-past : {A : Type 0} {u : Verdict} (v : Verdict) (x : A) → u ≡ fine → (v and_then accepted x) ≡ (u and_then v and_then accepted x)
 giving-past v x e = sym (ap (λ (w : Verdict). w and_then accepted x) (past v e))
 
-module _ (mesh field : List ℕ) {a : FieldTaken} {volumes masses : List ℕ} (t : CellsTaking mesh field a volumes masses) {n : FieldCounts} (d : a ≡ Taken n)
+module _ (mesh field : List ℕ) {a : Result FieldCounts Refusal} {volumes masses : List ℕ} (t : CellsTaking mesh field a volumes masses) {n : FieldCounts} (d : a ≡ Ok n)
     {b : BoardAnswer} where
   pub board-made : BoardIs n.cells (take n.cells volumes) (take n.cells masses) b → board_said b ≡ board_found mesh field
   board-made q =

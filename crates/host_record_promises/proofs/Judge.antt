@@ -9,7 +9,6 @@ use Rattle.model.specs.Causes.{fine, Call}
 use Rattle.model.specs.Claims.{claim_verdict}
 use Rattle.model.proofs.Claims.{claim-passed}
 use Rattle.transport.specs.Promise.{step_said}
-use Rattle.transport.specs.declared.StepAnswer.{StepAnswer}
 use Rattle.record_heads.specs.Heads.{width_in}
 use Rattle.record_reading.specs.Reading.{mesh_in}
 use Rattle.host_answer.specs.Number.{number_of}
@@ -22,6 +21,9 @@ use Rattle.host_tested.specs.Tested.{field_in}
 use Rattle.host_tested.proofs.Small.{field-tested-small, step-record-small}
 use Rattle.host_record_promises.proofs.Next.{MeshPassed}
 use Rattle.host_record_promises.specs.Judge.{claim_in, claim_judged, JudgedTaking, JudgedFromC}
+use Rattle.std.specs.Prelude.{Result}
+use Rattle.model.specs.declared.Refusal.{Refusal}
+use Rattle.transport.specs.declared.Crossed.{Crossed}
 
 pub lent : (M : Mesh) (masses : List ℕ) (k : Call) → claim_verdict M masses k ≡ fine → MeshPassed M
 lent M masses k e =
@@ -30,7 +32,7 @@ lent M masses k e =
 
 module _ (mesh field step : List ℕ) (claim : List ℤ) (bytes : List ℕ) where
   -- the number
-  module _ {a : StepAnswer} {bytes' : List ℕ} (p : JudgedTaking mesh field step claim bytes a bytes') where
+  module _ {a : Result Crossed Refusal} {bytes' : List ℕ} (p : JudgedTaking mesh field step claim bytes a bytes') where
     judged-small : Small (claim_judged (width_in mesh) (mesh_in mesh) (field_in mesh field) step claim)
     unfolding claim_judged
     judged-small = small-and (step-record-small mesh step) (claim-small (mesh_in mesh) (field_in mesh field) (claim_in (mesh_in mesh) step claim))

@@ -20,32 +20,27 @@ use Rattle.model.proofs.Ceilings.{old-meshes}
 use Rattle.model.proofs.Lists.{Keeping}
 use Rattle.transport.specs.Promise.{step_said}
 use Rattle.transport.specs.declared.Crossed.{Crossed}
-use Rattle.transport.specs.declared.StepAnswer.{StepAnswer}
-use Rattle.transport.specs.declared.StepAnswer.TheVariants.{Stepped, Refused}
 use Rattle.record_layouts.specs.Layouts.{field_kind, field_length}
 use Rattle.record_heads.specs.Heads.{width_in}
 use Rattle.record_layouts.specs.declared.Width.{Width}
 use Rattle.record_layouts.specs.declared.Width.TheVariants.{Narrow, Wide}
 use Rattle.record_reading.specs.Reading.{mesh_in}
 use Rattle.record_writing.specs.Writing.{most_of, field_write_verdict, FieldWriting, write_said}
-use Rattle.record_writing.specs.declared.WriteAnswer.{WriteAnswer}
-use Rattle.record_writing.specs.declared.WriteAnswer.TheVariants as write
 use Rattle.model.proofs.Parts.{PartRead, read-part}
 use Rattle.taking_mesh.proofs.MeshLaws.{mesh-small}
 use Rattle.host_taking.specs.Taken.{RecordsTaking}
 use Rattle.host_taking.specs.declared.FieldCounts.{FieldCounts}
-use Rattle.host_taking.specs.declared.FieldTaken.{FieldTaken}
-use Rattle.host_taking.specs.declared.FieldTaken.TheVariants.{Taken}
 use Rattle.host_taking.proofs.Held.{width_is, counted_by, mesh-same}
 use Rattle.host_record_promises.specs.Next.{with_room, NextWritten, next_by, StepWritten}
+use Rattle.std.specs.Prelude.{Result, Ok, Err}
 
 pub written-refused : {v : Verdict} (x : Crossing) (w : Width) (cells : ℕ) (next bytes : List ℕ) (r : Refusal) → v ≡ told r → NextWritten v x w cells next
-    bytes (Refused r) bytes
+    bytes (Err r) bytes
 written-refused {v = v} x w cells next bytes r e =
     let q : with_room v w cells (length bytes) ≡ refused (number r.cause) r.place = out _ e in
     record { answer = sym (out _ q); bytes_after = rw q }
 
-pub written-past : {u v : Verdict} {x : Crossing} {w : Width} {cells : ℕ} {next bytes : List ℕ} {r : StepAnswer} {bytes' : List ℕ} → u ≡ fine
+pub written-past : {u v : Verdict} {x : Crossing} {w : Width} {cells : ℕ} {next bytes : List ℕ} {r : Result Crossed Refusal} {bytes' : List ℕ} → u ≡ fine
     → NextWritten v x w cells next bytes r bytes' → NextWritten (u and_then v) x w cells next bytes r bytes'
 written-past {v = v} e p = rw (past v e) p
 
@@ -88,13 +83,13 @@ module _ (s : Scheme) (keeping : Keeping s) (w : Width) (M : Mesh) (within : mes
     write-left : field_write_verdict w M (next_by s M masses k) (length bytes) ≡ with_room found w M.cells (length bytes)
     write-left = write-is ∙ sym (past _ e)
 
-  module _ {a : StepAnswer} {next' : List ℕ} (p : step_said a ≡ step_answer s M k masses) (q : next' ≡ next_table s M k masses) where
-    pub step-refused : {r : Refusal} → a ≡ Refused r → StepWritten s M masses k found w bytes (Refused r) bytes
+  module _ {a : Result Crossed Refusal} {next' : List ℕ} (p : step_said a ≡ step_answer s M k masses) (q : next' ≡ next_table s M k masses) where
+    pub step-refused : {r : Refusal} → a ≡ Err r → StepWritten s M masses k found w bytes (Err r) bytes
     unfolding step_answer
     step-refused {r = r} d = written-refused _ w M.cells (next_by s M masses k) bytes r
         (refused-of found (crossing_of M masses k) (number r.cause) r.place (sym (ap step_said d) ∙ p))
 
-    module _ {x : Crossed} (d : a ≡ Stepped x) where
+    module _ {x : Crossed} (d : a ≡ Ok x) where
       crossed : (found ≡ fine) × (◌≡◌ {A = Crossing} (record { entered = x.entered; gone = x.gone; released = x.released }) (crossing_of M masses k))
       unfolding step_answer
       crossed = accepted-of found (crossing_of M masses k) _ (sym (ap step_said d) ∙ p)
@@ -103,17 +98,17 @@ module _ (s : Scheme) (keeping : Keeping s) (w : Width) (M : Mesh) (within : mes
       unfolding next_table
       next-part = read-part M.cells _ k.nexts next' crossed.0 (keeping.nexts_long M masses k crossed.0) q
 
-      module _ {o : WriteAnswer} {bytes' : List ℕ} (done : FieldWriting w M (take M.cells next') bytes o bytes') where
+      module _ {o : Result ℕ Refusal} {bytes' : List ℕ} (done : FieldWriting w M (take M.cells next') bytes o bytes') where
         wrote : FieldWriting w M (next_by s M masses k) bytes o bytes'
         wrote = rw next-part.part at done
 
-        pub no_room : {r : Refusal} → o ≡ write.Refused r → StepWritten s M masses k found w bytes (Refused r) bytes'
+        pub no_room : {r : Refusal} → o ≡ Err r → StepWritten s M masses k found w bytes (Err r) bytes'
         no_room {r = r} g =
             let e = refused-of (field_write_verdict w M (next_by s M masses k) (length bytes)) (field_length (field_kind w) M.cells) (number r.cause)
             r.place (sym (ap write_said g) ∙ wrote.answer) in
             record { answer = sym (out _ (sym (write-left crossed.0) ∙ e)); bytes_after = rw (← write-left crossed.0) wrote.bytes_written }
 
-        pub written : {n : ℕ} → o ≡ write.Written n → StepWritten s M masses k found w bytes (Stepped x) bytes'
+        pub written : {n : ℕ} → o ≡ Ok n → StepWritten s M masses k found w bytes (Ok x) bytes'
         written {n = n} g =
             let e = (accepted-of (field_write_verdict w M (next_by s M masses k) (length bytes)) (field_length (field_kind w) M.cells) n (sym (ap write_said g)
             ∙ wrote.answer)).0 in
@@ -130,6 +125,6 @@ record-within bs = go (width_in bs) refl
     go Narrow e = sym (old-meshes (mesh_in bs) (mesh-small bs e))
     go Wide e = refl
 
-pub within-taken : (mesh field : List ℕ) {a : FieldTaken} {left : Mesh} {masses : List ℕ} (t : RecordsTaking mesh field a left masses) {n : FieldCounts}
-    (d : a ≡ Taken n) → mesh_values (most_of n.width) (parted (counted_by n left)) ≡ mesh_values ceiling (parted (counted_by n left))
+pub within-taken : (mesh field : List ℕ) {a : Result FieldCounts Refusal} {left : Mesh} {masses : List ℕ} (t : RecordsTaking mesh field a left masses) {n : FieldCounts}
+    (d : a ≡ Ok n) → mesh_values (most_of n.width) (parted (counted_by n left)) ≡ mesh_values ceiling (parted (counted_by n left))
 within-taken mesh field t d = rw (width_is mesh field t.answer d, mesh-same mesh field t d) (record-within mesh)

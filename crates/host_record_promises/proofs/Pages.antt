@@ -11,8 +11,6 @@ use Rattle.model.specs.declared.Refusal.{Refusal}
 use Rattle.model.proofs.Verdicts.{past, out}
 use Rattle.record_reading.specs.Reading.{mesh_in}
 use Rattle.page.specs.Answers.{page_said, verdict_with, PageIs}
-use Rattle.page.specs.declared.PageAnswer.{PageAnswer}
-use Rattle.page.specs.declared.PageAnswer.TheVariants as page-answer
 use Rattle.public_page.specs.Public.{public_page_verdict, PublicPageIs}
 use Rattle.host_answer.specs.Number.{number_of}
 use Rattle.host_answer.specs.Found.{alone, Answered}
@@ -22,23 +20,22 @@ use Rattle.host_answer.proofs.Tables.{Few, counts-small, mesh-tables-small, mesh
 use Rattle.host_tested.specs.Tested.{field_in}
 use Rattle.host_taking.specs.Taken.{CellsTaking}
 use Rattle.host_taking.specs.declared.FieldCounts.{FieldCounts}
-use Rattle.host_taking.specs.declared.FieldTaken.{FieldTaken}
-use Rattle.host_taking.specs.declared.FieldTaken.TheVariants.{Taken}
 use Rattle.host_taking.proofs.Held.{tested-fine, cells-as}
 use Rattle.host_tested.proofs.Small.{few, field-tested-small}
 use Rattle.host_record_promises.specs.Cells.{Printing, PrintedFromC, page_found, page_length, public_page_found, public_in, PageTaking, PublicTaking}
+use Rattle.std.specs.Prelude.{Result, Ok, Err}
 
-pub printing-refused : {v : Verdict} (n : ℕ) (text bytes : List ℕ) (r : Refusal) → v ≡ told r → Printing v n text bytes (page-answer.Refused r) bytes
+pub printing-refused : {v : Verdict} (n : ℕ) (text bytes : List ℕ) (r : Refusal) → v ≡ told r → Printing v n text bytes (Err r) bytes
 printing-refused n text bytes r e = record { answer = sym (out _ e); bytes_after = rw e }
 
-printing-past : {u v : Verdict} {n : ℕ} {text bytes : List ℕ} {r : PageAnswer} {bytes' : List ℕ} → u ≡ fine → Printing v n text bytes r bytes' → Printing
+printing-past : {u v : Verdict} {n : ℕ} {text bytes : List ℕ} {r : Result ℕ Refusal} {bytes' : List ℕ} → u ≡ fine → Printing v n text bytes r bytes' → Printing
     (u and_then v) n text bytes r bytes'
 printing-past {v = v} e p = rw (past v e) p
 
 -- on tables that have been taken
-module _ (mesh field : List ℕ) (page : ℕ) (bytes : List ℕ) {a : FieldTaken} {volumes masses : List ℕ} (t : CellsTaking mesh field a volumes masses) {n :
-    FieldCounts} (d : a ≡ Taken n)
-    {r : PageAnswer} {bytes' : List ℕ} where
+module _ (mesh field : List ℕ) (page : ℕ) (bytes : List ℕ) {a : Result FieldCounts Refusal} {volumes masses : List ℕ} (t : CellsTaking mesh field a volumes masses) {n :
+    FieldCounts} (d : a ≡ Ok n)
+    {r : Result ℕ Refusal} {bytes' : List ℕ} where
   pub page-made : PageIs (take n.cells volumes) (take n.cells masses) n.cells page bytes r bytes' → PageTaking mesh field page bytes r bytes'
   page-made q =
       let p = cells-as mesh field t d (λ m vs ms. PageIs vs ms m page bytes r bytes') q in
@@ -51,7 +48,7 @@ module _ (mesh field : List ℕ) (page : ℕ) (bytes : List ℕ) {a : FieldTaken
       printing-past (tested-fine mesh field t.answer d) (record { answer = p.answer; bytes_after = p.bytes_after })
 
 -- the answer as a number
-pub printed-from : {v : Verdict} {n : ℕ} {text bytes : List ℕ} {a : PageAnswer} {bytes' : List ℕ} → Printing v n text bytes a bytes' → {found : List ℕ} {r
+pub printed-from : {v : Verdict} {n : ℕ} {text bytes : List ℕ} {a : Result ℕ Refusal} {bytes' : List ℕ} → Printing v n text bytes a bytes' → {found : List ℕ} {r
     : ℕ} {found' : List ℕ}
     → Answered alone (page_said a) found r found' → PrintedFromC v n text bytes found r bytes' found'
 printed-from p {found = found} a = record { answer = answered-as alone found p.answer a; bytes_after = p.bytes_after }

@@ -12,8 +12,6 @@ use Rattle.model.proofs.Accepted.{passed}
 use Rattle.model.proofs.Verdicts.{refused-of, accepted-of}
 use Rattle.transport.specs.Promise.{step_said}
 use Rattle.transport.specs.declared.Crossed.{Crossed}
-use Rattle.transport.specs.declared.StepAnswer.{StepAnswer}
-use Rattle.transport.specs.declared.StepAnswer.TheVariants.{Stepped, Refused}
 use Rattle.record_heads.specs.Heads.{width_in}
 use Rattle.record_reading.specs.Reading.{mesh_in}
 use Rattle.host_answer.specs.Number.{number_of, refusal_number}
@@ -24,6 +22,7 @@ use Rattle.host_tested.proofs.Small.{field-tested-small, step-judged-small}
 use Rattle.host_record_promises.specs.Next.{with_room}
 use Rattle.host_record_promises.proofs.Next.{MeshPassed}
 use Rattle.host_record_promises.specs.Plain.{PlainTaking, PlainPromise}
+use Rattle.std.specs.Prelude.{Result, Ok, Err}
 
 pub lent : (M : Mesh) (masses : List ℕ) (k : Call) → verdict M masses k ≡ fine → MeshPassed M
 lent M masses k e =
@@ -32,13 +31,13 @@ lent M masses k e =
 
 module _ (mesh field step bytes : List ℕ) where
   -- the number
-  module _ {a : StepAnswer} {bytes' : List ℕ} (p : PlainTaking mesh field step bytes a bytes') where
-    pub number_fits : {r : Refusal} → a ≡ Refused r → refusal_number (number r.cause) r.place < 2 ^ 64
+  module _ {a : Result Crossed Refusal} {bytes' : List ℕ} (p : PlainTaking mesh field step bytes a bytes') where
+    pub number_fits : {r : Refusal} → a ≡ Err r → refusal_number (number r.cause) r.place < 2 ^ 64
     number_fits {r = r} d = refusal-of (sym p.answer ∙ ap step_said d)
         (small-number _ (small-giving _ (small-and (small-and (field-tested-small mesh field) (step-judged-small mesh step (field_in mesh field)))
         (small-need 2 11 _ (omega arith)))))
 
-    pub refused-number : {r : Refusal} → a ≡ Refused r → {n : ℕ} → n ≡ refusal_number (number r.cause) r.place → PlainPromise mesh field step bytes n
+    pub refused-number : {r : Refusal} → a ≡ Err r → {n : ℕ} → n ≡ refusal_number (number r.cause) r.place → PlainPromise mesh field step bytes n
         bytes'
     refused-number {r = r} d e = record {
       number = e ∙ sym (ap number_of (refused-of (with_room (step_tested mesh field step) (width_in mesh) (mesh_in mesh).cells (length bytes)) _
@@ -46,7 +45,7 @@ module _ (mesh field step bytes : List ℕ) where
       next_field = p.bytes_after;
     }
 
-    pub stepped-number : {x : Crossed} → a ≡ Stepped x → PlainPromise mesh field step bytes 0 bytes'
+    pub stepped-number : {x : Crossed} → a ≡ Ok x → PlainPromise mesh field step bytes 0 bytes'
     stepped-number d = record {
       number = sym (ap number_of (accepted-of (with_room (step_tested mesh field step) (width_in mesh) (mesh_in mesh).cells (length bytes)) _ _
           (sym (ap step_said d) ∙ p.answer)).0);

@@ -15,11 +15,10 @@ use Rattle.record_layouts.specs.declared.Width.{Width}
 use Rattle.record_layouts.specs.declared.StepKind.{StepKind}
 use Rattle.record_reading.specs.Reading.{step_read}
 use Rattle.record_reading.specs.Answers.{step_read_said, StepReading}
-use Rattle.record_reading.specs.declared.StepRead.{StepRead}
-use Rattle.record_reading.specs.declared.StepRead.TheVariants as read
 use Rattle.taking.specs.Taking.{step_record_found}
+use Rattle.std.specs.Prelude.{Result, Ok, Err}
 
-module _ (w : Width) (M : Mesh) {bs : List ℕ} {fluxes : List ℤ} {outsides releases : List ℕ} {a : StepRead} {fluxes' : List ℤ} {outsides' releases' : List ℕ}
+module _ (w : Width) (M : Mesh) {bs : List ℕ} {fluxes : List ℤ} {outsides releases : List ℕ} {a : Result StepKind Refusal} {fluxes' : List ℤ} {outsides' releases' : List ℕ}
     (s : StepReading w (step_read w M.cells M.faces M.seconds bs (length fluxes) (length outsides) (length releases)) M.cells M.faces
     M.seconds bs
     fluxes outsides releases a fluxes' outsides' releases')
@@ -28,11 +27,11 @@ module _ (w : Width) (M : Mesh) {bs : List ℕ} {fluxes : List ℤ} {outsides re
   unfolding step_record_found step_read
   read-said = rw (fl, ol, rl) at s.answer
 
-  pub unread : {r : Refusal} → a ≡ read.Refused r → step_record_found w M bs ≡ told r
+  pub unread : {r : Refusal} → a ≡ Err r → step_record_found w M bs ≡ told r
   unread {r = r} d = refused-of (step_record_found w M bs) (kind_in bs) (number r.cause) r.place (sym (ap (step_read_said w) d) ∙ read-said)
 
-  pub read-fine : {kind : StepKind} → a ≡ read.Read kind → step_record_found w M bs ≡ fine
+  pub read-fine : {kind : StepKind} → a ≡ Ok kind → step_record_found w M bs ≡ fine
   read-fine {kind = kind} d = (accepted-of (step_record_found w M bs) (kind_in bs) (kind_number w kind) (sym (ap (step_read_said w) d) ∙ read-said)).0
 
-  pub kind-read : {kind : StepKind} → a ≡ read.Read kind → kind_number w kind ≡ kind_in bs
+  pub kind-read : {kind : StepKind} → a ≡ Ok kind → kind_number w kind ≡ kind_in bs
   kind-read {kind = kind} d = (accepted-of (step_record_found w M bs) (kind_in bs) (kind_number w kind) (sym (ap (step_read_said w) d) ∙ read-said)).1

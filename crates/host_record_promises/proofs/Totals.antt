@@ -12,16 +12,15 @@ use Rattle.host_answer.proofs.Answers.{answered-refused, answered-found}
 use Rattle.host_tested.specs.Tested.{field_tested}
 use Rattle.host_taking.specs.Taken.{taken_in, field_taken_said}
 use Rattle.host_taking.specs.declared.FieldCounts.{FieldCounts}
-use Rattle.host_taking.specs.declared.FieldTaken.{FieldTaken}
-use Rattle.host_taking.specs.declared.FieldTaken.TheVariants.{Taken, Refused}
 use Rattle.host_taking.proofs.Held.{untaken, tested-fine, total-is}
 use Rattle.host_record_promises.specs.Cells.{total_found}
+use Rattle.std.specs.Prelude.{Result, Ok, Err}
 
-module _ (mesh field : List ℕ) {a : FieldTaken} (t : field_taken_said a ≡ (field_tested mesh field and_then accepted (taken_in mesh field))) (found : List ℕ) where
-  pub total-untaken : {q : Refusal} → a ≡ Refused q → {r : ℕ} → r ≡ refusal_number (number q.cause) q.place
+module _ (mesh field : List ℕ) {a : Result FieldCounts Refusal} (t : field_taken_said a ≡ (field_tested mesh field and_then accepted (taken_in mesh field))) (found : List ℕ) where
+  pub total-untaken : {q : Refusal} → a ≡ Err q → {r : ℕ} → r ≡ refusal_number (number q.cause) q.place
       → Answered alone (total_found mesh field) found r found
   total-untaken d n = answered-refused alone found (out _ (untaken mesh field t d)) n
 
-  pub total-taken : {n : FieldCounts} → a ≡ Taken n → {found' : List ℕ} → found' ≡ filled (alone n.total) found
+  pub total-taken : {n : FieldCounts} → a ≡ Ok n → {found' : List ℕ} → found' ≡ filled (alone n.total) found
       → Answered alone (total_found mesh field) found 0 found'
   total-taken d e = answered-found alone found (past _ (tested-fine mesh field t d) ∙ ap accepted (sym (total-is mesh field t d))) e

@@ -8,8 +8,8 @@ ghost use Rattle.host_answer.specs.Found.{alone, Answered};
 ghost use Rattle.host_share.specs.Share.{face_from, ShareFromC, version};
 
 use host_numbers::{fill1, number_of};
-use survey::ShareAnswer;
 use survey_points::{Face, Point};
+use model::Refusal;
 
 // The version's three numbers: the file VERSION has them, and tests/host.sh compares.
 const MAJOR: u64 = 2;
@@ -19,16 +19,16 @@ const MINOR: u64 = 8;
 const PATCH: u64 = 1;
 
 // The answer of a share: found is the share.
-fn answered(answer: ShareAnswer, found: &mut [u64]) -> u64
+fn answered(answer: Result<u64, Refusal>, found: &mut [u64]) -> u64
     requires { number_of (share_by answer) < 2 ^ 64 }
     ensures { Answered alone (share_by answer) found.old result found.new }
 {
     match answer {
-        ShareAnswer::Share(share) => {
+        Ok(share) => {
             fill1(found, share);
             0
         }
-        ShareAnswer::Refused(refusal) => number_of(refusal),
+        Err(refusal) => number_of(refusal),
     }
 }
 

@@ -12,19 +12,20 @@ ghost use Rattle.host_answer.specs.Found.{Answered};
 ghost use Rattle.host_answer.specs.Steps.{crossed, StepFromC, JudgeFromC};
 
 use host_numbers::{fill3, number_of};
-use transport::{StepAnswer, Way};
+use transport::{Way, Crossed};
+use model::Refusal;
 
 // A step's answer: found are in-mass, out-mass and released mass.
-pub fn answered(answer: StepAnswer, found: &mut [u64]) -> u64
+pub fn answered(answer: Result<Crossed, Refusal>, found: &mut [u64]) -> u64
     requires { number_of (step_said answer) < 2 ^ 64 }
     ensures { Answered crossed (step_said answer) found.old result found.new }
 {
     match answer {
-        StepAnswer::Stepped(crossed) => {
+        Ok(crossed) => {
             fill3(found, crossed.entered, crossed.gone, crossed.released);
             0
         }
-        StepAnswer::Refused(refusal) => number_of(refusal),
+        Err(refusal) => number_of(refusal),
     }
 }
 

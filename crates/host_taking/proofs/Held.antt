@@ -18,8 +18,7 @@ use Rattle.record_reading.specs.Reading.{mesh_in}
 use Rattle.host_tested.specs.Tested.{field_tested, field_in}
 use Rattle.host_taking.specs.Taken.{taken_in, field_taken_said, Front, TablesHeld, RecordsTaking, CellsTaking}
 use Rattle.host_taking.specs.declared.FieldCounts.{FieldCounts}
-use Rattle.host_taking.specs.declared.FieldTaken.{FieldTaken}
-use Rattle.host_taking.specs.declared.FieldTaken.TheVariants as taken
+use Rattle.std.specs.Prelude.{Result, Ok, Err}
 
 -- a part that is lent is as long as its count
 front_fits : {n m : ℕ} {xs ys : List ℕ} → n ≡ m → Front m xs ys → n ≤ length ys
@@ -28,11 +27,11 @@ front_fits {ys = ys} e f = rw e f.fits
 front_long : {n m : ℕ} {xs ys : List ℕ} → n ≡ m → Front m xs ys → n ≡ length (take n ys)
 front_long {n = n} {ys = ys} e f = sym (length-take-le n ys (front_fits e f))
 
-module _ (mesh field : List ℕ) {a : FieldTaken} (q : field_taken_said a ≡ (field_tested mesh field and_then accepted (taken_in mesh field))) where
-  pub untaken : {r : Refusal} → a ≡ taken.Refused r → field_tested mesh field ≡ told r
+module _ (mesh field : List ℕ) {a : Result FieldCounts Refusal} (q : field_taken_said a ≡ (field_tested mesh field and_then accepted (taken_in mesh field))) where
+  pub untaken : {r : Refusal} → a ≡ Err r → field_tested mesh field ≡ told r
   untaken {r = r} d = refused-of (field_tested mesh field) (taken_in mesh field) (number r.cause) r.place (sym (ap field_taken_said d) ∙ q)
 
-  module _ {n : FieldCounts} (d : a ≡ taken.Taken n) where
+  module _ {n : FieldCounts} (d : a ≡ Ok n) where
     is-taken : (field_tested mesh field ≡ fine) × (n ≡ taken_in mesh field)
     is-taken = accepted-of (field_tested mesh field) (taken_in mesh field) n (sym (ap field_taken_said d) ∙ q)
 
@@ -52,8 +51,8 @@ module _ (mesh field : List ℕ) {a : FieldTaken} (q : field_taken_said a ≡ (f
     width_is = ap (λ (k : FieldCounts). k.width) is-taken.1
 
 -- of a call that looks at cells alone
-module _ (mesh field : List ℕ) {a : FieldTaken} {volumes masses : List ℕ} (t : CellsTaking mesh field a volumes masses) {n : FieldCounts}
-    (d : a ≡ taken.Taken n) where
+module _ (mesh field : List ℕ) {a : Result FieldCounts Refusal} {volumes masses : List ℕ} (t : CellsTaking mesh field a volumes masses) {n : FieldCounts}
+    (d : a ≡ Ok n) where
   pub cells-as : (P : ℕ → List ℕ → List ℕ → Type 0) → P n.cells (take n.cells volumes) (take n.cells masses) → P (mesh_in mesh).cells
       (mesh_in mesh).volumes (field_in mesh field)
   cells-as P p =
@@ -85,8 +84,8 @@ pub record Lendable (n : FieldCounts) (left : Mesh) (masses : List ℕ) : Type 0
   pub masses_long : n.cells ≡ length (take n.cells masses)
 
 -- of a call on the whole mesh
-module _ (mesh field : List ℕ) {a : FieldTaken} {left : Mesh} {masses : List ℕ} (t : RecordsTaking mesh field a left masses) {n : FieldCounts}
-    (d : a ≡ taken.Taken n) where
+module _ (mesh field : List ℕ) {a : Result FieldCounts Refusal} {left : Mesh} {masses : List ℕ} (t : RecordsTaking mesh field a left masses) {n : FieldCounts}
+    (d : a ≡ Ok n) where
   held : TablesHeld mesh field left masses
   held = t.tables (tested-fine mesh field t.answer d)
 

@@ -5,10 +5,8 @@ ghost use Rattle.std.specs.Prelude.{◌≡◌, length};
 ghost use Rattle.model.specs.Mesh.{mesh_of, run_cells, run_faces};
 ghost use Rattle.host_taking.specs.Taken.{RecordsTaking, CellsTaking};
 
-use checks::TotalAnswer;
 use model::{RUN_FACES, Refusal};
 use record_layouts::Width;
-use record_reading::MeshAnswer;
 
 // The counts of the mesh, the width of its record, and the total of the field.
 #[derive(Clone, Copy)]
@@ -17,12 +15,6 @@ pub struct FieldCounts {
     pub faces: usize,
     pub width: Width,
     pub total: u64,
-}
-
-#[derive(Clone, Copy)]
-pub enum FieldTaken {
-    Taken(FieldCounts),
-    Refused(Refusal),
 }
 
 // Both records, into tables as long as the run's limits.
@@ -35,7 +27,7 @@ pub fn take_field(
     shares: &mut [u64],
     reaches: &mut [u64],
     masses: &mut [u64],
-) -> FieldTaken
+) -> Result<FieldCounts, Refusal>
     requires volumes_len { (length volumes.old ≡ run_cells) × (length masses.old ≡ run_cells) }
     requires firsts_len { (length firsts.old ≡ run_faces) × (length seconds.old ≡ run_faces) × (length shares.old ≡ run_faces) × (length reaches.old ≡ run_faces) }
     ensures { RecordsTaking mesh.now field.now result
@@ -44,14 +36,14 @@ pub fn take_field(
 {
     let a = taking_mesh::take_mesh(mesh, volumes, firsts, seconds, shares, reaches);
     match a {
-        MeshAnswer::Refused(refusal) => FieldTaken::Refused(refusal),
-        MeshAnswer::Read(counts) => {
+        Err(refusal) => Err(refusal),
+        Ok(counts) => {
             let cells = counts.cells;
             let width = counts.width;
             let b = taking_records::take_field(width, cells, field, &volumes[..cells], masses);
             match b {
-                TotalAnswer::Refused(refusal) => FieldTaken::Refused(refusal),
-                TotalAnswer::Total(total) => FieldTaken::Taken(FieldCounts {
+                Err(refusal) => Err(refusal),
+                Ok(total) => Ok(FieldCounts {
                     cells,
                     faces: counts.faces,
                     width,
@@ -63,7 +55,7 @@ pub fn take_field(
 }
 
 // Both records, for a call that looks at cells alone.
-pub fn take_cells(mesh: &[u8], field: &[u8], volumes: &mut [u64], masses: &mut [u64]) -> FieldTaken
+pub fn take_cells(mesh: &[u8], field: &[u8], volumes: &mut [u64], masses: &mut [u64]) -> Result<FieldCounts, Refusal>
     requires { (length volumes.old ≡ run_cells) × (length masses.old ≡ run_cells) }
     ensures { CellsTaking mesh.now field.now result volumes.new masses.new }
 {

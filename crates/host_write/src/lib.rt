@@ -13,7 +13,7 @@ ghost use Rattle.host_read_promises.specs.Write.{kind_named, MeshWriteFromC, Fie
 use host_numbers::{fill1, number_of};
 use host_read::width_named;
 use record_layouts::{StepKind, Width};
-use record_writing::WriteAnswer;
+use model::Refusal;
 
 // The kinds of a step that hold releases.
 const OUTFALLS: u64 = 4;
@@ -24,16 +24,16 @@ const WIDE_OUTFALLS: u64 = 8;
 const FIRST_WIDE: u64 = 5;
 
 // The answer of a writer: found is the length.
-fn answered(answer: WriteAnswer, found: &mut [u64]) -> u64
+fn answered(answer: Result<u64, Refusal>, found: &mut [u64]) -> u64
     requires { number_of (write_said answer) < 2 ^ 64 }
     ensures { Answered alone (write_said answer) found.old result found.new }
 {
     match answer {
-        WriteAnswer::Written(length) => {
+        Ok(length) => {
             fill1(found, length);
             0
         }
-        WriteAnswer::Refused(refusal) => number_of(refusal),
+        Err(refusal) => number_of(refusal),
     }
 }
 

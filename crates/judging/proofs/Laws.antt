@@ -33,9 +33,9 @@ use Rattle.judging_claims.specs.Tests.{claim_at}
 use Rattle.judging_bounds.specs.Bounds.{holds, next_at, Salted, Bordered, Affords, bounds_verdict}
 use Rattle.transport.specs.Promise.{step_said}
 use Rattle.transport.specs.declared.Crossed as crossed
-use Rattle.transport.specs.declared.StepAnswer.{StepAnswer}
-use Rattle.transport.specs.declared.StepAnswer.TheVariants.{Stepped, Refused}
 use Rattle.judging.specs.Promise.{JudgePromise, amounts_answer}
+use Rattle.std.specs.Prelude.{Result, Ok, Err}
+use Rattle.transport.specs.declared.Crossed.{Crossed}
 
 module _ (M : Mesh) (masses : List ℕ) (fluxes : List ℤ) (outsides releases : List ℕ) where
   abbrev S : StepInput
@@ -147,14 +147,14 @@ module _ (M : Mesh) (masses : List ℕ) (fluxes : List ℤ) (outsides releases :
 
 -- the promise: refused by the causes of a step, refused by 21 or 22, or accepted
 module _ (M : Mesh) (masses : List ℕ) (k : Call) where
-  pub refused-first : (r : Refusal) → unworked_verdict M masses k ≡ told r → JudgePromise M masses k (Refused r) k.nexts
+  pub refused-first : (r : Refusal) → unworked_verdict M masses k ≡ told r → JudgePromise M masses k (Err r) k.nexts
   unfolding step_answer next_table claim_verdict
   refused-first r e =
       let v : claim_verdict M masses k ≡ told r = out _ e in
       record { answer = sym (out _ v); next_masses = rw v }
 
-  module _ (u : unworked_verdict M masses k ≡ fine) (a : StepAnswer) (says : step_said a ≡ amounts_answer (input_of M masses k) k.moveds k.releases) where
-    pub refused-last : {r : Refusal} → a ≡ Refused r → JudgePromise M masses k (Refused r) k.nexts
+  module _ (u : unworked_verdict M masses k ≡ fine) (a : Result Crossed Refusal) (says : step_said a ≡ amounts_answer (input_of M masses k) k.moveds k.releases) where
+    pub refused-last : {r : Refusal} → a ≡ Err r → JudgePromise M masses k (Err r) k.nexts
     unfolding step_answer next_table claim_verdict
     refused-last {r} g =
         let e : amounts_verdict (input_of M masses k) (claimed k) ≡ told r =
@@ -162,7 +162,7 @@ module _ (M : Mesh) (masses : List ℕ) (k : Call) where
         let v : claim_verdict M masses k ≡ told r = past _ u ∙ e in
         record { answer = sym (out _ v); next_masses = rw v }
 
-    module _ {b : crossed.Crossed} (g : a ≡ Stepped b) where
+    module _ {b : crossed.Crossed} (g : a ≡ Ok b) where
       pub amounts-fine : amounts_verdict (input_of M masses k) (claimed k) ≡ fine
       amounts-fine = (accepted-of (amounts_verdict (input_of M masses k) (claimed k)) _ _ (sym (ap step_said g) ∙ says)).0
 
@@ -171,7 +171,7 @@ module _ (M : Mesh) (masses : List ℕ) (k : Call) where
       first_fine = (both-fine _ _ amounts-fine).0
 
       pub accepted-last : (next : List ℕ) → next ≡ over (table M.cells (updated M (mass (input_of M masses k)) (claimed k))) k.nexts
-          → JudgePromise M masses k (Stepped b) next
+          → JudgePromise M masses k (Ok b) next
       unfolding step_answer next_table claim_verdict
       accepted-last next q =
           let v : claim_verdict M masses k ≡ fine = past _ u ∙ amounts-fine in

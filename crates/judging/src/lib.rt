@@ -9,10 +9,10 @@ ghost use Rattle.step_carrying.specs.Carrying.{input_from, CarriedTo};
 ghost use Rattle.transport.specs.Promise.{step_said};
 ghost use Rattle.judging.specs.Promise.{JudgePromise, amounts_answer};
 
-use model::{Answer, MAX_CELLS, MAX_FACES};
+use model::{MAX_CELLS, MAX_FACES, Refusal};
 use step_carrying::{Carried, carry};
 use step_raising::concentrations;
-use transport::{Crossed, StepAnswer};
+use transport::Crossed;
 
 // Entries of a table of work for the largest mesh.
 const MAX_WORK: usize = 4 * MAX_CELLS + MAX_FACES;
@@ -65,7 +65,7 @@ fn judged_in(
     low: &mut [u64],
     carried: &mut [i64],
     work: &mut [u64],
-) -> StepAnswer
+) -> Result<Crossed, Refusal>
     requires ready { let S = input_from cells faces volumes.now firsts.now seconds.now shares.now reaches.now masses.now fluxes.now outsides.now
         releases.now in
         Ready S × (cells ≤ length masses.now) × (cells ≤ length releases.now) × (faces ≤ length claim.now) }
@@ -79,16 +79,16 @@ fn judged_in(
         releases, low, carried, work,
     );
     let a = judging_claims::claims_good(faces, seconds, fluxes, carried, claim);
-    if let Answer::Refused(r) = a {
-        return StepAnswer::Refused(r);
+    if let Err(r) = a {
+        return Err(r);
     }
     let b = judging_bounds::values(
         cells, faces, volumes, firsts, seconds, masses, claim, releases, work,
     );
-    if let Answer::Refused(r) = b {
-        return StepAnswer::Refused(r);
+    if let Err(r) = b {
+        return Err(r);
     }
-    StepAnswer::Stepped(Crossed {
+    Ok(Crossed {
         entered: crossed.entered,
         gone: crossed.gone,
         released: checks::field::sum_of(cells, releases),
@@ -109,7 +109,7 @@ fn judged(
     outsides: &[u64],
     claim: &[i64],
     releases: &[u64],
-) -> StepAnswer
+) -> Result<Crossed, Refusal>
     requires { let S = input_from cells faces volumes.now firsts.now seconds.now shares.now reaches.now masses.now fluxes.now outsides.now
         releases.now in
         Ready S × (cells ≤ length masses.now) × (cells ≤ length releases.now) × (faces ≤ length claim.now) }
@@ -154,7 +154,7 @@ pub fn judge(
     next: &mut [u64],
     claim: &[i64],
     releases: &[u64],
-) -> StepAnswer
+) -> Result<Crossed, Refusal>
     ensures { JudgePromise
         (mesh_of cells faces volumes.now firsts.now seconds.now shares.now reaches.now)
         masses.now
@@ -165,20 +165,20 @@ pub fn judge(
         cells, faces, volumes, firsts, seconds, shares, reaches, masses, fluxes, outsides, next,
         claim, releases,
     );
-    if let Answer::Refused(refusal) = verdict {
-        return StepAnswer::Refused(refusal);
+    if let Err(refusal) = verdict {
+        return Err(refusal);
     }
     let answer = judged(
         cells, faces, volumes, firsts, seconds, shares, reaches, masses, fluxes, outsides, claim,
         releases,
     );
     match answer {
-        StepAnswer::Refused(refusal) => StepAnswer::Refused(refusal),
-        StepAnswer::Stepped(crossed) => {
+        Err(refusal) => Err(refusal),
+        Ok(crossed) => {
             judging_next::values(
                 cells, faces, volumes, firsts, seconds, masses, claim, releases, next,
             );
-            StepAnswer::Stepped(crossed)
+            Ok(crossed)
         }
     }
 }

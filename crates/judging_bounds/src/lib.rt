@@ -12,7 +12,7 @@ ghost use Rattle.judging_bounds.specs.Bounds.{holds as holds_of, bounds_at, entr
 
 use check_flows::gather;
 use model::needs::between;
-use model::{Answer, Cause, ENDS, Refusal};
+use model::{Cause, ENDS, Refusal};
 use step_cell::{HI, LO};
 
 // What a cell holds once its release is added.
@@ -66,7 +66,7 @@ fn bounds_good(
     work: &[u64],
     enters: &[u64],
     leaves: &[u64],
-) -> Answer
+) -> Result<(), Refusal>
     requires { Salted cells masses.now releases.now × Bordered cells volumes.now work.now × Summed cells enters.now leaves.now }
     ensures { said result ≡ each 22 cells (bounds_at volumes.now masses.now releases.now work.now
         (entry enters.now) (entry leaves.now)) }
@@ -74,14 +74,14 @@ fn bounds_good(
     let mut c = 0;
     while c < cells {
         if !cell_fits(c, cells, volumes, masses, releases, work, enters, leaves) {
-            return Answer::Refused(Refusal {
+            return Err(Refusal {
                 cause: Cause::Bounds,
                 place: c as u64,
             });
         }
         c += 1;
     }
-    Answer::Done
+    Ok(())
 }
 
 // Cause 22, on arrays of zeros.
@@ -97,7 +97,7 @@ fn values_in(
     work: &[u64],
     enters: &mut [u64],
     leaves: &mut [u64],
-) -> Answer
+) -> Result<(), Refusal>
     requires long_enough { LongEnough faces firsts.now seconds.now claim.now cells volumes.now }
     requires faces_fit { FacesFit faces firsts.now seconds.now claim.now }
     requires salted { Salted cells masses.now releases.now × Bordered cells volumes.now work.now }
@@ -120,7 +120,7 @@ pub fn values(
     claim: &[i64],
     releases: &[u64],
     work: &[u64],
-) -> Answer
+) -> Result<(), Refusal>
     requires long_enough { LongEnough faces firsts.now seconds.now claim.now cells volumes.now }
     requires faces_fit { FacesFit faces firsts.now seconds.now claim.now }
     requires salted { Salted cells masses.now releases.now × Bordered cells volumes.now work.now }

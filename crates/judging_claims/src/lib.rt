@@ -6,7 +6,7 @@ ghost use Rattle.model.specs.Causes.{each};
 ghost use Rattle.model.specs.Answers.{said};
 ghost use Rattle.judging_claims.specs.Tests.{still_fit, rim_fit, claim_parts, claim_at};
 
-use model::{Answer, Cause, RIM, Refusal};
+use model::{Cause, RIM, Refusal};
 use signed::{is_negative_at, size_at};
 
 // Largest size of a claimed mass.
@@ -75,19 +75,19 @@ pub fn claims_good(
     fluxes: &[i64],
     carried: &[i64],
     claim: &[i64],
-) -> Answer
+) -> Result<(), Refusal>
     requires { (faces ≤ length seconds.now) × (faces ≤ length fluxes.now) × (faces ≤ length carried.now) × (faces ≤ length claim.now) }
     ensures { said result ≡ each 21 faces (claim_at seconds.now fluxes.now carried.now claim.now) }
 {
     let mut f = 0;
     while f < faces {
         if !face_fits(f, seconds, fluxes, carried, claim) {
-            return Answer::Refused(Refusal {
+            return Err(Refusal {
                 cause: Cause::Moved,
                 place: f as u64,
             });
         }
         f += 1;
     }
-    Answer::Done
+    Ok(())
 }

@@ -9,9 +9,7 @@ ghost use Rattle.record_writing.specs.Writing.{most_of};
 ghost use Rattle.lagoon_straight.specs.Inner.{MeshPut};
 ghost use Rattle.lagoon_straight.specs.Straight.{RecordsPut};
 
-use model::Answer;
 use record_layouts::Width;
-use record_reading::{MeshAnswer, StepRead};
 
 // A quarter of the run's limits.
 const FEW_CELLS: usize = 256;
@@ -42,7 +40,7 @@ fn on_mesh(
 {
     let mut masses = [0u64; FEW_CELLS];
     let a = record_reading::read_field(width, cells, field, &mut masses);
-    if let Answer::Refused(_) = a {
+    if let Err(_) = a {
         return false;
     }
     let mut fluxes = [0i64; FEW_FACES];
@@ -58,7 +56,7 @@ fn on_mesh(
         &mut outsides,
         &mut releases,
     );
-    if let StepRead::Refused(_) = b {
+    if let Err(_) = b {
         return false;
     }
     let mut next = [0u64; FEW_CELLS];
@@ -103,7 +101,7 @@ pub fn step(mesh: &[u8], field: &[u8], step: &[u8], bytes: &mut [u8]) -> bool
         &mut shares,
         &mut reaches,
     );
-    let MeshAnswer::Read(counts) = answer else {
+    let Ok(counts) = answer else {
         return false;
     };
     let cells = counts.cells;

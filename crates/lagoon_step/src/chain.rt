@@ -5,11 +5,8 @@ ghost use Rattle.model.specs.Causes.{mesh_values};
 ghost use Rattle.record_writing.specs.Writing.{most_of};
 ghost use Rattle.lagoon.specs.Inner.{MeshComes, HostComes};
 
-use checks::TotalAnswer;
-use model::{Answer, RUN_CELLS, RUN_FACES, StepTaken};
+use model::{RUN_CELLS, RUN_FACES, Refusal};
 use record_layouts::Width;
-use record_reading::MeshAnswer;
-use record_writing::WriteAnswer;
 
 // From the field record on, on a mesh that a writer of this width refuses no value of.
 fn on_mesh(
@@ -24,7 +21,7 @@ fn on_mesh(
     field: &[u8],
     step: &[u8],
     bytes: &mut [u8],
-) -> Answer
+) -> Result<(), Refusal>
     requires { mesh_values (most_of width) (mesh_of cells faces volumes.now firsts.now seconds.now shares.now reaches.now)
         ≡ mesh_values ceiling (mesh_of cells faces volumes.now firsts.now seconds.now shares.now reaches.now) }
     ensures { MeshComes width
@@ -33,27 +30,27 @@ fn on_mesh(
 {
     let mut masses = [0u64; RUN_CELLS];
     let a = taking_records::take_field(width, cells, field, volumes, &mut masses);
-    if let TotalAnswer::Refused(refusal) = a {
-        return Answer::Refused(refusal);
+    if let Err(refusal) = a {
+        return Err(refusal);
     }
     let counted = &mut masses[..cells];
     let b = taking_records::take_step(
         width, cells, faces, step, volumes, firsts, seconds, shares, reaches, counted,
     );
-    if let StepTaken::Refused(refusal) = b {
-        return Answer::Refused(refusal);
+    if let Err(refusal) = b {
+        return Err(refusal);
     }
     let c = record_writing::write_field(
         width, cells, faces, volumes, firsts, seconds, shares, reaches, counted, bytes,
     );
-    if let WriteAnswer::Refused(refusal) = c {
-        return Answer::Refused(refusal);
+    if let Err(refusal) = c {
+        return Err(refusal);
     }
-    Answer::Done
+    Ok(())
 }
 
 // The three records in their order, each judged before the next is read.
-fn in_order(mesh: &[u8], field: &[u8], step: &[u8], bytes: &mut [u8]) -> Answer
+fn in_order(mesh: &[u8], field: &[u8], step: &[u8], bytes: &mut [u8]) -> Result<(), Refusal>
     ensures { HostComes mesh.now field.now step.now bytes.old result bytes.new }
 {
     let mut volumes = [0u64; RUN_CELLS];
@@ -70,8 +67,8 @@ fn in_order(mesh: &[u8], field: &[u8], step: &[u8], bytes: &mut [u8]) -> Answer
         &mut reaches,
     );
     match a {
-        MeshAnswer::Refused(refusal) => Answer::Refused(refusal),
-        MeshAnswer::Read(counts) => {
+        Err(refusal) => Err(refusal),
+        Ok(counts) => {
             let cells = counts.cells;
             let faces = counts.faces;
             let width = counts.width;
@@ -93,14 +90,14 @@ fn in_order(mesh: &[u8], field: &[u8], step: &[u8], bytes: &mut [u8]) -> Answer
 }
 
 // The three records.
-pub fn on_records(mesh: &[u8], field: &[u8], step: &[u8], bytes: &mut [u8]) -> Answer
+pub fn on_records(mesh: &[u8], field: &[u8], step: &[u8], bytes: &mut [u8]) -> Result<(), Refusal>
     ensures { HostComes mesh.now field.now step.now bytes.old result bytes.new }
 {
     if lagoon_short::step(mesh, field, step, bytes) {
-        return Answer::Done;
+        return Ok(());
     }
     if lagoon_straight::step(mesh, field, step, bytes) {
-        return Answer::Done;
+        return Ok(());
     }
     in_order(mesh, field, step, bytes)
 }

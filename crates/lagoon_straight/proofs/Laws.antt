@@ -13,13 +13,9 @@ use Rattle.model.specs.Mesh.{Mesh, run_cells, run_faces, max_cells, max_faces, c
 use Rattle.model.specs.Meshes.{parted}
 use Rattle.model.specs.Step.{StepInput, next}
 use Rattle.model.specs.Causes.{fine, each, long, Call, call_of, input_of, counts_within, counts, mesh_long, mesh_tables, volume_good, mesh_causes, mesh_values, field_table, salt_good, field_values, mesh_field_verdict, verdict, cells_only}
-use Rattle.model.specs.declared.Answer.{Answer}
-use Rattle.model.specs.declared.Answer.TheVariants.{Done}
 use Rattle.model.proofs.Verdicts.{all-fine, fine-all, both-fine, past, passes, long-fine, long-met, need-met}
 use Rattle.model.proofs.Accepted.{Passed, passed, counted, all-long, mesh_lent, lent-mesh}
 use Rattle.transport.specs.Promise.{StepMade}
-use Rattle.transport.specs.declared.StepAnswer.{StepAnswer}
-use Rattle.transport.specs.declared.StepAnswer.TheVariants as step-answer
 use Rattle.transport.specs.declared.Crossed.{Crossed}
 use Rattle.record_layouts.specs.Layouts.{field_kind, field_record, field_length}
 use Rattle.record_heads.specs.Heads.{kind_in, width_in, cells_in, faces_in, has_length, field_head_verdict}
@@ -28,8 +24,6 @@ use Rattle.record_layouts.specs.declared.StepKind.{StepKind}
 use Rattle.record_reading.specs.Reading.{mesh_in, masses_in, fluxes_in, outsides_in, releases_in, field_body_verdict, field_read, step_read}
 use Rattle.record_reading.specs.Answers.{counting, FieldReading, StepReading}
 use Rattle.record_reading.specs.declared.MeshCounts.{MeshCounts}
-use Rattle.record_reading.specs.declared.StepRead.{StepRead}
-use Rattle.record_reading.specs.declared.StepRead.TheVariants as read
 use Rattle.record_putting.specs.Putting.{FieldWhole, Wrote}
 use Rattle.record_writing.specs.Writing.{most_of}
 use Rattle.record_writing.proofs.WriteLaws.{field-whole}
@@ -41,6 +35,8 @@ use Rattle.taking.proofs.StepLaws.{own-fine, crossed, nexts-part, fluxes-part, o
 use Rattle.lagoon_straight.specs.Straight.{Put, Unrefused, RecordsPut}
 use Rattle.lagoon_straight.specs.Inner.{StepHolds, StepPut, MeshHolds, MeshPut}
 use Rattle.lagoon_straight.proofs.Writer.{write-is, record-within}
+use Rattle.std.specs.Prelude.{Result, Ok}
+use Rattle.model.specs.declared.Refusal.{Refusal}
 
 -- not done, and done
 pub undone : {Holds : Type 0} {w : Width} {S : StepInput} {bytes : List ℕ} → Put Holds w S bytes false bytes
@@ -51,9 +47,9 @@ pub put-done : {Holds : Type 0} {w : Width} {S : StepInput} {bytes bytes' : List
 put-done h q = record { done = λ e. (h, q); left = λ e. absurd (true≢false e) }
 
 -- a step of which nothing is found
-module _ {M : Mesh} {masses : List ℕ} {fluxes : List ℤ} {outsides nexts : List ℕ} {moveds : List ℤ} {work releases : List ℕ} {a : StepAnswer}
+module _ {M : Mesh} {masses : List ℕ} {fluxes : List ℤ} {outsides nexts : List ℕ} {moveds : List ℤ} {work releases : List ℕ} {a : Result Crossed Refusal}
     {nexts' : List ℕ} (p : StepMade M masses (call_of fluxes outsides nexts moveds work releases) a nexts') {b : Crossed}
-    (d : a ≡ step-answer.Stepped b) where
+    (d : a ≡ Ok b) where
   abbrev k : Call
   k = call_of fluxes outsides nexts moveds work releases
 
@@ -82,8 +78,8 @@ module _ {M : Mesh} {masses : List ℕ} {fluxes : List ℤ} {outsides nexts : Li
         put-done v u.written
 
 -- a field record that is read into a table, which may be shorter than the run's
-module _ (w : Width) {cells : ℕ} {bs own own' : List ℕ} {a : Answer} (s : FieldReading (field_read w cells bs (length own)) cells bs own a own')
-    (d : a ≡ Done) where
+module _ (w : Width) {cells : ℕ} {bs own own' : List ℕ} {a : Result (Unit {0}) Refusal} (s : FieldReading (field_read w cells bs (length own)) cells bs own a own')
+    (d : a ≡ Ok tt) where
   field_fine : field_read w cells bs (length own) ≡ fine
   field_fine = passes s.answer d
 
@@ -100,12 +96,12 @@ module _ (w : Width) {cells : ℕ} {bs own own' : List ℕ} {a : Answer} (s : Fi
   field_found h = past _ parts-fine.0 ∙ past _ parts-fine.1 ∙ long-met 5 _ _ h
 
 -- from the field record on
-module _ (w : Width) (M : Mesh) (field step bytes : List ℕ) {own own' : List ℕ} {a : Answer} (f : FieldReading (field_read w M.cells field (length own))
-    M.cells field own a own') (fd : a ≡ Done)
-    {fluxes : List ℤ} {outsides releases : List ℕ} {b : StepRead} {fluxes' : List ℤ} {outsides' releases' : List ℕ}
+module _ (w : Width) (M : Mesh) (field step bytes : List ℕ) {own own' : List ℕ} {a : Result (Unit {0}) Refusal} (f : FieldReading (field_read w M.cells field (length own))
+    M.cells field own a own') (fd : a ≡ Ok tt)
+    {fluxes : List ℤ} {outsides releases : List ℕ} {b : Result StepKind Refusal} {fluxes' : List ℤ} {outsides' releases' : List ℕ}
     (s : StepReading w (step_read w M.cells M.faces M.seconds step (length fluxes) (length outsides) (length releases)) M.cells M.faces
     M.seconds step
-    fluxes outsides releases b fluxes' outsides' releases') {kind : StepKind} (sd : b ≡ read.Read kind)
+    fluxes outsides releases b fluxes' outsides' releases') {kind : StepKind} (sd : b ≡ Ok kind)
     (faces : length fluxes ≤ run_faces) (cells : length releases ≤ run_cells) where
   abbrev masses : List ℕ
   masses = masses_in field M.cells

@@ -9,10 +9,8 @@ ghost use Rattle.record_writing.specs.Writing.{most_of};
 ghost use Rattle.lagoon_straight.specs.Inner.{StepPut, MeshPut};
 ghost use Rattle.lagoon_straight.specs.Straight.{RecordsPut};
 
-use model::{Answer, RUN_CELLS, RUN_FACES, RUN_WORK};
+use model::{RUN_CELLS, RUN_FACES, RUN_WORK};
 use record_layouts::{Width, lengths};
-use record_reading::{MeshAnswer, StepRead};
-use transport::StepAnswer;
 
 // A step through what has been read, and the next field put into the bytes. Of the other lent tables the lengths alone matter.
 pub fn put_step(
@@ -45,7 +43,7 @@ pub fn put_step(
         false, cells, faces, volumes, firsts, seconds, shares, reaches, masses, fluxes, outsides,
         next, moved, work, releases,
     );
-    let StepAnswer::Stepped(_) = answer else {
+    let Ok(_) = answer else {
         return false;
     };
     if bytes.len() < lengths::field_bytes(width, cells) {
@@ -77,7 +75,7 @@ fn on_mesh(
 {
     let mut masses = [0u64; RUN_CELLS];
     let a = record_reading::read_field(width, cells, field, &mut masses);
-    if let Answer::Refused(_) = a {
+    if let Err(_) = a {
         return false;
     }
     let mut fluxes = [0i64; RUN_FACES];
@@ -93,7 +91,7 @@ fn on_mesh(
         &mut outsides,
         &mut releases,
     );
-    if let StepRead::Refused(_) = b {
+    if let Err(_) = b {
         return false;
     }
     let mut next = [0u64; RUN_CELLS];
@@ -138,7 +136,7 @@ pub fn step(mesh: &[u8], field: &[u8], step: &[u8], bytes: &mut [u8]) -> bool
         &mut shares,
         &mut reaches,
     );
-    let MeshAnswer::Read(counts) = answer else {
+    let Ok(counts) = answer else {
         return false;
     };
     let cells = counts.cells;

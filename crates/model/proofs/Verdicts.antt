@@ -10,15 +10,14 @@ use lib.Dec.{eqb, leb}
 use Rattle.lists.proofs.Tests.{Same, same, other, same?}
 use Rattle.model.specs.Causes.{Outcome, accepted, refused, Verdict, fine, ◌and_then◌, first_of, in_turn, need, each, long}
 use Rattle.model.specs.Answers.{told, said}
-use Rattle.model.specs.declared.Answer.{Answer}
-use Rattle.model.specs.declared.Answer.TheVariants.{Done, Refused}
 use Rattle.model.specs.declared.Refusal.{Refusal}
+use Rattle.std.specs.Prelude.{Result, Ok, Err}
 
 -- an answer that refuses, and one that does not
-pub refuses : {v : Verdict} {a : Answer} {r : Refusal} → said a ≡ v → a ≡ Refused r → v ≡ told r
+pub refuses : {v : Verdict} {a : Result (Unit {0}) Refusal} {r : Refusal} → said a ≡ v → a ≡ Err r → v ≡ told r
 refuses e q = sym e ∙ ap said q
 
-pub passes : {v : Verdict} {a : Answer} → said a ≡ v → a ≡ Done → v ≡ fine
+pub passes : {v : Verdict} {a : Result (Unit {0}) Refusal} → said a ≡ v → a ≡ Ok tt → v ≡ fine
 passes e q = sym e ∙ ap said q
 
 -- both parts are fine

@@ -1,11 +1,9 @@
 -- Document 01, "What form each place needs", on answers that are enums: the number and the values of each case.
-use Rattle.std.specs.Prelude.{ℕ}
+use Rattle.std.specs.Prelude.{ℕ, Result, Ok, Err}
 use Rattle.model.specs.Causes.{Outcome, refused, Verdict, fine}
 use Rattle.model.specs.declared.Cause.{Cause}
 use Rattle.model.specs.declared.Cause.TheVariants.{Limits, Table, Volume, Ends, Spacing, Concentration, Outside, Flux, Balance, Outflow, Length, Bit, Head, Page, Name, Room, Unkept, Release, Coordinate, Ratio, Moved, Bounds, Label, Part, Bands, Period, Mark}
 use Rattle.model.specs.declared.Refusal.{Refusal}
-use Rattle.model.specs.declared.Answer.{Answer}
-use Rattle.model.specs.declared.Answer.TheVariants.{Done, Refused}
 
 -- "Causes", the column of numbers; then those of document 02's requests.
 abbrev pub number : Cause → ℕ
@@ -49,6 +47,6 @@ number Mark = 27
 abbrev pub told : {A : Type 0} → Refusal → Outcome A
 told r = refused (number r.cause) r.place
 
-abbrev pub said : Answer → Verdict
-said Done = fine
-said (Refused r) = told r
+abbrev pub said : Result (Unit {0}) Refusal → Verdict
+said (Ok x) = fine
+said (Err r) = told r

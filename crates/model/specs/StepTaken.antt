@@ -2,9 +2,9 @@
 use Rattle.model.specs.Causes.{Outcome, accepted}
 use Rattle.model.specs.Answers.{told}
 use Rattle.model.specs.declared.Printed.{Printed}
-use Rattle.model.specs.declared.StepTaken.{StepTaken}
-use Rattle.model.specs.declared.StepTaken.TheVariants.{Stepped, Refused}
+use Rattle.std.specs.Prelude.{Result, Ok, Err}
+use Rattle.model.specs.declared.Refusal.{Refusal}
 
-abbrev pub taken_said : StepTaken → Outcome Printed
-taken_said (Stepped p) = accepted p
-taken_said (Refused r) = told r
+abbrev pub taken_said : Result Printed Refusal → Outcome Printed
+taken_said (Ok p) = accepted p
+taken_said (Err r) = told r

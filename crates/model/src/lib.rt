@@ -76,13 +76,6 @@ pub struct Refusal {
     pub place: u64,
 }
 
-// The answer of a call that gives nothing but acceptance.
-#[derive(Clone, Copy)]
-pub enum Answer {
-    Done,
-    Refused(Refusal),
-}
-
 // What is printed of an accepted step.
 #[derive(Clone, Copy)]
 pub struct Printed {
@@ -90,13 +83,6 @@ pub struct Printed {
     pub gone: u64,
     pub total: u64,
     pub released: u64,
-}
-
-// What a step record comes to, by value: who takes it and who prints it know the answer, and need nothing of each other.
-#[derive(Clone, Copy)]
-pub enum StepTaken {
-    Stepped(Printed),
-    Refused(Refusal),
 }
 
 // The papers' number of a cause.

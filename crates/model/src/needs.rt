@@ -3,7 +3,7 @@ ghost use Rattle.std.specs.Prelude.{◌≡◌};
 ghost use Rattle.model.specs.Causes.{◌and_then◌, need as need_of, long as long_of, between as between_of};
 ghost use Rattle.model.specs.Answers.{said, number};
 
-use crate::{Answer, Cause, Refusal};
+use crate::{Cause, Refusal};
 
 // Whether x lies in the range.
 pub fn between(low: u64, high: u64, x: u64) -> bool
@@ -16,27 +16,27 @@ pub fn between(low: u64, high: u64, x: u64) -> bool
 }
 
 // A refusal where the test fails.
-pub fn need(cause: Cause, place: u64, good: bool) -> Answer
+pub fn need(cause: Cause, place: u64, good: bool) -> Result<(), Refusal>
     ensures { said result ≡ need_of (number cause) place good }
 {
     if good {
-        return Answer::Done;
+        return Ok(());
     }
-    Answer::Refused(Refusal { cause, place })
+    Err(Refusal { cause, place })
 }
 
 // The first of two that refuses.
-pub fn and_then(a: Answer, b: Answer) -> Answer
+pub fn and_then(a: Result<(), Refusal>, b: Result<(), Refusal>) -> Result<(), Refusal>
     ensures { said result ≡ (said a and_then said b) }
 {
-    if let Answer::Refused(r) = a {
-        return Answer::Refused(r);
+    if let Err(r) = a {
+        return Err(r);
     }
     b
 }
 
 // Whether a table has as many entries as wanted.
-pub fn long(position: u64, wanted: usize, has: usize) -> Answer
+pub fn long(position: u64, wanted: usize, has: usize) -> Result<(), Refusal>
     ensures { said result ≡ long_of position wanted has }
 {
     need(Cause::Table, position, wanted <= has)

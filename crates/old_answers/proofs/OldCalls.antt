@@ -15,7 +15,6 @@ use Rattle.record_layouts.specs.declared.StepKind.{StepKind}
 use Rattle.record_layouts.specs.declared.StepKind.TheVariants.{Water, Outfalls}
 use Rattle.record_reading.specs.Reading.{mesh_in, masses_in, outsides_in, releases_in, mesh_body_verdict, step_body_verdict, mesh_read, step_read}
 use Rattle.record_writing.specs.Writing.{StepWriting, mesh_write_verdict, field_write_verdict, step_write_verdict}
-use Rattle.record_writing.specs.declared.WriteAnswer.{WriteAnswer}
 use Rattle.host_answer.specs.Number.{number_of}
 use Rattle.run_printed.proofs.Prints.{prints}
 use Rattle.old_answers.specs.Before.{old_field_judged, old_step_writing}
@@ -24,6 +23,8 @@ use Rattle.old_answers.proofs.Outcomes.{same_after, granted-then, filled}
 use Rattle.old_answers.proofs.Records.{mesh-found, read-kind-one, mesh-narrow, mesh-in, mesh-measured, old-field-read, old-masses, field-needs, step-found, read-shape, old-fluxes, step-needs}
 use Rattle.old_answers.proofs.Taken.{kept_same, judged-kind-one, mesh-judged, field-judged, judged-masses, step-judged, judged-step-in, stepping-same, host-verdict, host-bytes}
 use Rattle.old_answers.proofs.Runs.{run-same}
+use Rattle.std.specs.Prelude.{Result}
+use Rattle.model.specs.declared.Refusal.{Refusal}
 
 pub old-reading : OldReading
 unfolding mesh_read step_read outsides_in releases_in
@@ -52,7 +53,7 @@ old-reading = record {
       );
 }
 
-step_written : (M : Mesh) (k : StepKind) (fluxes : List ℤ) (outsides releases bytes : List ℕ) (r : WriteAnswer) (bytes' : List ℕ)
+step_written : (M : Mesh) (k : StepKind) (fluxes : List ℤ) (outsides releases bytes : List ℕ) (r : Result ℕ Refusal) (bytes' : List ℕ)
     → StepWriting Narrow M (kind_number Narrow k) fluxes outsides releases bytes r bytes'
     → old_step_writing M (kind_number Narrow k) fluxes outsides releases bytes r bytes'
 unfolding step_write_verdict step_length step_record value_bits mass_bits release_bits

@@ -20,17 +20,19 @@ use Rattle.record_layouts.specs.declared.Width.{Width}
 use Rattle.record_layouts.specs.declared.Width.TheVariants.{Narrow}
 use Rattle.record_reading.specs.Reading.{mesh_in, masses_in, fluxes_in, outsides_in, releases_in}
 use Rattle.model.specs.Meshes.{over_mesh}
-use Rattle.record_reading.specs.declared.MeshAnswer.{MeshAnswer}
 use Rattle.taking_mesh.specs.MeshTaking.{MeshKept, mesh_record_found, mesh_judged}
 use Rattle.taking.specs.Taking.{field_judged, step_in, step_record_found, step_judged, printed_of, Stepping}
-use Rattle.model.specs.declared.StepTaken.{StepTaken}
 use Rattle.lagoon.specs.Host.{host_input, host_verdict, host_bytes}
 use Rattle.old_answers.specs.Before.{step_by, old_mesh_in, old_masses_in, old_step_in, old_step_read, old_mesh_judged, old_cells_verdict, old_field_judged, old_step_judged, old_host_verdict, old_next_record, old_host_bytes}
 use Rattle.old_answers.proofs.Outcomes.{same_after, same-granted, same-found, filled}
 use Rattle.old_answers.proofs.Records.{mesh-found, read-kind-one, mesh-narrow, mesh-in, old-small, old-field-read, old-masses, step-found, read-shape, step-narrow, flux-small}
+use Rattle.std.specs.Prelude.{Result}
+use Rattle.model.specs.declared.Refusal.{Refusal}
+use Rattle.model.specs.declared.Printed.{Printed}
+use Rattle.record_reading.specs.declared.MeshCounts.{MeshCounts}
 
 -- A MESH that is kept: by the same verdict, and by the width and the mesh that are the same where it passes
-pub kept_same : {u v : Verdict} {w : Width} {M N lent left : Mesh} {r : MeshAnswer} → u ≡ v → (v ≡ fine → w ≡ Narrow) → (v ≡ fine → M ≡ N)
+pub kept_same : {u v : Verdict} {w : Width} {M N lent left : Mesh} {r : Result MeshCounts Refusal} → u ≡ v → (v ≡ fine → w ≡ Narrow) → (v ≡ fine → M ≡ N)
     → MeshKept u w M lent r left → MeshKept v Narrow N lent r left
 kept_same {u} {v} {w} {M} {N} {lent} e d m c = record {
   answer = c.answer ∙ ap (λ (x : Verdict). x and_then accepted (record { cells = M.cells; faces = M.faces; width = w })) e
@@ -99,7 +101,7 @@ module _ (M : Mesh) (bs : List ℕ) where
           step-verdict h ∙ ap (λ (k : Call). in_turn (causes_within old_ceiling M masses k)) (old-step-in h)))
 
 module _ {M : Mesh} {masses : List ℕ} where
-  pub stepping-same : {u v : Verdict} {k l : Call} {r : StepTaken} {masses' : List ℕ} → u ≡ v → (v ≡ fine → k ≡ l) → Stepping M masses u k r masses'
+  pub stepping-same : {u v : Verdict} {k l : Call} {r : Result Printed Refusal} {masses' : List ℕ} → u ≡ v → (v ≡ fine → k ≡ l) → Stepping M masses u k r masses'
       → Stepping M masses v l r masses'
   stepping-same {v = v} {k = k} {l = l} e d c = record {
     answer = c.answer ∙ ap (λ (x : Verdict). x and_then accepted (printed_of M masses k)) e

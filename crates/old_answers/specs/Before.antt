@@ -1,7 +1,7 @@
 -- Documents 01 and 02 as they were before S-10, of records: kinds 1 to 4, 12 bits for V, K and the size of U, 32 for masses and releases, 4,095
 -- as the ceiling of 3, 5 and 8. No code rests on them; OldCalls.antt says that the calls on such records answer by them. What S-10 left alone
 -- is named from where it stands: the fields of a head, each cause's test, the step itself.
-use Rattle.std.specs.Prelude.{ℕ, ◌*◌, ◌^◌, min, cond, not, ◌&&◌, ◌||◌, List, [], ◌∷◌, eqb, leb, ltb, length, get_or, ℤ}
+use Rattle.std.specs.Prelude.{ℕ, ◌*◌, ◌^◌, min, cond, not, ◌&&◌, ◌||◌, List, [], ◌∷◌, eqb, leb, ltb, length, get_or, ℤ, Result}
 use Rattle.lists.specs.Table.{table, over}
 use Rattle.signed.specs.Sign.{with_sign}
 use Rattle.model.specs.Mesh.{Mesh, mesh_of, max_cells, max_faces, run_cells, run_faces, old_ceiling}
@@ -13,8 +13,8 @@ use Rattle.record_heads.specs.Heads.{kind_in, cells_in, faces_in, step_faces_in,
 use Rattle.record_zeros.specs.Zeros.{zero_bit_good, minus_zero}
 use Rattle.record_causes.specs.Verdicts.{no_field}
 use Rattle.record_writing.specs.Writing.{Writing}
-use Rattle.record_writing.specs.declared.WriteAnswer.{WriteAnswer}
 use Rattle.taking.specs.Taking.{own_tables}
+use Rattle.model.specs.declared.Refusal.{Refusal}
 
 -- Document 01, "Record layouts", the table in its figures: a mesh, a field, a step. S-6: kind 4 ends with a release for each cell.
 abbrev pub old_mesh_shape : (cells faces : ℕ) → List Section
@@ -105,19 +105,19 @@ old_step_needs cells faces seconds bs = old_step_head cells faces seconds bs and
 
 -- "Causes", of writing: 1, 2 with the bytes among the tables, 3 to 6, in a step 18 before 7 and 8; the length, and the bytes.
 module _ (M : Mesh) where
-  abbrev pub old_mesh_writing : List ℕ → WriteAnswer → List ℕ → Type 0
+  abbrev pub old_mesh_writing : List ℕ → (Result ℕ Refusal) → List ℕ → Type 0
   old_mesh_writing bytes = Writing
       (counts M and_then mesh_tables M and_then bytes_long (length_of (old_mesh_shape M.cells M.faces)) (length bytes) and_then mesh_values old_ceiling M)
       (length_of (old_mesh_shape M.cells M.faces)) (record_of (old_mesh_shape M.cells M.faces) (mesh_value 1 M)) bytes
 
-  abbrev pub old_field_writing : List ℕ → List ℕ → WriteAnswer → List ℕ → Type 0
+  abbrev pub old_field_writing : List ℕ → List ℕ → (Result ℕ Refusal) → List ℕ → Type 0
   old_field_writing masses bytes = Writing
       (counts M and_then mesh_tables M and_then field_table M masses and_then bytes_long (length_of (old_field_shape M.cells)) (length bytes)
       and_then mesh_values old_ceiling M and_then field_values M masses)
       (length_of (old_field_shape M.cells)) (record_of (old_field_shape M.cells) (field_value 2 M.cells masses)) bytes
 
   -- of kind 3 or 4
-  abbrev pub old_step_writing : (kind : ℕ) → List ℤ → List ℕ → List ℕ → List ℕ → WriteAnswer → List ℕ → Type 0
+  abbrev pub old_step_writing : (kind : ℕ) → List ℤ → List ℕ → List ℕ → List ℕ → (Result ℕ Refusal) → List ℕ → Type 0
   old_step_writing kind fluxes outsides releases bytes = Writing
       (counts M and_then mesh_tables M and_then long 6 M.faces (length fluxes) and_then long 7 M.faces (length outsides)
       and_then bytes_long (length_of (old_step_shape kind M.cells M.faces M.seconds)) (length bytes) and_then long 14 M.cells (length releases)

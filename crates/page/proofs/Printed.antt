@@ -14,7 +14,6 @@ use Rattle.model.specs.declared.Refusal.{Refusal}
 use Rattle.model.specs.Calls.{mass_in}
 use Rattle.model.proofs.Verdicts.{accepted-of}
 use Rattle.checks.specs.Total.{total_said}
-use Rattle.checks.specs.declared.TotalAnswer.TheVariants.{Total}
 use Rattle.text.specs.Digits.{most_digits}
 use Rattle.text.specs.Lines.{Puts, column, space, newline}
 use Rattle.text.specs.Reading.{number_in, line_at}
@@ -24,8 +23,8 @@ use Rattle.page.specs.Page.{cell_places, qPlaces, rest_places, mass_places, line
 use Rattle.page.specs.Fitting.{Fitting}
 use Rattle.page.specs.Reading.{cell_read, qRead, rest_read, mass_read, ReadsBack}
 use Rattle.page.specs.Answers.{page_verdict, PageIs}
-use Rattle.page.specs.declared.PageAnswer.TheVariants.{Printed, Refused}
 use Rattle.page.proofs.Laws.{PagePassed, page-passed, cell-there, bytes-needed, masses-add-up, figures-fit}
+use Rattle.std.specs.Prelude.{Ok, Err}
 
 -- ONE LINE, of three figures that fit
 module _ (places cell q rest : ℕ) (some : 1 ≤ places) (few : mass_places places ≤ most_digits)
@@ -127,12 +126,12 @@ module _ (places : ℕ) (volumes masses : List ℕ) (cells : ℕ) (f : Fitting p
 
 -- WHAT THE CALL ANSWERS, refused and accepted
 module _ (volumes masses : List ℕ) (cells page : ℕ) (bytes : List ℕ) where
-  pub page-refused : {r : Refusal} → page_verdict volumes masses cells page (length bytes) ≡ told_of r → PageIs volumes masses cells page bytes (Refused r) bytes
+  pub page-refused : {r : Refusal} → page_verdict volumes masses cells page (length bytes) ≡ told_of r → PageIs volumes masses cells page bytes (Err r) bytes
   unfolding ◌and_then◌
   page-refused e = record { answer = rw e; bytes_after = rw e }
 
   pub page-accepted : {n : ℕ} {bytes' : List ℕ} → page_verdict volumes masses cells page (length bytes) ≡ fine
-      → Puts bytes 0 (page_text volumes masses (rest_places cells volumes) cells page) n bytes' → PageIs volumes masses cells page bytes (Printed n) bytes'
+      → Puts bytes 0 (page_text volumes masses (rest_places cells volumes) cells page) n bytes' → PageIs volumes masses cells page bytes (Ok n) bytes'
   unfolding ◌and_then◌
   page-accepted {n} {bytes'} e put =
       let passed = page-passed fine volumes masses cells page (length bytes) e in
@@ -142,7 +141,7 @@ module _ (volumes masses : List ℕ) (cells page : ℕ) (bytes : List ℕ) where
       record { answer = rw e (ap accepted (all.0 ∙ long)); bytes_after = rw e all.1 }
 
 -- A CALL THAT IS ACCEPTED: its answer is the length of the page, and the bytes afterwards read back.
-module _ {volumes masses : List ℕ} {cells page : ℕ} {bytes bytes' : List ℕ} {n : ℕ} (p : PageIs volumes masses cells page bytes (Printed n) bytes') where
+module _ {volumes masses : List ℕ} {cells page : ℕ} {bytes bytes' : List ℕ} {n : ℕ} (p : PageIs volumes masses cells page bytes (Ok n) bytes') where
   told : (page_verdict volumes masses cells page (length bytes) ≡ fine) × (n ≡ page_bytes (rest_places cells volumes) cells page)
   told = accepted-of (page_verdict volumes masses cells page (length bytes)) (page_bytes (rest_places cells volumes) cells page) n p.answer
 
@@ -167,13 +166,13 @@ module _ {volumes masses : List ℕ} {cells page : ℕ} {bytes bytes' : List ℕ
 
 -- ALL PAGES, each printed by a call into bytes of its own: the masses read from them add up to the field's total, as `total` answers it.
 module _ (volumes masses : List ℕ) (cells : ℕ) (bytes bytes' : ℕ → List ℕ) (n : ℕ → ℕ)
-    (printed : (page : ℕ) → page < pages cells → PageIs volumes masses cells page (bytes page) (Printed (n page)) (bytes' page)) where
+    (printed : (page : ℕ) → page < pages cells → PageIs volumes masses cells page (bytes page) (Ok (n page)) (bytes' page)) where
   pub pages-add-up : sum (pages cells) (λ page. mass_read (rest_places cells volumes) (bytes' page) (cells_on cells page)) ≡ sum cells (mass_in masses)
   pages-add-up =
       sum-cong (pages cells) (λ page. mass_read (rest_places cells volumes) (bytes' page) (cells_on cells page)) (page_mass volumes masses cells)
       (λ page h. (reads-back (printed page h)).page_mass_back)
       ∙ masses-add-up volumes masses cells
 
-  pub pages-total : (total : ℕ) → total_said (Total total) ≡ (mesh_field_verdict (cells_only cells volumes) masses and_then accepted (sum cells (mass_in masses)))
+  pub pages-total : (total : ℕ) → total_said (Ok total) ≡ (mesh_field_verdict (cells_only cells volumes) masses and_then accepted (sum cells (mass_in masses)))
       → sum (pages cells) (λ page. mass_read (rest_places cells volumes) (bytes' page) (cells_on cells page)) ≡ total
   pages-total total e = pages-add-up ∙ sym (accepted-of (mesh_field_verdict (cells_only cells volumes) masses) (sum cells (mass_in masses)) total e).1

@@ -1,12 +1,11 @@
 -- Document 02, S-1: what the call that prints a page refuses, answers and leaves.
-use Rattle.std.specs.Prelude.{ℕ, List, [], ◌∷◌, ◌≡◌, ltb, length}
+use Rattle.std.specs.Prelude.{ℕ, List, [], ◌∷◌, ◌≡◌, ltb, length, Result, Ok, Err}
 use Rattle.lists.specs.Table.{over}
 use Rattle.model.specs.Mesh.{ceiling}
 use Rattle.model.specs.Causes.{Outcome, accepted, Verdict, fine, ◌and_then◌, in_turn, granted, long, need, cells_only, counts, mesh_tables, field_table, mesh_values, field_values}
 use Rattle.model.specs.Answers.{told}
 use Rattle.page.specs.Page.{rest_places, pages, page_bytes, page_text}
-use Rattle.page.specs.declared.PageAnswer.{PageAnswer}
-use Rattle.page.specs.declared.PageAnswer.TheVariants.{Printed, Refused}
+use Rattle.model.specs.declared.Refusal.{Refusal}
 
 -- Causes in order: position 12 of 2 is what the page is printed into; 14 stands behind 6, and its place is the page asked for. The call is
 -- lent no faces, so 4 and 5 find nothing. A further table that is lent after the bytes, S-14's marks, is judged between 2 and 3.
@@ -30,12 +29,12 @@ abbrev pub page_verdict : (volumes masses : List ℕ) (cells page room : ℕ) �
 page_verdict = verdict_with fine
 
 -- Document 01, "What form each place needs", on answers that are enums.
-abbrev pub page_said : PageAnswer → Outcome ℕ
-page_said (Printed n) = accepted n
-page_said (Refused r) = told r
+abbrev pub page_said : Result ℕ Refusal → Outcome ℕ
+page_said (Ok n) = accepted n
+page_said (Err r) = told r
 
 -- The answer is the page's length; the page stands over the first bytes lent. A refusal leaves all.
-pub record PageIs (volumes masses : List ℕ) (cells page : ℕ) (bytes : List ℕ) (r : PageAnswer) (bytes' : List ℕ) : Type 0 where
+pub record PageIs (volumes masses : List ℕ) (cells page : ℕ) (bytes : List ℕ) (r : Result ℕ Refusal) (bytes' : List ℕ) : Type 0 where
   pub answer : page_said r ≡ (page_verdict volumes masses cells page (length bytes) and_then accepted (page_bytes (rest_places cells volumes) cells page))
   pub bytes_after : bytes' ≡ granted (page_verdict volumes masses cells page (length bytes))
       (over (page_text volumes masses (rest_places cells volumes) cells page) bytes) bytes

@@ -14,16 +14,9 @@ ghost use Rattle.page.specs.Answers.{verdict_with, PageIs};
 use checks::check_cells;
 use checks::field::sum_of;
 use model::needs::{and_then, long, need};
-use model::{Answer, Cause, Refusal, positions};
+use model::{Cause, Refusal, positions};
 use page_lines::{PAGE_CELLS, cells_on, lines, mass_places, rest_places};
 use text::{NEWLINE, column};
-
-// How many bytes the page has.
-#[derive(Clone, Copy)]
-pub enum PageAnswer {
-    Printed(u64),
-    Refused(Refusal),
-}
 
 fn pages(cells: usize) -> usize
     requires { cells ≤ max_cells }
@@ -71,14 +64,14 @@ pub fn judge(
     masses: &[u64],
     page: u64,
     room: usize,
-    further: Answer,
-) -> Answer
+    further: Result<(), Refusal>,
+) -> Result<(), Refusal>
     ensures { said result ≡ verdict_with (said further) volumes.now masses.now cells page room }
 {
     let none = &volumes[..0];
     let tables = check_lent::field_lent(cells, 0, volumes, none, none, none, none, masses);
-    if let Answer::Refused(r) = tables {
-        return Answer::Refused(r);
+    if let Err(r) = tables {
+        return Err(r);
     }
     let places = rest_places(cells, volumes);
     let space = long(positions::PAGE, page_bytes(places, cells, page), room);
@@ -94,14 +87,14 @@ pub fn page(
     masses: &[u64],
     page: u64,
     bytes: &mut [u8],
-) -> PageAnswer
+) -> Result<u64, Refusal>
     ensures { PageIs volumes.now masses.now cells page bytes.old result bytes.new }
 {
-    let verdict = judge(cells, volumes, masses, page, bytes.len(), Answer::Done);
-    if let Answer::Refused(r) = verdict {
-        return PageAnswer::Refused(r);
+    let verdict = judge(cells, volumes, masses, page, bytes.len(), Ok(()));
+    if let Err(r) = verdict {
+        return Err(r);
     }
     let places = rest_places(cells, volumes);
     let length = put(bytes, places, cells, volumes, masses, page as usize);
-    PageAnswer::Printed(length as u64)
+    Ok(length as u64)
 }

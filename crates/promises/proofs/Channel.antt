@@ -25,10 +25,10 @@ use Rattle.taking.specs.Taking.{field_judged, blank, step_record_found, step_jud
 use Rattle.lagoon.specs.Host.{host_input, host_verdict, host_bytes, HostPromise}
 use Rattle.transport.specs.Promise.{StepPromise}
 use Rattle.transport.specs.declared.Way.TheVariants.{Corrected}
-use Rattle.transport.specs.declared.StepAnswer.TheVariants.{Stepped}
 use Rattle.transport.specs.Made.{Made}
 use Rattle.promises.specs.Steps.{HostMade, StepCall, by_step, by_host, water_in, came_to, StepContract, StepsMade}
 use Rattle.promises.proofs.Held.{mesh-holds, field-holds}
+use Rattle.std.specs.Prelude.{Ok}
 
 -- the definitions that the figures compute
 figures : Unit {0}
@@ -57,7 +57,7 @@ abbrev first : Made
 first = record {
   past = 7 ∷ 7 ∷ [];
   tables = water;
-  answer = Stepped (record { entered = 50000; gone = 0; released = 0 });
+  answer = Ok (record { entered = 50000; gone = 0; released = 0 });
   next = between;
   moved = negsuc 49999 ∷ pos 49901 ∷ pos 0 ∷ pos 0 ∷ [];
   work = replicate 16 0;

@@ -24,7 +24,6 @@ use Rattle.record_reading.specs.Answers.{counting}
 use Rattle.record_reading.specs.declared.MeshCounts.{MeshCounts}
 use Rattle.taking_mesh.specs.MeshTaking.{mesh_judged, mesh_judged_in_run}
 use Rattle.model.specs.declared.Printed.{Printed}
-use Rattle.model.specs.declared.StepTaken.{StepTaken}
 use Rattle.model.specs.StepTaken.{taken_said}
 use Rattle.taking.specs.Taking.{field_judged, step_in, printed_of, step_judged, StepTaking}
 use Rattle.run_printed.specs.Program.{StepsPrint, no_byte, step_ends, step_goes_on, FieldPrints, field_refused, field_accepted, empty_tables, mesh_refused, mesh_accepted}
@@ -32,6 +31,8 @@ use Rattle.promises.specs.Steps.{run_left, StepsMade}
 use Rattle.promises.specs.Run.{run_steps, FieldDemanded, RunMakesList}
 use Rattle.promises.proofs.AsTheRun.{lent_fine, lent-field-fine, masses_long, field-as-the-run}
 use Rattle.promises.proofs.Steps.{demand-3}
+use Rattle.std.specs.Prelude.{Result}
+use Rattle.model.specs.declared.Refusal.{Refusal}
 
 module _ (w : Width) (M : Mesh) (masses : List ℕ) (long : M.cells ≤ length masses) where
   -- a table that holds the field in its first entries is the field with what stands past it
@@ -43,7 +44,7 @@ module _ (w : Width) (M : Mesh) (masses : List ℕ) (long : M.cells ≤ length m
       go i true (fits h) = get_d_over M.cells (mass_in masses) masses 0 i h
       go i false (exceeds h) = get_d_past M.cells (mass_in masses) masses 0 i (omega arith)
 
-  module _ (bs : List ℕ) (r : StepTaken) (after : List ℕ) (t : StepTaking w M masses bs r after) where
+  module _ (bs : List ℕ) (r : Result Printed Refusal) (after : List ℕ) (t : StepTaking w M masses bs r after) where
     kept : StepTaking w M (lent_masses M (drop M.cells masses) masses) bs r after
     kept = rw whole t
 

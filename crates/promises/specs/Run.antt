@@ -1,15 +1,16 @@
 -- Document 01, "A list of steps" and "The board and the run": the steps of a run are a list of step calls of which demand 3 speaks.
-use Rattle.std.specs.Prelude.{ℕ, ◌≡◌, List, [], ◌∷◌, drop}
+use Rattle.std.specs.Prelude.{ℕ, ◌≡◌, List, [], ◌∷◌, drop, Result}
 use Rattle.model.specs.Mesh.{Mesh}
 use Rattle.model.specs.Causes.{fine, mesh_verdict, field_verdict}
 use Rattle.model.specs.Calls.{ListClaim}
 use Rattle.record_layouts.specs.declared.Width.{Width}
-use Rattle.model.specs.declared.StepTaken.{StepTaken}
 use Rattle.run_printed.specs.Program.{StepsPrint, no_byte, step_ends, step_goes_on, FieldPrints, field_refused, field_accepted, Prints, mesh_refused, mesh_accepted}
 use Rattle.promises.specs.Steps.{StepCall, by_take_step, StepsMade, came_to, StepOwed}
+use Rattle.model.specs.declared.Refusal.{Refusal}
+use Rattle.model.specs.declared.Printed.{Printed}
 
 -- a step of the run, which steps the first masses of a table in place
-abbrev pub run_step : Width → Mesh → List ℕ → List ℕ → StepTaken → List ℕ → StepCall
+abbrev pub run_step : Width → Mesh → List ℕ → List ℕ → (Result Printed Refusal) → List ℕ → StepCall
 run_step w M masses step answer after = by_take_step (record { width = w; past = drop M.cells masses; step = step; answer = answer; masses = after })
 
 unfoldable pub run_steps : {w : Width} {M : Mesh} {step : ℕ} {masses input out : List ℕ} → StepsPrint w M step masses input out → List StepCall

@@ -1,6 +1,6 @@
 -- Document 01, "A list of steps": step calls as they were made, on tables and on records, from Rattle and from C, and demand 3 about every list of
 -- them; with document 02's S-6, of steps with releases, its S-8, of plain steps, its S-10, of records of both widths, and its S-11, of claims.
-use Rattle.std.specs.Prelude.{ℕ, ◌/◌, ◌%◌, ◌≡◌, cond, List, eqb, ℤ, take}
+use Rattle.std.specs.Prelude.{ℕ, ◌/◌, ◌%◌, ◌≡◌, cond, List, eqb, ℤ, take, Result}
 use Rattle.model.specs.Mesh.{Mesh}
 use Rattle.model.specs.Causes.{Outcome, accepted, refused, Verdict, fine, ◌and_then◌, Call, input_of, mesh_verdict, field_verdict, water_of}
 use Rattle.model.specs.Calls.{Bounded, Left, crossing_of, lent_masses, EachStep, ListClaim}
@@ -12,7 +12,6 @@ use Rattle.record_layouts.specs.Layouts.{field_kind, field_length}
 use Rattle.record_layouts.specs.declared.Width.{Width}
 use Rattle.record_reading.specs.Reading.{masses_in, fluxes_in, outsides_in, releases_in}
 use Rattle.model.specs.declared.Printed.{Printed}
-use Rattle.model.specs.declared.StepTaken.{StepTaken}
 use Rattle.model.specs.StepTaken.{taken_said}
 use Rattle.taking.specs.Taking.{StepTaking}
 use Rattle.lagoon.specs.Host.{HostPromise}
@@ -22,6 +21,7 @@ use Rattle.host_answer.specs.Steps.{crossed, StepFromC, JudgeFromC}
 use Rattle.host_record_promises.specs.Plain.{PlainPromise}
 use Rattle.host_record_promises.specs.Judge.{JudgedFromC}
 use Rattle.promises.specs.Held.{HoldsMesh, HoldsField}
+use Rattle.model.specs.declared.Refusal.{Refusal}
 
 -- THE CALLS, as they were made: what was lent besides mesh and field, of any values and of any length; what was answered; and what then stood
 -- in the tables that the call writes. Of `step`, by its way, and of `judge` that is `Made`; a claim is lent as moved, and of its call only the
@@ -33,7 +33,7 @@ pub record RunMade : Type 0 where
   pub width : Width
   pub past : List ℕ
   pub step : List ℕ
-  pub answer : StepTaken
+  pub answer : Result Printed Refusal
   pub masses : List ℕ
 
 -- `lagoon_step`, the host's call, and `lagoon_plain_step`: the width of the records, the three records and the bytes lent for the next field

@@ -1,21 +1,21 @@
 -- Document 02, S-4: lists of step calls and of calls on a store, as they were made, from Rattle or from C. Demand 3 about every such list, whose
 -- budget starts anew at each return; and that a kept field comes back.
-use Rattle.std.specs.Prelude.{ℕ, ◌+◌, ◌<◌, ◌≡◌, ◌≢◌, List, [], ◌∷◌, ◌++◌, take, replicate}
+use Rattle.std.specs.Prelude.{ℕ, ◌+◌, ◌<◌, ◌≡◌, ◌≢◌, List, [], ◌∷◌, ◌++◌, take, replicate, Result}
 use Rattle.lists.specs.Table.{table, over}
 use Rattle.model.specs.Mesh.{Mesh}
 use Rattle.model.specs.Causes.{Outcome, accepted, Verdict, fine, granted, ◌and_then◌, mesh_verdict, field_verdict}
 use Rattle.model.specs.Answers.{said}
-use Rattle.model.specs.declared.Answer.{Answer}
 use Rattle.model.specs.Calls.{mass_in, lent_masses, Deed, given_back, store_only, stepping, last_field, EachCall, Ledger}
 use Rattle.store_kept.specs.Store.{count, used, fields_in, held_under, without}
 use Rattle.store.specs.Calls.{KeepPromise, DropPromise, ReturnPromise}
 use Rattle.host_answer.specs.Number.{cause_step}
 use Rattle.host_period_promises.specs.Kept.{KeepFromC, DropFromC, ReturnFromC}
 use Rattle.promises.specs.Steps.{StepCall, host_said, came_to, StepContract, StepOwed}
+use Rattle.model.specs.declared.Refusal.{Refusal}
 
 -- What a call on a store answered: an answer, or from C (`lagoon_keep`, `lagoon_drop`, `lagoon_give_back`) a number; and what either says.
 pub data StoreAnswer : Type 0 where
-  an_answer : Answer → StoreAnswer
+  an_answer : Result (Unit {0}) Refusal → StoreAnswer
   a_number : ℕ → StoreAnswer
 
 abbrev pub store_said : StoreAnswer → Verdict

@@ -7,13 +7,13 @@ use lib.ListN.{length, get_or}
 use Rattle.lists.specs.Marked.{count}
 use Rattle.model.specs.Mesh.{ceiling}
 use Rattle.model.specs.Causes.{Verdict, refused, fine, ◌and_then◌, cells_only, counts, mesh_tables, field_table, mesh_values, field_values, mesh_field_verdict}
-use Rattle.model.specs.declared.Answer.TheVariants.{Done}
 use Rattle.model.proofs.Verdicts.{past, passes, refused-at, all-fine, fine-all, and_then-assoc}
 use Rattle.public_marks.specs.Marks.{is_open, marks_long, marks_good}
 use Rattle.board.specs.Board.{board_size, cell_before, Rankable}
 use Rattle.board.specs.declared.BoardAnswer.{BoardAnswer}
 use Rattle.board.proofs.Listed.{rank-asks, listed-ordered, unlisted-after}
 use Rattle.public_board.specs.Public.{open_listed, open_entries, public_board_verdict, PublicBoardIs}
+use Rattle.std.specs.Prelude.{Ok}
 
 in_order : (l k m f g : Verdict) → l ≡ fine → (l and_then k and_then m and_then f and_then g) ≡ (k and_then (l and_then m and_then f) and_then g)
 in_order l k m f g e = rw (past k e, past m e) (ap (λ (v : Verdict). v and_then g) (and_then-assoc k m f))
@@ -43,7 +43,7 @@ module _ (volumes masses marks : List ℕ) (cells : ℕ) where
       (p.0, (p.1.0, (p.1.1.0, (p.1.1.1.1.0, (p.1.1.1.1.1.0, tt))))))
 
   -- AN ACCEPTED CALL, by its contract: each open cell that is listed comes before those listed after it, and before every open cell that is not
-  module _ (r : BoardAnswer) (b : PublicBoardIs volumes masses marks cells r) (d : r.verdict ≡ Done) where
+  module _ (r : BoardAnswer) (b : PublicBoardIs volumes masses marks cells r) (d : r.verdict ≡ Ok tt) where
     volumes-some : (c : ℕ) → c < cells → 1 ≤ get_or volumes c 0
     volumes-some c h = ((asks (passes b.verdict_is d)).1 c h).0
 

@@ -7,18 +7,18 @@ ghost use Rattle.public_board.specs.Public.{public_board_verdict, PublicBoardIs}
 
 use board::{BoardAnswer, board_after};
 use checks::check_cells;
-use model::Answer;
 use model::needs::and_then;
 use public_marks::{marks_good, marks_long};
+use model::Refusal;
 
 // What the public board is refused for.
-fn judge(cells: usize, volumes: &[u64], masses: &[u64], marks: &[u64]) -> Answer
+fn judge(cells: usize, volumes: &[u64], masses: &[u64], marks: &[u64]) -> Result<(), Refusal>
     ensures { said result ≡ public_board_verdict volumes.now masses.now marks.now cells }
 {
     let none = &volumes[..0];
     let tables = check_lent::field_lent(cells, 0, volumes, none, none, none, none, masses);
-    if let Answer::Refused(r) = tables {
-        return Answer::Refused(r);
+    if let Err(r) = tables {
+        return Err(r);
     }
     let marked = marks_long(cells, marks);
     let field = and_then(marked, check_cells(cells, volumes, masses));

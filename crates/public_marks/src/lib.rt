@@ -6,7 +6,7 @@ ghost use Rattle.model.specs.Answers.{said};
 ghost use Rattle.public_marks.specs.Marks.{is_open, marks_long, marks_good};
 
 use model::needs::long;
-use model::{Answer, Cause, Refusal, positions};
+use model::{Cause, Refusal, positions};
 
 // The marks of a cell that all may see, and of one that is withheld.
 const OPEN: u64 = 0;
@@ -30,25 +30,25 @@ pub fn is_open(marks: &[u64], c: usize) -> bool
 }
 
 // Cause 2.
-pub fn marks_long(cells: usize, marks: &[u64]) -> Answer
+pub fn marks_long(cells: usize, marks: &[u64]) -> Result<(), Refusal>
     ensures { said result ≡ marks_long marks.now cells }
 {
     long(positions::MARKS, cells, marks.len())
 }
 
 // Cause 27.
-pub fn marks_good(cells: usize, marks: &[u64]) -> Answer
+pub fn marks_good(cells: usize, marks: &[u64]) -> Result<(), Refusal>
     ensures { said result ≡ marks_good marks.now cells }
 {
     let mut c = 0;
     while c < cells {
         if mark_at(marks, c) > WITHHELD {
-            return Answer::Refused(Refusal {
+            return Err(Refusal {
                 cause: Cause::Mark,
                 place: c as u64,
             });
         }
         c += 1;
     }
-    Answer::Done
+    Ok(())
 }

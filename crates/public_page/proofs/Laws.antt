@@ -17,10 +17,10 @@ use Rattle.text.proofs.Lines.{puts-all}
 use Rattle.public_marks.specs.Marks.{is_open, marks_long, marks_good}
 use Rattle.page.specs.Page.{rest_places, line_bytes, page_cells, cells_on, line_of, line_if}
 use Rattle.page.specs.Answers.{verdict_with}
-use Rattle.page.specs.declared.PageAnswer.TheVariants.{Printed, Refused}
 use Rattle.page.proofs.Laws.{page-begins, cells-end, bytes-needed, PagePassed, page-passed, few_cells, figures-fit, put-asks}
 use Rattle.page.proofs.Printed.{each-length}
 use Rattle.public_page.specs.Public.{public_text, public_page_verdict, PublicPageIs}
+use Rattle.std.specs.Prelude.{Ok, Err}
 
 -- WHAT IS ACCEPTED HERE is accepted as a whole page
 module _ (volumes masses marks : List ℕ) (cells page room : ℕ) where
@@ -62,7 +62,7 @@ either-most false w xs e = omega arith
 -- WHAT THE CALL ANSWERS, refused and accepted
 module _ (volumes masses marks : List ℕ) (cells page : ℕ) (bytes : List ℕ) where
   pub public-refused : {r : Refusal} → public_page_verdict volumes masses marks cells page (length bytes) ≡ told r
-      → PublicPageIs volumes masses marks cells page bytes (Refused r) bytes
+      → PublicPageIs volumes masses marks cells page bytes (Err r) bytes
   unfolding ◌and_then◌
   public-refused e = record { answer = rw e; bytes_after = rw e }
 
@@ -87,7 +87,7 @@ module _ (volumes masses marks : List ℕ) (cells page : ℕ) (bytes : List ℕ)
 
   pub public-accepted : {n count : ℕ} {bytes' : List ℕ} → public_page_verdict volumes masses marks cells page (length bytes) ≡ fine → count ≡ cells_on cells page
       → Puts bytes 0 (pieces count (λ i. line_if volumes masses (is_open marks) (rest_places cells volumes) (page * page_cells + i))) n bytes'
-      → PublicPageIs volumes masses marks cells page bytes (Printed n) bytes'
+      → PublicPageIs volumes masses marks cells page bytes (Ok n) bytes'
   unfolding ◌and_then◌ public_text
   public-accepted {n} {count} {bytes'} e q put =
       let all = puts-all bytes (rw q at put) (text-fits e) in

@@ -1,12 +1,12 @@
 -- Document 02, S-14: the page that the public reads. It is S-1's without the lines of withheld cells and without the mass.
-use Rattle.std.specs.Prelude.{ℕ, ◌+◌, ◌*◌, ◌≡◌, List, length}
+use Rattle.std.specs.Prelude.{ℕ, ◌+◌, ◌*◌, ◌≡◌, List, length, Result}
 use Rattle.lists.specs.Table.{over}
 use Rattle.model.specs.Causes.{Verdict, accepted, ◌and_then◌, granted}
 use Rattle.text.specs.Lines.{pieces}
 use Rattle.public_marks.specs.Marks.{is_open, marks_long, marks_good}
 use Rattle.page.specs.Page.{rest_places, page_cells, cells_on, line_if}
 use Rattle.page.specs.Answers.{page_said, verdict_with}
-use Rattle.page.specs.declared.PageAnswer.{PageAnswer}
+use Rattle.model.specs.declared.Refusal.{Refusal}
 
 module _ (volumes masses marks : List ℕ) where
   -- the lines of open cells, of the same sixty cell numbers as on the whole page
@@ -18,6 +18,6 @@ module _ (volumes masses marks : List ℕ) where
   public_page_verdict cells page room = verdict_with (marks_long marks cells) volumes masses cells page room and_then marks_good marks cells
 
   -- The answer is the public page's own length; it stands over the first bytes lent. A refusal leaves all.
-  pub record PublicPageIs (cells page : ℕ) (bytes : List ℕ) (r : PageAnswer) (bytes' : List ℕ) : Type 0 where
+  pub record PublicPageIs (cells page : ℕ) (bytes : List ℕ) (r : Result ℕ Refusal) (bytes' : List ℕ) : Type 0 where
     pub answer : page_said r ≡ (public_page_verdict cells page (length bytes) and_then accepted (length (public_text (rest_places cells volumes) cells page)))
     pub bytes_after : bytes' ≡ granted (public_page_verdict cells page (length bytes)) (over (public_text (rest_places cells volumes) cells page) bytes) bytes

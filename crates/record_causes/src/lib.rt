@@ -10,7 +10,7 @@ ghost use Rattle.record_layouts.specs.Layouts.{kind_number};
 ghost use Rattle.record_causes.specs.Verdicts.{most_of, mesh_write_verdict, field_write_verdict, step_write_verdict};
 
 use model::needs::{and_then, long};
-use model::{Answer, positions};
+use model::{positions, Refusal};
 use record_layouts::{StepKind, Width, lengths};
 
 // The ceiling of volumes, reaches and fluxes over the rim in records of a width.
@@ -34,14 +34,14 @@ pub fn mesh(
     shares: &[u64],
     reaches: &[u64],
     room: usize,
-) -> Answer
+) -> Result<(), Refusal>
     ensures { said result ≡ mesh_write_verdict width
         (mesh_of cells faces volumes.now firsts.now seconds.now shares.now reaches.now)
         room }
 {
     let lent = check_lent::mesh_lent(cells, faces, volumes, firsts, seconds, shares, reaches);
-    if let Answer::Refused(r) = lent {
-        return Answer::Refused(r);
+    if let Err(r) = lent {
+        return Err(r);
     }
     let space = long(
         positions::RECORD,
@@ -73,7 +73,7 @@ pub fn field(
     reaches: &[u64],
     masses: &[u64],
     room: usize,
-) -> Answer
+) -> Result<(), Refusal>
     ensures { said result ≡ field_write_verdict width
         (mesh_of cells faces volumes.now firsts.now seconds.now shares.now reaches.now)
         masses.now room }
@@ -81,8 +81,8 @@ pub fn field(
     let lent = check_lent::field_lent(
         cells, faces, volumes, firsts, seconds, shares, reaches, masses,
     );
-    if let Answer::Refused(r) = lent {
-        return Answer::Refused(r);
+    if let Err(r) = lent {
+        return Err(r);
     }
     let space = long(positions::RECORD, lengths::field_bytes(width, cells), room);
     let values = check_mesh::values(
@@ -96,8 +96,8 @@ pub fn field(
         most_of(width),
     );
     let fit = and_then(space, values);
-    if let Answer::Refused(r) = fit {
-        return Answer::Refused(r);
+    if let Err(r) = fit {
+        return Err(r);
     }
     checks::field::values(cells, volumes, masses)
 }
@@ -117,14 +117,14 @@ pub fn step(
     outsides: &[u64],
     room: usize,
     releases: &[u64],
-) -> Answer
+) -> Result<(), Refusal>
     ensures { said result ≡ step_write_verdict width
         (mesh_of cells faces volumes.now firsts.now seconds.now shares.now reaches.now)
         (kind_number width kind) fluxes.now outsides.now releases.now room }
 {
     let lent = check_lent::mesh_lent(cells, faces, volumes, firsts, seconds, shares, reaches);
-    if let Answer::Refused(r) = lent {
-        return Answer::Refused(r);
+    if let Err(r) = lent {
+        return Err(r);
     }
     let water = and_then(
         long(positions::FLUXES, faces, fluxes.len()),
@@ -137,8 +137,8 @@ pub fn step(
     );
     let most = and_then(water, space);
     let tables = and_then(most, long(positions::RELEASES, cells, releases.len()));
-    if let Answer::Refused(r) = tables {
-        return Answer::Refused(r);
+    if let Err(r) = tables {
+        return Err(r);
     }
     let mesh = check_mesh::values(
         cells,

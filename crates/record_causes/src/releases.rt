@@ -5,7 +5,7 @@ ghost use Rattle.model.specs.Answers.{said};
 ghost use Rattle.record_layouts.specs.Layouts.{kind_number, mass_width};
 ghost use Rattle.record_causes.specs.Verdicts.{release_fits};
 
-use model::{Answer, Cause, Refusal};
+use model::{Cause, Refusal};
 use record_layouts::body::Body;
 use record_layouts::{StepKind, Width};
 
@@ -33,19 +33,19 @@ fn release_fits(width: Width, kind: StepKind, release: u64) -> bool
     }
 }
 
-pub fn values(width: Width, kind: StepKind, cells: usize, releases: &[u64]) -> Answer
+pub fn values(width: Width, kind: StepKind, cells: usize, releases: &[u64]) -> Result<(), Refusal>
     requires { cells ≤ length releases.now }
     ensures { said result ≡ each 18 cells (λ c. release_fits (kind_number width kind) (get_or releases.now c 0)) }
 {
     let mut c = 0;
     while c < cells {
         if !release_fits(width, kind, releases[c]) {
-            return Answer::Refused(Refusal {
+            return Err(Refusal {
                 cause: Cause::Release,
                 place: c as u64,
             });
         }
         c += 1;
     }
-    Answer::Done
+    Ok(())
 }

@@ -1,6 +1,6 @@
 -- Document 01, "Causes", of reading: what a record's head says, what it is refused for, and how many bytes the record needs. Document 02, S-6:
 -- the head of a step says one of two kinds. S-10: that of a mesh says one of two widths, and the records after it are expected to have its width.
-use Rattle.std.specs.Prelude.{ℕ, ◌+◌, min, Bool, ◌||◌, List, [], ◌∷◌, length, eqb, leb}
+use Rattle.std.specs.Prelude.{ℕ, ◌+◌, min, Bool, ◌||◌, List, [], ◌∷◌, length, eqb, leb, Result, Ok, Err}
 use Rattle.model.specs.Mesh.{max_cells, max_faces}
 use Rattle.model.specs.Causes.{Outcome, accepted, refused, Verdict, ◌and_then◌, in_turn, need, between, counts_within, long}
 use Rattle.model.specs.Answers.{told}
@@ -9,11 +9,8 @@ use Rattle.record_bits.specs.Layout.{bytes_for}
 use Rattle.record_layouts.specs.Layouts.{mesh_kind, field_kind, water_kind, outfall_kind, width_of, kind_bits, cells_bits, faces_bits, mesh_head_bits, field_head_bits, step_head_bits, mesh_length, field_length, step_length}
 use Rattle.record_layouts.specs.declared.Width.{Width}
 use Rattle.record_layouts.specs.declared.Width.TheVariants.{Narrow, Wide}
-use Rattle.record_heads.specs.declared.LengthAnswer.{LengthAnswer}
-use Rattle.record_heads.specs.declared.LengthAnswer.TheVariants as needs
 use Rattle.record_heads.specs.declared.MeshLength.{MeshLength}
-use Rattle.record_heads.specs.declared.MeshLengthAnswer.{MeshLengthAnswer}
-use Rattle.record_heads.specs.declared.MeshLengthAnswer.TheVariants as mesh
+use Rattle.model.specs.declared.Refusal.{Refusal}
 
 -- The kind, and the counts in the head: of a mesh, of a field and of a step.
 module _ (bs : List ℕ) where
@@ -108,10 +105,10 @@ unfoldable pub step_needs : Width → (cells faces : ℕ) → List ℕ → List 
 step_needs w cells faces seconds bs = step_head_verdict w cells faces seconds bs and_then accepted (step_length (kind_in bs) cells faces seconds)
 
 -- What the answer of a length says.
-abbrev pub length_said : LengthAnswer → Outcome ℕ
-length_said (needs.Needs n) = accepted n
-length_said (needs.Refused r) = told r
+abbrev pub length_said : Result ℕ Refusal → Outcome ℕ
+length_said (Ok n) = accepted n
+length_said (Err r) = told r
 
-abbrev pub mesh_length_said : MeshLengthAnswer → Outcome MeshLength
-mesh_length_said (mesh.Needs n) = accepted n
-mesh_length_said (mesh.Refused r) = told r
+abbrev pub mesh_length_said : Result MeshLength Refusal → Outcome MeshLength
+mesh_length_said (Ok n) = accepted n
+mesh_length_said (Err r) = told r

@@ -10,19 +10,11 @@ ghost use Rattle.record_layouts.specs.Layouts.{mesh_kind, kind_number};
 ghost use Rattle.record_heads.specs.Heads.{kind_in, width_in, cells_in, faces_in, step_faces_in, is_mesh_kind, is_step_kind, mesh_head_verdict, field_head_verdict, step_head_verdict, mesh_measured, field_needs, step_needs, length_said, mesh_length_said};
 
 use model::needs::{and_then, between, need};
-use model::{Answer, Cause, Refusal};
+use model::{Cause, Refusal};
 use record_layouts::{
     CELLS, FACES, FIELD_HEAD, FIELD_KIND, KIND, MESH_HEAD, MESH_KIND, OUTFALL_KIND, STEP_HEAD,
     StepKind, WATER_KIND, WIDER, Width, lengths, of_width,
 };
-use record_reader::Spelled;
-
-// How many bytes a record needs, or why its head is refused.
-#[derive(Clone, Copy)]
-pub enum LengthAnswer {
-    Needs(usize),
-    Refused(Refusal),
-}
 
 // How many bytes a mesh record needs, and its width, which the records after it have.
 #[derive(Clone, Copy)]
@@ -31,15 +23,8 @@ pub struct MeshLength {
     pub width: Width,
 }
 
-// The same, or why the head of the mesh is refused.
-#[derive(Clone, Copy)]
-pub enum MeshLengthAnswer {
-    Needs(MeshLength),
-    Refused(Refusal),
-}
-
 // Cause 1, with the lesser of the caller's limits and document 01's.
-pub fn counts_within(most_cells: usize, most_faces: usize, cells: usize, faces: usize) -> Answer
+pub fn counts_within(most_cells: usize, most_faces: usize, cells: usize, faces: usize) -> Result<(), Refusal>
     ensures { said result ≡ counts_within (min most_cells max_cells) (min most_faces max_faces) cells faces }
 {
     let most_cells = lists::least(most_cells, model::MAX_CELLS);
@@ -52,8 +37,8 @@ fn field_after(bytes: &[u8], before: usize, width: usize) -> u64
     ensures { result ≡ spelled_number (number_at bytes.now before width) }
 {
     match record_reader::number_after(bytes, before, width) {
-        Spelled::Number(n) => n,
-        Spelled::Past => 0,
+        Some(n) => n,
+        None => 0,
     }
 }
 
@@ -131,12 +116,12 @@ pub fn step_kind(width: Width, bytes: &[u8]) -> StepKind
 }
 
 // What the head of a mesh is refused for. No limit is above document 01's, whatever the caller sets.
-pub fn mesh(most_cells: usize, most_faces: usize, bytes: &[u8]) -> Answer
+pub fn mesh(most_cells: usize, most_faces: usize, bytes: &[u8]) -> Result<(), Refusal>
     ensures { said result ≡ mesh_head_verdict most_cells most_faces bytes.now }
 {
     let a = need(Cause::Length, 0, MESH_HEAD <= bytes.len());
-    if let Answer::Refused(r) = a {
-        return Answer::Refused(r);
+    if let Err(r) = a {
+        return Err(r);
     }
     let b = need(Cause::Head, 0, is_mesh(kind(bytes)));
     and_then(
@@ -146,12 +131,12 @@ pub fn mesh(most_cells: usize, most_faces: usize, bytes: &[u8]) -> Answer
 }
 
 // What the head of a field on so many cells is refused for.
-pub fn field(width: Width, expected: usize, bytes: &[u8]) -> Answer
+pub fn field(width: Width, expected: usize, bytes: &[u8]) -> Result<(), Refusal>
     ensures { said result ≡ field_head_verdict width expected bytes.now }
 {
     let a = need(Cause::Length, 0, FIELD_HEAD <= bytes.len());
-    if let Answer::Refused(r) = a {
-        return Answer::Refused(r);
+    if let Err(r) = a {
+        return Err(r);
     }
     let expected_kind = of_width(width, FIELD_KIND);
     let b = need(Cause::Head, 0, kind(bytes) == expected_kind);
@@ -161,12 +146,12 @@ pub fn field(width: Width, expected: usize, bytes: &[u8]) -> Answer
 }
 
 // What the head of a step on so many cells, through so many faces, is refused for.
-pub fn step(width: Width, cells: usize, expected: usize, seconds: &[u64], bytes: &[u8]) -> Answer
+pub fn step(width: Width, cells: usize, expected: usize, seconds: &[u64], bytes: &[u8]) -> Result<(), Refusal>
     ensures { said result ≡ step_head_verdict width cells expected seconds.now bytes.now }
 {
     let a = need(Cause::Length, 0, STEP_HEAD <= bytes.len());
-    if let Answer::Refused(r) = a {
-        return Answer::Refused(r);
+    if let Err(r) = a {
+        return Err(r);
     }
     let b = need(Cause::Head, 0, is_step(width, kind(bytes)));
     let d = and_then(b, need(Cause::Head, 1, step_faces(bytes) == expected));
@@ -176,31 +161,31 @@ pub fn step(width: Width, cells: usize, expected: usize, seconds: &[u64], bytes:
 }
 
 // How many bytes a mesh record needs, and of which width it is, as its head says.
-pub fn mesh_length(most_cells: usize, most_faces: usize, bytes: &[u8]) -> MeshLengthAnswer
+pub fn mesh_length(most_cells: usize, most_faces: usize, bytes: &[u8]) -> Result<MeshLength, Refusal>
     ensures { mesh_length_said result ≡ mesh_measured most_cells most_faces bytes.now }
 {
     let a = mesh(most_cells, most_faces, bytes);
-    if let Answer::Refused(r) = a {
-        return MeshLengthAnswer::Refused(r);
+    if let Err(r) = a {
+        return Err(r);
     }
     let c = cells(bytes);
     let f = faces(bytes);
     let width = mesh_width(bytes);
-    MeshLengthAnswer::Needs(MeshLength {
+    Ok(MeshLength {
         bytes: lengths::mesh_bytes(width, c, f),
         width,
     })
 }
 
 // How many bytes the record of a field on so many cells needs.
-pub fn field_length(width: Width, cells: usize, bytes: &[u8]) -> LengthAnswer
+pub fn field_length(width: Width, cells: usize, bytes: &[u8]) -> Result<usize, Refusal>
     ensures { length_said result ≡ field_needs width cells bytes.now }
 {
     let a = field(width, cells, bytes);
-    if let Answer::Refused(r) = a {
-        return LengthAnswer::Refused(r);
+    if let Err(r) = a {
+        return Err(r);
     }
-    LengthAnswer::Needs(lengths::field_bytes(width, cells))
+    Ok(lengths::field_bytes(width, cells))
 }
 
 // How many bytes the record of a step on these cells and faces needs, of the kind that its head says.
@@ -210,13 +195,13 @@ pub fn step_length(
     faces: usize,
     seconds: &[u64],
     bytes: &[u8],
-) -> LengthAnswer
+) -> Result<usize, Refusal>
     ensures { length_said result ≡ step_needs width cells faces seconds.now bytes.now }
 {
     let a = step(width, cells, faces, seconds, bytes);
-    if let Answer::Refused(r) = a {
-        return LengthAnswer::Refused(r);
+    if let Err(r) = a {
+        return Err(r);
     }
     let length = lengths::step_bytes(width, step_kind(width, bytes), cells, faces, seconds);
-    LengthAnswer::Needs(length)
+    Ok(length)
 }

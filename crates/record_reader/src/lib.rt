@@ -8,31 +8,25 @@ ghost use Rattle.record_reader.specs.Numbers.{number_at};
 pub const FURTHEST: usize = 4294967296;
 
 #[derive(Clone, Copy)]
-pub enum Spelled {
-    Number(u64),
-    Past,
-}
-
-#[derive(Clone, Copy)]
 pub struct Reader<'a> {
     pub bytes: &'a [u8],
     pub bit: usize,
 }
 
 // The number that a field of these bytes spells, where it lies within them.
-pub fn number_at(bytes: &[u8], bit: usize, width: usize) -> Spelled
+pub fn number_at(bytes: &[u8], bit: usize, width: usize) -> Option<u64>
     ensures { result ≡ number_at bytes.now bit width }
 {
     if record_bits::WIDEST < width {
-        return Spelled::Past;
+        return None;
     }
     if FURTHEST < bit {
-        return Spelled::Past;
+        return None;
     }
     if bytes.len() < record_bits::bytes_for(bit + width) {
-        return Spelled::Past;
+        return None;
     }
-    Spelled::Number(record_bits::read_bits(bytes, bit, width))
+    Some(record_bits::read_bits(bytes, bit, width))
 }
 
 // A reader that has come to the record's first bit.
@@ -54,14 +48,14 @@ pub fn moved<'a>(r: Reader<'a>, width: usize) -> Reader<'a>
 }
 
 // The number that the field here spells.
-pub fn number<'a>(r: Reader<'a>, width: usize) -> Spelled
+pub fn number<'a>(r: Reader<'a>, width: usize) -> Option<u64>
     ensures { result ≡ number_at r.entry.bytes.now r.entry.bit width }
 {
     number_at(r.bytes, r.bit, width)
 }
 
 // The number that the field after so many bits spells: heads are read so, and no caller holds a reader.
-pub fn number_after(bytes: &[u8], before: usize, width: usize) -> Spelled
+pub fn number_after(bytes: &[u8], before: usize, width: usize) -> Option<u64>
     ensures { result ≡ number_at bytes.now before width }
 {
     number(moved(new(bytes), before), width)

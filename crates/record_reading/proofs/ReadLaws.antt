@@ -15,7 +15,6 @@ use Rattle.model.specs.Meshes.{over_mesh, MeshCut}
 use Rattle.model.specs.Accepted.{MeshLong}
 use Rattle.model.specs.Causes.{Outcome, accepted, Verdict, fine, ◌and_then◌, in_turn, each}
 use Rattle.model.specs.Answers.{told}
-use Rattle.model.specs.declared.Answer.TheVariants as call
 use Rattle.model.specs.declared.Refusal.{Refusal}
 use Rattle.model.proofs.Verdicts.{both-fine, all-fine, need-fine, long-fine}
 use Rattle.model.proofs.Accepted.{long-says}
@@ -29,8 +28,7 @@ use Rattle.record_reading.specs.Reading.{counts_in, volumes_in, firsts_in, secon
 use Rattle.record_reading.specs.Answers.{MeshReading, FieldReading, StepReading}
 use Rattle.record_bodies.specs.Bodies.{StepFilled}
 use Rattle.record_reading.specs.declared.MeshCounts.{MeshCounts}
-use Rattle.record_reading.specs.declared.MeshAnswer.TheVariants as mesh
-use Rattle.record_reading.specs.declared.StepRead.TheVariants as step
+use Rattle.std.specs.Prelude.{Ok, Err}
 
 -- the kind of a mesh is that of its width
 pub mesh-kind-is : (k : ℕ) → is_mesh_kind k ≡ true → mesh_kind (width_of k) ≡ k
@@ -135,26 +133,26 @@ step-read-says w cells faces seconds bs u x y e =
 
 -- the answer and the tables
 module _ {bs : List ℕ} {lent : Mesh} {o : Outcome MeshCounts} where
-  pub mesh_refused : {r : Refusal} → o ≡ told r → MeshReading o bs lent (mesh.Refused r) lent
+  pub mesh_refused : {r : Refusal} → o ≡ told r → MeshReading o bs lent (Err r) lent
   mesh_refused e = record { answer = sym e; mesh-read = rw e }
 
-  pub mesh_accepted : {n : MeshCounts} {left : Mesh} → o ≡ accepted n → left ≡ over_mesh (mesh_in bs) lent → MeshReading o bs lent (mesh.Read n) left
+  pub mesh_accepted : {n : MeshCounts} {left : Mesh} → o ≡ accepted n → left ≡ over_mesh (mesh_in bs) lent → MeshReading o bs lent (Ok n) left
   mesh_accepted e d = record { answer = sym e; mesh-read = rw e d }
 
 module _ {cells : ℕ} {bs m : List ℕ} {o : Verdict} where
-  pub field_refused : {r : Refusal} → o ≡ told r → FieldReading o cells bs m (call.Refused r) m
+  pub field_refused : {r : Refusal} → o ≡ told r → FieldReading o cells bs m (Err r) m
   field_refused e = record { answer = sym e; masses_read = rw e }
 
-  pub field_accepted : {m' : List ℕ} → o ≡ fine → m' ≡ over (masses_in bs cells) m → FieldReading o cells bs m call.Done m'
+  pub field_accepted : {m' : List ℕ} → o ≡ fine → m' ≡ over (masses_in bs cells) m → FieldReading o cells bs m (Ok tt) m'
   field_accepted e d = record { answer = sym e; masses_read = rw e d }
 
 module _ {w : Width} {cells faces : ℕ} {seconds bs : List ℕ} {u : List ℤ} {x y : List ℕ} {o : Outcome ℕ} where
-  pub step-refused : {r : Refusal} → o ≡ told r → StepReading w o cells faces seconds bs u x y (step.Refused r) u x y
+  pub step-refused : {r : Refusal} → o ≡ told r → StepReading w o cells faces seconds bs u x y (Err r) u x y
   step-refused e = record { answer = sym e; fluxes_read = rw e; outsides_read = rw e; releases_read = rw e }
 
   pub step-accepted : {k : StepKind} {u' : List ℤ} {x' y' : List ℕ} → o ≡ accepted (kind_number w k)
       → StepFilled faces bs (step_shape_in bs cells faces seconds) 1 u x y u' x' y'
-      → StepReading w o cells faces seconds bs u x y (step.Read k) u' x' y'
+      → StepReading w o cells faces seconds bs u x y (Ok k) u' x' y'
   unfolding fluxes_in outsides_in releases_in
   step-accepted e d = record {
     answer = sym e;

@@ -8,7 +8,7 @@ ghost use Rattle.model.specs.Mesh.{mesh_of};
 ghost use Rattle.record_reading.specs.Reading.{field_read, step_read};
 ghost use Rattle.record_reading.specs.Answers.{MeshReads, FieldReading, StepReading};
 
-use model::{Answer, Refusal};
+use model::Refusal;
 use record_layouts::{StepKind, Width};
 
 // The counts of a mesh that has been read, and the width of its record.
@@ -17,19 +17,6 @@ pub struct MeshCounts {
     pub cells: usize,
     pub faces: usize,
     pub width: Width,
-}
-
-#[derive(Clone, Copy)]
-pub enum MeshAnswer {
-    Read(MeshCounts),
-    Refused(Refusal),
-}
-
-// The kind of a step that has been read.
-#[derive(Clone, Copy)]
-pub enum StepRead {
-    Read(StepKind),
-    Refused(Refusal),
 }
 
 // A mesh record read into tables of at least its counts. No limit is above document 01's, whatever the caller sets.
@@ -42,7 +29,7 @@ pub fn read_mesh(
     seconds: &mut [u64],
     shares: &mut [u64],
     reaches: &mut [u64],
-) -> MeshAnswer
+) -> Result<MeshCounts, Refusal>
     ensures { MeshReads bytes.now
         (mesh_of most_cells most_faces volumes.old firsts.old seconds.old shares.old reaches.old)
         result
@@ -58,7 +45,7 @@ pub fn read_mesh(
         shares.len(),
         reaches.len(),
     );
-    let MeshAnswer::Read(n) = a else {
+    let Ok(n) = a else {
         return a;
     };
     let width = n.width;
@@ -73,21 +60,21 @@ pub fn read_mesh(
         shares,
         reaches,
     );
-    MeshAnswer::Read(n)
+    Ok(n)
 }
 
 // The record of a field on so many cells.
-pub fn read_field(width: Width, cells: usize, bytes: &[u8], masses: &mut [u64]) -> Answer
+pub fn read_field(width: Width, cells: usize, bytes: &[u8], masses: &mut [u64]) -> Result<(), Refusal>
     ensures { FieldReading
         (field_read width cells bytes.now (length masses.old))
         cells bytes.now masses.old result masses.new }
 {
     let a = verdicts::field(width, cells, bytes, masses.len());
-    if let Answer::Refused(r) = a {
-        return Answer::Refused(r);
+    if let Err(r) = a {
+        return Err(r);
     }
     record_bodies::field(width, cells, &bytes[record_layouts::FIELD_HEAD..], masses);
-    Answer::Done
+    Ok(())
 }
 
 // The record of a step on these cells and faces. Of the mesh only the seconds are looked at, for the rim. In the kind without outfalls the
@@ -101,7 +88,7 @@ pub fn read_step(
     fluxes: &mut [i64],
     outsides: &mut [u64],
     releases: &mut [u64],
-) -> StepRead
+) -> Result<StepKind, Refusal>
     ensures { StepReading width
         (step_read width cells faces seconds.now bytes.now
         (length fluxes.old) (length outsides.old) (length releases.old))
@@ -118,7 +105,7 @@ pub fn read_step(
         outsides.len(),
         releases.len(),
     );
-    let StepRead::Read(kind) = a else {
+    let Ok(kind) = a else {
         return a;
     };
     record_bodies::step(
@@ -132,5 +119,5 @@ pub fn read_step(
         outsides,
         releases,
     );
-    StepRead::Read(kind)
+    Ok(kind)
 }

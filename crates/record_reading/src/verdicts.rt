@@ -8,13 +8,13 @@ ghost use Rattle.record_heads.specs.Heads.{kind_in, cells_in, faces_in};
 ghost use Rattle.record_reading.specs.Reading.{mesh_body_verdict, field_body_verdict, step_body_verdict, mesh_read, field_read, step_read};
 ghost use Rattle.record_reading.specs.Answers.{mesh_said, step_read_said};
 
-use crate::{MeshAnswer, MeshCounts, StepRead};
+use crate::MeshCounts;
 use model::needs::{and_then, long, need};
-use model::{Answer, Cause, positions};
+use model::{Cause, positions, Refusal};
 use record_layouts::{StepKind, Width, lengths};
 
 // After other tests, whether a table has as many entries as wanted.
-fn then_long(a: Answer, position: u64, wanted: usize, has: usize) -> Answer
+fn then_long(a: Result<(), Refusal>, position: u64, wanted: usize, has: usize) -> Result<(), Refusal>
     ensures { said result ≡ (said a and_then long_of position wanted has) }
 {
     and_then(a, long(position, wanted, has))
@@ -30,7 +30,7 @@ fn mesh_body(
     seconds: usize,
     shares: usize,
     reaches: usize,
-) -> Answer
+) -> Result<(), Refusal>
     requires { (cells ≡ cells_in bytes.now) × (faces ≡ faces_in bytes.now) × (cells ≤ max_cells) × (faces ≤ max_faces)
         × (mesh_kind width ≡ kind_in bytes.now) }
     ensures { said result ≡ mesh_body_verdict bytes.now volumes firsts seconds shares reaches }
@@ -42,13 +42,13 @@ fn mesh_body(
     let e = then_long(d, positions::SECONDS, faces, seconds);
     let f = then_long(e, positions::SHARES, faces, shares);
     let g = then_long(f, positions::REACHES, faces, reaches);
-    if let Answer::Refused(r) = g {
-        return Answer::Refused(r);
+    if let Err(r) = g {
+        return Err(r);
     }
     record_zeros::mesh(bytes, end)
 }
 
-fn field_body(width: Width, cells: usize, bytes: &[u8], masses: usize) -> Answer
+fn field_body(width: Width, cells: usize, bytes: &[u8], masses: usize) -> Result<(), Refusal>
     requires { (cells ≤ max_cells) × (field_kind width ≡ kind_in bytes.now) }
     ensures { said result ≡ field_body_verdict cells bytes.now masses }
 {
@@ -70,7 +70,7 @@ fn step_body(
     fluxes: usize,
     outsides: usize,
     releases: usize,
-) -> Answer
+) -> Result<(), Refusal>
     requires { (kind_number width kind ≡ kind_in bytes.now) × (cells ≤ max_cells) × (faces ≤ max_faces) × (faces ≤ length seconds.now) }
     ensures { said result ≡ step_body_verdict cells faces seconds.now bytes.now fluxes outsides releases }
 {
@@ -79,8 +79,8 @@ fn step_body(
     let b = then_long(a, positions::FLUXES, faces, fluxes);
     let d = then_long(b, positions::OUTSIDES, faces, outsides);
     let e = then_long(d, positions::RELEASES, cells, releases);
-    if let Answer::Refused(r) = e {
-        return Answer::Refused(r);
+    if let Err(r) = e {
+        return Err(r);
     }
     record_zeros::step(bytes, faces, end, lengths::value_width(width))
 }
@@ -94,12 +94,12 @@ pub fn mesh(
     seconds: usize,
     shares: usize,
     reaches: usize,
-) -> MeshAnswer
+) -> Result<MeshCounts, Refusal>
     ensures { mesh_said result ≡ mesh_read most_cells most_faces bytes.now volumes firsts seconds shares reaches }
 {
     let a = record_heads::mesh(most_cells, most_faces, bytes);
-    if let Answer::Refused(r) = a {
-        return MeshAnswer::Refused(r);
+    if let Err(r) = a {
+        return Err(r);
     }
     let cells = record_heads::cells(bytes);
     let faces = record_heads::faces(bytes);
@@ -107,22 +107,22 @@ pub fn mesh(
     let b = mesh_body(
         bytes, width, cells, faces, volumes, firsts, seconds, shares, reaches,
     );
-    if let Answer::Refused(r) = b {
-        return MeshAnswer::Refused(r);
+    if let Err(r) = b {
+        return Err(r);
     }
-    MeshAnswer::Read(MeshCounts {
+    Ok(MeshCounts {
         cells,
         faces,
         width,
     })
 }
 
-pub fn field(width: Width, cells: usize, bytes: &[u8], masses: usize) -> Answer
+pub fn field(width: Width, cells: usize, bytes: &[u8], masses: usize) -> Result<(), Refusal>
     ensures { said result ≡ field_read width cells bytes.now masses }
 {
     let a = record_heads::field(width, cells, bytes);
-    if let Answer::Refused(r) = a {
-        return Answer::Refused(r);
+    if let Err(r) = a {
+        return Err(r);
     }
     field_body(width, cells, bytes, masses)
 }
@@ -136,19 +136,19 @@ pub fn step(
     fluxes: usize,
     outsides: usize,
     releases: usize,
-) -> StepRead
+) -> Result<StepKind, Refusal>
     ensures { step_read_said width result ≡ step_read width cells faces seconds.now bytes.now fluxes outsides releases }
 {
     let a = record_heads::step(width, cells, faces, seconds, bytes);
-    if let Answer::Refused(r) = a {
-        return StepRead::Refused(r);
+    if let Err(r) = a {
+        return Err(r);
     }
     let kind = record_heads::step_kind(width, bytes);
     let b = step_body(
         width, kind, cells, faces, seconds, bytes, fluxes, outsides, releases,
     );
-    if let Answer::Refused(r) = b {
-        return StepRead::Refused(r);
+    if let Err(r) = b {
+        return Err(r);
     }
-    StepRead::Read(kind)
+    Ok(kind)
 }

@@ -20,7 +20,6 @@ use Rattle.model.specs.Meshes.{trimmed, over_mesh, at_counts}
 use Rattle.model.specs.Accepted.{MeshLong, MeshLent}
 use Rattle.model.specs.Causes.{accepted, Verdict, fine, ◌and_then◌, each, Call, counts, counts_within, mesh_values, field_values, outside_good, flux_good, water_of}
 use Rattle.model.specs.Answers.{said}
-use Rattle.model.specs.declared.Answer.{Answer}
 use Rattle.model.proofs.Verdicts.{both-fine}
 use Rattle.model.proofs.Accepted.{counted}
 use Rattle.record_sections.specs.Sections.{Fits}
@@ -33,16 +32,15 @@ use Rattle.record_layouts.specs.declared.StepKind.TheVariants.{Water, Outfalls}
 use Rattle.record_reading.specs.Reading.{mesh_in, counts_in, volumes_in, firsts_in, seconds_in, shares_in, reaches_in, masses_in, fluxes_in, outsides_in, releases_in, mesh_read, field_read, step_read}
 use Rattle.record_reading.specs.Answers.{mesh_said, step_read_said, counting, MeshReading, MeshReads, FieldReading, StepReading}
 use Rattle.record_reading.specs.declared.MeshCounts.{MeshCounts}
-use Rattle.record_reading.specs.declared.MeshAnswer.{MeshAnswer}
-use Rattle.record_reading.specs.declared.StepRead.{StepRead}
 use Rattle.record_reading.proofs.ReadLaws.{mesh-kind-is, step-read-says}
 use Rattle.record_causes.specs.Verdicts.{no_field}
 use Rattle.record_causes.proofs.Passed.{mesh-write-says, field-write-says, step-write-says}
-use Rattle.record_writing.specs.declared.WriteAnswer.{WriteAnswer}
 use Rattle.record_writing.specs.Writing.{most_of, releases_fit, write_said, Writing, MeshWriting, FieldWriting, StepWriting}
 use Rattle.record_writing.proofs.WidthLaws.{mesh_fits, masses_fit, field_fits, step_fits, none_inside}
 use Rattle.record_writing.proofs.Accepting.{mesh-reads, field_reads, step_reads, mesh-passed, field-passed, step-passed}
 use Rattle.record_writing.proofs.Back.{mesh-kind-back, mesh-cells-back, mesh-faces-back, mesh-record-length, mesh-bits-good, mesh-back, field-kind-back, field-cells-back, field-record-length, masses-back, step-kind-back, step-faces-back, step-record-length, step-bits-good, fluxes-back, outsides-back, releases-back, mesh-again, field-again, step-again}
+use Rattle.std.specs.Prelude.{Result}
+use Rattle.model.specs.declared.Refusal.{Refusal}
 
 -- each kind of a step is one that its reader takes
 step_kind : (w : Width) (kind : StepKind) → is_step_kind w (kind_number w kind) ≡ true
@@ -136,7 +134,7 @@ module _ (w : Width) (M : Mesh) (within : counts M ≡ fine) (passes : mesh_valu
   releases-read-back = releases-back (kind_number w kind) M.cells M.faces M.seconds k.fluxes k.outsides k.releases fits
 
 -- A writing that answered a length: its causes found nothing, the length is the record's, and so are the bytes up to it.
-module _ {v : Verdict} {N : ℕ} {rec bytes bytes' : List ℕ} {r : WriteAnswer} {n : ℕ} (done : Writing v N rec bytes r bytes')
+module _ {v : Verdict} {N : ℕ} {rec bytes bytes' : List ℕ} {r : Result ℕ Refusal} {n : ℕ} (done : Writing v N rec bytes r bytes')
     (e : write_said r ≡ accepted n) where
   wrote : (v ≡ fine) × (N ≡ n) × (bytes' ≡ over rec bytes)
   unfolding ◌and_then◌
@@ -151,8 +149,8 @@ module _ {v : Verdict} {N : ℕ} {rec bytes bytes' : List ℕ} {r : WriteAnswer}
   begins len = rw (wrote.2, ← wrote.1) (take_at rec (drop (length rec) bytes) N len)
 
 -- The writer's contract and the reader's, joined: a mesh.
-pub mesh-joined : (w : Width) (M : Mesh) {bytes bytes' : List ℕ} {r : WriteAnswer} {n : ℕ} → MeshWriting w M bytes r bytes' → write_said r ≡ accepted n
-    → {lent left : Mesh} {a : MeshAnswer}
+pub mesh-joined : (w : Width) (M : Mesh) {bytes bytes' : List ℕ} {r : Result ℕ Refusal} {n : ℕ} → MeshWriting w M bytes r bytes' → write_said r ≡ accepted n
+    → {lent left : Mesh} {a : Result MeshCounts Refusal}
     → counts_within (min lent.cells max_cells) (min lent.faces max_faces) M.cells M.faces ≡ fine
     → MeshLent (at_counts M lent) → MeshReads (take n bytes') lent a left
     → (mesh_said a ≡ accepted (record { cells = M.cells; faces = M.faces; width = w })) × (left ≡ over_mesh (trimmed M) lent)
@@ -168,9 +166,9 @@ mesh-joined w M {bytes} {bytes'} {r} {n} done e {lent} {left} {a} limits long re
     (q.answer, q.mesh-read ∙ ap (λ (K : Mesh). over_mesh K lent) (mesh-is-back w M c v))
 
 -- A field.
-pub field-joined : (w : Width) (M : Mesh) (field : List ℕ) {bytes bytes' : List ℕ} {r : WriteAnswer} {n : ℕ} → FieldWriting w M field bytes r bytes'
+pub field-joined : (w : Width) (M : Mesh) (field : List ℕ) {bytes bytes' : List ℕ} {r : Result ℕ Refusal} {n : ℕ} → FieldWriting w M field bytes r bytes'
     → write_said r ≡ accepted n
-    → {masses masses' : List ℕ} {a : Answer} → M.cells ≤ length masses
+    → {masses masses' : List ℕ} {a : Result (Unit {0}) Refusal} → M.cells ≤ length masses
     → FieldReading (field_read w M.cells (take n bytes') (length masses)) M.cells (take n bytes') masses a masses'
     → (said a ≡ fine) × (masses' ≡ over (table M.cells (mass_of field)) masses)
 unfolding field_length
@@ -182,9 +180,9 @@ field-joined w M field {bytes} {bytes'} {r} {n} done e {masses} {masses'} {a} lm
     (q.answer, q.masses_read ∙ ap (λ xs. over xs masses) (masses-read-back w M p.counts_fine p.values_fine field p.salt-fine))
 
 -- A step: its reader is lent the seconds that its writer was lent, and answers the kind that its writer was told.
-pub step-joined : (w : Width) (M : Mesh) (kind : StepKind) (fluxes : List ℤ) (outsides releases : List ℕ) {bytes bytes' : List ℕ} {r : WriteAnswer} {n : ℕ}
+pub step-joined : (w : Width) (M : Mesh) (kind : StepKind) (fluxes : List ℤ) (outsides releases : List ℕ) {bytes bytes' : List ℕ} {r : Result ℕ Refusal} {n : ℕ}
     → StepWriting w M (kind_number w kind) fluxes outsides releases bytes r bytes' → write_said r ≡ accepted n
-    → {us us' : List ℤ} {xs xs' ys ys' : List ℕ} {a : StepRead}
+    → {us us' : List ℤ} {xs xs' ys ys' : List ℕ} {a : Result StepKind Refusal}
     → M.faces ≤ length M.seconds → M.faces ≤ length us → M.faces ≤ length xs → M.cells ≤ length ys
     → StepReading w (step_read w M.cells M.faces M.seconds (take n bytes') (length us) (length xs) (length ys))
     M.cells M.faces M.seconds (take n bytes') us xs ys a us' xs' ys'
@@ -232,13 +230,13 @@ module _ (bs : List ℕ) (bytes : (j : ℕ) → get_or bs j 0 < 256) where
       (step-again cells faces seconds bs bytes (step-passed w cells faces seconds bs u x y e) [] [] [])
 
   -- A writing of what was read: it answers the length of the record, and leaves its bytes.
-  rewrote : {v : Verdict} {N : ℕ} {rec old new : List ℕ} {r : WriteAnswer} {k : ℕ} → Writing v N rec old r new → write_said r ≡ accepted k
+  rewrote : {v : Verdict} {N : ℕ} {rec old new : List ℕ} {r : Result ℕ Refusal} {k : ℕ} → Writing v N rec old r new → write_said r ≡ accepted k
       → rec ≡ bs → length rec ≡ N → (k ≡ length bs) × (new ≡ over bs old)
   rewrote {old = old} done e same len =
       let p = wrote done e in (sym p.1 ∙ sym len ∙ ap length same, p.2 ∙ ap (λ xs. over xs old) same)
 
   -- The reader's contract and the writer's, joined.
-  pub mesh-rejoined : {lent left : Mesh} {a : MeshAnswer} {n : MeshCounts} {old new : List ℕ} {r : WriteAnswer} {k : ℕ}
+  pub mesh-rejoined : {lent left : Mesh} {a : Result MeshCounts Refusal} {n : MeshCounts} {old new : List ℕ} {r : Result ℕ Refusal} {k : ℕ}
       → MeshReads bs lent a left → mesh_said a ≡ accepted n → MeshWriting n.width (counting n left) old r new → write_said r ≡ accepted k
       → (k ≡ length bs) × (new ≡ over bs old)
   unfolding mesh_length
@@ -253,7 +251,7 @@ module _ (bs : List ℕ) (bytes : (j : ℕ) → get_or bs j 0 < 256) where
       let p = mesh-write-says n.width N (length old) (wrote done e).0 in
       rewrote done e same (mesh-record-length (mesh_kind n.width) N (mesh_fits n.width N p.counts_fine p.values_fine))
 
-  pub field-rejoined : (w : Width) (M : Mesh) {masses masses' : List ℕ} {a : Answer} {old new : List ℕ} {r : WriteAnswer} {k : ℕ}
+  pub field-rejoined : (w : Width) (M : Mesh) {masses masses' : List ℕ} {a : Result (Unit {0}) Refusal} {old new : List ℕ} {r : Result ℕ Refusal} {k : ℕ}
       → FieldReading (field_read w M.cells bs (length masses)) M.cells bs masses a masses' → said a ≡ fine → FieldWriting w M masses' old r new
       → write_said r ≡ accepted k
       → (k ≡ length bs) × (new ≡ over bs old)
@@ -266,7 +264,7 @@ module _ (bs : List ℕ) (bytes : (j : ℕ) → get_or bs j 0 < 256) where
       rewrote done e same (field-record-length (field_kind w) M.cells masses')
 
   -- the writer is told the width that the reader was told, and the kind that it answered
-  pub step-rejoined : (w : Width) (M : Mesh) {us us' : List ℤ} {xs xs' ys ys' : List ℕ} {a : StepRead} {n : ℕ} {old new : List ℕ} {r : WriteAnswer} {k : ℕ}
+  pub step-rejoined : (w : Width) (M : Mesh) {us us' : List ℤ} {xs xs' ys ys' : List ℕ} {a : Result StepKind Refusal} {n : ℕ} {old new : List ℕ} {r : Result ℕ Refusal} {k : ℕ}
       → StepReading w (step_read w M.cells M.faces M.seconds bs (length us) (length xs) (length ys))
       M.cells M.faces M.seconds bs us xs ys a us' xs' ys' → step_read_said w a ≡ accepted n → StepWriting w M n us' xs' ys' old r new → write_said r
       ≡ accepted k

@@ -12,21 +12,21 @@ use Rattle.model.proofs.Accepted.{counted, mesh_lent, field-lent}
 use Rattle.record_layouts.specs.Layouts.{mesh_kind, field_kind, kind_number}
 use Rattle.record_layouts.specs.declared.Width.{Width}
 use Rattle.record_layouts.specs.declared.StepKind.{StepKind}
-use Rattle.record_writing.specs.declared.WriteAnswer.TheVariants as write
 use Rattle.record_writing.specs.Writing.{mesh_write_verdict, field_write_verdict, step_write_verdict, Writing}
 use Rattle.record_causes.specs.Verdicts.{no_field}
 use Rattle.record_causes.proofs.Passed.{mesh-write-says, field-write-says, step-write-says}
 use Rattle.record_putting.specs.Putting.{MeshWhole, FieldWhole, StepWhole, Wrote}
 use Rattle.record_writing.proofs.WidthLaws.{mesh_fits, masses_fit, field_fits, outsides_fit, step_fits}
+use Rattle.std.specs.Prelude.{Ok, Err}
 
 -- the answer, and the bytes
 
 module _ {v : Verdict} {n : ℕ} {written bytes : List ℕ} where
-  pub writing-refused : {r : Refusal} → v ≡ told r → Writing v n written bytes (write.Refused r) bytes
+  pub writing-refused : {r : Refusal} → v ≡ told r → Writing v n written bytes (Err r) bytes
   unfolding ◌and_then◌
   writing-refused e = record { answer = rw e; bytes_written = rw e }
 
-  pub writing-accepted : {k : ℕ} {bytes' : List ℕ} → v ≡ fine → Wrote bytes written n bytes' k → Writing v n written bytes (write.Written k) bytes'
+  pub writing-accepted : {k : ℕ} {bytes' : List ℕ} → v ≡ fine → Wrote bytes written n bytes' k → Writing v n written bytes (Ok k) bytes'
   unfolding ◌and_then◌
   writing-accepted e q = record { answer = rw (e, q.takes); bytes_written = rw e q.written }
 

@@ -16,7 +16,6 @@ use Rattle.lists.proofs.Tables.{length_over, get_d_over}
 use Rattle.model.specs.Mesh.{Mesh, max_cells, max_faces}
 use Rattle.model.specs.Causes.{accepted, Verdict, fine, ◌and_then◌, each, counts, mesh_tables, mesh_values, field_table, field_values, outside_good, flux_good, water_of}
 use Rattle.model.specs.Answers.{said}
-use Rattle.model.specs.declared.Answer.{Answer}
 use Rattle.model.proofs.Verdicts.{all-fine, fine-all, need-met, fine-each, past}
 use Rattle.model.proofs.Accepted.{lent-mesh}
 use Rattle.model.proofs.Parts.{over-lent}
@@ -29,20 +28,20 @@ use Rattle.record_heads.proofs.HeadLaws.{within-met}
 use Rattle.record_reading.specs.Reading.{mesh_in, masses_in, fluxes_in, outsides_in, releases_in, field_read, step_read}
 use Rattle.record_reading.specs.Answers.{mesh_said, step_read_said, counting, MeshReading, MeshReads, FieldReading, StepReading}
 use Rattle.record_reading.specs.declared.MeshCounts.{MeshCounts}
-use Rattle.record_reading.specs.declared.MeshAnswer.{MeshAnswer}
-use Rattle.record_reading.specs.declared.StepRead.{StepRead}
 use Rattle.record_reading.proofs.ReadLaws.{mesh-kind-is, mesh_cut, read-says, field-read-says, step-read-says}
 use Rattle.record_causes.specs.Verdicts.{mesh_write_causes, field_write_causes, step_write_causes}
-use Rattle.record_writing.specs.declared.WriteAnswer.{WriteAnswer}
 use Rattle.record_writing.specs.Writing.{most_of, releases_fit, mesh_write_verdict, field_write_verdict, step_write_verdict, write_said, Writing, MeshWriting, FieldWriting, StepWriting}
 use Rattle.record_writing.proofs.RoundTrip.{mesh-rejoined, field-rejoined, step-rejoined}
+use Rattle.std.specs.Prelude.{Result}
+use Rattle.model.specs.declared.Refusal.{Refusal}
+use Rattle.record_layouts.specs.declared.StepKind.{StepKind}
 
 -- a table that was read into is as long as it was
 filled-long : {A : Type 0} (n : ℕ) (f : ℕ → A) (ys : List A) → n ≤ length ys → n ≤ length (over (table n f) ys)
 filled-long n f ys l = omega (arith, length_over n f ys l)
 
 -- an accepted writing answers its length
-answers : {v : Verdict} {N : ℕ} {rec old new : List ℕ} {r : WriteAnswer} → Writing v N rec old r new → v ≡ fine → write_said r ≡ accepted N
+answers : {v : Verdict} {N : ℕ} {rec old new : List ℕ} {r : Result ℕ Refusal} → Writing v N rec old r new → v ≡ fine → write_said r ≡ accepted N
 answers {N = N} w e = w.answer ∙ past (accepted N) e
 
 -- The mesh that a field or a step of a width is written on: 1 to 5, with the ceilings of that width.
@@ -54,7 +53,7 @@ mesh-parts w M e = let p = all-fine (counts M ∷ mesh_tables M ∷ mesh_values 
 
 module _ (bs : List ℕ) (bytes : (j : ℕ) → get_or bs j 0 < 256) where
   -- A MESH: 3 to 5.
-  pub mesh-written-again : {lent left : Mesh} {a : MeshAnswer} {n : MeshCounts} {old new : List ℕ} {r : WriteAnswer} → MeshReads bs lent a left
+  pub mesh-written-again : {lent left : Mesh} {a : Result MeshCounts Refusal} {n : MeshCounts} {old new : List ℕ} {r : Result ℕ Refusal} → MeshReads bs lent a left
       → mesh_said a ≡ accepted n → mesh_values (most_of n.width) (counting n left) ≡ fine → length bs ≤ length old
       → MeshWriting n.width (counting n left) old r new → (write_said r ≡ accepted (length bs)) × (new ≡ over bs old)
   unfolding counts mesh_write_verdict mesh_length
@@ -75,7 +74,7 @@ module _ (bs : List ℕ) (bytes : (j : ℕ) → get_or bs j 0 < 256) where
       (rw p.0 at e, p.1)
 
   -- A FIELD on such a mesh: 6. The writer is told the width that the reader was told.
-  pub field-written-again : (w : Width) (M : Mesh) {masses masses' : List ℕ} {a : Answer} {old new : List ℕ} {r : WriteAnswer}
+  pub field-written-again : (w : Width) (M : Mesh) {masses masses' : List ℕ} {a : Result (Unit {0}) Refusal} {old new : List ℕ} {r : Result ℕ Refusal}
       → FieldReading (field_read w M.cells bs (length masses)) M.cells bs masses a masses' → said a ≡ fine
       → mesh_within w M ≡ fine → field_values M masses' ≡ fine → length bs ≤ length old → FieldWriting w M masses' old r new
       → (write_said r ≡ accepted (length bs)) × (new ≡ over bs old)
@@ -104,7 +103,7 @@ module _ (bs : List ℕ) (bytes : (j : ℕ) → get_or bs j 0 < 256) where
       (lt-ltb _ _ (bits-lt bs (place (step_shape (kind_in bs) cells faces seconds) 3 0 c) (release_bits (kind_in bs))))
 
   -- A STEP on such a mesh: 7 and 8. The writer is told the kind that the reader answered too.
-  pub step-written-again : (w : Width) (M : Mesh) {us us' : List ℤ} {xs xs' ys ys' : List ℕ} {a : StepRead} {n : ℕ} {old new : List ℕ} {r : WriteAnswer}
+  pub step-written-again : (w : Width) (M : Mesh) {us us' : List ℤ} {xs xs' ys ys' : List ℕ} {a : Result StepKind Refusal} {n : ℕ} {old new : List ℕ} {r : Result ℕ Refusal}
       → StepReading w (step_read w M.cells M.faces M.seconds bs (length us) (length xs) (length ys))
       M.cells M.faces M.seconds bs us xs ys a us' xs' ys' → step_read_said w a ≡ accepted n
       → mesh_within w M ≡ fine → each 7 M.faces (outside_good M [] (water_of us' xs' ys')) ≡ fine

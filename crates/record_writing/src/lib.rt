@@ -5,15 +5,8 @@ ghost use Rattle.model.specs.Mesh.{mesh_of};
 ghost use Rattle.record_layouts.specs.Layouts.{kind_number};
 ghost use Rattle.record_writing.specs.Writing.{MeshWriting, FieldWriting, StepWriting};
 
-use model::{Answer, Refusal};
+use model::Refusal;
 use record_layouts::{StepKind, Width};
-
-// How many bytes have been written.
-#[derive(Clone, Copy)]
-pub enum WriteAnswer {
-    Written(u64),
-    Refused(Refusal),
-}
 
 // The record of a mesh.
 pub fn write_mesh(
@@ -26,7 +19,7 @@ pub fn write_mesh(
     shares: &[u64],
     reaches: &[u64],
     bytes: &mut [u8],
-) -> WriteAnswer
+) -> Result<u64, Refusal>
     ensures { MeshWriting width
         (mesh_of cells faces volumes.now firsts.now seconds.now shares.now reaches.now)
         bytes.old result bytes.new }
@@ -42,13 +35,13 @@ pub fn write_mesh(
         reaches,
         bytes.len(),
     );
-    if let Answer::Refused(r) = a {
-        return WriteAnswer::Refused(r);
+    if let Err(r) = a {
+        return Err(r);
     }
     let length = record_putting::mesh(
         width, cells, faces, volumes, firsts, seconds, shares, reaches, bytes,
     );
-    WriteAnswer::Written(length as u64)
+    Ok(length as u64)
 }
 
 // The record of a field. The mesh is lent for the causes alone.
@@ -63,7 +56,7 @@ pub fn write_field(
     reaches: &[u64],
     masses: &[u64],
     bytes: &mut [u8],
-) -> WriteAnswer
+) -> Result<u64, Refusal>
     ensures { FieldWriting width
         (mesh_of cells faces volumes.now firsts.now seconds.now shares.now reaches.now)
         masses.now bytes.old result bytes.new }
@@ -80,11 +73,11 @@ pub fn write_field(
         masses,
         bytes.len(),
     );
-    if let Answer::Refused(r) = a {
-        return WriteAnswer::Refused(r);
+    if let Err(r) = a {
+        return Err(r);
     }
     let length = record_putting::field(width, cells, masses, bytes);
-    WriteAnswer::Written(length as u64)
+    Ok(length as u64)
 }
 
 // The record of a step, of the kind that the writer is told. The kind without outfalls holds no release but 0.
@@ -102,7 +95,7 @@ pub fn write_step(
     outsides: &[u64],
     bytes: &mut [u8],
     releases: &[u64],
-) -> WriteAnswer
+) -> Result<u64, Refusal>
     ensures { StepWriting width
         (mesh_of cells faces volumes.now firsts.now seconds.now shares.now reaches.now)
         (kind_number width kind) fluxes.now outsides.now releases.now bytes.old result bytes.new }
@@ -122,11 +115,11 @@ pub fn write_step(
         bytes.len(),
         releases,
     );
-    if let Answer::Refused(r) = a {
-        return WriteAnswer::Refused(r);
+    if let Err(r) = a {
+        return Err(r);
     }
     let length = record_putting::step(
         width, kind, cells, faces, seconds, fluxes, outsides, bytes, releases,
     );
-    WriteAnswer::Written(length as u64)
+    Ok(length as u64)
 }

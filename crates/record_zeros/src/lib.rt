@@ -10,7 +10,7 @@ ghost use Rattle.record_zeros.specs.Zeros.{zero_bit_good, minus_zero};
 ghost use Rattle.record_zeros.specs.Scans.{FirstSet, NoMinus, FirstMinus, one_of_three};
 
 use model::needs::need;
-use model::{Answer, Cause};
+use model::{Cause, Refusal};
 use record_layouts::body::Body;
 use record_layouts::lengths;
 
@@ -86,14 +86,14 @@ fn first_minus(bytes: &[u8], faces: usize, value: usize) -> usize
     f
 }
 
-fn refused(place: usize) -> Answer
+fn refused(place: usize) -> Result<(), Refusal>
     ensures { said result ≡ refused_as 12 place }
 {
     need(Cause::Bit, place as u64, false)
 }
 
 // The fields end at `end`.
-pub fn mesh(bytes: &[u8], end: usize) -> Answer
+pub fn mesh(bytes: &[u8], end: usize) -> Result<(), Refusal>
     requires { (8 * length bytes.now < 2 ^ 64) × (mesh_head_bits ≤ end) × (end ≤ 8 * length bytes.now) }
     ensures { said result ≡ each 12 (8 * length bytes.now) (zero_bit_good bytes.now mesh_zero_bits mesh_head_bits end) }
 {
@@ -107,11 +107,11 @@ pub fn mesh(bytes: &[u8], end: usize) -> Answer
     if b < all {
         return refused(b);
     }
-    Answer::Done
+    Ok(())
 }
 
 // A size has so many bits.
-pub fn step(bytes: &[u8], faces: usize, end: usize, value: usize) -> Answer
+pub fn step(bytes: &[u8], faces: usize, end: usize, value: usize) -> Result<(), Refusal>
     requires { (8 * length bytes.now < 2 ^ 64) × (step_head_bits + faces * (sign_bits + value) ≤ end) × (end ≤ 8 * length bytes.now) × (value ≤ 16) }
     ensures { said result ≡ each 12 (8 * length bytes.now)
         (λ i. zero_bit_good bytes.now step_zero_bits step_head_bits end i && not (minus_zero bytes.now value faces i)) }
@@ -130,5 +130,5 @@ pub fn step(bytes: &[u8], faces: usize, end: usize, value: usize) -> Answer
     if pad < all {
         return refused(pad);
     }
-    Answer::Done
+    Ok(())
 }

@@ -1,19 +1,20 @@
 -- Document 02, S-9, of the code: the first office's call of the step and the second's, each as its promise says. That a negated U fits its entry
 -- is no premise: the tables of a call hold 64-bit entries, and a call that would need a larger one cannot be made.
-use Rattle.std.specs.Prelude.{ℕ, ◌<◌, ◌≡◌, ◌≢◌, Bool, List, ℤ, neg_ℤ, set}
+use Rattle.std.specs.Prelude.{ℕ, ◌<◌, ◌≡◌, ◌≢◌, Bool, List, ℤ, neg_ℤ, set, Result}
 use Rattle.lists.specs.Renumbering.{Renumbering}
 use Rattle.model.specs.Mesh.{Mesh, second, rim}
 use Rattle.model.specs.Causes.{fine, granted, Call, mesh_verdict}
 use Rattle.model.specs.Calls.{mass_in, Scheme}
 use Rattle.model.specs.Alike.{unplaced}
 use Rattle.transport.specs.Promise.{step_said, StepPromise}
-use Rattle.transport.specs.declared.StepAnswer.{StepAnswer}
 use Rattle.renumbered.specs.Renumbered.{amount_in, by_cell, amount_by_face, renumbered_mesh, renumbered_field, renumbered_call, SameRoom}
 use Rattle.renumbered.specs.Turned.{turned_mesh, turned_call}
+use Rattle.model.specs.declared.Refusal.{Refusal}
+use Rattle.transport.specs.declared.Crossed.{Crossed}
 
 -- what is lent, and what a call by the scheme s leaves of it
 pub record Called (s : Scheme) (M : Mesh) (field : List ℕ) (k : Call) : Type 0 where
-  pub answer : StepAnswer
+  pub answer : Result Crossed Refusal
   pub next : List ℕ
   pub moved : List ℤ
   pub work : List ℕ

@@ -11,14 +11,14 @@ use Rattle.model.proofs.Agree.{mesh-values-agree}
 use Rattle.model.proofs.Parts.{over-agrees}
 use Rattle.record_reading.specs.Reading.{counts_in, mesh_in}
 use Rattle.record_reading.specs.Answers.{mesh_said, counting}
-use Rattle.record_reading.specs.declared.MeshAnswer.{MeshAnswer}
-use Rattle.record_reading.specs.declared.MeshAnswer.TheVariants as mesh-answer
 use Rattle.record_reading.specs.declared.MeshCounts.{MeshCounts}
 use Rattle.record_reading.proofs.ReadLaws.{mesh_cut}
 use Rattle.taking_mesh.specs.MeshTaking.{mesh_judged, MeshTaking}
 use Rattle.taking_mesh.proofs.MeshLaws.{mesh-says}
+use Rattle.std.specs.Prelude.{Result, Ok}
+use Rattle.model.specs.declared.Refusal.{Refusal}
 
-module _ (bs : List ℕ) {lent left : Mesh} {r : MeshAnswer} (t : MeshTaking bs lent r left) {n : MeshCounts} (d : r ≡ mesh-answer.Read n) where
+module _ (bs : List ℕ) {lent left : Mesh} {r : Result MeshCounts Refusal} (t : MeshTaking bs lent r left) {n : MeshCounts} (d : r ≡ Ok n) where
   abbrev J : Verdict
   J = mesh_judged bs (length lent.volumes) (length lent.firsts) (length lent.seconds) (length lent.shares) (length lent.reaches)
 

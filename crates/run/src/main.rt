@@ -8,10 +8,8 @@ ghost use Rattle.std.specs.Prelude.{◌≡◌, ◌≤◌, length};
 ghost use Rattle.model.specs.Mesh.{mesh_of, ceiling};
 ghost use Rattle.model.specs.Causes.{fine, mesh_values};
 
-use checks::TotalAnswer;
 use model::{RUN_CELLS, RUN_FACES, RUN_WORK};
 use record_layouts::Width;
-use record_reading::MeshAnswer;
 use run_intake::RECORD;
 use run_session::LINES;
 
@@ -165,8 +163,8 @@ fn run_on(
     }
     let got = read.count;
     let answer = taking_records::take_field(width, cells, &buffer[..got], volumes, &mut masses);
-    let TotalAnswer::Total(total) = answer else {
-        if let TotalAnswer::Refused(refusal) = answer {
+    let Ok(total) = answer else {
+        if let Err(refusal) = answer {
             run_session::print(rt, run_session::refused_field_line(refusal));
         }
         return;
@@ -213,8 +211,8 @@ fn main(rt: HostRuntime) {
         &mut shares,
         &mut reaches,
     );
-    let MeshAnswer::Read(counts) = answer else {
-        if let MeshAnswer::Refused(refusal) = answer {
+    let Ok(counts) = answer else {
+        if let Err(refusal) = answer {
             run_session::print(&rt, run_session::refused_mesh_line(refusal));
         }
         return;

@@ -9,11 +9,11 @@ ghost use Rattle.record_layouts.specs.Layouts.{mesh_head_bits, field_head_bits, 
 ghost use Rattle.record_heads.specs.Heads.{length_said, mesh_length_said, bytes_of, mesh_needs, field_needs, step_needs};
 ghost use Rattle.run_intake.specs.Intake.{record_bytes, still_needed, Asked, held, HeldAhead, held_anew, SomeTaken, RecordTaken};
 
-use model::{RUN_CELLS, RUN_FACES};
-use record_heads::{LengthAnswer, MeshLengthAnswer};
+use model::{RUN_CELLS, RUN_FACES, Refusal};
 use record_layouts::body::Body;
 use record_layouts::{FIELD_HEAD, MESH_HEAD, STEP_HEAD, Width};
 use std::io::Read;
+use record_heads::MeshLength;
 
 // Most bits of a face in a step record: one at the rim, in the wide kinds.
 const RIM_FACE: usize = Body::SIGN + Body::WIDE_VALUE + Body::OUTSIDE;
@@ -77,10 +77,10 @@ fn bytes(
 }
 
 // How many bytes of a record are still to be read, of which so many have come.
-fn still_needed(answer: LengthAnswer, got: usize) -> usize
+fn still_needed(answer: Result<usize, Refusal>, got: usize) -> usize
     ensures { (result ≡ still_needed (length_said answer) got) × (got ≤ record_bytes → got + result ≤ record_bytes) }
 {
-    let LengthAnswer::Needs(needed) = answer else {
+    let Ok(needed) = answer else {
         return 0;
     };
     let end = lists::least(needed, RECORD);
@@ -91,7 +91,7 @@ fn still_needed(answer: LengthAnswer, got: usize) -> usize
 }
 
 // What is left of a record of which `got` bytes have come. Answers how many have come then.
-fn rest(rt: &HostRuntime, answer: LengthAnswer, got: usize, buffer: &mut [u8]) -> Got
+fn rest(rt: &HostRuntime, answer: Result<usize, Refusal>, got: usize, buffer: &mut [u8]) -> Got
     requires { (got ≤ RECORD) × (RECORD ≤ length buffer.old) }
     ensures { IsPrefixLen result.count buffer.new × (got ≤ result.count) × (result.count ≤ got + still_needed (length_said answer) got)
         × (take got buffer.new ≡ take got buffer.old) }
@@ -102,12 +102,12 @@ fn rest(rt: &HostRuntime, answer: LengthAnswer, got: usize, buffer: &mut [u8]) -
 }
 
 // Of what the head of a mesh says, the bytes alone.
-fn bytes_alone(answer: MeshLengthAnswer) -> LengthAnswer
+fn bytes_alone(answer: Result<MeshLength, Refusal>) -> Result<usize, Refusal>
     ensures { length_said result ≡ bytes_of (mesh_length_said answer) }
 {
     match answer {
-        MeshLengthAnswer::Needs(length) => LengthAnswer::Needs(length.bytes),
-        MeshLengthAnswer::Refused(refusal) => LengthAnswer::Refused(refusal),
+        Ok(length) => Ok(length.bytes),
+        Err(refusal) => Err(refusal),
     }
 }
 

@@ -7,16 +7,12 @@ use lib.ListN.{length, take, drop, replicate}
 use lib.Seq.{take-add, take-length}
 use Rattle.model.specs.Mesh.{Mesh, run_cells, run_faces}
 use Rattle.model.specs.Causes.{Outcome, accepted, fine, need, ◌and_then◌, granted}
-use Rattle.model.specs.declared.Answer.TheVariants.{Done}
 use Rattle.model.specs.declared.Cause.TheVariants.{Length}
 use Rattle.model.specs.declared.Printed.{Printed}
-use Rattle.model.specs.declared.StepTaken.TheVariants.{Stepped}
-use Rattle.checks.specs.declared.TotalAnswer.TheVariants as total
 use Rattle.record_bits.specs.Layout.{bytes_for}
 use Rattle.record_layouts.specs.Layouts.{mesh_head_bits, field_head_bits, step_head_bits}
 use Rattle.record_layouts.specs.declared.Width.{Width}
 use Rattle.record_heads.specs.Heads.{mesh_needs, field_needs, step_needs, step_head_verdict}
-use Rattle.record_heads.specs.declared.LengthAnswer.TheVariants as length-of
 use Rattle.record_reading.specs.Reading.{mesh_in, counts_in, masses_in}
 use Rattle.model.specs.Meshes.{over_mesh}
 use Rattle.board.specs.Board.{board_verdict, board_entries, board_size, unused}
@@ -29,6 +25,7 @@ use Rattle.model.proofs.Verdicts.{accepted-of}
 use Rattle.run_printed.specs.Run.{in_table, mesh_at, field_at, step_at, following, board_printed, step_comes_to, field_then, field_said, run_mesh}
 use Rattle.run_printed.specs.Program.{ReadIn, StepsPrint, no_byte, step_goes_on, FieldPrints, field_accepted, empty_tables, Prints, mesh_accepted}
 use Rattle.run_printed.proofs.Prints.{take_counted, cells-long, faces-long, entries-used}
+use Rattle.std.specs.Prelude.{Ok, Err}
 
 -- a text as a line
 abbrev line_of : List ℕ → Line
@@ -44,7 +41,7 @@ unfolding record_at
 read-in head needs input bs n e q =
     let come = length (take head input) in
     record {
-      answer = length-of.Needs n;
+      answer = Ok n;
       more = still_needed (accepted n) come;
       asked = sym e;
       rest = refl;
@@ -61,14 +58,14 @@ module _ (w : Width) (M : Mesh) where
   board-run {masses = masses} e =
       let v = board_verdict volumes masses cells in
       no_byte [] (record {
-        answer = length-of.Refused (record { cause = Length; place = 0 });
+        answer = Err (record { cause = Length; place = 0 });
         more = 0;
         asked = refl;
         rest = refl;
         read = refl;
       }) refl (record {
         answer = record {
-          verdict = Done;
+          verdict = Ok tt;
           used = granted v (min board_size cells) 0;
           entries = granted v (board_entries volumes masses cells) (replicate board_size unused);
         };
@@ -83,7 +80,7 @@ module _ (w : Width) (M : Mesh) where
   step_run {step} {n} {masses} {masses'} {input} {bs} {rest} {out} p e q s r c m t =
       let text = step_line step p.entered p.gone p.total p.released in
       subst (λ (x : List ℕ). StepsPrint w M step masses input (x ++ out)) (take-length text)
-      (step_goes_on bs (Stepped p) (line_of text) (read-in _ _ input bs n e q) s (record { answer = sym c; masses-after = sym m }) (line-holds text) refl
+      (step_goes_on bs (Ok p) (line_of text) (read-in _ _ input bs n e q) s (record { answer = sym c; masses-after = sym m }) (line-holds text) refl
       (subst (λ (x : List ℕ). StepsPrint w M (step + 1) masses' x out) (sym r) t))
 
   pub field-run : {sum n : ℕ} {input bs rest out : List ℕ} → field_needs w M.cells (take (bytes_for field_head_bits) input) ≡ accepted n → field_at w M input ≡ bs

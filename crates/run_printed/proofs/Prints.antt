@@ -24,7 +24,6 @@ use Rattle.board.specs.declared.Entry.{Entry}
 use Rattle.board.proofs.Listed.{listed-count}
 use Rattle.taking.specs.Taking.{StepTaking}
 use Rattle.model.specs.declared.Printed.{Printed}
-use Rattle.model.specs.declared.StepTaken.{StepTaken}
 use Rattle.model.proofs.Verdicts.{accepted-of}
 use Rattle.run_lines.specs.Lines.{Holds, step_line}
 use Rattle.run_intake.specs.Intake.{still_needed, record_at}
@@ -35,6 +34,8 @@ use Rattle.run_printed.specs.Run.{from_field, field_printed, run_mesh, from_mesh
 use Rattle.run_printed.specs.Program.{ReadIn, counted_bytes, BoardPrints, StepsPrint, no_byte, step_ends, step_goes_on}
 use Rattle.run_printed.specs.Program.{FieldPrints, field_refused, field_accepted, empty_tables, Prints, mesh_refused, mesh_accepted}
 use Rattle.run_lines.specs.declared.Line.{Line}
+use Rattle.std.specs.Prelude.{Result}
+use Rattle.model.specs.declared.Refusal.{Refusal}
 
 -- what was taken can be counted and taken again
 pub take_counted : (n : ℕ) (l : List ℕ) → take (length (take n l)) l ≡ take n l
@@ -92,7 +93,7 @@ module _ (w : Width) (M : Mesh) where
   open M use {cells}
 
   -- one step: its line, and then what its answer leads to
-  module _ (step : ℕ) (masses masses' bs : List ℕ) (r : StepTaken) (line : Line) (t : StepTaking w M masses bs r masses')
+  module _ (step : ℕ) (masses masses' bs : List ℕ) (r : Result Printed Refusal) (line : Line) (t : StepTaking w M masses bs r masses')
       (h : Holds line (step_taken_line step r)) where
     one-step : (out : List ℕ) (b : Bool) → b ≡ goes_on r → (more last : List ℕ) → out ≡ cond b more last
         → counted_bytes line ++ out ≡ step_text step (step_comes_to w M masses bs) ++ cond (goes_on_after (step_comes_to w M masses bs)) more last

@@ -17,14 +17,15 @@ use Rattle.model.proofs.Lists.{raised-total}
 use Rattle.record_layouts.specs.declared.Width.{Width}
 use Rattle.record_reading.specs.Reading.{masses_in}
 use Rattle.model.specs.declared.Printed.{Printed}
-use Rattle.model.specs.declared.StepTaken.{StepTaken}
 use Rattle.model.specs.StepTaken.{taken_said}
 use Rattle.taking.specs.Taking.{step_in, printed_of, step_judged, StepTaking}
 use Rattle.taking.proofs.StepLaws.{step-says}
 use Rattle.run_printed.specs.Program.{StepsPrint, no_byte, step_ends, step_goes_on, FieldPrints, field_refused, field_accepted, mesh_refused, mesh_accepted}
 use Rattle.run_printed.specs.Totals.{answers_of, Close, FieldCloses, TotalsClose}
+use Rattle.std.specs.Prelude.{Result}
+use Rattle.model.specs.declared.Refusal.{Refusal}
 
-module _ (w : Width) (M : Mesh) (masses masses' bs : List ℕ) (r : StepTaken) (t : StepTaking w M masses bs r masses') where
+module _ (w : Width) (M : Mesh) (masses masses' bs : List ℕ) (r : Result Printed Refusal) (t : StepTaking w M masses bs r masses') where
   abbrev S : StepInput
   S = input_of M masses (step_in M bs)
 

@@ -11,7 +11,7 @@ ghost use Rattle.run_lines.specs.Lines.{Holds, letter_m, letter_f};
 ghost use Rattle.run_session.specs.Session.{ends_run, refused_text, start_text, step_text, step_taken_line, goes_on, goes_on_after};
 
 pub use faults::fail;
-use model::{Cause, Printed, Refusal, StepTaken};
+use model::{Cause, Printed, Refusal};
 pub use printing::{LINES, add, flush, greet, make_room, print, write};
 use run_lines::Line;
 
@@ -98,20 +98,20 @@ fn told_refused(step: u64, refusal: Refusal) -> Told
 }
 
 // What is told of a step by its answer, whichever it is.
-fn told_by(step: u64, taken: StepTaken) -> Told
+fn told_by(step: u64, taken: Result<Printed, Refusal>) -> Told
     ensures { Holds result.line (step_taken_line step taken) × (goes_on taken ≡ not result.last) }
 {
     match taken {
-        StepTaken::Stepped(printed) => told_stepped(step, printed),
-        StepTaken::Refused(refusal) => told_refused(step, refusal),
+        Ok(printed) => told_stepped(step, printed),
+        Err(refusal) => told_refused(step, refusal),
     }
 }
 
 // What is told of a step: its figures are taken out, else its refusal is told.
-pub fn tell(step: u64, taken: StepTaken) -> Told
+pub fn tell(step: u64, taken: Result<Printed, Refusal>) -> Told
     ensures { Holds result.line (step_taken_line step taken) × (goes_on taken ≡ not result.last) }
 {
-    let StepTaken::Stepped(printed) = taken else {
+    let Ok(printed) = taken else {
         return told_by(step, taken);
     };
     told_stepped(step, printed)

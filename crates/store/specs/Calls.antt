@@ -1,12 +1,12 @@
 -- Document 02, S-4: the three calls on a store. What each tests, in order; what it answers and leaves.
-use Rattle.std.specs.Prelude.{ℕ, ◌+◌, ◌≡◌, List, [], ◌∷◌, ◌++◌, length, replicate}
+use Rattle.std.specs.Prelude.{ℕ, ◌+◌, ◌≡◌, List, [], ◌∷◌, ◌++◌, length, replicate, Result}
 use Rattle.lists.specs.Table.{over}
 use Rattle.model.specs.Mesh.{Mesh, ceiling}
 use Rattle.model.specs.Causes.{Verdict, in_turn, granted, long, cells_only, counts, mesh_tables, mesh_values, field_table, field_values}
 use Rattle.model.specs.Answers.{said}
-use Rattle.model.specs.declared.Answer.{Answer}
 use Rattle.store_kept.specs.Store.{kept_field, fields_in, store_of, held_under, without}
 use Rattle.store_kept.specs.Tests.{count_good, name_new, room_left, name_kept}
+use Rattle.model.specs.declared.Refusal.{Refusal}
 
 module _ (cells : ℕ) (store : List ℕ) where
   -- Cause 2, position 13: the table has an entry for the count.
@@ -60,14 +60,14 @@ module _ (cells : ℕ) (volumes masses store : List ℕ) where
     return_masses = granted return_verdict (over (held_under name (fields_in cells store)) masses) masses
 
 -- What the three calls promise of their answers and of the tables that they write, for all input.
-pub record KeepPromise (cells : ℕ) (volumes masses store : List ℕ) (name : ℕ) (r : Answer) (store' : List ℕ) : Type 0 where
+pub record KeepPromise (cells : ℕ) (volumes masses store : List ℕ) (name : ℕ) (r : Result (Unit {0}) Refusal) (store' : List ℕ) : Type 0 where
   pub answer : said r ≡ keep_verdict cells volumes masses store name
   pub store_is : store' ≡ keep_store cells volumes masses store name
 
-pub record DropPromise (cells : ℕ) (store : List ℕ) (name : ℕ) (r : Answer) (store' : List ℕ) : Type 0 where
+pub record DropPromise (cells : ℕ) (store : List ℕ) (name : ℕ) (r : Result (Unit {0}) Refusal) (store' : List ℕ) : Type 0 where
   pub answer : said r ≡ drop_verdict cells store name
   pub store_is : store' ≡ drop_store cells store name
 
-pub record ReturnPromise (cells : ℕ) (volumes masses store : List ℕ) (name : ℕ) (r : Answer) (masses' : List ℕ) : Type 0 where
+pub record ReturnPromise (cells : ℕ) (volumes masses store : List ℕ) (name : ℕ) (r : Result (Unit {0}) Refusal) (masses' : List ℕ) : Type 0 where
   pub answer : said r ≡ return_verdict cells volumes masses store name
   pub masses_are : masses' ≡ return_masses cells volumes masses store name

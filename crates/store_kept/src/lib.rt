@@ -10,7 +10,7 @@ ghost use Rattle.store_kept.specs.Found.{fields_before as before_of};
 ghost use Rattle.store_kept.specs.Tests.{name_fits, count_fits, count_good, name_new, room_left, name_kept};
 
 use model::needs::{and_then, between, need};
-use model::{Answer, Cause};
+use model::{Cause, Refusal};
 
 // The largest name; the smallest is 1.
 const MAX_NAME: u64 = 65535;
@@ -58,14 +58,14 @@ fn name_fits(name: u64, good: bool) -> bool
 }
 
 // Causes 13, 15 and 16.
-pub fn is_new(cells: usize, store: &[u64], name: u64) -> Answer
+pub fn is_new(cells: usize, store: &[u64], name: u64) -> Result<(), Refusal>
     requires { (1 ≤ length store.now) × (cells ≤ max_cells) }
     ensures { said result ≡ (count_good cells store.now and_then name_new cells store.now name
         and_then room_left cells store.now name) }
 {
     let a = need(Cause::Head, 1, count_fits(cells, store));
-    if let Answer::Refused(r) = a {
-        return Answer::Refused(r);
+    if let Err(r) = a {
+        return Err(r);
     }
     let n = store[0] as usize;
     let left = store.len() - used(cells, n);
@@ -78,13 +78,13 @@ pub fn is_new(cells: usize, store: &[u64], name: u64) -> Answer
 }
 
 // Causes 13 and 17.
-pub fn is_kept(cells: usize, store: &[u64], name: u64) -> Answer
+pub fn is_kept(cells: usize, store: &[u64], name: u64) -> Result<(), Refusal>
     requires { (1 ≤ length store.now) × (cells ≤ max_cells) }
     ensures { said result ≡ (count_good cells store.now and_then name_kept cells store.now name) }
 {
     let a = need(Cause::Head, 1, count_fits(cells, store));
-    if let Answer::Refused(r) = a {
-        return Answer::Refused(r);
+    if let Err(r) = a {
+        return Err(r);
     }
     let n = store[0] as usize;
     need(

@@ -14,7 +14,7 @@ use Rattle.model.specs.Causes.{accepted, refused, Verdict}
 use Rattle.survey_points.specs.Points.{ratio, first_side, second_side, plus, none}
 use Rattle.survey.specs.Survey.{largest, not_above, share, share_of, ratio_is, nothing, found, found_after, share_found, face_share, share_by, coordinates_verdict}
 use Rattle.survey_points.specs.declared.Face.{Face}
-use Rattle.survey.specs.declared.ShareAnswer.TheVariants.{Share}
+use Rattle.std.specs.Prelude.{Ok}
 
 -- what holds of a number holds of those below it
 abbrev Downward : (ℕ → Bool) → Type 0
@@ -118,6 +118,6 @@ after f (accepted t) k e = go (eq (plus (first_side f) (second_side f)) none) e
     go false e = shared (ratio f) k e
 after f (refused i j) k e = let z : ◌≡◌ {A = ℕ} 0 1 = cc in absurd (omega arith)
 
-pub call-shares : (f : Face) (k : ℕ) → share_by (Share k) ≡ face_share f → IsShare (ratio f) k
+pub call-shares : (f : Face) (k : ℕ) → share_by (Ok k) ≡ face_share f → IsShare (ratio f) k
 unfolding face_share found
 call-shares f k e = after f (coordinates_verdict f) k (sym e)

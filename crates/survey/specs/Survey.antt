@@ -1,5 +1,5 @@
 -- Document 02, S-7: the share of a face from four survey points, in the logic's account of IEEE 754 (`lib.Ieee`).
-use Rattle.std.specs.Prelude.{ℕ, zero, suc, ◌*◌, Bool, false, not, cond, ◌&&◌, leb, get_or, Float}
+use Rattle.std.specs.Prelude.{ℕ, zero, suc, ◌*◌, Bool, false, not, cond, ◌&&◌, leb, get_or, Float, Result, Ok, Err}
 use Rattle.std.specs.Float.{nan, inf, fin}
 use Rattle.std.specs.Float.Ieee.{up, down, eq}
 use Rattle.model.specs.Causes.{Outcome, accepted, refused, Verdict, each}
@@ -8,8 +8,7 @@ use Rattle.survey_points.specs.Points.{plus, none, first_side, second_side, rati
 use Rattle.survey_points.specs.declared.Face.{Face}
 use Rattle.survey.specs.declared.Stage.{Stage}
 use Rattle.survey.specs.declared.Stage.TheVariants.{Ratio, Bad, Nothing}
-use Rattle.survey.specs.declared.ShareAnswer.{ShareAnswer}
-use Rattle.survey.specs.declared.ShareAnswer.TheVariants.{Share, Refused}
+use Rattle.model.specs.declared.Refusal.{Refusal}
 
 unfoldable pub coordinates_verdict : Face → Verdict
 coordinates_verdict f = each 19 8 (λ i. allowed (get_or (coordinates f) i nan))
@@ -60,6 +59,6 @@ stage_said (Ratio r) = ratio_is r
 stage_said (Bad c) = bad_at c.place c.value
 stage_said Nothing = nothing
 
-abbrev pub share_by : ShareAnswer → Outcome ℕ
-share_by (Share k) = accepted k
-share_by (Refused r) = told r
+abbrev pub share_by : Result ℕ Refusal → Outcome ℕ
+share_by (Ok k) = accepted k
+share_by (Err r) = told r

@@ -27,12 +27,6 @@ pub enum Stage {
     Nothing,
 }
 
-#[derive(Clone, Copy)]
-pub enum ShareAnswer {
-    Share(u64),
-    Refused(Refusal),
-}
-
 // The ratio of a face whose coordinates are allowed, or that a + b is 0.
 fn ratio_of(face: Face) -> Stage
     ensures { stage_said result ≡ found_after face fine }
@@ -87,17 +81,17 @@ fn share_of(ratio: f64) -> u64
     k
 }
 
-fn refusal(cause: Cause, place: u64) -> ShareAnswer
+fn refusal(cause: Cause, place: u64) -> Result<u64, Refusal>
     ensures { share_by result ≡ refused (number cause) place }
 {
-    ShareAnswer::Refused(Refusal {
+    Err(Refusal {
         cause: cause,
         place: place,
     })
 }
 
 // The share of a ratio, or 20 where it is below 1/256 or not below 1.
-fn share_or_refusal(ratio: f64) -> ShareAnswer
+fn share_or_refusal(ratio: f64) -> Result<u64, Refusal>
     ensures { share_by result ≡ share_of ratio }
 {
     if !is_not_above(1, ratio) {
@@ -106,11 +100,11 @@ fn share_or_refusal(ratio: f64) -> ShareAnswer
     if is_not_above(256, ratio) {
         return refusal(Cause::Ratio, 0);
     }
-    ShareAnswer::Share(share_of(ratio))
+    Ok(share_of(ratio))
 }
 
 // The share of a surveyed face: causes 19 and 20, else 1 to 255.
-pub fn face_share(face: Face) -> ShareAnswer
+pub fn face_share(face: Face) -> Result<u64, Refusal>
     ensures { share_by result ≡ face_share face }
 {
     let stage = middle_stage(face);

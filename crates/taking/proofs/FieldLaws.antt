@@ -11,19 +11,16 @@ use Rattle.model.specs.Mesh.{total, run_cells}
 use Rattle.model.specs.Causes.{accepted, Verdict, fine, ◌and_then◌, long, mesh_field_verdict, cells_only}
 use Rattle.model.specs.Answers.{number, said}
 use Rattle.model.specs.Calls.{mass_in}
-use Rattle.model.specs.declared.Answer.{Answer}
-use Rattle.model.specs.declared.Answer.TheVariants.{Done, Refused}
 use Rattle.model.specs.declared.Refusal.{Refusal}
 use Rattle.model.proofs.Verdicts.{all-fine, past, out, refused-of, accepted-of, long-fine}
 use Rattle.checks.specs.Total.{total_said}
-use Rattle.checks.specs.declared.TotalAnswer.{TotalAnswer}
-use Rattle.checks.specs.declared.TotalAnswer.TheVariants as total-answer
 use Rattle.record_reading.specs.Reading.{masses_in, field_read}
 use Rattle.record_reading.proofs.ReadLaws.{field-read-says}
 use Rattle.record_layouts.specs.declared.Width.{Width}
 use Rattle.record_reading.specs.Answers.{FieldReading}
 use Rattle.taking.specs.Taking.{field_judged_causes, field_judged, FieldTaking}
 use Rattle.model.proofs.Parts.{PartRead, read-part}
+use Rattle.std.specs.Prelude.{Result, Ok, Err}
 
 -- what a field of which nothing is found has passed
 pub record FieldSays (w : Width) (cells : ℕ) (volumes bs : List ℕ) (masses : ℕ) : Type 0 where
@@ -38,20 +35,20 @@ field-says w cells volumes bs masses e =
     let p = all-fine (field_judged_causes w cells volumes bs masses) e in
     record { reads = p.0; room = long-fine 5 _ _ p.1.0; values = p.1.1.0 }
 
-module _ (w : Width) (volumes masses : List ℕ) {cells : ℕ} {bs own own' : List ℕ} {a : Answer}
+module _ (w : Width) (volumes masses : List ℕ) {cells : ℕ} {bs own own' : List ℕ} {a : Result (Unit {0}) Refusal}
     (s : FieldReading (field_read w cells bs (length own)) cells bs own a own') (run : length own ≡ run_cells)
-    (l b : Answer) (lent : said l ≡ long 5 cells (length masses)) (both : said b ≡ (said a and_then said l)) where
+    (l b : Result (Unit {0}) Refusal) (lent : said l ≡ long 5 cells (length masses)) (both : said b ≡ (said a and_then said l)) where
   -- found before the values are judged
   found : said b ≡ (field_read w cells bs run_cells and_then long 5 cells (length masses))
   found = let q : said b ≡ (field_read w cells bs (length own) and_then long 5 cells (length masses)) = both ∙ rw (s.answer, lent) in rw run at q
 
-  pub field-unread : {r : Refusal} → b ≡ Refused r → FieldTaking w cells volumes bs masses (total-answer.Refused r) masses
+  pub field-unread : {r : Refusal} → b ≡ Err r → FieldTaking w cells volumes bs masses (Err r) masses
   unfolding field_judged
   field-unread d =
       let o = out (mesh_field_verdict (cells_only cells volumes) (masses_in bs cells)) (sym found ∙ ap said d) in
       record { answer = sym (out _ o); masses-after = rw o }
 
-  module _ (d : b ≡ Done) where
+  module _ (d : b ≡ Ok tt) where
     passed : (field_read w cells bs run_cells and_then long 5 cells (length masses)) ≡ fine
     passed = sym found ∙ ap said d
 
@@ -75,7 +72,7 @@ module _ (w : Width) (volumes masses : List ℕ) {cells : ℕ} {bs own own' : Li
     pub copy-asks : length (take cells own') ≤ length masses
     copy-asks = rw masses-part.part (omega (arith, counted-long, masses-room))
 
-    module _ (t : TotalAnswer) (q : total_said t ≡ (mesh_field_verdict (cells_only cells volumes) (take cells own')
+    module _ (t : Result ℕ Refusal) (q : total_said t ≡ (mesh_field_verdict (cells_only cells volumes) (take cells own')
         and_then accepted (sum cells (mass_in (take cells own'))))) where
       abbrev values : Verdict
       values = mesh_field_verdict (cells_only cells volumes) (masses_in bs cells)
@@ -83,13 +80,13 @@ module _ (w : Width) (volumes masses : List ℕ) {cells : ℕ} {bs own own' : Li
       judged : total_said t ≡ (values and_then accepted (sum cells (mass_in (masses_in bs cells))))
       judged = rw masses-part.part at q
 
-      pub salt-refused : {r : Refusal} → t ≡ total-answer.Refused r → FieldTaking w cells volumes bs masses t masses
+      pub salt-refused : {r : Refusal} → t ≡ Err r → FieldTaking w cells volumes bs masses t masses
       unfolding field_judged
       salt-refused {r = r} f =
           let o = past values passed ∙ refused-of values _ (number r.cause) r.place (sym (ap total_said f) ∙ judged) in
           record { answer = ap total_said f ∙ sym (out _ o); masses-after = rw o }
 
-      pub field_taken : {n : ℕ} {masses' : List ℕ} → t ≡ total-answer.Total n → masses' ≡ over (take cells own') masses
+      pub field_taken : {n : ℕ} {masses' : List ℕ} → t ≡ Ok n → masses' ≡ over (take cells own') masses
           → FieldTaking w cells volumes bs masses t masses'
       unfolding field_judged total
       field_taken {n = n} {masses' = masses'} f m =

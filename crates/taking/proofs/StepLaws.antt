@@ -21,8 +21,6 @@ use Rattle.model.proofs.Accepted.{ready, passed, field-lent, call-lent}
 use Rattle.model.proofs.Sizes.{next_most, total_most}
 use Rattle.model.specs.Accepted.{Ready}
 use Rattle.transport.specs.Promise.{step_said, StepMade}
-use Rattle.transport.specs.declared.StepAnswer.{StepAnswer}
-use Rattle.transport.specs.declared.StepAnswer.TheVariants as step-answer
 use Rattle.transport.specs.declared.Crossed.{Crossed}
 use Rattle.record_layouts.specs.Layouts.{kind_number}
 use Rattle.record_heads.specs.Heads.{kind_in, step_head_verdict}
@@ -30,16 +28,13 @@ use Rattle.record_layouts.specs.declared.Width.{Width}
 use Rattle.record_layouts.specs.declared.StepKind.{StepKind}
 use Rattle.record_reading.specs.Reading.{fluxes_in, outsides_in, releases_in, step_body_causes, step_body_verdict, step_read}
 use Rattle.record_reading.specs.Answers.{step_read_said as read_said, StepReading}
-use Rattle.record_reading.specs.declared.StepRead.{StepRead}
-use Rattle.record_reading.specs.declared.StepRead.TheVariants as read
 use Rattle.model.specs.declared.Printed.{Printed}
-use Rattle.model.specs.declared.StepTaken.{StepTaken}
-use Rattle.model.specs.declared.StepTaken.TheVariants as step_taken
 use Rattle.taking.specs.Taking.{blank, own_tables, printed_of, Stepping, step_in, step_record_found, step_judged, StepTaking}
 use Rattle.taking.specs.Inner.{SteppedIn}
 use Rattle.model.proofs.Parts.{PartRead, read-part}
+use Rattle.std.specs.Prelude.{Result, Ok, Err}
 
-stepping-refused : (M : Mesh) (masses : List ℕ) {v : Verdict} (k : Call) (r : Refusal) → v ≡ told r → Stepping M masses v k (step_taken.Refused r) masses
+stepping-refused : (M : Mesh) (masses : List ℕ) {v : Verdict} (k : Call) (r : Refusal) → v ≡ told r → Stepping M masses v k (Err r) masses
 stepping-refused M masses k r e = record { answer = sym (out _ e); masses-after = rw e }
 
 length-blank : {A : Type 0} (n : ℕ) (x : A) → length (blank n x) ≡ n
@@ -106,7 +101,7 @@ own-fine M masses fluxes outsides next moved work releases cells faces e =
     )
 
 -- the step on tables
-module _ {M : Mesh} {masses : List ℕ} {fluxes : List ℤ} {outsides nexts : List ℕ} {moveds : List ℤ} {work releases : List ℕ} {a : StepAnswer} {nexts' : List ℕ}
+module _ {M : Mesh} {masses : List ℕ} {fluxes : List ℤ} {outsides nexts : List ℕ} {moveds : List ℤ} {work releases : List ℕ} {a : Result Crossed Refusal} {nexts' : List ℕ}
     (p : StepMade M masses (call_of fluxes outsides nexts moveds work releases) a nexts') where
   abbrev k : Call
   k = call_of fluxes outsides nexts moveds work releases
@@ -114,7 +109,7 @@ module _ {M : Mesh} {masses : List ℕ} {fluxes : List ℤ} {outsides nexts : Li
   abbrev S : StepInput
   S = input_of M masses k
 
-  module _ {b : Crossed} (d : a ≡ step-answer.Stepped b) where
+  module _ {b : Crossed} (d : a ≡ Ok b) where
     pub crossed : (verdict M masses k ≡ fine) × (◌≡◌ {A = Crossing} (record { entered = b.entered; gone = b.gone; released = b.released })
         (crossing_of M masses k))
     unfolding step_answer
@@ -153,14 +148,14 @@ module _ {M : Mesh} {masses : List ℕ} {fluxes : List ℤ} {outsides nexts : Li
     own : verdict M masses k ≡ verdict M masses (own_tables fluxes outsides releases)
     own = own-verdict M masses fluxes outsides nexts moveds work releases nl ml wl
 
-    pub step-refused : {r : Refusal} → a ≡ step-answer.Refused r → SteppedIn M masses fluxes outsides releases (step_taken.Refused r) masses
+    pub step-refused : {r : Refusal} → a ≡ Err r → SteppedIn M masses fluxes outsides releases (Err r) masses
     unfolding step_answer
     step-refused {r = r} d = stepping-refused M masses (own_tables fluxes outsides releases) r
         (sym own ∙ refused-of (verdict M masses k) _ (number r.cause) r.place (sym (ap step_said d) ∙ p.answer))
 
-    pub step-done : {b : Crossed} (d : a ≡ step-answer.Stepped b) {masses' : List ℕ} (e : masses' ≡ over (take M.cells nexts') masses) {t : ℕ} → t ≡ sum
+    pub step-done : {b : Crossed} (d : a ≡ Ok b) {masses' : List ℕ} (e : masses' ≡ over (take M.cells nexts') masses) {t : ℕ} → t ≡ sum
         M.cells (mass_in masses')
-        → SteppedIn M masses fluxes outsides releases (step_taken.Stepped (record
+        → SteppedIn M masses fluxes outsides releases (Ok (record
         { entered = b.entered; gone = b.gone; total = t; released = b.released })) masses'
     step-done {b = b} d e {t = t} h =
         let x = crossed d in
@@ -180,12 +175,12 @@ unfolding step_judged
 step-says w M masses bs e = both-fine _ _ e
 
 -- the step of a record
-module _ (w : Width) (M : Mesh) (masses : List ℕ) {bs : List ℕ} {fluxes : List ℤ} {outsides releases : List ℕ} {a : StepRead} {fluxes' : List ℤ}
+module _ (w : Width) (M : Mesh) (masses : List ℕ) {bs : List ℕ} {fluxes : List ℤ} {outsides releases : List ℕ} {a : Result StepKind Refusal} {fluxes' : List ℤ}
     {outsides' releases' : List ℕ}
     (s : StepReading w (step_read w M.cells M.faces M.seconds bs (length fluxes) (length outsides) (length releases)) M.cells M.faces
     M.seconds bs
     fluxes outsides releases a fluxes' outsides' releases') where
-  module _ {kind : StepKind} (d : a ≡ read.Read kind) where
+  module _ {kind : StepKind} (d : a ≡ Ok kind) where
     read-fine : (step_head_verdict w M.cells M.faces M.seconds bs ≡ fine)
         × (step_body_verdict M.cells M.faces M.seconds bs (length fluxes) (length outsides) (length releases) ≡ fine)
     unfolding step_read
@@ -224,12 +219,12 @@ module _ (w : Width) (M : Mesh) (masses : List ℕ) {bs : List ℕ} {fluxes : Li
     unfolding step_record_found step_read
     read-said = rw (fl, ol, rl) at s.answer
 
-    pub step-unread : {r : Refusal} → a ≡ read.Refused r → StepTaking w M masses bs (step_taken.Refused r) masses
+    pub step-unread : {r : Refusal} → a ≡ Err r → StepTaking w M masses bs (Err r) masses
     unfolding step_judged
     step-unread {r = r} d = stepping-refused M masses (step_in M bs) r
         (out _ (refused-of (step_record_found w M bs) (kind_in bs) (number r.cause) r.place (sym (ap (read_said w) d) ∙ read-said)))
 
-    pub step-took : {kind : StepKind} (d : a ≡ read.Read kind) {r : StepTaken} {masses' : List ℕ}
+    pub step-took : {kind : StepKind} (d : a ≡ Ok kind) {r : Result Printed Refusal} {masses' : List ℕ}
         → SteppedIn M masses (take M.faces fluxes') (take M.faces outsides') (take M.cells releases') r masses' → StepTaking w M masses bs r masses'
     unfolding step_judged
     step-took d {r = r} {masses' = masses'} t =

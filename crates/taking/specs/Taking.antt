@@ -1,19 +1,18 @@
 -- Document 01, "The board and the run" and "Tables lent to a step": what a field and a step record come to. Each is read, then judged
 -- by the causes of its values; a step is taken. A refusal leaves the lent masses as they were. Document 02, S-10: both are told the width.
-use Rattle.std.specs.Prelude.{ℕ, ◌≡◌, List, [], ◌∷◌, length, replicate, ℤ, pos}
+use Rattle.std.specs.Prelude.{ℕ, ◌≡◌, List, [], ◌∷◌, length, replicate, ℤ, pos, Result}
 use Rattle.lists.specs.Table.{table, over}
 use Rattle.model.specs.Mesh.{Mesh, total, run_cells, run_faces}
 use Rattle.model.specs.Step.{next, in_mass, out_mass, released_mass}
 use Rattle.model.specs.Causes.{accepted, Verdict, ◌and_then◌, in_turn, granted, long, Call, call_of, work_entries, cells_only, input_of, mesh_field_verdict, verdict}
 use Rattle.model.specs.Calls.{mass_in}
 use Rattle.checks.specs.Total.{total_said}
-use Rattle.checks.specs.declared.TotalAnswer.{TotalAnswer}
 use Rattle.record_heads.specs.Heads.{step_head_verdict}
 use Rattle.record_layouts.specs.declared.Width.{Width}
 use Rattle.record_reading.specs.Reading.{masses_in, fluxes_in, outsides_in, releases_in, field_read, step_body_verdict}
 use Rattle.model.specs.declared.Printed.{Printed}
-use Rattle.model.specs.declared.StepTaken.{StepTaken}
 use Rattle.model.specs.StepTaken.{taken_said}
+use Rattle.model.specs.declared.Refusal.{Refusal}
 
 -- A FIELD on so many cells of these volumes. It is read into a table of the call's own, of 1,023 entries; the lent one, of so many, has to
 -- hold it. Then come the causes that the total of a field has.
@@ -25,7 +24,7 @@ unfoldable pub field_judged : Width → ℕ → List ℕ → List ℕ → ℕ �
 field_judged w cells volumes bs masses = in_turn (field_judged_causes w cells volumes bs masses)
 
 -- "The board and the run", step 0: the total of the first field is printed.
-pub record FieldTaking (w : Width) (cells : ℕ) (volumes bs masses : List ℕ) (r : TotalAnswer) (masses' : List ℕ) : Type 0 where
+pub record FieldTaking (w : Width) (cells : ℕ) (volumes bs masses : List ℕ) (r : Result ℕ Refusal) (masses' : List ℕ) : Type 0 where
   pub answer : total_said r ≡ (field_judged w cells volumes bs (length masses) and_then accepted (total (cells_only cells volumes) (mass_in (masses_in bs cells))))
   pub masses-after : masses' ≡ granted (field_judged w cells volumes bs (length masses)) (over (masses_in bs cells) masses) masses
 
@@ -63,7 +62,7 @@ module _ (M : Mesh) (masses : List ℕ) where
   abbrev pub masses_after : Verdict → Call → List ℕ
   masses_after v k = granted v (over (table M.cells (next (input_of M masses k))) masses) masses
 
-  pub record Stepping (v : Verdict) (k : Call) (r : StepTaken) (masses' : List ℕ) : Type 0 where
+  pub record Stepping (v : Verdict) (k : Call) (r : Result Printed Refusal) (masses' : List ℕ) : Type 0 where
     pub answer : taken_said r ≡ (v and_then accepted (printed_of k))
     pub masses-after : masses' ≡ masses_after v k
 
@@ -72,5 +71,5 @@ module _ (w : Width) (M : Mesh) (masses : List ℕ) where
   unfoldable pub step_judged : List ℕ → Verdict
   step_judged bs = step_record_found w M bs and_then verdict M masses (step_in M bs)
 
-  abbrev pub StepTaking : List ℕ → StepTaken → List ℕ → Type 0
+  abbrev pub StepTaking : List ℕ → (Result Printed Refusal) → List ℕ → Type 0
   StepTaking bs = Stepping M masses (step_judged bs) (step_in M bs)

@@ -27,19 +27,18 @@ use Rattle.record_layouts.specs.declared.Width.TheVariants.{Narrow}
 use Rattle.record_reading.specs.Reading.{volumes_in, reaches_in, counts_in, mesh_in, mesh_table_causes, mesh_body_causes, mesh_body_verdict, mesh_read}
 use Rattle.record_reading.specs.Answers.{mesh_said, counting, MeshReading}
 use Rattle.record_reading.proofs.ReadLaws.{mesh_cut}
-use Rattle.record_reading.specs.declared.MeshAnswer.{MeshAnswer}
-use Rattle.record_reading.specs.declared.MeshAnswer.TheVariants as mesh-answer
 use Rattle.record_reading.specs.declared.MeshCounts.{MeshCounts}
 use Rattle.taking_mesh.specs.MeshTaking.{mesh_record_found, mesh_room_causes, mesh_judged_causes, mesh_judged, mesh_judged_in_run, MeshKept, MeshTaking}
 use Rattle.taking_mesh.specs.Inner.{kept_found}
+use Rattle.std.specs.Prelude.{Result, Ok, Err}
 
 -- a mesh of which v is found: refused, and accepted
-pub kept-refused : {v : Verdict} (w : Width) (M lent : Mesh) (a : MeshAnswer) (k i : ℕ) → v ≡ refused k i → mesh_said a ≡ refused k i
+pub kept-refused : {v : Verdict} (w : Width) (M lent : Mesh) (a : Result MeshCounts Refusal) (k i : ℕ) → v ≡ refused k i → mesh_said a ≡ refused k i
     → MeshKept v w M lent a lent
 kept-refused w M lent a k i e s = record { answer = s ∙ sym (out _ e); mesh_after = rw e }
 
 pub kept-accepted : {v : Verdict} (w : Width) (M lent : Mesh) {left : Mesh} → v ≡ fine → left ≡ over_mesh M lent
-    → MeshKept v w M lent (mesh-answer.Read (record { cells = M.cells; faces = M.faces; width = w })) left
+    → MeshKept v w M lent (Ok (record { cells = M.cells; faces = M.faces; width = w })) left
 kept-accepted w M lent e d = record { answer = sym (past _ e); mesh_after = rw e d }
 
 -- what a mesh of which nothing is found has passed
@@ -123,7 +122,7 @@ is_read bs lent {left} found e q =
     rw z (record { passed = found; counts_are = refl; held = over-lent (mesh_in bs) lent c; same = over-parted (mesh_in bs) lent c })
 
 -- the tables read into are as long as the run's limits
-module _ {bs : List ℕ} {lent left : Mesh} {a : MeshAnswer}
+module _ {bs : List ℕ} {lent left : Mesh} {a : Result MeshCounts Refusal}
     (s : MeshReading (mesh_read run_cells run_faces bs (length lent.volumes) (length lent.firsts) (length lent.seconds) (length lent.shares)
     (length lent.reaches)) bs lent a left)
     (lv : length lent.volumes ≡ run_cells) (lf : length lent.firsts ≡ run_faces) (ls : length lent.seconds ≡ run_faces)
@@ -132,17 +131,17 @@ module _ {bs : List ℕ} {lent left : Mesh} {a : MeshAnswer}
   unfolding mesh_read mesh_record_found
   read-said = rw (lv, lf, ls, lw, lk) at s.answer
 
-  pub mesh-unread : {r : Refusal} → a ≡ mesh-answer.Refused r → (N : Mesh) → MeshTaking bs N a N
+  pub mesh-unread : {r : Refusal} → a ≡ Err r → (N : Mesh) → MeshTaking bs N a N
   unfolding mesh_judged
   mesh-unread {r = r} d N =
       kept-refused (width_in bs) (mesh_in bs) N a _ _ (refused-at [] (_ ∷ _ ∷ []) tt
       (refused-of (mesh_record_found bs) (counts_in bs) (number r.cause) r.place (sym (ap mesh_said d) ∙ read-said))) (ap mesh_said d)
 
 -- a mesh that is read within limits and into tables that may be less than the run's
-module _ (most_cells most_faces : ℕ) {bs : List ℕ} {lent left : Mesh} {a : MeshAnswer}
+module _ (most_cells most_faces : ℕ) {bs : List ℕ} {lent left : Mesh} {a : Result MeshCounts Refusal}
     (s : MeshReading (mesh_read most_cells most_faces bs (length lent.volumes) (length lent.firsts) (length lent.seconds) (length lent.shares)
     (length lent.reaches)) bs lent a left)
-    (cells : min most_cells max_cells ≤ run_cells) (faces : min most_faces max_faces ≤ run_faces) {n : MeshCounts} (d : a ≡ mesh-answer.Read n) where
+    (cells : min most_cells max_cells ≤ run_cells) (faces : min most_faces max_faces ≤ run_faces) {n : MeshCounts} (d : a ≡ Ok n) where
   read-fine : ((mesh_head_verdict most_cells most_faces bs and_then mesh_body_verdict bs (length lent.volumes) (length lent.firsts) (length lent.seconds)
       (length lent.shares) (length lent.reaches)) ≡ fine) × (n ≡ counts_in bs)
   unfolding mesh_read
@@ -180,17 +179,17 @@ module _ (most_cells most_faces : ℕ) {bs : List ℕ} {lent left : Mesh} {a : M
   read-within = rw read-fine.1 (is_read bs lent found (sym s.answer ∙ ap mesh_said d) s.mesh-read)
 
 -- within those of the run
-pub mesh-read : {bs : List ℕ} {lent left : Mesh} {a : MeshAnswer}
+pub mesh-read : {bs : List ℕ} {lent left : Mesh} {a : Result MeshCounts Refusal}
     → MeshReading (mesh_read run_cells run_faces bs (length lent.volumes) (length lent.firsts) (length lent.seconds) (length lent.shares)
     (length lent.reaches)) bs lent a left
-    → {n : MeshCounts} → a ≡ mesh-answer.Read n → MeshIsRead bs n left
+    → {n : MeshCounts} → a ≡ Ok n → MeshIsRead bs n left
 mesh-read s d = read-within run_cells run_faces s (le_refl run_cells) (le_refl run_faces) d
 
 module _ {bs : List ℕ} {n : MeshCounts} {left : Mesh} (m : MeshIsRead bs n left) where
   pub parts_cut : MeshCut (parted (counting n left))
   parts_cut = parted-cut (counting n left) m.held
 
-  pub mesh-done : {lent after : Mesh} {r : MeshAnswer} → MeshKept (kept_found lent (parted (counting n left))) n.width (parted (counting n left)) lent r after
+  pub mesh-done : {lent after : Mesh} {r : Result MeshCounts Refusal} → MeshKept (kept_found lent (parted (counting n left))) n.width (parted (counting n left)) lent r after
       → MeshTaking bs lent r after
   mesh-done {lent} {after} {r} t =
       let x = subst (λ (N : Mesh). MeshKept (kept_found lent N) n.width N lent r after) m.same t in
@@ -198,13 +197,13 @@ module _ {bs : List ℕ} {n : MeshCounts} {left : Mesh} (m : MeshIsRead bs n lef
       rw (found-is bs m.passed lent) at y
 
 -- A mesh record taken into tables as long as the run's limits: what it is said to be, and the mesh of the counted parts.
-module _ (bs : List ℕ) {lent left : Mesh} {a : MeshAnswer} (t : MeshTaking bs lent a left)
+module _ (bs : List ℕ) {lent left : Mesh} {a : Result MeshCounts Refusal} (t : MeshTaking bs lent a left)
     (lv : length lent.volumes ≡ run_cells) (lf : length lent.firsts ≡ run_faces) (ls : length lent.seconds ≡ run_faces)
     (lw : length lent.shares ≡ run_faces) (lk : length lent.reaches ≡ run_faces) where
   pub taken-said : mesh_said a ≡ (mesh_judged_in_run bs and_then accepted (counts_in bs))
   taken-said = let q = t.answer in rw (lv, lf, ls, lw, lk) at q
 
-  module _ {n : MeshCounts} (d : a ≡ mesh-answer.Read n) where
+  module _ {n : MeshCounts} (d : a ≡ Ok n) where
     pub taken_fine : (mesh_judged_in_run bs ≡ fine) × (n ≡ counts_in bs)
     taken_fine = accepted-of (mesh_judged_in_run bs) (counts_in bs) n (sym (ap mesh_said d) ∙ taken-said)
 

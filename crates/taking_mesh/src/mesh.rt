@@ -8,9 +8,9 @@ ghost use Rattle.taking_mesh.specs.MeshTaking.{MeshKept, MeshTaking};
 ghost use Rattle.taking_mesh.specs.Inner.{kept_found};
 
 use model::needs::{and_then, long};
-use model::{Answer, RUN_CELLS, RUN_FACES, positions};
+use model::{RUN_CELLS, RUN_FACES, positions, Refusal};
 use record_layouts::Width;
-use record_reading::{MeshAnswer, MeshCounts};
+use record_reading::MeshCounts;
 
 // Cause 2: whether lent tables of so many entries hold the mesh.
 fn holds(
@@ -21,7 +21,7 @@ fn holds(
     seconds: usize,
     shares: usize,
     reaches: usize,
-) -> Answer
+) -> Result<(), Refusal>
     ensures { said result ≡ in_turn (mesh_long cells faces volumes firsts seconds shares reaches) }
 {
     let a = long(positions::VOLUMES, cells, volumes);
@@ -46,7 +46,7 @@ fn keep(
     seconds: &mut [u64],
     shares: &mut [u64],
     reaches: &mut [u64],
-) -> MeshAnswer
+) -> Result<MeshCounts, Refusal>
     requires { MeshCut (mesh_of cells faces read_volumes.now read_firsts.now read_seconds.now read_shares.now read_reaches.now) }
     ensures { MeshKept
         (kept_found
@@ -78,15 +78,15 @@ fn keep(
         read_reaches,
     );
     let found = and_then(held, judged);
-    if let Answer::Refused(refusal) = found {
-        return MeshAnswer::Refused(refusal);
+    if let Err(refusal) = found {
+        return Err(refusal);
     }
     lists::copy(read_volumes, volumes);
     lists::copy(read_firsts, firsts);
     lists::copy(read_seconds, seconds);
     lists::copy(read_shares, shares);
     lists::copy(read_reaches, reaches);
-    MeshAnswer::Read(MeshCounts {
+    Ok(MeshCounts {
         cells,
         faces,
         width,
@@ -101,7 +101,7 @@ pub fn take_mesh(
     seconds: &mut [u64],
     shares: &mut [u64],
     reaches: &mut [u64],
-) -> MeshAnswer
+) -> Result<MeshCounts, Refusal>
     ensures { MeshTaking bytes.now
         (mesh_of run_cells run_faces volumes.old firsts.old seconds.old shares.old reaches.old) result
         (mesh_of run_cells run_faces volumes.new firsts.new seconds.new shares.new reaches.new) }
@@ -121,7 +121,7 @@ pub fn take_mesh(
         &mut read_shares,
         &mut read_reaches,
     );
-    let MeshAnswer::Read(counts) = answer else {
+    let Ok(counts) = answer else {
         return answer;
     };
     let cells = counts.cells;

@@ -5,10 +5,8 @@ ghost use Rattle.model.specs.Causes.{fine, work_entries, mesh_values};
 ghost use Rattle.taking.specs.Taking.{StepTaking};
 ghost use Rattle.taking.specs.Inner.{SteppedIn};
 
-use model::{Printed, RUN_CELLS, RUN_FACES, RUN_WORK, StepTaken};
+use model::{Printed, RUN_CELLS, RUN_FACES, RUN_WORK, Refusal};
 use record_layouts::Width;
-use record_reading::StepRead;
-use transport::StepAnswer;
 
 // A step through water that has been read: the masses become the next ones, unless it is refused. What the lent tables of results and work
 // hold is no matter, before or after.
@@ -28,7 +26,7 @@ fn stepped(
     next: &mut [u64],
     moved: &mut [i64],
     work: &mut [u64],
-) -> StepTaken
+) -> Result<Printed, Refusal>
     requires next_len { (length next.old ≡ run_cells) × (length moved.old ≡ run_faces) × (length work.old ≡ work_entries run_cells run_faces) }
     requires reaches_value { known ≡ true → mesh_values ceiling (mesh_of cells faces volumes.now firsts.now seconds.now shares.now reaches.now) ≡ fine }
     ensures { SteppedIn (mesh_of cells faces volumes.now firsts.now seconds.now shares.now
@@ -40,10 +38,10 @@ fn stepped(
         next, moved, work, released,
     );
     match answer {
-        StepAnswer::Refused(refusal) => StepTaken::Refused(refusal),
-        StepAnswer::Stepped(crossing) => {
+        Err(refusal) => Err(refusal),
+        Ok(crossing) => {
             lists::copy(&next[..cells], masses);
-            StepTaken::Stepped(Printed {
+            Ok(Printed {
                 entered: crossing.entered,
                 gone: crossing.gone,
                 total: checks::field::sum_of(cells, masses),
@@ -73,7 +71,7 @@ pub fn take_step_in(
     next: &mut [u64],
     moved: &mut [i64],
     work: &mut [u64],
-) -> StepTaken
+) -> Result<Printed, Refusal>
     requires fluxes_len { (length fluxes.old ≡ run_faces) × (length outsides.old ≡ run_faces) × (length releases.old ≡ run_cells) }
     requires next_len { (length next.old ≡ run_cells) × (length moved.old ≡ run_faces) × (length work.old ≡ work_entries run_cells run_faces) }
     requires reaches_value { known ≡ true → mesh_values ceiling (mesh_of cells faces volumes.now firsts.now seconds.now shares.now reaches.now) ≡ fine }
@@ -84,8 +82,8 @@ pub fn take_step_in(
     let read = record_reading::read_step(
         width, cells, faces, seconds, bytes, fluxes, outsides, releases,
     );
-    if let StepRead::Refused(refusal) = read {
-        return StepTaken::Refused(refusal);
+    if let Err(refusal) = read {
+        return Err(refusal);
     }
     stepped(
         known,
@@ -118,7 +116,7 @@ pub fn take_step(
     shares: &[u64],
     reaches: &[u64],
     masses: &mut [u64],
-) -> StepTaken
+) -> Result<Printed, Refusal>
     ensures { StepTaking width (mesh_of cells faces volumes.now firsts.now seconds.now shares.now
         reaches.now)
         masses.old bytes.now result masses.new }

@@ -10,11 +10,11 @@ use Rattle.board.proofs.board_after.Tie as tie
 none-of-requires : tie.Need-entries_of-requires
 none-of-requires c κs = omega (arith, c.empty_ranking-none.ensures.0)
 
-returns : tie.Need-returns-in-Refused
+returns : tie.Need-returns-in-Err
 returns c =
     let none = c.before.empty_ranking-none in
     let at_told = c.before.before in
-    refused-board _ _ _ _ _ _ at_told.in-Refused.is refl
+    refused-board _ _ _ _ _ _ at_told.in-Err.is refl
     none.ensures.0 (c.entries_of.ensures ∙ none-shown none.result.ranks none.ensures.0)
 
 rank-requires : tie.Need-rank-ranking-requires

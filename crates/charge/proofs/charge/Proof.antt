@@ -7,8 +7,8 @@ use Rattle.charge.proofs.Laws.{charge-passed, billed}
 use Rattle.charge.proofs.charge.Statement.{statement}
 use Rattle.charge.proofs.charge.Tie as tie
 
-returns : tie.Need-returns-in-Refused
-returns c = sym (out _ (refuses c.before.judge-verdict.ensures c.in-Refused.is))
+returns : tie.Need-returns-in-Err
+returns c = sym (out _ (refuses c.before.judge-verdict.ensures c.in-Err.is))
 
 charged-requires : tie.Need-charged-requires
 charged-requires c κs =

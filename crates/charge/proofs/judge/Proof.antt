@@ -6,8 +6,8 @@ use Rattle.charge.proofs.Laws.{lent-long, judged-out, judged-on}
 use Rattle.charge.proofs.judge.Statement.{statement}
 use Rattle.charge.proofs.judge.Tie as tie
 
-returns : tie.Need-returns-in-Refused
-returns c = let at-lent = c.before in sym (judged-out _ _ _ _ _ at-lent.lent-tables.ensures (ap said c.in-Refused.is))
+returns : tie.Need-returns-in-Err
+returns c = let at-lent = c.before in sym (judged-out _ _ _ _ _ at-lent.lent-tables.ensures (ap said c.in-Err.is))
 
 bands-good-requires : tie.Need-bands_good-good-requires
 bands-good-requires c κs = lent-long c.before.before.before.before.args.remainder c.before.lent-tables.ensures

@@ -7,20 +7,20 @@ use Rattle.charge_totals.proofs.Laws.{lent-long, not-lent, too_much, added}
 use Rattle.charge_totals.proofs.add.Statement.{statement}
 use Rattle.charge_totals.proofs.add.Tie as tie
 
-returns : tie.Need-returns-in-Refused
-returns c = let at-lent = c.before in not-lent _ _ _ _ _ at-lent.lent-tables.ensures _ (ap said c.in-Refused.is)
+returns : tie.Need-returns-in-Err
+returns c = let at-lent = c.before in not-lent _ _ _ _ _ at-lent.lent-tables.ensures _ (ap said c.in-Err.is)
 
 gains-good-requires : tie.Need-gains_good-gains-requires
 gains-good-requires c κs =
     let told = c in
     lent-long told.before.lent-tables.ensures (ap said told.in_default.is)
 
-returns-2 : tie.Need-returns-in-Refused-gains
+returns-2 : tie.Need-returns-in-Err-gains
 returns-2 c =
     let at-gains = c.before in
     let told = at-gains.before in
     too_much _ _ _ _ _ told.before.lent-tables.ensures (ap said told.in_default.is) _
-    (refuses at-gains.gains_good-gains.ensures c.in-Refused-gains.is)
+    (refuses at-gains.gains_good-gains.ensures c.in-Err-gains.is)
 
 raise-requires : tie.Need-raise-requires
 raise-requires c κs =

@@ -32,8 +32,8 @@ lent_is : (c : tie.After-and_then-b) → let s = start c in
 unfolding claim_tables
 lent_is c = both-are c.and_then-b.ensures c.before.before.field_lent-a.ensures c.before.claim_lent.ensures
 
-returns : tie.Need-returns-in-Refused
-returns c = sym (claim-lengths-first _ _ _ ∙ refused-at [] (_ ∷ []) tt (refuses (lent_is c.before) c.in-Refused.is))
+returns : tie.Need-returns-in-Err
+returns c = sym (claim-lengths-first _ _ _ ∙ refused-at [] (_ ∷ []) tt (refuses (lent_is c.before) c.in-Err.is))
 
 step-values-requires : tie.Need-step_values-requires
 step-values-requires c κs =

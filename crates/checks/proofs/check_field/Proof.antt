@@ -8,18 +8,18 @@ use Rattle.model.proofs.Accepted.{mesh-long, salt-asks}
 use Rattle.checks.proofs.check_field.Statement.{statement}
 use Rattle.checks.proofs.check_field.Tie as tie
 
-returns : tie.Need-returns-in-Refused
+returns : tie.Need-returns-in-Err
 unfolding mesh_field_verdict
-returns c = sym (refused-at [] (_ ∷ _ ∷ []) tt (refuses c.before.field_lent-a.ensures c.in-Refused.is))
+returns c = sym (refused-at [] (_ ∷ _ ∷ []) tt (refuses c.before.field_lent-a.ensures c.in-Err.is))
 
 values-requires : tie.Need-values-b-requires
 values-requires c κs = mesh-long _ (both-fine _ _ (passes c.before.field_lent-a.ensures c.in_default.is)).0
 
-returns-2 : tie.Need-returns-in-Refused-b
+returns-2 : tie.Need-returns-in-Err-b
 unfolding mesh_field_verdict
 returns-2 c =
     let lent = passes c.before.before.before.field_lent-a.ensures c.before.before.in_default.is in
-    sym (refused-at (_ ∷ []) (_ ∷ []) (lent, tt) (refuses c.before.values-b.ensures c.in-Refused-b.is))
+    sym (refused-at (_ ∷ []) (_ ∷ []) (lent, tt) (refuses c.before.values-b.ensures c.in-Err-b.is))
 
 values-requires-2 : tie.Need-values-requires
 values-requires-2 c κs =

@@ -6,9 +6,9 @@ use Rattle.model.proofs.Accepted.{mesh-long}
 use Rattle.checks.proofs.check_mesh.Statement.{statement}
 use Rattle.checks.proofs.check_mesh.Tie as tie
 
-returns : tie.Need-returns-in-Refused
+returns : tie.Need-returns-in-Err
 unfolding mesh_verdict
-returns c = sym (out _ (refuses c.before.mesh_lent-a.ensures c.in-Refused.is))
+returns c = sym (out _ (refuses c.before.mesh_lent-a.ensures c.in-Err.is))
 
 values-requires : tie.Need-values-requires
 values-requires c κs = mesh-long _ (passes c.before.mesh_lent-a.ensures c.in_default.is)

@@ -14,8 +14,8 @@ start c = let shared = c.before.before.before.before.before in shared.before.bef
 abbrev call : tie.Start → Call
 call s = call_of s.args.fluxes.now s.args.outsides.now s.args.next.now s.args.moved.now s.args.work.now s.args.releases.now
 
-returns : tie.Need-returns-in-Refused
-returns c = sym (lengths-first _ _ _ ∙ out _ (refuses c.before.tables_lent-a.ensures c.in-Refused.is))
+returns : tie.Need-returns-in-Err
+returns c = sym (lengths-first _ _ _ ∙ out _ (refuses c.before.tables_lent-a.ensures c.in-Err.is))
 
 values-own-requires : tie.Need-values_own-requires
 values-own-requires c κs =

@@ -20,11 +20,11 @@ mesh s = mesh_of s.args.cells s.args.faces s.args.volumes.now s.args.firsts.now 
 abbrev call : tie.Start → Call
 call s = call_of s.args.fluxes.now s.args.outsides.now s.args.next.now s.args.moved.now s.args.work.now s.args.releases.now
 
-returns : tie.Need-returns-in-Refused
+returns : tie.Need-returns-in-Err
 returns c =
     let t = c.before in
     let s = start t.before in
-    sym (lengths-first (mesh s) s.args.masses.now (call s) ∙ out _ (refuses t.tables_lent-a.ensures c.in-Refused.is))
+    sym (lengths-first (mesh s) s.args.masses.now (call s) ∙ out _ (refuses t.tables_lent-a.ensures c.in-Err.is))
 
 values-in-requires : tie.Need-values_in-requires
 values-in-requires c κs =

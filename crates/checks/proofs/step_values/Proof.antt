@@ -23,8 +23,8 @@ meshed c = c.before
 values-requires : tie.Need-values-a-requires
 values-requires c κs = c.before.before.before.before.before.before.before.before.requires.lent
 
-returns : tie.Need-returns-in-Refused
-returns c = sym (in-groups _ _ _ ∙ refused-at [] (_ ∷ _ ∷ []) tt (refuses c.before.values-a.ensures c.in-Refused.is))
+returns : tie.Need-returns-in-Err
+returns c = sym (in-groups _ _ _ ∙ refused-at [] (_ ∷ _ ∷ []) tt (refuses c.before.values-a.ensures c.in-Err.is))
 
 values-requires-2 : tie.Need-values-requires
 values-requires-2 c κs = field-asks _ _ _ (start (meshed c)).requires (passes (meshed c).values-a.ensures c.in_default.is)
@@ -37,7 +37,7 @@ values-requires-3 c κs =
 values-requires-4 : tie.Need-values-requires-3
 values-requires-4 c κs = water-asks _ _ _ (start (meshed c.before.before.before)).requires
 
-returns-2 : tie.Need-returns-in-Refused-b
+returns-2 : tie.Need-returns-in-Err-b
 unfolding field_values salt_good raised_values raised_good outside_good flux_good
 returns-2 c =
     let tested = c.before in
@@ -45,7 +45,7 @@ returns-2 c =
     let salt = both-are tested.before.before.and_then-salt.ensures tested.before.before.before.before.values.ensures
     tested.before.before.before.values-2.ensures in
     let water = both-are tested.and_then-b.ensures salt tested.before.values-3.ensures in
-    sym (in-groups _ _ _ ∙ refused-at (_ ∷ []) (_ ∷ []) (mesh, tt) (refuses water c.in-Refused-b.is))
+    sym (in-groups _ _ _ ∙ refused-at (_ ∷ []) (_ ∷ []) (mesh, tt) (refuses water c.in-Err-b.is))
 
 values-requires-5 : tie.Need-values-requires-4
 unfolding field_values salt_good raised_values raised_good outside_good flux_good

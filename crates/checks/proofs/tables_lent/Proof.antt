@@ -7,8 +7,8 @@ use Rattle.model.proofs.Accepted.{few}
 use Rattle.checks.proofs.tables_lent.Statement.{statement}
 use Rattle.checks.proofs.tables_lent.Tie as tie
 
-returns : tie.Need-returns-in-Refused
-returns c = sym (out _ (refuses c.before.field_lent-a.ensures c.in-Refused.is))
+returns : tie.Need-returns-in-Err
+returns c = sym (out _ (refuses c.before.field_lent-a.ensures c.in-Err.is))
 
 step-lent-requires : tie.Need-step_lent-requires
 step-lent-requires c κs = few _ _ (passes c.before.field_lent-a.ensures c.in_default.is)

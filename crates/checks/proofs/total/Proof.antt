@@ -6,8 +6,8 @@ use Rattle.checks.proofs.Laws.{sum-asks}
 use Rattle.checks.proofs.total.Statement.{statement}
 use Rattle.checks.proofs.total.Tie as tie
 
-returns : tie.Need-returns-in-Refused
-returns c = sym (out _ (refuses c.before.check_cells-a.ensures c.in-Refused.is))
+returns : tie.Need-returns-in-Err
+returns c = sym (out _ (refuses c.before.check_cells-a.ensures c.in-Err.is))
 
 sum-of-requires : tie.Need-sum_of-requires
 sum-of-requires c κs = sum-asks _ _ (passes c.before.check_cells-a.ensures c.in_default.is)

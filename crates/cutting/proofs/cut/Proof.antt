@@ -64,12 +64,12 @@ fine-past c =
     let s = start v in
     found-fine (whole s) s.args.labels.now (lent-0 s) (lent-1 s) _ v.verdict-a.ensures c.in_default.is
 
-returns : tie.Need-returns-in-Refused
+returns : tie.Need-returns-in-Err
 unfolding counts cut_tables
 returns c =
     let v = c.before in
     let s = start v in
-    promise-refused (whole s) s.args.labels.now (lent-0 s) (lent-1 s) _ v.verdict-a.ensures _ c.in-Refused.is
+    promise-refused (whole s) s.args.labels.now (lent-0 s) (lent-1 s) _ v.verdict-a.ensures _ c.in-Err.is
 
 part-requires : tie.Need-part-part_0-requires
 part-requires c κs =

@@ -10,8 +10,8 @@ use Rattle.cutting_causes.proofs.verdict.Tie as tie
 abbrev start : tie.After-lengths-a → tie.Start
 start c = let lent = c.before.before.before.before.before in lent.before.before.before.before.before
 
-returns : tie.Need-returns-in-Refused
-returns c = sym (out _ (refuses c.before.lengths-a.ensures c.in-Refused.is))
+returns : tie.Need-returns-in-Err
+returns c = sym (out _ (refuses c.before.lengths-a.ensures c.in-Err.is))
 
 values-requires : tie.Need-values-requires
 values-requires c κs =

@@ -11,13 +11,13 @@ number-of-requires : tie.Need-number_of-requires
 number-of-requires c κs =
     let s = c.before.before in
     let a = s.args.answer in
-    refusal-of (board-refused a.verdict (record { used = a.used; entries = a.entries }) (ap said c.in-Refused.is)) s.requires
+    refusal-of (board-refused a.verdict (record { used = a.used; entries = a.entries }) (ap said c.in-Err.is)) s.requires
 
-returns : tie.Need-returns-in-Refused
+returns : tie.Need-returns-in-Err
 returns c =
     let a = c.before.before.before.args.answer in
     answered-refused shown_numbers _ (board-refused a.verdict (record { used = a.used; entries = a.entries })
-    (ap said c.before.in-Refused.is)) c.number_of.ensures
+    (ap said c.before.in-Err.is)) c.number_of.ensures
 
 returns-2 : tie.Need-returns
 returns-2 c =

@@ -11,19 +11,19 @@ number-of-requires : tie.Need-number_of-requires
 number-of-requires c κs =
     let a = c.before.before.before.before.before.args in
     let q = c.before.crossed-a.ensures in
-    refusal-of (sym q ∙ ap taken_said c.in-Refused.is) (found-fits a.mesh.now a.field.now a.step.now)
+    refusal-of (sym q ∙ ap taken_said c.in-Err.is) (found-fits a.mesh.now a.field.now a.step.now)
 
-returns : tie.Need-returns-in-Refused
+returns : tie.Need-returns-in-Err
 returns c =
     let a = c.before.before.before.before.before.before.args in
     let q = c.before.before.crossed-a.ensures in
-    c.number_of.ensures ∙ sym (ap number_of (tested-refused a.mesh.now a.field.now a.step.now q c.before.in-Refused.is))
+    c.number_of.ensures ∙ sym (ap number_of (tested-refused a.mesh.now a.field.now a.step.now q c.before.in-Err.is))
 
-returns-2 : tie.Need-returns-in-Stepped
+returns-2 : tie.Need-returns-in-Ok
 returns-2 c =
     let a = c.before.before.before.before.before.args in
     let q = c.before.crossed-a.ensures in
-    sym (ap number_of (tested-fine a.mesh.now a.field.now a.step.now q c.in-Stepped.is))
+    sym (ap number_of (tested-fine a.mesh.now a.field.now a.step.now q c.in-Ok.is))
 
 pub lagoon_check_spec : {M : Type 1} → statement M
 lagoon_check_spec =

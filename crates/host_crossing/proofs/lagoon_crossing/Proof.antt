@@ -14,19 +14,19 @@ number-of-requires : tie.Need-number_of-requires
 number-of-requires c κs =
     let a = c.before.before.before.before.before.before.args in
     let q = c.before.crossed-a.ensures in
-    refusal-of (sym q ∙ ap taken_said c.in-Refused.is) (found-fits a.mesh.now a.field.now a.step.now)
+    refusal-of (sym q ∙ ap taken_said c.in-Err.is) (found-fits a.mesh.now a.field.now a.step.now)
 
-returns : tie.Need-returns-in-Refused
+returns : tie.Need-returns-in-Err
 returns c =
     let q = c.before.before.crossed-a.ensures in
     answered-refused crossed_in c.before.before.before.before.before.before.before.args.found.now
-    (sym q ∙ ap taken_said c.before.in-Refused.is) c.number_of.ensures
+    (sym q ∙ ap taken_said c.before.in-Err.is) c.number_of.ensures
 
-returns-2 : tie.Need-returns-in-Stepped
+returns-2 : tie.Need-returns-in-Ok
 returns-2 c =
     let a = (start-from-known-told2 c.before.before.before.before).args in
     let q = c.before.before.before.before.before.crossed-a.ensures in
-    crossing-found a.mesh.now a.field.now a.step.now q c.before.before.before.before.in-Stepped.is a.found.now
+    crossing-found a.mesh.now a.field.now a.step.now q c.before.before.before.before.in-Ok.is a.found.now
     c.before.before.fill3.ensures
 
 pub lagoon_crossing_spec : {M : Type 1} → statement M

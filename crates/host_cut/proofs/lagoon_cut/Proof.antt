@@ -39,14 +39,14 @@ on-records-from-slice-known10 c = c.before.before.before.before.before.before
 number-of-requires : tie.Need-number_of-requires
 number-of-requires c κs =
     let a = (start-from-slice-known5 c.before.before.before.before).args in
-    labels-fit a.mesh.now a.field.now a.step.now a.labels.now c.before.labels_found-a.ensures c.in-Refused.is
+    labels-fit a.mesh.now a.field.now a.step.now a.labels.now c.before.labels_found-a.ensures c.in-Err.is
 
-returns : tie.Need-returns-in-Refused
+returns : tie.Need-returns-in-Err
 returns c =
     let s = (start-from-slice-known5 c.before.before.before.before.before) in
     let a = s.args in
     cut-unlabelled a.mesh.now a.field.now a.step.now a.labels.now (lent-0 s) (lent-1 s)
-    c.before.before.labels_found-a.ensures c.before.in-Refused.is c.number_of.ensures
+    c.before.before.labels_found-a.ensures c.before.in-Err.is c.number_of.ensures
 
 answered-requires : tie.Need-answered-requires
 answered-requires c κs =

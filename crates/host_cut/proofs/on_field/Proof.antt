@@ -26,19 +26,19 @@ start-from-slice-known c = c.before.before.before.before.before.before.before.be
 abbrev start-from-read-step : tie.After-read_step-a → tie.Start
 start-from-read-step c = start-from-slice-known c.before.before.before.before.before.before.before.before.before
 
-abbrev start-from-releases3 : tie.After-releases-in-Read-1 → tie.Start
+abbrev start-from-releases3 : tie.After-releases-in-Ok-1 → tie.Start
 start-from-releases3 c = start-from-read-step c.before.before.before.before.before.before.before
 
-abbrev read-step-from-releases3 : tie.After-releases-in-Read-1 → tie.After-read_step-a
+abbrev read-step-from-releases3 : tie.After-releases-in-Ok-1 → tie.After-read_step-a
 read-step-from-releases3 c = c.before.before.before.before.before.before.before
 
-abbrev start-from-slice-known7 : tie.After-slice_known-in-Read-1 → tie.Start
+abbrev start-from-slice-known7 : tie.After-slice_known-in-Ok-1 → tie.Start
 start-from-slice-known7 c = start-from-releases3 c.before.before.before.before.before.before.before.before.before
 
-abbrev read-step-from-slice-known7 : tie.After-slice_known-in-Read-1 → tie.After-read_step-a
+abbrev read-step-from-slice-known7 : tie.After-slice_known-in-Ok-1 → tie.After-read_step-a
 read-step-from-slice-known7 c = read-step-from-releases3 c.before.before.before.before.before.before.before.before.before
 
-abbrev releases3-from-slice-known7 : tie.After-slice_known-in-Read-1 → tie.After-releases-in-Read-1
+abbrev releases3-from-slice-known7 : tie.After-slice_known-in-Ok-1 → tie.After-releases-in-Ok-1
 releases3-from-slice-known7 c = c.before.before.before.before.before.before.before.before.before
 
 abbrev start-from-step1 : tie.After-step1-1 → tie.Start
@@ -47,54 +47,54 @@ start-from-step1 c = start-from-slice-known7 c.before.before.before.before.befor
 abbrev read-step-from-step1 : tie.After-step1-1 → tie.After-read_step-a
 read-step-from-step1 c = read-step-from-slice-known7 c.before.before.before.before.before.before.before.before.before
 
-abbrev releases3-from-step1 : tie.After-step1-1 → tie.After-releases-in-Read-1
+abbrev releases3-from-step1 : tie.After-step1-1 → tie.After-releases-in-Ok-1
 releases3-from-step1 c = releases3-from-slice-known7 c.before.before.before.before.before.before.before.before.before
 
-abbrev slice-known7-from-step1 : tie.After-step1-1 → tie.After-slice_known-in-Read-1
+abbrev slice-known7-from-step1 : tie.After-step1-1 → tie.After-slice_known-in-Ok-1
 slice-known7-from-step1 c = c.before.before.before.before.before.before.before.before.before
 
 array-share-prefix-fluxes : tie.Need-slice_bounds-fluxes-end
 array-share-prefix-fluxes c =
     let s = (start-from-read-step c.before.before.before.before) in
     (fluxes-part s.args.width (mesh s) s.args.masses.now c.before.before.before.before.read_step-a.ensures
-    c.in-Read.is).fits
+    c.in-Ok.is).fits
 
 slice-aggregate-cut-tables : tie.Need-slice_bounds-cut_tables-end
 slice-aggregate-cut-tables c =
     let s = (start-from-read-step c.before.before.before.before.before) in
     part-long (fluxes-part s.args.width (mesh s) s.args.masses.now
-    c.before.before.before.before.before.read_step-a.ensures c.before.in-Read.is)
+    c.before.before.before.before.before.read_step-a.ensures c.before.in-Ok.is)
 
 array-share-prefix-outsides : tie.Need-slice_bounds-outsides-end
 array-share-prefix-outsides c =
     let s = (start-from-read-step c.before.before.before.before.before) in
     (outsides-part s.args.width (mesh s) s.args.masses.now c.before.before.before.before.before.read_step-a.ensures
-    c.before.in-Read.is).fits
+    c.before.in-Ok.is).fits
 
-slice-aggregate-cut-tables-2 : tie.Need-slice_bounds-cut_tables-end-in-Read
+slice-aggregate-cut-tables-2 : tie.Need-slice_bounds-cut_tables-end-in-Ok
 slice-aggregate-cut-tables-2 c =
     let s = (start-from-read-step c.before.before.before.before.before.before) in
     part-long (outsides-part s.args.width (mesh s) s.args.masses.now
-    c.before.before.before.before.before.before.read_step-a.ensures c.before.before.in-Read.is)
+    c.before.before.before.before.before.before.read_step-a.ensures c.before.before.in-Ok.is)
 
 array-share-prefix-releases : tie.Need-slice_bounds-releases-end
 array-share-prefix-releases c =
     let s = (start-from-read-step c.before.before.before.before.before.before) in
     (releases-part s.args.width (mesh s) s.args.masses.now
-    c.before.before.before.before.before.before.read_step-a.ensures c.before.before.in-Read.is).fits
+    c.before.before.before.before.before.before.read_step-a.ensures c.before.before.in-Ok.is).fits
 
-slice-aggregate-cut-tables-3 : tie.Need-slice_bounds-cut_tables-end-in-Read-2
+slice-aggregate-cut-tables-3 : tie.Need-slice_bounds-cut_tables-end-in-Ok-2
 slice-aggregate-cut-tables-3 c =
     let s = (start-from-releases3 c) in
     part-long (releases-part s.args.width (mesh s) s.args.masses.now
-    c.before.before.before.before.before.before.before.read_step-a.ensures c.before.before.before.in-Read.is)
+    c.before.before.before.before.before.before.before.read_step-a.ensures c.before.before.before.in-Ok.is)
 
-returns : tie.Need-returns-in-Refused
+returns : tie.Need-returns-in-Err
 returns c =
     let s = (start-from-read-step c.before.before.before.before) in
     let a = s.args in
     on-unread a.width (mesh s) a.masses.now a.step.now a.labels.now (lent-0 s) (lent-1 s)
-    c.before.before.before.before.read_step-a.ensures refl refl refl c.in-Refused.is
+    c.before.before.before.before.read_step-a.ensures refl refl refl c.in-Err.is
 
 same_length : tie.Need-shape_of-mesh0
 same_length c = (slice-known7-from-step1 c.before).before.mesh0-1.given
@@ -114,13 +114,13 @@ same-length-5 c = c.before.before.before.field1-1.given
 same-length-6 : tie.Need-shape_of-step1
 same-length-6 c = c.before.step1-1.given
 
-returns-2 : tie.Need-returns-in-Read
+returns-2 : tie.Need-returns-in-Ok
 returns-2 c =
     let s = (start-from-step1 c.before) in
     let a = s.args in
     on_read a.width (mesh s) a.masses.now a.step.now a.labels.now (lent-0 s) (lent-1 s)
     (read-step-from-step1 c.before).read_step-a.ensures refl refl refl
-    (releases3-from-step1 c.before).before.before.before.in-Read.is
+    (releases3-from-step1 c.before).before.before.before.in-Ok.is
     (slice-known7-from-step1 c.before).before.before.cut_tables.ensures
 
 pub on_field_spec : {M : Type 1} → statement M

@@ -18,113 +18,113 @@ start-from-slice-known5 c = c.before.before.before.before.before.before.before.b
 abbrev start-from-volumes2 : tie.After-volumes-2-1 → tie.Start
 start-from-volumes2 c = start-from-slice-known5 c.before.before.before.before.before.before.before.before.before
 
-abbrev start-from-volumes3 : tie.After-volumes-in-Taken-1 → tie.Start
+abbrev start-from-volumes3 : tie.After-volumes-in-Ok-1 → tie.Start
 start-from-volumes3 c = start-from-volumes2 c.before.before.before.before.before.before.before
 
-abbrev volumes2-from-volumes3 : tie.After-volumes-in-Taken-1 → tie.After-volumes-2-1
+abbrev volumes2-from-volumes3 : tie.After-volumes-in-Ok-1 → tie.After-volumes-2-1
 volumes2-from-volumes3 c = c.before.before.before.before.before.before.before
 
-abbrev start-from-on-field-arg4 : tie.After-on_field-arg-in-Taken-3-1 → tie.Start
+abbrev start-from-on-field-arg4 : tie.After-on_field-arg-in-Ok-3-1 → tie.Start
 start-from-on-field-arg4 c = start-from-volumes3 c.before.before.before.before.before.before.before.before.before
 
-abbrev volumes2-from-on-field-arg4 : tie.After-on_field-arg-in-Taken-3-1 → tie.After-volumes-2-1
+abbrev volumes2-from-on-field-arg4 : tie.After-on_field-arg-in-Ok-3-1 → tie.After-volumes-2-1
 volumes2-from-on-field-arg4 c = volumes2-from-volumes3 c.before.before.before.before.before.before.before.before.before
 
-abbrev volumes3-from-on-field-arg4 : tie.After-on_field-arg-in-Taken-3-1 → tie.After-volumes-in-Taken-1
+abbrev volumes3-from-on-field-arg4 : tie.After-on_field-arg-in-Ok-3-1 → tie.After-volumes-in-Ok-1
 volumes3-from-on-field-arg4 c = c.before.before.before.before.before.before.before.before.before
 
-abbrev start-from-slice-known9 : tie.After-slice_known-in-Taken-3-1 → tie.Start
+abbrev start-from-slice-known9 : tie.After-slice_known-in-Ok-3-1 → tie.Start
 start-from-slice-known9 c = start-from-on-field-arg4 c.before.before.before.before.before.before.before.before.before
 
-abbrev volumes2-from-slice-known9 : tie.After-slice_known-in-Taken-3-1 → tie.After-volumes-2-1
+abbrev volumes2-from-slice-known9 : tie.After-slice_known-in-Ok-3-1 → tie.After-volumes-2-1
 volumes2-from-slice-known9 c = volumes2-from-on-field-arg4 c.before.before.before.before.before.before.before.before.before
 
-abbrev volumes3-from-slice-known9 : tie.After-slice_known-in-Taken-3-1 → tie.After-volumes-in-Taken-1
+abbrev volumes3-from-slice-known9 : tie.After-slice_known-in-Ok-3-1 → tie.After-volumes-in-Ok-1
 volumes3-from-slice-known9 c = volumes3-from-on-field-arg4 c.before.before.before.before.before.before.before.before.before
 
-abbrev mesh0-from-slice-known9 : tie.After-slice_known-in-Taken-3-1 → tie.After-mesh0-1
+abbrev mesh0-from-slice-known9 : tie.After-slice_known-in-Ok-3-1 → tie.After-mesh0-1
 mesh0-from-slice-known9 c = c.before.before.before.before.before
 
-abbrev on-field-from-slice-known9 : tie.After-slice_known-in-Taken-3-1 → tie.After-on_field
+abbrev on-field-from-slice-known9 : tie.After-slice_known-in-Ok-3-1 → tie.After-on_field
 on-field-from-slice-known9 c = c.before.before.before.before.before.before
 
 array-share-prefix-volumes : tie.Need-slice_bounds-volumes-end
 array-share-prefix-volumes c =
     let a = (start-from-volumes2 c.before.before.before.before.before.before).args in
     (lendable a.mesh.now a.field.now c.before.before.before.before.before.before.before.take_field-a.ensures
-    c.in-Taken.is).mesh_fits.volumes_long
+    c.in-Ok.is).mesh_fits.volumes_long
 
 slice-aggregate-on-field : tie.Need-slice_bounds-on_field-end
 slice-aggregate-on-field c =
     let a = (start-from-volumes3 c).args in
-    (lendable a.mesh.now a.field.now (volumes2-from-volumes3 c).before.take_field-a.ensures c.before.in-Taken.is).mesh_cut.volumes_cut
+    (lendable a.mesh.now a.field.now (volumes2-from-volumes3 c).before.take_field-a.ensures c.before.in-Ok.is).mesh_cut.volumes_cut
 
 array-share-prefix-firsts : tie.Need-slice_bounds-firsts-end
 array-share-prefix-firsts c =
     let a = (start-from-volumes3 c).args in
-    (lendable a.mesh.now a.field.now (volumes2-from-volumes3 c).before.take_field-a.ensures c.before.in-Taken.is).mesh_fits.firsts_long
+    (lendable a.mesh.now a.field.now (volumes2-from-volumes3 c).before.take_field-a.ensures c.before.in-Ok.is).mesh_fits.firsts_long
 
-slice-aggregate-on-field-2 : tie.Need-slice_bounds-on_field-end-in-Taken
+slice-aggregate-on-field-2 : tie.Need-slice_bounds-on_field-end-in-Ok
 slice-aggregate-on-field-2 c =
     let a = (start-from-volumes3 c.before).args in
     (lendable a.mesh.now a.field.now (volumes2-from-volumes3 c.before).before.take_field-a.ensures
-    c.before.before.in-Taken.is).mesh_cut.firsts_cut
+    c.before.before.in-Ok.is).mesh_cut.firsts_cut
 
 array-share-prefix-seconds : tie.Need-slice_bounds-seconds-end
 array-share-prefix-seconds c =
     let a = (start-from-volumes3 c.before).args in
     (lendable a.mesh.now a.field.now (volumes2-from-volumes3 c.before).before.take_field-a.ensures
-    c.before.before.in-Taken.is).mesh_fits.seconds_long
+    c.before.before.in-Ok.is).mesh_fits.seconds_long
 
-slice-aggregate-on-field-3 : tie.Need-slice_bounds-on_field-end-in-Taken-2
+slice-aggregate-on-field-3 : tie.Need-slice_bounds-on_field-end-in-Ok-2
 slice-aggregate-on-field-3 c =
     let a = (start-from-volumes3 c.before.before).args in
     (lendable a.mesh.now a.field.now (volumes2-from-volumes3 c.before.before).before.take_field-a.ensures
-    c.before.before.before.in-Taken.is).mesh_cut.seconds_cut
+    c.before.before.before.in-Ok.is).mesh_cut.seconds_cut
 
 array-share-prefix-shares : tie.Need-slice_bounds-shares-end
 array-share-prefix-shares c =
     let a = (start-from-volumes3 c.before.before).args in
     (lendable a.mesh.now a.field.now (volumes2-from-volumes3 c.before.before).before.take_field-a.ensures
-    c.before.before.before.in-Taken.is).mesh_fits.shares_long
+    c.before.before.before.in-Ok.is).mesh_fits.shares_long
 
-slice-aggregate-on-field-4 : tie.Need-slice_bounds-on_field-end-in-Taken-3
+slice-aggregate-on-field-4 : tie.Need-slice_bounds-on_field-end-in-Ok-3
 slice-aggregate-on-field-4 c =
     let a = (start-from-volumes3 c.before.before.before).args in
     (lendable a.mesh.now a.field.now (volumes2-from-volumes3 c.before.before.before).before.take_field-a.ensures
-    c.before.before.before.before.in-Taken.is).mesh_cut.shares_cut
+    c.before.before.before.before.in-Ok.is).mesh_cut.shares_cut
 
 array-share-prefix-reaches : tie.Need-slice_bounds-reaches-end
 array-share-prefix-reaches c =
     let a = (start-from-volumes3 c.before.before.before).args in
     (lendable a.mesh.now a.field.now (volumes2-from-volumes3 c.before.before.before).before.take_field-a.ensures
-    c.before.before.before.before.in-Taken.is).mesh_fits.reaches_long
+    c.before.before.before.before.in-Ok.is).mesh_fits.reaches_long
 
-slice-aggregate-on-field-5 : tie.Need-slice_bounds-on_field-end-in-Taken-4
+slice-aggregate-on-field-5 : tie.Need-slice_bounds-on_field-end-in-Ok-4
 slice-aggregate-on-field-5 c =
     let a = (start-from-volumes3 c.before.before.before.before).args in
     (lendable a.mesh.now a.field.now (volumes2-from-volumes3 c.before.before.before.before).before.take_field-a.ensures
-    c.before.before.before.before.before.in-Taken.is).mesh_cut.reaches_cut
+    c.before.before.before.before.before.in-Ok.is).mesh_cut.reaches_cut
 
 array-share-prefix-masses : tie.Need-slice_bounds-masses-end
 array-share-prefix-masses c =
     let a = (start-from-volumes3 c.before.before.before.before).args in
     (lendable a.mesh.now a.field.now (volumes2-from-volumes3 c.before.before.before.before).before.take_field-a.ensures
-    c.before.before.before.before.before.in-Taken.is).masses_fit
+    c.before.before.before.before.before.in-Ok.is).masses_fit
 
-slice-aggregate-on-field-6 : tie.Need-slice_bounds-on_field-end-in-Taken-5
+slice-aggregate-on-field-6 : tie.Need-slice_bounds-on_field-end-in-Ok-5
 slice-aggregate-on-field-6 c =
     let a = (start-from-volumes3 c.before.before.before.before.before).args in
     (lendable a.mesh.now a.field.now (volumes2-from-volumes3 c.before.before.before.before.before).before.take_field-a.ensures
-    c.before.before.before.before.before.before.in-Taken.is).masses_long
+    c.before.before.before.before.before.before.in-Ok.is).masses_long
 
-returns : tie.Need-returns-in-Refused
+returns : tie.Need-returns-in-Err
 returns c =
     let s = (start-from-volumes2 c.before.before.before.before.before.before) in
     let a = s.args in
     records-refused a.mesh.now a.field.now a.step.now a.labels.now (lent-0 s) (lent-1 s)
     (untaken a.mesh.now a.field.now c.before.before.before.before.before.before.before.take_field-a.ensures.answer
-    c.in-Refused.is)
+    c.in-Err.is)
 
 same_length : tie.Need-shape_of-mesh0
 same_length c = (mesh0-from-slice-known9 c.before.before.before.before.before.before).mesh0-1.given
@@ -144,13 +144,13 @@ same-length-5 c = c.before.before.before.field1-1.given
 same-length-6 : tie.Need-shape_of-step1
 same-length-6 c = c.before.step1-1.given
 
-returns-2 : tie.Need-returns-in-Taken
+returns-2 : tie.Need-returns-in-Ok
 returns-2 c =
     let s = (start-from-slice-known9 c.before.before.before.before.before.before) in
     let a = s.args in
     records-taken a.mesh.now a.field.now a.step.now a.labels.now (lent-0 s) (lent-1 s)
     (volumes2-from-slice-known9 c.before.before.before.before.before.before).before.take_field-a.ensures
-    (volumes3-from-slice-known9 c.before.before.before.before.before.before).before.in-Taken.is
+    (volumes3-from-slice-known9 c.before.before.before.before.before.before).before.in-Ok.is
     (on-field-from-slice-known9 c.before.before.before.before.before.before).on_field.ensures
 
 pub on_records_spec : {M : Type 1} → statement M

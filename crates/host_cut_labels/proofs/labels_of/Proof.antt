@@ -7,9 +7,9 @@ use Rattle.host_cut_promises.specs.Cut.{labels_find}
 use Rattle.host_cut_labels.proofs.labels_of.Statement.{statement}
 use Rattle.host_cut_labels.proofs.labels_of.Tie as tie
 
-returns : tie.Need-returns-in-Refused
+returns : tie.Need-returns-in-Err
 unfolding labels_find
-returns c = sym (out _ (refuses c.before.long-a.ensures c.in-Refused.is))
+returns c = sym (out _ (refuses c.before.long-a.ensures c.in-Err.is))
 
 labels-fit-requires : tie.Need-labels_fit-requires
 labels-fit-requires c κs = long-fine _ _ _ (passes c.before.long-a.ensures c.in_default.is)

@@ -40,12 +40,12 @@ enum-told-from-slice-known11 c = enum-told-from-step0 c.before.before.before.bef
 abbrev step0-from-slice-known11 : tie.After-slice_known-11-1 → tie.After-step0-1
 step0-from-slice-known11 c = c.before.before.before.before.before.before.before.before.before
 
-returns : tie.Need-returns-in-Refused
+returns : tie.Need-returns-in-Err
 returns c =
     let s = (start-from-a c) in
     let a = s.args in
     cut-refused a.width (kind_number a.width a.kind) (whole s) a.labels.now (lent-0 s) (lent-1 s) _
-    (refuses c.before.tested-a.ensures c.in-Refused.is)
+    (refuses c.before.tested-a.ensures c.in-Err.is)
 
 part-written-requires : tie.Need-part_written-x-requires
 part-written-requires c κs =

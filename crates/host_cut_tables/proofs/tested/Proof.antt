@@ -14,10 +14,10 @@ whole s = lagoon_of s.args.cells s.args.faces (tables_of s.args.volumes.now s.ar
 abbrev start-from-shared-slice-known9 : tie.After-shared_slice_known-9-1 → tie.Start
 start-from-shared-slice-known9 c = c.before.before.before.before.before.before.before.before.before
 
-returns : tie.Need-returns-in-Refused
+returns : tie.Need-returns-in-Err
 returns c =
     let s = (start-from-shared-slice-known9 c.before.before) in
-    sym (out _ (refuses (found-own (whole s) s.args.labels.now c.before.verdict-a.ensures) c.in-Refused.is))
+    sym (out _ (refuses (found-own (whole s) s.args.labels.now c.before.verdict-a.ensures) c.in-Err.is))
 
 part-found-requires : tie.Need-part_found-x-requires
 part-found-requires c κs =

@@ -7,13 +7,13 @@ use Rattle.host_field.proofs.page_answered.Statement.{statement}
 use Rattle.host_field.proofs.page_answered.Tie as tie
 
 number-of-requires : tie.Need-number_of-requires
-number-of-requires c κs = refusal-of (ap page_said c.in-Refused.is) c.before.before.requires
+number-of-requires c κs = refusal-of (ap page_said c.in-Err.is) c.before.before.requires
 
-returns : tie.Need-returns-in-Printed
-returns c = answered-found alone _ (ap page_said c.before.before.before.before.in-Printed.is) c.before.before.fill1.ensures
+returns : tie.Need-returns-in-Ok
+returns c = answered-found alone _ (ap page_said c.before.before.before.before.in-Ok.is) c.before.before.fill1.ensures
 
-returns-2 : tie.Need-returns-in-Refused
-returns-2 c = answered-refused alone _ (ap page_said c.before.in-Refused.is) c.number_of.ensures
+returns-2 : tie.Need-returns-in-Err
+returns-2 c = answered-refused alone _ (ap page_said c.before.in-Err.is) c.number_of.ensures
 
 pub page_answered_spec : {M : Type 1} → statement M
 page_answered_spec = tie.close (tie.spec (search rules) (search rules) (search rules) number-of-requires (search rules) returns returns-2)

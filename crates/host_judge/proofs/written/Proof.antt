@@ -37,7 +37,7 @@ array-share-prefix-next c =
     let s = start (judging k) in
     let p = (judging k).judge-a.ensures in
     (next-part judged judged-keeping s.args.width (mesh s) s.requires s.args.masses.now (call s)
-    (lent (mesh s) s.args.masses.now (call s)) s.args.bytes.now p.answer p.next_masses k.in-Stepped.is).fits
+    (lent (mesh s) s.args.masses.now (call s)) s.args.bytes.now p.answer p.next_masses k.in-Ok.is).fits
 
 slice-aggregate-write-field : tie.Need-slice_bounds-write_field-end
 unfolding blank
@@ -46,18 +46,18 @@ slice-aggregate-write-field c =
     let s = start (judging k) in
     let p = (judging k).judge-a.ensures in
     part-long (next-part judged judged-keeping s.args.width (mesh s) s.requires s.args.masses.now (call s)
-    (lent (mesh s) s.args.masses.now (call s)) s.args.bytes.now p.answer p.next_masses k.in-Stepped.is)
+    (lent (mesh s) s.args.masses.now (call s)) s.args.bytes.now p.answer p.next_masses k.in-Ok.is)
 
-returns : tie.Need-returns-in-Refused
+returns : tie.Need-returns-in-Err
 unfolding blank
 returns c =
     let j = c.before.before in
     let s = start j in
     let p = j.judge-a.ensures in
     step-refused judged judged-keeping s.args.width (mesh s) s.requires s.args.masses.now (call s)
-    (lent (mesh s) s.args.masses.now (call s)) s.args.bytes.now p.answer p.next_masses c.in-Refused.is
+    (lent (mesh s) s.args.masses.now (call s)) s.args.bytes.now p.answer p.next_masses c.in-Err.is
 
-returns-2 : tie.Need-returns-in-Refused-b
+returns-2 : tie.Need-returns-in-Err-b
 unfolding blank
 returns-2 c =
     let w = c.before.before.before in
@@ -65,10 +65,10 @@ returns-2 c =
     let s = start (judging k) in
     let p = (judging k).judge-a.ensures in
     no_room judged judged-keeping s.args.width (mesh s) s.requires s.args.masses.now (call s)
-    (lent (mesh s) s.args.masses.now (call s)) s.args.bytes.now p.answer p.next_masses k.in-Stepped.is w.write_field-b.ensures
-    c.in-Refused-b.is
+    (lent (mesh s) s.args.masses.now (call s)) s.args.bytes.now p.answer p.next_masses k.in-Ok.is w.write_field-b.ensures
+    c.in-Err-b.is
 
-returns-3 : tie.Need-returns-in-Written
+returns-3 : tie.Need-returns-in-Ok
 unfolding blank
 returns-3 c =
     let w = c.before.before.before in
@@ -76,8 +76,8 @@ returns-3 c =
     let s = start (judging k) in
     let p = (judging k).judge-a.ensures in
     record-written judged judged-keeping s.args.width (mesh s) s.requires s.args.masses.now (call s)
-    (lent (mesh s) s.args.masses.now (call s)) s.args.bytes.now p.answer p.next_masses k.in-Stepped.is w.write_field-b.ensures
-    c.in-Written.is
+    (lent (mesh s) s.args.masses.now (call s)) s.args.bytes.now p.answer p.next_masses k.in-Ok.is w.write_field-b.ensures
+    c.in-Ok.is
 
 pub written_spec : {M : Type 1} → statement M
 written_spec =

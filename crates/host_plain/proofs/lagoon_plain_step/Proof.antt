@@ -10,19 +10,19 @@ number-of-requires : tie.Need-number_of-requires
 number-of-requires c κs =
     let a = (start-from-slice-known2 c.before).args in
     let h = c.before.before.before.on_records-a.ensures in
-    number_fits a.mesh.now a.field.now a.step.now a.next.now h c.in-Refused.is
+    number_fits a.mesh.now a.field.now a.step.now a.next.now h c.in-Err.is
 
-returns : tie.Need-returns-in-Refused
+returns : tie.Need-returns-in-Err
 returns c =
     let a = (start-from-slice-known2 c.before.before).args in
     let h = c.before.before.before.before.on_records-a.ensures in
-    refused-number a.mesh.now a.field.now a.step.now a.next.now h c.before.in-Refused.is c.number_of.ensures
+    refused-number a.mesh.now a.field.now a.step.now a.next.now h c.before.in-Err.is c.number_of.ensures
 
-returns-2 : tie.Need-returns-in-Stepped
+returns-2 : tie.Need-returns-in-Ok
 returns-2 c =
     let a = (start-from-slice-known2 c.before).args in
     let h = c.before.before.before.on_records-a.ensures in
-    stepped-number a.mesh.now a.field.now a.step.now a.next.now h c.in-Stepped.is
+    stepped-number a.mesh.now a.field.now a.step.now a.next.now h c.in-Ok.is
 
 pub lagoon_plain_step_spec : {M : Type 1} → statement M
 lagoon_plain_step_spec =

@@ -28,53 +28,53 @@ start r = entered r.before.before.before.before.before
 array-share-prefix-fluxes : tie.Need-slice_bounds-fluxes-end
 array-share-prefix-fluxes k =
     let s = start (reading k) in
-    (fluxes-part s.args.width (mesh s) s.args.masses.now (reading k).read_step-a.ensures k.in-Read.is).fits
+    (fluxes-part s.args.width (mesh s) s.args.masses.now (reading k).read_step-a.ensures k.in-Ok.is).fits
 
 slice-aggregate-written : tie.Need-slice_bounds-written-end
 slice-aggregate-written c =
     let k = c.before in
     let s = start (reading k) in
-    part-long (fluxes-part s.args.width (mesh s) s.args.masses.now (reading k).read_step-a.ensures k.in-Read.is)
+    part-long (fluxes-part s.args.width (mesh s) s.args.masses.now (reading k).read_step-a.ensures k.in-Ok.is)
 
 array-share-prefix-outsides : tie.Need-slice_bounds-outsides-end
 array-share-prefix-outsides c =
     let k = c.before in
     let s = start (reading k) in
-    (outsides-part s.args.width (mesh s) s.args.masses.now (reading k).read_step-a.ensures k.in-Read.is).fits
+    (outsides-part s.args.width (mesh s) s.args.masses.now (reading k).read_step-a.ensures k.in-Ok.is).fits
 
-slice-aggregate-written-2 : tie.Need-slice_bounds-written-end-in-Read
+slice-aggregate-written-2 : tie.Need-slice_bounds-written-end-in-Ok
 slice-aggregate-written-2 c =
     let k = c.before.before in
     let s = start (reading k) in
-    part-long (outsides-part s.args.width (mesh s) s.args.masses.now (reading k).read_step-a.ensures k.in-Read.is)
+    part-long (outsides-part s.args.width (mesh s) s.args.masses.now (reading k).read_step-a.ensures k.in-Ok.is)
 
 array-share-prefix-releases : tie.Need-slice_bounds-releases-end
 array-share-prefix-releases c =
     let k = c.before.before in
     let s = start (reading k) in
-    (releases-part s.args.width (mesh s) s.args.masses.now (reading k).read_step-a.ensures k.in-Read.is).fits
+    (releases-part s.args.width (mesh s) s.args.masses.now (reading k).read_step-a.ensures k.in-Ok.is).fits
 
-slice-aggregate-written-3 : tie.Need-slice_bounds-written-end-in-Read-2
+slice-aggregate-written-3 : tie.Need-slice_bounds-written-end-in-Ok-2
 slice-aggregate-written-3 c =
     let k = c.before.before.before in
     let s = start (reading k) in
-    part-long (releases-part s.args.width (mesh s) s.args.masses.now (reading k).read_step-a.ensures k.in-Read.is)
+    part-long (releases-part s.args.width (mesh s) s.args.masses.now (reading k).read_step-a.ensures k.in-Ok.is)
 
-returns : tie.Need-returns-in-Refused
+returns : tie.Need-returns-in-Err
 unfolding step_judged
 returns c =
     let r = c.before.before.before.before in
     let s = start r in
     on-unread plain own_tables s.args.width (mesh s) s.args.masses.now s.args.step.now s.args.bytes.now r.read_step-a.ensures refl refl refl
-    c.in-Refused.is
+    c.in-Err.is
 
-returns-2 : tie.Need-returns-in-Read
+returns-2 : tie.Need-returns-in-Ok
 unfolding step_judged
 returns-2 c =
     let k = c.before.before.before.before.before.before.before in
     let s = start (reading k) in
     on_read plain own_tables s.args.width (mesh s) s.args.masses.now s.args.step.now s.args.bytes.now (reading k).read_step-a.ensures
-    refl refl refl k.in-Read.is c.before.before.written.ensures
+    refl refl refl k.in-Ok.is c.before.before.written.ensures
 
 pub on_field_spec : {M : Type 1} → statement M
 on_field_spec =

@@ -24,38 +24,38 @@ start t = entered t.before.before.before.before.before
 on-field-requires : tie.Need-on_field-requires
 on-field-requires c κs =
     let k = c.before.before.before.before.before.before.before in
-    within-taken _ _ (taking k).take_field-a.ensures k.in-Taken.is
+    within-taken _ _ (taking k).take_field-a.ensures k.in-Ok.is
 
-returns : tie.Need-returns-in-Refused
+returns : tie.Need-returns-in-Err
 unfolding step_judged
 returns c =
     let t = c.before.before.before.before.before.before.before in
     let a = (start t).args in
     records-refused plain own_tables a.mesh.now a.field.now a.step.now a.bytes.now
-    (untaken a.mesh.now a.field.now t.take_field-a.ensures.answer c.in-Refused.is)
+    (untaken a.mesh.now a.field.now t.take_field-a.ensures.answer c.in-Err.is)
 
-returns-2 : tie.Need-returns-in-Taken
+returns-2 : tie.Need-returns-in-Ok
 unfolding step_judged
 returns-2 c =
     let k = counted c.before.before in
     let a = (start (taking k)).args in
-    records-taken plain own_tables a.mesh.now a.field.now a.step.now a.bytes.now (taking k).take_field-a.ensures k.in-Taken.is
+    records-taken plain own_tables a.mesh.now a.field.now a.step.now a.bytes.now (taking k).take_field-a.ensures k.in-Ok.is
     c.before.before.on_field.ensures
 
 pub on_records_spec : {M : Type 1} → statement M
 on_records_spec =
     tie.close
     (tie.spec (search rules) (search rules) (search rules) (search rules) (search rules) (search rules) (search rules) (search rules) (search rules)
-    (λ c. let k = c in (lendable _ _ (taking k).take_field-a.ensures k.in-Taken.is).mesh_fits.volumes_long)
-    (λ c. let k = c.before in (lendable _ _ (taking k).take_field-a.ensures k.in-Taken.is).mesh_cut.volumes_cut)
-    (λ c. let k = c.before in (lendable _ _ (taking k).take_field-a.ensures k.in-Taken.is).mesh_fits.firsts_long)
-    (λ c. let k = c.before.before in (lendable _ _ (taking k).take_field-a.ensures k.in-Taken.is).mesh_cut.firsts_cut)
-    (λ c. let k = c.before.before in (lendable _ _ (taking k).take_field-a.ensures k.in-Taken.is).mesh_fits.seconds_long)
-    (λ c. let k = c.before.before.before in (lendable _ _ (taking k).take_field-a.ensures k.in-Taken.is).mesh_cut.seconds_cut)
-    (λ c. let k = c.before.before.before in (lendable _ _ (taking k).take_field-a.ensures k.in-Taken.is).mesh_fits.shares_long)
-    (λ c. let k = c.before.before.before.before in (lendable _ _ (taking k).take_field-a.ensures k.in-Taken.is).mesh_cut.shares_cut)
-    (λ c. let k = c.before.before.before.before in (lendable _ _ (taking k).take_field-a.ensures k.in-Taken.is).mesh_fits.reaches_long)
-    (λ c. let k = c.before.before.before.before.before in (lendable _ _ (taking k).take_field-a.ensures k.in-Taken.is).mesh_cut.reaches_cut)
-    (λ c. let k = c.before.before.before.before.before in (lendable _ _ (taking k).take_field-a.ensures k.in-Taken.is).masses_fit)
-    (λ c. let k = c.before.before.before.before.before.before in (lendable _ _ (taking k).take_field-a.ensures k.in-Taken.is).masses_long)
+    (λ c. let k = c in (lendable _ _ (taking k).take_field-a.ensures k.in-Ok.is).mesh_fits.volumes_long)
+    (λ c. let k = c.before in (lendable _ _ (taking k).take_field-a.ensures k.in-Ok.is).mesh_cut.volumes_cut)
+    (λ c. let k = c.before in (lendable _ _ (taking k).take_field-a.ensures k.in-Ok.is).mesh_fits.firsts_long)
+    (λ c. let k = c.before.before in (lendable _ _ (taking k).take_field-a.ensures k.in-Ok.is).mesh_cut.firsts_cut)
+    (λ c. let k = c.before.before in (lendable _ _ (taking k).take_field-a.ensures k.in-Ok.is).mesh_fits.seconds_long)
+    (λ c. let k = c.before.before.before in (lendable _ _ (taking k).take_field-a.ensures k.in-Ok.is).mesh_cut.seconds_cut)
+    (λ c. let k = c.before.before.before in (lendable _ _ (taking k).take_field-a.ensures k.in-Ok.is).mesh_fits.shares_long)
+    (λ c. let k = c.before.before.before.before in (lendable _ _ (taking k).take_field-a.ensures k.in-Ok.is).mesh_cut.shares_cut)
+    (λ c. let k = c.before.before.before.before in (lendable _ _ (taking k).take_field-a.ensures k.in-Ok.is).mesh_fits.reaches_long)
+    (λ c. let k = c.before.before.before.before.before in (lendable _ _ (taking k).take_field-a.ensures k.in-Ok.is).mesh_cut.reaches_cut)
+    (λ c. let k = c.before.before.before.before.before in (lendable _ _ (taking k).take_field-a.ensures k.in-Ok.is).masses_fit)
+    (λ c. let k = c.before.before.before.before.before.before in (lendable _ _ (taking k).take_field-a.ensures k.in-Ok.is).masses_long)
     on-field-requires returns (search rules) returns-2)

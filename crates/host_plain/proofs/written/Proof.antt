@@ -31,13 +31,13 @@ start-from-shared-slice-known6 c = c.before.before.before.before.before.before
 abbrev start-from-moved2 : tie.After-moved-2-1 → tie.Start
 start-from-moved2 c = start-from-shared-slice-known6 c.before.before.before.before.before.before.before.before.before
 
-abbrev start-from-slice-known2 : tie.After-slice_known-in-Stepped-1 → tie.Start
+abbrev start-from-slice-known2 : tie.After-slice_known-in-Ok-1 → tie.Start
 start-from-slice-known2 c = start-from-moved2 c.before.before.before.before.before.before.before
 
 abbrev step-from-moved2 : tie.After-moved-2-1 → tie.After-step-a
 step-from-moved2 c = c.before.before
 
-abbrev step-from-slice-known2 : tie.After-slice_known-in-Stepped-1 → tie.After-step-a
+abbrev step-from-slice-known2 : tie.After-slice_known-in-Ok-1 → tie.After-step-a
 step-from-slice-known2 c = step-from-moved2 c.before.before.before.before.before.before.before
 
 array-share-prefix-next : tie.Need-slice_bounds-next-end
@@ -46,7 +46,7 @@ array-share-prefix-next c =
     let s = (start-from-work2 c.before) in
     let p = c.before.before.before.before.step-a.ensures in
     (next-part plain plain-keeping s.args.width (mesh s) s.requires s.args.masses.now (call s)
-    (lent (mesh s) s.args.masses.now (call s)) s.args.bytes.now p.answer p.next_masses c.in-Stepped.is).fits
+    (lent (mesh s) s.args.masses.now (call s)) s.args.bytes.now p.answer p.next_masses c.in-Ok.is).fits
 
 slice-aggregate-write-field : tie.Need-slice_bounds-write_field-end
 unfolding blank
@@ -54,35 +54,35 @@ slice-aggregate-write-field c =
     let s = (start-from-work2 c.before.before) in
     let p = c.before.before.before.before.before.step-a.ensures in
     part-long (next-part plain plain-keeping s.args.width (mesh s) s.requires s.args.masses.now (call s)
-    (lent (mesh s) s.args.masses.now (call s)) s.args.bytes.now p.answer p.next_masses c.before.in-Stepped.is)
+    (lent (mesh s) s.args.masses.now (call s)) s.args.bytes.now p.answer p.next_masses c.before.in-Ok.is)
 
-returns : tie.Need-returns-in-Refused
+returns : tie.Need-returns-in-Err
 unfolding blank
 returns c =
     let s = (start-from-work2 c.before) in
     let p = c.before.before.before.before.step-a.ensures in
     step-refused plain plain-keeping s.args.width (mesh s) s.requires s.args.masses.now (call s)
-    (lent (mesh s) s.args.masses.now (call s)) s.args.bytes.now p.answer p.next_masses c.in-Refused.is
+    (lent (mesh s) s.args.masses.now (call s)) s.args.bytes.now p.answer p.next_masses c.in-Err.is
 
-returns-2 : tie.Need-returns-in-Refused-b
+returns-2 : tie.Need-returns-in-Err-b
 unfolding blank
 returns-2 c =
     let s = (start-from-slice-known2 c.before) in
     let p = (step-from-slice-known2 c.before).step-a.ensures in
     no_room plain plain-keeping s.args.width (mesh s) s.requires s.args.masses.now (call s)
     (lent (mesh s) s.args.masses.now (call s)) s.args.bytes.now p.answer p.next_masses
-    c.before.before.before.before.before.before.in-Stepped.is
-    c.before.before.before.write_field-b.ensures c.in-Refused-b.is
+    c.before.before.before.before.before.before.in-Ok.is
+    c.before.before.before.write_field-b.ensures c.in-Err-b.is
 
-returns-3 : tie.Need-returns-in-Written
+returns-3 : tie.Need-returns-in-Ok
 unfolding blank
 returns-3 c =
     let s = (start-from-slice-known2 c.before) in
     let p = (step-from-slice-known2 c.before).step-a.ensures in
     record-written plain plain-keeping s.args.width (mesh s) s.requires s.args.masses.now (call s)
     (lent (mesh s) s.args.masses.now (call s)) s.args.bytes.now p.answer p.next_masses
-    c.before.before.before.before.before.before.in-Stepped.is c.before.before.before.write_field-b.ensures
-    c.in-Written.is
+    c.before.before.before.before.before.before.in-Ok.is c.before.before.before.write_field-b.ensures
+    c.in-Ok.is
 
 pub written_spec : {M : Type 1} → statement M
 written_spec =

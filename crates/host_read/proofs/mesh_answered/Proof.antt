@@ -7,14 +7,14 @@ use Rattle.host_read.proofs.mesh_answered.Statement.{statement}
 use Rattle.host_read.proofs.mesh_answered.Tie as tie
 
 number-of-requires : tie.Need-number_of-requires
-number-of-requires c κs = refusal-of (ap mesh_said c.in-Refused.is) c.before.before.requires
+number-of-requires c κs = refusal-of (ap mesh_said c.in-Err.is) c.before.before.requires
 
-returns : tie.Need-returns-in-Read
-returns c = answered-found counts_found _ (ap mesh_said c.before.before.before.before.before.in-Read.is)
+returns : tie.Need-returns-in-Ok
+returns c = answered-found counts_found _ (ap mesh_said c.before.before.before.before.before.in-Ok.is)
     (rw c.before.before.before.width_number.ensures at c.before.before.fill3.ensures)
 
-returns-2 : tie.Need-returns-in-Refused
-returns-2 c = answered-refused counts_found _ (ap mesh_said c.before.in-Refused.is) c.number_of.ensures
+returns-2 : tie.Need-returns-in-Err
+returns-2 c = answered-refused counts_found _ (ap mesh_said c.before.in-Err.is) c.number_of.ensures
 
 pub mesh_answered_spec : {M : Type 1} → statement M
 mesh_answered_spec =

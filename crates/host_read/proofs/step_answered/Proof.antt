@@ -7,16 +7,16 @@ use Rattle.host_read.proofs.step_answered.Statement.{statement}
 use Rattle.host_read.proofs.step_answered.Tie as tie
 
 number-of-requires : tie.Need-number_of-requires
-number-of-requires c κs = refusal-of (ap (step_read_said c.before.before.args.width) c.in-Refused.is)
+number-of-requires c κs = refusal-of (ap (step_read_said c.before.before.args.width) c.in-Err.is)
     c.before.before.requires
 
-returns : tie.Need-returns-in-Read
+returns : tie.Need-returns-in-Ok
 returns c = answered-found alone _ (ap (step_read_said c.before.before.before.before.before.before.before.args.width)
-    c.before.before.before.before.before.in-Read.is) (rw c.before.before.before.kind_number.ensures at
+    c.before.before.before.before.before.in-Ok.is) (rw c.before.before.before.kind_number.ensures at
     c.before.before.fill1.ensures)
 
-returns-2 : tie.Need-returns-in-Refused
-returns-2 c = answered-refused alone _ (ap (step_read_said c.before.before.before.args.width) c.before.in-Refused.is)
+returns-2 : tie.Need-returns-in-Err
+returns-2 c = answered-refused alone _ (ap (step_read_said c.before.before.before.args.width) c.before.in-Err.is)
     c.number_of.ensures
 
 pub step_answered_spec : {M : Type 1} → statement M

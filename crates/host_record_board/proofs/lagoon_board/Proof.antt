@@ -20,38 +20,38 @@ number-of-requires : tie.Need-number_of-requires
 number-of-requires c κs =
     let t = c.before.before.before in
     let a = (start t).args in
-    refusal-of (untaken a.mesh.now a.field.now t.take_cells-a.ensures.answer c.in-Refused.is)
+    refusal-of (untaken a.mesh.now a.field.now t.take_cells-a.ensures.answer c.in-Err.is)
     (small-number _ (field-tested-small a.mesh.now a.field.now))
 
 answered-requires : tie.Need-answered-requires
 answered-requires c κs =
     let k = c.before.before.before.before in
     let a = (start (taking k)).args in
-    rw (board-made a.mesh.now a.field.now (taking k).take_cells-a.ensures k.in-Taken.is c.before.board-shown.ensures)
+    rw (board-made a.mesh.now a.field.now (taking k).take_cells-a.ensures k.in-Ok.is c.before.board-shown.ensures)
     (board-fits a.mesh.now a.field.now)
 
-returns : tie.Need-returns-in-Refused
+returns : tie.Need-returns-in-Err
 returns c =
     let t = c.before.before.before.before in
     let a = (start t).args in
-    let e = untaken a.mesh.now a.field.now t.take_cells-a.ensures.answer c.before.in-Refused.is in
+    let e = untaken a.mesh.now a.field.now t.take_cells-a.ensures.answer c.before.in-Err.is in
     answered-refused shown_numbers a.found.now (board-untaken a.mesh.now a.field.now e) c.number_of.ensures
 
-returns-2 : tie.Need-returns-in-Taken
+returns-2 : tie.Need-returns-in-Ok
 returns-2 c =
     let board = c.before.before.before.before in
     let k = board.before.before.before in
     let a = (start (taking k)).args in
     answered-as shown_numbers a.found.now
-    (board-made a.mesh.now a.field.now (taking k).take_cells-a.ensures k.in-Taken.is board.board-shown.ensures)
+    (board-made a.mesh.now a.field.now (taking k).take_cells-a.ensures k.in-Ok.is board.board-shown.ensures)
     c.before.before.answered.ensures
 
 pub lagoon_board_spec : {M : Type 1} → statement M
 lagoon_board_spec =
     tie.close
     (tie.spec (search rules) (search rules) (search rules) (search rules) number-of-requires (search rules)
-    (λ c. let k = c in volumes-fit _ _ (taking k).take_cells-a.ensures k.in-Taken.is)
-    (λ c. let k = c.before in volumes_long _ _ (taking k).take_cells-a.ensures k.in-Taken.is)
-    (λ c. let k = c.before in masses_fit _ _ (taking k).take_cells-a.ensures k.in-Taken.is)
-    (λ c. let k = c.before.before in masses_long _ _ (taking k).take_cells-a.ensures k.in-Taken.is)
+    (λ c. let k = c in volumes-fit _ _ (taking k).take_cells-a.ensures k.in-Ok.is)
+    (λ c. let k = c.before in volumes_long _ _ (taking k).take_cells-a.ensures k.in-Ok.is)
+    (λ c. let k = c.before in masses_fit _ _ (taking k).take_cells-a.ensures k.in-Ok.is)
+    (λ c. let k = c.before.before in masses_long _ _ (taking k).take_cells-a.ensures k.in-Ok.is)
     (search rules) answered-requires returns (search rules) returns-2)

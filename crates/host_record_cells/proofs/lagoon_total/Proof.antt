@@ -14,20 +14,20 @@ number-of-requires : tie.Need-number_of-requires
 number-of-requires c κs =
     let a = (start-from-masses2 c.before).args in
     let t = c.before.before.before.take_cells-a.ensures in
-    refusal-of (untaken a.mesh.now a.field.now t.answer c.in-Refused.is)
+    refusal-of (untaken a.mesh.now a.field.now t.answer c.in-Err.is)
     (small-number _ (field-tested-small a.mesh.now a.field.now))
 
-returns : tie.Need-returns-in-Refused
+returns : tie.Need-returns-in-Err
 returns c =
     let a = (start-from-masses2 c.before.before).args in
     let t = c.before.before.before.before.take_cells-a.ensures in
-    total-untaken a.mesh.now a.field.now t.answer a.found.now c.before.in-Refused.is c.number_of.ensures
+    total-untaken a.mesh.now a.field.now t.answer a.found.now c.before.in-Err.is c.number_of.ensures
 
-returns-2 : tie.Need-returns-in-Taken
+returns-2 : tie.Need-returns-in-Ok
 returns-2 c =
     let a = (start-from-masses2 c.before.before.before.before.before).args in
     let t = c.before.before.before.before.before.before.before.take_cells-a.ensures in
-    total-taken a.mesh.now a.field.now t.answer a.found.now c.before.before.before.before.in-Taken.is
+    total-taken a.mesh.now a.field.now t.answer a.found.now c.before.before.before.before.in-Ok.is
     c.before.before.fill1.ensures
 
 pub lagoon_total_spec : {M : Type 1} → statement M

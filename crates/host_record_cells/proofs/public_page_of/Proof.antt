@@ -13,25 +13,25 @@ taking k = k.before.before.before
 abbrev start : tie.After-take_cells-a → tie.Start
 start t = t.before.before.before.before.before.before.before
 
-returns : tie.Need-returns-in-Refused
+returns : tie.Need-returns-in-Err
 returns c =
     let t = c.before.before.before in
     let a = (start t).args in
-    printing-refused _ _ a.bytes.now _ (out _ (untaken a.mesh.now a.field.now t.take_cells-a.ensures.answer c.in-Refused.is))
+    printing-refused _ _ a.bytes.now _ (out _ (untaken a.mesh.now a.field.now t.take_cells-a.ensures.answer c.in-Err.is))
 
-returns-2 : tie.Need-returns-in-Taken
+returns-2 : tie.Need-returns-in-Ok
 returns-2 c =
     let k = c.before.before.before.before.before.before in
     let a = (start (taking k)).args in
-    public-made a.mesh.now a.field.now a.page a.bytes.now (taking k).take_cells-a.ensures k.in-Taken.is a.marks.now
+    public-made a.mesh.now a.field.now a.page a.bytes.now (taking k).take_cells-a.ensures k.in-Ok.is a.marks.now
     c.before.before.public_page.ensures
 
 pub public_page_of_spec : {M : Type 1} → statement M
 public_page_of_spec =
     tie.close
     (tie.spec (search rules) (search rules) (search rules) (search rules) (search rules)
-    (λ c. let k = c in volumes-fit _ _ (taking k).take_cells-a.ensures k.in-Taken.is)
-    (λ c. let k = c.before in volumes_long _ _ (taking k).take_cells-a.ensures k.in-Taken.is)
-    (λ c. let k = c.before in masses_fit _ _ (taking k).take_cells-a.ensures k.in-Taken.is)
-    (λ c. let k = c.before.before in masses_long _ _ (taking k).take_cells-a.ensures k.in-Taken.is)
+    (λ c. let k = c in volumes-fit _ _ (taking k).take_cells-a.ensures k.in-Ok.is)
+    (λ c. let k = c.before in volumes_long _ _ (taking k).take_cells-a.ensures k.in-Ok.is)
+    (λ c. let k = c.before in masses_fit _ _ (taking k).take_cells-a.ensures k.in-Ok.is)
+    (λ c. let k = c.before.before in masses_long _ _ (taking k).take_cells-a.ensures k.in-Ok.is)
     (search rules) returns (search rules) returns-2)

@@ -7,13 +7,13 @@ use Rattle.host_share.proofs.answered.Statement.{statement}
 use Rattle.host_share.proofs.answered.Tie as tie
 
 number-of-requires : tie.Need-number_of-requires
-number-of-requires c κs = refusal-of (ap share_by c.in-Refused.is) c.before.before.requires
+number-of-requires c κs = refusal-of (ap share_by c.in-Err.is) c.before.before.requires
 
-returns : tie.Need-returns-in-Share
-returns c = answered-found alone _ (ap share_by c.before.before.before.before.in-Share.is) c.before.before.fill1.ensures
+returns : tie.Need-returns-in-Ok
+returns c = answered-found alone _ (ap share_by c.before.before.before.before.in-Ok.is) c.before.before.fill1.ensures
 
-returns-2 : tie.Need-returns-in-Refused
-returns-2 c = answered-refused alone _ (ap share_by c.before.in-Refused.is) c.number_of.ensures
+returns-2 : tie.Need-returns-in-Err
+returns-2 c = answered-refused alone _ (ap share_by c.before.in-Err.is) c.number_of.ensures
 
 pub answered_spec : {M : Type 1} → statement M
 answered_spec = tie.close (tie.spec (search rules) (search rules) (search rules) number-of-requires (search rules) returns returns-2)

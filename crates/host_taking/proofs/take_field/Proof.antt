@@ -23,39 +23,39 @@ slice-reshare-prefix-take-field c =
     let k = c in
     let s = start (taking k) in
     volumes-fit s.args.mesh.now s.args.field.now (taking k).take_mesh-a.ensures
-    s.requires.0.0 s.requires.1.0 s.requires.1.1 s.requires.1.2 s.requires.1.3 k.in-Read.is
+    s.requires.0.0 s.requires.1.0 s.requires.1.1 s.requires.1.2 s.requires.1.3 k.in-Ok.is
 
-slice-aggregate-take-field : tie.Need-slice_bounds-take_field-end-in-Read
+slice-aggregate-take-field : tie.Need-slice_bounds-take_field-end-in-Ok
 slice-aggregate-take-field c =
     let k = c in
     let s = start (taking k) in
     volumes_long s.args.mesh.now s.args.field.now (taking k).take_mesh-a.ensures
-    s.requires.0.0 s.requires.1.0 s.requires.1.1 s.requires.1.2 s.requires.1.3 k.in-Read.is
+    s.requires.0.0 s.requires.1.0 s.requires.1.1 s.requires.1.2 s.requires.1.3 k.in-Ok.is
 
-returns : tie.Need-returns-in-Refused
+returns : tie.Need-returns-in-Err
 returns c =
     let t = (volumes-left c.before).before in
     let s = start t in
     mesh_refused s.args.mesh.now s.args.field.now t.take_mesh-a.ensures
-    s.requires.0.0 s.requires.1.0 s.requires.1.1 s.requires.1.2 s.requires.1.3 c.in-Refused.is s.args.masses.now
+    s.requires.0.0 s.requires.1.0 s.requires.1.1 s.requires.1.2 s.requires.1.3 c.in-Err.is s.args.masses.now
 
-returns-2 : tie.Need-returns-in-Refused-b
+returns-2 : tie.Need-returns-in-Err-b
 returns-2 c =
     let f = c.before.before.before in
     let k = f.before.before in
     let s = start (taking k) in
     field_refused s.args.mesh.now s.args.field.now (taking k).take_mesh-a.ensures
-    s.requires.0.0 s.requires.1.0 s.requires.1.1 s.requires.1.2 s.requires.1.3 k.in-Read.is
-    f.take_field-b.ensures s.requires.0.1 c.in-Refused-b.is
+    s.requires.0.0 s.requires.1.0 s.requires.1.1 s.requires.1.2 s.requires.1.3 k.in-Ok.is
+    f.take_field-b.ensures s.requires.0.1 c.in-Err-b.is
 
-returns-3 : tie.Need-returns-in-Total
+returns-3 : tie.Need-returns-in-Ok
 returns-3 c =
     let f = c.before.before.before in
     let k = f.before.before in
     let s = start (taking k) in
     field_taken s.args.mesh.now s.args.field.now (taking k).take_mesh-a.ensures
-    s.requires.0.0 s.requires.1.0 s.requires.1.1 s.requires.1.2 s.requires.1.3 k.in-Read.is
-    f.take_field-b.ensures s.requires.0.1 c.in-Total.is
+    s.requires.0.0 s.requires.1.0 s.requires.1.1 s.requires.1.2 s.requires.1.3 k.in-Ok.is
+    f.take_field-b.ensures s.requires.0.1 c.in-Ok.is
 
 pub take_field_spec : {M : Type 1} → statement M
 take_field_spec =

@@ -42,11 +42,11 @@ all-passed c = let s = start (tested c) in unworked-passed (mesh s) s.args.masse
 lent : (c : tie.In_default) → let s = start (tested c) in ClaimLent (mesh s) (call s)
 lent c = let s = start (tested c) in claim_lent (mesh s) s.args.masses.now (call s) (all-passed c).claim_tables_fine
 
-returns : tie.Need-returns-in-Refused
+returns : tie.Need-returns-in-Err
 returns c =
     let t = c.before in
     let s = start t in
-    refused-first (mesh s) s.args.masses.now (call s) _ (refuses t.check_claim-verdict.ensures c.in-Refused.is)
+    refused-first (mesh s) s.args.masses.now (call s) _ (refuses t.check_claim-verdict.ensures c.in-Err.is)
 
 judged-requires : tie.Need-judged-answer-requires
 judged-requires c κs =
@@ -55,11 +55,11 @@ judged-requires c κs =
     let l = lent c in
     (claim-ready (mesh s) s.args.masses.now (call s) p, field-lent (mesh s) s.args.masses.now p.field_table_fine, l.releases_long, l.moveds_long)
 
-returns-2 : tie.Need-returns-in-Refused-answer
+returns-2 : tie.Need-returns-in-Err-answer
 returns-2 c =
     let j = c.before in
     let s = at j in
-    refused-last (mesh s) s.args.masses.now (call s) (past-step j.before) _ j.judged-answer.ensures c.in-Refused-answer.is
+    refused-last (mesh s) s.args.masses.now (call s) (past-step j.before) _ j.judged-answer.ensures c.in-Err-answer.is
 
 values-requires : tie.Need-values-requires
 values-requires c κs =
@@ -79,18 +79,18 @@ values-requires c κs =
         (
           faces-fit (mesh s) s.args.masses.now s.args.fluxes.now s.args.outsides.now s.args.releases.now r m l.releases_long
               s.args.claim.now l.moveds_long
-              (first_fine (mesh s) s.args.masses.now (call s) u _ j.judged-answer.ensures a.in-Stepped.is),
+              (first_fine (mesh s) s.args.masses.now (call s) u _ j.judged-answer.ensures a.in-Ok.is),
           (
             salted (mesh s) s.args.masses.now s.args.fluxes.now s.args.outsides.now s.args.releases.now r m l.releases_long,
             affords (mesh s) s.args.masses.now s.args.fluxes.now s.args.outsides.now s.args.releases.now r m l.releases_long
                 s.args.claim.now l.moveds_long
-                (amounts-fine (mesh s) s.args.masses.now (call s) u _ j.judged-answer.ensures a.in-Stepped.is),
+                (amounts-fine (mesh s) s.args.masses.now (call s) u _ j.judged-answer.ensures a.in-Ok.is),
           ),
         ),
       ),
     )
 
-returns-3 : tie.Need-returns-in-Stepped
+returns-3 : tie.Need-returns-in-Ok
 returns-3 c =
     let v = c.before.before in
     let a = v.before.before in
@@ -101,7 +101,7 @@ returns-3 c =
     let l = lent t in
     let r = claim-ready (mesh s) s.args.masses.now (call s) p in
     let m = field-lent (mesh s) s.args.masses.now p.field_table_fine in
-    accepted-last (mesh s) s.args.masses.now (call s) (past-step t) _ j.judged-answer.ensures a.in-Stepped.is _
+    accepted-last (mesh s) s.args.masses.now (call s) (past-step t) _ j.judged-answer.ensures a.in-Ok.is _
     (v.values.ensures
     ∙ next_is (mesh s) s.args.masses.now s.args.fluxes.now s.args.outsides.now s.args.releases.now r m l.releases_long
     s.args.claim.now l.moveds_long s.args.next.now)

@@ -38,14 +38,14 @@ claims-good-requires c κs =
     let r = s.requires.0.0 in
     (r.lent.seconds_long, r.fluxes_long, omega (arith, w.first_passes-crossed.ensures.moved_long), s.requires.0.3)
 
-returns : tie.Need-returns-in-Refused
+returns : tie.Need-returns-in-Err
 returns c =
     let g = c.before in
     let w = first g in
     let s = opened w in
     refused-21 (mesh s) s.args.masses.now s.args.fluxes.now s.args.outsides.now s.args.releases.now
     s.requires.0.0 s.requires.0.1 s.requires.0.2 s.args.claim.now s.requires.0.3 _ _ _ _ _ w.first_passes-crossed.ensures
-    (refuses g.claims_good-a.ensures c.in-Refused.is)
+    (refuses g.claims_good-a.ensures c.in-Err.is)
 
 values-requires : tie.Need-values-b-requires
 values-requires c κs =
@@ -74,7 +74,7 @@ values-requires c κs =
 abbrev tested : tie.After-values-b → tie.After-claims_good-a
 tested c = c.before.before
 
-returns-2 : tie.Need-returns-in-Refused-b
+returns-2 : tie.Need-returns-in-Err-b
 returns-2 c =
     let v = c.before in
     let g = tested v in
@@ -82,7 +82,7 @@ returns-2 c =
     let s = opened w in
     refused-22 (mesh s) s.args.masses.now s.args.fluxes.now s.args.outsides.now s.args.releases.now
     s.requires.0.0 s.requires.0.1 s.requires.0.2 s.args.claim.now s.requires.0.3 _ _ _ _ _ w.first_passes-crossed.ensures
-    (passes g.claims_good-a.ensures v.before.in_default.is) (refuses v.values-b.ensures c.in-Refused-b.is)
+    (passes g.claims_good-a.ensures v.before.in_default.is) (refuses v.values-b.ensures c.in-Err-b.is)
 
 sum-of-requires : tie.Need-sum_of-requires
 sum-of-requires c κs =

@@ -39,22 +39,22 @@ same-length-10 : tie.Need-shape_of-bytes
 same-length-10 c = c.bytes-1.given
 
 field-bytes-requires : tie.Need-field_bytes-requires
-field-bytes-requires c κs = few_cells c.step_in-answer.ensures c.in-Stepped.is
+field-bytes-requires c κs = few_cells c.step_in-answer.ensures c.in-Ok.is
 
 slice-reshare-prefix-field : tie.Need-slice_bounds-field-end
-slice-reshare-prefix-field c = (nexts-part c.step_in-answer.ensures c.in-Stepped.is).fits
+slice-reshare-prefix-field c = (nexts-part c.step_in-answer.ensures c.in-Ok.is).fits
 
 slice-aggregate-field : tie.Need-slice_bounds-field-end-2
-slice-aggregate-field c = part-long (nexts-part c.step_in-answer.ensures c.in-Stepped.is)
+slice-aggregate-field c = part-long (nexts-part c.step_in-answer.ensures c.in-Ok.is)
 
 field-requires : tie.Need-field-requires
 field-requires c κs =
-    put-asks c.step_in-answer.ensures c.in-Stepped.is c.args.width c.requires c.field_bytes.ensures c.args.bytes.now
+    put-asks c.step_in-answer.ensures c.in-Ok.is c.args.width c.requires c.field_bytes.ensures c.args.bytes.now
     c.if-bytes-field_bytes.false
 
 returns-3 : tie.Need-returns
 returns-3 c =
-    step-put c.step_in-answer.ensures c.in-Stepped.is c.args.width c.requires c.field_bytes.ensures c.args.bytes.now
+    step-put c.step_in-answer.ensures c.in-Ok.is c.args.width c.requires c.field_bytes.ensures c.args.bytes.now
     c.if-bytes-field_bytes.false c.field.ensures
 
 pub put_step_spec : {M : Type 1} → statement M

@@ -21,28 +21,28 @@ told c = c.before.before.before.before.before.before.before
 on-mesh-requires : tie.Need-on_mesh-requires
 on-mesh-requires c κs =
     let d = c.before.before.before.before.before.before in
-    mesh-within (mesh-read (reading d).read_mesh-answer.ensures d.in-Read.is)
+    mesh-within (mesh-read (reading d).read_mesh-answer.ensures d.in-Ok.is)
 
 returns-2 : tie.Need-returns
 returns-2 c =
     let d = told c.before.before in
     let s = start d in
-    records-put (mesh-read (reading d).read_mesh-answer.ensures d.in-Read.is)
+    records-put (mesh-read (reading d).read_mesh-answer.ensures d.in-Ok.is)
     s.args.field.now s.args.step.now s.args.bytes.now c.before.before.on_mesh.ensures
 
 pub step_spec : {M : Type 1} → statement M
 step_spec =
     tie.close
     (tie.spec (search rules) (search rules) (search rules) (search rules) (search rules) (search rules) (search rules) (search rules) (λ c. undone)
-    (λ d. (mesh-read (reading d).read_mesh-answer.ensures d.in-Read.is).held.volumes_long)
-    (λ c. let d = c.before in (parts_cut (mesh-read (reading d).read_mesh-answer.ensures d.in-Read.is)).volumes_cut)
-    (λ c. let d = c.before in (mesh-read (reading d).read_mesh-answer.ensures d.in-Read.is).held.firsts_long)
-    (λ c. let d = c.before.before in (parts_cut (mesh-read (reading d).read_mesh-answer.ensures d.in-Read.is)).firsts_cut)
-    (λ c. let d = c.before.before in (mesh-read (reading d).read_mesh-answer.ensures d.in-Read.is).held.seconds_long)
-    (λ c. let d = c.before.before.before in (parts_cut (mesh-read (reading d).read_mesh-answer.ensures d.in-Read.is)).seconds_cut)
-    (λ c. let d = c.before.before.before in (mesh-read (reading d).read_mesh-answer.ensures d.in-Read.is).held.shares_long)
-    (λ c. let d = c.before.before.before.before in (parts_cut (mesh-read (reading d).read_mesh-answer.ensures d.in-Read.is)).shares_cut)
-    (λ c. let d = c.before.before.before.before in (mesh-read (reading d).read_mesh-answer.ensures d.in-Read.is).held.reaches_long)
+    (λ d. (mesh-read (reading d).read_mesh-answer.ensures d.in-Ok.is).held.volumes_long)
+    (λ c. let d = c.before in (parts_cut (mesh-read (reading d).read_mesh-answer.ensures d.in-Ok.is)).volumes_cut)
+    (λ c. let d = c.before in (mesh-read (reading d).read_mesh-answer.ensures d.in-Ok.is).held.firsts_long)
+    (λ c. let d = c.before.before in (parts_cut (mesh-read (reading d).read_mesh-answer.ensures d.in-Ok.is)).firsts_cut)
+    (λ c. let d = c.before.before in (mesh-read (reading d).read_mesh-answer.ensures d.in-Ok.is).held.seconds_long)
+    (λ c. let d = c.before.before.before in (parts_cut (mesh-read (reading d).read_mesh-answer.ensures d.in-Ok.is)).seconds_cut)
+    (λ c. let d = c.before.before.before in (mesh-read (reading d).read_mesh-answer.ensures d.in-Ok.is).held.shares_long)
+    (λ c. let d = c.before.before.before.before in (parts_cut (mesh-read (reading d).read_mesh-answer.ensures d.in-Ok.is)).shares_cut)
+    (λ c. let d = c.before.before.before.before in (mesh-read (reading d).read_mesh-answer.ensures d.in-Ok.is).held.reaches_long)
     (λ c. let d = c.before.before.before.before.before in
-    (parts_cut (mesh-read (reading d).read_mesh-answer.ensures d.in-Read.is)).reaches_cut)
+    (parts_cut (mesh-read (reading d).read_mesh-answer.ensures d.in-Ok.is)).reaches_cut)
     on-mesh-requires (search rules) returns-2)

@@ -11,11 +11,11 @@ use Rattle.page.proofs.Laws.{judged-out, judged-on}
 use Rattle.page.proofs.judge.Statement.{statement}
 use Rattle.page.proofs.judge.Tie as tie
 
-returns : tie.Need-returns-in-Refused
+returns : tie.Need-returns-in-Err
 returns c =
     let at-lent = c.before in
     let start = at-lent.before.before.before.args in
-    sym (judged-out _ _ _ _ start.page start.room (refuses at-lent.field_lent-tables.ensures c.in-Refused.is))
+    sym (judged-out _ _ _ _ start.page start.room (refuses at-lent.field_lent-tables.ensures c.in-Err.is))
 
 page-bytes-requires : tie.Need-page_bytes-requires
 page-bytes-requires c κs =

@@ -6,8 +6,8 @@ use Rattle.page.proofs.Printed.{page-refused, page-accepted}
 use Rattle.page.proofs.page.Statement.{statement}
 use Rattle.page.proofs.page.Tie as tie
 
-returns : tie.Need-returns-in-Refused
-returns c = page-refused _ _ _ _ _ (refuses c.before.judge-verdict.ensures c.in-Refused.is)
+returns : tie.Need-returns-in-Err
+returns c = page-refused _ _ _ _ _ (refuses c.before.judge-verdict.ensures c.in-Err.is)
 
 rest-places-requires : tie.Need-rest_places-places-requires
 rest-places-requires c κs =

@@ -5,8 +5,8 @@ use Rattle.public_board.proofs.Laws.{judged-out, judged-on}
 use Rattle.public_board.proofs.judge.Statement.{statement}
 use Rattle.public_board.proofs.judge.Tie as tie
 
-returns : tie.Need-returns-in-Refused
-returns c = sym (judged-out _ _ _ _ (refuses c.before.field_lent-tables.ensures c.in-Refused.is))
+returns : tie.Need-returns-in-Err
+returns c = sym (judged-out _ _ _ _ (refuses c.before.field_lent-tables.ensures c.in-Err.is))
 
 returns-2 : tie.Need-returns
 returns-2 c =

@@ -17,9 +17,9 @@ whole c =
     let s = c.before.before.before.before.before.args in
     c.judge-whole.ensures ∙ ap (λ (v : Verdict). verdict_with v s.volumes.now s.masses.now s.cells s.page s.room) c.before.marks_long-marked.ensures
 
-returns : tie.Need-returns-in-Refused
+returns : tie.Need-returns-in-Err
 unfolding public_page_verdict
-returns c = sym (out _ (refuses (whole c.before) c.in-Refused.is))
+returns c = sym (out _ (refuses (whole c.before) c.in-Err.is))
 
 returns-2 : tie.Need-returns
 unfolding public_page_verdict

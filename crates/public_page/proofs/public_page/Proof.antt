@@ -6,8 +6,8 @@ use Rattle.public_page.proofs.Laws.{begins, few, volumes_long, lines-ask, public
 use Rattle.public_page.proofs.public_page.Statement.{statement}
 use Rattle.public_page.proofs.public_page.Tie as tie
 
-returns : tie.Need-returns-in-Refused
-returns c = public-refused _ _ _ _ _ _ (refuses c.before.judge_public-verdict.ensures c.in-Refused.is)
+returns : tie.Need-returns-in-Err
+returns c = public-refused _ _ _ _ _ _ (refuses c.before.judge_public-verdict.ensures c.in-Err.is)
 
 mul-first : tie.Need-overflow_mul-first
 mul-first c =

@@ -34,9 +34,9 @@ fit c =
     both-are c.and_then-fit.ensures (bytes-said (start c).args.room long.long-space.ensures long.before.field_bytes.ensures)
     (values-said (mesh (start c)) c.before.before.most_of.ensures c.before.values-values.ensures)
 
-returns : tie.Need-returns-in-Refused
+returns : tie.Need-returns-in-Err
 unfolding field_write_verdict
-returns c = sym (refused-at [] (_ ∷ _ ∷ _ ∷ []) tt (refuses c.before.field_lent-lent.ensures c.in-Refused.is))
+returns c = sym (refused-at [] (_ ∷ _ ∷ _ ∷ []) tt (refuses c.before.field_lent-lent.ensures c.in-Err.is))
 
 field-bytes-requires : tie.Need-field_bytes-requires
 field-bytes-requires c κs = (few _ _ (passes c.before.field_lent-lent.ensures c.in_default.is)).0
@@ -45,11 +45,11 @@ values-requires : tie.Need-values-values-requires
 values-requires c κs = mesh-long _ (both-fine _ _ (passes c.before.before.before.before.field_lent-lent.ensures
     c.before.before.before.in_default.is)).0
 
-returns-2 : tie.Need-returns-in-Refused-fit
+returns-2 : tie.Need-returns-in-Err-fit
 unfolding field_write_verdict
 returns-2 c =
     let k = c.before in
-    sym (out _ (past_first _ _ (lent k) ∙ refuses (fit k) c.in-Refused-fit.is))
+    sym (out _ (past_first _ _ (lent k) ∙ refuses (fit k) c.in-Err-fit.is))
 
 values-requires-2 : tie.Need-values-requires
 values-requires-2 c κs =

@@ -9,9 +9,9 @@ use Rattle.record_causes.proofs.Refusing.{bytes-said, values-said, past_first}
 use Rattle.record_causes.proofs.mesh.Statement.{statement}
 use Rattle.record_causes.proofs.mesh.Tie as tie
 
-returns : tie.Need-returns-in-Refused
+returns : tie.Need-returns-in-Err
 unfolding mesh_write_verdict
-returns c = sym (refused-at [] (_ ∷ _ ∷ []) tt (refuses c.before.mesh_lent-lent.ensures c.in-Refused.is))
+returns c = sym (refused-at [] (_ ∷ _ ∷ []) tt (refuses c.before.mesh_lent-lent.ensures c.in-Err.is))
 
 mesh-bytes-requires : tie.Need-mesh_bytes-requires
 mesh-bytes-requires c κs =

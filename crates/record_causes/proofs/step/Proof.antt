@@ -6,7 +6,6 @@ use borrow.Author.Rules.{rules}
 use lib.ListN.{length}
 use Rattle.model.specs.Mesh.{Mesh, mesh_of}
 use Rattle.model.specs.Answers.{said}
-use Rattle.model.specs.declared.Answer.TheVariants.{Done}
 use Rattle.model.specs.Causes.{fine, ◌and_then◌, in_turn, counts, mesh_tables, outside_good, flux_good}
 use Rattle.model.proofs.Verdicts.{refused-at, both-fine, past, both-are, refuses, passes}
 use Rattle.model.proofs.Accepted.{counted, mesh-long}
@@ -15,6 +14,7 @@ use Rattle.record_causes.specs.Verdicts.{step_room_causes}
 use Rattle.record_causes.proofs.Refusing.{bytes-said, values-said, water-long, step-groups}
 use Rattle.record_causes.proofs.step.Statement.{statement}
 use Rattle.record_causes.proofs.step.Tie as tie
+use Rattle.std.specs.Prelude.{Ok}
 
 abbrev mesh : tie.Start → Mesh
 mesh s = mesh_of s.args.cells s.args.faces s.args.volumes.now s.args.firsts.now s.args.seconds.now s.args.shares.now
@@ -47,17 +47,17 @@ tables c =
     (bytes-said (start c).args.room space.long-space.ensures space.before.step_bytes.ensures))
     c.before.long-3.ensures
 
-longs : (c : tie.After-and_then-tables) → c.and_then-tables.result ≡ Done → let s = start c in
+longs : (c : tie.After-and_then-tables) → c.and_then-tables.result ≡ Ok tt → let s = start c in
     (s.args.faces ≤ length s.args.fluxes.now) × (s.args.faces ≤ length s.args.outsides.now) × (s.args.cells ≤ length s.args.releases.now)
 longs c e =
     let s = start c in
     water-long s.args.width (mesh s) (kind_number s.args.width s.args.kind) s.args.fluxes.now s.args.outsides.now
     s.args.releases.now s.args.room (passes (tables c) e)
 
-returns : tie.Need-returns-in-Refused
+returns : tie.Need-returns-in-Err
 returns c =
     let k = c.before in
-    sym (step-groups _ _ _ _ _ _ (from-lent k).args.room ∙ refused-at [] (_ ∷ _ ∷ []) tt (refuses k.mesh_lent-lent.ensures c.in-Refused.is))
+    sym (step-groups _ _ _ _ _ _ (from-lent k).args.room ∙ refused-at [] (_ ∷ _ ∷ []) tt (refuses k.mesh_lent-lent.ensures c.in-Err.is))
 
 step-bytes-requires : tie.Need-step_bytes-requires
 step-bytes-requires c κs =
@@ -66,10 +66,10 @@ step-bytes-requires c κs =
     let n = counted _ (both-fine _ _ lent).0 in
     (n.few_cells, n.few_faces, (mesh-long _ lent).seconds_long)
 
-returns-2 : tie.Need-returns-in-Refused-tables
+returns-2 : tie.Need-returns-in-Err-tables
 returns-2 c =
     let k = c.before in
-    sym (step-groups _ _ _ _ _ _ (start k).args.room ∙ refused-at (_ ∷ []) (_ ∷ []) (lent k, tt) (refuses (tables k) c.in-Refused-tables.is))
+    sym (step-groups _ _ _ _ _ _ (start k).args.room ∙ refused-at (_ ∷ []) (_ ∷ []) (lent k, tt) (refuses (tables k) c.in-Err-tables.is))
 
 values-requires : tie.Need-values-mesh-requires
 values-requires c κs = mesh-long _ (lent c.before.before)

@@ -11,9 +11,9 @@ use Rattle.record_heads.proofs.HeadLaws.{head-holds}
 use Rattle.record_heads.proofs.field.Statement.{statement}
 use Rattle.record_heads.proofs.field.Tie as tie
 
-returns : tie.Need-returns-in-Refused
+returns : tie.Need-returns-in-Err
 unfolding field_head_verdict bytes_for
-returns c = sym (refused-at [] (_ ∷ _ ∷ _ ∷ []) tt (refuses c.before.need-a.ensures c.in-Refused.is))
+returns c = sym (refused-at [] (_ ∷ _ ∷ _ ∷ []) tt (refuses c.before.need-a.ensures c.in-Err.is))
 
 kind-requires : tie.Need-kind-requires
 kind-requires c κs = let k = c.before in head-holds 2 (omega arith) k.before.need-a.ensures k.in_default.is

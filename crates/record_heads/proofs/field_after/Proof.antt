@@ -5,11 +5,11 @@ use Rattle.record_reader.specs.Numbers.{spelled_number}
 use Rattle.record_heads.proofs.field_after.Statement.{statement}
 use Rattle.record_heads.proofs.field_after.Tie as tie
 
-returns : tie.Need-returns-in-Number
-returns c = sym (ap spelled_number (sym c.before.number_after.ensures ∙ c.in-Number.is))
+returns : tie.Need-returns-in-Some
+returns c = sym (ap spelled_number (sym c.before.number_after.ensures ∙ c.in-Some.is))
 
-returns-2 : tie.Need-returns-in-Past
-returns-2 c = sym (ap spelled_number (sym c.before.number_after.ensures ∙ c.in-Past.is))
+returns-2 : tie.Need-returns-in-None
+returns-2 c = sym (ap spelled_number (sym c.before.number_after.ensures ∙ c.in-None.is))
 
 pub field_after_spec : {M : Type 1} → statement M
 field_after_spec = tie.close (tie.spec (search rules) (search rules) (search rules) returns returns-2)

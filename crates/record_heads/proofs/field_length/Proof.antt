@@ -7,9 +7,9 @@ use Rattle.record_heads.proofs.HeadLaws.{field-head-says}
 use Rattle.record_heads.proofs.field_length.Statement.{statement}
 use Rattle.record_heads.proofs.field_length.Tie as tie
 
-returns : tie.Need-returns-in-Refused
+returns : tie.Need-returns-in-Err
 unfolding field_needs
-returns c = sym (out _ (refuses c.before.field-a.ensures c.in-Refused.is))
+returns c = sym (out _ (refuses c.before.field-a.ensures c.in-Err.is))
 
 field-bytes-requires : tie.Need-field_bytes-requires
 field-bytes-requires c κs = (field-head-says _ _ _ (passes c.before.field-a.ensures c.in_default.is)).few_cells

@@ -8,9 +8,9 @@ use Rattle.record_heads.proofs.HeadLaws.{mesh-head-says}
 use Rattle.record_heads.proofs.mesh_length.Statement.{statement}
 use Rattle.record_heads.proofs.mesh_length.Tie as tie
 
-returns : tie.Need-returns-in-Refused
+returns : tie.Need-returns-in-Err
 unfolding mesh_measured
-returns c = sym (out _ (refuses c.before.mesh-a.ensures c.in-Refused.is))
+returns c = sym (out _ (refuses c.before.mesh-a.ensures c.in-Err.is))
 
 cells-requires : tie.Need-cells-c-requires
 cells-requires c κs = let h = mesh-head-says _ _ _ (passes c.before.mesh-a.ensures c.in_default.is) in omega arith

@@ -11,9 +11,9 @@ use Rattle.record_heads.proofs.HeadLaws.{head-holds}
 use Rattle.record_heads.proofs.step.Statement.{statement}
 use Rattle.record_heads.proofs.step.Tie as tie
 
-returns : tie.Need-returns-in-Refused
+returns : tie.Need-returns-in-Err
 unfolding step_head_verdict bytes_for
-returns c = sym (refused-at [] (_ ∷ _ ∷ _ ∷ _ ∷ []) tt (refuses c.before.need-a.ensures c.in-Refused.is))
+returns c = sym (refused-at [] (_ ∷ _ ∷ _ ∷ _ ∷ []) tt (refuses c.before.need-a.ensures c.in-Err.is))
 
 kind-requires : tie.Need-kind-requires
 kind-requires c κs = head-holds 4 (omega arith) c.before.need-a.ensures c.in_default.is

@@ -8,9 +8,9 @@ use Rattle.record_heads.proofs.HeadLaws.{step-head-says}
 use Rattle.record_heads.proofs.step_length.Statement.{statement}
 use Rattle.record_heads.proofs.step_length.Tie as tie
 
-returns : tie.Need-returns-in-Refused
+returns : tie.Need-returns-in-Err
 unfolding step_needs
-returns c = sym (out _ (refuses c.before.step-a.ensures c.in-Refused.is))
+returns c = sym (out _ (refuses c.before.step-a.ensures c.in-Err.is))
 
 step-kind-requires : tie.Need-step_kind-requires
 step-kind-requires c κs =

@@ -25,11 +25,11 @@ room w cells bs {m} e = let k = field-read-says w cells bs m e in rw (← k.head
 kind_is : (w : Width) (cells : _) (bs : _) (m : _) → field_read w cells bs m ≡ fine → field_kind w ≡ kind_in bs
 kind_is w cells bs m e = sym (field-read-says w cells bs m e).head.kind
 
-returns : tie.Need-returns-in-Refused
+returns : tie.Need-returns-in-Err
 returns c =
     let p1 = c in
     let p2 = p1.before in
-    field_refused (refuses p2.field-a.ensures p1.in-Refused.is)
+    field_refused (refuses p2.field-a.ensures p1.in-Err.is)
 
 sub-field : tie.Need-slice_bounds-field-count
 sub-field c =

@@ -9,7 +9,6 @@ use Rattle.model.specs.Causes.{accepted}
 use Rattle.record_heads.specs.Heads.{kind_in}
 use Rattle.record_sections.proofs.Bodies.{body_of}
 use Rattle.record_reading.specs.declared.MeshCounts.{MeshCounts}
-use Rattle.record_reading.specs.declared.MeshAnswer.TheVariants as mesh
 use Rattle.record_reading.specs.Reading.{mesh_in, mesh_read_into}
 use Rattle.record_reading.specs.Answers.{mesh_said}
 use Rattle.record_bodies.specs.Bodies.{MeshRoom}
@@ -17,6 +16,7 @@ use Rattle.record_reading.proofs.ReadLaws.{mesh-kind-is, ReadSays, read-says, me
 use Rattle.record_reading.proofs.BodyLaws.{mesh_head_bytes, mesh-room, mesh-filled}
 use Rattle.record_reading.proofs.read_mesh.Statement.{statement}
 use Rattle.record_reading.proofs.read_mesh.Tie as tie
+use Rattle.std.specs.Prelude.{Ok}
 
 abbrev lent : tie.Start → Mesh
 lent s = mesh_of s.args.most_cells s.args.most_faces s.args.volumes.now s.args.firsts.now s.args.seconds.now s.args.shares.now
@@ -39,23 +39,23 @@ abbrev start : tie.After-mesh-a → tie.Start
 start c = c.before.before.before.before.before.before.before
 
 -- the tests that passed, from where the answer is known
-passed : (c : tie.After-mesh-a) {n : MeshCounts} → c.mesh-a.result ≡ mesh.Read n → comes (start c) n
+passed : (c : tie.After-mesh-a) {n : MeshCounts} → c.mesh-a.result ≡ Ok n → comes (start c) n
 passed c e = sym c.mesh-a.ensures ∙ ap mesh_said e
 
 returns : tie.Need-returns-in_default
 returns c = let e = c.in_default.is in rw e (mesh_refused (sym c.before.mesh-a.ensures ∙ ap mesh_said e))
 
 sub-mesh : tie.Need-slice_bounds-mesh-count
-sub-mesh c = let told = c in let t = told.before in (room (start t) (passed t told.in-Read.is)).0
+sub-mesh c = let told = c in let t = told.before in (room (start t) (passed t told.in-Ok.is)).0
 
 part-mesh-start : tie.Need-slice_bounds-mesh-start
-part-mesh-start c = let told = c in let t = told.before in (room (start t) (passed t told.in-Read.is)).0
+part-mesh-start c = let told = c in let t = told.before in (room (start t) (passed t told.in-Ok.is)).0
 
 mesh-requires-2 : tie.Need-mesh-requires
 mesh-requires-2 c κs =
     let told = c.before.before.before.before.before.before in
     let t = told.before in
-    let e = passed t told.in-Read.is in
+    let e = passed t told.in-Ok.is in
     let k = says (start t) e in
     rw (k.counts_are, mesh-kind-is (kind_in (start t).args.bytes.now) k.head.kind) (room (start t) e).1
 
@@ -73,7 +73,7 @@ returns-2 c =
     let told = body.before.before.before.before.before.before.before in
     let t = told.before in
     let s = start t in
-    let e = sym t.mesh-a.ensures ∙ ap mesh_said told.in-Read.is in
+    let e = sym t.mesh-a.ensures ∙ ap mesh_said told.in-Ok.is in
     mesh_accepted e (mesh-filled s.args.bytes.now (at_counts (mesh_in s.args.bytes.now) (lent s)) (lent s)
     (rw ((says s e).counts_are, mesh-kind-is (kind_in s.args.bytes.now) (says s e).head.kind) at body.mesh.ensures))
 

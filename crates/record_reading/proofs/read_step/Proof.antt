@@ -39,20 +39,20 @@ sub-step : tie.Need-slice_bounds-step-count
 sub-step c =
     let p1 = c in
     let p2 = p1.before in
-    (room (start p2) (sym p2.step-a.ensures ∙ ap (step_read_said (start p2).args.width) p1.in-Read.is)).0
+    (room (start p2) (sym p2.step-a.ensures ∙ ap (step_read_said (start p2).args.width) p1.in-Ok.is)).0
 
 part-step-start : tie.Need-slice_bounds-step-start
 part-step-start c =
     let p1 = c in
     let p2 = p1.before in
-    (room (start p2) (sym p2.step-a.ensures ∙ ap (step_read_said (start p2).args.width) p1.in-Read.is)).0
+    (room (start p2) (sym p2.step-a.ensures ∙ ap (step_read_said (start p2).args.width) p1.in-Ok.is)).0
 
 step-requires-2 : tie.Need-step-requires
 step-requires-2 c κs =
     let p1 = c.before.before.before.before in
     let p2 = p1.before in
     let s = start p2 in
-    let e = sym p2.step-a.ensures ∙ ap (step_read_said (start p2).args.width) p1.in-Read.is in
+    let e = sym p2.step-a.ensures ∙ ap (step_read_said (start p2).args.width) p1.in-Ok.is in
     rw (says s e).kind_is (room s e).1
 
 returns-2 : tie.Need-returns
@@ -61,7 +61,7 @@ returns-2 c =
     let p2 = p1.before.before.before.before.before in
     let p3 = p2.before in
     let s = start p3 in
-    let e = sym p3.step-a.ensures ∙ ap (step_read_said (start p3).args.width) p2.in-Read.is in
+    let e = sym p3.step-a.ensures ∙ ap (step_read_said (start p3).args.width) p2.in-Ok.is in
     step-accepted e (step-filled s.args.cells s.args.faces s.args.seconds.now s.args.bytes.now
     (rw (says s e).kind_is at p1.step.ensures))
 

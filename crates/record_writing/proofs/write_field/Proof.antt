@@ -5,8 +5,8 @@ use Rattle.record_writing.proofs.WriteLaws.{writing-refused, writing-accepted, f
 use Rattle.record_writing.proofs.write_field.Statement.{statement}
 use Rattle.record_writing.proofs.write_field.Tie as tie
 
-returns : tie.Need-returns-in-Refused
-returns c = writing-refused (refuses c.before.field-a.ensures c.in-Refused.is)
+returns : tie.Need-returns-in-Err
+returns c = writing-refused (refuses c.before.field-a.ensures c.in-Err.is)
 
 field-requires-2 : tie.Need-field-length-requires
 field-requires-2 c κs = field-whole _ _ _ (passes c.before.before.field-a.ensures c.before.in_default.is)

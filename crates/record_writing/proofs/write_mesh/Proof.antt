@@ -5,8 +5,8 @@ use Rattle.record_writing.proofs.WriteLaws.{writing-refused, writing-accepted, m
 use Rattle.record_writing.proofs.write_mesh.Statement.{statement}
 use Rattle.record_writing.proofs.write_mesh.Tie as tie
 
-returns : tie.Need-returns-in-Refused
-returns c = writing-refused (refuses c.before.mesh-a.ensures c.in-Refused.is)
+returns : tie.Need-returns-in-Err
+returns c = writing-refused (refuses c.before.mesh-a.ensures c.in-Err.is)
 
 mesh-requires-2 : tie.Need-mesh-length-requires
 mesh-requires-2 c κs = mesh-whole _ _ (passes c.before.before.mesh-a.ensures c.before.in_default.is)

@@ -5,8 +5,8 @@ use Rattle.record_writing.proofs.WriteLaws.{writing-refused, writing-accepted, s
 use Rattle.record_writing.proofs.write_step.Statement.{statement}
 use Rattle.record_writing.proofs.write_step.Tie as tie
 
-returns : tie.Need-returns-in-Refused
-returns c = writing-refused (refuses c.before.step-a.ensures c.in-Refused.is)
+returns : tie.Need-returns-in-Err
+returns c = writing-refused (refuses c.before.step-a.ensures c.in-Err.is)
 
 step-requires-2 : tie.Need-step-length-requires
 step-requires-2 c κs =

@@ -3,4 +3,4 @@ use Rattle.run.proofs.Kept.{kept-values}
 use Rattle.run.proofs.main.Goals as goal
 
 pub run_on-requires-clause-reaches_value : goal.run_on-requires-clause-reaches_value
-run_on-requires-clause-reaches_value c = kept-values _ c.take_mesh-answer.ensures c.in-Read.is
+run_on-requires-clause-reaches_value c = kept-values _ c.take_mesh-answer.ensures c.in-Ok.is

@@ -18,13 +18,13 @@ least-requires c κs = search rules
 
 returns-2 : tie.Need-returns-then-end-got
 returns-2 c = (
-  rw (c.before.before.in-Needs.is, record_is) (omega (arith, c.before.least-end.ensures)),
+  rw (c.before.before.in-Ok.is, record_is) (omega (arith, c.before.least-end.ensures)),
   λ h. rw record_is (omega (arith, record_is)),
 )
 
 returns-3 : tie.Need-returns
 returns-3 c = (
-  rw (c.before.before.in-Needs.is, c.before.least-end.ensures, record_is),
+  rw (c.before.before.in-Ok.is, c.before.least-end.ensures, record_is),
   λ h. rw record_is (omega (arith, c.before.least-end.ensures, record_is)),
 )
 

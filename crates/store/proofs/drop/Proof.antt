@@ -9,12 +9,12 @@ use borrow.Author.Rules.{rules}
 use Rattle.store.proofs.drop.Statement.{statement}
 use Rattle.store.proofs.drop.Tie as tie
 
-returns : tie.Need-returns-in-Refused
+returns : tie.Need-returns-in-Err
 unfolding counts store_table
 returns c =
     let lent = both-are c.before.and_then-a.ensures c.before.before.before.counts_within.ensures
     c.before.before.long.ensures in
-    let v = drop-groups _ _ _ ∙ out _ (refuses lent c.in-Refused.is) in
+    let v = drop-groups _ _ _ ∙ out _ (refuses lent c.in-Err.is) in
     record { answer = sym v; store_is = drop-stays _ _ _ v }
 
 is-kept-requires : tie.Need-is_kept-b-requires
@@ -28,7 +28,7 @@ is-kept-requires c κs =
     let lent = both-are at-and-then.and_then-a.ensures at-counts-within.counts_within.ensures at_long.long.ensures in
     drop-opened s.args.cells s.args.store.now 0 (passes lent at_told.in_default.is)
 
-returns-2 : tie.Need-returns-in-Refused-b
+returns-2 : tie.Need-returns-in-Err-b
 unfolding counts store_table
 returns-2 c =
     let at_b = c in
@@ -38,7 +38,7 @@ returns-2 c =
     let at_long = at-and-then.before in
     let at-counts-within = at_long.before in
     let lent = both-are at-and-then.and_then-a.ensures at-counts-within.counts_within.ensures at_long.long.ensures in
-    let v = drop-groups _ _ _ ∙ past _ (passes lent at_told.in_default.is) ∙ refuses at-is-kept.is_kept-b.ensures at_b.in-Refused-b.is in
+    let v = drop-groups _ _ _ ∙ past _ (passes lent at_told.in_default.is) ∙ refuses at-is-kept.is_kept-b.ensures at_b.in-Err-b.is in
     record { answer = sym v; store_is = drop-stays _ _ _ v }
 
 take-field-requires : tie.Need-take_field-requires

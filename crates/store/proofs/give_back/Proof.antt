@@ -12,22 +12,22 @@ use borrow.Author.Rules.{rules}
 use Rattle.store.proofs.give_back.Statement.{statement}
 use Rattle.store.proofs.give_back.Tie as tie
 
-returns : tie.Need-returns-in-Refused
+returns : tie.Need-returns-in-Err
 returns c =
-    let v = return-groups _ _ _ _ _ ∙ out _ (refuses c.before.opened-a.ensures c.in-Refused.is) in
+    let v = return-groups _ _ _ _ _ ∙ out _ (refuses c.before.opened-a.ensures c.in-Err.is) in
     record { answer = sym v; masses_are = return-stays _ _ _ _ _ v }
 
 is-kept-requires : tie.Need-is_kept-b-requires
 is-kept-requires c κs = (opened-asks _ _ 0 _ _ (passes c.before.opened-a.ensures c.in_default.is)).1
 
-returns-2 : tie.Need-returns-in-Refused-b
+returns-2 : tie.Need-returns-in-Err-b
 returns-2 c =
     let at_b = c in
     let at-is-kept = at_b.before in
     let at_told = at-is-kept.before in
     let at-opened = at_told.before in
     let v = return-groups _ _ _ _ _ ∙ past _ (passes at-opened.opened-a.ensures at_told.in_default.is)
-    ∙ out _ (refuses at-is-kept.is_kept-b.ensures at_b.in-Refused-b.is) in
+    ∙ out _ (refuses at-is-kept.is_kept-b.ensures at_b.in-Err-b.is) in
     record { answer = sym v; masses_are = return-stays _ _ _ _ _ v }
 
 masses-of-requires : tie.Need-masses_of-at-requires
@@ -46,7 +46,7 @@ values-requires c κs =
     let n = part_length at-masses-of.masses_of-at.result s.args.cells s.args.store.now at-masses-of.masses_of-at.ensures.0 in
     ((o.0.0.0, omega (arith, n)), o.0.1)
 
-returns-3 : tie.Need-returns-in-Refused-d
+returns-3 : tie.Need-returns-in-Err-d
 returns-3 c =
     let at-d = c in
     let at-values = at-d.before in
@@ -59,7 +59,7 @@ returns-3 c =
     let opened = passes at-opened.opened-a.ensures at-told2.in_default.is in
     let kept = passes at-is-kept.is_kept-b.ensures at_told.in_default-b.is in
     let held = part-front at-masses-of.masses_of-at.result s.args.cells s.args.store.now ∙ at-masses-of.masses_of-at.ensures.1 in
-    let salt = refuses (at-values.values-d.ensures ∙ salted s.args.cells s.args.volumes.now held) at-d.in-Refused-d.is in
+    let salt = refuses (at-values.values-d.ensures ∙ salted s.args.cells s.args.volumes.now held) at-d.in-Err-d.is in
     let v = return-groups _ _ _ _ _ ∙ past _ opened ∙ past _ kept ∙ salt in
     record { answer = sym v; masses_are = return-stays _ _ _ _ _ v }
 

@@ -8,8 +8,8 @@ use borrow.Author.Rules.{rules}
 use Rattle.store.proofs.keep.Statement.{statement}
 use Rattle.store.proofs.keep.Tie as tie
 
-returns : tie.Need-returns-in-Refused
-returns c = let v = refuses c.before.may_keep-a.ensures c.in-Refused.is in
+returns : tie.Need-returns-in-Err
+returns c = let v = refuses c.before.may_keep-a.ensures c.in-Err.is in
     record { answer = sym v; store_is = keep-stays _ _ _ _ _ v }
 
 put-field-requires : tie.Need-put_field-requires

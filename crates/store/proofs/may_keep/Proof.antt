@@ -7,8 +7,8 @@ use borrow.Author.Rules.{rules}
 use Rattle.store.proofs.may_keep.Statement.{statement}
 use Rattle.store.proofs.may_keep.Tie as tie
 
-returns : tie.Need-returns-in-Refused
-returns c = sym (keep-groups _ _ _ _ _ ∙ out _ (refuses c.before.opened-a.ensures c.in-Refused.is))
+returns : tie.Need-returns-in-Err
+returns c = sym (keep-groups _ _ _ _ _ ∙ out _ (refuses c.before.opened-a.ensures c.in-Err.is))
 
 values-requires : tie.Need-values-requires
 values-requires c κs = (opened-asks _ _ 0 _ _ (passes c.before.opened-a.ensures c.in_default.is)).0

@@ -7,12 +7,12 @@ use Rattle.store.specs.Calls.{opened_verdict, store_table}
 use Rattle.store.proofs.opened.Statement.{statement}
 use Rattle.store.proofs.opened.Tie as tie
 
-returns : tie.Need-returns-in-Refused
+returns : tie.Need-returns-in-Err
 unfolding opened_verdict store_table
 returns c =
     let at_a = c.before in
     let lent = both-are at_a.and_then-a.ensures at_a.before.before.field_lent-lent.ensures at_a.before.long.ensures in
-    sym (out _ (refuses lent c.in-Refused.is))
+    sym (out _ (refuses lent c.in-Err.is))
 
 values-requires : tie.Need-values-requires
 values-requires c κs =

@@ -9,11 +9,11 @@ use borrow.Author.Rules.{rules}
 use Rattle.store_kept.proofs.is_kept.Statement.{statement}
 use Rattle.store_kept.proofs.is_kept.Tie as tie
 
-returns : tie.Need-returns-in-Refused
+returns : tie.Need-returns-in-Err
 unfolding count_good
 returns c =
     let good = c.before.need-a.ensures ∙ ap (need 13 1) c.before.before.count_fits.ensures in
-    sym (out _ (refuses good c.in-Refused.is))
+    sym (out _ (refuses good c.in-Err.is))
 
 before-requires : tie.Need-before-requires
 unfolding count_good

@@ -11,11 +11,11 @@ use borrow.Author.Rules.{rules}
 use Rattle.store_kept.proofs.is_new.Statement.{statement}
 use Rattle.store_kept.proofs.is_new.Tie as tie
 
-returns : tie.Need-returns-in-Refused
+returns : tie.Need-returns-in-Err
 unfolding count_good
 returns c =
     let good = c.before.need-a.ensures ∙ ap (need 13 1) c.before.before.count_fits.ensures in
-    sym (refused-at [] (_ ∷ _ ∷ []) tt (refuses good c.in-Refused.is))
+    sym (refused-at [] (_ ∷ _ ∷ []) tt (refuses good c.in-Err.is))
 
 used-requires : tie.Need-used-requires
 unfolding count_good

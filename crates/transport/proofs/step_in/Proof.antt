@@ -33,11 +33,11 @@ tested c = c.before.before.before
 passes : (c : tie.In_default) → let s = start (tested c) in verdict (mesh s) s.args.masses.now (call s) ≡ fine
 passes c = sym (tested c).check_step_in-verdict.ensures ∙ ap said c.in_default.is
 
-returns : tie.Need-returns-in-Refused
+returns : tie.Need-returns-in-Err
 returns c =
     let t = c.before.before.before in
     let s = start t in
-    refused-made (mesh s) s.args.masses.now (call s) _ _ (sym t.check_step_in-verdict.ensures ∙ ap said c.in-Refused.is)
+    refused-made (mesh s) s.args.masses.now (call s) _ _ (sym t.check_step_in-verdict.ensures ∙ ap said c.in-Err.is)
 
 advance-requires : tie.Need-advance-carried-requires
 advance-requires c κs =

@@ -30,12 +30,12 @@ step-told w = w.before.before
 abbrev stepped : tie.In_default-b → tie.After-take_step-b
 stepped e = e.before.before.before
 
-returns : tie.Need-returns-in-Refused
+returns : tie.Need-returns-in-Err
 returns c =
     let f = c.before.before in
     let s = start f in
     field_refused s.args.width (mesh s) s.args.field.now s.args.step.now s.args.bytes.now f.take_field-a.ensures refl
-    c.in-Refused.is
+    c.in-Err.is
 
 array-borrow-prefix-masses : tie.Need-slice_bounds-masses-end
 array-borrow-prefix-masses c =
@@ -51,16 +51,16 @@ slice-aggregate-counted c =
     (masses-part s.args.width (mesh s) s.args.field.now s.args.step.now s.args.bytes.now f.take_field-a.ensures refl
     c.before.in_default.is)
 
-returns-2 : tie.Need-returns-in-Refused-b
+returns-2 : tie.Need-returns-in-Err-b
 returns-2 c =
     let t = c.before.before.before in
     let e = field_told t in
     let f = fielded e in
     let s = start f in
     step-refused s.args.width (mesh s) s.args.field.now s.args.step.now s.args.bytes.now f.take_field-a.ensures refl
-    e.in_default.is t.take_step-b.ensures c.in-Refused-b.is
+    e.in_default.is t.take_step-b.ensures c.in-Err-b.is
 
-returns-3 : tie.Need-returns-in-Refused-c
+returns-3 : tie.Need-returns-in-Err-c
 returns-3 c =
     let w = c.before.before.before.before in
     let d = step-told w in
@@ -69,7 +69,7 @@ returns-3 c =
     let f = fielded e in
     let s = start f in
     no_room s.args.width (mesh s) s.args.field.now s.args.step.now s.args.bytes.now f.take_field-a.ensures refl
-    e.in_default.is t.take_step-b.ensures d.in_default-b.is s.requires w.write_field-c.ensures c.in-Refused-c.is
+    e.in_default.is t.take_step-b.ensures d.in_default-b.is s.requires w.write_field-c.ensures c.in-Err-c.is
 
 returns-4 : tie.Need-returns
 returns-4 c =

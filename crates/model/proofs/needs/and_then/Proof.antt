@@ -4,8 +4,8 @@ use Rattle.model.proofs.Verdicts.{past, out, refuses, passes}
 use Rattle.model.proofs.needs.and_then.Statement.{statement}
 use Rattle.model.proofs.needs.and_then.Tie as tie
 
-returns : tie.Need-returns-in-Refused
-returns c = sym (out _ (refuses refl c.in-Refused.is))
+returns : tie.Need-returns-in-Err
+returns c = sym (out _ (refuses refl c.in-Err.is))
 
 returns-2 : tie.Need-returns
 returns-2 c = sym (past _ (passes refl c.in_default.is))

@@ -7,12 +7,12 @@ use Rattle.record_reading.specs.Reading.{field_read}
 use Rattle.record_reading.proofs.verdicts.field.Statement.{statement}
 use Rattle.record_reading.proofs.verdicts.field.Tie as tie
 
-returns : tie.Need-returns-in-Refused
+returns : tie.Need-returns-in-Err
 unfolding field_read
 returns c =
     let p1 = c in
     let p2 = p1.before in
-    sym (out _ (refuses p2.field-a.ensures p1.in-Refused.is))
+    sym (out _ (refuses p2.field-a.ensures p1.in-Err.is))
 
 field-body-requires : tie.Need-field_body-requires
 field-body-requires c κs =

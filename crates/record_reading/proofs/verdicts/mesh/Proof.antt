@@ -9,12 +9,12 @@ use Rattle.record_reading.specs.Reading.{mesh_read}
 use Rattle.record_reading.proofs.verdicts.mesh.Statement.{statement}
 use Rattle.record_reading.proofs.verdicts.mesh.Tie as tie
 
-returns : tie.Need-returns-in-Refused
+returns : tie.Need-returns-in-Err
 unfolding mesh_read
 returns c =
     let p1 = c in
     let p2 = p1.before in
-    sym (out _ (refused-at [] (_ ∷ []) tt (refuses p2.mesh-a.ensures p1.in-Refused.is)))
+    sym (out _ (refused-at [] (_ ∷ []) tt (refuses p2.mesh-a.ensures p1.in-Err.is)))
 
 cells-requires : tie.Need-cells-cells-requires
 cells-requires c κs =
@@ -43,14 +43,14 @@ mesh-width-requires c κs =
     let h = mesh-head-says _ _ _ (passes p2.mesh-a.ensures p1.in_default.is) in
     (omega (arith, h.long), h.kind)
 
-returns-2 : tie.Need-returns-in-Refused-b
+returns-2 : tie.Need-returns-in-Err-b
 unfolding mesh_read
 returns-2 c =
     let p1 = c in
     let p2 = p1.before in
     let p3 = p2.before.before.before.before in
     let p4 = p3.before in
-    sym (out _ (refused-at (_ ∷ []) [] (passes p4.mesh-a.ensures p3.in_default.is, tt) (refuses p2.mesh_body-b.ensures p1.in-Refused-b.is)))
+    sym (out _ (refused-at (_ ∷ []) [] (passes p4.mesh-a.ensures p3.in_default.is, tt) (refuses p2.mesh_body-b.ensures p1.in-Err-b.is)))
 
 returns-3 : tie.Need-returns
 unfolding mesh_read

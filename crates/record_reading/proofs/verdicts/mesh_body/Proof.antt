@@ -47,9 +47,9 @@ lent c =
       s.requires.4,
     )
 
-returns : tie.Need-returns-in-Refused
+returns : tie.Need-returns-in-Err
 unfolding mesh_body_verdict
-returns c = sym (out _ (refuses (lent c.before) c.in-Refused.is))
+returns c = sym (out _ (refuses (lent c.before) c.in-Err.is))
 
 mesh-requires : tie.Need-mesh-requires
 mesh-requires c κs =

@@ -9,12 +9,12 @@ use Rattle.record_reading.specs.Reading.{step_read}
 use Rattle.record_reading.proofs.verdicts.step.Statement.{statement}
 use Rattle.record_reading.proofs.verdicts.step.Tie as tie
 
-returns : tie.Need-returns-in-Refused
+returns : tie.Need-returns-in-Err
 unfolding step_read
 returns c =
     let p1 = c in
     let p2 = p1.before in
-    sym (out _ (refused-at [] (_ ∷ []) tt (refuses p2.step-a.ensures p1.in-Refused.is)))
+    sym (out _ (refused-at [] (_ ∷ []) tt (refuses p2.step-a.ensures p1.in-Err.is)))
 
 step-kind-requires : tie.Need-step_kind-kind-requires
 step-kind-requires c κs =
@@ -27,14 +27,14 @@ step-body-requires c κs =
     let h = step-head-says _ _ _ _ _ (passes p1.before.step-a.ensures p1.in_default.is) in
     (c.step_kind-kind.ensures, h.few_cells, h.few_faces, h.lent)
 
-returns-2 : tie.Need-returns-in-Refused-b
+returns-2 : tie.Need-returns-in-Err-b
 unfolding step_read
 returns-2 c =
     let p1 = c in
     let p2 = p1.before in
     let p3 = p2.before.before in
     sym (out _ (refused-at (_ ∷ []) [] (passes p3.before.step-a.ensures p3.in_default.is, tt)
-    (refuses p2.step_body-b.ensures p1.in-Refused-b.is)))
+    (refuses p2.step_body-b.ensures p1.in-Err-b.is)))
 
 returns-3 : tie.Need-returns
 unfolding step_read

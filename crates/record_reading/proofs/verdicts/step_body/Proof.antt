@@ -48,9 +48,9 @@ lent c =
 bytes-for-requires : tie.Need-bytes_for-requires
 bytes-for-requires c κs = omega (arith, end c, most (start c))
 
-returns : tie.Need-returns-in-Refused
+returns : tie.Need-returns-in-Err
 unfolding step_body_verdict
-returns c = sym (out _ (refuses (lent c.before) c.in-Refused.is))
+returns c = sym (out _ (refuses (lent c.before) c.in-Err.is))
 
 step-requires : tie.Need-step-requires
 step-requires c κs =

@@ -35,12 +35,12 @@ found : (c : tie.After-and_then-found) → let s = start c in said c.and_then-fo
 unfolding mesh_tables
 found c = rw (c.and_then-found.ensures, c.before.before.holds-held.ensures, c.before.check_mesh-judged.ensures)
 
-returns : tie.Need-returns-in-Refused
+returns : tie.Need-returns-in-Err
 returns c =
     let d = c.before in
     let s = start d in
     kept-refused s.args.width (read s) (lent s) _ _ _
-    (sym (found d) ∙ ap said c.in-Refused.is) refl
+    (sym (found d) ∙ ap said c.in-Err.is) refl
 
 -- nothing was found, so the lent tables hold the mesh
 passes : (c : tie.In_default) → let s = start c.before in kept_found (lent s) (read s) ≡ fine

@@ -34,29 +34,29 @@ returns c =
     (mesh_of run_cells run_faces a.volumes.now a.firsts.now a.seconds.now a.shares.now a.reaches.now)
 
 keep-requires : tie.Need-keep-requires
-keep-requires c κs = let d = lent c.before.before.before.before in parts_cut (mesh-read (reading d).read_mesh-answer.ensures d.in-Read.is)
+keep-requires c κs = let d = lent c.before.before.before.before in parts_cut (mesh-read (reading d).read_mesh-answer.ensures d.in-Ok.is)
 
 returns-2 : tie.Need-returns
 returns-2 c =
     let k = kept c.before in
     let d = told k in
-    mesh-done (mesh-read (reading d).read_mesh-answer.ensures d.in-Read.is) k.keep.ensures
+    mesh-done (mesh-read (reading d).read_mesh-answer.ensures d.in-Ok.is) k.keep.ensures
 
 pub take_mesh_spec : {M : Type 1} → statement M
 take_mesh_spec =
     tie.close
     (tie.spec (search rules) (search rules) (search rules) (search rules) (search rules) (search rules) (search rules) (search rules) returns
-    (λ d. (mesh-read (reading d).read_mesh-answer.ensures d.in-Read.is).held.volumes_long)
-    (λ c. let d = c.before in (parts_cut (mesh-read (reading d).read_mesh-answer.ensures d.in-Read.is)).volumes_cut)
-    (λ c. let d = c.before in (mesh-read (reading d).read_mesh-answer.ensures d.in-Read.is).held.firsts_long)
-    (λ c. let d = c.before.before in (parts_cut (mesh-read (reading d).read_mesh-answer.ensures d.in-Read.is)).firsts_cut)
-    (λ c. let d = c.before.before in (mesh-read (reading d).read_mesh-answer.ensures d.in-Read.is).held.seconds_long)
-    (λ c. let d = c.before.before.before in (parts_cut (mesh-read (reading d).read_mesh-answer.ensures d.in-Read.is)).seconds_cut)
-    (λ c. let d = c.before.before.before in (mesh-read (reading d).read_mesh-answer.ensures d.in-Read.is).held.shares_long)
-    (λ c. let d = c.before.before.before.before in (parts_cut (mesh-read (reading d).read_mesh-answer.ensures d.in-Read.is)).shares_cut)
-    (λ c. let d = c.before.before.before.before in (mesh-read (reading d).read_mesh-answer.ensures d.in-Read.is).held.reaches_long)
+    (λ d. (mesh-read (reading d).read_mesh-answer.ensures d.in-Ok.is).held.volumes_long)
+    (λ c. let d = c.before in (parts_cut (mesh-read (reading d).read_mesh-answer.ensures d.in-Ok.is)).volumes_cut)
+    (λ c. let d = c.before in (mesh-read (reading d).read_mesh-answer.ensures d.in-Ok.is).held.firsts_long)
+    (λ c. let d = c.before.before in (parts_cut (mesh-read (reading d).read_mesh-answer.ensures d.in-Ok.is)).firsts_cut)
+    (λ c. let d = c.before.before in (mesh-read (reading d).read_mesh-answer.ensures d.in-Ok.is).held.seconds_long)
+    (λ c. let d = c.before.before.before in (parts_cut (mesh-read (reading d).read_mesh-answer.ensures d.in-Ok.is)).seconds_cut)
+    (λ c. let d = c.before.before.before in (mesh-read (reading d).read_mesh-answer.ensures d.in-Ok.is).held.shares_long)
+    (λ c. let d = c.before.before.before.before in (parts_cut (mesh-read (reading d).read_mesh-answer.ensures d.in-Ok.is)).shares_cut)
+    (λ c. let d = c.before.before.before.before in (mesh-read (reading d).read_mesh-answer.ensures d.in-Ok.is).held.reaches_long)
     (λ c. let d = c.before.before.before.before.before in
-    (parts_cut (mesh-read (reading d).read_mesh-answer.ensures d.in-Read.is)).reaches_cut)
+    (parts_cut (mesh-read (reading d).read_mesh-answer.ensures d.in-Ok.is)).reaches_cut)
     keep-requires
     (λ c. c.before.before.before.before.before.before.before.before.before.volumes-1.given)
     (λ c. c.before.before.before.before.before.before.before.firsts-1.given)

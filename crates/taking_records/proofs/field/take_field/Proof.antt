@@ -20,12 +20,12 @@ joined e = e.before
 abbrev told : tie.After-total-judged → tie.In_default
 told t = t.before.before
 
-returns : tie.Need-returns-in-Refused
+returns : tie.Need-returns-in-Err
 returns c =
     let d = c.before in
     let s = start d in
     field-unread s.args.width s.args.volumes.now s.args.masses.now (reading d).read_field-answer.ensures refl d.before.long-lent.result
-    d.and_then-found.result d.before.long-lent.ensures d.and_then-found.ensures c.in-Refused.is
+    d.and_then-found.result d.before.long-lent.ensures d.and_then-found.ensures c.in-Err.is
 
 array-share-prefix-read : tie.Need-slice_bounds-read-end
 array-share-prefix-read e =
@@ -69,7 +69,7 @@ returns-3 c =
     let s = start d in
     field_taken s.args.width s.args.volumes.now s.args.masses.now (reading d).read_field-answer.ensures refl d.before.long-lent.result
     d.and_then-found.result d.before.long-lent.ensures d.and_then-found.ensures e.in_default.is _ t.total-judged.ensures
-    total-told.in-Total.is c.before.before.copy.ensures
+    total-told.in-Ok.is c.before.before.copy.ensures
 
 pub take_field_spec : {M : Type 1} → statement M
 take_field_spec =

@@ -16,32 +16,32 @@ abbrev stepped : tie.In-Stepped → tie.After-step_in-answer
 stepped c = c.before.before.before.before.before.before
 
 slice-reshare-prefix-copy : tie.Need-slice_bounds-copy-end
-slice-reshare-prefix-copy c = (nexts-part (stepped c).step_in-answer.ensures c.in-Stepped.is).fits
+slice-reshare-prefix-copy c = (nexts-part (stepped c).step_in-answer.ensures c.in-Ok.is).fits
 
-slice-aggregate-copy : tie.Need-slice_bounds-copy-end-in-Stepped
-slice-aggregate-copy c = let t = c in part-long (nexts-part (stepped t).step_in-answer.ensures t.in-Stepped.is)
+slice-aggregate-copy : tie.Need-slice_bounds-copy-end-in-Ok
+slice-aggregate-copy c = let t = c in part-long (nexts-part (stepped t).step_in-answer.ensures t.in-Ok.is)
 
 copy-requires : tie.Need-copy-requires
-copy-requires c κs = let t = c.before in copy-asks (stepped t).step_in-answer.ensures t.in-Stepped.is
+copy-requires c κs = let t = c.before in copy-asks (stepped t).step_in-answer.ensures t.in-Ok.is
 
 sum-of-requires : tie.Need-sum_of-requires
 sum-of-requires c κs =
     let copied = c.before.before in
     let t = copied.before.before in
-    sum-asks (stepped t).step_in-answer.ensures t.in-Stepped.is copied.copy.ensures
+    sum-asks (stepped t).step_in-answer.ensures t.in-Ok.is copied.copy.ensures
 
-returns : tie.Need-returns-in-Refused
+returns : tie.Need-returns-in-Err
 returns c =
     let made = c.before.before.before.before.before.before in
     let s = begun made in
-    step-refused made.step_in-answer.ensures s.requires.0.0 s.requires.0.1 s.requires.0.2 c.in-Refused.is
+    step-refused made.step_in-answer.ensures s.requires.0.0 s.requires.0.1 s.requires.0.2 c.in-Err.is
 
-returns-2 : tie.Need-returns-in-Stepped
+returns-2 : tie.Need-returns-in-Ok
 returns-2 c =
     let copied = c.before.before.before in
     let t = copied.before.before in
     let s = begun (stepped t) in
-    step-done (stepped t).step_in-answer.ensures s.requires.0.0 s.requires.0.1 s.requires.0.2 t.in-Stepped.is copied.copy.ensures
+    step-done (stepped t).step_in-answer.ensures s.requires.0.0 s.requires.0.1 s.requires.0.2 t.in-Ok.is copied.copy.ensures
     c.sum_of.ensures
 
 pub stepped_spec : {M : Type 1} → statement M

@@ -18,12 +18,12 @@ begun c = let lent = c.before.before.before.before.before.before.before.before i
 abbrev reading : tie.In_default → tie.After-read_step-read
 reading c = c.before.before.before.before.before.before
 
-returns : tie.Need-returns-in-Refused
+returns : tie.Need-returns-in-Err
 returns c =
     let r = c.before.before.before.before.before.before in
     let s = begun r in
     step-unread s.args.width (mesh s) s.args.masses.now r.read_step-read.ensures s.requires.0.0 s.requires.0.1 s.requires.0.2
-    c.in-Refused.is
+    c.in-Err.is
 
 slice-reshare-prefix-stepped : tie.Need-slice_bounds-stepped-end
 slice-reshare-prefix-stepped c =
