@@ -87,10 +87,8 @@ pub fn read_bits(src: &[u8], at: usize, width: usize) -> u64
     let first = at / 8;
     let bytes = last + 1 - first;
     let mut v: u64 = 0;
-    let mut k = 0;
-    while k < bytes {
+    for k in 0..bytes {
         v = joined(src, first, k, v);
-        k += 1;
     }
     part(v, below, width)
 }
@@ -126,6 +124,7 @@ pub fn write_bits(dst: &mut [u8], at: usize, width: usize, v: u64)
     ensures { Put dst.old at width v dst.new }
 {
     let mut done = 0;
+    // a while: a turn takes as many bits as are left of the byte, or of the field
     while done < width {
         let p = at + done;
         let n = least(8 - p % 8, width - done);

@@ -1,18 +1,16 @@
 -- A sign and a size read as one number, and three of these as one.
-use mathlib.Core.Path.{◌≡◌, sym, ap, ◌∙◌}
+use mathlib.Core.Path.{◌≡◌, ap, ◌∙◌}
 use mathlib.Core.List.{List}
-use Prim.Native.Nat.{ℕ, zero, suc, ◌+◌, ◌*◌, ◌/◌, ◌%◌, ◌^◌, ◌≤◌, ◌<◌}
+use Prim.Native.Nat.{ℕ, zero, suc, ◌+◌, ◌*◌, ◌/◌, ◌%◌, ◌^◌, ◌<◌}
 use native.Mathlib.Nat.{add-mul}
-use native.Mathlib.Decide.{dec_lt}
 use native.Mathlib.Omega.{arith}
 use borrow.Author.Tests.{le-leb, lt-leb}
 use lib.Dec.{eqb, leb}
-use lib.IntN.{ℤ, pos}
-use lib.ListN.{length, get_or, set}
+use lib.IntN.{ℤ}
+use lib.ListN.{length, set}
 use lib.Pow.{low}
-use lib.Seq.{ext_get_or}
 use Rattle.lists.specs.Table.{table, over}
-use Rattle.lists.proofs.Tables.{length_over, get_d_over, get_d_past, over-step}
+use Rattle.lists.proofs.Tables.{over-step}
 use Rattle.signed.specs.Sign.{with_sign}
 use Rattle.record_bits.specs.Field.{bits_at}
 use Rattle.record_bits.proofs.Fields.{bits-lt, bits-split}
@@ -56,23 +54,3 @@ module _ (bs : List ℕ) (first w i : ℕ) (ys : List ℤ) (room : i + 2 < lengt
       let c = over-step row ys (i + 2) room (b ∙ ap (λ (n : ℕ). over (table n row) ys) two)
       (code_is bs (first + (i + 2) * (1 + w)) w (t.2 ∙ ap (λ (n : ℕ). bits_at bs n (1 + w)) q)) in
       c ∙ ap (λ (n : ℕ). over (table n row) ys) three
-
--- entries that are written once more
-module _ (f : ℕ → ℤ) (ys : List ℤ) (r n : ℕ) (l : r ≤ n) (room : n ≤ length ys) where
-  over-again : over (table n f) (over (table r f) ys) ≡ over (table n f) ys
-  over-again =
-      let len : length (over (table r f) ys) ≡ length ys = length_over r f ys (omega arith) in
-      ext_get_or (pos 0) _ _ (length_over n f (over (table r f) ys) (omega arith) ∙ len ∙ sym (length_over n f ys room)) (λ j m. go j (dec_lt j n))
-    where
-      go : (j : ℕ) → Dec (j < n) → get_or (over (table n f) (over (table r f) ys)) j (pos 0) ≡ get_or (over (table n f) ys) j (pos 0)
-      go j (yes m) = get_d_over n f (over (table r f) ys) (pos 0) j m ∙ sym (get_d_over n f ys (pos 0) j m)
-      go j (no m) = get_d_past n f (over (table r f) ys) (pos 0) j (omega arith) ∙ get_d_past r f ys (pos 0) j (omega arith)
-          ∙ sym (get_d_past n f ys (pos 0) j (omega arith))
-
--- a reader that goes on from r: its first state and its end, by the table that it finds there
-pub goes_on : (f : ℕ → ℤ) (ys : List ℤ) (r : ℕ) {zs : List ℤ} → r ≤ length ys → zs ≡ over (table r f) ys → zs ≡ over (table r f) zs
-goes_on f ys r l e = e ∙ sym (over-again f ys r r (omega arith) l) ∙ ap (λ t. over (table r f) t) (sym e)
-
-pub gone-on : (f : ℕ → ℤ) (ys : List ℤ) (r n : ℕ) {zs out : List ℤ} → r ≤ n → n ≤ length ys → zs ≡ over (table r f) ys → out ≡ over (table n f) zs → out
-    ≡ over (table n f) ys
-gone-on f ys r n l room e d = d ∙ ap (λ t. over (table n f) t) e ∙ over-again f ys r n l room

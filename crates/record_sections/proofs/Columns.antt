@@ -28,10 +28,6 @@ use Rattle.record_sections.proofs.Sections.{width-fields, place_end, value-back,
 pub over-whole : {A : Type 0} {i n : ℕ} (f : ℕ → A) (ys : List A) {s : List A} → i ≤ n → n ≤ i → s ≡ over (table i f) ys → s ≡ over (table n f) ys
 over-whole {A} {i} {n} f ys l m e = let q : i ≡ n = omega arith in rw q at e
 
--- and the place that it has come to
-pub place-whole : {i n p : ℕ} (pl : ℕ → ℕ) → i ≤ n → n ≤ i → p ≡ pl i → p ≡ pl n
-place-whole {i} {n} pl l m e = let q : i ≡ n = omega arith in e ∙ ap pl q
-
 -- a loop that puts a column: its first state and its turn
 
 pub column-start : (bs : List ℕ) (test : ℕ → Bool) (pl : ℕ → ℕ) (w : ℕ) (v : ℕ → ℕ) → PutColumn bs 0 test pl w v bs
@@ -126,10 +122,6 @@ one-most false = omega arith
 pub those-le : (test : ℕ → Bool) (n : ℕ) → those test n ≤ n
 unfolding those
 those-le test n = omega (arith, sum_bound n 1 (λ k. cond (test k) 1 0) (λ k l. one-most (test k)))
-
-pub column-whole : {bs out : List ℕ} {i n w : ℕ} {test : ℕ → Bool} {pl v : ℕ → ℕ} → i ≤ n → n ≤ i → PutColumn bs i test pl w v out
-    → PutColumn bs n test pl w v out
-column-whole {i = i} {n = n} l m c = let e : i ≡ n = omega arith in rw e at c
 
 -- rows that are as far apart as their fields are wide
 pub row_apart : (first stride w i n : ℕ) → w ≤ stride → i < n → first + i * stride + w ≤ first + n * stride

@@ -31,10 +31,8 @@ pub fn read_column(
     ensures { out.new
         ≡ over (table n (λ i. bits_at bytes.now (first + i * stride) width)) out.old }
 {
-    let mut i = 0;
-    while i < n {
+    for i in 0..n {
         out[i] = record_bits::read_bits(bytes, first + i * stride, width);
-        i += 1;
     }
 }
 
@@ -55,10 +53,8 @@ pub fn put_column(
     ensures { PutColumn bytes.old n (λ _. true) (λ i. first + i * stride) width
         (λ i. get_or values.now i 0) bytes.new }
 {
-    let mut i = 0;
-    while i < n {
+    for i in 0..n {
         record_bits::write_bits(bytes, first + i * stride, width, values[i]);
-        i += 1;
     }
 }
 
@@ -78,11 +74,9 @@ pub fn put_signs(bytes: &mut [u8], first: usize, stride: usize, n: usize, values
     ensures { PutColumn bytes.old n (λ _. true) (λ i. first + i * stride) 1
         (λ i. cond (is_negative (get_or values.now i (pos 0))) 1 0) bytes.new }
 {
-    let mut i = 0;
-    while i < n {
+    for i in 0..n {
         let s = sign(is_negative_at(values, i));
         record_bits::write_bits(bytes, first + i * stride, 1, s);
-        i += 1;
     }
 }
 
@@ -103,11 +97,9 @@ pub fn put_sizes(
     ensures { PutColumn bytes.old n (λ _. true) (λ i. first + i * stride) width
         (λ i. size_of (get_or values.now i (pos 0))) bytes.new }
 {
-    let mut i = 0;
-    while i < n {
+    for i in 0..n {
         let s = size_at(values, i);
         record_bits::write_bits(bytes, first + i * stride, width, s);
-        i += 1;
     }
 }
 
@@ -144,6 +136,7 @@ fn read_threes(bytes: &[u8], first: usize, width: usize, n: usize, out: &mut [i6
 {
     let row = 1 + width;
     let mut i = 0;
+    // a while: it steps by three, and where it stops is the answer
     while i + 2 < n {
         let codes = record_bits::read_bits(bytes, first + i * row, 3 * row);
         put_three(out, i, width, codes);
@@ -161,11 +154,10 @@ pub fn read_signed(bytes: &[u8], first: usize, width: usize, n: usize, out: &mut
         (bits_at bytes.now (first + i * (1 + width) + 1) width))) out.old }
 {
     let row = 1 + width;
-    let mut i = read_threes(bytes, first, width, n, out);
-    while i < n {
+    let read = read_threes(bytes, first, width, n, out);
+    for i in read..n {
         let code = record_bits::read_bits(bytes, first + i * row, row);
         put_code(out, i, width, code);
-        i += 1;
     }
 }
 
@@ -186,10 +178,8 @@ pub fn count_marked(mark: u64, n: usize, marks: &[u64]) -> usize
     ensures { result ≡ those (marked mark marks.now) n }
 {
     let mut count = 0;
-    let mut i = 0;
-    while i < n {
+    for i in 0..n {
         count = after(count, 1, marks[i] == mark);
-        i += 1;
     }
     count
 }
@@ -227,12 +217,10 @@ pub fn read_marked(
         0)) out.old) }
 {
     let mut at = first;
-    let mut i = 0;
-    while i < n {
+    for i in 0..n {
         let here = marks[i] == mark;
         out[i] = field_if(bytes, at, width, here);
         at = after(at, width, here);
-        i += 1;
     }
     at
 }
@@ -268,12 +256,10 @@ pub fn put_marked(
         (λ i. get_or values.now i 0) bytes.new }
 {
     let mut at = first;
-    let mut i = 0;
-    while i < n {
+    for i in 0..n {
         let here = marks[i] == mark;
         put_if(bytes, at, width, here, values[i]);
         at = after(at, width, here);
-        i += 1;
     }
 }
 

@@ -19,14 +19,12 @@ fn first_set(bytes: &[u8], from: usize, to: usize) -> usize
     requires { (from ≤ to) × (to ≤ 8 * length bytes.now) × (to < 2 ^ 64) }
     ensures { FirstSet bytes.now from to result }
 {
-    let mut i = from;
-    while i < to {
+    for i in from..to {
         if record_bits::read_bits(bytes, i, 1) == 1 {
             return i;
         }
-        i += 1;
     }
-    i
+    to
 }
 
 // Whether the sign at a place is a minus of size 0: of both as one number only the sign's bit is set.
@@ -60,6 +58,7 @@ fn plain_threes(bytes: &[u8], faces: usize, value: usize) -> usize
 {
     let flux = Body::SIGN + value;
     let mut f = 0;
+    // a while: it steps by three, and where it stops is the answer
     while f + 2 < faces {
         let codes = record_bits::read_bits(bytes, 8 * lengths::STEP_HEAD + f * flux, 3 * flux);
         if minus_in_three(codes, value) {
@@ -76,14 +75,13 @@ fn first_minus(bytes: &[u8], faces: usize, value: usize) -> usize
     ensures { FirstMinus bytes.now value faces result }
 {
     let flux = Body::SIGN + value;
-    let mut f = plain_threes(bytes, faces, value);
-    while f < faces {
+    let plain = plain_threes(bytes, faces, value);
+    for f in plain..faces {
         if minus_zero(bytes, 8 * lengths::STEP_HEAD + f * flux, value) {
             return f;
         }
-        f += 1;
     }
-    f
+    faces
 }
 
 fn refused(place: usize) -> Result<(), Refusal>
