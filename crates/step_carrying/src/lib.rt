@@ -110,13 +110,11 @@ pub fn carry(
         entered: 0,
         gone: 0,
     };
-    let mut f = 0;
-    while f < faces {
+    for f in 0..faces {
         so_far = carry_turn(
             f, cells, faces, firsts, seconds, shares, reaches, fluxes, outsides, next, moved, work,
             so_far,
         );
-        f += 1;
     }
     so_far
 }

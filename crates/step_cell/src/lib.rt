@@ -80,9 +80,5 @@ pub fn allowance_at(work: &mut [u64], c: usize, volume: u64, low: u64)
 pub fn clear(work: &mut [u64])
     ensures { work.new ≡ table (length work.old) (λ i. 0) }
 {
-    let mut i = 0;
-    while i < work.len() {
-        work[i] = 0;
-        i += 1;
-    }
+    work.fill(0);
 }

@@ -19,10 +19,8 @@ pub fn allowances(cells: usize, volumes: &[u64], next: &[u64], work: &mut [u64])
     requires by_index { (c : ℕ) → c < cells → CellAsks (get_or volumes.now c 0) (get_or next.now c 0) (of_cell work.old c 1) (of_cell work.old c 2) }
     ensures { Allowances volumes.now next.now work.old cells work.new }
 {
-    let mut c = 0;
-    while c < cells {
+    for c in 0..cells {
         allowance_at(work, c, volumes[c], next[c]);
-        c += 1;
     }
 }
 
@@ -78,10 +76,8 @@ pub fn limit(
     ensures { Limited (ends_of cells faces firsts.now seconds.now) work.now next.old moved.old
         faces next.new moved.new }
 {
-    let mut f = 0;
-    while f < faces {
+    for f in 0..faces {
         let code = work[4 * cells + f];
         limit_face(f, firsts[f], seconds[f], code, next, moved, work);
-        f += 1;
     }
 }

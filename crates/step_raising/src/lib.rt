@@ -44,10 +44,8 @@ pub fn concentrations(
     ensures { Concentrations volumes.now (raised cells masses.now releases.now) work.old cells
         next.new work.new }
 {
-    let mut c = 0;
-    while c < cells {
+    for c in 0..cells {
         let mass = raised_mass(masses[c], releases[c]);
         start_cell(c, mass, volumes[c], next, work);
-        c += 1;
     }
 }

@@ -64,9 +64,7 @@ pub fn keep_corrections(
     requires uncounted { Uncounted (ends_of cells faces firsts.now seconds.now) work.old }
     ensures { KeptTo (ends_of cells faces firsts.now seconds.now) work.old faces work.new }
 {
-    let mut f = 0;
-    while f < faces {
+    for f in 0..faces {
         keep_at(work, 4 * cells + f, firsts[f], seconds[f]);
-        f += 1;
     }
 }
