@@ -86,14 +86,12 @@ pub fn firsts(
         out.old }
 {
     let mut at = 0;
-    let mut f = 0;
-    while f < faces {
+    for f in 0..faces {
         let first = firsts[f];
         let second = seconds[f];
         let marked = touches(part, labels, first, second);
         let entry = near_number(part, labels, numbers, first, second);
         at = keep(marked, at, entry, out);
-        f += 1;
     }
     at
 }
@@ -116,14 +114,12 @@ pub fn seconds(
         out.old }
 {
     let mut at = 0;
-    let mut f = 0;
-    while f < faces {
+    for f in 0..faces {
         let first = firsts[f];
         let second = seconds[f];
         let marked = touches(part, labels, first, second);
         let entry = unless_cut(part, labels, first, second, RIM, numbers[second as usize]);
         at = keep(marked, at, entry, out);
-        f += 1;
     }
     at
 }
@@ -146,14 +142,12 @@ pub fn spacings(
         out.old }
 {
     let mut at = 0;
-    let mut f = 0;
-    while f < faces {
+    for f in 0..faces {
         let first = firsts[f];
         let second = seconds[f];
         let marked = touches(part, labels, first, second);
         let entry = unless_cut(part, labels, first, second, 0, entries[f]);
         at = keep(marked, at, entry, out);
-        f += 1;
     }
     at
 }
@@ -176,14 +170,12 @@ pub fn fluxes(
         out.old }
 {
     let mut at = 0;
-    let mut f = 0;
-    while f < faces {
+    for f in 0..faces {
         let first = firsts[f];
         let second = seconds[f];
         let marked = touches(part, labels, first, second);
         let minus = is_minus(part, labels, first, amounts, f);
         at = keep_amount(marked, at, minus, size_at(amounts, f), out);
-        f += 1;
     }
     at
 }
@@ -209,8 +201,7 @@ pub fn outsides(
         out.old }
 {
     let mut at = 0;
-    let mut f = 0;
-    while f < faces {
+    for f in 0..faces {
         let first = firsts[f];
         let second = seconds[f];
         let marked = touches(part, labels, first, second);
@@ -219,7 +210,6 @@ pub fn outsides(
         let enters = entering(part, labels, q, first, second, minus, amount);
         let entry = unless_cut(part, labels, first, second, enters, values[f]);
         at = keep(marked, at, entry, out);
-        f += 1;
     }
     at
 }

@@ -15,15 +15,13 @@ pub fn labels_good(cells: usize, labels: &[u64]) -> Result<(), Refusal>
     requires { cells ≤ length labels.now }
     ensures { said result ≡ each 23 cells (λ c. leb (get_or labels.now c 0) 1) }
 {
-    let mut c = 0;
-    while c < cells {
+    for c in 0..cells {
         if 1 < labels[c] {
             return Err(Refusal {
                 cause: Cause::Label,
                 place: c as u64,
             });
         }
-        c += 1;
     }
     Ok(())
 }
@@ -45,10 +43,8 @@ pub fn count_cells(cells: usize, part: u64, labels: &[u64]) -> usize
     ensures { result ≡ count cells (has_label labels.now part) }
 {
     let mut n = 0;
-    let mut c = 0;
-    while c < cells {
+    for c in 0..cells {
         n = one_more(is_in(part, labels, c as u64), n);
-        c += 1;
     }
     n
 }
@@ -59,11 +55,9 @@ pub fn numbers(cells: usize, part: u64, labels: &[u64], out: &mut [u64])
     ensures { out.new ≡ set (over (table cells (λ c. count c (has_label labels.now part))) out.old) rim rim }
 {
     let mut n = 0;
-    let mut c = 0;
-    while c < cells {
+    for c in 0..cells {
         out[c] = n as u64;
         n = one_more(is_in(part, labels, c as u64), n);
-        c += 1;
     }
     out[RIM as usize] = RIM;
 }
@@ -89,9 +83,7 @@ pub fn concentrations(
     ensures { out.new
         ≡ over (table cells (λ c. (get_or masses.now c 0 + get_or releases.now c 0) / get_or volumes.now c 0)) out.old }
 {
-    let mut c = 0;
-    while c < cells {
+    for c in 0..cells {
         out[c] = raised_concentration(volumes[c], masses[c], releases[c]);
-        c += 1;
     }
 }

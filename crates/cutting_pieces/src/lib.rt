@@ -90,11 +90,9 @@ pub fn by_cell(cells: usize, part: u64, labels: &[u64], entries: &[u64], out: &m
     ensures out_after { out.new ≡ over (picked cells (has_label labels.now part) (λ c. get_or entries.now c 0)) out.old }
 {
     let mut at = 0;
-    let mut c = 0;
-    while c < cells {
+    for c in 0..cells {
         let marked = is_in(part, labels, c as u64);
         at = keep(marked, at, entries[c], out);
-        c += 1;
     }
     at
 }

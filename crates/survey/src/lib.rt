@@ -7,7 +7,7 @@ ghost use Rattle.model.specs.Answers.{number};
 ghost use Rattle.survey.specs.Survey.{not_above, stage_said, found_after, found, share as share_is, share_of, share_by, face_share};
 
 use model::{Cause, Refusal};
-use survey_points::{COORDINATES, Face, coordinates_of, first_side, is_allowed, second_side};
+use survey_points::{Face, coordinates_of, first_side, is_allowed, second_side};
 
 // 1 / 256, the unit of a share.
 const PART: f64 = 0.00390625;
@@ -44,16 +44,13 @@ pub fn middle_stage(face: Face) -> Stage
     ensures { stage_said result ≡ found face }
 {
     let values = coordinates_of(face);
-    let mut i = 0;
-    while i < COORDINATES {
-        let value = values[i];
+    for (i, &value) in values.iter().enumerate() {
         if !is_allowed(value) {
             return Stage::Bad(Coordinate {
                 place: i as u64,
                 value: value,
             });
         }
-        i += 1;
     }
     ratio_of(face)
 }
@@ -71,14 +68,12 @@ fn share_of(ratio: f64) -> u64
     requires { (not_above 1 ratio ≡ true) × (not_above 256 ratio ≡ false) }
     ensures { result ≡ share_is ratio }
 {
-    let mut k = 1;
-    while k < 255 {
+    for k in 1..255 {
         if !is_not_above(k + 1, ratio) {
             return k;
         }
-        k += 1;
     }
-    k
+    255
 }
 
 fn refusal(cause: Cause, place: u64) -> Result<u64, Refusal>
