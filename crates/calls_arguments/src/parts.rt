@@ -81,29 +81,17 @@ pub fn octets<'a>(words: &[u64], bytes: &'a [u8], argument: usize) -> &'a [u8] {
 pub fn copy(from: &[u64], to: &mut [u64]) -> usize
     ensures { IsPrefixLen result to.new }
 {
-    let mut i = 0;
-    while i < from.len() {
-        if to.len() <= i {
-            return i;
-        }
-        to[i] = from[i];
-        i += 1;
-    }
-    i
+    let n = from.len().min(to.len());
+    to[..n].copy_from_slice(&from[..n]);
+    n
 }
 
 pub fn copy_amounts(from: &[i64], to: &mut [i64]) -> usize
     ensures { (result ≤ length to.new) × (result ≡ length (take result to.new)) }
 {
-    let mut i = 0;
-    while i < from.len() {
-        if to.len() <= i {
-            return i;
-        }
-        to[i] = from[i];
-        i += 1;
-    }
-    i
+    let n = from.len().min(to.len());
+    to[..n].copy_from_slice(&from[..n]);
+    n
 }
 
 fn byte_of(x: u64) -> u8 {
@@ -114,15 +102,11 @@ fn byte_of(x: u64) -> u8 {
 pub fn bytes(from: &[u64], to: &mut [u8]) -> usize
     ensures { IsPrefixLen result to.new }
 {
-    let mut i = 0;
-    while i < from.len() {
-        if to.len() <= i {
-            return i;
-        }
+    let n = from.len().min(to.len());
+    for i in 0..n {
         to[i] = byte_of(from[i]);
-        i += 1;
     }
-    i
+    n
 }
 
 // The signed number that a word stands for: from 2^63 on it is the word less 2^64.
@@ -137,12 +121,7 @@ fn amount_of(x: u64) -> i64 {
 
 // A table's entries as signed numbers.
 pub fn signed_numbers(from: &[u64], to: &mut [i64]) {
-    let mut i = 0;
-    while i < from.len() {
-        if to.len() <= i {
-            return;
-        }
-        to[i] = amount_of(from[i]);
-        i += 1;
+    for (t, x) in to.iter_mut().zip(from) {
+        *t = amount_of(*x);
     }
 }

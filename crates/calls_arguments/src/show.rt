@@ -20,23 +20,15 @@ fn octet(rt: &HostRuntime, b: u8) {
 // The first n entries of a table.
 fn entries(rt: &HostRuntime, title: &[u8], n: usize, xs: &[u64]) {
     word(rt, title);
-    let mut i = 0;
-    while i < n {
-        if i < xs.len() {
-            number(rt, xs[i]);
-        }
-        i += 1;
+    for x in xs.iter().take(n) {
+        number(rt, *x);
     }
 }
 
 fn signed_entries(rt: &HostRuntime, title: &[u8], n: usize, xs: &[i64]) {
     word(rt, title);
-    let mut i = 0;
-    while i < n {
-        if i < xs.len() {
-            amount(rt, xs[i]);
-        }
-        i += 1;
+    for x in xs.iter().take(n) {
+        amount(rt, *x);
     }
 }
 
@@ -58,11 +50,7 @@ pub fn part_amounts(rt: &HostRuntime, title: &[u8], n: usize, xs: &[i64; PART_RO
 
 pub fn octets(rt: &HostRuntime, title: &[u8], n: usize, xs: &[u8; BYTES_ROOM]) {
     word(rt, title);
-    let mut i = 0;
-    while i < n {
-        if i < xs.len() {
-            octet(rt, xs[i]);
-        }
-        i += 1;
+    for x in xs.iter().take(n) {
+        octet(rt, *x);
     }
 }

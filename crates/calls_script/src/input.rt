@@ -69,9 +69,7 @@ fn passed(input: Input, b: u8) -> Input {
 pub fn next(rt: &HostRuntime, chunk: &mut [u8], start: Input) -> Found {
     let mut token = Token::Blank;
     let mut input = start;
-    let mut turn: u64 = 0;
-    while turn < u64::MAX {
-        turn += 1;
+    for _ in 0..u64::MAX {
         input = filled(rt, chunk, input);
         if input.got == 0 {
             return Found {

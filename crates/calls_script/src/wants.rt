@@ -214,8 +214,7 @@ pub fn arguments(
 ) -> Told {
     let mut want = first_want(shape, later);
     let mut input = start;
-    let mut k = MARKS;
-    while k < WORDS {
+    for k in MARKS..WORDS {
         if is_whole(want) {
             return Told {
                 fault: Fault::Nothing,
@@ -232,7 +231,6 @@ pub fn arguments(
                 input: input,
             };
         }
-        k += 1;
     }
     Told {
         fault: Fault::LongCall,
