@@ -6,10 +6,10 @@ use Rattle.host_crossing.proofs.crossed.Statement.{statement}
 use Rattle.host_crossing.proofs.crossed.Tie as tie
 
 -- from the step back to where the counts are known, from there to the taking of mesh and field, and from there to the start
-abbrev counted : tie.After-take_step → tie.In-Taken
+abbrev counted : tie.After-take_step → tie.In-Ok
 counted o = o.before.before.before.before.before.before.before
 
-abbrev taking : tie.In-Taken → tie.After-take_field-a
+abbrev taking : tie.In-Ok → tie.After-take_field-a
 taking k = k.before.before.before.before.before.before.before
 
 abbrev entered : tie.After-shares-1 → tie.Start

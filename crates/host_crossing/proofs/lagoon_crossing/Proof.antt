@@ -7,7 +7,7 @@ use Rattle.host_record_promises.proofs.Crossings.{found-fits, crossing-found}
 use Rattle.host_crossing.proofs.lagoon_crossing.Statement.{statement}
 use Rattle.host_crossing.proofs.lagoon_crossing.Tie as tie
 
-abbrev start-from-known-told2 : tie.In-Stepped → tie.Start
+abbrev start-from-known-told2 : tie.In-Ok → tie.Start
 start-from-known-told2 c = c.before.before.before.before.before.before
 
 number-of-requires : tie.Need-number_of-requires

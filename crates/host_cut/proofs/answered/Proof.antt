@@ -9,7 +9,7 @@ use Rattle.host_cut_promises.specs.Inner.{cut_said}
 use Rattle.host_cut.proofs.answered.Statement.{statement}
 use Rattle.host_cut.proofs.answered.Tie as tie
 
-abbrev answer-from-put-arg : tie.After-put-arg-1 → tie.In-Cut
+abbrev answer-from-put-arg : tie.After-put-arg-1 → tie.In-Ok
 answer-from-put-arg c = c.before.before.before.before.before
 
 abbrev fill4-from-put-arg : tie.After-put-arg-1 → tie.After-fill4

@@ -22,7 +22,7 @@ lent-1 s = records_of s.args.mesh1.now s.args.field1.now s.args.step1.now
 abbrev start-from-shared-slice-known9 : tie.After-shared_slice_known-9-1 → tie.Start
 start-from-shared-slice-known9 c = c.before.before.before.before.before.before.before.before.before
 
-abbrev start-from-a : tie.In-Refused → tie.Start
+abbrev start-from-a : tie.In-Err → tie.Start
 start-from-a c = start-from-shared-slice-known9 c.before.before.before.before.before.before.before.before
 
 abbrev start-from-enum-told : tie.In_default → tie.Start

@@ -24,7 +24,7 @@ abbrev claimed : tie.Start → List ℤ → List ℕ → List ℕ → Call
 claimed s fluxes outsides releases = claim_on fluxes outsides releases s.args.claim.now
 
 -- from where the record is known to be read back to its reading, and from there to the start
-abbrev reading : tie.In-Read → tie.After-read_step-a
+abbrev reading : tie.In-Ok → tie.After-read_step-a
 reading k = k.before.before.before.before
 
 abbrev entered : tie.After-shared_slice_known-7-1 → tie.Start

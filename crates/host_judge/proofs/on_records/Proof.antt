@@ -13,10 +13,10 @@ use Rattle.host_judge.proofs.on_records.Statement.{statement}
 use Rattle.host_judge.proofs.on_records.Tie as tie
 
 -- from the step back to where the counts are known, from there to the taking of mesh and field, and from there to the start
-abbrev counted : tie.After-on_field → tie.In-Taken
+abbrev counted : tie.After-on_field → tie.In-Ok
 counted o = o.before.before.before.before.before.before.before.before
 
-abbrev taking : tie.In-Taken → tie.After-take_field-a
+abbrev taking : tie.In-Ok → tie.After-take_field-a
 taking k = k.before.before.before.before.before.before.before
 
 abbrev entered : tie.After-firsts-1 → tie.Start

@@ -21,7 +21,7 @@ abbrev call : tie.Start → Call
 call s = claim_on s.args.fluxes.now s.args.outsides.now s.args.releases.now s.args.claim.now
 
 -- from where the step is known to be made back to the judging, and from there to the start
-abbrev judging : tie.In-Stepped → tie.After-judge-a
+abbrev judging : tie.In-Ok → tie.After-judge-a
 judging k = k.before.before
 
 abbrev entered : tie.After-shared_slice_known-8-1 → tie.Start

@@ -16,7 +16,7 @@ mesh s =
     mesh_of a.cells a.faces a.volumes.now a.firsts.now a.seconds.now a.shares.now a.reaches.now
 
 -- from where the record is known to be read back to its reading, and from there to the start
-abbrev reading : tie.In-Read → tie.After-read_step-a
+abbrev reading : tie.In-Ok → tie.After-read_step-a
 reading k = k.before.before.before.before
 
 abbrev entered : tie.After-shared_slice_known-7-1 → tie.Start

@@ -10,7 +10,7 @@ use Rattle.host_record_board.proofs.lagoon_board.Statement.{statement}
 use Rattle.host_record_board.proofs.lagoon_board.Tie as tie
 
 -- from where the counts are known back to the taking of the cells, and from there to the start
-abbrev taking : tie.In-Taken → tie.After-take_cells-a
+abbrev taking : tie.In-Ok → tie.After-take_cells-a
 taking k = k.before.before.before
 
 abbrev start : tie.After-take_cells-a → tie.Start

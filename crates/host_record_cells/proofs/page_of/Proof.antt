@@ -7,7 +7,7 @@ use Rattle.host_record_cells.proofs.page_of.Statement.{statement}
 use Rattle.host_record_cells.proofs.page_of.Tie as tie
 
 -- from where the counts are known back to the taking of the cells, and from there to the start
-abbrev taking : tie.In-Taken → tie.After-take_cells-a
+abbrev taking : tie.In-Ok → tie.After-take_cells-a
 taking k = k.before.before.before
 
 abbrev start : tie.After-take_cells-a → tie.Start

@@ -15,7 +15,7 @@ abbrev start : tie.After-take_mesh-a → tie.Start
 start t = entered t.before.before.before.before.before.before.before.before.before
 
 -- from where the counts are known
-abbrev taking : tie.In-Read → tie.After-take_mesh-a
+abbrev taking : tie.In-Ok → tie.After-take_mesh-a
 taking k = (volumes-left k.before).before
 
 slice-reshare-prefix-take-field : tie.Need-slice_bounds-take_field-end

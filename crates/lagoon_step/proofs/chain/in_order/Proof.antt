@@ -14,10 +14,10 @@ entered c = c.before.before.before.before.before
 abbrev start : tie.After-take_mesh-a → tie.Start
 start c = entered c.before.before.before.before.before
 
-abbrev taking : tie.In-Read → tie.After-take_mesh-a
+abbrev taking : tie.In-Ok → tie.After-take_mesh-a
 taking c = c.before.before.before.before.before.before
 
-abbrev record_of : tie.In-Read → List ℕ
+abbrev record_of : tie.In-Ok → List ℕ
 record_of d = (start (taking d)).args.mesh.now
 
 returns : tie.Need-returns-in-Err

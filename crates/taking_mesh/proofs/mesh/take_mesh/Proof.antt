@@ -7,7 +7,7 @@ use Rattle.taking_mesh.proofs.mesh.take_mesh.Statement.{statement}
 use Rattle.taking_mesh.proofs.mesh.take_mesh.Tie as tie
 
 -- from where the mesh is known to be read back to its reading, and from there to the start
-abbrev reading : tie.In-Read → tie.After-read_mesh-answer
+abbrev reading : tie.In-Ok → tie.After-read_mesh-answer
 reading d = d.before.before.before.before.before.before
 
 abbrev entered : tie.After-read_volumes-1 → tie.Start
@@ -17,10 +17,10 @@ abbrev start : tie.After-read_mesh-answer → tie.Start
 start r = entered r.before.before.before.before.before
 
 -- from the keeping back to where the mesh is known to be read, past its own tables that are lent to it and the caller's
-abbrev lent : tie.After-keep-arg-1 → tie.In-Read
+abbrev lent : tie.After-keep-arg-1 → tie.In-Ok
 lent c = c.before.before.before.before.before.before
 
-abbrev told : tie.After-keep → tie.In-Read
+abbrev told : tie.After-keep → tie.In-Ok
 told k = lent k.before.before.before.before.before
 
 abbrev kept : tie.After-reaches-1 → tie.After-keep

@@ -12,7 +12,7 @@ abbrev begun : tie.After-step_in-answer → tie.Start
 begun c = lent c.before
 
 -- where the step was made, from where it is known to be accepted
-abbrev stepped : tie.In-Stepped → tie.After-step_in-answer
+abbrev stepped : tie.In-Ok → tie.After-step_in-answer
 stepped c = c.before.before.before.before.before.before
 
 slice-reshare-prefix-copy : tie.Need-slice_bounds-copy-end
