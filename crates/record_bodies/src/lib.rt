@@ -33,14 +33,12 @@ fn read_faces(
     let face = Body::ENDS_AND_SHARE + value;
     let share = value + Body::SHARE;
     let ends = share + Body::END;
-    let mut f = 0;
-    while f < n {
+    for f in 0..n {
         let row = record_bits::read_bits(body, first + f * face, face);
         firsts[f] = record_bits::part(row, ends, Body::END);
         seconds[f] = record_bits::part(row, share, Body::END);
         shares[f] = record_bits::part(row, value, Body::SHARE);
         reaches[f] = record_bits::part(row, 0, value);
-        f += 1;
     }
 }
 

@@ -37,15 +37,13 @@ pub fn values(width: Width, kind: StepKind, cells: usize, releases: &[u64]) -> R
     requires { cells ≤ length releases.now }
     ensures { said result ≡ each 18 cells (λ c. release_fits (kind_number width kind) (get_or releases.now c 0)) }
 {
-    let mut c = 0;
-    while c < cells {
+    for c in 0..cells {
         if !release_fits(width, kind, releases[c]) {
             return Err(Refusal {
                 cause: Cause::Release,
                 place: c as u64,
             });
         }
-        c += 1;
     }
     Ok(())
 }

@@ -1,0 +1,16 @@
+-- A scan's first state, its turn, its refusal and its end.
+use Rattle.std.proofs.Common.{rules}
+use Rattle.model.proofs.Verdicts.{scan-start, scan-pass, scan-hit, scan-end}
+use Rattle.record_causes.proofs.releases.values.Goals as goal
+
+pub loop-c-init : goal.loop-c-init
+loop-c-init c = scan-start _ _
+
+pub returns-then-not-release_fits : goal.returns-then-not-release_fits
+returns-then-not-release_fits c = scan-hit _ _ _ _ (search rules) c.loop-c.invariant c.release_fits.ensures c.if-not-release_fits.true
+
+pub loop-c-preserved : goal.loop-c-preserved
+loop-c-preserved c = scan-pass _ _ _ c.loop-c.invariant c.release_fits.ensures c.if-not-release_fits.false
+
+pub returns : goal.returns
+returns c = scan-end _ _ _ _ (search rules) (search rules) c.loop-c.invariant
