@@ -178,8 +178,7 @@ fn faces_fit(
         outsides.now
         × SumsAre cells faces firsts.now seconds.now fluxes.now sums.new }
 {
-    let mut f = 0;
-    while f < faces {
+    for f in 0..faces {
         let inward = is_negative_at(fluxes, f);
         let size = size_at(fluxes, f);
         if !count_face(
@@ -196,7 +195,6 @@ fn faces_fit(
         ) {
             return false;
         }
-        f += 1;
     }
     true
 }
@@ -220,12 +218,10 @@ fn sums_fit(cells: usize, volumes: &[u64], sums: &[u64]) -> bool
     requires { (cells ≤ length volumes.now) × (cells ≤ length sums.now) }
     ensures { result ≡ true → (c : ℕ) → c < cells → SumFits (get_or volumes.now c 0) (get_or sums.now c 0) }
 {
-    let mut c = 0;
-    while c < cells {
+    for c in 0..cells {
         if !sum_fits(volumes[c], sums[c]) {
             return false;
         }
-        c += 1;
     }
     true
 }
@@ -235,11 +231,7 @@ fn clear(cells: usize, sums: &mut [u64])
     requires { cells ≤ length sums.old }
     ensures { (c : ℕ) → c < cells → get_or sums.new c 0 ≡ 0 }
 {
-    let mut c = 0;
-    while c < cells {
-        sums[c] = 0;
-        c += 1;
-    }
+    sums[..cells].fill(0);
 }
 
 // Both, of a mesh that may be known to be accepted. The room is lent for the sums: what it holds is no matter, before or after.

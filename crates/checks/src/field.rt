@@ -42,11 +42,5 @@ pub fn sum_of(cells: usize, masses: &[u64]) -> u64
     requires { (cells ≤ length masses.now) × (sum cells (mass_in masses.now) < 2 ^ 64) }
     ensures { result ≡ sum cells (mass_in masses.now) }
 {
-    let mut total = 0;
-    let mut cell = 0;
-    while cell < cells {
-        total += masses[cell];
-        cell += 1;
-    }
-    total
+    masses[..cells].iter().sum()
 }

@@ -27,12 +27,10 @@ pub fn cells_fit(cells: usize, volumes: &[u64], masses: &[u64], releases: &[u64]
     ensures { result ≡ true → (c : ℕ) → c < cells → CellFine (get_or volumes.now c 0) (get_or masses.now c 0)
         (get_or releases.now c 0) }
 {
-    let mut c = 0;
-    while c < cells {
+    for c in 0..cells {
         if !cell_fits(volumes[c], masses[c], releases[c]) {
             return false;
         }
-        c += 1;
     }
     true
 }
