@@ -77,15 +77,13 @@ fn insert(ranking: Ranking, ranked: Ranked) -> Ranking
     let mut ranks = ranking.ranks;
     let mut carried = ranked;
     let mut moving = false;
-    let mut i = 0;
-    while i < used {
+    for i in 0..used {
         let present = ranks[i];
         if displaces(moving, carried, present) {
             ranks[i] = carried;
             carried = present;
             moving = true;
         }
-        i += 1;
     }
     if used < BOARD_SIZE {
         ranks[used] = carried;
@@ -120,11 +118,9 @@ fn rank(cells: usize, volumes: &[u64], masses: &[u64], marks: &[u64]) -> Ranking
         × (result.ranks ≡ ranked_cells volumes.now masses.now (is_open marks.now) cells) }
 {
     let mut ranking = empty_ranking();
-    let mut c = 0;
-    while c < cells {
+    for c in 0..cells {
         let ranked = ranked_of(c as u64, volumes[c], masses[c]);
         ranking = insert_if(is_open(marks, c), ranking, ranked);
-        c += 1;
     }
     ranking
 }
@@ -141,15 +137,13 @@ fn entries_of(ranking: Ranking) -> [Entry; BOARD_SIZE]
     };
     let mut entries = [none; BOARD_SIZE];
     let ranks = ranking.ranks;
-    let mut i = 0;
-    while i < ranking.used {
+    for i in 0..ranking.used {
         let a = ranks[i];
         entries[i] = Entry {
             cell: a.cell,
             q: a.q,
             rest: a.rest as u64,
         };
-        i += 1;
     }
     entries
 }

@@ -1,7 +1,7 @@
 // The answers of the calls as they are printed: accepted with its values, or refused with its cause and its place.
 #![tactic(auto)]
 
-use board::{BOARD_SIZE, BoardAnswer, Entry};
+use board::{BoardAnswer, Entry};
 use calls_arguments::{ROOM, show};
 use model::Refusal;
 use record_layouts::{Width, StepKind};
@@ -171,9 +171,7 @@ pub fn board(rt: &HostRuntime, said: BoardAnswer) {
     show::word(rt, b"; used");
     show::number(rt, said.used as u64);
     show::word(rt, b"; entries");
-    let mut i = 0;
-    while i < BOARD_SIZE {
-        entry(rt, entries[i]);
-        i += 1;
+    for e in entries.iter() {
+        entry(rt, *e);
     }
 }

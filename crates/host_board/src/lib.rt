@@ -27,10 +27,8 @@ fn put_entry(found: &mut [u64], at: usize, entry: Entry)
 fn fill_entries(entries: [Entry; BOARD_SIZE], found: &mut [u64])
     ensures { found.new ≡ entries_put board_size entries found.old }
 {
-    let mut i = 0;
-    while i < BOARD_SIZE {
-        put_entry(found, PER_ENTRY * i + 1, entries[i]);
-        i += 1;
+    for (i, &entry) in entries.iter().enumerate() {
+        put_entry(found, PER_ENTRY * i + 1, entry);
     }
 }
 

@@ -33,11 +33,9 @@ pub fn put(answer: BoardAnswer, lines: &mut [u8]) -> usize
 {
     let entries = answer.entries;
     let used = answer.used;
-    let mut i = 0;
     let mut at = 0;
-    while i < used {
+    for i in 0..used {
         at = put_entry(entries[i], lines, at);
-        i += 1;
     }
     at
 }
