@@ -9,7 +9,6 @@ ghost use Rattle.model.specs.Answers.{said};
 ghost use Rattle.check_flows.specs.Flows.{inflow as inflow_of, outflow as outflow_of, FacesFit, LongEnough, flows_verdict};
 
 use lists::raise;
-use model::needs::and_then;
 use model::{Cause, ENDS, Refusal};
 use signed::{is_negative_at, size_at};
 
@@ -51,15 +50,13 @@ pub fn gather(
     ensures { (inflow.new ≡ table (max_cells + 1) (inflow_of faces firsts.now seconds.now fluxes.now))
         × (outflow.new ≡ table (max_cells + 1) (outflow_of faces firsts.now seconds.now fluxes.now)) }
 {
-    let mut f = 0;
-    while f < faces {
+    for f in 0..faces {
         let negative = is_negative_at(fluxes, f);
         let size = size_at(fluxes, f);
         let first = firsts[f];
         let second = seconds[f];
         raise(inflow, receiver(negative, first, second) as usize, size);
         raise(outflow, giver(negative, first, second) as usize, size);
-        f += 1;
     }
 }
 
@@ -68,15 +65,13 @@ pub fn balanced(cells: usize, inflow: &[u64], outflow: &[u64]) -> Result<(), Ref
     requires { (cells ≤ length inflow.now) × (cells ≤ length outflow.now) }
     ensures { said result ≡ each 9 cells (λ c. eqb (get_or inflow.now c 0) (get_or outflow.now c 0)) }
 {
-    let mut c = 0;
-    while c < cells {
+    for c in 0..cells {
         if inflow[c] != outflow[c] {
             return Err(Refusal {
                 cause: Cause::Balance,
                 place: c as u64,
             });
         }
-        c += 1;
     }
     Ok(())
 }
@@ -86,15 +81,13 @@ pub fn outflow_fits(cells: usize, volumes: &[u64], outflow: &[u64]) -> Result<()
     requires { (cells ≤ length volumes.now) × (cells ≤ length outflow.now) }
     ensures { said result ≡ each 10 cells (λ c. leb (get_or outflow.now c 0) (get_or volumes.now c 0)) }
 {
-    let mut c = 0;
-    while c < cells {
+    for c in 0..cells {
         if volumes[c] < outflow[c] {
             return Err(Refusal {
                 cause: Cause::Outflow,
                 place: c as u64,
             });
         }
-        c += 1;
     }
     Ok(())
 }
@@ -116,8 +109,8 @@ pub fn values_in(
     ensures { said result ≡ flows_verdict faces firsts.now seconds.now fluxes.now cells volumes.now }
 {
     gather(faces, firsts, seconds, fluxes, inflow, outflow);
-    let a = balanced(cells, inflow, outflow);
-    and_then(a, outflow_fits(cells, volumes, outflow))
+    balanced(cells, inflow, outflow)?;
+    outflow_fits(cells, volumes, outflow)
 }
 
 // The same: the arrays are this function's own, so that no lent table is written.

@@ -7,7 +7,7 @@ ghost use Rattle.model.specs.Accepted.{MeshLent};
 ghost use Rattle.model.specs.Causes.{fine, ◌and_then◌, each, volume_fits, ends_fit, spacing_fit, mesh_values};
 ghost use Rattle.model.specs.Answers.{said};
 
-use model::needs::{and_then, between};
+use model::needs::between;
 use model::{Cause, Refusal};
 
 // Cause 3.
@@ -15,15 +15,13 @@ fn volumes_good(cells: usize, volumes: &[u64], most: u64) -> Result<(), Refusal>
     requires { cells ≤ length volumes.now }
     ensures { said result ≡ each 3 cells (λ c. volume_fits most (get_or volumes.now c 0)) }
 {
-    let mut c = 0;
-    while c < cells {
+    for c in 0..cells {
         if !between(1, most, volumes[c]) {
             return Err(Refusal {
                 cause: Cause::Volume,
                 place: c as u64,
             });
         }
-        c += 1;
     }
     Ok(())
 }
@@ -49,15 +47,13 @@ fn ends_good(cells: usize, faces: usize, firsts: &[u64], seconds: &[u64]) -> Res
     requires { (faces ≤ length firsts.now) × (faces ≤ length seconds.now) }
     ensures { said result ≡ each 4 faces (λ f. ends_fit cells (get_or firsts.now f 0) (get_or seconds.now f 0)) }
 {
-    let mut f = 0;
-    while f < faces {
+    for f in 0..faces {
         if !ends_fit(cells as u64, firsts[f], seconds[f]) {
             return Err(Refusal {
                 cause: Cause::Ends,
                 place: f as u64,
             });
         }
-        f += 1;
     }
     Ok(())
 }
@@ -79,20 +75,24 @@ fn spacing_fits(second: u64, share: u64, reach: u64, most: u64) -> bool
 }
 
 // Cause 5.
-fn spacing_good(faces: usize, seconds: &[u64], shares: &[u64], reaches: &[u64], most: u64) -> Result<(), Refusal>
+fn spacing_good(
+    faces: usize,
+    seconds: &[u64],
+    shares: &[u64],
+    reaches: &[u64],
+    most: u64,
+) -> Result<(), Refusal>
     requires { (faces ≤ length seconds.now) × (faces ≤ length shares.now) × (faces ≤ length reaches.now) }
     ensures { said result ≡ each 5 faces
         (λ f. spacing_fit most (get_or seconds.now f 0) (get_or shares.now f 0) (get_or reaches.now f 0)) }
 {
-    let mut f = 0;
-    while f < faces {
+    for f in 0..faces {
         if !spacing_fits(seconds[f], shares[f], reaches[f], most) {
             return Err(Refusal {
                 cause: Cause::Spacing,
                 place: f as u64,
             });
         }
-        f += 1;
     }
     Ok(())
 }
@@ -112,8 +112,7 @@ fn faces_fit(
         → (each 4 faces (λ f. ends_fit cells (get_or firsts.now f 0) (get_or seconds.now f 0)) ≡ fine)
         × (each 5 faces (λ f. spacing_fit most (get_or seconds.now f 0) (get_or shares.now f 0) (get_or reaches.now f 0)) ≡ fine) }
 {
-    let mut f = 0;
-    while f < faces {
+    for f in 0..faces {
         let second = seconds[f];
         if !ends_fit(cells as u64, firsts[f], second) {
             return false;
@@ -121,7 +120,6 @@ fn faces_fit(
         if !spacing_fits(second, shares[f], reaches[f], most) {
             return false;
         }
-        f += 1;
     }
     true
 }
@@ -145,8 +143,8 @@ fn faces_good(
     if faces_fit(cells, faces, firsts, seconds, shares, reaches, most) {
         return Ok(());
     }
-    let a = ends_good(cells, faces, firsts, seconds);
-    and_then(a, spacing_good(faces, seconds, shares, reaches, most))
+    ends_good(cells, faces, firsts, seconds)?;
+    spacing_good(faces, seconds, shares, reaches, most)
 }
 
 // Causes 3 to 5 in their order, with a ceiling that the caller sets: the writers of old kinds of records have a lower one than the calls.
@@ -164,9 +162,6 @@ pub fn values(
     ensures { said result ≡ mesh_values most
         (mesh_of cells faces volumes.now firsts.now seconds.now shares.now reaches.now) }
 {
-    let a = volumes_good(cells, volumes, most);
-    and_then(
-        a,
-        faces_good(cells, faces, firsts, seconds, shares, reaches, most),
-    )
+    volumes_good(cells, volumes, most)?;
+    faces_good(cells, faces, firsts, seconds, shares, reaches, most)
 }

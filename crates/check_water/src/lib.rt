@@ -7,7 +7,6 @@ ghost use Rattle.model.specs.Mesh.{rim, max_concentration};
 ghost use Rattle.model.specs.Causes.{◌and_then◌, fine, each, outside_fit, flux_fit};
 ghost use Rattle.model.specs.Answers.{said};
 
-use model::needs::and_then;
 use model::{Cause, Refusal};
 use signed::{is_negative_at, size_at};
 
@@ -32,20 +31,23 @@ fn outside_fits(second: u64, inward: bool, outside: u64) -> bool
 }
 
 // Cause 7.
-fn outsides_good(faces: usize, seconds: &[u64], fluxes: &[i64], outsides: &[u64]) -> Result<(), Refusal>
+fn outsides_good(
+    faces: usize,
+    seconds: &[u64],
+    fluxes: &[i64],
+    outsides: &[u64],
+) -> Result<(), Refusal>
     requires { (faces ≤ length seconds.now) × (faces ≤ length fluxes.now) × (faces ≤ length outsides.now) }
     ensures { said result ≡ each 7 faces
         (λ f. outside_fit (get_or seconds.now f 0) (is_negative (get_or fluxes.now f (pos 0))) (get_or outsides.now f 0)) }
 {
-    let mut f = 0;
-    while f < faces {
+    for f in 0..faces {
         if !outside_fits(seconds[f], is_negative_at(fluxes, f), outsides[f]) {
             return Err(Refusal {
                 cause: Cause::Outside,
                 place: f as u64,
             });
         }
-        f += 1;
     }
     Ok(())
 }
@@ -68,20 +70,24 @@ fn flux_fits(second: u64, reach: u64, amount: u64, most: u64) -> bool
 }
 
 // Cause 8.
-fn fluxes_good(faces: usize, seconds: &[u64], reaches: &[u64], fluxes: &[i64], most: u64) -> Result<(), Refusal>
+fn fluxes_good(
+    faces: usize,
+    seconds: &[u64],
+    reaches: &[u64],
+    fluxes: &[i64],
+    most: u64,
+) -> Result<(), Refusal>
     requires { (faces ≤ length seconds.now) × (faces ≤ length reaches.now) × (faces ≤ length fluxes.now) }
     ensures { said result ≡ each 8 faces
         (λ f. flux_fit most (get_or seconds.now f 0) (get_or reaches.now f 0) (size_of (get_or fluxes.now f (pos 0)))) }
 {
-    let mut f = 0;
-    while f < faces {
+    for f in 0..faces {
         if !flux_fits(seconds[f], reaches[f], size_at(fluxes, f), most) {
             return Err(Refusal {
                 cause: Cause::Flux,
                 place: f as u64,
             });
         }
-        f += 1;
     }
     Ok(())
 }
@@ -102,8 +108,7 @@ fn faces_fit(
         × (each 8 faces (λ f. flux_fit most (get_or seconds.now f 0) (get_or reaches.now f 0)
         (size_of (get_or fluxes.now f (pos 0)))) ≡ fine) }
 {
-    let mut f = 0;
-    while f < faces {
+    for f in 0..faces {
         let second = seconds[f];
         if !outside_fits(second, is_negative_at(fluxes, f), outsides[f]) {
             return false;
@@ -111,7 +116,6 @@ fn faces_fit(
         if !flux_fits(second, reaches[f], size_at(fluxes, f), most) {
             return false;
         }
-        f += 1;
     }
     true
 }
@@ -138,6 +142,6 @@ pub fn values(
     if faces_fit(faces, seconds, reaches, fluxes, outsides, most) {
         return Ok(());
     }
-    let a = outsides_good(faces, seconds, fluxes, outsides);
-    and_then(a, fluxes_good(faces, seconds, reaches, fluxes, most))
+    outsides_good(faces, seconds, fluxes, outsides)?;
+    fluxes_good(faces, seconds, reaches, fluxes, most)
 }
