@@ -9,8 +9,8 @@ ghost use Rattle.model.specs.Answers.{said};
 ghost use Rattle.record_layouts.specs.Layouts.{kind_number};
 ghost use Rattle.record_causes.specs.Verdicts.{most_of, mesh_write_verdict, field_write_verdict, step_write_verdict};
 
-use model::needs::{and_then, long};
-use model::{positions, Refusal};
+use model::needs::long;
+use model::{Refusal, positions};
 use record_layouts::{StepKind, Width, lengths};
 
 // The ceiling of volumes, reaches and fluxes over the rim in records of a width.
@@ -39,16 +39,13 @@ pub fn mesh(
         (mesh_of cells faces volumes.now firsts.now seconds.now shares.now reaches.now)
         room }
 {
-    let lent = check_lent::mesh_lent(cells, faces, volumes, firsts, seconds, shares, reaches);
-    if let Err(r) = lent {
-        return Err(r);
-    }
-    let space = long(
+    check_lent::mesh_lent(cells, faces, volumes, firsts, seconds, shares, reaches)?;
+    long(
         positions::RECORD,
         lengths::mesh_bytes(width, cells, faces),
         room,
-    );
-    let values = check_mesh::values(
+    )?;
+    check_mesh::values(
         cells,
         faces,
         volumes,
@@ -57,8 +54,7 @@ pub fn mesh(
         shares,
         reaches,
         most_of(width),
-    );
-    and_then(space, values)
+    )
 }
 
 // What writing a field into so many bytes is refused for.
@@ -78,14 +74,11 @@ pub fn field(
         (mesh_of cells faces volumes.now firsts.now seconds.now shares.now reaches.now)
         masses.now room }
 {
-    let lent = check_lent::field_lent(
+    check_lent::field_lent(
         cells, faces, volumes, firsts, seconds, shares, reaches, masses,
-    );
-    if let Err(r) = lent {
-        return Err(r);
-    }
-    let space = long(positions::RECORD, lengths::field_bytes(width, cells), room);
-    let values = check_mesh::values(
+    )?;
+    long(positions::RECORD, lengths::field_bytes(width, cells), room)?;
+    check_mesh::values(
         cells,
         faces,
         volumes,
@@ -94,11 +87,7 @@ pub fn field(
         shares,
         reaches,
         most_of(width),
-    );
-    let fit = and_then(space, values);
-    if let Err(r) = fit {
-        return Err(r);
-    }
+    )?;
     checks::field::values(cells, volumes, masses)
 }
 
@@ -122,25 +111,16 @@ pub fn step(
         (mesh_of cells faces volumes.now firsts.now seconds.now shares.now reaches.now)
         (kind_number width kind) fluxes.now outsides.now releases.now room }
 {
-    let lent = check_lent::mesh_lent(cells, faces, volumes, firsts, seconds, shares, reaches);
-    if let Err(r) = lent {
-        return Err(r);
-    }
-    let water = and_then(
-        long(positions::FLUXES, faces, fluxes.len()),
-        long(positions::OUTSIDES, faces, outsides.len()),
-    );
-    let space = long(
+    check_lent::mesh_lent(cells, faces, volumes, firsts, seconds, shares, reaches)?;
+    long(positions::FLUXES, faces, fluxes.len())?;
+    long(positions::OUTSIDES, faces, outsides.len())?;
+    long(
         positions::RECORD,
         lengths::step_bytes(width, kind, cells, faces, seconds),
         room,
-    );
-    let most = and_then(water, space);
-    let tables = and_then(most, long(positions::RELEASES, cells, releases.len()));
-    if let Err(r) = tables {
-        return Err(r);
-    }
-    let mesh = check_mesh::values(
+    )?;
+    long(positions::RELEASES, cells, releases.len())?;
+    check_mesh::values(
         cells,
         faces,
         volumes,
@@ -149,8 +129,7 @@ pub fn step(
         shares,
         reaches,
         most_of(width),
-    );
-    let fit = and_then(mesh, releases::values(width, kind, cells, releases));
-    let values = check_water::values(faces, seconds, reaches, fluxes, outsides, most_of(width));
-    and_then(fit, values)
+    )?;
+    releases::values(width, kind, cells, releases)?;
+    check_water::values(faces, seconds, reaches, fluxes, outsides, most_of(width))
 }

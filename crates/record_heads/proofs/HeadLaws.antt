@@ -1,6 +1,6 @@
 -- What a head that is fine says, and how an answer and its verdict go together.
 use Prim.Native.Nat.{ℕ, ◌+◌, ◌≤◌, min}
-use mathlib.Core.Path.{◌≡◌, refl}
+use mathlib.Core.Path.{◌≡◌, refl, sym}
 use mathlib.Core.Bool.{Bool, true, false, ◌||◌, true≢false}
 use mathlib.Core.List.{List, [], ◌∷◌}
 use native.Mathlib.Nat.{le_trans}
@@ -11,8 +11,7 @@ use borrow.Author.Tests.{leb-true, le-leb, eqb-true}
 use Rattle.lists.proofs.Tests.{both_true, true-both}
 use Rattle.model.specs.Mesh.{max_cells, max_faces}
 use Rattle.model.specs.Causes.{accepted, refused, Verdict, fine, ◌and_then◌, need, counts_within}
-use Rattle.model.specs.Answers.{said}
-use Rattle.model.proofs.Verdicts.{all-fine, fine-all, need-fine, need-met, long-fine, passes}
+use Rattle.model.proofs.Verdicts.{all-fine, fine-all, need-fine, need-met, long-fine}
 use Rattle.record_bits.specs.Field.{bits_at, widest}
 use Rattle.record_bits.specs.Layout.{bytes_for}
 use Rattle.record_layouts.specs.Layouts.{field_kind}
@@ -20,8 +19,6 @@ use Rattle.record_layouts.specs.declared.Width.{Width}
 use Rattle.record_heads.specs.declared.MeshLength.{MeshLength}
 use Rattle.record_reader.specs.Numbers.{furthest, number_at, spelled_number}
 use Rattle.record_heads.specs.Heads.{kind_in, cells_in, faces_in, step_faces_in, is_mesh_kind, is_step_kind, mesh_head_causes, field_head_causes, step_head_causes, mesh_head_verdict, field_head_verdict, step_head_verdict, bytes_of}
-use Rattle.std.specs.Prelude.{Result, Ok}
-use Rattle.model.specs.declared.Refusal.{Refusal}
 
 -- a field that the record holds is read as its bits spell
 pub held : (bs : List ℕ) (bit width : ℕ) → width ≤ widest → bit ≤ furthest → bytes_for (bit + width) ≤ length bs → spelled_number (number_at bs bit width)
@@ -29,8 +26,8 @@ pub held : (bs : List ℕ) (bit width : ℕ) → width ≤ widest → bit ≤ fu
 held bs bit width l m h = rw (le-leb width widest l, le-leb bit furthest m, le-leb (bytes_for (bit + width)) (length bs) h)
 
 -- a record that is as long as its head
-pub head-holds : {a : Result (Unit {0}) Refusal} {j m : ℕ} (n : ℕ) → j ≤ n → said a ≡ need 11 0 (leb n m) → a ≡ Ok tt → j ≤ m
-head-holds {m = m} n l e q = le_trans l (leb-true n m (need-fine 11 0 _ (passes e q)))
+pub head-there : {j m : ℕ} (n : ℕ) → j ≤ n → fine ≡ need 11 0 (leb n m) → j ≤ m
+head-there {m = m} n l e = le_trans l (leb-true n m (need-fine 11 0 _ (sym e)))
 
 -- past cause 1 with a caller's limits
 pub within-says : (most_cells most_faces cells faces : ℕ) → counts_within most_cells most_faces cells faces ≡ fine → (1 ≤ cells) × (cells ≤ most_cells)

@@ -9,7 +9,7 @@ ghost use Rattle.record_reader.specs.Numbers.{number_at, spelled_number};
 ghost use Rattle.record_layouts.specs.Layouts.{mesh_kind, kind_number};
 ghost use Rattle.record_heads.specs.Heads.{kind_in, width_in, cells_in, faces_in, step_faces_in, is_mesh_kind, is_step_kind, mesh_head_verdict, field_head_verdict, step_head_verdict, mesh_measured, field_needs, step_needs, length_said, mesh_length_said};
 
-use model::needs::{and_then, between, need};
+use model::needs::{between, need};
 use model::{Cause, Refusal};
 use record_layouts::{
     CELLS, FACES, FIELD_HEAD, FIELD_KIND, KIND, MESH_HEAD, MESH_KIND, OUTFALL_KIND, STEP_HEAD,
@@ -24,7 +24,12 @@ pub struct MeshLength {
 }
 
 // Cause 1, with the lesser of the caller's limits and document 01's.
-pub fn counts_within(most_cells: usize, most_faces: usize, cells: usize, faces: usize) -> Result<(), Refusal>
+pub fn counts_within(
+    most_cells: usize,
+    most_faces: usize,
+    cells: usize,
+    faces: usize,
+) -> Result<(), Refusal>
     ensures { said result ≡ counts_within (min most_cells max_cells) (min most_faces max_faces) cells faces }
 {
     let most_cells = lists::least(most_cells, model::MAX_CELLS);
@@ -36,10 +41,7 @@ pub fn counts_within(most_cells: usize, most_faces: usize, cells: usize, faces: 
 fn field_after(bytes: &[u8], before: usize, width: usize) -> u64
     ensures { result ≡ spelled_number (number_at bytes.now before width) }
 {
-    match record_reader::number_after(bytes, before, width) {
-        Some(n) => n,
-        None => 0,
-    }
+    record_reader::number_after(bytes, before, width).unwrap_or(0)
 }
 
 fn kind(bytes: &[u8]) -> u64
@@ -119,55 +121,49 @@ pub fn step_kind(width: Width, bytes: &[u8]) -> StepKind
 pub fn mesh(most_cells: usize, most_faces: usize, bytes: &[u8]) -> Result<(), Refusal>
     ensures { said result ≡ mesh_head_verdict most_cells most_faces bytes.now }
 {
-    let a = need(Cause::Length, 0, MESH_HEAD <= bytes.len());
-    if let Err(r) = a {
-        return Err(r);
-    }
-    let b = need(Cause::Head, 0, is_mesh(kind(bytes)));
-    and_then(
-        b,
-        counts_within(most_cells, most_faces, cells(bytes), faces(bytes)),
-    )
+    need(Cause::Length, 0, MESH_HEAD <= bytes.len())?;
+    need(Cause::Head, 0, is_mesh(kind(bytes)))?;
+    counts_within(most_cells, most_faces, cells(bytes), faces(bytes))
 }
 
 // What the head of a field on so many cells is refused for.
 pub fn field(width: Width, expected: usize, bytes: &[u8]) -> Result<(), Refusal>
     ensures { said result ≡ field_head_verdict width expected bytes.now }
 {
-    let a = need(Cause::Length, 0, FIELD_HEAD <= bytes.len());
-    if let Err(r) = a {
-        return Err(r);
-    }
+    need(Cause::Length, 0, FIELD_HEAD <= bytes.len())?;
     let expected_kind = of_width(width, FIELD_KIND);
-    let b = need(Cause::Head, 0, kind(bytes) == expected_kind);
-    let d = and_then(b, need(Cause::Head, 1, cells(bytes) == expected));
+    need(Cause::Head, 0, kind(bytes) == expected_kind)?;
+    need(Cause::Head, 1, cells(bytes) == expected)?;
     let few = between(1, model::MAX_CELLS as u64, expected as u64);
-    and_then(d, need(Cause::Limits, 0, few))
+    need(Cause::Limits, 0, few)
 }
 
 // What the head of a step on so many cells, through so many faces, is refused for.
-pub fn step(width: Width, cells: usize, expected: usize, seconds: &[u64], bytes: &[u8]) -> Result<(), Refusal>
+pub fn step(
+    width: Width,
+    cells: usize,
+    expected: usize,
+    seconds: &[u64],
+    bytes: &[u8],
+) -> Result<(), Refusal>
     ensures { said result ≡ step_head_verdict width cells expected seconds.now bytes.now }
 {
-    let a = need(Cause::Length, 0, STEP_HEAD <= bytes.len());
-    if let Err(r) = a {
-        return Err(r);
-    }
-    let b = need(Cause::Head, 0, is_step(width, kind(bytes)));
-    let d = and_then(b, need(Cause::Head, 1, step_faces(bytes) == expected));
-    let few = check_lent::counts_within(model::MAX_CELLS, model::MAX_FACES, cells, expected);
-    let e = and_then(d, few);
-    and_then(e, need(Cause::Table, 2, expected <= seconds.len()))
+    need(Cause::Length, 0, STEP_HEAD <= bytes.len())?;
+    need(Cause::Head, 0, is_step(width, kind(bytes)))?;
+    need(Cause::Head, 1, step_faces(bytes) == expected)?;
+    check_lent::counts_within(model::MAX_CELLS, model::MAX_FACES, cells, expected)?;
+    need(Cause::Table, 2, expected <= seconds.len())
 }
 
 // How many bytes a mesh record needs, and of which width it is, as its head says.
-pub fn mesh_length(most_cells: usize, most_faces: usize, bytes: &[u8]) -> Result<MeshLength, Refusal>
+pub fn mesh_length(
+    most_cells: usize,
+    most_faces: usize,
+    bytes: &[u8],
+) -> Result<MeshLength, Refusal>
     ensures { mesh_length_said result ≡ mesh_measured most_cells most_faces bytes.now }
 {
-    let a = mesh(most_cells, most_faces, bytes);
-    if let Err(r) = a {
-        return Err(r);
-    }
+    mesh(most_cells, most_faces, bytes)?;
     let c = cells(bytes);
     let f = faces(bytes);
     let width = mesh_width(bytes);
@@ -181,10 +177,7 @@ pub fn mesh_length(most_cells: usize, most_faces: usize, bytes: &[u8]) -> Result
 pub fn field_length(width: Width, cells: usize, bytes: &[u8]) -> Result<usize, Refusal>
     ensures { length_said result ≡ field_needs width cells bytes.now }
 {
-    let a = field(width, cells, bytes);
-    if let Err(r) = a {
-        return Err(r);
-    }
+    field(width, cells, bytes)?;
     Ok(lengths::field_bytes(width, cells))
 }
 
@@ -198,10 +191,7 @@ pub fn step_length(
 ) -> Result<usize, Refusal>
     ensures { length_said result ≡ step_needs width cells faces seconds.now bytes.now }
 {
-    let a = step(width, cells, faces, seconds, bytes);
-    if let Err(r) = a {
-        return Err(r);
-    }
+    step(width, cells, faces, seconds, bytes)?;
     let length = lengths::step_bytes(width, step_kind(width, bytes), cells, faces, seconds);
     Ok(length)
 }

@@ -35,7 +35,7 @@ pub fn read_mesh(
         result
         (mesh_of most_cells most_faces volumes.new firsts.new seconds.new shares.new reaches.new) }
 {
-    let a = verdicts::mesh(
+    let n = verdicts::mesh(
         most_cells,
         most_faces,
         bytes,
@@ -44,10 +44,7 @@ pub fn read_mesh(
         seconds.len(),
         shares.len(),
         reaches.len(),
-    );
-    let Ok(n) = a else {
-        return a;
-    };
+    )?;
     let width = n.width;
     record_bodies::mesh(
         width,
@@ -64,15 +61,17 @@ pub fn read_mesh(
 }
 
 // The record of a field on so many cells.
-pub fn read_field(width: Width, cells: usize, bytes: &[u8], masses: &mut [u64]) -> Result<(), Refusal>
+pub fn read_field(
+    width: Width,
+    cells: usize,
+    bytes: &[u8],
+    masses: &mut [u64],
+) -> Result<(), Refusal>
     ensures { FieldReading
         (field_read width cells bytes.now (length masses.old))
         cells bytes.now masses.old result masses.new }
 {
-    let a = verdicts::field(width, cells, bytes, masses.len());
-    if let Err(r) = a {
-        return Err(r);
-    }
+    verdicts::field(width, cells, bytes, masses.len())?;
     record_bodies::field(width, cells, &bytes[record_layouts::FIELD_HEAD..], masses);
     Ok(())
 }
@@ -95,7 +94,7 @@ pub fn read_step(
         cells faces seconds.now bytes.now fluxes.old outsides.old releases.old
         result fluxes.new outsides.new releases.new }
 {
-    let a = verdicts::step(
+    let kind = verdicts::step(
         width,
         cells,
         faces,
@@ -104,10 +103,7 @@ pub fn read_step(
         fluxes.len(),
         outsides.len(),
         releases.len(),
-    );
-    let Ok(kind) = a else {
-        return a;
-    };
+    )?;
     record_bodies::step(
         width,
         kind,

@@ -1,7 +1,6 @@
 // What a reading comes to, for tables of so many entries: the head's causes, then 11, 2 and 12.
 ghost use Rattle.std.specs.Prelude.{◌≡◌, ◌≤◌, length};
 ghost use Rattle.model.specs.Mesh.{max_cells, max_faces};
-ghost use Rattle.model.specs.Causes.{long as long_of, ◌and_then◌};
 ghost use Rattle.model.specs.Answers.{said};
 ghost use Rattle.record_layouts.specs.Layouts.{mesh_kind, field_kind, kind_number};
 ghost use Rattle.record_heads.specs.Heads.{kind_in, cells_in, faces_in};
@@ -9,16 +8,9 @@ ghost use Rattle.record_reading.specs.Reading.{mesh_body_verdict, field_body_ver
 ghost use Rattle.record_reading.specs.Answers.{mesh_said, step_read_said};
 
 use crate::MeshCounts;
-use model::needs::{and_then, long, need};
-use model::{Cause, positions, Refusal};
+use model::needs::{long, need};
+use model::{Cause, Refusal, positions};
 use record_layouts::{StepKind, Width, lengths};
-
-// After other tests, whether a table has as many entries as wanted.
-fn then_long(a: Result<(), Refusal>, position: u64, wanted: usize, has: usize) -> Result<(), Refusal>
-    ensures { said result ≡ (said a and_then long_of position wanted has) }
-{
-    and_then(a, long(position, wanted, has))
-}
 
 fn mesh_body(
     bytes: &[u8],
@@ -36,15 +28,12 @@ fn mesh_body(
     ensures { said result ≡ mesh_body_verdict bytes.now volumes firsts seconds shares reaches }
 {
     let end = lengths::mesh_bits(width, cells, faces);
-    let a = need(Cause::Length, 0, bytes.len() == record_bits::bytes_for(end));
-    let b = then_long(a, positions::VOLUMES, cells, volumes);
-    let d = then_long(b, positions::FIRSTS, faces, firsts);
-    let e = then_long(d, positions::SECONDS, faces, seconds);
-    let f = then_long(e, positions::SHARES, faces, shares);
-    let g = then_long(f, positions::REACHES, faces, reaches);
-    if let Err(r) = g {
-        return Err(r);
-    }
+    need(Cause::Length, 0, bytes.len() == record_bits::bytes_for(end))?;
+    long(positions::VOLUMES, cells, volumes)?;
+    long(positions::FIRSTS, faces, firsts)?;
+    long(positions::SECONDS, faces, seconds)?;
+    long(positions::SHARES, faces, shares)?;
+    long(positions::REACHES, faces, reaches)?;
     record_zeros::mesh(bytes, end)
 }
 
@@ -52,12 +41,12 @@ fn field_body(width: Width, cells: usize, bytes: &[u8], masses: usize) -> Result
     requires { (cells ≤ max_cells) × (field_kind width ≡ kind_in bytes.now) }
     ensures { said result ≡ field_body_verdict cells bytes.now masses }
 {
-    let a = need(
+    need(
         Cause::Length,
         0,
         bytes.len() == lengths::field_bytes(width, cells),
-    );
-    then_long(a, positions::MASSES, cells, masses)
+    )?;
+    long(positions::MASSES, cells, masses)
 }
 
 fn step_body(
@@ -75,13 +64,10 @@ fn step_body(
     ensures { said result ≡ step_body_verdict cells faces seconds.now bytes.now fluxes outsides releases }
 {
     let end = lengths::step_bits(width, kind, cells, faces, seconds);
-    let a = need(Cause::Length, 0, bytes.len() == record_bits::bytes_for(end));
-    let b = then_long(a, positions::FLUXES, faces, fluxes);
-    let d = then_long(b, positions::OUTSIDES, faces, outsides);
-    let e = then_long(d, positions::RELEASES, cells, releases);
-    if let Err(r) = e {
-        return Err(r);
-    }
+    need(Cause::Length, 0, bytes.len() == record_bits::bytes_for(end))?;
+    long(positions::FLUXES, faces, fluxes)?;
+    long(positions::OUTSIDES, faces, outsides)?;
+    long(positions::RELEASES, cells, releases)?;
     record_zeros::step(bytes, faces, end, lengths::value_width(width))
 }
 
@@ -97,19 +83,13 @@ pub fn mesh(
 ) -> Result<MeshCounts, Refusal>
     ensures { mesh_said result ≡ mesh_read most_cells most_faces bytes.now volumes firsts seconds shares reaches }
 {
-    let a = record_heads::mesh(most_cells, most_faces, bytes);
-    if let Err(r) = a {
-        return Err(r);
-    }
+    record_heads::mesh(most_cells, most_faces, bytes)?;
     let cells = record_heads::cells(bytes);
     let faces = record_heads::faces(bytes);
     let width = record_heads::mesh_width(bytes);
-    let b = mesh_body(
+    mesh_body(
         bytes, width, cells, faces, volumes, firsts, seconds, shares, reaches,
-    );
-    if let Err(r) = b {
-        return Err(r);
-    }
+    )?;
     Ok(MeshCounts {
         cells,
         faces,
@@ -120,10 +100,7 @@ pub fn mesh(
 pub fn field(width: Width, cells: usize, bytes: &[u8], masses: usize) -> Result<(), Refusal>
     ensures { said result ≡ field_read width cells bytes.now masses }
 {
-    let a = record_heads::field(width, cells, bytes);
-    if let Err(r) = a {
-        return Err(r);
-    }
+    record_heads::field(width, cells, bytes)?;
     field_body(width, cells, bytes, masses)
 }
 
@@ -139,16 +116,10 @@ pub fn step(
 ) -> Result<StepKind, Refusal>
     ensures { step_read_said width result ≡ step_read width cells faces seconds.now bytes.now fluxes outsides releases }
 {
-    let a = record_heads::step(width, cells, faces, seconds, bytes);
-    if let Err(r) = a {
-        return Err(r);
-    }
+    record_heads::step(width, cells, faces, seconds, bytes)?;
     let kind = record_heads::step_kind(width, bytes);
-    let b = step_body(
+    step_body(
         width, kind, cells, faces, seconds, bytes, fluxes, outsides, releases,
-    );
-    if let Err(r) = b {
-        return Err(r);
-    }
+    )?;
     Ok(kind)
 }
