@@ -68,7 +68,7 @@ returns-2 c =
     (lent (mesh s) s.args.masses.now (call s)) s.args.bytes.now p.answer p.next_masses k.in-Ok.is w.write_field-b.ensures
     c.in-Err-b.is
 
-returns-3 : tie.Need-returns-in-Ok
+returns-3 : tie.Need-returns-in-Ok-b
 unfolding blank
 returns-3 c =
     let w = c.before.before.before in
@@ -77,7 +77,7 @@ returns-3 c =
     let p = (judging k).judge-a.ensures in
     record-written judged judged-keeping s.args.width (mesh s) s.requires s.args.masses.now (call s)
     (lent (mesh s) s.args.masses.now (call s)) s.args.bytes.now p.answer p.next_masses k.in-Ok.is w.write_field-b.ensures
-    c.in-Ok.is
+    c.in-Ok-b.is
 
 pub written_spec : {M : Type 1} → statement M
 written_spec =

@@ -74,7 +74,7 @@ returns-2 c =
     c.before.before.before.before.before.before.in-Ok.is
     c.before.before.before.write_field-b.ensures c.in-Err-b.is
 
-returns-3 : tie.Need-returns-in-Ok
+returns-3 : tie.Need-returns-in-Ok-b
 unfolding blank
 returns-3 c =
     let s = (start-from-slice-known2 c.before) in
@@ -82,7 +82,7 @@ returns-3 c =
     record-written plain plain-keeping s.args.width (mesh s) s.requires s.args.masses.now (call s)
     (lent (mesh s) s.args.masses.now (call s)) s.args.bytes.now p.answer p.next_masses
     c.before.before.before.before.before.before.in-Ok.is c.before.before.before.write_field-b.ensures
-    c.in-Ok.is
+    c.in-Ok-b.is
 
 pub written_spec : {M : Type 1} → statement M
 written_spec =

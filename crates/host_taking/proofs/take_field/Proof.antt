@@ -48,14 +48,14 @@ returns-2 c =
     s.requires.0.0 s.requires.1.0 s.requires.1.1 s.requires.1.2 s.requires.1.3 k.in-Ok.is
     f.take_field-b.ensures s.requires.0.1 c.in-Err-b.is
 
-returns-3 : tie.Need-returns-in-Ok
+returns-3 : tie.Need-returns-in-Ok-b
 returns-3 c =
     let f = c.before.before.before in
     let k = f.before.before in
     let s = start (taking k) in
     field_taken s.args.mesh.now s.args.field.now (taking k).take_mesh-a.ensures
     s.requires.0.0 s.requires.1.0 s.requires.1.1 s.requires.1.2 s.requires.1.3 k.in-Ok.is
-    f.take_field-b.ensures s.requires.0.1 c.in-Ok.is
+    f.take_field-b.ensures s.requires.0.1 c.in-Ok-b.is
 
 pub take_field_spec : {M : Type 1} → statement M
 take_field_spec =
