@@ -1,6 +1,6 @@
--- A scan's first state, its turn, its refusal and its end.
-use Rattle.std.proofs.Common.{rules, refl}
-use Rattle.model.proofs.Verdicts.{scan-start, scan-pass, scan-hit, scan-end}
+-- A scan's first state, its refusal and its turn.
+use Rattle.std.proofs.Common.{refl}
+use Rattle.model.proofs.Verdicts.{scan-start, scan-pass, scan-hit}
 use Rattle.public_marks.proofs.Judged.{bad-mark, good-mark}
 use Rattle.public_marks.proofs.marks_good.Goals as goal
 
@@ -13,6 +13,3 @@ returns-then-mark_at-gt-WITHHELD c =
 
 pub loop-c-preserved : goal.loop-c-preserved
 loop-c-preserved c = scan-pass _ _ _ c.loop-c.invariant (good-mark c.args.marks.now c.loop-c.c c.mark_at.ensures c.if-mark_at-gt-WITHHELD.false) refl
-
-pub returns : goal.returns
-returns c = scan-end _ _ _ _ (search rules) (search rules) c.loop-c.invariant

@@ -1,17 +1,11 @@
--- A field further on is among the entries used, and a search for a name goes on, ends at it, or at the last field.
+-- A search for a name goes on, ends at it, or past the last field.
 use Rattle.std.proofs.Common.{◌≡◌, ◌∙◌, rules, arith}
 use Rattle.store_kept.specs.Store.{count}
-use Rattle.store_kept.proofs.Named.{used-more, search-start, search-on, search-hit, search-end}
+use Rattle.store_kept.proofs.Named.{search-start, search-on, search-hit, search-end}
 use Rattle.store_kept.proofs.before.Goals as goal
 
 pub loop-i-init : goal.loop-i-init
 loop-i-init c = search-start _ _ _
-
-pub used-requires : goal.used-requires
-used-requires c = (c.requires.0, omega (arith, used-more c.args.cells c.loop-i.i (count c.args.store.now) (search rules), c.requires.1))
-
-pub bounds-store-used : goal.bounds-store-used
-bounds-store-used c = omega (arith, used-more c.args.cells c.loop-i.i (count c.args.store.now) (search rules), c.requires.1, c.used.ensures)
 
 pub returns-then-store-used : goal.returns-then-store-used
 returns-then-store-used c = search-hit _ _ _ c.loop-i.i (search rules) (rw c.used.ensures at c.if-store-used.true) c.loop-i.invariant
