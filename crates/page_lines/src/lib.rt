@@ -36,10 +36,8 @@ fn largest(cells: usize, volumes: &[u64]) -> u64
     ensures { result ≡ largest_of cells volumes.now }
 {
     let mut most = 0;
-    let mut c = 0;
-    while c < cells {
-        most = larger(most, volumes[c]);
-        c += 1;
+    for volume in &volumes[..cells] {
+        most = larger(most, *volume);
     }
     most
 }
@@ -119,8 +117,7 @@ pub fn lines(
         (pieces count (λ i. line_if volumes.now masses.now (is_open marks.now) places (first + i))) result lent.new }
 {
     let mut at = 0;
-    let mut i = 0;
-    while i < count {
+    for i in 0..count {
         let c = first + i;
         at = line_if(
             is_open(marks, c),
@@ -131,7 +128,6 @@ pub fn lines(
             volumes[c],
             masses[c],
         );
-        i += 1;
     }
     at
 }

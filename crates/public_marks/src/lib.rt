@@ -40,15 +40,13 @@ pub fn marks_long(cells: usize, marks: &[u64]) -> Result<(), Refusal>
 pub fn marks_good(cells: usize, marks: &[u64]) -> Result<(), Refusal>
     ensures { said result ≡ marks_good marks.now cells }
 {
-    let mut c = 0;
-    while c < cells {
+    for c in 0..cells {
         if mark_at(marks, c) > WITHHELD {
             return Err(Refusal {
                 cause: Cause::Mark,
                 place: c as u64,
             });
         }
-        c += 1;
     }
     Ok(())
 }

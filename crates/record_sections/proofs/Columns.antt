@@ -10,7 +10,7 @@ use native.Mathlib.Decide.{dec_lt}
 use native.Mathlib.Omega.{arith}
 use lib.Dec.{eqb}
 use lib.ListN.{length, get_or}
-use Rattle.lists.specs.Table.{table, over}
+use Rattle.lists.specs.Table.{over}
 use Rattle.lists.proofs.Sums.{sum-zero, sum_more, sum-fewer, sum_bound}
 use Rattle.lists.proofs.Tests.{Same, same, other, same?, both_true}
 use Rattle.record_bits.specs.Field.{bit_at, bits_at}
@@ -23,10 +23,6 @@ use Rattle.record_bits.proofs.Writings.{Begun, begun-end}
 use Rattle.record_sections.specs.Sections.{Section, those, rows_of, widths_of, has_row, shape_bits, section_in, place, width, Has, Values, fields_of, record_of, length_of, Fits, value_in}
 use Rattle.record_sections.specs.Columns.{PutIf, PutColumn}
 use Rattle.record_sections.proofs.Sections.{width-fields, place_end, value-back, fields_read}
-
--- a loop that has filled as many entries as it was to
-pub over-whole : {A : Type 0} {i n : ℕ} (f : ℕ → A) (ys : List A) {s : List A} → i ≤ n → n ≤ i → s ≡ over (table i f) ys → s ≡ over (table n f) ys
-over-whole {A} {i} {n} f ys l m e = let q : i ≡ n = omega arith in rw q at e
 
 -- a loop that puts a column: its first state and its turn
 

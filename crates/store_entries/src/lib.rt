@@ -51,10 +51,8 @@ fn move_down(n: usize, part: &mut [u64])
     requires { n + length part.old < 2 ^ 64 }
     ensures { part.new ≡ moved_down n part.old }
 {
-    let mut i = 0;
-    while i < part.len() {
+    for i in 0..part.len() {
         part[i] = further(part, i, n);
-        i += 1;
     }
 }
 

@@ -38,14 +38,12 @@ pub fn before(cells: usize, store: &[u64], name: u64) -> usize
     ensures { result ≡ before_of name (fields_in cells store.now) }
 {
     let n = store[0] as usize;
-    let mut i = 0;
-    while i < n {
+    for i in 0..n {
         if store[used(cells, i)] == name {
             return i;
         }
-        i += 1;
     }
-    i
+    n
 }
 
 fn name_fits(name: u64, good: bool) -> bool

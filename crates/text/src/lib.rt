@@ -19,11 +19,7 @@ fn copy(lent: &mut [u8], at: usize, bytes: &[u8])
     requires { at + length bytes.now ≤ length lent.old }
     ensures { lent.new ≡ paste lent.old at bytes.now (length bytes.now) }
 {
-    let mut i = 0;
-    while i < bytes.len() {
-        lent[at + i] = bytes[i];
-        i += 1;
-    }
+    lent[at..at + bytes.len()].copy_from_slice(bytes);
 }
 
 // Bytes after the first `at` of those lent, as many as there is room for. Answers where they end.

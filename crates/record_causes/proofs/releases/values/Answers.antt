@@ -1,6 +1,6 @@
--- A scan's first state, its turn, its refusal and its end.
+-- A scan's first state, its refusal and its turn.
 use Rattle.std.proofs.Common.{rules}
-use Rattle.model.proofs.Verdicts.{scan-start, scan-pass, scan-hit, scan-end}
+use Rattle.model.proofs.Verdicts.{scan-start, scan-pass, scan-hit}
 use Rattle.record_causes.proofs.releases.values.Goals as goal
 
 pub loop-c-init : goal.loop-c-init
@@ -11,6 +11,3 @@ returns-then-not-release_fits c = scan-hit _ _ _ _ (search rules) c.loop-c.invar
 
 pub loop-c-preserved : goal.loop-c-preserved
 loop-c-preserved c = scan-pass _ _ _ c.loop-c.invariant c.release_fits.ensures c.if-not-release_fits.false
-
-pub returns : goal.returns
-returns c = scan-end _ _ _ _ (search rules) (search rules) c.loop-c.invariant
