@@ -17,6 +17,7 @@ pub const MAX_TOTAL: u64 = 1099511627776;
 const FACES_PLACE: u64 = 1;
 
 // What a face's entry gains.
+#[tactic(auto, unfolding(crate::specs::Totals::gain_at, crate::specs::Totals::gain_of))]
 fn gain_at(seconds: &[u64], moved: &[i64], f: usize) -> u64
     requires { (f < length seconds.now) × (f < length moved.now) }
     ensures { result ≡ gain_at seconds.now moved.now f }
@@ -31,6 +32,7 @@ fn gain_at(seconds: &[u64], moved: &[i64], f: usize) -> u64
 }
 
 // Whether an entry can gain so much. Nothing is added before it is known to fit.
+#[tactic(auto, unfolding(crate::specs::Totals::gain_fit))]
 fn gain_fits(entry: u64, gain: u64) -> bool
     ensures { result ≡ gain_fit entry gain }
 {
@@ -72,6 +74,7 @@ fn lent(faces: usize, seconds: usize, moved: usize, totals: usize) -> Result<(),
 }
 
 // An entry with what it gains.
+#[tactic(auto, unfolding(crate::specs::Totals::gain_fit))]
 fn raised(entry: u64, gain: u64) -> u64
     requires { gain_fit entry gain ≡ true }
     ensures { result ≡ entry + gain }
@@ -88,10 +91,8 @@ fn raise(faces: usize, seconds: &[u64], moved: &[i64], totals: &mut [u64])
     requires totals_value { each 26 faces (gain_good seconds.now moved.now totals.old) ≡ fine }
     ensures { totals.new ≡ added_totals seconds.now moved.now totals.old faces }
 {
-    let mut f = 0;
-    while f < faces {
+    for f in 0..faces {
         totals[f] = raised(totals[f], gain_at(seconds, moved, f));
-        f += 1;
     }
 }
 

@@ -45,11 +45,8 @@ fn fill(
         (entry leaves.now)))
         next.old }
 {
-    let mut c = 0;
-    while c < cells {
-        let mass = next_of(c, cells, masses, releases, enters, leaves);
-        next[c] = mass;
-        c += 1;
+    for c in 0..cells {
+        next[c] = next_of(c, cells, masses, releases, enters, leaves);
     }
 }
 
