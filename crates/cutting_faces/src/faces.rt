@@ -1,4 +1,4 @@
-// The faces of one part, in their old order: what each table has of them. Every loop answers how many there are.
+// The faces of one part, in their old order: what each table has of them. Every column answers how many there are.
 ghost use Rattle.std.specs.Prelude.{◌≡◌, ◌≢◌, cond, not, ℕ, ◌^◌, ◌≤◌, ◌<◌, pos, length, get_or};
 ghost use Rattle.lists.specs.Table.{over};
 ghost use Rattle.lists.specs.Marked.{count, picked};
@@ -6,9 +6,9 @@ ghost use Rattle.signed.specs.Sign.{size, is_negative, with_sign, turn};
 ghost use Rattle.model.specs.Mesh.{rim};
 ghost use Rattle.cutting_pieces.specs.Pieces.{has_label, cutting, touching_at, number_at, second_at, spacing_at, amount_at, outside_at, FacesLent, EndsIn};
 
-use cutting_pieces::{flip, is_cut, is_in, keep, keep_amount, touches};
+use cutting_pieces::{flip, is_cut, is_in, keep, touches};
 use model::RIM;
-use signed::{is_negative_at, size_at};
+use signed::{is_negative_at, size_at, with_sign};
 
 // The number of the end that is in the part.
 fn near_number(part: u64, labels: &[u64], numbers: &[u64], first: u64, second: u64) -> u64
@@ -40,6 +40,15 @@ fn is_minus(part: u64, labels: &[u64], first: u64, amounts: &[i64], f: usize) ->
 {
     let turns = !is_in(part, labels, first);
     flip(turns, is_negative_at(amounts, f))
+}
+
+// A face's flux in the part: negated where the face is turned.
+fn flux(part: u64, labels: &[u64], first: u64, amounts: &[i64], f: usize) -> i64
+    requires { (first < length labels.now) × (f < length amounts.now) × (size (get_or amounts.now f (pos 0)) < 2 ^ 63) }
+    ensures { result ≡ turn (not (has_label labels.now part first)) (get_or amounts.now f (pos 0)) }
+{
+    let minus = is_minus(part, labels, first, amounts, f);
+    with_sign(minus, size_at(amounts, f))
 }
 
 // What water that enters through a cut face brings: the concentration across.
@@ -93,20 +102,20 @@ fn outside(
 }
 
 // What the faces of the part have, one entry of each by its place and its ends; how many there are.
-fn by_face<F: Fn(usize, u64, u64) -> u64>(
+fn by_face<T: Copy, F: Fn(usize, u64, u64) -> T>(
     faces: usize,
     part: u64,
     labels: &[u64],
     firsts: &[u64],
     seconds: &[u64],
     entry: F,
-    out: &mut [u64],
+    out: &mut [T],
 ) -> usize
     requires faces_lent { FacesLent faces labels.now firsts.now seconds.now × (faces ≤ length out.old) }
     requires has_entry { (f : ℕ) → f < faces → F.pre entry f (get_or firsts.now f 0) (get_or seconds.now f 0) }
     ensures value { result ≡ count faces (touching_at labels.now part firsts.now seconds.now) }
-    ensures out_after { (entry_at : ℕ → ℕ)
-        → ((f : ℕ) → f < faces → (e : ℕ) → F.post entry f (get_or firsts.now f 0) (get_or seconds.now f 0) e → e ≡ entry_at f)
+    ensures out_after { (entry_at : ℕ → T)
+        → ((f : ℕ) → f < faces → (e : T) → F.post entry f (get_or firsts.now f 0) (get_or seconds.now f 0) e → e ≡ entry_at f)
         → out.new ≡ over (picked faces (touching_at labels.now part firsts.now seconds.now) entry_at) out.old }
 {
     let mut at = 0;
@@ -205,15 +214,8 @@ pub fn fluxes(
         (amount_at labels.now part firsts.now seconds.now amounts.now))
         out.old }
 {
-    let mut at = 0;
-    for f in 0..faces {
-        let first = firsts[f];
-        let second = seconds[f];
-        let marked = touches(part, labels, first, second);
-        let minus = is_minus(part, labels, first, amounts, f);
-        at = keep_amount(marked, at, minus, size_at(amounts, f), out);
-    }
-    at
+    let entry = |f: usize, first: u64, _second: u64| flux(part, labels, first, amounts, f);
+    by_face(faces, part, labels, firsts, seconds, entry, out)
 }
 
 // Their outside values: at a cut face what enters with the water.

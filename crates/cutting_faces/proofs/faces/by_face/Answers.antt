@@ -18,7 +18,7 @@ loop-f-preserved g c =
     let touches = touching_at c.args.labels.now c.args.part c.args.firsts.now c.args.seconds.now in
     let lt : c.loop-f.f < length c.args.out.now = omega arith in record {
       met = count_turn touches _ i.met m c.keep-at.ensures.0;
-      written = λ entry_at h. picked-turn touches _ _ 0 _ _ _ lt i.met m (h c.loop-f.f c.loop-f-test.true _ c.entry.ensures) (i.written entry_at h) c.keep-at.ensures.1;
+      written = λ entry_at h. picked-turn touches _ _ c.entry.result _ _ _ lt i.met m (h c.loop-f.f c.loop-f-test.true _ c.entry.ensures) (i.written entry_at h) c.keep-at.ensures.1;
     }
 
 pub returns-clause-value : goal.returns-clause-value

@@ -8,7 +8,7 @@ use Rattle.cutting_faces.proofs.faces.by_face.Given as goal
 abbrev pub invariant-loop-f : goal.invariant-loop-f
 invariant-loop-f g l = record {
   met : l.at ≡ count l.f (touching_at l.labels l.part l.firsts l.seconds);
-  written : (entry_at : ℕ → ℕ)
-      → ((f : ℕ) → f < l.faces → (e : ℕ) → goal.F-post g l.entry f (get_or l.firsts f 0) (get_or l.seconds f 0) e → e ≡ entry_at f)
+  written : (entry_at : ℕ → _)
+      → ((f : ℕ) → f < l.faces → (e : _) → goal.F-post g l.entry f (get_or l.firsts f 0) (get_or l.seconds f 0) e → e ≡ entry_at f)
       → l.out ≡ over (picked l.f (touching_at l.labels l.part l.firsts l.seconds) entry_at) l.initial.out;
 }
