@@ -1,14 +1,14 @@
-// The faces of one part, in their old order: what each table has of them. Every loop answers how many there are.
+// The faces of one part, in their old order: what each table has of them. Every column answers how many there are.
 ghost use Rattle.std.specs.Prelude.{◌≡◌, ◌≢◌, cond, not, ℕ, ◌^◌, ◌≤◌, ◌<◌, pos, length, get_or};
 ghost use Rattle.lists.specs.Table.{over};
 ghost use Rattle.lists.specs.Marked.{count, picked};
-ghost use Rattle.signed.specs.Sign.{size, is_negative, with_sign};
+ghost use Rattle.signed.specs.Sign.{size, is_negative, with_sign, turn};
 ghost use Rattle.model.specs.Mesh.{rim};
 ghost use Rattle.cutting_pieces.specs.Pieces.{has_label, cutting, touching_at, number_at, second_at, spacing_at, amount_at, outside_at, FacesLent, EndsIn};
 
-use cutting_pieces::{flip, is_cut, is_in, keep, keep_amount, touches};
+use cutting_pieces::{flip, is_cut, is_in, keep, touches};
 use model::RIM;
-use signed::{is_negative_at, size_at};
+use signed::{is_negative_at, size_at, with_sign};
 
 // The number of the end that is in the part.
 fn near_number(part: u64, labels: &[u64], numbers: &[u64], first: u64, second: u64) -> u64
@@ -42,6 +42,15 @@ fn is_minus(part: u64, labels: &[u64], first: u64, amounts: &[i64], f: usize) ->
     flip(turns, is_negative_at(amounts, f))
 }
 
+// A face's flux in the part: negated where the face is turned.
+fn flux(part: u64, labels: &[u64], first: u64, amounts: &[i64], f: usize) -> i64
+    requires { (first < length labels.now) × (f < length amounts.now) × (size (get_or amounts.now f (pos 0)) < 2 ^ 63) }
+    ensures { result ≡ turn (not (has_label labels.now part first)) (get_or amounts.now f (pos 0)) }
+{
+    let minus = is_minus(part, labels, first, amounts, f);
+    with_sign(minus, size_at(amounts, f))
+}
+
 // What water that enters through a cut face brings: the concentration across.
 fn entering(
     part: u64,
@@ -68,6 +77,57 @@ fn entering(
     q[first as usize]
 }
 
+// The outside value of a face: at a cut what enters with the water.
+fn outside(
+    part: u64,
+    labels: &[u64],
+    q: &[u64],
+    first: u64,
+    second: u64,
+    amounts: &[i64],
+    f: usize,
+    value: u64,
+) -> u64
+    requires labelled { (first < length labels.now) × (second ≢ rim → second < length labels.now) }
+    requires in_bounds { (first < length q.now) × (second < length q.now) × (f < length amounts.now) }
+    ensures { result ≡ cond (cutting labels.now part first second)
+        (cond (is_negative (turn (not (has_label labels.now part first)) (get_or amounts.now f (pos 0))))
+        (get_or q.now (cond (not (has_label labels.now part first)) first second) 0) 0)
+        value }
+{
+    let minus = is_minus(part, labels, first, amounts, f);
+    let amount = size_at(amounts, f);
+    let enters = entering(part, labels, q, first, second, minus, amount);
+    unless_cut(part, labels, first, second, enters, value)
+}
+
+// What the faces of the part have, one entry of each by its place and its ends; how many there are.
+fn by_face<T: Copy, F: Fn(usize, u64, u64) -> T>(
+    faces: usize,
+    part: u64,
+    labels: &[u64],
+    firsts: &[u64],
+    seconds: &[u64],
+    entry: F,
+    out: &mut [T],
+) -> usize
+    requires faces_lent { FacesLent faces labels.now firsts.now seconds.now × (faces ≤ length out.old) }
+    requires has_entry { (f : ℕ) → f < faces → F.pre entry f (get_or firsts.now f 0) (get_or seconds.now f 0) }
+    ensures value { result ≡ count faces (touching_at labels.now part firsts.now seconds.now) }
+    ensures out_after { (entry_at : ℕ → T)
+        → ((f : ℕ) → f < faces → (e : T) → F.post entry f (get_or firsts.now f 0) (get_or seconds.now f 0) e → e ≡ entry_at f)
+        → out.new ≡ over (picked faces (touching_at labels.now part firsts.now seconds.now) entry_at) out.old }
+{
+    let mut at = 0;
+    for f in 0..faces {
+        let first = firsts[f];
+        let second = seconds[f];
+        let marked = touches(part, labels, first, second);
+        at = keep(marked, at, entry(f, first, second), out);
+    }
+    at
+}
+
 // Their first cells: the end that is in the part, by its new number.
 pub fn firsts(
     faces: usize,
@@ -85,15 +145,10 @@ pub fn firsts(
         (number_at labels.now part firsts.now seconds.now numbers.now))
         out.old }
 {
-    let mut at = 0;
-    for f in 0..faces {
-        let first = firsts[f];
-        let second = seconds[f];
-        let marked = touches(part, labels, first, second);
-        let entry = near_number(part, labels, numbers, first, second);
-        at = keep(marked, at, entry, out);
-    }
-    at
+    let entry = |_f: usize, first: u64, second: u64| {
+        near_number(part, labels, numbers, first, second)
+    };
+    by_face(faces, part, labels, firsts, seconds, entry, out)
 }
 
 // Their second cells, which a cut face has none of. The rim's mark is its own number.
@@ -113,15 +168,10 @@ pub fn seconds(
         (second_at labels.now part firsts.now seconds.now numbers.now))
         out.old }
 {
-    let mut at = 0;
-    for f in 0..faces {
-        let first = firsts[f];
-        let second = seconds[f];
-        let marked = touches(part, labels, first, second);
-        let entry = unless_cut(part, labels, first, second, RIM, numbers[second as usize]);
-        at = keep(marked, at, entry, out);
-    }
-    at
+    let entry = |_f: usize, first: u64, second: u64| {
+        unless_cut(part, labels, first, second, RIM, numbers[second as usize])
+    };
+    by_face(faces, part, labels, firsts, seconds, entry, out)
 }
 
 // Their shares or reaches: a cut face has 0.
@@ -141,15 +191,10 @@ pub fn spacings(
         (spacing_at labels.now part firsts.now seconds.now entries.now))
         out.old }
 {
-    let mut at = 0;
-    for f in 0..faces {
-        let first = firsts[f];
-        let second = seconds[f];
-        let marked = touches(part, labels, first, second);
-        let entry = unless_cut(part, labels, first, second, 0, entries[f]);
-        at = keep(marked, at, entry, out);
-    }
-    at
+    let entry = |f: usize, first: u64, second: u64| {
+        unless_cut(part, labels, first, second, 0, entries[f])
+    };
+    by_face(faces, part, labels, firsts, seconds, entry, out)
 }
 
 // Their fluxes, a turned face's negated.
@@ -169,15 +214,8 @@ pub fn fluxes(
         (amount_at labels.now part firsts.now seconds.now amounts.now))
         out.old }
 {
-    let mut at = 0;
-    for f in 0..faces {
-        let first = firsts[f];
-        let second = seconds[f];
-        let marked = touches(part, labels, first, second);
-        let minus = is_minus(part, labels, first, amounts, f);
-        at = keep_amount(marked, at, minus, size_at(amounts, f), out);
-    }
-    at
+    let entry = |f: usize, first: u64, _second: u64| flux(part, labels, first, amounts, f);
+    by_face(faces, part, labels, firsts, seconds, entry, out)
 }
 
 // Their outside values: at a cut face what enters with the water.
@@ -200,16 +238,8 @@ pub fn outsides(
         (outside_at labels.now part firsts.now seconds.now q.now amounts.now values.now))
         out.old }
 {
-    let mut at = 0;
-    for f in 0..faces {
-        let first = firsts[f];
-        let second = seconds[f];
-        let marked = touches(part, labels, first, second);
-        let minus = is_minus(part, labels, first, amounts, f);
-        let amount = size_at(amounts, f);
-        let enters = entering(part, labels, q, first, second, minus, amount);
-        let entry = unless_cut(part, labels, first, second, enters, values[f]);
-        at = keep(marked, at, entry, out);
-    }
-    at
+    let entry = |f: usize, first: u64, second: u64| {
+        outside(part, labels, q, first, second, amounts, f, values[f])
+    };
+    by_face(faces, part, labels, firsts, seconds, entry, out)
 }

@@ -1,9 +1,6 @@
 -- A turn of a loop that puts marked entries one after another: the place comes to be how many were marked, the table what was picked so far.
-use Prim.Native.Nat.{ℕ, zero, suc, ◌+◌, ◌*◌, ◌^◌, ◌≤◌, ◌<◌}
-use mathlib.Core.Logic.{◌≢◌}
+use Prim.Native.Nat.{ℕ, ◌+◌, ◌<◌}
 use lib.IntN.{ℤ, pos, negsuc}
-use mir.Val.{Fits}
-use mir.Syntax.{w64}
 use Rattle.signed.specs.Sign.{is_negative, size, with_sign, turn}
 use mathlib.Core.Path.{◌≡◌, refl, sym, ap, ◌∙◌}
 use mathlib.Core.Bool.{Bool, true, false, not, cond, ◌&&◌}
@@ -17,8 +14,8 @@ use lib.ListN.{length, set}
 use Rattle.lists.specs.Table.{table, over}
 use Rattle.lists.specs.Marked.{count, old, picked}
 use Rattle.lists.proofs.Sums.{sum_more, sum-zero}
-use Rattle.lists.proofs.Tables.{over-start, over-step, length_over, table-cong}
-use Rattle.lists.proofs.Marked.{count_most, picked-long}
+use Rattle.lists.proofs.Tables.{over-start, over-step, table-cong}
+use Rattle.lists.proofs.Marked.{count_most}
 
 pub count-start : (marked : ℕ → Bool) → count 0 marked ≡ 0
 unfolding count
@@ -63,18 +60,6 @@ module _ {A : Type 0} (marked : ℕ → Bool) (entry : ℕ → A) (ys : List A) 
 pub count_turn : (marked : ℕ → Bool) (n : ℕ) {at at' : ℕ} {b : Bool} → at ≡ count n marked → b ≡ marked n → at' ≡ at + cond b 1 0 → at' ≡ count (n + 1) marked
 count_turn marked n p q r = rw (count-more marked n, ← q, ← p) r
 
--- a table so written is as long as before, and has a place for one more
-module _ {A : Type 0} (marked : ℕ → Bool) (entry : ℕ → A) (s ys : List A) {n : ℕ} (written : s ≡ over (picked n marked entry) ys) where
-  pub as_long : n ≤ length ys → length s ≡ length ys
-  as_long l = ap length written ∙ picked-long n marked entry ys l
-
-  pub room : {m at : ℕ} → n < m → m ≤ length ys → at ≡ count n marked → at < length s
-  room h l p = omega (arith, count_most marked n, as_long (omega arith))
-
--- the byte of an entry
-pub bytes : {i m : ℕ} → i < m → m * 8 < 2 ^ 63 → Fits w64 (i * 8)
-bytes h g = record { fits = omega arith }
-
 -- an amount by its sign and its size, turned or not
 pub sign-turned : (t : Bool) (z : ℤ) → with_sign (cond t (not (is_negative z)) (is_negative z)) (size z) ≡ turn t z
 sign-turned false (pos n) = refl
@@ -85,20 +70,7 @@ sign-turned true (negsuc n) = refl
 pub amount-is : (t : Bool) (z : ℤ) {minus : Bool} {n : ℕ} → minus ≡ cond t (not (is_negative z)) (is_negative z) → n ≡ size z → with_sign minus n ≡ turn t z
 amount-is t z e d = rw (e, d) (sign-turned t z)
 
--- water enters where the amount is below 0
-pub enters : (minus : Bool) (n : ℕ) → minus ≡ true → n ≢ 0 → is_negative (with_sign minus n) ≡ true
-enters minus zero e d = absurd (d refl)
-enters minus (suc n) e d = rw e
-
 -- what enters at a cut face, and the value elsewhere
 pub enters_is : (t : Bool) (z : ℤ) (cut : Bool) (q v : ℕ) {minus : Bool} {n e r : ℕ} → r ≡ cond cut e v → e ≡ cond (is_negative (with_sign minus n)) q 0
     → minus ≡ cond t (not (is_negative z)) (is_negative z) → n ≡ size z → r ≡ cond cut (cond (is_negative (turn t z)) q 0) v
 enters_is t z cut q v a b c d = a ∙ ap (λ (e : ℕ). cond cut e v) (b ∙ ap (λ (u : ℤ). cond (is_negative u) q 0) (amount-is t z c d))
-
--- a count of some among few is small
-pub count_small : (marked : ℕ → Bool) {i n m at : ℕ} → at ≡ count i marked → i < n → n ≤ m → m * 8 < 2 ^ 63 → at + 1 < 2 ^ 64
-count_small marked {i = i} e h l g = omega (arith, count_most marked i)
-
--- a table written over the front of a longer one
-pub written-long : {A : Type 0} (f : ℕ → A) (ys : List A) {s : List A} {n : ℕ} → s ≡ over (table n f) ys → n ≤ length ys → length s ≡ length ys
-written-long f ys {n = n} e l = ap length e ∙ length_over n f ys l

@@ -3,10 +3,9 @@
 
 pub mod cells;
 
-ghost use Rattle.std.specs.Prelude.{◌≡◌, ◌≢◌, true, cond, not, ◌+◌, ◌^◌, ◌≤◌, ◌<◌, length, get_or, set};
+ghost use Rattle.std.specs.Prelude.{◌≡◌, ◌≢◌, true, cond, not, ◌+◌, ◌≤◌, ◌<◌, length, get_or, set};
 ghost use Rattle.lists.specs.Table.{over};
 ghost use Rattle.lists.specs.Marked.{count, picked};
-ghost use Rattle.signed.specs.Sign.{with_sign};
 ghost use Rattle.model.specs.Mesh.{rim};
 ghost use Rattle.cutting_pieces.specs.Pieces.{has_label, touching, cutting};
 
@@ -59,25 +58,12 @@ pub fn flip(turns: bool, negative: bool) -> bool
 }
 
 // An entry put at the next place where it is marked; the place after it.
-pub fn keep(marked: bool, at: usize, entry: u64, out: &mut [u64]) -> usize
+pub fn keep<T: Copy>(marked: bool, at: usize, entry: T, out: &mut [T]) -> usize
     requires { marked ≡ true → at < length out.old }
     ensures { (result ≡ at + cond marked 1 0) × (out.new ≡ cond marked (set out.old at entry) out.old) }
 {
     if marked {
         out[at] = entry;
-        return at + 1;
-    }
-    at
-}
-
-// The same of an amount, by its sign and its size.
-pub fn keep_amount(marked: bool, at: usize, negative: bool, size: u64, out: &mut [i64]) -> usize
-    requires { (marked ≡ true → at < length out.old) × (size < 2 ^ 63) }
-    ensures { (result ≡ at + cond marked 1 0)
-        × (out.new ≡ cond marked (set out.old at (with_sign negative size)) out.old) }
-{
-    if marked {
-        signed::put(out, at, negative, size);
         return at + 1;
     }
     at

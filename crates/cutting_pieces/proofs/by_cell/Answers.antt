@@ -1,15 +1,14 @@
 -- Each turn puts one cell's entry, or none.
 use Rattle.std.proofs.Common.{◌≡◌, ◌<◌, length, refl, sym, arith}
-use Rattle.cutting_pieces.proofs.Turns.{count-start, count_turn, picked-start, picked-turn, room}
+use Rattle.lists.proofs.Marked.{count_most}
+use Rattle.cutting_pieces.proofs.Turns.{count-start, count_turn, picked-start, picked-turn}
 use Rattle.cutting_pieces.proofs.by_cell.Goals as goal
 
 pub loop-c-init : goal.loop-c-init
 loop-c-init c = record { met = sym (count-start _); written = picked-start _ _ _ }
 
 pub keep-at-requires : goal.keep-at-requires
-keep-at-requires c m =
-    let i = c.loop-c.invariant in
-    room _ _ _ _ i.written c.loop-c-test.true c.requires.2 i.met
+keep-at-requires c m = let i = c.loop-c.invariant.met in omega (arith, count_most)
 
 pub loop-c-preserved : goal.loop-c-preserved
 loop-c-preserved c =
