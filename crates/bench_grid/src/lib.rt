@@ -98,11 +98,9 @@ pub fn make_cells(
 )
     requires { (cells ≤ max_cells) × (1 ≤ width) }
 {
-    let mut c = 0;
-    while c < cells {
+    for c in 0..cells {
         volumes[c] = volume(large, c as u64);
         field[c] = mass(large, c as u64, width);
-        c += 1;
     }
 }
 
@@ -229,12 +227,10 @@ pub fn make_faces(
 )
     requires { (faces ≤ max_faces) × (1 ≤ width) × (width ≤ max_cells) }
 {
-    let mut f = 0;
-    while f < faces {
+    for f in 0..faces {
         let open = is_open(f as u64, width, height);
         make_ends(large, f, width, open, firsts, seconds, shares, reaches);
         fluxes[f] = flux(large, f as u64, width);
-        f += 1;
     }
 }
 
@@ -254,13 +250,11 @@ pub fn vary(
 )
     requires { (season ≤ max_season) × (faces ≤ max_faces) }
 {
-    let mut f = 0;
-    while f < faces {
+    for f in 0..faces {
         if seconds[f] == RIM {
             if signed::is_negative(fluxes[f]) {
                 outsides[f] = outside(season, f as u64);
             }
         }
-        f += 1;
     }
 }

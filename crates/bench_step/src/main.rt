@@ -146,14 +146,12 @@ fn repeat(
         refused: 0,
     };
     let mut season: u64 = 1;
-    let mut i = 0;
-    while i < pairs {
+    for i in 0..pairs {
         season = change(i, season, faces, seconds, fluxes, outsides);
         sums = pair(
             cells, faces, volumes, firsts, seconds, shares, reaches, masses, fluxes, outsides,
             &mut next, &mut moved, &mut work, releases, sums,
         );
-        i += 1;
     }
     if sums.refused == 0 {
         text::report(rt, cells, sums.entered, sums.gone, masses, &moved);

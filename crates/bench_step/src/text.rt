@@ -30,10 +30,8 @@ fn number(text: &[u8]) -> u64
     ensures { result ≤ max_argument }
 {
     let mut x: u64 = 0;
-    let mut i = 0;
-    while i < text.len() {
-        x = (10 * x + digit(text[i])) % CEILING;
-        i += 1;
+    for b in text {
+        x = (10 * x + digit(*b)) % CEILING;
     }
     x
 }
@@ -53,10 +51,8 @@ fn total(cells: usize, masses: &[u64; MAX_CELLS]) -> u64
     requires { cells ≤ max_cells }
 {
     let mut sum: u64 = 0;
-    let mut c = 0;
-    while c < cells {
-        sum = std::num::wrapping_add_u64(sum, masses[c]);
-        c += 1;
+    for m in &masses[..cells] {
+        sum = std::num::wrapping_add_u64(sum, *m);
     }
     sum
 }
@@ -73,10 +69,8 @@ fn digest_masses(cells: usize, masses: &[u64; MAX_CELLS]) -> u64
     ensures { result < prime }
 {
     let mut digest: u64 = 1;
-    let mut c = 0;
-    while c < cells {
-        digest = mixed(digest, masses[c]);
-        c += 1;
+    for m in &masses[..cells] {
+        digest = mixed(digest, *m);
     }
     digest
 }
@@ -96,10 +90,8 @@ fn digest(cells: usize, faces: usize, masses: &[u64; MAX_CELLS], moved: &[i64; M
     requires { (cells ≤ max_cells) × (faces ≤ max_faces) }
 {
     let mut digest = digest_masses(cells, masses);
-    let mut f = 0;
-    while f < faces {
-        digest = mixed(digest, coded(moved[f]));
-        f += 1;
+    for x in &moved[..faces] {
+        digest = mixed(digest, coded(*x));
     }
     digest
 }

@@ -216,9 +216,7 @@ fn call_of(rt: &HostRuntime, token: Token, input: Input) -> u64 {
 // Calls, one after another, to the end of the input or to the first fault. The turns are counted because a proved loop has to end.
 fn calls(rt: &HostRuntime, chunk: &mut [u8], words: &mut [u64]) {
     let mut at = input::start();
-    let mut turn: u64 = 0;
-    while turn < u64::MAX {
-        turn += 1;
+    for _ in 0..u64::MAX {
         let found = input::next(rt, chunk, at);
         let token = found.token;
         let here = found.input;

@@ -45,9 +45,7 @@ fn steps_in(
     let mut from = 0;
     let mut to = 0;
     let mut unwritten = 0;
-    let mut step: u64 = 0;
-    while step < u64::MAX {
-        step += 1;
+    for step in 1..=u64::MAX {
         let room = run_session::make_room(rt, lines, unwritten);
         if room.failed {
             return false;

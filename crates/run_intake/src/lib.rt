@@ -62,6 +62,7 @@ fn bytes(
         × (take from buffer.new ≡ take from buffer.old) × (result.failed ≡ true → result.count < enough) }
 {
     let mut at = from;
+    // a while: a turn reads as many bytes as have come, not one
     while at < enough {
         let got = once(rt, buffer, at, to, unwritten);
         let end = got.count;
@@ -153,11 +154,7 @@ fn move_down(buffer: &mut [u8], from: usize, to: usize)
     requires { (from ≤ to) × (to ≤ length buffer.old) }
     ensures { take (to - from) buffer.new ≡ held buffer.old from to }
 {
-    let mut i = from;
-    while i < to {
-        buffer[i - from] = buffer[i];
-        i += 1;
-    }
+    buffer.copy_within(from..to, 0);
 }
 
 // What is held after a read: all that has come, from the front on. No line is unwritten then.
