@@ -7,7 +7,7 @@ ghost use Rattle.model.specs.Answers.{said};
 ghost use Rattle.charge.specs.Charge.{last_end, max_price, charge_sum, band_good};
 ghost use Rattle.charge.specs.Answers.{bill_causes, charge_verdict, ChargeIs};
 
-use model::needs::{and_then, between, long, need};
+use model::needs::{between, long, need};
 use model::{Cause, Refusal, positions};
 
 // Most bands of a charge.
@@ -50,8 +50,7 @@ fn bands_good(bands: usize, ends: &[u64], prices: &[u64]) -> Result<(), Refusal>
     ensures { said result ≡ each 25 bands (band_good ends.now prices.now bands) }
 {
     let mut begin = 0;
-    let mut i = 0;
-    while i < bands {
+    for i in 0..bands {
         let end = ends[i];
         if !band_fits(begin, end, prices[i], i + 1 == bands) {
             return Err(Refusal {
@@ -60,7 +59,6 @@ fn bands_good(bands: usize, ends: &[u64], prices: &[u64]) -> Result<(), Refusal>
             });
         }
         begin = end;
-        i += 1;
     }
     Ok(())
 }
@@ -87,12 +85,10 @@ fn charged(total: u64, bands: usize, ends: &[u64], prices: &[u64]) -> u64
 {
     let mut sum = 0;
     let mut from = 0;
-    let mut i = 0;
-    while i < bands {
+    for i in 0..bands {
         let to = lesser(total, ends[i]);
         sum = more(sum, from, to, prices[i]);
         from = to;
-        i += 1;
     }
     sum
 }
@@ -101,22 +97,25 @@ fn charged(total: u64, bands: usize, ends: &[u64], prices: &[u64]) -> u64
 fn lent(bands: usize, ends: usize, prices: usize, remainder: u64) -> Result<(), Refusal>
     ensures { said result ≡ in_turn (bill_causes bands ends prices remainder) }
 {
-    let a = need(Cause::Bands, 0, between(1, MAX_BANDS, bands as u64));
-    let b = and_then(a, long(positions::ENDS, bands, ends));
-    let c = and_then(b, long(positions::PRICES, bands, prices));
-    and_then(c, need(Cause::Bands, 0, remainder < PRICE_UNITS))
+    need(Cause::Bands, 0, between(1, MAX_BANDS, bands as u64))?;
+    long(positions::ENDS, bands, ends)?;
+    long(positions::PRICES, bands, prices)?;
+    need(Cause::Bands, 0, remainder < PRICE_UNITS)
 }
 
 // What charging is refused for.
-fn judge(total: u64, bands: usize, ends: &[u64], prices: &[u64], remainder: u64) -> Result<(), Refusal>
+fn judge(
+    total: u64,
+    bands: usize,
+    ends: &[u64],
+    prices: &[u64],
+    remainder: u64,
+) -> Result<(), Refusal>
     ensures { said result ≡ charge_verdict ends.now prices.now total bands remainder }
 {
-    let tables = lent(bands, ends.len(), prices.len(), remainder);
-    if let Err(r) = tables {
-        return Err(r);
-    }
-    let good = bands_good(bands, ends, prices);
-    and_then(good, need(Cause::Period, 0, total <= LAST_END))
+    lent(bands, ends.len(), prices.len(), remainder)?;
+    bands_good(bands, ends, prices)?;
+    need(Cause::Period, 0, total <= LAST_END)
 }
 
 // A total charged: causes 25 (the number of bands), 2 (ends, prices), 25 (the remainder, the bands) and 26, else cents and the new remainder.
@@ -129,10 +128,7 @@ pub fn charge(
 ) -> Result<Billed, Refusal>
     ensures { ChargeIs ends.now prices.now total bands remainder result }
 {
-    let verdict = judge(total, bands, ends, prices, remainder);
-    if let Err(r) = verdict {
-        return Err(r);
-    }
+    judge(total, bands, ends, prices, remainder)?;
     let sum = charged(total, bands, ends, prices) + remainder;
     Ok(Billed {
         cents: sum / PRICE_UNITS,

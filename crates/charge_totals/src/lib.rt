@@ -6,7 +6,7 @@ ghost use Rattle.model.specs.Causes.{fine, in_turn, each};
 ghost use Rattle.model.specs.Answers.{said};
 ghost use Rattle.charge_totals.specs.Totals.{lent_causes, gain_fit, gain_at, gain_good, added_totals, AddPromise};
 
-use model::needs::{and_then, long, need};
+use model::needs::{long, need};
 use model::{Cause, MAX_FACES, RIM, Refusal, positions};
 use signed::{is_negative_at, size_at};
 
@@ -50,15 +50,13 @@ fn gains_good(faces: usize, seconds: &[u64], moved: &[i64], totals: &[u64]) -> R
     requires { (faces ≤ length seconds.now) × (faces ≤ length moved.now) × (faces ≤ length totals.now) }
     ensures { said result ≡ each 26 faces (gain_good seconds.now moved.now totals.now) }
 {
-    let mut f = 0;
-    while f < faces {
+    for f in 0..faces {
         if !gain_fits(totals[f], gain_at(seconds, moved, f)) {
             return Err(Refusal {
                 cause: Cause::Period,
                 place: f as u64,
             });
         }
-        f += 1;
     }
     Ok(())
 }
@@ -67,10 +65,10 @@ fn gains_good(faces: usize, seconds: &[u64], moved: &[i64], totals: &[u64]) -> R
 fn lent(faces: usize, seconds: usize, moved: usize, totals: usize) -> Result<(), Refusal>
     ensures { said result ≡ in_turn (lent_causes faces seconds moved totals) }
 {
-    let a = need(Cause::Limits, FACES_PLACE, faces <= MAX_FACES);
-    let b = and_then(a, long(positions::SECONDS, faces, seconds));
-    let c = and_then(b, long(positions::MOVED, faces, moved));
-    and_then(c, long(positions::TOTALS, faces, totals))
+    need(Cause::Limits, FACES_PLACE, faces <= MAX_FACES)?;
+    long(positions::SECONDS, faces, seconds)?;
+    long(positions::MOVED, faces, moved)?;
+    long(positions::TOTALS, faces, totals)
 }
 
 // An entry with what it gains.
@@ -100,14 +98,8 @@ fn raise(faces: usize, seconds: &[u64], moved: &[i64], totals: &mut [u64])
 pub fn add(faces: usize, seconds: &[u64], moved: &[i64], totals: &mut [u64]) -> Result<(), Refusal>
     ensures { AddPromise seconds.now moved.now totals.old faces result totals.new }
 {
-    let tables = lent(faces, seconds.len(), moved.len(), totals.len());
-    if let Err(r) = tables {
-        return Err(r);
-    }
-    let gains = gains_good(faces, seconds, moved, totals);
-    if let Err(r) = gains {
-        return Err(r);
-    }
+    lent(faces, seconds.len(), moved.len(), totals.len())?;
+    gains_good(faces, seconds, moved, totals)?;
     raise(faces, seconds, moved, totals);
     Ok(())
 }

@@ -7,21 +7,24 @@ ghost use Rattle.model.specs.Causes.{◌and_then◌, counts_within, counts, mesh
 ghost use Rattle.model.specs.Claims.{claim_of, claim_long};
 ghost use Rattle.model.specs.Answers.{said};
 
-use model::needs::{and_then, between, long, need};
-use model::{Cause, positions, Refusal};
+use model::needs::{between, long, need};
+use model::{Cause, Refusal, positions};
 
 // Cause 1, with limits that the caller sets: the run program's are lower than the mesh's own.
-pub fn counts_within(most_cells: usize, most_faces: usize, cells: usize, faces: usize) -> Result<(), Refusal>
+pub fn counts_within(
+    most_cells: usize,
+    most_faces: usize,
+    cells: usize,
+    faces: usize,
+) -> Result<(), Refusal>
     ensures { said result ≡ counts_within most_cells most_faces cells faces }
 {
-    and_then(
-        need(
-            Cause::Limits,
-            0,
-            between(1, most_cells as u64, cells as u64),
-        ),
-        need(Cause::Limits, 1, faces <= most_faces),
-    )
+    need(
+        Cause::Limits,
+        0,
+        between(1, most_cells as u64, cells as u64),
+    )?;
+    need(Cause::Limits, 1, faces <= most_faces)
 }
 
 // The counts and the mesh tables.
@@ -39,13 +42,12 @@ pub fn mesh_lent(
         and_then mesh_tables (mesh_of cells faces volumes.now firsts.now seconds.now shares.now reaches.now)
         ) }
 {
-    let a = counts_within(model::MAX_CELLS, model::MAX_FACES, cells, faces);
-    let b = long(positions::VOLUMES, cells, volumes.len());
-    let b = and_then(b, long(positions::FIRSTS, faces, firsts.len()));
-    let b = and_then(b, long(positions::SECONDS, faces, seconds.len()));
-    let b = and_then(b, long(positions::SHARES, faces, shares.len()));
-    let b = and_then(b, long(positions::REACHES, faces, reaches.len()));
-    and_then(a, b)
+    counts_within(model::MAX_CELLS, model::MAX_FACES, cells, faces)?;
+    long(positions::VOLUMES, cells, volumes.len())?;
+    long(positions::FIRSTS, faces, firsts.len())?;
+    long(positions::SECONDS, faces, seconds.len())?;
+    long(positions::SHARES, faces, shares.len())?;
+    long(positions::REACHES, faces, reaches.len())
 }
 
 // The same with a field.
@@ -66,8 +68,8 @@ pub fn field_lent(
         reaches.now) masses.now
         ) }
 {
-    let a = mesh_lent(cells, faces, volumes, firsts, seconds, shares, reaches);
-    and_then(a, long(positions::MASSES, cells, masses.len()))
+    mesh_lent(cells, faces, volumes, firsts, seconds, shares, reaches)?;
+    long(positions::MASSES, cells, masses.len())
 }
 
 // The tables that a step is lent besides. The counts are within their limits, so that the length of work is a number.
@@ -86,12 +88,12 @@ pub fn step_lent(
         (call_of fluxes.now outsides.now next.now moved.now work.now releases.now) }
 {
     let wanted = model::work_length(cells, faces);
-    let a = long(positions::FLUXES, faces, fluxes.len());
-    let a = and_then(a, long(positions::OUTSIDES, faces, outsides.len()));
-    let a = and_then(a, long(positions::NEXT, cells, next.len()));
-    let a = and_then(a, long(positions::MOVED, faces, moved.len()));
-    let a = and_then(a, long(positions::WORK, wanted, work.len()));
-    and_then(a, long(positions::RELEASES, cells, releases.len()))
+    long(positions::FLUXES, faces, fluxes.len())?;
+    long(positions::OUTSIDES, faces, outsides.len())?;
+    long(positions::NEXT, cells, next.len())?;
+    long(positions::MOVED, faces, moved.len())?;
+    long(positions::WORK, wanted, work.len())?;
+    long(positions::RELEASES, cells, releases.len())
 }
 
 // The tables that a judging is lent besides: those of a step but for work.
@@ -107,9 +109,9 @@ pub fn claim_lent(
     ensures { said result ≡ claim_long cells faces
         (claim_of fluxes.now outsides.now next.now claim.now releases.now) }
 {
-    let b = long(positions::FLUXES, faces, fluxes.len());
-    let b = and_then(b, long(positions::OUTSIDES, faces, outsides.len()));
-    let b = and_then(b, long(positions::NEXT, cells, next.len()));
-    let b = and_then(b, long(positions::MOVED, faces, claim.len()));
-    and_then(b, long(positions::RELEASES, cells, releases.len()))
+    long(positions::FLUXES, faces, fluxes.len())?;
+    long(positions::OUTSIDES, faces, outsides.len())?;
+    long(positions::NEXT, cells, next.len())?;
+    long(positions::MOVED, faces, claim.len())?;
+    long(positions::RELEASES, cells, releases.len())
 }

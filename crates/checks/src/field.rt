@@ -24,15 +24,13 @@ pub fn values(cells: usize, volumes: &[u64], masses: &[u64]) -> Result<(), Refus
         × (get_or volumes.now c 0 ≤ max_volume) }
     ensures { said result ≡ each 6 cells (λ c. salt_fit (get_or volumes.now c 0) (get_or masses.now c 0)) }
 {
-    let mut c = 0;
-    while c < cells {
+    for c in 0..cells {
         if !salt_fits(volumes[c], masses[c]) {
             return Err(Refusal {
                 cause: Cause::Concentration,
                 place: c as u64,
             });
         }
-        c += 1;
     }
     Ok(())
 }

@@ -16,14 +16,18 @@ ghost use Rattle.model.specs.Calls.{mass_in};
 ghost use Rattle.checks.specs.Total.{total_said};
 ghost use Rattle.checks.specs.Lent.{tables_lent};
 
-use model::needs::and_then;
 use model::Refusal;
 
 // The cells for which a short array is enough.
 const FEW: usize = 512;
 
 // Cause 1, with limits that the caller sets: the run program's are lower than the mesh's own.
-pub fn counts_within(most_cells: usize, most_faces: usize, cells: usize, faces: usize) -> Result<(), Refusal>
+pub fn counts_within(
+    most_cells: usize,
+    most_faces: usize,
+    cells: usize,
+    faces: usize,
+) -> Result<(), Refusal>
     ensures { said result ≡ counts_within most_cells most_faces cells faces }
 {
     check_lent::counts_within(most_cells, most_faces, cells, faces)
@@ -42,10 +46,7 @@ pub fn check_mesh(
     ensures { said result ≡ mesh_verdict
         (mesh_of cells faces volumes.now firsts.now seconds.now shares.now reaches.now) }
 {
-    let a = check_lent::mesh_lent(cells, faces, volumes, firsts, seconds, shares, reaches);
-    if let Err(r) = a {
-        return Err(r);
-    }
+    check_lent::mesh_lent(cells, faces, volumes, firsts, seconds, shares, reaches)?;
     check_mesh::values(
         cells,
         faces,
@@ -73,13 +74,10 @@ pub fn check_field(
         (mesh_of cells faces volumes.now firsts.now seconds.now shares.now reaches.now)
         masses.now }
 {
-    let a = check_lent::field_lent(
+    check_lent::field_lent(
         cells, faces, volumes, firsts, seconds, shares, reaches, masses,
-    );
-    if let Err(r) = a {
-        return Err(r);
-    }
-    let b = check_mesh::values(
+    )?;
+    check_mesh::values(
         cells,
         faces,
         volumes,
@@ -88,10 +86,7 @@ pub fn check_field(
         shares,
         reaches,
         model::CEILING,
-    );
-    if let Err(r) = b {
-        return Err(r);
-    }
+    )?;
     field::values(cells, volumes, masses)
 }
 
@@ -110,10 +105,7 @@ pub fn total(cells: usize, volumes: &[u64], masses: &[u64]) -> Result<u64, Refus
         and_then accepted (sum cells (mass_in masses.now))
         ) }
 {
-    let a = check_cells(cells, volumes, masses);
-    if let Err(r) = a {
-        return Err(r);
-    }
+    check_cells(cells, volumes, masses)?;
     Ok(field::sum_of(cells, masses))
 }
 
@@ -140,7 +132,7 @@ pub fn step_values(
         masses.now
         (water_of fluxes.now outsides.now releases.now) }
 {
-    let a = check_mesh::values(
+    check_mesh::values(
         cells,
         faces,
         volumes,
@@ -149,21 +141,10 @@ pub fn step_values(
         shares,
         reaches,
         model::CEILING,
-    );
-    if let Err(r) = a {
-        return Err(r);
-    }
-    let salt = and_then(
-        field::values(cells, volumes, masses),
-        raised::values(cells, volumes, masses, releases),
-    );
-    let b = and_then(
-        salt,
-        check_water::values(faces, seconds, reaches, fluxes, outsides, model::CEILING),
-    );
-    if let Err(r) = b {
-        return Err(r);
-    }
+    )?;
+    field::values(cells, volumes, masses)?;
+    raised::values(cells, volumes, masses, releases)?;
+    check_water::values(faces, seconds, reaches, fluxes, outsides, model::CEILING)?;
     check_flows::values(cells, faces, volumes, firsts, seconds, fluxes)
 }
 
@@ -270,12 +251,9 @@ fn tables_lent(
         masses.now
         (call_of fluxes.now outsides.now next.now moved.now work.now releases.now) }
 {
-    let a = check_lent::field_lent(
+    check_lent::field_lent(
         cells, faces, volumes, firsts, seconds, shares, reaches, masses,
-    );
-    if let Err(r) = a {
-        return Err(r);
-    }
+    )?;
     check_lent::step_lent(cells, faces, fluxes, outsides, next, moved, work, releases)
 }
 
@@ -301,13 +279,10 @@ pub fn check_step(
         masses.now
         (call_of fluxes.now outsides.now next.now moved.now work.now releases.now) }
 {
-    let a = tables_lent(
+    tables_lent(
         cells, faces, volumes, firsts, seconds, shares, reaches, masses, fluxes, outsides, next,
         moved, work, releases,
-    );
-    if let Err(r) = a {
-        return Err(r);
-    }
+    )?;
     values_own(
         cells, faces, volumes, firsts, seconds, shares, reaches, masses, fluxes, outsides, releases,
     )
@@ -337,13 +312,10 @@ pub fn check_step_in(
         masses.now
         (call_of fluxes.now outsides.now next.old moved.now work.now releases.now) }
 {
-    let a = tables_lent(
+    tables_lent(
         cells, faces, volumes, firsts, seconds, shares, reaches, masses, fluxes, outsides, next,
         moved, work, releases,
-    );
-    if let Err(r) = a {
-        return Err(r);
-    }
+    )?;
     values_in(
         known, cells, faces, volumes, firsts, seconds, shares, reaches, masses, fluxes, outsides,
         releases, next,
@@ -371,16 +343,10 @@ pub fn check_claim(
         masses.now
         (claim_of fluxes.now outsides.now next.now claim.now releases.now) }
 {
-    let a = check_lent::field_lent(
+    check_lent::field_lent(
         cells, faces, volumes, firsts, seconds, shares, reaches, masses,
-    );
-    let b = and_then(
-        a,
-        check_lent::claim_lent(cells, faces, fluxes, outsides, next, claim, releases),
-    );
-    if let Err(r) = b {
-        return Err(r);
-    }
+    )?;
+    check_lent::claim_lent(cells, faces, fluxes, outsides, next, claim, releases)?;
     step_values(
         cells, faces, volumes, firsts, seconds, shares, reaches, masses, fluxes, outsides, releases,
     )

@@ -19,7 +19,12 @@ fn raised_fits(volume: u64, mass: u64, release: u64) -> bool
 }
 
 // Cause 18, of volumes within their range.
-pub fn values(cells: usize, volumes: &[u64], masses: &[u64], releases: &[u64]) -> Result<(), Refusal>
+pub fn values(
+    cells: usize,
+    volumes: &[u64],
+    masses: &[u64],
+    releases: &[u64],
+) -> Result<(), Refusal>
     requires cells_in_bounds { (cells ≤ length volumes.now) × (cells ≤ length masses.now) × (cells ≤ length releases.now) }
     requires by_index { (c : ℕ) → c < cells
         → (1 ≤ get_or volumes.now c 0)
@@ -27,15 +32,13 @@ pub fn values(cells: usize, volumes: &[u64], masses: &[u64], releases: &[u64]) -
     ensures { said result ≡ each 18 cells
         (λ c. raised_fit (get_or volumes.now c 0) (get_or masses.now c 0) (get_or releases.now c 0)) }
 {
-    let mut c = 0;
-    while c < cells {
+    for c in 0..cells {
         if !raised_fits(volumes[c], masses[c], releases[c]) {
             return Err(Refusal {
                 cause: Cause::Release,
                 place: c as u64,
             });
         }
-        c += 1;
     }
     Ok(())
 }

@@ -78,16 +78,10 @@ fn judged_in(
         cells, faces, volumes, firsts, seconds, shares, reaches, masses, fluxes, outsides,
         releases, low, carried, work,
     );
-    let a = judging_claims::claims_good(faces, seconds, fluxes, carried, claim);
-    if let Err(r) = a {
-        return Err(r);
-    }
-    let b = judging_bounds::values(
+    judging_claims::claims_good(faces, seconds, fluxes, carried, claim)?;
+    judging_bounds::values(
         cells, faces, volumes, firsts, seconds, masses, claim, releases, work,
-    );
-    if let Err(r) = b {
-        return Err(r);
-    }
+    )?;
     Ok(Crossed {
         entered: crossed.entered,
         gone: crossed.gone,
@@ -161,24 +155,16 @@ pub fn judge(
         (claim_of fluxes.now outsides.now next.old claim.now releases.now)
         result next.new }
 {
-    let verdict = checks::check_claim(
+    checks::check_claim(
         cells, faces, volumes, firsts, seconds, shares, reaches, masses, fluxes, outsides, next,
         claim, releases,
-    );
-    if let Err(refusal) = verdict {
-        return Err(refusal);
-    }
-    let answer = judged(
+    )?;
+    let crossed = judged(
         cells, faces, volumes, firsts, seconds, shares, reaches, masses, fluxes, outsides, claim,
         releases,
+    )?;
+    judging_next::values(
+        cells, faces, volumes, firsts, seconds, masses, claim, releases, next,
     );
-    match answer {
-        Err(refusal) => Err(refusal),
-        Ok(crossed) => {
-            judging_next::values(
-                cells, faces, volumes, firsts, seconds, masses, claim, releases, next,
-            );
-            Ok(crossed)
-        }
-    }
+    Ok(crossed)
 }

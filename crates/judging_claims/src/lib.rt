@@ -79,15 +79,13 @@ pub fn claims_good(
     requires { (faces ≤ length seconds.now) × (faces ≤ length fluxes.now) × (faces ≤ length carried.now) × (faces ≤ length claim.now) }
     ensures { said result ≡ each 21 faces (claim_at seconds.now fluxes.now carried.now claim.now) }
 {
-    let mut f = 0;
-    while f < faces {
+    for f in 0..faces {
         if !face_fits(f, seconds, fluxes, carried, claim) {
             return Err(Refusal {
                 cause: Cause::Moved,
                 place: f as u64,
             });
         }
-        f += 1;
     }
     Ok(())
 }
