@@ -24,7 +24,7 @@ pub fn write_mesh(
         (mesh_of cells faces volumes.now firsts.now seconds.now shares.now reaches.now)
         bytes.old result bytes.new }
 {
-    let a = record_causes::mesh(
+    record_causes::mesh(
         width,
         cells,
         faces,
@@ -34,10 +34,7 @@ pub fn write_mesh(
         shares,
         reaches,
         bytes.len(),
-    );
-    if let Err(r) = a {
-        return Err(r);
-    }
+    )?;
     let length = record_putting::mesh(
         width, cells, faces, volumes, firsts, seconds, shares, reaches, bytes,
     );
@@ -61,7 +58,7 @@ pub fn write_field(
         (mesh_of cells faces volumes.now firsts.now seconds.now shares.now reaches.now)
         masses.now bytes.old result bytes.new }
 {
-    let a = record_causes::field(
+    record_causes::field(
         width,
         cells,
         faces,
@@ -72,10 +69,7 @@ pub fn write_field(
         reaches,
         masses,
         bytes.len(),
-    );
-    if let Err(r) = a {
-        return Err(r);
-    }
+    )?;
     let length = record_putting::field(width, cells, masses, bytes);
     Ok(length as u64)
 }
@@ -100,7 +94,7 @@ pub fn write_step(
         (mesh_of cells faces volumes.now firsts.now seconds.now shares.now reaches.now)
         (kind_number width kind) fluxes.now outsides.now releases.now bytes.old result bytes.new }
 {
-    let a = record_causes::step(
+    record_causes::step(
         width,
         kind,
         cells,
@@ -114,10 +108,7 @@ pub fn write_step(
         outsides,
         bytes.len(),
         releases,
-    );
-    if let Err(r) = a {
-        return Err(r);
-    }
+    )?;
     let length = record_putting::step(
         width, kind, cells, faces, seconds, fluxes, outsides, bytes, releases,
     );

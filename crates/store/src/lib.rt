@@ -5,44 +5,45 @@ ghost use Rattle.std.specs.Prelude.{◌≡◌};
 ghost use Rattle.model.specs.Answers.{said};
 ghost use Rattle.store.specs.Calls.{opened_verdict, keep_verdict, KeepPromise, DropPromise, ReturnPromise};
 
-use model::needs::{and_then, long};
-use model::{positions, Refusal};
+use model::needs::long;
+use model::{Refusal, positions};
 
 // Causes 1, 2 and 3 of a call that is lent cells, volumes, masses and store.
 fn opened(cells: usize, volumes: &[u64], masses: &[u64], store: &[u64]) -> Result<(), Refusal>
     ensures { said result ≡ opened_verdict cells volumes.now masses.now store.now }
 {
     let none = &volumes[..0];
-    let lent = check_lent::field_lent(cells, 0, volumes, none, none, none, none, masses);
-    let a = and_then(lent, long(positions::STORE, 1, store.len()));
-    if let Err(r) = a {
-        return Err(r);
-    }
+    check_lent::field_lent(cells, 0, volumes, none, none, none, none, masses)?;
+    long(positions::STORE, 1, store.len())?;
     check_mesh::values(cells, 0, volumes, none, none, none, none, model::CEILING)
 }
 
 // Whether a field may be kept: 1, 2, 3, 6 of its masses, and 13, 15 and 16 of the store.
-fn may_keep(cells: usize, volumes: &[u64], masses: &[u64], store: &[u64], name: u64) -> Result<(), Refusal>
+fn may_keep(
+    cells: usize,
+    volumes: &[u64],
+    masses: &[u64],
+    store: &[u64],
+    name: u64,
+) -> Result<(), Refusal>
     ensures { said result ≡ keep_verdict cells volumes.now masses.now store.now name }
 {
-    let a = opened(cells, volumes, masses, store);
-    if let Err(r) = a {
-        return Err(r);
-    }
-    and_then(
-        checks::field::values(cells, volumes, masses),
-        store_kept::is_new(cells, store, name),
-    )
+    opened(cells, volumes, masses, store)?;
+    checks::field::values(cells, volumes, masses)?;
+    store_kept::is_new(cells, store, name)
 }
 
 // Keeps a field under a new name, after all others.
-pub fn keep(cells: usize, volumes: &[u64], masses: &[u64], store: &mut [u64], name: u64) -> Result<(), Refusal>
+pub fn keep(
+    cells: usize,
+    volumes: &[u64],
+    masses: &[u64],
+    store: &mut [u64],
+    name: u64,
+) -> Result<(), Refusal>
     ensures { KeepPromise cells volumes.now masses.now store.old name result store.new }
 {
-    let a = may_keep(cells, volumes, masses, store, name);
-    if let Err(r) = a {
-        return Err(r);
-    }
+    may_keep(cells, volumes, masses, store, name)?;
     store_entries::put_field(cells, masses, store, name);
     Ok(())
 }
@@ -51,17 +52,9 @@ pub fn keep(cells: usize, volumes: &[u64], masses: &[u64], store: &mut [u64], na
 pub fn drop(cells: usize, store: &mut [u64], name: u64) -> Result<(), Refusal>
     ensures { DropPromise cells store.old name result store.new }
 {
-    let a = and_then(
-        check_lent::counts_within(model::MAX_CELLS, model::MAX_FACES, cells, 0),
-        long(positions::STORE, 1, store.len()),
-    );
-    if let Err(r) = a {
-        return Err(r);
-    }
-    let b = store_kept::is_kept(cells, store, name);
-    if let Err(r) = b {
-        return Err(r);
-    }
+    check_lent::counts_within(model::MAX_CELLS, model::MAX_FACES, cells, 0)?;
+    long(positions::STORE, 1, store.len())?;
+    store_kept::is_kept(cells, store, name)?;
     store_entries::take_field(cells, store, name);
     Ok(())
 }
@@ -76,21 +69,12 @@ pub fn give_back(
 ) -> Result<(), Refusal>
     ensures { ReturnPromise cells volumes.now masses.old store.now name result masses.new }
 {
-    let a = opened(cells, volumes, masses, store);
-    if let Err(r) = a {
-        return Err(r);
-    }
-    let b = store_kept::is_kept(cells, store, name);
-    if let Err(r) = b {
-        return Err(r);
-    }
+    opened(cells, volumes, masses, store)?;
+    store_kept::is_kept(cells, store, name)?;
     let at = store_kept::masses_of(cells, store, name);
     let end = at + cells;
     let kept = &store[at..end];
-    let d = checks::field::values(cells, volumes, kept);
-    if let Err(r) = d {
-        return Err(r);
-    }
+    checks::field::values(cells, volumes, kept)?;
     lists::copy(kept, masses);
     Ok(())
 }

@@ -9,7 +9,7 @@ ghost use Rattle.store_kept.specs.Store.{count, used as used_of, fields_in, is_k
 ghost use Rattle.store_kept.specs.Found.{fields_before as before_of};
 ghost use Rattle.store_kept.specs.Tests.{name_fits, count_fits, count_good, name_new, room_left, name_kept};
 
-use model::needs::{and_then, between, need};
+use model::needs::{between, need};
 use model::{Cause, Refusal};
 
 // The largest name; the smallest is 1.
@@ -61,18 +61,15 @@ pub fn is_new(cells: usize, store: &[u64], name: u64) -> Result<(), Refusal>
     ensures { said result ≡ (count_good cells store.now and_then name_new cells store.now name
         and_then room_left cells store.now name) }
 {
-    let a = need(Cause::Head, 1, count_fits(cells, store));
-    if let Err(r) = a {
-        return Err(r);
-    }
+    need(Cause::Head, 1, count_fits(cells, store))?;
     let n = store[0] as usize;
     let left = store.len() - used(cells, n);
-    let b = need(
+    need(
         Cause::Name,
         name,
         name_fits(name, before(cells, store, name) == n),
-    );
-    and_then(b, need(Cause::Room, name, cells < left))
+    )?;
+    need(Cause::Room, name, cells < left)
 }
 
 // Causes 13 and 17.
@@ -80,10 +77,7 @@ pub fn is_kept(cells: usize, store: &[u64], name: u64) -> Result<(), Refusal>
     requires { (1 ≤ length store.now) × (cells ≤ max_cells) }
     ensures { said result ≡ (count_good cells store.now and_then name_kept cells store.now name) }
 {
-    let a = need(Cause::Head, 1, count_fits(cells, store));
-    if let Err(r) = a {
-        return Err(r);
-    }
+    need(Cause::Head, 1, count_fits(cells, store))?;
     let n = store[0] as usize;
     need(
         Cause::Unkept,

@@ -7,8 +7,8 @@ ghost use Rattle.model.specs.Answers.{said};
 ghost use Rattle.taking_mesh.specs.MeshTaking.{MeshKept, MeshTaking};
 ghost use Rattle.taking_mesh.specs.Inner.{kept_found};
 
-use model::needs::{and_then, long};
-use model::{RUN_CELLS, RUN_FACES, positions, Refusal};
+use model::needs::long;
+use model::{RUN_CELLS, RUN_FACES, Refusal, positions};
 use record_layouts::Width;
 use record_reading::MeshCounts;
 
@@ -24,11 +24,11 @@ fn holds(
 ) -> Result<(), Refusal>
     ensures { said result ≡ in_turn (mesh_long cells faces volumes firsts seconds shares reaches) }
 {
-    let a = long(positions::VOLUMES, cells, volumes);
-    let b = and_then(a, long(positions::FIRSTS, faces, firsts));
-    let c = and_then(b, long(positions::SECONDS, faces, seconds));
-    let d = and_then(c, long(positions::SHARES, faces, shares));
-    and_then(d, long(positions::REACHES, faces, reaches))
+    long(positions::VOLUMES, cells, volumes)?;
+    long(positions::FIRSTS, faces, firsts)?;
+    long(positions::SECONDS, faces, seconds)?;
+    long(positions::SHARES, faces, shares)?;
+    long(positions::REACHES, faces, reaches)
 }
 
 // A mesh that has been read, judged by 3 to 5 and copied into the lent tables.
@@ -59,7 +59,7 @@ fn keep(
         (mesh_of run_cells run_faces volumes.old firsts.old seconds.old shares.old reaches.old) result
         (mesh_of run_cells run_faces volumes.new firsts.new seconds.new shares.new reaches.new) }
 {
-    let held = holds(
+    holds(
         cells,
         faces,
         volumes.len(),
@@ -67,8 +67,8 @@ fn keep(
         seconds.len(),
         shares.len(),
         reaches.len(),
-    );
-    let judged = checks::check_mesh(
+    )?;
+    checks::check_mesh(
         cells,
         faces,
         read_volumes,
@@ -76,11 +76,7 @@ fn keep(
         read_seconds,
         read_shares,
         read_reaches,
-    );
-    let found = and_then(held, judged);
-    if let Err(refusal) = found {
-        return Err(refusal);
-    }
+    )?;
     lists::copy(read_volumes, volumes);
     lists::copy(read_firsts, firsts);
     lists::copy(read_seconds, seconds);
@@ -111,7 +107,7 @@ pub fn take_mesh(
     let mut read_seconds = [0u64; RUN_FACES];
     let mut read_shares = [0u64; RUN_FACES];
     let mut read_reaches = [0u64; RUN_FACES];
-    let answer = record_reading::read_mesh(
+    let counts = record_reading::read_mesh(
         RUN_CELLS,
         RUN_FACES,
         bytes,
@@ -120,10 +116,7 @@ pub fn take_mesh(
         &mut read_seconds,
         &mut read_shares,
         &mut read_reaches,
-    );
-    let Ok(counts) = answer else {
-        return answer;
-    };
+    )?;
     let cells = counts.cells;
     let faces = counts.faces;
     let width = counts.width;
