@@ -71,15 +71,13 @@ fn bounds_good(
     ensures { said result ≡ each 22 cells (bounds_at volumes.now masses.now releases.now work.now
         (entry enters.now) (entry leaves.now)) }
 {
-    let mut c = 0;
-    while c < cells {
+    for c in 0..cells {
         if !cell_fits(c, cells, volumes, masses, releases, work, enters, leaves) {
             return Err(Refusal {
                 cause: Cause::Bounds,
                 place: c as u64,
             });
         }
-        c += 1;
     }
     Ok(())
 }
