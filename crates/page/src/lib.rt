@@ -13,7 +13,7 @@ ghost use Rattle.page.specs.Answers.{verdict_with, PageIs};
 
 use checks::check_cells;
 use checks::field::sum_of;
-use model::needs::{and_then, long, need};
+use model::needs::{long, need};
 use model::{Cause, Refusal, positions};
 use page_lines::{PAGE_CELLS, cells_on, lines, mass_places, rest_places};
 use text::{NEWLINE, column};
@@ -69,15 +69,12 @@ pub fn judge(
     ensures { said result ≡ verdict_with (said further) volumes.now masses.now cells page room }
 {
     let none = &volumes[..0];
-    let tables = check_lent::field_lent(cells, 0, volumes, none, none, none, none, masses);
-    if let Err(r) = tables {
-        return Err(r);
-    }
+    check_lent::field_lent(cells, 0, volumes, none, none, none, none, masses)?;
     let places = rest_places(cells, volumes);
-    let space = long(positions::PAGE, page_bytes(places, cells, page), room);
-    let given = and_then(space, further);
-    let field = and_then(given, check_cells(cells, volumes, masses));
-    and_then(field, need(Cause::Page, page, page < pages(cells) as u64))
+    long(positions::PAGE, page_bytes(places, cells, page), room)?;
+    further?;
+    check_cells(cells, volumes, masses)?;
+    need(Cause::Page, page, page < pages(cells) as u64)
 }
 
 // A page of a field for the growers: causes 1 (cells), 2 (volumes, masses, bytes), 3, 6 and 14, else its length, with the page in the first bytes.
@@ -90,10 +87,7 @@ pub fn page(
 ) -> Result<u64, Refusal>
     ensures { PageIs volumes.now masses.now cells page bytes.old result bytes.new }
 {
-    let verdict = judge(cells, volumes, masses, page, bytes.len(), Ok(()));
-    if let Err(r) = verdict {
-        return Err(r);
-    }
+    judge(cells, volumes, masses, page, bytes.len(), Ok(()))?;
     let places = rest_places(cells, volumes);
     let length = put(bytes, places, cells, volumes, masses, page as usize);
     Ok(length as u64)

@@ -7,22 +7,18 @@ ghost use Rattle.public_board.specs.Public.{public_board_verdict, PublicBoardIs}
 
 use board::{BoardAnswer, board_after};
 use checks::check_cells;
-use model::needs::and_then;
-use public_marks::{marks_good, marks_long};
 use model::Refusal;
+use public_marks::{marks_good, marks_long};
 
 // What the public board is refused for.
 fn judge(cells: usize, volumes: &[u64], masses: &[u64], marks: &[u64]) -> Result<(), Refusal>
     ensures { said result ≡ public_board_verdict volumes.now masses.now marks.now cells }
 {
     let none = &volumes[..0];
-    let tables = check_lent::field_lent(cells, 0, volumes, none, none, none, none, masses);
-    if let Err(r) = tables {
-        return Err(r);
-    }
-    let marked = marks_long(cells, marks);
-    let field = and_then(marked, check_cells(cells, volumes, masses));
-    and_then(field, marks_good(cells, marks))
+    check_lent::field_lent(cells, 0, volumes, none, none, none, none, masses)?;
+    marks_long(cells, marks)?;
+    check_cells(cells, volumes, masses)?;
+    marks_good(cells, marks)
 }
 
 // The public board of a field: causes 1 (cells), 2 (volumes, masses, marks), 3, 6 and 27, else the highest open cells.

@@ -5,10 +5,10 @@ ghost use Rattle.std.specs.Prelude.{◌≡◌};
 ghost use Rattle.model.specs.Answers.{said};
 ghost use Rattle.public_page.specs.Public.{public_page_verdict, PublicPageIs};
 
+use model::Refusal;
 use page::judge;
 use page_lines::{PAGE_CELLS, cells_on, lines, rest_places};
 use public_marks::{marks_good, marks_long};
-use model::Refusal;
 
 // What printing a public page into so many bytes is refused for. The marks are read only where the cells are few and the table is long enough.
 fn judge_public(
@@ -22,10 +22,7 @@ fn judge_public(
     ensures { said result ≡ public_page_verdict volumes.now masses.now marks.now cells page room }
 {
     let marked = marks_long(cells, marks);
-    let whole = judge(cells, volumes, masses, page, room, marked);
-    if let Err(r) = whole {
-        return Err(r);
-    }
+    judge(cells, volumes, masses, page, room, marked)?;
     marks_good(cells, marks)
 }
 
@@ -40,10 +37,7 @@ pub fn public_page(
 ) -> Result<u64, Refusal>
     ensures { PublicPageIs volumes.now masses.now marks.now cells page bytes.old result bytes.new }
 {
-    let verdict = judge_public(cells, volumes, masses, page, bytes.len(), marks);
-    if let Err(r) = verdict {
-        return Err(r);
-    }
+    judge_public(cells, volumes, masses, page, bytes.len(), marks)?;
     let first = page as usize * PAGE_CELLS;
     let count = cells_on(cells, page as usize);
     let places = rest_places(cells, volumes);
