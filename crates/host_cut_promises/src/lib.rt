@@ -1,8 +1,6 @@
 // What the call that cuts a lagoon in records promises: definitions and laws, and the numbers that its parts hand on.
 #![tactic(auto)]
 
-use model::Refusal;
-
 // The bytes that the records of one part take.
 #[derive(Clone, Copy)]
 pub struct PartLengths {
