@@ -16,8 +16,14 @@ unfolding touched
 touched-is b zero l = absurd (omega arith)
 touched-is b (suc w) l = omega arith
 
--- a reader's turns by those bytes: after the last the field's last byte is read
+-- a reader's turns by those bytes: in each one of them is left, and after the last the field's last byte is read
 module _ (b w : ℕ) (some : 0 < w) (k : ℕ) where
+  pub turn-within : k < (b + w - 1) / 8 + 1 - b / 8 → k + 1 ≤ touched b w
+  turn-within l = omega (arith, touched-is b w some)
+
+  pub turn-less : k < (b + w - 1) / 8 + 1 - b / 8 → touched b w - (k + 1) < touched b w - k
+  turn-less l = omega (arith, touched-is b w some)
+
   pub turns-end : (b + w - 1) / 8 + 1 - b / 8 ≤ k → k ≤ touched b w → b / 8 + k ≡ (b + w - 1) / 8 + 1
   turns-end l m = omega (arith, touched-is b w some)
 

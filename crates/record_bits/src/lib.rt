@@ -87,8 +87,11 @@ pub fn read_bits(src: &[u8], at: usize, width: usize) -> u64
     let first = at / 8;
     let bytes = last + 1 - first;
     let mut v: u64 = 0;
-    for k in 0..bytes {
+    let mut k = 0;
+    // a while: S-3 asks for the number that falls, the `decreases-loop` of this function's proof
+    while k < bytes {
         v = joined(src, first, k, v);
+        k += 1;
     }
     part(v, below, width)
 }
