@@ -61,7 +61,7 @@ pub fn cut(
         (tables_of volumes1.new firsts1.new seconds1.new shares1.new reaches1.new masses1.new
         fluxes1.new outsides1.new releases1.new) }
 {
-    let a = cutting_causes::verdict(
+    cutting_causes::verdict(
         cells,
         faces,
         volumes,
@@ -92,10 +92,7 @@ pub fn cut(
         outsides1.len(),
         releases0.len(),
         releases1.len(),
-    );
-    if let Err(r) = a {
-        return Err(r);
-    }
+    )?;
     let part_0 = part(
         0, cells, faces, volumes, firsts, seconds, shares, reaches, masses, fluxes, outsides,
         releases, labels, volumes0, firsts0, seconds0, shares0, reaches0, masses0, fluxes0,

@@ -12,15 +12,16 @@ ghost use Rattle.cutting_parts.specs.Cut.{tables_of, lagoon_of};
 ghost use Rattle.cutting_causes.specs.Lengths.{three, lengths_found, values_found};
 
 use cutting_pieces::cells::{count_cells, labels_good};
-use model::needs::{and_then, long, need};
-use model::{Cause, positions, Refusal};
+use model::needs::{long, need};
+use model::{Cause, Refusal, positions};
 
 // The three tables of one position: the whole's and the parts'.
 fn all_long(position: u64, wanted: usize, a: usize, b: usize, c: usize) -> Result<(), Refusal>
     ensures { said result ≡ three position wanted a b c }
 {
-    let x = and_then(long(position, wanted, a), long(position, wanted, b));
-    and_then(x, long(position, wanted, c))
+    long(position, wanted, a)?;
+    long(position, wanted, b)?;
+    long(position, wanted, c)
 }
 
 // Causes 1 and 2, of the lengths by their positions: volumes, firsts, seconds, shares, reaches, masses, fluxes, outsides, releases, labels.
@@ -58,18 +59,17 @@ pub fn lengths(
 ) -> Result<(), Refusal>
     ensures { said result ≡ lengths_found cells faces v v0 v1 f f0 f1 s s0 s1 h h0 h1 k k0 k1 m m0 m1 u u0 u1 o o0 o1 r r0 r1 labels }
 {
-    let counts = check_lent::counts_within(model::MAX_CELLS, model::MAX_FACES, cells, faces);
-    let x = all_long(positions::VOLUMES, cells, v, v0, v1);
-    let x = and_then(x, all_long(positions::FIRSTS, faces, f, f0, f1));
-    let x = and_then(x, all_long(positions::SECONDS, faces, s, s0, s1));
-    let x = and_then(x, all_long(positions::SHARES, faces, h, h0, h1));
-    let x = and_then(x, all_long(positions::REACHES, faces, k, k0, k1));
-    let x = and_then(x, all_long(positions::MASSES, cells, m, m0, m1));
-    let x = and_then(x, all_long(positions::FLUXES, faces, u, u0, u1));
-    let x = and_then(x, all_long(positions::OUTSIDES, faces, o, o0, o1));
-    let x = and_then(x, all_long(positions::RELEASES, cells, r, r0, r1));
-    let x = and_then(x, long(positions::LABELS, cells, labels));
-    and_then(counts, x)
+    check_lent::counts_within(model::MAX_CELLS, model::MAX_FACES, cells, faces)?;
+    all_long(positions::VOLUMES, cells, v, v0, v1)?;
+    all_long(positions::FIRSTS, faces, f, f0, f1)?;
+    all_long(positions::SECONDS, faces, s, s0, s1)?;
+    all_long(positions::SHARES, faces, h, h0, h1)?;
+    all_long(positions::REACHES, faces, k, k0, k1)?;
+    all_long(positions::MASSES, cells, m, m0, m1)?;
+    all_long(positions::FLUXES, faces, u, u0, u1)?;
+    all_long(positions::OUTSIDES, faces, o, o0, o1)?;
+    all_long(positions::RELEASES, cells, r, r0, r1)?;
+    long(positions::LABELS, cells, labels)
 }
 
 // Causes 23 and 24.
@@ -78,9 +78,9 @@ pub fn labels_fit(cells: usize, labels: &[u64]) -> Result<(), Refusal>
     ensures { said result ≡ in_turn (each 23 cells (λ c. leb (get_or labels.now c 0) 1)
         ∷ each 24 2 (λ p. leb 1 (count cells (has_label labels.now p))) ∷ []) }
 {
-    let x = labels_good(cells, labels);
-    let x = and_then(x, need(Cause::Part, 0, 1 <= count_cells(cells, 0, labels)));
-    and_then(x, need(Cause::Part, 1, 1 <= count_cells(cells, 1, labels)))
+    labels_good(cells, labels)?;
+    need(Cause::Part, 0, 1 <= count_cells(cells, 0, labels))?;
+    need(Cause::Part, 1, 1 <= count_cells(cells, 1, labels))
 }
 
 // All causes of values, of tables that are long enough.
@@ -104,7 +104,7 @@ pub fn values(
         (tables_of volumes.now firsts.now seconds.now shares.now reaches.now masses.now
         fluxes.now outsides.now releases.now)) labels.now }
 {
-    let x = check_mesh::values(
+    check_mesh::values(
         cells,
         faces,
         volumes,
@@ -113,12 +113,11 @@ pub fn values(
         shares,
         reaches,
         model::CEILING,
-    );
-    let x = and_then(x, labels_fit(cells, labels));
-    let rest = checks::step_values(
+    )?;
+    labels_fit(cells, labels)?;
+    checks::step_values(
         cells, faces, volumes, firsts, seconds, shares, reaches, masses, fluxes, outsides, releases,
-    );
-    and_then(x, rest)
+    )
 }
 
 // All causes of a cutting, of the whole's tables and of the lengths of those lent for the parts.
@@ -160,7 +159,7 @@ pub fn verdict(
         and_then values_found (lagoon_of cells faces (tables_of volumes.now firsts.now seconds.now shares.now
         reaches.now masses.now fluxes.now outsides.now releases.now)) labels.now) }
 {
-    let a = lengths(
+    lengths(
         cells,
         faces,
         volumes.len(),
@@ -191,10 +190,7 @@ pub fn verdict(
         r0,
         r1,
         labels.len(),
-    );
-    if let Err(r) = a {
-        return Err(r);
-    }
+    )?;
     values(
         cells, faces, volumes, firsts, seconds, shares, reaches, masses, fluxes, outsides,
         releases, labels,
