@@ -10,7 +10,7 @@ ghost use Rattle.bench_step.specs.Bounds.{max_argument, prime};
 
 use model::{MAX_CELLS, MAX_FACES, Refusal};
 use std::num::wrapping_add_u64;
-use transport::{Way, Crossed};
+use transport::{Crossed, Way};
 
 // Most cells on a side of the grid.
 const SIDE: u64 = MAX_CELLS as u64;

@@ -12,8 +12,8 @@ ghost use Rattle.board.specs.Board.{board_size, shown, unused, ranked_cells, Ran
 
 use board_order::{Ranked, comes_before, ranked_of};
 use checks::check_cells;
-use public_marks::is_open;
 use model::Refusal;
+use public_marks::is_open;
 
 // Most cells that the board lists.
 pub const BOARD_SIZE: usize = 8;

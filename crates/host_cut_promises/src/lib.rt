@@ -19,4 +19,3 @@ pub struct CutLengths {
     pub field_1: u64,
     pub step_1: u64,
 }
-

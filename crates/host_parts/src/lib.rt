@@ -7,8 +7,8 @@ ghost use Rattle.host_answer.specs.Number.{number_of};
 ghost use Rattle.host_answer.specs.Found.{Answered};
 ghost use Rattle.host_parts.specs.Parts.{counted};
 
-use host_numbers::{fill4, number_of};
 use cutting::Counts;
+use host_numbers::{fill4, number_of};
 use model::Refusal;
 
 // Its answer: found are cells and faces of part 0, then of part 1.

@@ -8,8 +8,8 @@ ghost use Rattle.host_answer.specs.Found.{Answered};
 ghost use Rattle.host_period_promises.specs.Period.{billed, AddFromC, ChargeFromC};
 ghost use Rattle.host_period_promises.specs.Kept.{KeepFromC, DropFromC, ReturnFromC};
 
-use host_numbers::{answer_number, fill2, number_of};
 use charge::Billed;
+use host_numbers::{answer_number, fill2, number_of};
 use model::Refusal;
 
 // Document 02's S-13: what a step moved outward over the rim, added to the totals of a period.

@@ -8,9 +8,9 @@ ghost use Rattle.host_answer.specs.Found.{alone, Answered};
 ghost use Rattle.host_read_promises.specs.Read.{width_number, width_named, counts_found, lent_mesh, MeshReadFromC, FieldReadFromC, step_finds, StepReadFromC};
 
 use host_numbers::{answer_number, fill1, fill3, number_of};
-use record_layouts::{Width, StepKind};
-use record_reading::MeshCounts;
 use model::Refusal;
+use record_layouts::{StepKind, Width};
+use record_reading::MeshCounts;
 
 // The number of a width: 0 narrow, 1 wide.
 pub fn width_number(width: Width) -> u64

@@ -8,8 +8,8 @@ ghost use Rattle.host_answer.specs.Found.{alone, Answered};
 ghost use Rattle.host_share.specs.Share.{face_from, ShareFromC, version};
 
 use host_numbers::{fill1, number_of};
-use survey_points::{Face, Point};
 use model::Refusal;
+use survey_points::{Face, Point};
 
 // The version's three numbers: the file VERSION has them, and tests/host.sh compares.
 const MAJOR: u64 = 2;

@@ -12,8 +12,8 @@ ghost use Rattle.host_answer.specs.Found.{Answered};
 ghost use Rattle.host_answer.specs.Steps.{crossed, StepFromC, JudgeFromC};
 
 use host_numbers::{fill3, number_of};
-use transport::{Way, Crossed};
 use model::Refusal;
+use transport::{Crossed, Way};
 
 // A step's answer: found are in-mass, out-mass and released mass.
 pub fn answered(answer: Result<Crossed, Refusal>, found: &mut [u64]) -> u64

@@ -12,8 +12,8 @@ ghost use Rattle.host_read_promises.specs.Write.{kind_named, MeshWriteFromC, Fie
 
 use host_numbers::{fill1, number_of};
 use host_read::width_named;
-use record_layouts::{StepKind, Width};
 use model::Refusal;
+use record_layouts::{StepKind, Width};
 
 // The kinds of a step that hold releases.
 const OUTFALLS: u64 = 4;

@@ -14,7 +14,7 @@ pub returns-in_err-balanced : goal.returns-in_err-balanced
 returns-in_err-balanced c =
     let p = err_from_is_err_and c.from_residual.result c.from_residual.ensures.1 in
     let read = balance-read c.args.cells c.args.faces c.args.volumes.now c.args.firsts.now c.args.seconds.now c.args.fluxes.now
-        c.requires.long_enough.0 _ _ c.gather.ensures.0 c.gather.ensures.1 in
+    c.requires.long_enough.0 _ _ c.gather.ensures.0 c.gather.ensures.1 in
     rw (p.1, p.2) (sym (out _ (sym (c.in_err-balanced.ensures ∙ read))))
 
 pub outflow_fits-requires : goal.outflow_fits-requires
@@ -27,8 +27,8 @@ outflow_fits-requires c = (
 pub returns : goal.returns
 returns c =
     let read = balance-read c.args.cells c.args.faces c.args.volumes.now c.args.firsts.now c.args.seconds.now c.args.fluxes.now
-        c.requires.long_enough.0 _ _ c.gather.ensures.0 c.gather.ensures.1 in
+    c.requires.long_enough.0 _ _ c.gather.ensures.0 c.gather.ensures.1 in
     c.outflow_fits.ensures
     ∙ outflow-read c.args.cells c.args.faces c.args.volumes.now c.args.firsts.now c.args.seconds.now c.args.fluxes.now
-        c.requires.long_enough.0 _ _ c.gather.ensures.0 c.gather.ensures.1
+    c.requires.long_enough.0 _ _ c.gather.ensures.0 c.gather.ensures.1
     ∙ sym (past _ (sym (c.in_ok-balanced.ensures ∙ read)))
