@@ -107,7 +107,7 @@ fn told_by(step: u64, taken: Result<Printed, Refusal>) -> Told
     }
 }
 
-// What is told of a step: its figures are taken out, else its refusal is told.
+// What is told of a step: its figures are taken out, else its refusal is told. The form, `let .. else`, is document 01's.
 pub fn tell(step: u64, taken: Result<Printed, Refusal>) -> Told
     ensures { Holds result.line (step_taken_line step taken) × (goes_on taken ≡ not result.last) }
 {

@@ -1,12 +1,9 @@
 -- What the first passes leave is what 21 and 22 ask for.
-use Rattle.std.proofs.Common.{sym, arith, ◌∙◌}
+use Rattle.std.proofs.Common.{sym, ◌∙◌}
 use Rattle.std.proofs.lemmas.Result.{err_from_is_err_and}
 use Rattle.model.specs.Mesh.{mesh_of}
-use Rattle.judging.proofs.Laws.{salted, released-asks, long-enough, faces-fit, bordered, claims-are, refused-21, refused-22, both-passed}
+use Rattle.judging.proofs.Laws.{salted, released-asks, faces-fit, bordered, claims-are, refused-21, refused-22, both-passed}
 use Rattle.judging.proofs.judged_in.Goals as goal
-
-pub claims_good-requires : goal.claims_good-requires
-claims_good-requires c = (c.requires.ready.0.lent.seconds_long, c.requires.ready.0.fluxes_long, omega (arith, c.first_passes-crossed.ensures.moved_long), c.requires.ready.3)
 
 pub returns-in_err-claims_good : goal.returns-in_err-claims_good
 returns-in_err-claims_good c =
@@ -14,12 +11,6 @@ returns-in_err-claims_good c =
     let p = err_from_is_err_and c.from_residual.result c.from_residual.ensures.1 in
     rw (p.1, p.2) (refused-21 M c.args.masses.now c.args.fluxes.now c.args.outsides.now c.args.releases.now
     c.requires.ready.0 c.requires.ready.1 c.requires.ready.2 c.args.claim.now c.requires.ready.3 _ _ _ _ _ c.first_passes-crossed.ensures (sym c.in_err-claims_good.ensures))
-
-pub values-requires-clause-long_enough : goal.values-requires-clause-long_enough
-values-requires-clause-long_enough c =
-    let M = mesh_of c.args.cells c.args.faces c.args.volumes.now c.args.firsts.now c.args.seconds.now c.args.shares.now c.args.reaches.now in
-    long-enough M c.args.masses.now c.args.fluxes.now c.args.outsides.now c.args.releases.now
-    c.requires.ready.0 c.requires.ready.1 c.requires.ready.2 c.args.claim.now c.requires.ready.3
 
 pub values-requires-clause-faces_fit : goal.values-requires-clause-faces_fit
 values-requires-clause-faces_fit c =
