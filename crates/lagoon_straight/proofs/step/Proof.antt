@@ -6,16 +6,16 @@ use Rattle.lagoon_straight.proofs.step.Statement.{statement}
 use Rattle.lagoon_straight.proofs.step.Tie as tie
 
 -- from where the mesh is known to be read back to its reading and to the start, and from the end to there
-abbrev reading : tie.In-Read → tie.After-read_mesh-answer
+abbrev reading : tie.In-Ok → tie.After-read_mesh-answer
 reading d = d.before.before.before.before.before.before
 
 abbrev entered : tie.After-reaches-1 → tie.Start
 entered c = c.before.before.before.before.before.before.before.before.before
 
-abbrev start : tie.In-Read → tie.Start
+abbrev start : tie.In-Ok → tie.Start
 start d = entered d.before.before.before.before.before.before.before
 
-abbrev told : tie.After-on_mesh → tie.In-Read
+abbrev told : tie.After-on_mesh → tie.In-Ok
 told c = c.before.before.before.before.before.before.before
 
 on-mesh-requires : tie.Need-on_mesh-requires
