@@ -97,22 +97,12 @@ fn told_refused(step: u64, refusal: Refusal) -> Told
     }
 }
 
-// What is told of a step by its answer, whichever it is.
-fn told_by(step: u64, taken: Result<Printed, Refusal>) -> Told
+// What is told of a step: its figures, else its refusal.
+pub fn tell(step: u64, taken: Result<Printed, Refusal>) -> Told
     ensures { Holds result.line (step_taken_line step taken) × (goes_on taken ≡ not result.last) }
 {
     match taken {
         Ok(printed) => told_stepped(step, printed),
         Err(refusal) => told_refused(step, refusal),
     }
-}
-
-// What is told of a step: its figures are taken out, else its refusal is told.
-pub fn tell(step: u64, taken: Result<Printed, Refusal>) -> Told
-    ensures { Holds result.line (step_taken_line step taken) × (goes_on taken ≡ not result.last) }
-{
-    let Ok(printed) = taken else {
-        return told_by(step, taken);
-    };
-    told_stepped(step, printed)
 }
