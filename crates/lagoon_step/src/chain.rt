@@ -29,23 +29,14 @@ fn on_mesh(
         field.now step.now bytes.old result bytes.new }
 {
     let mut masses = [0u64; RUN_CELLS];
-    let a = taking_records::take_field(width, cells, field, volumes, &mut masses);
-    if let Err(refusal) = a {
-        return Err(refusal);
-    }
+    taking_records::take_field(width, cells, field, volumes, &mut masses)?;
     let counted = &mut masses[..cells];
-    let b = taking_records::take_step(
+    taking_records::take_step(
         width, cells, faces, step, volumes, firsts, seconds, shares, reaches, counted,
-    );
-    if let Err(refusal) = b {
-        return Err(refusal);
-    }
-    let c = record_writing::write_field(
+    )?;
+    record_writing::write_field(
         width, cells, faces, volumes, firsts, seconds, shares, reaches, counted, bytes,
-    );
-    if let Err(refusal) = c {
-        return Err(refusal);
-    }
+    )?;
     Ok(())
 }
 
@@ -58,35 +49,30 @@ fn in_order(mesh: &[u8], field: &[u8], step: &[u8], bytes: &mut [u8]) -> Result<
     let mut seconds = [0u64; RUN_FACES];
     let mut shares = [0u64; RUN_FACES];
     let mut reaches = [0u64; RUN_FACES];
-    let a = taking_mesh::take_mesh(
+    let counts = taking_mesh::take_mesh(
         mesh,
         &mut volumes,
         &mut firsts,
         &mut seconds,
         &mut shares,
         &mut reaches,
-    );
-    match a {
-        Err(refusal) => Err(refusal),
-        Ok(counts) => {
-            let cells = counts.cells;
-            let faces = counts.faces;
-            let width = counts.width;
-            on_mesh(
-                width,
-                cells,
-                faces,
-                &volumes[..cells],
-                &firsts[..faces],
-                &seconds[..faces],
-                &shares[..faces],
-                &reaches[..faces],
-                field,
-                step,
-                bytes,
-            )
-        }
-    }
+    )?;
+    let cells = counts.cells;
+    let faces = counts.faces;
+    let width = counts.width;
+    on_mesh(
+        width,
+        cells,
+        faces,
+        &volumes[..cells],
+        &firsts[..faces],
+        &seconds[..faces],
+        &shares[..faces],
+        &reaches[..faces],
+        field,
+        step,
+        bytes,
+    )
 }
 
 // The three records.

@@ -10,10 +10,10 @@ ghost use Rattle.record_heads.specs.Heads.{length_said, mesh_length_said, bytes_
 ghost use Rattle.run_intake.specs.Intake.{record_bytes, still_needed, Asked, held, HeldAhead, held_anew, SomeTaken, RecordTaken};
 
 use model::{RUN_CELLS, RUN_FACES, Refusal};
+use record_heads::MeshLength;
 use record_layouts::body::Body;
 use record_layouts::{FIELD_HEAD, MESH_HEAD, STEP_HEAD, Width};
 use std::io::Read;
-use record_heads::MeshLength;
 
 // Most bits of a face in a step record: one at the rim, in the wide kinds.
 const RIM_FACE: usize = Body::SIGN + Body::WIDE_VALUE + Body::OUTSIDE;
@@ -106,10 +106,8 @@ fn rest(rt: &HostRuntime, answer: Result<usize, Refusal>, got: usize, buffer: &m
 fn bytes_alone(answer: Result<MeshLength, Refusal>) -> Result<usize, Refusal>
     ensures { length_said result ≡ bytes_of (mesh_length_said answer) }
 {
-    match answer {
-        Ok(length) => Ok(length.bytes),
-        Err(refusal) => Err(refusal),
-    }
+    let length = answer?;
+    Ok(length.bytes)
 }
 
 pub fn mesh(rt: &HostRuntime, buffer: &mut [u8]) -> Got

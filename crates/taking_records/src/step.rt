@@ -33,22 +33,17 @@ fn stepped(
         reaches.now)
         masses.old fluxes.now outsides.now released.now result masses.new }
 {
-    let answer = transport::step_in(
+    let crossing = transport::step_in(
         known, cells, faces, volumes, firsts, seconds, shares, reaches, masses, fluxes, outsides,
         next, moved, work, released,
-    );
-    match answer {
-        Err(refusal) => Err(refusal),
-        Ok(crossing) => {
-            lists::copy(&next[..cells], masses);
-            Ok(Printed {
-                entered: crossing.entered,
-                gone: crossing.gone,
-                total: checks::field::sum_of(cells, masses),
-                released: crossing.released,
-            })
-        }
-    }
+    )?;
+    lists::copy(&next[..cells], masses);
+    Ok(Printed {
+        entered: crossing.entered,
+        gone: crossing.gone,
+        total: checks::field::sum_of(cells, masses),
+        released: crossing.released,
+    })
 }
 
 // A step record on a mesh and a field, which are judged with it, in lent tables as long as the run's limits, whose entries are no matter. Of a
@@ -79,12 +74,9 @@ pub fn take_step_in(
         reaches.now)
         masses.old bytes.now result masses.new }
 {
-    let read = record_reading::read_step(
+    record_reading::read_step(
         width, cells, faces, seconds, bytes, fluxes, outsides, releases,
-    );
-    if let Err(refusal) = read {
-        return Err(refusal);
-    }
+    )?;
     stepped(
         known,
         cells,
