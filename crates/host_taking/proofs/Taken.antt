@@ -4,7 +4,7 @@ use mathlib.Core.Path.{◌≡◌, sym, ap, ◌∙◌}
 use mathlib.Core.List.{List}
 use native.Mathlib.Omega.{arith}
 use lib.ListN.{length, take}
-use Rattle.model.specs.Mesh.{Mesh, total, run_cells, run_faces}
+use Rattle.model.specs.Mesh.{Mesh, run_cells, run_faces}
 use Rattle.model.specs.Causes.{accepted, refused, Verdict, fine, ◌and_then◌}
 use Rattle.model.specs.Answers.{number}
 use Rattle.model.specs.declared.Refusal.{Refusal}

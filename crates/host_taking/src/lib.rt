@@ -34,28 +34,25 @@ pub fn take_field(
         (mesh_of run_cells run_faces volumes.new firsts.new seconds.new shares.new reaches.new)
         masses.new }
 {
-    let a = taking_mesh::take_mesh(mesh, volumes, firsts, seconds, shares, reaches);
-    match a {
-        Err(refusal) => Err(refusal),
-        Ok(counts) => {
-            let cells = counts.cells;
-            let width = counts.width;
-            let b = taking_records::take_field(width, cells, field, &volumes[..cells], masses);
-            match b {
-                Err(refusal) => Err(refusal),
-                Ok(total) => Ok(FieldCounts {
-                    cells,
-                    faces: counts.faces,
-                    width,
-                    total,
-                }),
-            }
-        }
-    }
+    let counts = taking_mesh::take_mesh(mesh, volumes, firsts, seconds, shares, reaches)?;
+    let cells = counts.cells;
+    let width = counts.width;
+    let total = taking_records::take_field(width, cells, field, &volumes[..cells], masses)?;
+    Ok(FieldCounts {
+        cells,
+        faces: counts.faces,
+        width,
+        total,
+    })
 }
 
 // Both records, for a call that looks at cells alone.
-pub fn take_cells(mesh: &[u8], field: &[u8], volumes: &mut [u64], masses: &mut [u64]) -> Result<FieldCounts, Refusal>
+pub fn take_cells(
+    mesh: &[u8],
+    field: &[u8],
+    volumes: &mut [u64],
+    masses: &mut [u64],
+) -> Result<FieldCounts, Refusal>
     requires { (length volumes.old ≡ run_cells) × (length masses.old ≡ run_cells) }
     ensures { CellsTaking mesh.now field.now result volumes.new masses.new }
 {
