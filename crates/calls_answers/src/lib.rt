@@ -4,10 +4,10 @@
 use board::{BoardAnswer, Entry};
 use calls_arguments::{ROOM, show};
 use model::Refusal;
-use record_layouts::{Width, StepKind};
-use transport::Crossed;
 use record_heads::MeshLength;
+use record_layouts::{StepKind, Width};
 use record_reading::MeshCounts;
+use transport::Crossed;
 
 fn accepted(rt: &HostRuntime) {
     show::word(rt, b" accepted");

@@ -16,7 +16,7 @@ concentrations-requires-clause-by_index c k h =
 pub carry-requires : goal.carry-requires
 carry-requires c =
     let S = input_from c.args.cells c.args.faces c.args.volumes.now c.args.firsts.now c.args.seconds.now c.args.shares.now c.args.reaches.now
-        c.args.masses.now c.args.fluxes.now c.args.outsides.now c.args.releases.now in
+    c.args.masses.now c.args.fluxes.now c.args.outsides.now c.args.releases.now in
     record {
       unseen = record { volumes = c.args.volumes.now; masses = S.masses; q = S.q };
       ready = c.requires.ready.0;
@@ -28,8 +28,8 @@ carry-requires c =
 pub returns : goal.returns
 returns c =
     let S = input_from c.args.cells c.args.faces c.args.volumes.now c.args.firsts.now c.args.seconds.now c.args.shares.now c.args.reaches.now
-        c.args.masses.now c.args.fluxes.now c.args.outsides.now c.args.releases.now in
+    c.args.masses.now c.args.fluxes.now c.args.outsides.now c.args.releases.now in
     c.carry.ensures (record { volumes = c.args.volumes.now; masses = S.masses; q = S.q }) c.requires.ready.0
     (carried-to-start S.mesh S.masses c.args.fluxes.now c.args.outsides.now _ _ _ _
-        (omega (arith, c.requires.lengths, c.concentrations.auto)) c.requires.lengths.1 (omega (arith, c.requires.lengths, c.concentrations.auto))
-        c.concentrations.ensures)
+    (omega (arith, c.requires.lengths, c.concentrations.auto)) c.requires.lengths.1 (omega (arith, c.requires.lengths, c.concentrations.auto))
+    c.concentrations.ensures)
