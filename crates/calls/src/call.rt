@@ -86,18 +86,18 @@ impl TryFrom<u64> for Call {
     }
 }
 
-// The kinds of arguments, short enough for a call's to stand in a row.
+// The kinds of arguments by their letters in docs/CALLS.md.
 const N: Kind = Kind::Number;
 
 const T: Kind = Kind::Table;
 
-const A: Kind = Kind::Amounts;
+const S: Kind = Kind::Amounts;
 
 const B: Kind = Kind::Bytes;
 
-const PT: Kind = Kind::PartTable;
+const P: Kind = Kind::PartTable;
 
-const PA: Kind = Kind::PartAmounts;
+const Q: Kind = Kind::PartAmounts;
 
 impl Call {
     // The arguments of a call, from the left.
@@ -108,21 +108,21 @@ impl Call {
             Call::CheckField => &[N, N, T, T, T, T, T, T],
             Call::CheckCells | Call::Total | Call::Board => &[N, T, T],
             Call::CheckStep | Call::Step | Call::PlainStep => &[
-                N, N, T, T, T, T, T, T, A, T, T, A, T, T,
+                N, N, T, T, T, T, T, T, S, T, T, S, T, T,
             ],
-            Call::Judge => &[N, N, T, T, T, T, T, T, A, T, T, A, T],
+            Call::Judge => &[N, N, T, T, T, T, T, T, S, T, T, S, T],
             Call::Cut => &[
-                N, N, T, T, T, T, T, T, A, T, T, T, PT, PT, PT, PT, PT, PT, PA, PT, PT, PT, PT, PT,
-                PT, PT, PT, PA, PT, PT,
+                N, N, T, T, T, T, T, T, S, T, T, T, P, P, P, P, P, P, Q, P, P, P, P, P, P, P, P, Q,
+                P, P,
             ],
             Call::MeshLength | Call::FieldLength => &[N, N, B],
             Call::StepLength => &[N, N, N, T, B],
             Call::ReadMesh => &[N, N, B, T, T, T, T, T],
             Call::ReadField => &[N, N, B, T],
-            Call::ReadStep => &[N, N, N, T, B, A, T, T],
+            Call::ReadStep => &[N, N, N, T, B, S, T, T],
             Call::WriteMesh => &[N, N, N, T, T, T, T, T, B],
             Call::WriteField => &[N, N, N, T, T, T, T, T, T, B],
-            Call::WriteStep => &[N, N, N, N, T, T, T, T, T, A, T, B, T],
+            Call::WriteStep => &[N, N, N, N, T, T, T, T, T, S, T, B, T],
             Call::NumberAt => &[B, N, N],
             Call::LagoonStep => &[B, B, B, B],
             Call::TakeMesh => &[B, T, T, T, T, T],
@@ -132,7 +132,7 @@ impl Call {
             Call::Keep | Call::GiveBack => &[N, T, T, T, N],
             Call::Drop => &[N, T, N],
             Call::MiddleStage | Call::FaceShare => &[N, N, N, N, N, N, N, N],
-            Call::Add => &[N, T, A, T],
+            Call::Add => &[N, T, S, T],
             Call::Charge => &[N, N, T, T, N],
             Call::PublicPage => &[N, T, T, N, B, T],
             Call::PublicBoard => &[N, T, T, T],
