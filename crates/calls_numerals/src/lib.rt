@@ -27,14 +27,14 @@ const ZERO: u8 = 48;
 const PAST_NINE: u8 = 58;
 
 // A sign and a size.
-#[derive(Clone, Copy)]
+#[derive(Clone, Copy, Debug, PartialEq, Eq)]
 pub struct Number {
     pub minus: bool,
     pub size: u64,
 }
 
 // What reading has come to. After one of the last four it is done.
-#[derive(Clone, Copy)]
+#[derive(Clone, Copy, Debug, PartialEq, Eq)]
 pub enum Token {
     Blank,
     Comment,
@@ -79,17 +79,14 @@ fn grow(n: Number, digit: u64) -> Token
         return Token::TooLarge;
     }
     Token::Digits(Number {
-        minus: minus,
+        minus,
         size: tens + digit,
     })
 }
 
 // Whether a byte is one of those that part numbers.
 fn parts(b: u8) -> bool {
-    match b {
-        TAB | NEWLINE | RETURN | SPACE => true,
-        _ => false,
-    }
+    matches!(b, TAB | NEWLINE | RETURN | SPACE)
 }
 
 // A byte before a number.
@@ -109,25 +106,17 @@ fn begin(b: u8) -> Token {
 
 // A byte after a digit; the mark of a comment ends a number too.
 fn finish(n: Number, b: u8) -> Token {
-    if b == HASH {
-        return Token::Whole(n);
+    if b == HASH || parts(b) {
+        Token::Whole(n)
+    } else {
+        Token::Strange
     }
-    if parts(b) {
-        return Token::Whole(n);
-    }
-    Token::Strange
 }
 
 fn first_digit(minus: bool, digit: u64) -> Token
     requires { digit < 10 }
 {
-    grow(
-        Number {
-            minus: minus,
-            size: 0,
-        },
-        digit,
-    )
+    grow(Number { minus, size: 0 }, digit)
 }
 
 // A digit, read in this state.
@@ -178,10 +167,7 @@ pub fn close(token: Token) -> Token {
 
 pub fn is_done(token: Token) -> bool {
     match token {
-        Token::Blank => false,
-        Token::Comment => false,
-        Token::Minus => false,
-        Token::Digits(_) => false,
-        _ => true,
+        Token::Blank | Token::Comment | Token::Minus | Token::Digits(_) => false,
+        Token::Whole(_) | Token::End | Token::Strange | Token::TooLarge => true,
     }
 }

@@ -1,11 +1,9 @@
-// What can be wrong with a script, and what is printed then.
-use crate::input::Input;
-use calls_arguments::show;
+// What can be wrong with a script, as it is printed.
+use std::error::Error;
+use std::fmt;
 
-// What is wrong with a script.
-#[derive(Clone, Copy)]
+#[derive(Clone, Copy, Debug, PartialEq, Eq)]
 pub enum Fault {
-    Nothing,
     Strange,
     TooLarge,
     NoCall,
@@ -15,34 +13,18 @@ pub enum Fault {
     Cut,
 }
 
-pub fn is_fault(fault: Fault) -> bool {
-    if let Fault::Nothing = fault {
-        false
-    } else {
-        true
+impl fmt::Display for Fault {
+    fn fmt<W: fmt::Write>(&self, f: &mut fmt::Formatter<W>) -> fmt::Result {
+        f.write_str(match self {
+            Fault::Strange => "not a number",
+            Fault::TooLarge => "too large",
+            Fault::NoCall => "no such call",
+            Fault::Sign => "a minus where none may stand",
+            Fault::LongTable => "a table too long",
+            Fault::LongCall => "a call too long",
+            Fault::Cut => "the input ends within a call",
+        })
     }
 }
 
-fn reason(rt: &HostRuntime, fault: Fault) {
-    match fault {
-        Fault::Nothing => show::word(rt, b"nothing"),
-        Fault::Strange => show::word(rt, b"not a number"),
-        Fault::TooLarge => show::word(rt, b"too large"),
-        Fault::NoCall => show::word(rt, b"no such call"),
-        Fault::Sign => show::word(rt, b"a minus where none may stand"),
-        Fault::LongTable => show::word(rt, b"a table too long"),
-        Fault::LongCall => show::word(rt, b"a call too long"),
-        Fault::Cut => show::word(rt, b"the input ends within a call"),
-    }
-}
-
-// What is wrong with a script, and where it was seen.
-pub fn bad(rt: &HostRuntime, fault: Fault, input: Input) {
-    show::word(rt, b"bad input: line");
-    show::number(rt, input.line);
-    show::word(rt, b", byte");
-    show::number(rt, input.byte);
-    show::word(rt, b": ");
-    reason(rt, fault);
-    show::word(rt, b"\n");
-}
+impl Error for Fault {}
