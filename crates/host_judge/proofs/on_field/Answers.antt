@@ -13,7 +13,8 @@ pub returns-in_err-read_step : goal.returns-in_err-read_step
 unfolding claim_judged
 returns-in_err-read_step c =
     let p = err_from_is_err_and c.from_residual.result c.from_residual.ensures.1 in
-    rw (p.1, p.2) (on-unread judged (λ fluxes outsides releases. claim_on fluxes outsides releases c.args.claim.now) c.args.width _ c.args.masses.now c.args.step.now c.args.bytes.now
+    rw (p.1, p.2) (on-unread judged (λ fluxes outsides releases. claim_on fluxes outsides releases c.args.claim.now)
+    c.args.width _ c.args.masses.now c.args.step.now c.args.bytes.now
     c.read_step.ensures refl refl refl c.in_err-read_step.was)
 
 pub slice_bounds-fluxes-end : goal.slice_bounds-fluxes-end
@@ -49,5 +50,6 @@ slice_bounds-written-end-3 c =
 pub returns : goal.returns
 unfolding claim_judged
 returns c =
-    on_read judged (λ fluxes outsides releases. claim_on fluxes outsides releases c.args.claim.now) c.args.width _ c.args.masses.now c.args.step.now c.args.bytes.now c.read_step.ensures refl refl refl
+    on_read judged (λ fluxes outsides releases. claim_on fluxes outsides releases c.args.claim.now)
+    c.args.width _ c.args.masses.now c.args.step.now c.args.bytes.now c.read_step.ensures refl refl refl
     c.in_ok-read_step.was c.written.ensures

@@ -11,7 +11,8 @@ pub returns-in_err-counts : goal.returns-in_err-counts
 unfolding claim_judged
 returns-in_err-counts c =
     let p = err_from_is_err_and c.from_residual.result c.from_residual.ensures.1 in
-    rw (p.1, p.2) (records-refused judged (λ fluxes outsides releases. claim_on fluxes outsides releases c.args.claim.now) c.args.mesh.now c.args.field.now c.args.step.now c.args.bytes.now
+    rw (p.1, p.2) (records-refused judged (λ fluxes outsides releases. claim_on fluxes outsides releases c.args.claim.now)
+    c.args.mesh.now c.args.field.now c.args.step.now c.args.bytes.now
     (untaken c.args.mesh.now c.args.field.now c.take_field.ensures.answer c.in_err-counts.was))
 
 pub slice_bounds-volumes-end : goal.slice_bounds-volumes-end
@@ -56,5 +57,6 @@ on_field-requires c = within-taken _ _ c.take_field.ensures c.in_ok-counts.was
 pub returns : goal.returns
 unfolding claim_judged
 returns c =
-    records-taken judged (λ fluxes outsides releases. claim_on fluxes outsides releases c.args.claim.now) c.args.mesh.now c.args.field.now c.args.step.now c.args.bytes.now c.take_field.ensures
+    records-taken judged (λ fluxes outsides releases. claim_on fluxes outsides releases c.args.claim.now)
+    c.args.mesh.now c.args.field.now c.args.step.now c.args.bytes.now c.take_field.ensures
     c.in_ok-counts.was c.on_field.ensures

@@ -12,31 +12,36 @@ use Rattle.host_judge.proofs.written.Goals as goal
 pub returns-in_err-crossed : goal.returns-in_err-crossed
 unfolding blank
 returns-in_err-crossed c =
+    let k = claim_on c.args.fluxes.now c.args.outsides.now c.args.releases.now c.args.claim.now in
     let p = err_from_is_err_and c.from_residual.result c.from_residual.ensures.1 in
-    rw (p.1, p.2) (step-refused judged judged-keeping c.args.width _ c.requires c.args.masses.now (claim_on c.args.fluxes.now c.args.outsides.now c.args.releases.now c.args.claim.now)
-    (lent _ c.args.masses.now (claim_on c.args.fluxes.now c.args.outsides.now c.args.releases.now c.args.claim.now)) c.args.bytes.now c.judge.ensures.answer c.judge.ensures.next_masses c.in_err-crossed.was)
+    rw (p.1, p.2) (step-refused judged judged-keeping c.args.width _ c.requires c.args.masses.now k (lent _ c.args.masses.now k)
+    c.args.bytes.now c.judge.ensures.answer c.judge.ensures.next_masses c.in_err-crossed.was)
 
 pub slice_bounds-next-end : goal.slice_bounds-next-end
 unfolding blank
 slice_bounds-next-end c =
-    (next-part judged judged-keeping c.args.width _ c.requires c.args.masses.now (claim_on c.args.fluxes.now c.args.outsides.now c.args.releases.now c.args.claim.now)
-    (lent _ c.args.masses.now (claim_on c.args.fluxes.now c.args.outsides.now c.args.releases.now c.args.claim.now)) c.args.bytes.now c.judge.ensures.answer c.judge.ensures.next_masses c.in_ok-crossed.was).fits
+    let k = claim_on c.args.fluxes.now c.args.outsides.now c.args.releases.now c.args.claim.now in
+    (next-part judged judged-keeping c.args.width _ c.requires c.args.masses.now k (lent _ c.args.masses.now k)
+    c.args.bytes.now c.judge.ensures.answer c.judge.ensures.next_masses c.in_ok-crossed.was).fits
 
 pub slice_bounds-write_field-end : goal.slice_bounds-write_field-end
 unfolding blank
 slice_bounds-write_field-end c =
-    part-long (next-part judged judged-keeping c.args.width _ c.requires c.args.masses.now (claim_on c.args.fluxes.now c.args.outsides.now c.args.releases.now c.args.claim.now)
-    (lent _ c.args.masses.now (claim_on c.args.fluxes.now c.args.outsides.now c.args.releases.now c.args.claim.now)) c.args.bytes.now c.judge.ensures.answer c.judge.ensures.next_masses c.in_ok-crossed.was)
+    let k = claim_on c.args.fluxes.now c.args.outsides.now c.args.releases.now c.args.claim.now in
+    part-long (next-part judged judged-keeping c.args.width _ c.requires c.args.masses.now k (lent _ c.args.masses.now k)
+    c.args.bytes.now c.judge.ensures.answer c.judge.ensures.next_masses c.in_ok-crossed.was)
 
 pub returns-in_err-write_field : goal.returns-in_err-write_field
 unfolding blank
 returns-in_err-write_field c =
+    let k = claim_on c.args.fluxes.now c.args.outsides.now c.args.releases.now c.args.claim.now in
     let p = err_from_is_err_and c.from_residual-in_err-write_field.result c.from_residual-in_err-write_field.ensures.1 in
-    rw (p.1, p.2) (no_room judged judged-keeping c.args.width _ c.requires c.args.masses.now (claim_on c.args.fluxes.now c.args.outsides.now c.args.releases.now c.args.claim.now)
-    (lent _ c.args.masses.now (claim_on c.args.fluxes.now c.args.outsides.now c.args.releases.now c.args.claim.now)) c.args.bytes.now c.judge.ensures.answer c.judge.ensures.next_masses c.in_ok-crossed.was c.write_field.ensures c.in_err-write_field.was)
+    rw (p.1, p.2) (no_room judged judged-keeping c.args.width _ c.requires c.args.masses.now k (lent _ c.args.masses.now k)
+    c.args.bytes.now c.judge.ensures.answer c.judge.ensures.next_masses c.in_ok-crossed.was c.write_field.ensures c.in_err-write_field.was)
 
 pub returns : goal.returns
 unfolding blank
 returns c =
-    record-written judged judged-keeping c.args.width _ c.requires c.args.masses.now (claim_on c.args.fluxes.now c.args.outsides.now c.args.releases.now c.args.claim.now)
-    (lent _ c.args.masses.now (claim_on c.args.fluxes.now c.args.outsides.now c.args.releases.now c.args.claim.now)) c.args.bytes.now c.judge.ensures.answer c.judge.ensures.next_masses c.in_ok-crossed.was c.write_field.ensures c.in_ok-write_field.was
+    let k = claim_on c.args.fluxes.now c.args.outsides.now c.args.releases.now c.args.claim.now in
+    record-written judged judged-keeping c.args.width _ c.requires c.args.masses.now k (lent _ c.args.masses.now k)
+    c.args.bytes.now c.judge.ensures.answer c.judge.ensures.next_masses c.in_ok-crossed.was c.write_field.ensures c.in_ok-write_field.was
