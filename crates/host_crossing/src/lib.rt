@@ -10,7 +10,7 @@ ghost use Rattle.host_record_promises.specs.Crossing.{step_found, crossed_in};
 
 use host_numbers::{fill3, number_of};
 use host_taking::take_field;
-use model::{RUN_CELLS, RUN_FACES, Printed, Refusal};
+use model::{Printed, RUN_CELLS, RUN_FACES, Refusal};
 
 // The three records in their order; the step is made on tables of its own.
 fn crossed(mesh: &[u8], field: &[u8], step: &[u8]) -> Result<Printed, Refusal>
@@ -22,7 +22,7 @@ fn crossed(mesh: &[u8], field: &[u8], step: &[u8]) -> Result<Printed, Refusal>
     let mut shares = [0u64; RUN_FACES];
     let mut reaches = [0u64; RUN_FACES];
     let mut masses = [0u64; RUN_CELLS];
-    let a = take_field(
+    let counts = take_field(
         mesh,
         field,
         &mut volumes,
@@ -31,27 +31,22 @@ fn crossed(mesh: &[u8], field: &[u8], step: &[u8]) -> Result<Printed, Refusal>
         &mut shares,
         &mut reaches,
         &mut masses,
-    );
-    match a {
-        Err(refusal) => Err(refusal),
-        Ok(counts) => {
-            let cells = counts.cells;
-            let faces = counts.faces;
-            let width = counts.width;
-            taking_records::take_step(
-                width,
-                cells,
-                faces,
-                step,
-                &volumes[..cells],
-                &firsts[..faces],
-                &seconds[..faces],
-                &shares[..faces],
-                &reaches[..faces],
-                &mut masses[..cells],
-            )
-        }
-    }
+    )?;
+    let cells = counts.cells;
+    let faces = counts.faces;
+    let width = counts.width;
+    taking_records::take_step(
+        width,
+        cells,
+        faces,
+        step,
+        &volumes[..cells],
+        &firsts[..faces],
+        &seconds[..faces],
+        &shares[..faces],
+        &reaches[..faces],
+        &mut masses[..cells],
+    )
 }
 
 // What the step on records answers where there is room for the next field.

@@ -38,31 +38,23 @@ fn written(
         bytes.old result bytes.new }
 {
     let mut next = [0u64; RUN_CELLS];
-    let a = judging::judge(
+    let crossed = judging::judge(
         cells, faces, volumes, firsts, seconds, shares, reaches, masses, fluxes, outsides,
         &mut next, claim, releases,
-    );
-    match a {
-        Err(refusal) => Err(refusal),
-        Ok(crossed) => {
-            let b = record_writing::write_field(
-                width,
-                cells,
-                faces,
-                volumes,
-                firsts,
-                seconds,
-                shares,
-                reaches,
-                &next[..cells],
-                bytes,
-            );
-            match b {
-                Err(refusal) => Err(refusal),
-                Ok(_) => Ok(crossed),
-            }
-        }
-    }
+    )?;
+    record_writing::write_field(
+        width,
+        cells,
+        faces,
+        volumes,
+        firsts,
+        seconds,
+        shares,
+        reaches,
+        &next[..cells],
+        bytes,
+    )?;
+    Ok(crossed)
 }
 
 // The step record, on a mesh and a field that have been taken.
@@ -89,7 +81,7 @@ fn on_field(
     let mut fluxes = [0i64; RUN_FACES];
     let mut outsides = [0u64; RUN_FACES];
     let mut releases = [0u64; RUN_CELLS];
-    let a = record_reading::read_step(
+    record_reading::read_step(
         width,
         cells,
         faces,
@@ -98,30 +90,33 @@ fn on_field(
         &mut fluxes,
         &mut outsides,
         &mut releases,
-    );
-    match a {
-        Err(refusal) => Err(refusal),
-        Ok(_) => written(
-            width,
-            cells,
-            faces,
-            volumes,
-            firsts,
-            seconds,
-            shares,
-            reaches,
-            masses,
-            &fluxes[..faces],
-            &outsides[..faces],
-            &releases[..cells],
-            claim,
-            bytes,
-        ),
-    }
+    )?;
+    written(
+        width,
+        cells,
+        faces,
+        volumes,
+        firsts,
+        seconds,
+        shares,
+        reaches,
+        masses,
+        &fluxes[..faces],
+        &outsides[..faces],
+        &releases[..cells],
+        claim,
+        bytes,
+    )
 }
 
 // The three records in their order.
-fn on_records(mesh: &[u8], field: &[u8], step: &[u8], claim: &[i64], bytes: &mut [u8]) -> Result<Crossed, Refusal>
+fn on_records(
+    mesh: &[u8],
+    field: &[u8],
+    step: &[u8],
+    claim: &[i64],
+    bytes: &mut [u8],
+) -> Result<Crossed, Refusal>
     ensures { JudgedTaking mesh.now field.now step.now claim.now
         bytes.old result bytes.new }
 {
@@ -131,7 +126,7 @@ fn on_records(mesh: &[u8], field: &[u8], step: &[u8], claim: &[i64], bytes: &mut
     let mut shares = [0u64; RUN_FACES];
     let mut reaches = [0u64; RUN_FACES];
     let mut masses = [0u64; RUN_CELLS];
-    let a = take_field(
+    let counts = take_field(
         mesh,
         field,
         &mut volumes,
@@ -140,29 +135,24 @@ fn on_records(mesh: &[u8], field: &[u8], step: &[u8], claim: &[i64], bytes: &mut
         &mut shares,
         &mut reaches,
         &mut masses,
-    );
-    match a {
-        Err(refusal) => Err(refusal),
-        Ok(counts) => {
-            let cells = counts.cells;
-            let faces = counts.faces;
-            let width = counts.width;
-            on_field(
-                width,
-                cells,
-                faces,
-                &volumes[..cells],
-                &firsts[..faces],
-                &seconds[..faces],
-                &shares[..faces],
-                &reaches[..faces],
-                &masses[..cells],
-                step,
-                claim,
-                bytes,
-            )
-        }
-    }
+    )?;
+    let cells = counts.cells;
+    let faces = counts.faces;
+    let width = counts.width;
+    on_field(
+        width,
+        cells,
+        faces,
+        &volumes[..cells],
+        &firsts[..faces],
+        &seconds[..faces],
+        &shares[..faces],
+        &reaches[..faces],
+        &masses[..cells],
+        step,
+        claim,
+        bytes,
+    )
 }
 
 // Another model's step on a mesh, a field and a step record; the next field record goes into `next`.

@@ -11,7 +11,7 @@ use host_numbers::number_of;
 use host_taking::take_field;
 use model::{RUN_CELLS, RUN_FACES, RUN_WORK, Refusal};
 use record_layouts::Width;
-use transport::{Way, Crossed};
+use transport::{Crossed, Way};
 
 // A plain step on tables, with the next masses written as a record.
 fn written(
@@ -38,7 +38,7 @@ fn written(
     let mut next = [0u64; RUN_CELLS];
     let mut moved = [0i64; RUN_FACES];
     let mut work = [0u64; RUN_WORK];
-    let a = transport::step(
+    let crossed = transport::step(
         Way::Plain,
         cells,
         faces,
@@ -54,28 +54,20 @@ fn written(
         &mut moved,
         &mut work,
         releases,
-    );
-    match a {
-        Err(refusal) => Err(refusal),
-        Ok(crossed) => {
-            let b = record_writing::write_field(
-                width,
-                cells,
-                faces,
-                volumes,
-                firsts,
-                seconds,
-                shares,
-                reaches,
-                &next[..cells],
-                bytes,
-            );
-            match b {
-                Err(refusal) => Err(refusal),
-                Ok(_) => Ok(crossed),
-            }
-        }
-    }
+    )?;
+    record_writing::write_field(
+        width,
+        cells,
+        faces,
+        volumes,
+        firsts,
+        seconds,
+        shares,
+        reaches,
+        &next[..cells],
+        bytes,
+    )?;
+    Ok(crossed)
 }
 
 // The step record, on a mesh and a field that have been taken.
@@ -101,7 +93,7 @@ fn on_field(
     let mut fluxes = [0i64; RUN_FACES];
     let mut outsides = [0u64; RUN_FACES];
     let mut releases = [0u64; RUN_CELLS];
-    let a = record_reading::read_step(
+    record_reading::read_step(
         width,
         cells,
         faces,
@@ -110,25 +102,22 @@ fn on_field(
         &mut fluxes,
         &mut outsides,
         &mut releases,
-    );
-    match a {
-        Err(refusal) => Err(refusal),
-        Ok(_) => written(
-            width,
-            cells,
-            faces,
-            volumes,
-            firsts,
-            seconds,
-            shares,
-            reaches,
-            masses,
-            &fluxes[..faces],
-            &outsides[..faces],
-            &releases[..cells],
-            bytes,
-        ),
-    }
+    )?;
+    written(
+        width,
+        cells,
+        faces,
+        volumes,
+        firsts,
+        seconds,
+        shares,
+        reaches,
+        masses,
+        &fluxes[..faces],
+        &outsides[..faces],
+        &releases[..cells],
+        bytes,
+    )
 }
 
 // The three records in their order.
@@ -141,7 +130,7 @@ fn on_records(mesh: &[u8], field: &[u8], step: &[u8], bytes: &mut [u8]) -> Resul
     let mut shares = [0u64; RUN_FACES];
     let mut reaches = [0u64; RUN_FACES];
     let mut masses = [0u64; RUN_CELLS];
-    let a = take_field(
+    let counts = take_field(
         mesh,
         field,
         &mut volumes,
@@ -150,28 +139,23 @@ fn on_records(mesh: &[u8], field: &[u8], step: &[u8], bytes: &mut [u8]) -> Resul
         &mut shares,
         &mut reaches,
         &mut masses,
-    );
-    match a {
-        Err(refusal) => Err(refusal),
-        Ok(counts) => {
-            let cells = counts.cells;
-            let faces = counts.faces;
-            let width = counts.width;
-            on_field(
-                width,
-                cells,
-                faces,
-                &volumes[..cells],
-                &firsts[..faces],
-                &seconds[..faces],
-                &shares[..faces],
-                &reaches[..faces],
-                &masses[..cells],
-                step,
-                bytes,
-            )
-        }
-    }
+    )?;
+    let cells = counts.cells;
+    let faces = counts.faces;
+    let width = counts.width;
+    on_field(
+        width,
+        cells,
+        faces,
+        &volumes[..cells],
+        &firsts[..faces],
+        &seconds[..faces],
+        &shares[..faces],
+        &reaches[..faces],
+        &masses[..cells],
+        step,
+        bytes,
+    )
 }
 
 // The plain step on a mesh, a field and a step record; the next field record goes into `next`.

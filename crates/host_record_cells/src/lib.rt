@@ -32,14 +32,9 @@ fn page_of(mesh: &[u8], field: &[u8], page: u64, bytes: &mut [u8]) -> Result<u64
 {
     let mut volumes = [0u64; RUN_CELLS];
     let mut masses = [0u64; RUN_CELLS];
-    let a = take_cells(mesh, field, &mut volumes, &mut masses);
-    match a {
-        Err(refusal) => Err(refusal),
-        Ok(counts) => {
-            let cells = counts.cells;
-            page::page(cells, &volumes[..cells], &masses[..cells], page, bytes)
-        }
-    }
+    let counts = take_cells(mesh, field, &mut volumes, &mut masses)?;
+    let cells = counts.cells;
+    page::page(cells, &volumes[..cells], &masses[..cells], page, bytes)
 }
 
 // The same for the public, with marks of the cells.
@@ -54,21 +49,16 @@ fn public_page_of(
 {
     let mut volumes = [0u64; RUN_CELLS];
     let mut masses = [0u64; RUN_CELLS];
-    let a = take_cells(mesh, field, &mut volumes, &mut masses);
-    match a {
-        Err(refusal) => Err(refusal),
-        Ok(counts) => {
-            let cells = counts.cells;
-            public_page::public_page(
-                cells,
-                &volumes[..cells],
-                &masses[..cells],
-                page,
-                bytes,
-                marks,
-            )
-        }
-    }
+    let counts = take_cells(mesh, field, &mut volumes, &mut masses)?;
+    let cells = counts.cells;
+    public_page::public_page(
+        cells,
+        &volumes[..cells],
+        &masses[..cells],
+        page,
+        bytes,
+        marks,
+    )
 }
 
 // A page of the binder.
