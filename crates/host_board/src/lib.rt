@@ -45,12 +45,10 @@ pub fn answered(answer: BoardAnswer, found: &mut [u64]) -> u64
     requires { number_of (board_said answer) < 2 ^ 64 }
     ensures { Answered shown_numbers (board_said answer) found.old result found.new }
 {
-    let verdict = answer.verdict;
-    if let Err(refusal) = verdict {
+    if let Err(refusal) = answer.verdict {
         return number_of(refusal);
     }
-    let entries = answer.entries;
-    fill_board(answer.used as u64, entries, found);
+    fill_board(answer.used as u64, answer.entries, found);
     0
 }
 

@@ -9,12 +9,12 @@ ghost use Rattle.host_cut_promises.specs.Cut.{records_of, lengths_found, CutFrom
 ghost use Rattle.host_cut_promises.specs.Inner.{cut_said, CutOn, CutTaking};
 
 use host_cut_labels::labels_found;
+use host_cut_promises::CutLengths;
 use host_cut_tables::cut_tables;
 use host_numbers::{fill4, number_of, put};
 use host_taking::take_field;
 use model::{RUN_CELLS, RUN_FACES, Refusal};
 use record_layouts::Width;
-use host_cut_promises::CutLengths;
 
 // The step record, on a mesh and a field that have been taken.
 fn on_field(
@@ -45,7 +45,7 @@ fn on_field(
     let mut fluxes = [0i64; RUN_FACES];
     let mut outsides = [0u64; RUN_FACES];
     let mut releases = [0u64; RUN_CELLS];
-    let a = record_reading::read_step(
+    let kind = record_reading::read_step(
         width,
         cells,
         faces,
@@ -54,32 +54,29 @@ fn on_field(
         &mut fluxes,
         &mut outsides,
         &mut releases,
-    );
-    match a {
-        Err(refusal) => Err(refusal),
-        Ok(kind) => cut_tables(
-            width,
-            kind,
-            cells,
-            faces,
-            volumes,
-            firsts,
-            seconds,
-            shares,
-            reaches,
-            masses,
-            &fluxes[..faces],
-            &outsides[..faces],
-            &releases[..cells],
-            labels,
-            mesh0,
-            field0,
-            step0,
-            mesh1,
-            field1,
-            step1,
-        ),
-    }
+    )?;
+    cut_tables(
+        width,
+        kind,
+        cells,
+        faces,
+        volumes,
+        firsts,
+        seconds,
+        shares,
+        reaches,
+        masses,
+        &fluxes[..faces],
+        &outsides[..faces],
+        &releases[..cells],
+        labels,
+        mesh0,
+        field0,
+        step0,
+        mesh1,
+        field1,
+        step1,
+    )
 }
 
 // The three records in their order.
@@ -106,7 +103,7 @@ fn on_records(
     let mut shares = [0u64; RUN_FACES];
     let mut reaches = [0u64; RUN_FACES];
     let mut masses = [0u64; RUN_CELLS];
-    let a = take_field(
+    let counts = take_field(
         mesh,
         field,
         &mut volumes,
@@ -115,34 +112,28 @@ fn on_records(
         &mut shares,
         &mut reaches,
         &mut masses,
-    );
-    match a {
-        Err(refusal) => Err(refusal),
-        Ok(counts) => {
-            let cells = counts.cells;
-            let faces = counts.faces;
-            let width = counts.width;
-            on_field(
-                width,
-                cells,
-                faces,
-                &volumes[..cells],
-                &firsts[..faces],
-                &seconds[..faces],
-                &shares[..faces],
-                &reaches[..faces],
-                &masses[..cells],
-                step,
-                labels,
-                mesh0,
-                field0,
-                step0,
-                mesh1,
-                field1,
-                step1,
-            )
-        }
-    }
+    )?;
+    let cells = counts.cells;
+    let faces = counts.faces;
+    on_field(
+        counts.width,
+        cells,
+        faces,
+        &volumes[..cells],
+        &firsts[..faces],
+        &seconds[..faces],
+        &shares[..faces],
+        &reaches[..faces],
+        &masses[..cells],
+        step,
+        labels,
+        mesh0,
+        field0,
+        step0,
+        mesh1,
+        field1,
+        step1,
+    )
 }
 
 // The answer: found are the bytes of the six records.
@@ -182,8 +173,7 @@ pub extern "C" fn lagoon_cut(
         (records_of mesh0.new field0.new step0.new)
         (records_of mesh1.new field1.new step1.new) found.new }
 {
-    let a = labels_found(mesh, labels);
-    if let Err(r) = a {
+    if let Err(r) = labels_found(mesh, labels) {
         return number_of(r);
     }
     let b = on_records(

@@ -7,16 +7,13 @@ ghost use Rattle.host_cut_promises.specs.Cut.{labels_find, labelled};
 
 use cutting_causes::labels_fit;
 use model::needs::long;
-use model::{RUN_CELLS, RUN_FACES, positions, Refusal};
+use model::{RUN_CELLS, RUN_FACES, Refusal, positions};
 
 // Labels of so many cells.
 fn labels_of(cells: usize, labels: &[u64]) -> Result<(), Refusal>
     ensures { said result ≡ labels_find cells labels.now }
 {
-    let a = long(positions::LABELS, cells, labels.len());
-    if let Err(r) = a {
-        return Err(r);
-    }
+    long(positions::LABELS, cells, labels.len())?;
     labels_fit(cells, labels)
 }
 
@@ -29,16 +26,13 @@ pub fn labels_found(mesh: &[u8], labels: &[u64]) -> Result<(), Refusal>
     let mut seconds = [0u64; RUN_FACES];
     let mut shares = [0u64; RUN_FACES];
     let mut reaches = [0u64; RUN_FACES];
-    let a = taking_mesh::take_mesh(
+    let counts = taking_mesh::take_mesh(
         mesh,
         &mut volumes,
         &mut firsts,
         &mut seconds,
         &mut shares,
         &mut reaches,
-    );
-    match a {
-        Err(refusal) => Err(refusal),
-        Ok(counts) => labels_of(counts.cells, labels),
-    }
+    )?;
+    labels_of(counts.cells, labels)
 }

@@ -12,12 +12,13 @@ use Rattle.record_layouts.specs.declared.Width.{Width}
 use Rattle.record_writing.specs.Writing.{Writing}
 use Rattle.host_taking.proofs.Taken.{unfine}
 use Rattle.host_cut_promises.specs.Cut.{Records, own_part, piece}
-use Rattle.host_cut_promises.specs.Inner.{writers_find, Wrote, bytes_of, PieceWritten}
+use Rattle.host_cut_promises.specs.Inner.{writers_find, Wrote, PieceWritten}
 use Rattle.host_cut_promises.specs.declared.PartLengths.{PartLengths}
 use Rattle.std.specs.Prelude.{Result, Ok, Err}
+use Rattle.std.specs.Result.{result_unwrap_or}
 use Rattle.model.specs.declared.Refusal.{Refusal}
 
-pub wrote : {v : Verdict} {n : ℕ} {written bytes : List ℕ} (o : Result ℕ Refusal) {bytes' : List ℕ} {k : ℕ} → Writing v n written bytes o bytes' → k ≡ bytes_of o
+pub wrote : {v : Verdict} {n : ℕ} {written bytes : List ℕ} (o : Result ℕ Refusal) {bytes' : List ℕ} {k : ℕ} → Writing v n written bytes o bytes' → k ≡ result_unwrap_or o 0
     → Wrote v n written bytes k bytes'
 wrote {v = v} {n = n} (Ok m) x e = record { takes = λ q. e ∙ (accepted-of v n m x.answer).1; left = x.bytes_written }
 wrote {v = v} {n = n} (Err r) x e =

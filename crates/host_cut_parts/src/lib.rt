@@ -7,11 +7,10 @@ ghost use Rattle.cutting_parts.specs.Cut.{tables_of, lagoon_of};
 ghost use Rattle.cutting_tables.specs.Part.{Cuttable};
 ghost use Rattle.record_layouts.specs.Layouts.{kind_number};
 ghost use Rattle.host_cut_promises.specs.Cut.{own_part, piece, records_of};
-ghost use Rattle.host_cut_promises.specs.Inner.{writers_find, bytes_of, PieceWritten};
+ghost use Rattle.host_cut_promises.specs.Inner.{writers_find, PieceWritten};
 
 use cutting_tables::part;
 use host_cut_promises::PartLengths;
-use model::needs::and_then;
 use model::{RUN_CELLS, RUN_FACES, Refusal};
 use record_layouts::{StepKind, Width};
 
@@ -39,32 +38,16 @@ fn finds(
         reaches.now masses.now fluxes.now outsides.now releases.now))
         mesh_room field_room step_room }
 {
-    let x = record_causes::mesh(
+    record_causes::mesh(
         width, cells, faces, volumes, firsts, seconds, shares, reaches, mesh_room,
-    );
-    let x = and_then(
-        x,
-        record_causes::field(
-            width, cells, faces, volumes, firsts, seconds, shares, reaches, masses, field_room,
-        ),
-    );
-    and_then(
-        x,
-        record_causes::step(
-            width, kind, cells, faces, volumes, firsts, seconds, shares, reaches, fluxes, outsides,
-            step_room, releases,
-        ),
+    )?;
+    record_causes::field(
+        width, cells, faces, volumes, firsts, seconds, shares, reaches, masses, field_room,
+    )?;
+    record_causes::step(
+        width, kind, cells, faces, volumes, firsts, seconds, shares, reaches, fluxes, outsides,
+        step_room, releases,
     )
-}
-
-// The bytes that a writing says it took.
-fn bytes_of(a: Result<u64, Refusal>) -> u64
-    ensures { result ≡ bytes_of a }
-{
-    match a {
-        Ok(n) => n,
-        Err(_) => 0,
-    }
 }
 
 // The three records, each as its writer leaves it.
@@ -102,9 +85,9 @@ fn writes(
         step, releases,
     );
     PartLengths {
-        mesh: bytes_of(a),
-        field: bytes_of(b),
-        step: bytes_of(c),
+        mesh: a.unwrap_or(0),
+        field: b.unwrap_or(0),
+        step: c.unwrap_or(0),
     }
 }
 

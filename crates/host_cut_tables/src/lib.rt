@@ -11,7 +11,6 @@ ghost use Rattle.host_cut_promises.specs.Inner.{both_find, cut_finds, CutIn};
 
 use host_cut_parts::{part_found, part_written};
 use host_cut_promises::CutLengths;
-use model::needs::and_then;
 use model::{RUN_CELLS, RUN_FACES, Refusal};
 use record_layouts::{StepKind, Width};
 
@@ -44,24 +43,20 @@ fn tested(
         reaches.now masses.now fluxes.now outsides.now releases.now))
         labels.now m0 f0 s0 m1 f1 s1) }
 {
-    let a = cutting_causes::verdict(
+    cutting_causes::verdict(
         cells, faces, volumes, firsts, seconds, shares, reaches, masses, fluxes, outsides,
         releases, labels, RUN_CELLS, RUN_CELLS, RUN_FACES, RUN_FACES, RUN_FACES, RUN_FACES,
         RUN_FACES, RUN_FACES, RUN_FACES, RUN_FACES, RUN_CELLS, RUN_CELLS, RUN_FACES, RUN_FACES,
         RUN_FACES, RUN_FACES, RUN_CELLS, RUN_CELLS,
-    );
-    if let Err(r) = a {
-        return Err(r);
-    }
-    let x = part_found(
+    )?;
+    part_found(
         width, kind, 0, cells, faces, volumes, firsts, seconds, shares, reaches, masses, fluxes,
         outsides, releases, labels, m0, f0, s0,
-    );
-    let y = part_found(
+    )?;
+    part_found(
         width, kind, 1, cells, faces, volumes, firsts, seconds, shares, reaches, masses, fluxes,
         outsides, releases, labels, m1, f1, s1,
-    );
-    and_then(x, y)
+    )
 }
 
 // Both parts, in six records.
@@ -93,7 +88,7 @@ pub fn cut_tables(
         (records_of mesh1.old field1.old step1.old) result (records_of mesh0.new field0.new step0.new)
         (records_of mesh1.new field1.new step1.new) }
 {
-    let a = tested(
+    tested(
         width,
         kind,
         cells,
@@ -114,10 +109,7 @@ pub fn cut_tables(
         mesh1.len(),
         field1.len(),
         step1.len(),
-    );
-    if let Err(r) = a {
-        return Err(r);
-    }
+    )?;
     let x = part_written(
         width, kind, 0, cells, faces, volumes, firsts, seconds, shares, reaches, masses, fluxes,
         outsides, releases, labels, mesh0, field0, step0,

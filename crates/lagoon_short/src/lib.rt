@@ -39,14 +39,13 @@ fn on_mesh(
         field.now step.now bytes.old result bytes.new }
 {
     let mut masses = [0u64; FEW_CELLS];
-    let a = record_reading::read_field(width, cells, field, &mut masses);
-    if let Err(_) = a {
+    if record_reading::read_field(width, cells, field, &mut masses).is_err() {
         return false;
     }
     let mut fluxes = [0i64; FEW_FACES];
     let mut outsides = [0u64; FEW_FACES];
     let mut releases = [0u64; FEW_CELLS];
-    let b = record_reading::read_step(
+    let read = record_reading::read_step(
         width,
         cells,
         faces,
@@ -56,7 +55,7 @@ fn on_mesh(
         &mut outsides,
         &mut releases,
     );
-    if let Err(_) = b {
+    if read.is_err() {
         return false;
     }
     let mut next = [0u64; FEW_CELLS];

@@ -35,7 +35,8 @@ use Rattle.taking.proofs.StepLaws.{own-fine, crossed, nexts-part, fluxes-part, o
 use Rattle.lagoon_straight.specs.Straight.{Put, Unrefused, RecordsPut}
 use Rattle.lagoon_straight.specs.Inner.{StepHolds, StepPut, MeshHolds, MeshPut}
 use Rattle.lagoon_straight.proofs.Writer.{write-is, record-within}
-use Rattle.std.specs.Prelude.{Result, Ok}
+use Rattle.std.specs.Prelude.{Result, Ok, Err}
+use Rattle.std.specs.Result.{is_err}
 use Rattle.model.specs.declared.Refusal.{Refusal}
 
 -- not done, and done
@@ -45,6 +46,11 @@ undone = record { done = λ e. absurd (true≢false (sym e)); left = λ e. refl 
 pub put-done : {Holds : Type 0} {w : Width} {S : StepInput} {bytes bytes' : List ℕ} → Holds
     → bytes' ≡ over (field_record (field_kind w) S.mesh.cells (table S.mesh.cells (next S))) bytes → Put Holds w S bytes true bytes'
 put-done h q = record { done = λ e. (h, q); left = λ e. absurd (true≢false e) }
+
+-- an answer that is asked whether it refuses, and does not
+pub answers : {T E : Type 0} {b : Bool} (r : Result T E) → b ≡ is_err r → b ≡ false → (x : T) × (r ≡ Ok x)
+answers (Ok x) q e = (x, refl)
+answers (Err y) q e = absurd (true≢false (sym q ∙ e))
 
 -- a step of which nothing is found
 module _ {M : Mesh} {masses : List ℕ} {fluxes : List ℤ} {outsides nexts : List ℕ} {moveds : List ℤ} {work releases : List ℕ} {a : Result Crossed Refusal}

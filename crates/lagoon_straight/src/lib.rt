@@ -74,14 +74,13 @@ fn on_mesh(
         field.now step.now bytes.old result bytes.new }
 {
     let mut masses = [0u64; RUN_CELLS];
-    let a = record_reading::read_field(width, cells, field, &mut masses);
-    if let Err(_) = a {
+    if record_reading::read_field(width, cells, field, &mut masses).is_err() {
         return false;
     }
     let mut fluxes = [0i64; RUN_FACES];
     let mut outsides = [0u64; RUN_FACES];
     let mut releases = [0u64; RUN_CELLS];
-    let b = record_reading::read_step(
+    let read = record_reading::read_step(
         width,
         cells,
         faces,
@@ -91,7 +90,7 @@ fn on_mesh(
         &mut outsides,
         &mut releases,
     );
-    if let Err(_) = b {
+    if read.is_err() {
         return false;
     }
     let mut next = [0u64; RUN_CELLS];
