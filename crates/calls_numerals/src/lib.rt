@@ -26,7 +26,7 @@ const ZERO: u8 = 48;
 
 const PAST_NINE: u8 = 58;
 
-// A sign and a size.
+// A sign and a size: -0 has a sign too, and is refused for it where none may stand.
 #[derive(Clone, Copy, Debug, PartialEq, Eq)]
 pub struct Number {
     pub minus: bool,

@@ -161,6 +161,7 @@ fn run_on(
     }
     let got = read.count;
     let answer = taking_records::take_field(width, cells, &buffer[..got], volumes, &mut masses);
+    // `let .. else`: the form that document 01 names
     let Ok(total) = answer else {
         if let Err(refusal) = answer {
             run_session::print(rt, run_session::refused_field_line(refusal));
@@ -209,6 +210,7 @@ fn main(rt: HostRuntime) {
         &mut shares,
         &mut reaches,
     );
+    // `let .. else`: the form that document 01 names
     let Ok(counts) = answer else {
         if let Err(refusal) = answer {
             run_session::print(&rt, run_session::refused_mesh_line(refusal));
