@@ -75,6 +75,6 @@ pub fn give_back(
     let end = at + cells;
     let kept = &store[at..end];
     checks::field::values(cells, volumes, kept)?;
-    lists::copy(kept, masses);
+    store_entries::copy(kept, masses);
     Ok(())
 }

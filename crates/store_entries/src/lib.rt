@@ -9,12 +9,23 @@ ghost use Rattle.store_entries.specs.Moved.{moved_down};
 
 use store_kept::{before, used};
 
+// The first entries of a table, filled from another one by one: copied at once, as `lists::copy` does, the calls from C would ask a host for
+// memmove, and the library asks for memcpy and memset alone.
+pub fn copy(from: &[u64], to: &mut [u64])
+    requires { length from.now ≤ length to.old }
+    ensures { to.new ≡ over from.now to.old }
+{
+    for i in 0..from.len() {
+        to[i] = from[i];
+    }
+}
+
 // A field at the front of a part of a store.
 fn write_field(cells: usize, masses: &[u64], name: u64, part: &mut [u64])
     requires { (cells ≤ length masses.now) × (cells < length part.old) }
     ensures { part.new ≡ over (name ∷ front cells masses.now) part.old }
 {
-    lists::copy(&masses[..cells], &mut part[1..]);
+    copy(&masses[..cells], &mut part[1..]);
     part[0] = name;
 }
 
