@@ -91,7 +91,8 @@ fn end_of(back: bool, first: u64, second: u64) -> u64
 
 // Causes 7 and 8 of a face at the rim.
 fn rim_watered(inward: bool, size: u64, outside: u64) -> bool
-    ensures { result ≡ true → WaterFine rim 0 inward size outside }
+    ensures passes { result ≡ true → WaterFine rim 0 inward size outside }
+    ensures accepts { WaterFine rim 0 inward size outside → result ≡ true }
 {
     if model::CEILING < size {
         return false;
@@ -101,7 +102,8 @@ fn rim_watered(inward: bool, size: u64, outside: u64) -> bool
 
 // Causes 7 and 8 of one face.
 fn watered(second: u64, reach: u64, inward: bool, size: u64, outside: u64) -> bool
-    ensures { result ≡ true → WaterFine second reach inward size outside }
+    ensures passes { result ≡ true → WaterFine second reach inward size outside }
+    ensures accepts { WaterFine second reach inward size outside → result ≡ true }
 {
     if second == model::RIM {
         return rim_watered(inward, size, outside);
