@@ -7,9 +7,10 @@ use call::Call;
 use calls_arguments::{BYTES_ROOM, WORDS, parts, show};
 use calls_numerals::Number;
 use calls_script::faults::Fault;
-use calls_script::input::Input;
-use calls_script::wants;
+use calls_script::input::Script;
+use calls_script::{input, wants};
 
+// Each call that is lent tables stands in a frame of its own, by `inline(never)`, so that the stack holds the tables of one call at a time.
 fn make(rt: &HostRuntime, call: Call, words: &[u64], ints: &[i64], bytes: &[u8]) {
     match call {
         Call::CountsWithin => calls_tables::counts_within(rt, words),
@@ -68,11 +69,11 @@ fn named(n: Number) -> Result<Call, Fault> {
 }
 
 // Calls, one after another, to the end of the input or to the first fault. The turns are counted because a proved loop has to end.
-fn calls(rt: &HostRuntime, words: &mut [u64], input: &mut Input) -> Result<(), Fault> {
+fn calls(rt: &HostRuntime, words: &mut [u64], script: &mut Script) -> Result<(), Fault> {
     for _ in 0..u64::MAX {
-        let Some(n) = input.next(rt)? else { break };
+        let Some(n) = script.next(rt)? else { break };
         let call = named(n)?;
-        wants::arguments(rt, call.kinds(), words, input)?;
+        wants::arguments(rt, call.kinds(), words, script)?;
         made(rt, call, words);
     }
     Ok(())
@@ -81,8 +82,11 @@ fn calls(rt: &HostRuntime, words: &mut [u64], input: &mut Input) -> Result<(), F
 fn main(rt: HostRuntime) {
     let mut chunk = [0u8; BYTES_ROOM];
     let mut words = [0u64; WORDS];
-    let mut input = Input::new(&mut chunk);
-    if let Err(fault) = calls(&rt, &mut words, &mut input) {
-        input.bad(&rt, fault);
+    let mut script = Script {
+        chunk: &mut chunk,
+        input: input::start(),
+    };
+    if let Err(fault) = calls(&rt, &mut words, &mut script) {
+        script.bad(&rt, fault);
     }
 }

@@ -1,50 +1,61 @@
 // The bytes of standard input, one number after another, and the line and byte that reading has come to.
+ghost use Rattle.std.specs.Prelude.{◌≡◌};
+
 use crate::faults::Fault;
+use calls_arguments::show;
 use calls_numerals::{Number, Token};
 use std::io::Read;
 
 const NEWLINE: u8 = 10;
 
 // Where reading stands: the next byte of the chunk and how many it holds, the line, and the bytes read before.
-#[derive(Drop)]
-pub struct Input<'a> {
-    chunk: &'a mut [u8],
-    at: usize,
-    got: usize,
-    line: u64,
-    byte: u64,
+#[derive(Clone, Copy, Debug, PartialEq, Eq)]
+pub struct Input {
+    pub at: usize,
+    pub got: usize,
+    pub line: u64,
+    pub byte: u64,
 }
 
-impl<'a> Input<'a> {
-    pub fn new(chunk: &'a mut [u8]) -> Self {
-        Input {
-            chunk,
-            at: 0,
-            got: 0,
-            line: 1,
-            byte: 0,
-        }
+// Before the first byte.
+pub fn start() -> Input
+    ensures { result ≡ record { at = 0; got = 0; line = 1; byte = 0 } }
+{
+    Input {
+        at: 0,
+        got: 0,
+        line: 1,
+        byte: 0,
     }
+}
 
+// A script that is read: a chunk of its bytes, and where reading stands.
+#[derive(Drop)]
+pub struct Script<'a> {
+    pub chunk: &'a mut [u8],
+    pub input: Input,
+}
+
+impl<'a> Script<'a> {
     // The byte that comes next, if any. Reads on where all bytes of the chunk are used; a read that fails ends the input.
     fn peek(&mut self, rt: &HostRuntime) -> Option<u8> {
-        if self.got <= self.at {
-            self.got = rt.stdin().read(self.chunk).unwrap_or(0);
-            self.at = 0;
+        if self.input.got <= self.input.at {
+            self.input.got = rt.stdin().read(self.chunk).unwrap_or(0);
+            self.input.at = 0;
         }
-        if self.got == 0 {
+        if self.input.got == 0 {
             return None;
         }
-        let at = self.at;
+        let at = self.input.at;
         self.chunk.get(at).copied()
     }
 
     // Past one byte.
     fn pass(&mut self, b: u8) {
-        self.at = self.at.wrapping_add(1);
-        self.byte = self.byte.wrapping_add(1);
+        self.input.at = self.input.at.wrapping_add(1);
+        self.input.byte = self.input.byte.wrapping_add(1);
         if b == NEWLINE {
-            self.line = self.line.wrapping_add(1);
+            self.input.line = self.input.line.wrapping_add(1);
         }
     }
 
@@ -74,10 +85,14 @@ impl<'a> Input<'a> {
         }
     }
 
-    // What is wrong with a script, and where it was seen.
+    // What is wrong with a script, and where it was seen. Each piece is written by itself: one that cannot be written is lost alone.
     pub fn bad(&self, rt: &HostRuntime, fault: Fault) {
-        let line = self.line;
-        let byte = self.byte;
-        let _ = println!(rt; "bad input: line {line}, byte {byte}: {fault}");
+        show::word(rt, b"bad input: line");
+        show::number(rt, self.input.line);
+        show::word(rt, b", byte");
+        show::number(rt, self.input.byte);
+        show::word(rt, b": ");
+        let _ = print!(rt; "{fault}");
+        show::word(rt, b"\n");
     }
 }

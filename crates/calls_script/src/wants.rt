@@ -1,6 +1,8 @@
 // What a call asks for: its arguments, each of the kind that its shape names.
+ghost use Rattle.std.specs.Prelude.{◌≡◌, ◌+◌, IfOk};
+
 use crate::faults::Fault;
-use crate::input::Input;
+use crate::input::Script;
 use calls_arguments::{BYTES_ROOM, MARKS, PART_ROOM, ROOM, WORDS};
 use calls_numerals::Number;
 
@@ -79,7 +81,9 @@ fn put(words: &mut [u64], k: usize, x: u64) {
 }
 
 // A number kept at k, and where the next one is kept. The last word may not be used.
-fn keep(words: &mut [u64], k: usize, n: Number) -> Result<usize, Fault> {
+fn keep(words: &mut [u64], k: usize, n: Number) -> Result<usize, Fault>
+    ensures { IfOk result (λ next. next ≡ k + 1) }
+{
     put(words, k, word_of(n));
     if k < WORDS - 1 {
         Ok(k + 1)
@@ -89,8 +93,28 @@ fn keep(words: &mut [u64], k: usize, n: Number) -> Result<usize, Fault> {
 }
 
 // The next number, within a call.
-fn next(rt: &HostRuntime, input: &mut Input) -> Result<Number, Fault> {
-    input.next(rt)?.ok_or(Fault::Cut)
+fn next(rt: &HostRuntime, script: &mut Script) -> Result<Number, Fault> {
+    script.next(rt)?.ok_or(Fault::Cut)
+}
+
+// So many entries of a table, kept from k on, and where the next argument is kept.
+fn table(
+    rt: &HostRuntime,
+    kind: Kind,
+    entries: u64,
+    k: usize,
+    words: &mut [u64],
+    script: &mut Script,
+) -> Result<usize, Fault>
+    ensures { IfOk result (λ next. next ≡ k + entries) }
+{
+    let mut at = k;
+    for _i in 0..entries {
+        let n = next(rt, script)?;
+        entry(kind, n)?;
+        at = keep(words, at, n)?;
+    }
+    Ok(at)
 }
 
 // One argument, kept from k on, and where the next one is kept.
@@ -99,17 +123,12 @@ fn argument(
     kind: Kind,
     k: usize,
     words: &mut [u64],
-    input: &mut Input,
+    script: &mut Script,
 ) -> Result<usize, Fault> {
-    let n = next(rt, input)?;
+    let n = next(rt, script)?;
     head(kind, n)?;
-    let mut k = keep(words, k, n)?;
-    for _ in 0..entries(kind, n) {
-        let n = next(rt, input)?;
-        entry(kind, n)?;
-        k = keep(words, k, n)?;
-    }
-    Ok(k)
+    let k = keep(words, k, n)?;
+    table(rt, kind, entries(kind, n), k, words, script)
 }
 
 // The arguments of a call, and before them where each begins.
@@ -117,12 +136,12 @@ pub fn arguments(
     rt: &HostRuntime,
     kinds: &[Kind],
     words: &mut [u64],
-    input: &mut Input,
+    script: &mut Script,
 ) -> Result<(), Fault> {
     let mut k = MARKS;
     for (i, kind) in kinds.iter().enumerate() {
         put(words, i, k as u64);
-        k = argument(rt, *kind, k, words, input)?;
+        k = argument(rt, *kind, k, words, script)?;
     }
     Ok(())
 }
