@@ -47,6 +47,7 @@ fn held_amounts(words: &[u64], ints: &[i64], argument: usize) -> [i64; PART_ROOM
 }
 
 // The nine tables of a part follow each other among the arguments.
+#[inline(never)]
 pub fn cut(rt: &HostRuntime, words: &[u64], ints: &[i64]) {
     show::word(rt, b"cut:");
     let mut volumes0 = held(words, 12);

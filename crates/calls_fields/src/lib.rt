@@ -4,6 +4,7 @@
 use calls_arguments::parts::{bytes, copy, number, table};
 use calls_arguments::{BYTES_ROOM, ROOM, show};
 
+#[inline(never)]
 pub fn page(rt: &HostRuntime, words: &[u64]) {
     let mut room = [0u8; BYTES_ROOM];
     show::word(rt, b"page:");
@@ -21,6 +22,7 @@ pub fn page(rt: &HostRuntime, words: &[u64]) {
     show::octets(rt, b"; bytes", b, &room);
 }
 
+#[inline(never)]
 pub fn public_page(rt: &HostRuntime, words: &[u64]) {
     let mut room = [0u8; BYTES_ROOM];
     show::word(rt, b"public_page:");
@@ -39,6 +41,7 @@ pub fn public_page(rt: &HostRuntime, words: &[u64]) {
     show::octets(rt, b"; bytes", b, &room);
 }
 
+#[inline(never)]
 pub fn public_board(rt: &HostRuntime, words: &[u64]) {
     show::word(rt, b"public_board:");
     calls_answers::board(
@@ -52,6 +55,7 @@ pub fn public_board(rt: &HostRuntime, words: &[u64]) {
     );
 }
 
+#[inline(never)]
 pub fn keep(rt: &HostRuntime, words: &[u64]) {
     let mut kept = [0u64; ROOM];
     show::word(rt, b"keep:");
@@ -69,6 +73,7 @@ pub fn keep(rt: &HostRuntime, words: &[u64]) {
     show::numbers(rt, b"; store", k, &kept);
 }
 
+#[inline(never)]
 pub fn drop(rt: &HostRuntime, words: &[u64]) {
     let mut kept = [0u64; ROOM];
     show::word(rt, b"drop:");
@@ -80,6 +85,7 @@ pub fn drop(rt: &HostRuntime, words: &[u64]) {
     show::numbers(rt, b"; store", k, &kept);
 }
 
+#[inline(never)]
 pub fn give_back(rt: &HostRuntime, words: &[u64]) {
     let mut masses = [0u64; ROOM];
     show::word(rt, b"give_back:");

@@ -6,6 +6,7 @@ use calls_arguments::{ROOM, show};
 use charge::Billed;
 use model::Refusal;
 
+#[inline(never)]
 pub fn add(rt: &HostRuntime, words: &[u64], ints: &[i64]) {
     let mut entries = [0u64; ROOM];
     show::word(rt, b"add:");
@@ -33,6 +34,7 @@ fn charged(rt: &HostRuntime, said: Result<Billed, Refusal>) {
     }
 }
 
+#[inline(never)]
 pub fn charge(rt: &HostRuntime, words: &[u64]) {
     show::word(rt, b"charge:");
     charged(

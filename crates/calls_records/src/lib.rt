@@ -5,6 +5,7 @@ use calls_arguments::parts::{amounts, bytes, copy, copy_amounts, number, octets,
 use calls_arguments::{BYTES_ROOM, ROOM, show};
 use record_layouts::{StepKind, Width};
 
+#[inline(never)]
 pub fn mesh_length(rt: &HostRuntime, words: &[u64], bytes: &[u8]) {
     show::word(rt, b"mesh_length:");
     calls_answers::mesh_length(
@@ -13,6 +14,7 @@ pub fn mesh_length(rt: &HostRuntime, words: &[u64], bytes: &[u8]) {
     );
 }
 
+#[inline(never)]
 pub fn field_length(rt: &HostRuntime, words: &[u64], bytes: &[u8]) {
     show::word(rt, b"field_length:");
     calls_answers::length(
@@ -25,6 +27,7 @@ pub fn field_length(rt: &HostRuntime, words: &[u64], bytes: &[u8]) {
     );
 }
 
+#[inline(never)]
 pub fn step_length(rt: &HostRuntime, words: &[u64], bytes: &[u8]) {
     show::word(rt, b"step_length:");
     calls_answers::length(
@@ -39,6 +42,7 @@ pub fn step_length(rt: &HostRuntime, words: &[u64], bytes: &[u8]) {
     );
 }
 
+#[inline(never)]
 pub fn read_mesh(rt: &HostRuntime, words: &[u64], bytes: &[u8]) {
     show::word(rt, b"read_mesh:");
     fill_mesh(
@@ -94,6 +98,7 @@ fn fill_mesh(
     );
 }
 
+#[inline(never)]
 pub fn read_field(rt: &HostRuntime, words: &[u64], bytes: &[u8]) {
     let mut masses = [0u64; ROOM];
     show::word(rt, b"read_field:");
@@ -110,6 +115,7 @@ pub fn read_field(rt: &HostRuntime, words: &[u64], bytes: &[u8]) {
     show::numbers(rt, b"; masses", m, &masses);
 }
 
+#[inline(never)]
 pub fn read_step(rt: &HostRuntime, words: &[u64], ints: &[i64], bytes: &[u8]) {
     show::word(rt, b"read_step:");
     fill_step(
@@ -159,6 +165,7 @@ fn fill_step(
     show::numbers(rt, b"; releases", r, &releases);
 }
 
+#[inline(never)]
 pub fn write_mesh(rt: &HostRuntime, words: &[u64]) {
     let mut record = [0u8; BYTES_ROOM];
     show::word(rt, b"write_mesh:");
@@ -180,6 +187,7 @@ pub fn write_mesh(rt: &HostRuntime, words: &[u64]) {
     show::octets(rt, b"; bytes", b, &record);
 }
 
+#[inline(never)]
 pub fn write_field(rt: &HostRuntime, words: &[u64]) {
     let mut record = [0u8; BYTES_ROOM];
     show::word(rt, b"write_field:");
@@ -211,6 +219,7 @@ fn kind(named: usize) -> StepKind {
     }
 }
 
+#[inline(never)]
 pub fn write_step(rt: &HostRuntime, words: &[u64], ints: &[i64]) {
     let mut record = [0u8; BYTES_ROOM];
     show::word(rt, b"write_step:");
@@ -236,6 +245,7 @@ pub fn write_step(rt: &HostRuntime, words: &[u64], ints: &[i64]) {
     show::octets(rt, b"; bytes", b, &record);
 }
 
+#[inline(never)]
 pub fn number_at(rt: &HostRuntime, words: &[u64], bytes: &[u8]) {
     show::word(rt, b"number_at:");
     calls_answers::spelled(

@@ -5,6 +5,7 @@ use calls_arguments::parts::{amounts, copy, copy_amounts, number, table};
 use calls_arguments::{ROOM, show};
 use transport::Way;
 
+#[inline(never)]
 pub fn counts_within(rt: &HostRuntime, words: &[u64]) {
     show::word(rt, b"counts_within:");
     calls_answers::verdict(
@@ -18,6 +19,7 @@ pub fn counts_within(rt: &HostRuntime, words: &[u64]) {
     );
 }
 
+#[inline(never)]
 pub fn check_mesh(rt: &HostRuntime, words: &[u64]) {
     show::word(rt, b"check_mesh:");
     calls_answers::verdict(
@@ -34,6 +36,7 @@ pub fn check_mesh(rt: &HostRuntime, words: &[u64]) {
     );
 }
 
+#[inline(never)]
 pub fn check_field(rt: &HostRuntime, words: &[u64]) {
     show::word(rt, b"check_field:");
     calls_answers::verdict(
@@ -51,6 +54,7 @@ pub fn check_field(rt: &HostRuntime, words: &[u64]) {
     );
 }
 
+#[inline(never)]
 pub fn check_cells(rt: &HostRuntime, words: &[u64]) {
     show::word(rt, b"check_cells:");
     calls_answers::verdict(
@@ -59,6 +63,7 @@ pub fn check_cells(rt: &HostRuntime, words: &[u64]) {
     );
 }
 
+#[inline(never)]
 pub fn check_step(rt: &HostRuntime, words: &[u64], ints: &[i64]) {
     show::word(rt, b"check_step:");
     calls_answers::verdict(
@@ -82,6 +87,7 @@ pub fn check_step(rt: &HostRuntime, words: &[u64], ints: &[i64]) {
     );
 }
 
+#[inline(never)]
 pub fn total(rt: &HostRuntime, words: &[u64]) {
     show::word(rt, b"total:");
     calls_answers::total(
@@ -90,6 +96,7 @@ pub fn total(rt: &HostRuntime, words: &[u64]) {
     );
 }
 
+#[inline(never)]
 pub fn board(rt: &HostRuntime, words: &[u64]) {
     show::word(rt, b"board:");
     calls_answers::board(
@@ -98,11 +105,13 @@ pub fn board(rt: &HostRuntime, words: &[u64]) {
     );
 }
 
+#[inline(never)]
 pub fn step(rt: &HostRuntime, words: &[u64], ints: &[i64]) {
     show::word(rt, b"step:");
     stepped(rt, Way::Corrected, words, ints);
 }
 
+#[inline(never)]
 pub fn plain_step(rt: &HostRuntime, words: &[u64], ints: &[i64]) {
     show::word(rt, b"plain_step:");
     stepped(rt, Way::Plain, words, ints);
@@ -179,6 +188,7 @@ fn fill(
     show::numbers(rt, b"; work", w, &work);
 }
 
+#[inline(never)]
 pub fn judge(rt: &HostRuntime, words: &[u64], ints: &[i64]) {
     show::word(rt, b"judge:");
     judged(

@@ -6,6 +6,7 @@ use calls_arguments::{BYTES_ROOM, ROOM, show};
 use model::{Printed, Refusal};
 
 // The host's answer is one number, printed as it is.
+#[inline(never)]
 pub fn lagoon_step(rt: &HostRuntime, words: &[u64], records: &[u8]) {
     let mut next = [0u8; BYTES_ROOM];
     show::word(rt, b"lagoon_step:");
@@ -22,6 +23,7 @@ pub fn lagoon_step(rt: &HostRuntime, words: &[u64], records: &[u8]) {
     show::octets(rt, b"; next", n, &next);
 }
 
+#[inline(never)]
 pub fn take_mesh(rt: &HostRuntime, words: &[u64], records: &[u8]) {
     show::word(rt, b"take_mesh:");
     fill_mesh(
@@ -71,6 +73,7 @@ fn fill_mesh(
     );
 }
 
+#[inline(never)]
 pub fn take_field(rt: &HostRuntime, words: &[u64], records: &[u8]) {
     let mut masses = [0u64; ROOM];
     show::word(rt, b"take_field:");
@@ -101,6 +104,7 @@ fn taken(rt: &HostRuntime, said: Result<Printed, Refusal>) {
     }
 }
 
+#[inline(never)]
 pub fn take_step(rt: &HostRuntime, words: &[u64], records: &[u8]) {
     let mut masses = [0u64; ROOM];
     show::word(rt, b"take_step:");
