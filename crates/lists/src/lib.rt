@@ -5,6 +5,7 @@ ghost use Rattle.std.specs.Prelude.{◌≡◌, ◌<◌, ◌≤◌, ◌+◌, ◌^
 ghost use Rattle.lists.specs.Table.{over};
 
 // The first entries of a table, filled from another.
+#[tactic(auto, unfolding(crate::specs::Table::over))]
 pub fn copy(from: &[u64], to: &mut [u64])
     requires { length from.now ≤ length to.old }
     ensures { to.new ≡ over from.now to.old }
