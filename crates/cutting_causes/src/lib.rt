@@ -12,7 +12,7 @@ ghost use Rattle.cutting_parts.specs.Cut.{tables_of, lagoon_of};
 ghost use Rattle.cutting_causes.specs.Lengths.{three, lengths_found, values_found};
 
 use cutting_pieces::cells::{count_cells, labels_good};
-use model::needs::{long, need};
+use model::needs::{and_then, long, need};
 use model::{Cause, Refusal, positions};
 
 // The three tables of one position: the whole's and the parts'.
@@ -104,7 +104,7 @@ pub fn values(
         (tables_of volumes.now firsts.now seconds.now shares.now reaches.now masses.now
         fluxes.now outsides.now releases.now)) labels.now }
 {
-    check_mesh::values(
+    let mesh = check_mesh::values(
         cells,
         faces,
         volumes,
@@ -113,8 +113,9 @@ pub fn values(
         shares,
         reaches,
         model::CEILING,
-    )?;
-    labels_fit(cells, labels)?;
+    );
+    // by `and_then`, so that the two tests exchanged are refused by what they answer, and not for a name of a place where the call leaves
+    and_then(mesh, labels_fit(cells, labels))?;
     checks::step_values(
         cells, faces, volumes, firsts, seconds, shares, reaches, masses, fluxes, outsides, releases,
     )
